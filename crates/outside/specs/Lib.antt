@@ -1,0 +1,6 @@
+-- What the contracts of files and sinks speak of.
+pub mod Counts
+pub mod Files
+pub mod Sink
+pub mod MemFiles
+pub mod MemSink

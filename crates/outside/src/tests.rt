@@ -1,0 +1,64 @@
+use super::*;
+use std::fs;
+use std::test::Fail;
+
+#[test]
+fn memory_files_answer(rt: HostRuntime) -> Result<(), Fail> {
+    let mut files = MemFiles::new(rt.alloc());
+    files.put(b"A.java", b"class B {}")?;
+    files.put(b"A.java", b"class A {}")?;
+    files.fail_at(2)?;
+    let mut into = Vec::new(rt.alloc());
+    for (name, want) in [
+        ("A.java", Ok(())),
+        ("A.java", Err(ReadFail::Failed)),
+        ("B.java", Err(ReadFail::Failed)),
+        ("A.java", Ok(())),
+    ] {
+        into.clear();
+        assert_eq!(rt; files.read(name, &mut into), want);
+        let content: &[u8] = if want.is_ok() { b"class A {}" } else { b"" };
+        assert_eq!(rt; into.as_slice(), content);
+    }
+    Ok(())
+}
+
+#[test]
+fn memory_sink_takes(rt: HostRuntime) -> Result<(), Fail> {
+    let mut sink = MemSink::new(rt.alloc(), 5, 3)?;
+    sink.fail_at(2)?;
+    for (piece, want) in [
+        ("abcd", Ok(3)),
+        ("d", Err(Failed)),
+        ("de", Ok(2)),
+        ("", Ok(0)),
+        ("f", Err(Failed)),
+    ] {
+        assert_eq!(rt; sink.write(piece.as_bytes()), want);
+    }
+    assert_eq!(rt; sink.bytes(), b"abcde".as_slice());
+    Ok(())
+}
+
+#[test]
+fn host_files_read(rt: HostRuntime) -> Result<(), Fail> {
+    fs::write(&rt, "outside_test.txt", "text")?;
+    let mut files = HostFiles::new(&rt);
+    let mut into = Vec::new(rt.alloc());
+    assert_eq!(rt; files.read("outside_test.txt", &mut into), Ok(()));
+    assert_eq!(rt; into.as_slice(), b"text".as_slice());
+    fs::remove_file(&rt, "outside_test.txt")?;
+    into.clear();
+    assert_eq!(rt;
+        files.read("outside_test.txt", &mut into),
+        Err(ReadFail::Failed)
+    );
+    assert!(rt; into.is_empty());
+    Ok(())
+}
+
+#[test]
+fn host_sink_writes(rt: HostRuntime) {
+    let mut sink = HostSink::new(&rt);
+    assert_eq!(rt; send_all(&mut sink, b"text\n"), Ok(()));
+}

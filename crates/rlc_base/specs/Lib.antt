@@ -1,0 +1,2 @@
+pub mod NameSet
+pub mod Names
