@@ -1,0 +1,5 @@
+pub mod Tree
+pub mod Words
+pub mod Cutting
+pub mod Text
+pub mod Reading
