@@ -1,0 +1,3 @@
+pub mod Intern
+pub mod Layout
+pub mod Regions

@@ -1,0 +1,5 @@
+pub mod Chain
+pub mod ControlLaws
+pub mod SetForms
+pub mod Carrying
+pub mod Walking

@@ -1,0 +1,11 @@
+pub mod Sets
+pub mod Programs
+pub mod Control
+pub mod Facts
+pub mod Flow
+pub mod Births
+pub mod Paths
+pub mod Ranges
+pub mod Steps
+pub mod Tracked
+pub mod Carried

@@ -1,0 +1,6 @@
+pub mod Answers
+pub mod Doubles
+pub mod Elaboration
+pub mod Status
+pub mod Typing
+pub mod Words

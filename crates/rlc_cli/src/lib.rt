@@ -1,0 +1,12 @@
+// The top call of the leak checker: words and files in, a status and a text out.
+#![tactic(auto)]
+
+mod elaboration;
+mod judge;
+mod status;
+mod text;
+mod top;
+mod words;
+
+pub use status::Status;
+pub use top::rlc;

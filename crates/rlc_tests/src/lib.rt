@@ -1,0 +1,5 @@
+// Tests that cross the layers: the top call over files and sinks in memory.
+#![tactic(auto)]
+
+#[cfg(test)]
+mod checks;

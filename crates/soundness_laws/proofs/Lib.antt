@@ -1,0 +1,7 @@
+mod Laws
+mod Objects
+mod Following
+mod Stack
+mod Steps
+mod Sound
+mod Unsafe
