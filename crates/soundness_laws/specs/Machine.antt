@@ -84,8 +84,8 @@ step_of p frame = slice_get (p.next frame.body frame.control) 0
 abbrev pub goes_back : Program → Configuration → Option ℕ → Activation → List Activation → Option Triple → Configuration
 goes_back p c receiver caller below None = c
 goes_back p c receiver caller below (Some t) =
-    let noted = record c { heap = heap_back p (length (caller ∷ below)) t.action receiver c.heap } in
-    moves noted caller below t.to (values_back t.action receiver caller.values)
+    let returned = record c { heap = heap_back p (length (caller ∷ below)) t.action receiver c.heap } in
+    moves returned caller below t.to (values_back t.action receiver caller.values)
 
 -- the top frame ends; `main` ends the run
 abbrev pub ends : Program → Configuration → Option ℕ → List Activation → Configuration

@@ -1,12 +1,11 @@
 -- What it is for a program to be safe: in every run no obligation is left behind.
 use Rattle.std.specs.Prelude.{◌≡◌, ℕ, Bool, true, false, Some, List, [], ◌∷◌, slice_get}
 use Rattle.obligation_flow.specs.Sets.{is_empty}
-use Rattle.obligation_flow.specs.Control.{Triple}
-use Rattle.obligation_flow.specs.Programs.{Program}
-use Rattle.obligation_flow.specs.declared.control.Item.{Item}
-use Rattle.obligation_flow.specs.declared.control.Item.TheVariants as items
-use Rattle.obligation_flow.specs.declared.control.Action.TheVariants as actions
-use Rattle.obligation_flow.specs.declared.control.Edge.TheVariants as edges
+use Rattle.obligation_flow.specs.Programs.{Program, program_of}
+use Rattle.obligation_flow.specs.declared.program.TypedProgram.{TypedProgram}
+use Rattle.obligation_flow.specs.declared.program.TypedBody.{TypedBody}
+use Rattle.obligation_flow.specs.declared.program.Statement.TheVariants as statements
+use Rattle.obligation_flow.specs.declared.program.Value.TheVariants as values
 use Rattle.soundness_laws.specs.Configurations.{Owner, Frame, Library, Object, Activation, Choice, Configuration, is_held_at}
 use Rattle.soundness_laws.specs.Heap.{is_unmet}
 use Rattle.soundness_laws.specs.Machine.{start, run, comes_to_stray}
@@ -34,15 +33,12 @@ pub record Safe (p : Program) : Type 0 where
   pub every_run : (main : ℕ) → p.is_main main ≡ true → (choices : List Choice) (n : ℕ)
       → comes_to_stray p n (start p main choices) ≡ false → IsSafeAt p (run p n (start p main choices))
 
--- what a body does that has nothing to do
-abbrev pub ended : Triple
-ended = record { action = actions.End; edge = edges.Go; to = items.Ended ∷ [] }
-
--- `main` makes an object whose class has an obligation and whose constructor does nothing, and then ends.
-pub record Forgets (p : Program) (main class : ℕ) : Type 0 where
-  pub later : List Item
-  pub is_main : p.is_main main ≡ true
-  pub makes : slice_get (p.next main (p.start main)) 0 ≡ Some (record { action = actions.New class 0; edge = edges.Go; to = later })
-  pub constructs : slice_get (p.next (p.constructor class) (p.start (p.constructor class))) 0 ≡ Some ended
-  pub ends : slice_get (p.next main later) 0 ≡ Some ended
-  pub owes : is_empty (p.must class) ≡ false
+-- The body `main` declares a variable with a new object as its value, and ends. The object's class has an obligation, and
+-- its constructor does nothing.
+pub record Forgets (p : TypedProgram) (main class variable : ℕ) : Type 0 where
+  pub body : TypedBody
+  pub at : slice_get p.bodies.items main ≡ Some body
+  pub is_main : body.is_main ≡ true
+  pub makes : body.statements.items ≡ statements.Declare variable (values.New class) ∷ []
+  pub constructs : (program_of p).start ((program_of p).constructor class) ≡ []
+  pub owes : is_empty ((program_of p).must class) ≡ false

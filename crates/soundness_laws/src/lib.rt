@@ -3,7 +3,8 @@
 #![tactic(auto)]
 
 ghost use Rattle.std.specs.Prelude.{◌≡◌, ℕ, List};
-ghost use Rattle.obligation_flow.specs.Programs.{Program};
+ghost use Rattle.obligation_flow.specs.Programs.{Program, program_of};
+ghost use Rattle.obligation_flow.specs.declared.program.TypedProgram.{TypedProgram};
 ghost use Rattle.obligation_flow.specs.Paths.{IsFaulty};
 ghost use Rattle.soundness_laws.specs.Configurations.{Choice, Configuration};
 ghost use Rattle.soundness_laws.specs.Machine.{Goes, start, step};
@@ -34,5 +35,5 @@ pub fn accepted_is_safe()
 
 /// Safety refuses something: a program is not safe whose `main` makes an object with an obligation and ends.
 pub fn forgetful_is_unsafe()
-    ensures { (p : Program) (main class : ℕ) → Forgets p main class → Safe p → ⊥ }
+    ensures { (p : TypedProgram) (main class variable : ℕ) → Forgets p main class variable → Safe (program_of p) → ⊥ }
 {}
