@@ -1,0 +1,14 @@
+pub mod TextLaws
+pub mod NumberLaws
+pub mod ListedLaws
+pub mod RunLaws
+pub mod IntegerLaws
+pub mod SortLaws
+pub mod EndLaws
+pub mod BodyLaws
+pub mod PieceLaws
+pub mod FrontLaws
+pub mod WordLaws
+pub mod QuoteLaws
+pub mod PlaceLaws
+pub mod CutLaws

@@ -1,0 +1,15 @@
+// The tokens of Java source text: the one cut of a file's bytes by the longest match (JLS chapter 3), or why there is none.
+#![tactic(auto)]
+
+mod characters;
+mod fronts;
+mod lexer;
+mod literals;
+mod places;
+#[cfg(test)]
+mod tests;
+mod token;
+mod words;
+
+pub use lexer::lex;
+pub use token::{Token, TokenKind};
