@@ -1,0 +1,5 @@
+pub mod TableLemmas
+pub mod EqLemmas
+pub mod FlatLemmas
+pub mod ScopeLemmas
+pub mod StepLemmas

@@ -1,0 +1,13 @@
+pub mod PlaceNumbers
+pub mod Places
+pub mod Remaining
+pub mod Owned
+pub mod Shapes
+pub mod Conditions
+pub mod Expressions
+pub mod Statements
+pub mod Exceptions
+pub mod Completions
+pub mod Control
+pub mod Tables
+pub mod Changes

@@ -1,0 +1,257 @@
+//! The exceptions that an action throws, and the catch clauses that take them.
+
+ghost use Rattle.std.specs.Prelude.{◌≡◌, ◌++◌, ◌∷◌, [], map, IfOk, OnOk};
+ghost use Rattle.std.specs.List.{list_any};
+ghost use Rattle.program_model.specs.Lookups.{optional};
+ghost use Rattle.java_control.specs.Changes.{bare_change, highest_changes};
+ghost use Rattle.java_control.specs.Exceptions.{action_becomes, caught, declared_exceptions, exception_depth, exceptions_of, goes_on, has_class, heeded, is_ignored, is_under, may_take, operator_exceptions, other_exceptions, receiver_exceptions, takes_some, takes_wholly, throws, throws_clause, with_class, with_classes};
+
+use crate::action::{Action, Completion, Edge, Operator, Scope};
+use crate::change::Change;
+use crate::fronts::{flat, one_way};
+use crate::item::Item;
+use program_model::{BinaryOperator, Body, CatchClause, ClassId, MethodId, Program, StmtId};
+use rlc_base::{NoMemory, Pos};
+use std::alloc::Global;
+
+fn has_class(classes: &[ClassId], class: ClassId) -> bool
+    ensures { result ≡ has_class classes.now class }
+{
+    classes.iter().any(|x| *x == class)
+}
+
+// Whether `class` is `other` or a subclass of it.
+fn is_under(p: &Program, class: ClassId, other: ClassId) -> bool
+    ensures { result ≡ is_under p.now class other }
+{
+    match p.class(class) {
+        None => class == other,
+        Some(found) => has_class(&found.above, other),
+    }
+}
+
+fn is_under_any(p: &Program, class: ClassId, others: &[ClassId]) -> bool
+    ensures { result ≡ list_any (λ d. is_under p.now class d) others.now }
+{
+    others.iter().any(|d| is_under(p, class, *d))
+}
+
+// Whether exceptions of the class are ignored.
+fn is_ignored(p: &Program, class: ClassId) -> bool
+    ensures { result ≡ is_ignored p.now class }
+{
+    is_under_any(p, class, &p.ignored) || has_class(&p.exact, class)
+}
+
+fn add_class(classes: &mut Vec<ClassId>, class: ClassId) -> Result<(), NoMemory>
+    ensures { OnOk result (classes.new.items ≡ with_class classes.old.items class) }
+{
+    if !has_class(classes, class) {
+        classes.push(class)?;
+    }
+    Ok(())
+}
+
+fn add_classes(classes: &mut Vec<ClassId>, more: &[ClassId]) -> Result<(), NoMemory>
+    ensures { OnOk result (classes.new.items ≡ with_classes classes.old.items more.now) }
+{
+    for class in more {
+        add_class(classes, *class)?;
+    }
+    Ok(())
+}
+
+fn add_heeded(p: &Program, classes: &mut Vec<ClassId>, more: &[ClassId]) -> Result<(), NoMemory>
+    ensures { OnOk result (classes.new.items ≡ with_classes classes.old.items (heeded p.now more.now)) }
+{
+    for class in more {
+        if !is_ignored(p, *class) {
+            add_class(classes, *class)?;
+        }
+    }
+    Ok(())
+}
+
+// The classes of the first list, and those of the second that are not ignored, each once.
+fn thrown(
+    alloc: Global,
+    p: &Program,
+    declared: &[ClassId],
+    others: &[ClassId],
+) -> Result<Vec<ClassId>, NoMemory>
+    ensures { IfOk result (λ v. v.items ≡ with_classes (with_classes [] declared.now) (heeded p.now others.now)) }
+{
+    let mut classes = Vec::new(alloc);
+    add_classes(&mut classes, declared)?;
+    add_heeded(p, &mut classes, others)?;
+    Ok(classes)
+}
+
+// The exceptions of a call: those of the throws clause, and the unchecked ones.
+fn thrown_by_call(alloc: Global, p: &Program, m: MethodId) -> Result<Vec<ClassId>, NoMemory>
+    ensures { IfOk result (λ v. v.items ≡ with_classes (with_classes [] (throws_clause p.now m)) (heeded p.now (p.now.core.runtime_exception ∷ p.now.core.error ∷ []))) }
+{
+    let others = [p.core.runtime_exception, p.core.error];
+    match p.method(m) {
+        None => thrown(alloc, p, &[], &others),
+        Some(found) => thrown(alloc, p, &found.sig.throws, &others),
+    }
+}
+
+// The exceptions of an operator.
+fn thrown_by_operator(
+    alloc: Global,
+    p: &Program,
+    operator: Operator,
+) -> Result<Vec<ClassId>, NoMemory>
+    ensures { IfOk result (λ v. v.items ≡ with_classes [] (heeded p.now (operator_exceptions p.now operator))) }
+{
+    match operator {
+        Operator::Binary(BinaryOperator::Divide | BinaryOperator::Remainder, _, _) => {
+            thrown(alloc, p, &[], &[p.core.arithmetic_exception])
+        }
+        Operator::Element | Operator::StoreElement => {
+            thrown(
+                alloc,
+                p,
+                &[],
+                &[p.core.null_pointer_exception, p.core.array_index_exception],
+            )
+        }
+        Operator::Length => thrown(alloc, p, &[], &[p.core.null_pointer_exception]),
+        Operator::NewArray(_) => thrown(alloc, p, &[], &[p.core.negative_array_size_exception]),
+        _ => thrown(alloc, p, &[], &[]),
+    }
+}
+
+// The exception of a field access: none through `this`.
+fn thrown_by_access(
+    alloc: Global,
+    p: &Program,
+    through_this: bool,
+) -> Result<Vec<ClassId>, NoMemory>
+    ensures { IfOk result (λ v. v.items ≡ with_classes [] (heeded p.now (receiver_exceptions p.now through_this))) }
+{
+    if through_this {
+        thrown(alloc, p, &[], &[])
+    } else {
+        thrown(alloc, p, &[], &[p.core.null_pointer_exception])
+    }
+}
+
+// The exceptions of a `throw`: the static class, and that of a null value.
+fn thrown_by_raise(
+    alloc: Global,
+    p: &Program,
+    class: Option<ClassId>,
+) -> Result<Vec<ClassId>, NoMemory>
+    ensures { IfOk result (λ v. v.items ≡ with_classes (with_classes [] (optional class)) (heeded p.now (p.now.core.null_pointer_exception ∷ []))) }
+{
+    match class {
+        None => thrown(alloc, p, &[], &[p.core.null_pointer_exception]),
+        Some(class) => thrown(alloc, p, &[class], &[p.core.null_pointer_exception]),
+    }
+}
+
+/// The classes that an action throws, each once, in the order of the edges.
+pub fn exceptions_of(alloc: Global, p: &Program, action: Action) -> Result<Vec<ClassId>, NoMemory>
+    ensures { IfOk result (λ v. v.items ≡ exceptions_of p.now action) }
+{
+    match action {
+        Action::Op(operator, _, _) => thrown_by_operator(alloc, p, operator),
+        Action::Get(_, _, through_this) => thrown_by_access(alloc, p, through_this),
+        Action::Put(_, _, through_this) => thrown_by_access(alloc, p, through_this),
+        Action::Cast(_, _) => thrown(alloc, p, &[], &[p.core.class_cast_exception]),
+        Action::Call(m, _, _, _) => thrown_by_call(alloc, p, m),
+        Action::New(m, _, _) => thrown_by_call(alloc, p, m),
+        Action::Super(m, _, _) => thrown_by_call(alloc, p, m),
+        Action::Raise(_, class) => thrown_by_raise(alloc, p, class),
+        _ => thrown(alloc, p, &[], &[]),
+    }
+}
+
+fn exception_depth(action: Action) -> u32
+    ensures { result ≡ exception_depth action }
+{
+    match action {
+        Action::Op(_, depth, _)
+        | Action::Get(_, depth, _)
+        | Action::Put(_, depth, _)
+        | Action::Cast(_, depth)
+        | Action::Call(_, depth, _, _)
+        | Action::New(_, depth, _)
+        | Action::Super(_, depth, _)
+        | Action::Raise(depth, _) => depth,
+        _ => 0,
+    }
+}
+
+// The way of an action that goes on.
+fn goes_on(alloc: Global, action: Action) -> Result<Vec<Change>, NoMemory>
+    ensures means { IfOk result (λ v. map bare_change v.items ≡ goes_on action) }
+    ensures small { IfOk result (λ v. highest_changes v.items ≡ 0) }
+{
+    match action {
+        Action::Raise(_, _) => Ok(Vec::new(alloc)),
+        _ => one_way(alloc, action, Edge::Go, 1, flat(alloc, &[])?),
+    }
+}
+
+// Adds the way by which an action throws a class.
+#[tactic(auto, using(crate::proofs::FlatLemmas::changes_means, crate::proofs::FlatLemmas::changes_small))]
+fn add_throw(
+    alloc: Global,
+    changes: &mut Vec<Change>,
+    action: Action,
+    class: ClassId,
+    pos: Pos,
+) -> Result<(), NoMemory>
+    ensures means { OnOk result (map bare_change changes.new.items ≡ map bare_change changes.old.items ++ throws action pos class ∷ []) }
+    ensures small { OnOk result (highest_changes changes.new.items ≡ highest_changes changes.old.items) }
+{
+    let completion = Completion::Throw(exception_depth(action), class, pos);
+    let front = flat(alloc, &[Item::Out(completion)])?;
+    changes.push(Change {
+        action,
+        edge: Edge::Throws(class),
+        uses: 1,
+        front,
+    })?;
+    Ok(())
+}
+
+/// The ways of an action: on, and by each exception that it throws.
+pub fn action_changes(
+    alloc: Global,
+    p: &Program,
+    action: Action,
+    pos: Pos,
+) -> Result<Vec<Change>, NoMemory>
+    ensures means { IfOk result (λ v. map bare_change v.items ≡ action_becomes p.now action pos) }
+    ensures small { IfOk result (λ v. highest_changes v.items ≡ 0) }
+{
+    let mut changes = goes_on(alloc, action)?;
+    let classes = exceptions_of(alloc, p, action)?;
+    for class in &classes {
+        add_throw(alloc, &mut changes, action, *class, pos)?;
+    }
+    Ok(changes)
+}
+
+pub fn takes_wholly(p: &Program, t: ClassId, clause: &CatchClause) -> bool
+    ensures { result ≡ takes_wholly p.now t clause.now }
+{
+    clause.classes.iter().any(|c| is_under(p, t, *c))
+}
+
+fn takes_some(p: &Program, t: ClassId, clause: &CatchClause) -> bool
+    ensures { result ≡ takes_some p.now t clause.now }
+{
+    clause.classes.iter().any(|c| is_under(p, *c, t))
+}
+
+pub fn may_take(p: &Program, t: ClassId, clause: &CatchClause) -> bool
+    ensures { result ≡ may_take p.now t clause.now }
+{
+    takes_wholly(p, t, clause) || takes_some(p, t, clause)
+}

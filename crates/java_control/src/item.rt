@@ -1,0 +1,65 @@
+//! What is left of a body to run.
+
+use crate::action::{Action, Completion, Scope};
+use program_model::{ExprId, MethodId, StmtId};
+use rlc_base::Pos;
+
+/// A condition. An absent one, of a `for`, is true, and has the place of that statement.
+#[derive(Clone, Copy, PartialEq, Eq, Hash)]
+pub enum Condition {
+    Of(ExprId),
+    Absent(Pos),
+}
+
+/// The closing of a resource of a `try` statement (JLS 14.20.3.1).
+#[derive(Clone, Copy, PartialEq, Eq, Hash)]
+pub struct Closing {
+    pub variable: u32,
+    /// The `close()` that the resource's declared type names.
+    pub close: MethodId,
+    /// The place of the resource's name.
+    pub pos: Pos,
+    /// The `try` statement.
+    pub statement: StmtId,
+}
+
+/// One item of what is left to run. A number of type `u32` that is named depth is that of the first temp which the item may
+/// use. A list within an item is named by its number in the table of lists.
+#[derive(Clone, Copy, PartialEq, Eq, Hash)]
+pub enum Item {
+    /// A statement, at a depth.
+    Do(StmtId, u32),
+    /// An expression, whose value goes into the temp of this depth.
+    Ev(ExprId, u32),
+    /// An action, with the place of the statement or expression that gives it.
+    Act(Action, Pos),
+    /// A condition, at a depth, and the lists that follow where it is true and where it is false.
+    Cond(Condition, u32, usize, usize),
+    /// The value in the temp of this depth is tested for null, and the first list follows where it is. The place is that of
+    /// the condition.
+    NullFork(Pos, u32, usize, usize),
+    /// The value in the temp of this depth is tested, and the first list follows where it is true. The place is that of the
+    /// condition.
+    BoolFork(Pos, u32, usize, usize),
+    /// The end of a loop's body, where a `break` stops and a `continue` goes on.
+    LoopEnd(StmtId, u32),
+    /// A `for` statement whose first part is done.
+    For(StmtId, u32),
+    /// The end of a scope, with the place of its block or statement.
+    Leave(Scope, Pos),
+    /// The catch clauses of a `try` statement.
+    Catch(StmtId, u32),
+    /// A `finally` block.
+    Fin(StmtId, u32),
+    /// The closing of a resource.
+    Close(Closing, u32),
+    /// The completion that waits while a `finally` block runs, with the value in the temp of this depth, and the block.
+    Finish(Completion, u32, StmtId),
+    /// The completion that waits while a resource is closed, with the value in the temp of this depth, and the `try`
+    /// statement.
+    Supp(Completion, u32, StmtId),
+    /// A completion on its way out.
+    Out(Completion),
+    /// The frame has ended.
+    Ended,
+}

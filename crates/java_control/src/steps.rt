@@ -1,0 +1,142 @@
+//! The ways of a step, over the table of lists: what the first items of a control become.
+
+ghost use Rattle.std.specs.Prelude.{◌≡◌, ◌≤◌, ◌∷◌, [], map, length, option_map, IfOk};
+ghost use Rattle.java_control.specs.Changes.{highest_changes, highest_first, seen};
+ghost use Rattle.java_control.specs.Control.{becomes, expression_becomes, for_becomes, loop_becomes, statement_becomes};
+ghost use Rattle.java_control.specs.declared.action.Action.TheVariants as actions;
+ghost use Rattle.java_control.specs.declared.action.Edge.TheVariants as edges;
+ghost use Rattle.java_control.specs.Tables.{Keeps, view_in};
+ghost use Rattle.program_model.specs.Lookups.{expression_at, statement_at};
+
+use crate::action::{Action, Completion, Edge};
+use crate::change::{Change, Front};
+use crate::completions::{close_front, completion_changes};
+use crate::conditions::{condition_front, fork};
+use crate::exceptions::action_changes;
+use crate::expressions::expression_front;
+use crate::fronts::{flat, one_way};
+use crate::item::Item;
+use crate::lists::Lists;
+use crate::statements::{for_turn, loop_turn, statement_front};
+use program_model::{Body, ExprId, Program, StmtId};
+use rlc_base::NoMemory;
+use std::alloc::Global;
+
+// The one way of an item that gives way to others.
+fn giving(alloc: Global, front: Front) -> Result<Vec<Change>, NoMemory>
+    ensures { IfOk result (λ v. v.items ≡ record { action = actions.Skip; edge = edges.Go; uses = 1; front = front } ∷ []) }
+{
+    one_way(alloc, Action::Skip, Edge::Go, 1, front)
+}
+
+fn statement_changes(
+    alloc: Global,
+    lists: &mut Lists,
+    body: &Body,
+    s: StmtId,
+    d: u32,
+) -> Result<Vec<Change>, NoMemory>
+    ensures list { IfOk result (λ v. map (seen lists.new.cells.keys) v.items ≡ statement_becomes body.now s d (statement_at body.now s)) }
+    ensures within { IfOk result (λ v. highest_changes v.items ≤ length lists.new.cells.keys) }
+    ensures kept { Keeps lists.old.cells.keys lists.new.cells.keys }
+{
+    match body.statement(s) {
+        None => Ok(Vec::new(alloc)),
+        Some(found) => giving(alloc, statement_front(alloc, lists, body, s, found, d)?),
+    }
+}
+
+fn loop_changes(
+    alloc: Global,
+    lists: &mut Lists,
+    body: &Body,
+    s: StmtId,
+    d: u32,
+) -> Result<Vec<Change>, NoMemory>
+    ensures list { IfOk result (λ v. map (seen lists.new.cells.keys) v.items ≡ loop_becomes body.now s d (statement_at body.now s)) }
+    ensures within { IfOk result (λ v. highest_changes v.items ≤ length lists.new.cells.keys) }
+    ensures kept { Keeps lists.old.cells.keys lists.new.cells.keys }
+{
+    match body.statement(s) {
+        None => Ok(Vec::new(alloc)),
+        Some(found) => giving(alloc, loop_turn(alloc, lists, body, s, found, d)?),
+    }
+}
+
+fn for_changes(
+    alloc: Global,
+    lists: &mut Lists,
+    body: &Body,
+    s: StmtId,
+    d: u32,
+) -> Result<Vec<Change>, NoMemory>
+    ensures list { IfOk result (λ v. map (seen lists.new.cells.keys) v.items ≡ for_becomes s d (statement_at body.now s)) }
+    ensures within { IfOk result (λ v. highest_changes v.items ≤ length lists.new.cells.keys) }
+    ensures kept { Keeps lists.old.cells.keys lists.new.cells.keys }
+{
+    match body.statement(s) {
+        None => Ok(Vec::new(alloc)),
+        Some(found) => giving(alloc, for_turn(alloc, lists, s, found, d)?),
+    }
+}
+
+fn expression_changes(
+    alloc: Global,
+    lists: &mut Lists,
+    p: &Program,
+    body: &Body,
+    e: ExprId,
+    d: u32,
+) -> Result<Vec<Change>, NoMemory>
+    ensures list { IfOk result (λ v. map (seen lists.new.cells.keys) v.items ≡ expression_becomes p.now body.now e d (expression_at body.now e)) }
+    ensures within { IfOk result (λ v. highest_changes v.items ≤ length lists.new.cells.keys) }
+    ensures kept { Keeps lists.old.cells.keys lists.new.cells.keys }
+{
+    match body.expression(e) {
+        None => Ok(Vec::new(alloc)),
+        Some(found) => giving(alloc, expression_front(alloc, lists, p, body, e, found, d)?),
+    }
+}
+
+/// What the first items of a control become, by the first and the second one: the ways of its step, in order.
+#[tactic(auto, using(crate::proofs::FlatLemmas::changes_bare))]
+pub fn changes(
+    alloc: Global,
+    lists: &mut Lists,
+    p: &Program,
+    body: &Body,
+    first: Option<Item>,
+    second: Option<Item>,
+) -> Result<Vec<Change>, NoMemory>
+    requires { highest_first first ≤ length lists.old.cells.keys }
+    ensures list { IfOk result (λ v. map (seen lists.new.cells.keys) v.items ≡ becomes p.now body.now (option_map (view_in lists.old.cells.keys) first) (option_map (view_in lists.old.cells.keys) second)) }
+    ensures within { IfOk result (λ v. highest_changes v.items ≤ length lists.new.cells.keys) }
+    ensures kept { Keeps lists.old.cells.keys lists.new.cells.keys }
+{
+    match first {
+        None => {
+            let end = Action::End(Completion::Return(body.end));
+            one_way(alloc, end, Edge::Go, 0, flat(alloc, &[Item::Ended])?)
+        }
+        Some(Item::Do(s, d)) => statement_changes(alloc, lists, body, s, d),
+        Some(Item::Ev(e, d)) => expression_changes(alloc, lists, p, body, e, d),
+        Some(Item::Act(a, pos)) => action_changes(alloc, p, a, pos),
+        Some(Item::Cond(c, d, x, y)) => {
+            giving(alloc, condition_front(alloc, lists, body, c, d, x, y)?)
+        }
+        Some(Item::NullFork(_, d, x, y)) => fork(alloc, d, Edge::Null, x, Edge::NonNull, y),
+        Some(Item::BoolFork(_, d, x, y)) => fork(alloc, d, Edge::True, x, Edge::False, y),
+        Some(Item::LoopEnd(w, d)) => loop_changes(alloc, lists, body, w, d),
+        Some(Item::For(w, d)) => for_changes(alloc, lists, body, w, d),
+        Some(Item::Leave(x, _)) => {
+            one_way(alloc, Action::Drop(x), Edge::Go, 1, flat(alloc, &[])?)
+        }
+        Some(Item::Catch(_, _)) => giving(alloc, flat(alloc, &[])?),
+        Some(Item::Fin(f, d)) => giving(alloc, flat(alloc, &[Item::Do(f, d)])?),
+        Some(Item::Close(r, d)) => giving(alloc, close_front(alloc, lists, r, d)?),
+        Some(Item::Finish(c, _, _)) => giving(alloc, flat(alloc, &[Item::Out(c)])?),
+        Some(Item::Supp(c, _, _)) => giving(alloc, flat(alloc, &[Item::Out(c)])?),
+        Some(Item::Out(c)) => completion_changes(alloc, lists, p, body, c, second),
+        Some(Item::Ended) => Ok(Vec::new(alloc)),
+    }
+}
