@@ -82,13 +82,13 @@ impl Lists {
         ensures within { IfOk result (λ id. id ≤ length self.new.cells.keys) }
         ensures kept { Keeps self.old.cells.keys self.new.cells.keys }
     {
-        match items {
-            [] => Ok(tail),
-            [first, rest @ ..] => {
-                let behind = self.push_all(rest, tail)?;
-                self.push(*first, behind)
-            }
+        let mut at = tail;
+        let mut left = items.len();
+        while left > 0 {
+            left -= 1;
+            at = self.push(items[left], at)?;
         }
+        Ok(at)
     }
 
     /// The number of the list that one list and another behind it make.

@@ -2,8 +2,12 @@
 use Rattle.std.specs.Prelude.{ℕ, List, [], ◌∷◌, if◌then◌else◌, codes, bytes_eq}
 use Rattle.java_syntax.specs.declared.words.Word.{Word}
 use Rattle.java_syntax.specs.declared.words.Word.TheVariants as word
-use Rattle.java_exprs.specs.declared.classes.TokenKind.{TokenKind}
-use Rattle.java_exprs.specs.declared.classes.TokenKind.TheVariants as kind
+use Rattle.java_syntax.specs.declared.tokens.Token.{Token}
+use Rattle.java_syntax.specs.Derives.{Lexeme}
+use Rattle.java_lexer.specs.declared.token.Token.{Token as FileToken}
+use Rattle.java_lexer.specs.declared.token.TokenKind.{TokenKind}
+use Rattle.java_lexer.specs.declared.token.TokenKind.TheVariants as kind
+use Rattle.java_lexer.specs.Cut.{token_text}
 
 -- the reserved words (JLS 3.9)
 abbrev pub reserved_words : List (List ℕ × Word)
@@ -42,3 +46,11 @@ class_of kind.Literal text = word.Literal
 class_of kind.Reserved text = class_in reserved_words text
 class_of kind.Separator text = class_in separators text
 class_of kind.Operator text = class_in operators text
+
+-- the grammar's token of a token of the file with these bytes: the same bytes and place, by its class
+abbrev pub classed_token : List ℕ → FileToken → Token
+classed_token bytes t = record { word = class_of t.kind (token_text bytes t); start = t.start; len = t.len; pos = t.pos }
+
+-- what the grammar sees of a token of the file with these bytes: its class, its bytes and its place
+abbrev pub lexeme_of_token : List ℕ → FileToken → Lexeme
+lexeme_of_token bytes t = record { word = class_of t.kind (token_text bytes t); text = token_text bytes t; pos = t.pos }

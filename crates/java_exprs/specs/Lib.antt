@@ -1,7 +1,1 @@
 pub mod Classes
-pub mod Choices
-pub mod Lookahead
-pub mod Follow
-pub mod Reached
-pub mod Refusal
-pub mod Fronts

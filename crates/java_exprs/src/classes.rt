@@ -1,17 +1,13 @@
-ghost use Rattle.std.specs.Prelude.{◌≡◌, map};
-ghost use Rattle.java_exprs.specs.Classes.{class_of, class_in, operators, reserved_words, separators};
+ghost use Rattle.std.specs.Prelude.{◌≡◌, map, IfOk};
+ghost use Rattle.java_lexer.specs.Cut.{token_text};
+ghost use Rattle.java_syntax.specs.Derives.{lexeme_of};
+ghost use Rattle.java_exprs.specs.Classes.{class_of, class_in, classed_token, lexeme_of_token, operators, reserved_words, separators};
 
-use java_syntax::Word;
-
-/// What kind of token a piece of source text is (JLS 3.5); `true`, `false` and `null` are literals here.
-#[derive(Copy, Clone, PartialEq, Eq)]
-pub enum TokenKind {
-    Ident,
-    Reserved,
-    Literal,
-    Separator,
-    Operator,
-}
+use crate::sources::Source;
+use java_lexer::{Token as FileToken, TokenKind};
+use java_syntax::{Token, Word};
+use rlc_base::NoMemory;
+use std::alloc::{AllocError, Global};
 
 /// The reserved words (JLS 3.9).
 const RESERVED: [(&[u8], Word); 35] = [
@@ -151,4 +147,48 @@ pub fn word_of(kind: TokenKind, text: &[u8]) -> Word
         TokenKind::Separator => separator_class(text),
         TokenKind::Operator => operator_class(text),
     }
+}
+
+/// The bytes of a token, as far as the file has them.
+fn text(bytes: &[u8], token: FileToken) -> &[u8]
+    ensures { result.now ≡ token_text bytes.now token }
+{
+    let rest = bytes.get(token.start as usize..).unwrap_or(&[]);
+    rest.get(..token.len as usize).unwrap_or(rest)
+}
+
+/// The token by its class.
+fn classed_token(bytes: &[u8], token: FileToken) -> Token
+    ensures { result ≡ classed_token bytes.now token }
+{
+    Token {
+        word: word_of(token.kind, text(bytes, token)),
+        start: token.start,
+        len: token.len,
+        pos: token.pos,
+    }
+}
+
+/// The tokens of a file with these bytes by their classes.
+fn classed_tokens(
+    alloc: Global,
+    bytes: &[u8],
+    tokens: &[FileToken],
+) -> Result<Vec<Token>, AllocError>
+    ensures { IfOk result (λ classed. classed.items ≡ map (classed_token bytes.now) tokens.now) }
+{
+    tokens
+        .iter()
+        .map(|token| classed_token(bytes, *token))
+        .collect(alloc)
+}
+
+/// The tokens of the source by their classes, each with its bytes and its place: what `derive` reads. Bytes that a token has
+/// beyond the end of the file count for nothing. Memory may run out.
+pub fn classed(alloc: Global, source: &Source) -> Result<Vec<Token>, NoMemory>
+    ensures tokens { IfOk result (λ tokens. tokens.items ≡ map (classed_token source.now.bytes.now) source.now.tokens.now) }
+    ensures lexemes { IfOk result (λ tokens. map (lexeme_of source.now.bytes.now) tokens.items ≡ map (lexeme_of_token source.now.bytes.now) source.now.tokens.now) }
+{
+    let tokens = classed_tokens(alloc, source.bytes, source.tokens)?;
+    Ok(tokens)
 }

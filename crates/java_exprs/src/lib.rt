@@ -1,16 +1,8 @@
-//! The reader of the grammar's table: what derives a list of tokens, or where the tokens are wrong.
+//! The tokens of a file as the grammar sees them: their classes, bytes and places.
 #![tactic(auto)]
 
-mod choices;
 mod classes;
-mod conditions;
-mod fronts;
-mod lookahead;
-mod machine;
-mod starts;
-#[cfg(test)]
-mod tests;
+mod sources;
 
-pub use classes::{TokenKind, word_of};
-pub use fronts::derive_front;
-pub use machine::{DeriveFail, derive};
+pub use classes::{classed, word_of};
+pub use sources::{Source, end_place};

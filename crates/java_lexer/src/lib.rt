@@ -12,4 +12,5 @@ mod token;
 mod words;
 
 pub use lexer::lex;
+pub use places::place_behind;
 pub use token::{Token, TokenKind};

@@ -65,7 +65,8 @@ impl Cursor {
     }
 }
 
-/// The place in the file behind this front of its text.
+/// The place in the file behind this front of its text. Lines and columns count from 1, columns in bytes; a line ends at a line
+/// feed, at a carriage return, or at both together (JLS 3.4).
 pub fn place_behind(file: u32, text: &[u8]) -> Pos
     requires { length text.now < 2 ^ 32 - 1 }
     ensures { result ≡ place_behind file text.now }

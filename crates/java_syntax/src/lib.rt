@@ -1,9 +1,15 @@
-//! The syntax of the subset: its grammar as a table, the classes of tokens that it tells apart, and derivations.
+//! The syntax of the subset: its trees, its grammar as a table, the classes of tokens that it tells apart, and derivations.
 #![tactic(auto)]
 
+mod annotation_trees;
+mod declaration_trees;
 mod declarations;
+mod expression_trees;
 mod expressions;
+mod names;
+mod operators;
 mod productions;
+mod statement_trees;
 mod statements;
 mod surroundings;
 mod symbols;
@@ -11,9 +17,18 @@ mod table;
 mod tokens;
 mod words;
 
+pub use annotation_trees::{Anno, AnnoArgument, AnnoValue, Modifier};
+pub use declaration_trees::{
+    ClassDecl, ConstructorBody, ConstructorDecl, FieldDecl, Import, Member, MethodDecl, Param,
+    SuperCall, Unit,
+};
+pub use expression_trees::Expr;
+pub use names::{Name, PrimitiveName, Typ, TypeName};
+pub use operators::{InfixOperator, PrefixOperator, StepOperator};
 pub use productions::{
     DeclarationProduction, ExpressionProduction, Production, StatementProduction,
 };
+pub use statement_trees::{Block, Catch, ForStart, Local, Resource, Stmt, Variable};
 pub use surroundings::{Modifiers, Owner};
 pub use symbols::{Item, Symbol};
 pub use table::body;

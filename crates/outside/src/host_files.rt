@@ -1,4 +1,4 @@
-ghost use Rattle.std.specs.Prelude.{◌≡◌, ℕ, ◌≤◌, [], length, None, OnOk, OnErr};
+ghost use Rattle.std.specs.Prelude.{◌≡◌, ℕ, ◌≤◌, [], length, None, OnOk, OnErr, IfSome};
 ghost use Rattle.outside.specs.Files.{TakesPast, max_file};
 
 use crate::files::{Files, MAX_FILE, ReadFail};
@@ -16,7 +16,8 @@ pub struct HostFiles<'a, R: rt::Files> {
     taken: u64,
 }
 
-// Reads to the end, or until more than `MAX_FILE` bytes are there. After an error `into` holds what came before it.
+// Reads to the end, or until more than `MAX_FILE` bytes are there: all that the file had left, where that is known. After an
+// error `into` holds what came before it.
 fn read_whole<F: io::Read>(
     file: &mut F,
     taken: &mut u64,
@@ -26,6 +27,7 @@ fn read_whole<F: io::Read>(
     ensures never_falls { taken.old ≤ taken.new }
     ensures past { result ≡ Err ReadFail.TooBig → TakesPast taken.old taken.new }
     ensures small { OnOk result (length into.new.items ≤ max_file) }
+    ensures whole { OnOk result (IfSome (F.remaining file.old) (λ bytes. into.new.items ≡ bytes)) }
 {
     let mut chunk = [0u8; CHUNK];
     for _ in 0..u64::MAX {

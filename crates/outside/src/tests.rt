@@ -42,11 +42,15 @@ fn memory_sink_takes(rt: HostRuntime) -> Result<(), Fail> {
 
 #[test]
 fn host_files_read(rt: HostRuntime) -> Result<(), Fail> {
-    fs::write(&rt, "outside_test.txt", "text")?;
+    let mut text = Vec::new(rt.alloc());
+    for place in 0..10_000u32 {
+        text.push((place / 100) as u8)?;
+    }
+    fs::write(&rt, "outside_test.txt", text.as_slice())?;
     let mut files = HostFiles::new(&rt);
     let mut into = Vec::new(rt.alloc());
     assert_eq!(rt; files.read("outside_test.txt", &mut into), Ok(()));
-    assert_eq!(rt; into.as_slice(), b"text".as_slice());
+    assert_eq!(rt; into.as_slice(), text.as_slice());
     fs::remove_file(&rt, "outside_test.txt")?;
     into.clear();
     assert_eq!(rt;

@@ -1,0 +1,9 @@
+pub mod ListLemmas
+pub mod ReachLemmas
+pub mod OrderLemmas
+pub mod NumberLemmas
+pub mod GraphLemmas
+pub mod SearchLemmas
+pub mod DeepLemmas
+pub mod LinkLemmas
+pub mod RowLemmas

@@ -1,0 +1,12 @@
+mod Bools
+mod Words
+mod Numbers
+mod ChoiceTests
+mod FollowTests
+mod SymbolTests
+mod Effort
+mod Viable
+mod Laws
+mod Steps
+mod Runs
+mod FrontLaws

@@ -1,0 +1,5 @@
+pub mod Each
+pub mod Firsts
+pub mod Gathered
+pub mod Lengths
+pub mod LocalLemmas
