@@ -1,0 +1,3 @@
+mod Evaluation
+mod FrontTreeLaws
+mod ParsingLaws

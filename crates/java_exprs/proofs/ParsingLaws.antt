@@ -1,0 +1,15 @@
+-- A front of the tokens from one on, and its place among all tokens.
+use Rattle.std.specs.Prelude.{◌≡◌, ℕ, ◌+◌, ◌-◌, List}
+use Rattle.std.proofs.Common.{sym, subst, arith}
+use Rattle.java_syntax.specs.declared.symbols.Symbol.{Symbol}
+use Rattle.java_syntax.specs.Derives.{Lexeme}
+use Rattle.java_exprs.specs.Values.{ValueTree}
+use Rattle.java_exprs.specs.FrontTrees.{IsFrontTree}
+
+pub front_moved : {A : Type 0} (view : List ValueTree → A) (symbol : Symbol) (limit : ℕ) (old new : List Lexeme) (found at : ℕ) (tree : A) → old ≡ new
+    → ((count : ℕ) (t : A) → IsFrontTree view symbol limit old count t → (count ≡ found) × (t ≡ tree))
+    → (count : ℕ) (t : A) → IsFrontTree view symbol limit new count t → (count ≡ at + found - at) × (t ≡ tree)
+front_moved {A} view symbol limit old new found at tree e only count t f =
+    let r = only count t (subst (λ (ts : List Lexeme). IsFrontTree {A = A} view symbol limit ts count t) (sym e) f) in
+    let same : count ≡ found = r.0 in
+    (omega (arith, same), r.1)
