@@ -6,5 +6,6 @@ class Main {
     first = new Sock();
     first.send();
     first.close();
+    // nobody closes second
   }
 }

@@ -4,8 +4,8 @@ use Rattle.std.proofs.Common.{sym, ◌∙◌, ap}
 use Rattle.java_syntax.specs.declared.symbols.Symbol.{Symbol}
 use Rattle.java_syntax.specs.Derives.{Lexeme, Step}
 use Rattle.java_grammar.specs.Fronts.{IsClosedFront}
-use Rattle.java_exprs.specs.Values.{ValueTree}
-use Rattle.java_exprs.specs.Evaluate.{evaluate}
+use Rattle.java_values.specs.Values.{ValueTree}
+use Rattle.java_actions.specs.Evaluate.{evaluate}
 use Rattle.java_exprs.specs.FrontTrees.{IsFrontTree, IsFrontValues}
 
 same_values : (s t : List ValueTree) → Some s ≡ Some t → s ≡ t

@@ -1,3 +1,2 @@
-mod Evaluation
 mod FrontTreeLaws
 mod ParsingLaws

@@ -3,7 +3,7 @@ use Rattle.std.specs.Prelude.{◌≡◌, ℕ, ◌+◌, ◌-◌, List}
 use Rattle.std.proofs.Common.{sym, subst, arith}
 use Rattle.java_syntax.specs.declared.symbols.Symbol.{Symbol}
 use Rattle.java_syntax.specs.Derives.{Lexeme}
-use Rattle.java_exprs.specs.Values.{ValueTree}
+use Rattle.java_values.specs.Values.{ValueTree}
 use Rattle.java_exprs.specs.FrontTrees.{IsFrontTree}
 
 pub front_moved : {A : Type 0} (view : List ValueTree → A) (symbol : Symbol) (limit : ℕ) (old new : List Lexeme) (found at : ℕ) (tree : A) → old ≡ new

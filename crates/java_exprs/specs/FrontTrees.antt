@@ -1,5 +1,5 @@
 -- The tree of the closed front of a list of tokens, and why there is none.
-use Rattle.std.specs.Prelude.{◌≡◌, ℕ, false, List, [], ◌∷◌, Option, Some, None, map, slice_index_or, ⊤}
+use Rattle.std.specs.Prelude.{◌≡◌, ℕ, false, List, Some, None, map, slice_index_or, ⊤}
 use Rattle.rlc_base.specs.declared.place.Pos.{Pos}
 use Rattle.rlc_base.specs.declared.faults.Refusal.{Refusal}
 use Rattle.rlc_base.specs.declared.faults.Stop.{Stop}
@@ -11,9 +11,9 @@ use Rattle.java_syntax.specs.AnnotationTrees.{AnnoTree}
 use Rattle.java_syntax.specs.declared.names.Typ.{Typ}
 use Rattle.java_grammar.specs.declared.machine.DeriveFail.TheVariants as fails
 use Rattle.java_grammar.specs.Fronts.{IsClosedFront, HasNoFront}
-use Rattle.java_exprs.specs.Values.{ValueTree}
-use Rattle.java_exprs.specs.Pops.{top, the_expression, the_type, the_annotations}
-use Rattle.java_exprs.specs.Evaluate.{evaluate}
+use Rattle.java_values.specs.Values.{ValueTree}
+use Rattle.java_values.specs.Pops.{top, the_expression, the_type, the_annotations}
+use Rattle.java_actions.specs.Evaluate.{evaluate}
 
 -- The first tokens, so many of them, are the closed front of the symbol, and their derivation leaves these values in these levels, the top first.
 pub record IsFrontValues (symbol : Symbol) (limit : ℕ) (tokens : List Lexeme) (count : ℕ) (values : List ValueTree) : Type 0 where

@@ -1,12 +1,2 @@
 pub mod Classes
-pub mod Values
-pub mod Pops
-pub mod Nodes
-pub mod Operators
-pub mod Primaries
-pub mod Joined
-pub mod Build
-pub mod BuildTypes
-pub mod BuildAnnotations
-pub mod Evaluate
 pub mod FrontTrees

@@ -5,15 +5,13 @@ ghost use Rattle.java_syntax.specs.declared.symbols.Symbol.TheVariants as symbol
 ghost use Rattle.java_syntax.specs.ExpressionTrees.{ExprTree, expr_of};
 ghost use Rattle.java_syntax.specs.AnnotationTrees.{AnnoTree, anno_of};
 ghost use Rattle.java_grammar.specs.Reached.{lexemes_of};
-ghost use Rattle.java_exprs.specs.Values.{ValueTree, values_of};
+ghost use Rattle.java_values.specs.Values.{ValueTree, values_of};
 ghost use Rattle.java_exprs.specs.FrontTrees.{IsFrontTree, IsFrontValues, IsFrontStop, expression_on, type_on, annotations_on};
 
-use crate::derivations::evaluate;
-use crate::nodes::BuildFail;
-use crate::pops::{pop_annotations, pop_expression, pop_type};
-use crate::values::Value;
+use java_actions::evaluate;
 use java_grammar::{DeriveFail, derive_front};
 use java_syntax::{Anno, Expr, Symbol, Token, Typ};
+use java_values::{BuildFail, Value, pop_annotations, pop_expression, pop_type};
 use rlc_base::{Pos, Refusal, Stop};
 use std::alloc::Global;
 

@@ -1,6 +1,2 @@
-pub mod Many
-pub mod Unique
-pub mod Complete
-pub mod Cuts
-pub mod MemberLemmas
-pub mod Gone
+pub mod EvaluationLaws
+pub mod FileLaws

@@ -1,5 +1,11 @@
-pub mod Tree
-pub mod Words
-pub mod Cutting
-pub mod Text
-pub mod Reading
+pub mod DeclarationValues
+pub mod DeclarationPops
+pub mod Stacks
+pub mod FileBuild
+pub mod ClassBuild
+pub mod MemberBuild
+pub mod ParameterBuild
+pub mod ConstructorBuild
+pub mod DeclarationBuild
+pub mod Evaluation
+pub mod FileTrees

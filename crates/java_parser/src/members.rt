@@ -1,180 +1,339 @@
-ghost use Rattle.java_parser.specs.Text.{Each, IsClass, IsMethod, IsMust, words_of, words_of_body, words_of_class, words_of_method, words_of_must, words_of_static};
-ghost use Rattle.java_parser.specs.Words.{Mark};
-ghost use Rattle.std.specs.List.{flat_map};
-ghost use Rattle.java_parser.specs.Tree.{tree_of};
-ghost use Rattle.std.specs.Str.{bytes_eq};
-ghost use Rattle.java_parser.specs.Reading.{Gives, IsBodyOf, Written, body_view, class_view, eat_mark, method_view, methods_view, must_view, read_body, read_class, read_main, read_many, read_method, read_must, read_unit, read_void, words_in};
-ghost use Rattle.std.specs.Prelude.{[], ◌&&◌, ◌++◌, ◌∷◌, ◌≡◌, true, ◌<◌, ◌≤◌, IfOk, codes, length};
+ghost use Rattle.std.specs.Prelude.{◌≡◌, IfOk, map, option_map, reverse, Some, None};
+ghost use Rattle.java_syntax.specs.AnnotationTrees.{modifier_of};
+ghost use Rattle.java_syntax.specs.DeclarationTrees.{member_of, method_of};
+ghost use Rattle.java_values.specs.Values.{lexeme_in};
+ghost use Rattle.java_parser.specs.DeclarationValues.{after_name_of, field_or_method_of, method_rest_of};
+ghost use Rattle.java_parser.specs.Stacks.{stacks_of};
+ghost use Rattle.java_parser.specs.ClassBuild.{and_some};
+ghost use Rattle.java_parser.specs.MemberBuild as build;
 
-use crate::reading::FirstFail;
-use crate::statements::{eat_braces, eat_ident, eat_mark, eat_name, eat_quoted, statements};
-use crate::tree::{FirstBody, FirstClass, FirstMethod, FirstUnit};
-use crate::words::Word;
-use std::alloc::Global;
+use crate::declaration_values::{AfterName, DeclarationValue, FieldOrMethod, MethodRest};
+use crate::lists::in_order;
+use crate::pops::{
+    no_name, pop_after_name, pop_constructor_body, pop_field_or_method, pop_member, pop_members,
+    pop_method_rest, pop_modifiers, pop_names, pop_parameters, push,
+};
+use crate::stacks::Stacks;
+use java_actions::{name_at, primitive_at, type_of};
+use java_syntax::{
+    ConstructorDecl, DeclarationProduction, FieldDecl, Member, MethodDecl, Modifier, Name, Typ,
+    Variable,
+};
+use java_values::{Lexeme, pop_brackets, pop_names as pop_identifiers, pop_token, put};
+use rlc_base::NoMemory;
+use std::alloc::{AllocError, Global};
 
-/// The parameter and the statements of `main`, behind `(`.
-#[tactic(auto, unfolding(crate::specs::Reading::read_main))]
-fn main_body<'t>(alloc: Global, words: &'t [Word]) -> Result<(FirstBody, &'t [Word]), FirstFail>
-    ensures reads { Gives body_view result (read_main (words_in words.now)) }
-    ensures written { IfOk result (λ r. Written words_of_body (IsBodyOf true) (Mark 40 ∷ words_in words.now) (body_view r)) }
-    ensures shorter { IfOk result (λ r. length r.1.now < length words.now) }
+/// A method of this result and name, without modifiers.
+fn method(alloc: Global, returned: Option<Typ>, name: Name, rest: MethodRest) -> MethodDecl
+    ensures { method_of result ≡ build.method returned name (method_rest_of rest) }
 {
-    let rest = eat_name(words, b"String").ok_or(FirstFail::NotFirst)?;
-    let rest = eat_mark(rest, b'[').ok_or(FirstFail::NotFirst)?;
-    let rest = eat_mark(rest, b']').ok_or(FirstFail::NotFirst)?;
-    let (parameter, rest) = eat_ident(rest).ok_or(FirstFail::NotFirst)?;
-    let rest = eat_mark(rest, b')').ok_or(FirstFail::NotFirst)?;
-    let rest = eat_mark(rest, b'{').ok_or(FirstFail::NotFirst)?;
-    let (statements, rest) = statements(alloc, rest)?;
-    let parameter = parameter.to_vec(alloc)?;
-    Ok((
-        FirstBody::Main {
-            parameter,
-            statements,
-        },
-        rest,
-    ))
-}
-
-/// What stands behind a method's name.
-#[tactic(auto, unfolding(crate::specs::Reading::read_body))]
-fn body<'t>(
-    alloc: Global,
-    is_main: bool,
-    words: &'t [Word],
-) -> Result<(FirstBody, &'t [Word]), FirstFail>
-    ensures reads { Gives body_view result (read_body is_main (words_in words.now)) }
-    ensures written { IfOk result (λ r. Written words_of_body (IsBodyOf is_main) (words_in words.now) (body_view r)) }
-    ensures shorter { IfOk result (λ r. length r.1.now < length words.now) }
-{
-    let rest = eat_mark(words, b'(').ok_or(FirstFail::NotFirst)?;
-    if let Some(rest) = eat_mark(rest, b')') {
-        let rest = eat_braces(rest).ok_or(FirstFail::NotFirst)?;
-        return Ok((FirstBody::Empty, rest));
+    MethodDecl {
+        modifiers: Vec::new(alloc),
+        result: returned,
+        name,
+        receiver: rest.receiver,
+        parameters: rest.parameters,
+        throws: rest.throws,
+        body: rest.body,
     }
-    if is_main {
-        return main_body(alloc, rest);
-    }
-    Err(FirstFail::NotFirst)
 }
 
-/// A method, behind `static` where that stands.
-#[tactic(auto, unfolding(crate::specs::Reading::read_void))]
-fn void_method<'t>(
-    alloc: Global,
-    is_static: bool,
-    words: &'t [Word],
-) -> Result<(FirstMethod, &'t [Word]), FirstFail>
-    ensures reads { Gives method_view result (read_void is_static (words_in words.now)) }
-    ensures written { IfOk result (λ r. Written words_of_method IsMethod (words_of_static is_static ++ words_in words.now) (method_view r)) }
-    ensures shorter { IfOk result (λ r. length r.1.now < length words.now) }
+/// A member of this type and name, without modifiers.
+fn member(alloc: Global, typ: Typ, name: Name, rest: FieldOrMethod) -> Result<Member, AllocError>
+    ensures { IfOk result (λ one. member_of one ≡ build.member typ name (field_or_method_of rest)) }
 {
-    let rest = eat_name(words, b"void").ok_or(FirstFail::NotFirst)?;
-    let (name, rest) = eat_ident(rest).ok_or(FirstFail::NotFirst)?;
-    let (body, rest) = body(alloc, is_main(is_static, name), rest)?;
-    let name = name.to_vec(alloc)?;
-    Ok((
-        FirstMethod {
-            name,
-            is_static,
-            body,
-        },
-        rest,
-    ))
-}
-
-// Whether a method of this name may have a parameter and statements.
-fn is_main(is_static: bool, name: &[u8]) -> bool
-    ensures { result ≡ (is_static && bytes_eq name.now (codes "main")) }
-{
-    is_static && name == b"main".as_slice()
-}
-
-#[tactic(auto, unfolding(crate::specs::Reading::read_method))]
-fn method<'t>(alloc: Global, words: &'t [Word]) -> Result<(FirstMethod, &'t [Word]), FirstFail>
-    ensures reads { Gives method_view result (read_method (words_in words.now)) }
-    ensures written { IfOk result (λ r. Written words_of_method IsMethod (words_in words.now) (method_view r)) }
-    ensures shorter { IfOk result (λ r. length r.1.now < length words.now) }
-{
-    if let Some(rest) = eat_name(words, b"static") {
-        return void_method(alloc, true, rest);
-    }
-    void_method(alloc, false, words)
-}
-
-/// The methods up to `}`, and what follows it.
-fn methods<'t>(
-    alloc: Global,
-    words: &'t [Word],
-) -> Result<(Vec<FirstMethod>, &'t [Word]), FirstFail>
-    ensures reads { Gives methods_view result (read_many (eat_mark 125) read_method (words_in words.now)) }
-    ensures written { IfOk result (λ r. Written (λ ms. flat_map words_of_method ms ++ Mark 125 ∷ []) (Each IsMethod) (words_in words.now) (methods_view r)) }
-    ensures shorter { IfOk result (λ r. length r.1.now < length words.now) }
-{
-    let mut methods = Vec::new(alloc);
-    let mut rest = words;
-    loop {
-        if let Some(end) = eat_mark(rest, b'}') {
-            return Ok((methods, end));
+    match rest {
+        FieldOrMethod::Fields { initializer, more } => {
+            let mut variables = more;
+            put(&mut variables, Variable { name, initializer })?;
+            Ok(Member::Field(FieldDecl {
+                modifiers: Vec::new(alloc),
+                typ,
+                variables: in_order(variables),
+            }))
         }
-        let (next, behind) = method(alloc, rest)?;
-        methods.push(next)?;
-        rest = behind;
+        FieldOrMethod::Method(rest) => Ok(Member::Method(method(alloc, Some(typ), name, rest))),
     }
 }
 
-/// `@InheritableMustCall("method")`, where it stands.
-#[tactic(auto, unfolding(crate::specs::Reading::read_must))]
-fn must<'t>(alloc: Global, words: &'t [Word]) -> Result<(Option<Vec<u8>>, &'t [Word]), FirstFail>
-    ensures reads { Gives must_view result (read_must (words_in words.now)) }
-    ensures written { IfOk result (λ r. Written words_of_must IsMust (words_in words.now) (must_view r)) }
-    ensures shorter { IfOk result (λ r. length r.1.now ≤ length words.now) }
+/// A member that begins with this identifier, without modifiers.
+fn member_from(alloc: Global, first: Lexeme, after: AfterName) -> Result<Member, NoMemory>
+    ensures { IfOk result (λ one. member_of one ≡ build.member_from (lexeme_in first) (after_name_of after)) }
 {
-    let Some(rest) = eat_mark(words, b'@') else {
-        return Ok((None, words));
-    };
-    let rest = eat_name(rest, b"InheritableMustCall").ok_or(FirstFail::NotFirst)?;
-    let rest = eat_mark(rest, b'(').ok_or(FirstFail::NotFirst)?;
-    let (method, rest) = eat_quoted(rest).ok_or(FirstFail::NotFirst)?;
-    let rest = eat_mark(rest, b')').ok_or(FirstFail::NotFirst)?;
-    let method = method.to_vec(alloc)?;
-    Ok((Some(method), rest))
-}
-
-#[tactic(auto, unfolding(crate::specs::Reading::read_class))]
-fn class<'t>(alloc: Global, words: &'t [Word]) -> Result<(FirstClass, &'t [Word]), FirstFail>
-    ensures reads { Gives class_view result (read_class (words_in words.now)) }
-    ensures written { IfOk result (λ r. Written words_of_class IsClass (words_in words.now) (class_view r)) }
-    ensures shorter { IfOk result (λ r. length r.1.now < length words.now) }
-{
-    let (must, rest) = must(alloc, words)?;
-    let rest = eat_name(rest, b"class").ok_or(FirstFail::NotFirst)?;
-    let (name, rest) = eat_ident(rest).ok_or(FirstFail::NotFirst)?;
-    let rest = eat_mark(rest, b'{').ok_or(FirstFail::NotFirst)?;
-    let (methods, rest) = methods(alloc, rest)?;
-    let name = name.to_vec(alloc)?;
-    Ok((
-        FirstClass {
+    match after {
+        AfterName::Constructor(constructor) => {
+            let mut constructor = constructor;
+            constructor.name = name_at(first);
+            Ok(Member::Constructor(constructor))
+        }
+        AfterName::Typed {
+            further,
+            is_array,
             name,
-            must,
-            methods,
-        },
-        rest,
-    ))
+            rest,
+        } => {
+            let mut names = further;
+            put(&mut names, name_at(first))?;
+            let typ = type_of(alloc, names, is_array)?;
+            let member = member(alloc, typ, name, rest)?;
+            Ok(member)
+        }
+    }
 }
 
-/// The classes that these words are.
-pub(crate) fn unit(alloc: Global, words: &[Word]) -> Result<FirstUnit, FirstFail>
-    ensures reads { Gives tree_of result (read_unit (words_in words.now)) }
-    ensures written { IfOk result (λ u. words_in words.now ≡ words_of (tree_of u)) }
-    ensures named { IfOk result (λ u. Each IsClass (tree_of u).classes) }
+/// The member with these modifiers.
+fn with_modifiers(modifiers: Vec<Modifier>, member: Member) -> Member
+    ensures { member_of result ≡ build.modified_member (map modifier_of modifiers.items) (member_of member) }
 {
-    let mut classes = Vec::new(alloc);
-    let mut rest = words;
-    while !rest.is_empty() {
-        let (next, behind) = class(alloc, rest)?;
-        classes.push(next)?;
-        rest = behind;
+    match member {
+        Member::Field(field) => {
+            let mut field = field;
+            field.modifiers = modifiers;
+            Member::Field(field)
+        }
+        Member::Method(method) => {
+            let mut method = method;
+            method.modifiers = modifiers;
+            Member::Method(method)
+        }
+        Member::Constructor(constructor) => {
+            let mut constructor = constructor;
+            constructor.modifiers = modifiers;
+            Member::Constructor(constructor)
+        }
     }
-    Ok(FirstUnit { classes })
+}
+
+/// The member with these modifiers, which stand with the last one first.
+fn modified_member(modifiers: Vec<Modifier>, member: Option<Member>) -> Option<Member>
+    ensures { option_map member_of result ≡ option_map (build.modified_member (map modifier_of (reverse modifiers.items))) (option_map member_of member) }
+{
+    match member {
+        Some(member) => Some(with_modifiers(in_order(modifiers), member)),
+        None => None,
+    }
+}
+
+/// The member before the others, where there is one.
+fn with_member(members: Vec<Member>, member: Option<Member>) -> Result<Vec<Member>, AllocError>
+    ensures { IfOk result (λ all. map member_of (reverse all.items) ≡ and_some (option_map member_of member) (map member_of (reverse members.items))) }
+{
+    let mut members = members;
+    if let Some(member) = member {
+        put(&mut members, member)?;
+    }
+    Ok(members)
+}
+
+/// A member and those behind it.
+#[tactic(auto, unfolding(crate::specs::MemberBuild::and_member))]
+fn and_member(alloc: Global, stacks: &mut Stacks) -> Result<(), NoMemory>
+    ensures { IfOk result (λ _. stacks_of stacks.new ≡ build.and_member (stacks_of stacks.old)) }
+{
+    let (member, depth) = pop_member(&mut stacks.declarations);
+    let (members, others) = pop_members(alloc, &mut stacks.declarations);
+    let members = with_member(members, member)?;
+    push(
+        &mut stacks.declarations,
+        DeclarationValue::Members(members, depth.max(others)),
+    )?;
+    Ok(())
+}
+
+/// `;` in the place of a member.
+#[tactic(auto, unfolding(crate::specs::MemberBuild::no_member_declared))]
+fn no_member_declared(alloc: Global, stacks: &mut Stacks) -> Result<(), NoMemory>
+    ensures { IfOk result (λ _. stacks_of stacks.new ≡ build.no_member_declared (stacks_of stacks.old)) }
+{
+    let _ = pop_token(alloc, &mut stacks.expressions);
+    push(&mut stacks.declarations, DeclarationValue::Member(None, 0))?;
+    Ok(())
+}
+
+/// Modifiers, the rest of a member.
+#[tactic(auto, unfolding(crate::specs::MemberBuild::modified))]
+fn modified(alloc: Global, stacks: &mut Stacks) -> Result<(), NoMemory>
+    ensures { IfOk result (λ _. stacks_of stacks.new ≡ build.modified (stacks_of stacks.old)) }
+{
+    let (modifiers, depth) = pop_modifiers(alloc, &mut stacks.declarations);
+    let (member, others) = pop_member(&mut stacks.declarations);
+    let member = modified_member(modifiers, member);
+    push(
+        &mut stacks.declarations,
+        DeclarationValue::Member(member, depth.max(others)),
+    )?;
+    Ok(())
+}
+
+/// `void`, an identifier, the rest of a method.
+#[tactic(auto, unfolding(crate::specs::MemberBuild::void_member))]
+fn void_member(alloc: Global, stacks: &mut Stacks) -> Result<(), NoMemory>
+    ensures { IfOk result (λ _. stacks_of stacks.new ≡ build.void_member (stacks_of stacks.old)) }
+{
+    let _ = pop_token(alloc, &mut stacks.expressions);
+    let name = pop_token(alloc, &mut stacks.expressions);
+    let (rest, depth) = pop_method_rest(alloc, &mut stacks.declarations);
+    let method = method(alloc, None, name_at(name), rest);
+    push(
+        &mut stacks.declarations,
+        DeclarationValue::Member(Some(Member::Method(method)), depth),
+    )?;
+    Ok(())
+}
+
+/// A primitive type, brackets, an identifier, the rest of a field or method.
+#[tactic(auto, unfolding(crate::specs::MemberBuild::primitive_member))]
+fn primitive_member(alloc: Global, stacks: &mut Stacks) -> Result<(), NoMemory>
+    ensures { IfOk result (λ _. stacks_of stacks.new ≡ build.primitive_member (stacks_of stacks.old)) }
+{
+    let word = pop_token(alloc, &mut stacks.expressions);
+    let is_array = pop_brackets(&mut stacks.expressions);
+    let name = pop_token(alloc, &mut stacks.expressions);
+    let (rest, depth) = pop_field_or_method(alloc, &mut stacks.declarations);
+    let member = member(alloc, primitive_at(word, is_array), name_at(name), rest)?;
+    push(
+        &mut stacks.declarations,
+        DeclarationValue::Member(Some(member), depth),
+    )?;
+    Ok(())
+}
+
+/// An identifier, what stands behind it.
+#[tactic(auto, unfolding(crate::specs::MemberBuild::named_member))]
+fn named_member(alloc: Global, stacks: &mut Stacks) -> Result<(), NoMemory>
+    ensures { IfOk result (λ _. stacks_of stacks.new ≡ build.named_member (stacks_of stacks.old)) }
+{
+    let first = pop_token(alloc, &mut stacks.expressions);
+    let (after, depth) = pop_after_name(alloc, &mut stacks.declarations);
+    let member = member_from(alloc, first, after)?;
+    push(
+        &mut stacks.declarations,
+        DeclarationValue::Member(Some(member), depth),
+    )?;
+    Ok(())
+}
+
+/// Parameters, a throws clause, a body (JLS 8.8).
+#[tactic(auto, unfolding(crate::specs::MemberBuild::constructor))]
+fn constructor(alloc: Global, stacks: &mut Stacks) -> Result<(), NoMemory>
+    ensures { IfOk result (λ _. stacks_of stacks.new ≡ build.constructor (stacks_of stacks.old)) }
+{
+    let (list, depth) = pop_parameters(alloc, &mut stacks.declarations);
+    let throws = pop_names(alloc, &mut stacks.declarations);
+    let (body, others) = pop_constructor_body(&mut stacks.declarations);
+    let constructor = ConstructorDecl {
+        modifiers: Vec::new(alloc),
+        name: no_name(alloc),
+        receiver: list.receiver,
+        parameters: in_order(list.parameters),
+        throws: in_order(throws),
+        body,
+    };
+    push(
+        &mut stacks.declarations,
+        DeclarationValue::AfterName(AfterName::Constructor(constructor), depth.max(others)),
+    )?;
+    Ok(())
+}
+
+/// `.`, an identifier, further ones, brackets, the name, the rest of a field or method.
+#[tactic(auto, unfolding(crate::specs::MemberBuild::dotted_member))]
+fn dotted_member(alloc: Global, stacks: &mut Stacks) -> Result<(), NoMemory>
+    ensures { IfOk result (λ _. stacks_of stacks.new ≡ build.dotted_member (stacks_of stacks.old)) }
+{
+    let _ = pop_token(alloc, &mut stacks.expressions);
+    let identifier = pop_token(alloc, &mut stacks.expressions);
+    let mut further = pop_identifiers(alloc, &mut stacks.expressions);
+    let is_array = pop_brackets(&mut stacks.expressions);
+    let name = pop_token(alloc, &mut stacks.expressions);
+    let (rest, depth) = pop_field_or_method(alloc, &mut stacks.declarations);
+    put(&mut further, name_at(identifier))?;
+    let after = AfterName::Typed {
+        further,
+        is_array,
+        name: name_at(name),
+        rest,
+    };
+    push(
+        &mut stacks.declarations,
+        DeclarationValue::AfterName(after, depth),
+    )?;
+    Ok(())
+}
+
+/// `[`, `]`, the name, the rest of a field or method.
+#[tactic(auto, unfolding(crate::specs::MemberBuild::array_member))]
+fn array_member(alloc: Global, stacks: &mut Stacks) -> Result<(), NoMemory>
+    ensures { IfOk result (λ _. stacks_of stacks.new ≡ build.array_member (stacks_of stacks.old)) }
+{
+    let _ = pop_token(alloc, &mut stacks.expressions);
+    let _ = pop_token(alloc, &mut stacks.expressions);
+    let name = pop_token(alloc, &mut stacks.expressions);
+    let (rest, depth) = pop_field_or_method(alloc, &mut stacks.declarations);
+    let after = AfterName::Typed {
+        further: Vec::new(alloc),
+        is_array: true,
+        name: name_at(name),
+        rest,
+    };
+    push(
+        &mut stacks.declarations,
+        DeclarationValue::AfterName(after, depth),
+    )?;
+    Ok(())
+}
+
+/// The name, the rest of a field or method.
+#[tactic(auto, unfolding(crate::specs::MemberBuild::plain_member))]
+fn plain_member(alloc: Global, stacks: &mut Stacks) -> Result<(), NoMemory>
+    ensures { IfOk result (λ _. stacks_of stacks.new ≡ build.plain_member (stacks_of stacks.old)) }
+{
+    let name = pop_token(alloc, &mut stacks.expressions);
+    let (rest, depth) = pop_field_or_method(alloc, &mut stacks.declarations);
+    let after = AfterName::Typed {
+        further: Vec::new(alloc),
+        is_array: false,
+        name: name_at(name),
+        rest,
+    };
+    push(
+        &mut stacks.declarations,
+        DeclarationValue::AfterName(after, depth),
+    )?;
+    Ok(())
+}
+
+/// What a production of members makes of the values on top; any other leaves them.
+#[tactic(auto, unfolding(crate::specs::MemberBuild::build_member))]
+pub fn build_member(
+    alloc: Global,
+    production: DeclarationProduction,
+    stacks: &mut Stacks,
+) -> Result<(), NoMemory>
+    ensures { IfOk result (λ _. stacks_of stacks.new ≡ build.build_member production (stacks_of stacks.old)) }
+{
+    match production {
+        DeclarationProduction::AndMember | DeclarationProduction::AndInterfaceMember => {
+            and_member(alloc, stacks)
+        }
+        DeclarationProduction::NoMember | DeclarationProduction::NoInterfaceMember => {
+            push(
+                &mut stacks.declarations,
+                DeclarationValue::Members(Vec::new(alloc), 0),
+            )?;
+            Ok(())
+        }
+        DeclarationProduction::LoneMember | DeclarationProduction::LoneInterfaceMember => {
+            no_member_declared(alloc, stacks)
+        }
+        DeclarationProduction::ModifiedMember => modified(alloc, stacks),
+        DeclarationProduction::VoidMember => void_member(alloc, stacks),
+        DeclarationProduction::PrimitiveMember => primitive_member(alloc, stacks),
+        DeclarationProduction::NamedMember => named_member(alloc, stacks),
+        DeclarationProduction::ConstructorOf => constructor(alloc, stacks),
+        DeclarationProduction::DottedMember => dotted_member(alloc, stacks),
+        DeclarationProduction::ArrayMember => array_member(alloc, stacks),
+        DeclarationProduction::PlainMember => plain_member(alloc, stacks),
+        _ => Ok(()),
+    }
 }

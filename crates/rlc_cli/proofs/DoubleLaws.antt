@@ -3,8 +3,8 @@ use Rattle.std.proofs.Common.{◌≡◌, ◌∙◌, refl, ap, sym, ℕ, ◌+◌,
 use Rattle.std.proofs.lemmas.List.{map-append, map_more, take-append-drop}
 use Rattle.std.proofs.lemmas.List.Folds.{list_any-append}
 use Rattle.std.specs.List.{list_any}
-use Rattle.java_parser.specs.declared.tree.FirstMethod.{FirstMethod}
-use Rattle.java_parser.specs.Tree.{MethodTree, method_of}
+use Rattle.rlc_cli.specs.declared.first_language.FirstMethod.{FirstMethod}
+use Rattle.rlc_cli.specs.FirstTrees.{MethodTree, method_of}
 use Rattle.rlc_cli.specs.Doubles.{is_double}
 use Rattle.rlc_cli.specs.Elaboration.{is_same_method}
 use Rattle.rlc_cli.specs.Typing.{are_distinct_methods}

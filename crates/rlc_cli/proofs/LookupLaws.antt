@@ -7,9 +7,10 @@ use Rattle.std.proofs.lemmas.Slice.Eq.{bytes_eq-Decides}
 use Rattle.std.specs.Prelude.{slice_get, if◌then◌else◌}
 use Rattle.std.specs.List.{list_any, position_from}
 use Rattle.std.specs.Str.{bytes_eq}
-use Rattle.java_parser.specs.Tree.{ClassTree, MethodTree}
+use Rattle.rlc_cli.specs.FirstTrees.{ClassTree, MethodTree}
 use Rattle.rlc_cli.specs.Elaboration.{Bytes, has_parameter, is_same_method, is_method, AreDistinct, AreDistinctMethods, Variable}
-use Rattle.rlc_cli.specs.Typing.{bind, given, is_declared}
+use Rattle.rlc_cli.specs.Choices.{bind, given}
+use Rattle.rlc_cli.specs.Typing.{is_declared}
 use Rattle.rlc_cli.proofs.NameLaws.{list_any-map}
 
 pub bind_some : {A B : Type 0} (o : Option A) (f : A → Option B) (y : B) → bind o f ≡ Some y → (x : A) × (o ≡ Some x) × (f x ≡ Some y)

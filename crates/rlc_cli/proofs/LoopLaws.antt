@@ -3,20 +3,21 @@ use Rattle.std.proofs.Common.{◌≡◌, ◌∙◌, refl, ap, sym, ℕ, ◌+◌,
 use Rattle.std.proofs.lemmas.List.{at_drop_more, at_drop_all, append-nil}
 use Rattle.std.proofs.lemmas.List.{map_push}
 use Rattle.std.proofs.lemmas.Option.{same_Some, none-some}
-use Rattle.java_parser.specs.declared.tree.FirstClass.{FirstClass}
-use Rattle.java_parser.specs.declared.tree.FirstMethod.{FirstMethod}
-use Rattle.java_parser.specs.declared.tree.FirstStatement.{FirstStatement}
-use Rattle.java_parser.specs.Tree.{ClassTree, ValueTree, class_of, method_of, statement_of}
+use Rattle.rlc_cli.specs.declared.first_language.FirstClass.{FirstClass}
+use Rattle.rlc_cli.specs.declared.first_language.FirstMethod.{FirstMethod}
+use Rattle.rlc_cli.specs.declared.first_language.FirstStatement.{FirstStatement}
+use Rattle.rlc_cli.specs.FirstTrees.{ClassTree, ValueTree, class_of, method_of, statement_of}
 use Rattle.obligation_flow.specs.declared.program.Statement.{Statement}
 use Rattle.obligation_flow.specs.declared.program.Statement.TheVariants as statements
 use Rattle.obligation_flow.specs.declared.program.TypedBody.{TypedBody}
 use Rattle.obligation_flow.specs.declared.program.Value.{Value}
-use Rattle.rlc_cli.specs.declared.elaboration.ElaborateFail.{ElaborateFail}
-use Rattle.rlc_cli.specs.declared.elaboration.ElaborateFail.TheVariants as fails
+use Rattle.rlc_cli.specs.declared.first_language.FirstFail.{FirstFail}
+use Rattle.rlc_cli.specs.declared.first_language.FirstFail.TheVariants as fails
 use Rattle.rlc_cli.specs.Elaboration.{Bytes, Variable}
-use Rattle.rlc_cli.specs.Typing.{Fails, Passes, bind, given, behind, statement_by, statements_by, BodyData, data_of, method_by, methods_by, class_bodies_by, bodies_by, is_good_class, are_good_classes, class_number, is_declared, value_by, new_variable_by, declaration_by}
+use Rattle.rlc_cli.specs.Choices.{Fails, Passes, bind, given}
+use Rattle.rlc_cli.specs.Typing.{behind, statement_by, statements_by, BodyData, data_of, method_by, methods_by, class_bodies_by, bodies_by, is_good_class, are_good_classes, class_number, is_declared, value_by, new_variable_by, declaration_by}
 
-pub fails_too : {P Q : Type 0} (e : ElaborateFail) → Fails e P → (P → Q) → Fails e Q
+pub fails_too : {P Q : Type 0} (e : FirstFail) → Fails e P → (P → Q) → Fails e Q
 fails_too fails.NotFirst p f = f p
 fails_too fails.NoMemory p f = tt
 
@@ -132,7 +133,7 @@ third_false true true x y e = ap (λ z. z && y) e
 pub three_true : (a b x y : Bool) → a ≡ true → b ≡ true → x ≡ true → (a && (b && (x && y))) ≡ y
 three_true a b x y p q r i = p i && (q i && (r i && y))
 
-pub passes_too : {A : Type 0} (r : Result A ElaborateFail) (s t : Bool) → t ≡ s → Passes r s → Passes r t
+pub passes_too : {A : Type 0} (r : Result A FirstFail) (s t : Bool) → t ≡ s → Passes r s → Passes r t
 passes_too r s t e p = subst (Passes r) (sym e) p
 
 given_not_true : {A : Type 0} (b : Bool) (o : Option A) → b ≡ true → given (not b) o ≡ None

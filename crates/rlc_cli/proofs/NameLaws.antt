@@ -4,9 +4,9 @@ use Rattle.std.proofs.lemmas.List.{at_drop_more}
 use Rattle.std.proofs.lemmas.Iterator.Adapters.{position_from-zero}
 use Rattle.std.specs.List.{list_any, position, position_from}
 use Rattle.std.specs.Str.{bytes_eq}
-use Rattle.java_parser.specs.declared.tree.FirstClass.{FirstClass}
-use Rattle.java_parser.specs.declared.tree.FirstMethod.{FirstMethod}
-use Rattle.java_parser.specs.Tree.{ClassTree, class_of, method_of}
+use Rattle.rlc_cli.specs.declared.first_language.FirstClass.{FirstClass}
+use Rattle.rlc_cli.specs.declared.first_language.FirstMethod.{FirstMethod}
+use Rattle.rlc_cli.specs.FirstTrees.{ClassTree, class_of, method_of}
 use Rattle.rlc_cli.specs.declared.elaboration.scope.DeclaredVariable.{DeclaredVariable}
 use Rattle.rlc_cli.specs.Elaboration.{Bytes, core_names, names, is_method, is_must, name_number, name_number_from}
 use Rattle.rlc_cli.specs.Typing.{class_number, class_names, variable_number, variable_of, method_place, are_distinct, have_no_core_name, is_declared}

@@ -3,14 +3,15 @@ use Rattle.std.proofs.Common.{◌≡◌, ◌∙◌, refl, ap, sym, ℕ, zero, su
 use Rattle.std.proofs.lemmas.List.{at_drop_more, at_drop_all, append-nil, length-map}
 use Rattle.std.proofs.lemmas.Option.{same_Some, none-some, slice_get-map, slice_get_past, slice_get_read, get_or_from_slice_get}
 use Rattle.std.specs.List.{position}
-use Rattle.java_parser.specs.declared.tree.FirstMethod.{FirstMethod}
+use Rattle.rlc_cli.specs.declared.first_language.FirstMethod.{FirstMethod}
 use Rattle.obligation_flow.specs.Sets.{Numbers}
 use Rattle.std.specs.Prelude.{slice_get, option_map}
-use Rattle.java_parser.specs.declared.tree.FirstClass.{FirstClass}
-use Rattle.java_parser.specs.Tree.{ClassTree, class_of, method_of}
+use Rattle.rlc_cli.specs.declared.first_language.FirstClass.{FirstClass}
+use Rattle.rlc_cli.specs.FirstTrees.{ClassTree, class_of, method_of}
 use Rattle.obligation_flow.specs.declared.program.TypedClass.{TypedClass}
 use Rattle.rlc_cli.specs.Elaboration.{Bytes, constructor_number, body_count, is_method, must_set}
-use Rattle.rlc_cli.specs.Typing.{AreNumbers, bind, method_number, method_place, typed_class, typed_classes}
+use Rattle.rlc_cli.specs.Choices.{bind}
+use Rattle.rlc_cli.specs.Typing.{AreNumbers, method_number, method_place, typed_class, typed_classes}
 use Rattle.rlc_cli.proofs.NameLaws.{method_place_is}
 
 pub constructor_zero : (cs : List ClassTree) → constructor_number cs 0 ≡ 0

@@ -5,8 +5,8 @@ use Rattle.std.proofs.lemmas.List.Sums.{sum_by-cons}
 use Rattle.std.proofs.lemmas.Option.{same_Some, none-some, slice_get-map, slice_get_within}
 use Rattle.std.specs.Prelude.{slice_get, option_map}
 use Rattle.std.specs.List.{All, count_by}
-use Rattle.java_parser.specs.Tree.{ClassTree, MethodTree, BodyTree, Empty, Main, StatementTree, ValueTree, UnitTree}
-use Rattle.java_parser.specs.Tree as trees
+use Rattle.rlc_cli.specs.FirstTrees.{ClassTree, MethodTree, BodyTree, Empty, Main, StatementTree, ValueTree, UnitTree}
+use Rattle.rlc_cli.specs.FirstTrees as trees
 use Rattle.rlc_base.specs.declared.name_id.NameId.{NameId}
 use Rattle.obligation_flow.specs.Programs.{program_of, must_in, constructor_in, class_in, kind_in, noted_in, is_main_in, start_in, to_do, number_in}
 use Rattle.obligation_flow.specs.Control.{next_of}
@@ -21,10 +21,11 @@ use Rattle.obligation_flow.specs.declared.program.Statement.TheVariants as state
 use Rattle.obligation_flow.specs.declared.program.Expression.TheVariants as expressions
 use Rattle.obligation_flow.specs.declared.program.Value.{Value}
 use Rattle.obligation_flow.specs.declared.program.Value.TheVariants as values
-use Rattle.rlc_cli.specs.declared.elaboration.ElaborateFail.{ElaborateFail}
-use Rattle.rlc_cli.specs.declared.elaboration.ElaborateFail.TheVariants as fails
+use Rattle.rlc_cli.specs.declared.first_language.FirstFail.{FirstFail}
+use Rattle.rlc_cli.specs.declared.first_language.FirstFail.TheVariants as fails
 use Rattle.rlc_cli.specs.Elaboration.{Bytes, Variable, IsVariable, IsTypedValue, IsTypedStatement, IsScopeAfter, AreTypedStatements, AreBodyStatements, IsMethodBody, IsConstructorBody, AreMethodBodies, AreClassBodies, AreTypedBodies, IsProgramOf, is_declaration, is_must, name_number_from, noted_number, parameter_scope}
-use Rattle.rlc_cli.specs.Typing.{Gives, BodyData, data_of, unit_by}
+use Rattle.rlc_cli.specs.Choices.{Gives}
+use Rattle.rlc_cli.specs.Typing.{BodyData, data_of, unit_by}
 use Rattle.rlc_cli.proofs.UnitLaws.{unit_complete, unit_sound}
 use Rattle.rlc_cli.proofs.StatementLaws.{pair_parts}
 
@@ -201,23 +202,23 @@ program_small unit p h = each_all IsBodyInRange p.bodies.items (bodies_small uni
 
 -- the clauses of an elaboration that tells what is computed
 
-abbrev pub Told : UnitTree → Result TypedProgram ElaborateFail → Type 0
+abbrev pub Told : UnitTree → Result TypedProgram FirstFail → Type 0
 Told unit r = Gives (λ p. (p.classes.items, map data_of p.bodies.items)) r (unit_by unit.classes)
 
-pub program_told : (unit : UnitTree) (r : Result TypedProgram ElaborateFail) → Told unit r → IfOk r (λ p. IsProgramOf unit p)
+pub program_told : (unit : UnitTree) (r : Result TypedProgram FirstFail) → Told unit r → IfOk r (λ p. IsProgramOf unit p)
 program_told unit (Ok p) e = unit_sound unit p e
 program_told unit (Err f) e = tt
 
-pub only_told : (unit : UnitTree) (r : Result TypedProgram ElaborateFail) → Told unit r → IfOk r (λ p. (q : TypedProgram) → IsProgramOf unit q → program_of q ≡ program_of p)
+pub only_told : (unit : UnitTree) (r : Result TypedProgram FirstFail) → Told unit r → IfOk r (λ p. (q : TypedProgram) → IsProgramOf unit q → program_of q ≡ program_of p)
 only_told unit (Ok p) e = λ q h.
     let parts = pair_parts q.classes.items p.classes.items (map data_of q.bodies.items) (map data_of p.bodies.items) (sym (unit_complete unit q h) ∙ e) in
     same_program q p parts.0 parts.1
 only_told unit (Err f) e = tt
 
-pub small_told : (unit : UnitTree) (r : Result TypedProgram ElaborateFail) → Told unit r → IfOk r (λ p. IsInRange p)
+pub small_told : (unit : UnitTree) (r : Result TypedProgram FirstFail) → Told unit r → IfOk r (λ p. IsInRange p)
 small_told unit (Ok p) e = program_small unit p (unit_sound unit p e)
 small_told unit (Err f) e = tt
 
-pub refused_told : (unit : UnitTree) (r : Result TypedProgram ElaborateFail) → Told unit r → r ≡ Err fails.NotFirst → (q : TypedProgram) → IsProgramOf unit q → ⊥
+pub refused_told : (unit : UnitTree) (r : Result TypedProgram FirstFail) → Told unit r → r ≡ Err fails.NotFirst → (q : TypedProgram) → IsProgramOf unit q → ⊥
 refused_told unit r e f q h =
     none-some (q.classes.items, map data_of q.bodies.items) (sym (subst (Told unit) f e) ∙ unit_complete unit q h)

@@ -1,26 +1,50 @@
 -- Why the command answers as it does, and what it writes.
-use Rattle.std.specs.Prelude.{◌≡◌, ◌<◌, ◌≤◌, ℕ, Option, Some, None, List, [], ◌∷◌, ◌++◌, codes, length}
+use Rattle.std.specs.Prelude.{◌≡◌, ◌<◌, ◌≤◌, ℕ, false, Option, Some, None, List, [], length}
 use Rattle.std.specs.Io.KnownBytes.{append_known}
 use Rattle.outside.specs.Counts.{Rose}
 use Rattle.outside.specs.Files.{Contents, file, HasFile, max_file, TakesPast}
 use Rattle.outside.specs.Sink.{AppendsFront}
-use Rattle.java_parser.specs.Tree.{UnitTree, tree_of}
-use Rattle.java_parser.specs.declared.tree.FirstUnit.{FirstUnit}
-use Rattle.java_parser.specs.Text.{IsText}
+use Rattle.rlc_base.specs.declared.faults.Stop.{Stop}
+use Rattle.rlc_base.specs.declared.faults.Stop.TheVariants as stops
+use Rattle.java_lexer.specs.declared.token.Token.{Token}
+use Rattle.java_lexer.specs.Cut.{IsCut, IsStopAt, HasNoCut, place_behind}
+use Rattle.java_syntax.specs.declared.symbols.Symbol.TheVariants as symbols
+use Rattle.java_syntax.specs.DeclarationTrees.{UnitTree}
+use Rattle.java_parser.specs.FileTrees.{IsUnitTree, IsFileStop, HasNoUnit, lexemes}
 use Rattle.obligation_flow.specs.Programs.{program_of}
 use Rattle.obligation_flow.specs.Paths as paths
 use Rattle.obligation_flow.specs.Ranges.{IsInRange}
 use Rattle.obligation_flow.specs.declared.program.TypedProgram.{TypedProgram}
 use Rattle.soundness_laws.specs.Safe.{Safe}
 use Rattle.rlc_cli.specs.Elaboration.{IsProgramOf}
+use Rattle.rlc_cli.specs.FirstLanguage.{first_of}
+use Rattle.rlc_cli.specs.FirstTrees as first
+use Rattle.rlc_cli.specs.Texts.{text_of}
+use Rattle.rlc_cli.specs.declared.due.Due.{Due}
+use Rattle.rlc_cli.specs.declared.due.Due.TheVariants as dues
+use Rattle.rlc_cli.specs.declared.due.Verdict.{Verdict}
+use Rattle.rlc_cli.specs.declared.due.Verdict.TheVariants as verdicts
+use Rattle.rlc_cli.specs.Status.{status_of}
 use Rattle.rlc_cli.specs.declared.status.Status.{Status}
 use Rattle.rlc_cli.specs.declared.status.Status.TheVariants as statuses
 
--- The bytes are a text of the first language, and this is its typed program.
+-- The file that is checked is file 1: file 0 is the core stub. The bytes are cut into tokens, which derive the syntax tree.
+pub record IsTreeOf (bytes : List ℕ) (tree : UnitTree) : Type 0 where
+  pub tokens : List Token
+  pub cut : IsCut 1 bytes tokens
+  pub unit : IsUnitTree (lexemes bytes tokens) tree
+
+-- The unit is one of the first language, and this is its typed program.
+pub record IsElaborated (tree : UnitTree) (p : TypedProgram) : Type 0 where
+  pub unit : first.UnitTree
+  pub is_first : first_of tree ≡ Some unit
+  pub program : IsProgramOf unit p
+
+-- The bytes are a Java source of the first language, and this is its typed program.
 pub record IsRead (bytes : List ℕ) (p : TypedProgram) : Type 0 where
   pub tree : UnitTree
-  pub text : IsText bytes tree
-  pub program : IsProgramOf tree p
+  pub text : IsTreeOf bytes tree
+  pub elaborated : IsElaborated tree p
 
 abbrev pub IsNoProgram : List ℕ → Type 0
 IsNoProgram bytes = (p : TypedProgram) → IsRead bytes p → ⊥
@@ -36,22 +60,34 @@ pub record IsAccepted (bytes : List ℕ) : Type 0 where
   pub no_fault : (p : TypedProgram) → IsRead bytes p → paths.IsFaulty (program_of p) → ⊥
   pub safe : (p : TypedProgram) → IsRead bytes p → Safe (program_of p)
 
--- the tree of the bytes and of no others, or that there is none
-abbrev pub IsUnit : List ℕ → Option FirstUnit → Type 0
-IsUnit bytes None = (t : UnitTree) → IsText bytes t → ⊥
-IsUnit bytes (Some u) = IsText bytes (tree_of u) × ((t : UnitTree) → IsText bytes t → t ≡ tree_of u)
+-- the typed program of the unit, and that each has the same meaning, or that there is none
+abbrev pub IsWhole : UnitTree → Option TypedProgram → Type 0
+IsWhole tree None = (p : TypedProgram) → IsElaborated tree p → ⊥
+IsWhole tree (Some p) = IsElaborated tree p × IsInRange p × ((q : TypedProgram) → IsElaborated tree q → program_of q ≡ program_of p)
 
--- the typed program of the bytes, and that each has the same meaning, or that there is none
-abbrev pub IsWhole : List ℕ → Option TypedProgram → Type 0
-IsWhole bytes None = IsNoProgram bytes
-IsWhole bytes (Some p) = IsRead bytes p × IsInRange p × ((q : TypedProgram) → IsRead bytes q → program_of q ≡ program_of p)
+-- The tokens are refused at the first of them at which no source file goes on, or for a tree that is too deep; no source file has them.
+pub record IsTreeless (bytes : List ℕ) (tokens : List Token) (stop : Stop) : Type 0 where
+  pub stopped : IsFileStop false symbols.CompilationUnit (lexemes bytes tokens) (place_behind 1 bytes) stop
+  pub no_unit : HasNoUnit (lexemes bytes tokens) stop
+
+-- The bytes have no syntax tree: they have no cut into tokens, or the tokens have none.
+pub data IsStopped (bytes : List ℕ) (stop : Stop) : Type 0 where
+  no_cut : IsStopAt 1 bytes stop → HasNoCut 1 bytes stop → IsStopped bytes stop
+  no_tree : (tokens : List Token) → IsCut 1 bytes tokens → IsTreeless bytes tokens stop → IsStopped bytes stop
+
+-- The bytes have a syntax tree, and no program.
+pub record IsNotBuilt (bytes : List ℕ) : Type 0 where
+  pub tree : UnitTree
+  pub text : IsTreeOf bytes tree
+  pub no_program : IsNoProgram bytes
 
 -- what is to be said of a file of these bytes
-abbrev pub Judges : List ℕ → Status → Type 0
-Judges bytes statuses.Accepted = IsAccepted bytes
-Judges bytes statuses.Leaks = IsLeaking bytes
-Judges bytes statuses.Refused = IsNoProgram bytes
-Judges bytes status = ⊥
+abbrev pub Judges : List ℕ → Verdict → Type 0
+Judges bytes verdicts.Accepted = IsAccepted bytes
+Judges bytes verdicts.Leaks = IsLeaking bytes
+Judges bytes (verdicts.Refused refusal) = IsStopped bytes (stops.Refused refusal)
+Judges bytes (verdicts.TooMuch refusal) = IsStopped bytes (stops.TooMuch refusal)
+Judges bytes verdicts.NotBuilt = IsNotBuilt bytes
 
 -- what the files told, and how their counts stood before and stand after
 pub record Reading : Type 0 where
@@ -67,11 +103,11 @@ IsContent None name bytes = Unit {0}
 IsContent (Some files) name bytes = file files name ≡ Some bytes
 
 -- the file was read to its end, and this is to be said of its bytes
-pub record IsJudged (name : List ℕ) (told : Option Contents) (status : Status) : Type 0 where
+pub record IsJudged (name : List ℕ) (told : Option Contents) (verdict : Verdict) : Type 0 where
   pub bytes : List ℕ
   pub content : IsContent told name bytes
   pub fits : length bytes ≤ max_file
-  pub judged : Judges bytes status
+  pub judged : Judges bytes verdict
 
 -- the file has more bytes than a file may have
 abbrev pub IsPastLimit : Option Contents → List ℕ → ℕ → ℕ → Type 0
@@ -82,20 +118,13 @@ IsPastLimit (Some files) name taken taken_now = (bytes : List ℕ) × (file file
 abbrev pub CountsNoFault : Reading → Type 0
 CountsNoFault r = r.faults_now ≡ r.faults
 
--- Why a status is due for the file of this name. Want of memory is always a reason.
-abbrev pub IsDue : List ℕ → Reading → Status → Type 0
-IsDue name r statuses.ReadFault = Rose r.faults r.faults_now
-IsDue name r statuses.Limit = IsPastLimit r.told name r.taken r.taken_now × CountsNoFault r
-IsDue name r statuses.Refused = IsJudged name r.told statuses.Refused × CountsNoFault r
-IsDue name r statuses.Leaks = IsJudged name r.told statuses.Leaks × CountsNoFault r
-IsDue name r statuses.Accepted = IsJudged name r.told statuses.Accepted × CountsNoFault r
-IsDue name r statuses.NoMemory = CountsNoFault r
-IsDue name r status = ⊥
-
--- a status that says nothing of writing
-abbrev pub MayBeDue : Status → Type 0
-MayBeDue statuses.WriteFault = ⊥
-MayBeDue status = Unit {0}
+-- Why this is due for the file of this name. Want of memory is always a reason.
+abbrev pub IsDue : List ℕ → Reading → Due → Type 0
+IsDue name r dues.ReadFault = Rose r.faults r.faults_now
+IsDue name r dues.FileTooBig = IsPastLimit r.told name r.taken r.taken_now × CountsNoFault r
+IsDue name r (dues.Judged verdict) = IsJudged name r.told verdict × CountsNoFault r
+IsDue name r dues.NoMemory = CountsNoFault r
+IsDue name r dues.Usage = ⊥
 
 -- what may be answered after a fault of reading
 abbrev pub IsAfterReadFault : Status → Type 0
@@ -104,36 +133,25 @@ IsAfterReadFault statuses.WriteFault = Unit {0}
 IsAfterReadFault statuses.NoMemory = Unit {0}
 IsAfterReadFault status = ⊥
 
--- Why a status is due for these words: `Usage` where they name no file.
-abbrev pub IsCaused : Option (List ℕ) → Reading → Status → Type 0
-IsCaused None r statuses.Usage = CountsNoFault r
-IsCaused None r status = ⊥
-IsCaused (Some name) r statuses.Usage = ⊥
-IsCaused (Some name) r status = IsDue name r status
+-- Why this is due for these words: `Usage` where they name no file.
+abbrev pub IsCaused : Option (List ℕ) → Reading → Due → Type 0
+IsCaused None r due = (due ≡ dues.Usage) × CountsNoFault r
+IsCaused (Some name) r due = IsDue name r due
 
 abbrev pub name_of : Option (List ℕ) → List ℕ
 name_of None = []
 name_of (Some name) = name
 
--- the text of each status, for the file of this name; every line ends with a line feed
-abbrev pub text_of : List ℕ → Status → List ℕ
-text_of name statuses.Leaks = codes "leaks" ++ 10 ∷ []
-text_of name statuses.Usage = codes "usage" ++ 10 ∷ []
-text_of name statuses.Refused = name ++ (codes ": 90 NotBuilt" ++ 10 ∷ [])
-text_of name statuses.Limit = name ++ (codes ": 60 FileTooBig" ++ 10 ∷ [])
-text_of name statuses.ReadFault = codes "read fault " ++ (name ++ 10 ∷ [])
-text_of name status = []
-
--- What was written where the status was due and the sink was sure of so much room: the whole text; for a fault of writing,
+-- What was written where this was due and the sink was sure of so much room: the whole text; for a fault of writing,
 -- a front of a text that has no room; for want of memory, nothing.
-abbrev pub IsSent : List ℕ → Status → ℕ → Option (List ℕ) → Option (List ℕ) → Status → Type 0
+abbrev pub IsSent : List ℕ → Due → ℕ → Option (List ℕ) → Option (List ℕ) → Status → Type 0
 IsSent name due room old new statuses.NoMemory = new ≡ old
 IsSent name due room old new statuses.WriteFault = AppendsFront old new (text_of name due) × (room < length (text_of name due))
-IsSent name due room old new status = (status ≡ due) × (new ≡ append_known old (text_of name due))
+IsSent name due room old new status = (status ≡ status_of due) × (new ≡ append_known old (text_of name due))
 
--- The answer to words that name this file, or none: a status was due, and its text was sent.
+-- The answer to words that name this file, or none: something was due, and its text was sent.
 abbrev pub IsAnswered : Option (List ℕ) → Reading → ℕ → Option (List ℕ) → Option (List ℕ) → Status → Type 0
-IsAnswered named r room old new status = (due : Status) × IsCaused named r due × IsSent (name_of named) due room old new status
+IsAnswered named r room old new status = (due : Due) × IsCaused named r due × IsSent (name_of named) due room old new status
 
 -- a count of faults of writing that is greater than before comes with WriteFault, and with it alone
 abbrev pub IsWriteStatus : ℕ → ℕ → Status → Type 0

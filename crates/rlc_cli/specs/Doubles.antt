@@ -5,7 +5,7 @@ use Rattle.std.specs.BTreeSet.{BTreeSet}
 use Rattle.std.specs.Cmp.Lexicographic.{slice_cmp}
 use Rattle.std.specs.List.{list_any}
 use Rattle.std.specs.Ordering.{is_eq, nat_cmp}
-use Rattle.java_parser.specs.Tree.{MethodTree}
+use Rattle.rlc_cli.specs.FirstTrees.{MethodTree}
 use Rattle.rlc_cli.specs.Elaboration.{Bytes, has_parameter, is_same_method}
 
 -- the set has the name

@@ -4,8 +4,8 @@ use Rattle.std.specs.Prelude.{◌≡◌, ◌≤◌, ◌+◌, ℕ, zero, suc, Boo
 use Rattle.std.specs.FinSet as set
 use Rattle.std.specs.List.{list_any, count_by}
 use Rattle.std.specs.Str.{bytes_eq}
-use Rattle.java_parser.specs.Tree.{UnitTree, ClassTree, MethodTree, BodyTree, Empty, Main, StatementTree, ValueTree}
-use Rattle.java_parser.specs.Tree as trees
+use Rattle.rlc_cli.specs.FirstTrees.{UnitTree, ClassTree, MethodTree, BodyTree, Empty, Main, StatementTree, ValueTree}
+use Rattle.rlc_cli.specs.FirstTrees as trees
 use Rattle.obligation_flow.specs.Sets.{Numbers, nothing}
 use Rattle.obligation_flow.specs.declared.program.TypedProgram.{TypedProgram}
 use Rattle.obligation_flow.specs.declared.program.TypedClass.{TypedClass}

@@ -1,11 +1,11 @@
 -- The typed program of a unit as a computation: each name stands for the first of the listed things that have it, and where
 -- a condition fails there is nothing. Only contracts of private functions cite this; what is computed here is exactly what
 -- `IsProgramOf` relates.
-use Rattle.std.specs.Prelude.{◌≡◌, ◌<◌, ◌≤◌, ◌+◌, ◌^◌, ℕ, Bool, true, false, not, ◌&&◌, ◌==◌, nat_le, Option, Some, None, Result, Ok, Err, List, [], ◌∷◌, ◌++◌, map, length, slice_get, option_map}
+use Rattle.std.specs.Prelude.{◌≡◌, ◌<◌, ◌≤◌, ◌+◌, ◌^◌, ℕ, Bool, true, false, not, ◌&&◌, ◌==◌, nat_le, Option, Some, None, List, [], ◌∷◌, ◌++◌, map, length, slice_get, option_map}
 use Rattle.std.specs.List.{list_any, count_by, position_from}
 use Rattle.std.specs.Str.{bytes_eq}
-use Rattle.java_parser.specs.Tree.{ClassTree, MethodTree, BodyTree, Empty, Main, StatementTree, ValueTree}
-use Rattle.java_parser.specs.Tree as trees
+use Rattle.rlc_cli.specs.FirstTrees.{ClassTree, MethodTree, BodyTree, Empty, Main, StatementTree, ValueTree}
+use Rattle.rlc_cli.specs.FirstTrees as trees
 use Rattle.obligation_flow.specs.declared.program.TypedClass.{TypedClass}
 use Rattle.obligation_flow.specs.declared.program.TypedBody.{TypedBody}
 use Rattle.obligation_flow.specs.declared.program.BodyKind.{BodyKind}
@@ -16,35 +16,9 @@ use Rattle.obligation_flow.specs.declared.program.Expression.TheVariants as expr
 use Rattle.obligation_flow.specs.declared.program.Value.{Value}
 use Rattle.obligation_flow.specs.declared.program.Value.TheVariants as values
 use Rattle.obligation_flow.specs.Programs.{number_in}
-use Rattle.rlc_cli.specs.declared.elaboration.ElaborateFail.{ElaborateFail}
-use Rattle.rlc_cli.specs.declared.elaboration.ElaborateFail.TheVariants as fails
+use Rattle.rlc_cli.specs.Choices.{bind, given}
 use Rattle.rlc_cli.specs.declared.elaboration.scope.DeclaredVariable.{DeclaredVariable}
 use Rattle.rlc_cli.specs.Elaboration.{Bytes, core_names, names, has_parameter, is_same_method, is_method, must_set, body_count, constructor_number, Variable, is_declaration, parameter_scope, method_kind, noted_number}
-
--- what NotFirst says; want of memory says nothing
-abbrev pub Fails : ElaborateFail → Type 0 → Type 0
-Fails fails.NotFirst P = P
-Fails fails.NoMemory P = Unit {0}
-
--- An answer tells what was found, and NotFirst that there is nothing.
-abbrev pub Gives : {A B : Type 0} → (A → B) → Result A ElaborateFail → Option B → Type 0
-Gives view (Ok x) found = found ≡ Some (view x)
-Gives view (Err e) found = Fails e (found ≡ None)
-
--- An answer says whether a test holds.
-abbrev pub Passes : {A : Type 0} → Result A ElaborateFail → Bool → Type 0
-Passes (Ok x) test = test ≡ true
-Passes (Err e) test = Fails e (test ≡ false)
-
--- what follows a value that was found
-abbrev pub bind : {A B : Type 0} → Option A → (A → Option B) → Option B
-bind None next = None
-bind (Some x) next = next x
-
--- what follows a test
-abbrev pub given : {A : Type 0} → Bool → Option A → Option A
-given false next = None
-given true next = next
 
 -- the conditions on the classes of a unit, as tests
 

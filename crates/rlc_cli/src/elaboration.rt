@@ -1,13 +1,13 @@
 // The typed program of a unit of the first language, where the language's conditions hold.
 
 ghost use Rattle.std.specs.Prelude.{◌≡◌, IfOk, map};
-ghost use Rattle.java_parser.specs.Tree.{class_of, tree_of};
+ghost use Rattle.rlc_cli.specs.FirstTrees.{class_of, tree_of};
 ghost use Rattle.obligation_flow.specs.Programs.{program_of};
 ghost use Rattle.obligation_flow.specs.Ranges.{IsInRange};
 ghost use Rattle.obligation_flow.specs.declared.program.TypedProgram.{TypedProgram};
 ghost use Rattle.rlc_cli.specs.Elaboration.{IsProgramOf};
-ghost use Rattle.rlc_cli.specs.Typing.{Gives, data_of, unit_by};
-ghost use Rattle.rlc_cli.specs.declared.elaboration.ElaborateFail.TheVariants as fails;
+ghost use Rattle.rlc_cli.specs.Choices.{Gives};
+ghost use Rattle.rlc_cli.specs.Typing.{data_of, unit_by};
 
 mod bodies;
 mod conditions;
@@ -19,47 +19,22 @@ mod statements;
 use crate::elaboration::bodies::typed_bodies;
 use crate::elaboration::conditions::check_classes;
 use crate::elaboration::numbers::typed_classes;
-use java_parser::{FirstClass, FirstUnit};
+use crate::first_language::{FirstClass, FirstFail, FirstUnit};
 use obligation_flow::program::TypedProgram;
-use std::alloc::{AllocError, AllocFailed, Global};
-
-/// Why a unit has no typed program.
-#[derive(Clone, Copy, Debug, PartialEq, Eq)]
-pub enum ElaborateFail {
-    /// A condition of the first language does not hold.
-    NotFirst,
-    /// Memory ran out, or the unit has more bodies than a `u32` counts.
-    NoMemory,
-}
-
-impl From<AllocError> for ElaborateFail {
-    ghost from_gives = { λ _ fail. fail ≡ fails.NoMemory };
-
-    fn from(_error: AllocError) -> ElaborateFail {
-        ElaborateFail::NoMemory
-    }
-}
-
-impl<T: Drop> From<AllocFailed<T>> for ElaborateFail {
-    ghost from_gives = { λ _ fail. fail ≡ fails.NoMemory };
-
-    fn from(_error: AllocFailed<T>) -> ElaborateFail {
-        ElaborateFail::NoMemory
-    }
-}
+use std::alloc::Global;
 
 /// The typed program of the unit: what each of its names stands for (JLS 6). A unit that breaks a condition of the first
 /// language is `NotFirst`.
-pub fn elaborate(alloc: Global, unit: &FirstUnit) -> Result<TypedProgram, ElaborateFail>
+pub fn elaborate(alloc: Global, unit: &FirstUnit) -> Result<TypedProgram, FirstFail>
     ensures program { IfOk result (λ p. IsProgramOf (tree_of unit.now) p) }
     ensures only { IfOk result (λ p. (q : TypedProgram) → IsProgramOf (tree_of unit.now) q → program_of q ≡ program_of p) }
     ensures in_range { IfOk result (λ p. IsInRange p) }
-    ensures refused { result ≡ Err ElaborateFail.NotFirst → (q : TypedProgram) → IsProgramOf (tree_of unit.now) q → ⊥ }
+    ensures refused { result ≡ Err FirstFail.NotFirst → (q : TypedProgram) → IsProgramOf (tree_of unit.now) q → ⊥ }
 {
     typed_program(alloc, unit.classes.as_slice())
 }
 
-fn typed_program(alloc: Global, classes: &[FirstClass]) -> Result<TypedProgram, ElaborateFail>
+fn typed_program(alloc: Global, classes: &[FirstClass]) -> Result<TypedProgram, FirstFail>
     ensures { Gives (λ p. (p.classes.items, map data_of p.bodies.items)) result (unit_by (map class_of classes.now)) }
 {
     check_classes(alloc, classes)?;

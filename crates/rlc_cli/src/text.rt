@@ -1,10 +1,10 @@
-// The text of a status.
+// The text of what is due.
 
 ghost use Rattle.std.specs.Prelude.{◌≡◌, ◌++◌, IfOk};
-ghost use Rattle.rlc_cli.specs.Answers.{text_of};
+ghost use Rattle.rlc_cli.specs.Texts.{name_in, refusal_names, refusal_text, text_of};
 
-use crate::status::Status;
-use rlc_base::{NoMemory, Text};
+use crate::due::{Due, Verdict};
+use rlc_base::{NoMemory, Pos, Refusal, Text};
 use std::alloc::Global;
 
 // Two pieces, one behind the other.
@@ -18,23 +18,52 @@ fn joined(alloc: Global, first: &[u8], second: &[u8]) -> Result<Text, NoMemory>
 }
 
 fn read_fault(alloc: Global, name: &str) -> Result<Text, NoMemory>
-    ensures { IfOk result (λ text. text ≡ text_of name.now Status.ReadFault) }
+    ensures { IfOk result (λ text. text ≡ text_of name.now Due.ReadFault) }
 {
     let mut text = joined(alloc, b"read fault ", name.as_bytes())?;
     text.push_bytes(b"\n")?;
     Ok(text)
 }
 
-/// The text of the status, for the file of this name.
-pub fn text_for(alloc: Global, name: &str, status: Status) -> Result<Text, NoMemory>
-    ensures { IfOk result (λ text. text ≡ text_of name.now status) }
+// The name of a refusal that has a place.
+fn refusal_name(code: u16) -> &'static str
+    ensures { result.now ≡ name_in refusal_names code }
 {
-    match status {
-        Status::Leaks => joined(alloc, b"leaks", b"\n"),
-        Status::Usage => joined(alloc, b"usage", b"\n"),
-        Status::Refused => joined(alloc, name.as_bytes(), b": 90 NotBuilt\n"),
-        Status::Limit => joined(alloc, name.as_bytes(), b": 60 FileTooBig\n"),
-        Status::ReadFault => read_fault(alloc, name),
-        _ => Ok(Text::new(alloc)),
+    match code {
+        10 => "BadByte",
+        11 => "OpenComment",
+        12 => "OpenText",
+        13 => "BadLiteral",
+        14 => "LeftOutWord",
+        20 => "Syntax",
+        61 => "TooDeep",
+        _ => "",
+    }
+}
+
+// FILE:LINE:COL: CODE NAME
+fn refusal(alloc: Global, name: &str, refusal: Refusal) -> Result<Text, NoMemory>
+    ensures { IfOk result (λ text. text ≡ refusal_text name.now refusal) }
+{
+    let Refusal { code, pos } = refusal;
+    let Pos { line, col, .. } = pos;
+    let cause = refusal_name(code);
+    let text = format!(in alloc; "{name}:{line}:{col}: {code} {cause}\n")?;
+    Ok(Text::from_bytes(text.into_bytes()))
+}
+
+/// The text of what is due, for the file of this name.
+pub fn text_for(alloc: Global, name: &str, due: Due) -> Result<Text, NoMemory>
+    ensures { IfOk result (λ text. text ≡ text_of name.now due) }
+{
+    match due {
+        Due::Judged(Verdict::Leaks) => joined(alloc, b"leaks", b"\n"),
+        Due::Judged(Verdict::Refused(cause)) => refusal(alloc, name, cause),
+        Due::Judged(Verdict::TooMuch(cause)) => refusal(alloc, name, cause),
+        Due::Judged(Verdict::NotBuilt) => joined(alloc, name.as_bytes(), b": 90 NotBuilt\n"),
+        Due::FileTooBig => joined(alloc, name.as_bytes(), b": 60 FileTooBig\n"),
+        Due::ReadFault => read_fault(alloc, name),
+        Due::Usage => joined(alloc, b"usage", b"\n"),
+        Due::Judged(Verdict::Accepted) | Due::NoMemory => Ok(Text::new(alloc)),
     }
 }

@@ -5,8 +5,9 @@ ghost use Rattle.std.specs.Io.KnownBytes.{append_known};
 ghost use Rattle.outside.specs.Counts.{Rose};
 ghost use Rattle.outside.specs.Sink.{AppendsFront};
 ghost use Rattle.rlc_cli.specs.Words.{file_named};
-ghost use Rattle.rlc_cli.specs.Answers.{IsDue, MayBeDue, HasNamed, HasAllNamed, IsWriteStatus, IsAfterReadFault, IsSent, IsAnswered};
+ghost use Rattle.rlc_cli.specs.Answers.{IsDue, HasNamed, HasAllNamed, IsWriteStatus, IsAfterReadFault, IsSent, IsAnswered};
 
+use crate::due::Due;
 use crate::judge::judge;
 use crate::status::Status;
 use crate::text::text_for;
@@ -15,8 +16,8 @@ use outside::{Files, ReadFail, Sink, send_all};
 use rlc_base::NoMemory;
 use std::alloc::Global;
 
-// The status for the file of this name.
-fn status_of_file<F: Files>(alloc: Global, name: &str, files: &mut F) -> Status
+// What is due for the file of this name.
+fn due_for_file<F: Files>(alloc: Global, name: &str, files: &mut F) -> Due
     ensures due { IsDue name.now (record { told = F.contents files.old; faults = F.faults files.old; faults_now = F.faults files.new; taken = F.taken files.old; taken_now = F.taken files.new }) result }
     ensures told { F.contents files.new ≡ F.contents files.old }
     ensures holds { F.sound files.old → HasNamed name.now (F.contents files.old) → F.faults files.new ≡ F.faults files.old }
@@ -24,30 +25,29 @@ fn status_of_file<F: Files>(alloc: Global, name: &str, files: &mut F) -> Status
     let mut bytes = Vec::new(alloc);
     match files.read(name, &mut bytes) {
         Ok(()) => {}
-        Err(ReadFail::Failed) => return Status::ReadFault,
-        Err(ReadFail::TooBig) => return Status::Limit,
-        Err(ReadFail::NoMemory) => return Status::NoMemory,
+        Err(ReadFail::Failed) => return Due::ReadFault,
+        Err(ReadFail::TooBig) => return Due::FileTooBig,
+        Err(ReadFail::NoMemory) => return Due::NoMemory,
     }
     match judge(alloc, &bytes) {
-        Ok(status) => status,
-        Err(NoMemory) => Status::NoMemory,
+        Ok(verdict) => Due::Judged(verdict),
+        Err(NoMemory) => Due::NoMemory,
     }
 }
 
-// Writes the text of the status that is due, which is made whole before the first write.
-fn answer<O: Sink>(alloc: Global, name: &str, due: Status, out: &mut O) -> Status
-    requires { MayBeDue due }
+// Writes the text of what is due, which is made whole before the first write.
+fn answer<O: Sink>(alloc: Global, name: &str, due: Due, out: &mut O) -> Status
     ensures sent { IsSent name.now due (O.sure out.old) (O.bytes out.old) (O.bytes out.new) result }
     ensures rose { IsWriteStatus (O.faults out.old) (O.faults out.new) result }
 {
-    if due == Status::NoMemory {
+    if due == Due::NoMemory {
         return Status::NoMemory;
     }
     let Ok(text) = text_for(alloc, name, due) else {
         return Status::NoMemory;
     };
     match send_all(out, text.bytes()) {
-        Ok(()) => due,
+        Ok(()) => due.status(),
         Err(_) => Status::WriteFault,
     }
 }
@@ -65,9 +65,9 @@ pub fn rlc<F: Files, O: Sink>(alloc: Global, words: &[String], files: &mut F, ou
     ensures files_hold { F.sound files.old → HasAllNamed (file_named (map string_bytes words.now)) (F.contents files.old) → F.faults files.new ≡ F.faults files.old }
 {
     match file_named(words) {
-        None => answer(alloc, "", Status::Usage, out),
+        None => answer(alloc, "", Due::Usage, out),
         Some(name) => {
-            let due = status_of_file(alloc, name, files);
+            let due = due_for_file(alloc, name, files);
             answer(alloc, name, due, out)
         }
     }

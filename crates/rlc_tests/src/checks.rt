@@ -1,3 +1,4 @@
+use crate::runs::{check, check_words};
 use outside::{MemFiles, MemSink};
 use rlc_cli::{Status, rlc};
 use std::alloc::Global;
@@ -16,7 +17,7 @@ static HEAD: &str =
 
 static FOOT: &str = "\n} }\n";
 
-static ROWS: [Row; 16] = [
+static ROWS: [Row; 20] = [
     Row {
         body: "Sock s = new Sock(); s.close();",
         status: Status::Accepted,
@@ -90,23 +91,34 @@ static ROWS: [Row; 16] = [
     Row {
         body: "Sock s = null; s.close()",
         status: Status::Refused,
-        text: "A.java: 90 NotBuilt\n",
+        text: "A.java:4:1: 20 Syntax\n",
     },
     Row {
         body: "Sock s = null; // none",
+        status: Status::Accepted,
+        text: "",
+    },
+    Row {
+        body: "/* an open one */ Sock s = /**/ new Sock();\n(s)./* closed */close();",
+        status: Status::Accepted,
+        text: "",
+    },
+    Row {
+        body: "Sock s = new Sock(); // s.close();",
+        status: Status::Leaks,
+        text: "leaks\n",
+    },
+    Row {
+        body: "Sock s = null; { s.close(); }",
+        status: Status::Refused,
+        text: "A.java: 90 NotBuilt\n",
+    },
+    Row {
+        body: "int i = 1;",
         status: Status::Refused,
         text: "A.java: 90 NotBuilt\n",
     },
 ];
-
-// The words `check NAME`.
-fn check_words(alloc: Global, name: &str) -> Result<Vec<String>, Fail> {
-    let mut words = Vec::new(alloc);
-    for word in ["check", name] {
-        words.push(word.to_string(alloc)?)?;
-    }
-    Ok(words)
-}
 
 // The file of a row.
 fn file_of(alloc: Global, body: &str) -> Result<Vec<u8>, Fail> {
@@ -117,28 +129,11 @@ fn file_of(alloc: Global, body: &str) -> Result<Vec<u8>, Fail> {
     Ok(bytes)
 }
 
-// What `check A.java` answers where A.java has these bytes, over a sink with these sizes in which the write of this number
-// fails (0: none), and what it writes.
-fn check(
-    alloc: Global,
-    bytes: &[u8],
-    most: usize,
-    failing: u64,
-) -> Result<(Status, Vec<u8>), Fail> {
-    let words = check_words(alloc, "A.java")?;
-    let mut files = MemFiles::new(alloc);
-    files.put(b"A.java", bytes)?;
-    let mut out = MemSink::new(alloc, 1000, most.max(1))?;
-    out.fail_at(failing)?;
-    let status = rlc(alloc, &words, &mut files, &mut out);
-    Ok((status, out.bytes().to_vec(alloc)?))
-}
-
 #[test]
 fn first_language(rt: HostRuntime) -> Result<(), Fail> {
     for row in &ROWS {
         let bytes = file_of(rt.alloc(), row.body)?;
-        let (status, text) = check(rt.alloc(), &bytes, 100, 0)?;
+        let (status, text) = check(rt.alloc(), "A.java", &bytes, 100, 0)?;
         assert_eq!(rt; status, row.status, "{}", row.body);
         assert_eq!(rt; text.as_slice(), row.text.as_bytes(), "{}", row.body);
     }
@@ -165,7 +160,7 @@ fn blanks(alloc: Global, count: usize) -> Result<Vec<u8>, Fail> {
 fn sizes(rt: HostRuntime) -> Result<(), Fail> {
     for (count, status, text) in &SIZES {
         let bytes = blanks(rt.alloc(), *count)?;
-        let (answer, written) = check(rt.alloc(), &bytes, 100, 0)?;
+        let (answer, written) = check(rt.alloc(), "A.java", &bytes, 100, 0)?;
         assert_eq!(rt; answer, *status);
         assert_eq!(rt; written.as_slice(), text.as_bytes());
     }
@@ -175,7 +170,7 @@ fn sizes(rt: HostRuntime) -> Result<(), Fail> {
 #[test]
 fn failing_write(rt: HostRuntime) -> Result<(), Fail> {
     let bytes = file_of(rt.alloc(), "Sock s = new Sock();")?;
-    let (status, written) = check(rt.alloc(), &bytes, 4, 2)?;
+    let (status, written) = check(rt.alloc(), "A.java", &bytes, 4, 2)?;
     assert_eq!(rt; status, Status::WriteFault);
     assert_eq!(rt; written.as_slice(), b"leak".as_slice());
     Ok(())

@@ -3,3 +3,7 @@
 
 #[cfg(test)]
 mod checks;
+#[cfg(test)]
+mod refusals;
+#[cfg(test)]
+mod runs;

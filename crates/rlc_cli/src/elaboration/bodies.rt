@@ -2,15 +2,15 @@
 
 ghost use Rattle.std.specs.Prelude.{◌≡◌, ◌≤◌, length, map, true};
 ghost use Rattle.std.specs.List.{count_by};
-ghost use Rattle.java_parser.specs.Tree.{body_of, class_of, method_of, statement_of};
+ghost use Rattle.rlc_cli.specs.FirstTrees.{body_of, class_of, method_of, statement_of};
 ghost use Rattle.rlc_cli.specs.Elaboration.{is_declaration, method_kind};
-ghost use Rattle.rlc_cli.specs.Typing.{AreNumbers, Gives, behind, bodies_by, body_by, class_bodies_by, constructor_body, data_of, is_short, method_by};
+ghost use Rattle.rlc_cli.specs.Choices.{Gives};
+ghost use Rattle.rlc_cli.specs.Typing.{AreNumbers, behind, bodies_by, body_by, class_bodies_by, constructor_body, data_of, is_short, method_by};
 
-use crate::elaboration::ElaborateFail;
 use crate::elaboration::numbers::noted_number;
 use crate::elaboration::scope::has_parameter;
 use crate::elaboration::statements::typed_statements;
-use java_parser::{FirstBody, FirstClass, FirstMethod, FirstStatement};
+use crate::first_language::{FirstBody, FirstClass, FirstFail, FirstMethod, FirstStatement};
 use obligation_flow::program::{BodyKind, Statement, TypedBody, TypedClass};
 use std::alloc::Global;
 
@@ -23,7 +23,7 @@ pub(super) fn typed_bodies(
     alloc: Global,
     classes: &[FirstClass],
     typed: &[TypedClass],
-) -> Result<Vec<TypedBody>, ElaborateFail>
+) -> Result<Vec<TypedBody>, FirstFail>
     requires numbers { AreNumbers (map class_of classes.now) typed.now }
     ensures { Gives (λ all. map data_of all.items) result (bodies_by (map class_of classes.now) 0 (map class_of classes.now)) }
 {
@@ -49,7 +49,7 @@ fn put_bodies(
     own: u32,
     methods: &[FirstMethod],
     all: &mut Vec<TypedBody>,
-) -> Result<(), ElaborateFail>
+) -> Result<(), FirstFail>
     requires numbers { AreNumbers (map class_of classes.now) typed.now }
     ensures { Gives (λ _. map data_of all.new.items) result (behind (map data_of all.old.items) (class_bodies_by (map class_of classes.now) own (map method_of methods.now))) }
 {
@@ -73,7 +73,7 @@ fn typed_body(
     typed: &[TypedClass],
     own: u32,
     method: &FirstMethod,
-) -> Result<TypedBody, ElaborateFail>
+) -> Result<TypedBody, FirstFail>
     requires numbers { AreNumbers (map class_of classes.now) typed.now }
     ensures { Gives data_of result (method_by (map class_of classes.now) own (method_of method.now)) }
 {
@@ -103,7 +103,7 @@ fn body_statements(
     typed: &[TypedClass],
     own: u32,
     body: &FirstBody,
-) -> Result<Vec<Statement>, ElaborateFail>
+) -> Result<Vec<Statement>, FirstFail>
     requires numbers { AreNumbers (map class_of classes.now) typed.now }
     ensures { Gives (λ all. all.items) result (body_by (map class_of classes.now) own (body_of body.now)) }
 {
@@ -115,7 +115,7 @@ fn body_statements(
         return Ok(Vec::new(alloc));
     };
     if !is_short(statements.as_slice()) {
-        return Err(ElaborateFail::NotFirst);
+        return Err(FirstFail::NotFirst);
     }
     typed_statements(
         alloc,

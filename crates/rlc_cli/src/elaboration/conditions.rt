@@ -3,14 +3,14 @@
 ghost use Rattle.std.specs.Prelude.{◌≡◌, false, map};
 ghost use Rattle.std.specs.List.{list_any};
 ghost use Rattle.std.specs.Str.{bytes_eq};
-ghost use Rattle.java_parser.specs.Tree.{class_of, method_of};
+ghost use Rattle.rlc_cli.specs.FirstTrees.{class_of, method_of};
 ghost use Rattle.rlc_cli.specs.Elaboration.{core_names, is_method, names};
-ghost use Rattle.rlc_cli.specs.Typing.{Passes, are_classes, are_distinct, are_good_classes, class_names, have_no_core_name, is_good_class, is_must_of};
+ghost use Rattle.rlc_cli.specs.Choices.{Passes};
+ghost use Rattle.rlc_cli.specs.Typing.{are_classes, are_distinct, are_good_classes, class_names, have_no_core_name, is_good_class, is_must_of};
 
-use crate::elaboration::ElaborateFail;
 use crate::elaboration::doubles::are_distinct_methods;
 use crate::elaboration::scope::is_method;
-use java_parser::{FirstClass, FirstMethod};
+use crate::first_language::{FirstClass, FirstFail, FirstMethod};
 use std::alloc::Global;
 
 const MAX_CLASSES: usize = 64;
@@ -56,17 +56,17 @@ const CORE_NAMES: [&[u8]; 35] = [
 
 /// Whether the conditions on classes hold: at most 64, with names that differ from each other and from those of the core
 /// library, each with good methods. The number is tested first, so that names are compared in few classes alone.
-pub(super) fn check_classes(alloc: Global, classes: &[FirstClass]) -> Result<(), ElaborateFail>
+pub(super) fn check_classes(alloc: Global, classes: &[FirstClass]) -> Result<(), FirstFail>
     ensures { Passes result (are_classes (map class_of classes.now)) }
 {
     if classes.len() > MAX_CLASSES {
-        return Err(ElaborateFail::NotFirst);
+        return Err(FirstFail::NotFirst);
     }
     if !are_distinct_names(classes) {
-        return Err(ElaborateFail::NotFirst);
+        return Err(FirstFail::NotFirst);
     }
     if has_core_name(classes) {
-        return Err(ElaborateFail::NotFirst);
+        return Err(FirstFail::NotFirst);
     }
     check_each_class(alloc, classes)
 }
@@ -113,7 +113,7 @@ fn is_one_of(all: &[&[u8]], name: &[u8]) -> bool
     all.iter().any(|n| *n == name)
 }
 
-fn check_each_class(alloc: Global, classes: &[FirstClass]) -> Result<(), ElaborateFail>
+fn check_each_class(alloc: Global, classes: &[FirstClass]) -> Result<(), FirstFail>
     ensures { Passes result (are_good_classes (map class_of classes.now)) }
 {
     for class in classes {
@@ -124,14 +124,14 @@ fn check_each_class(alloc: Global, classes: &[FirstClass]) -> Result<(), Elabora
 
 // Whether no two methods of the class have one name and one parameter list, and the name that must be called is that of an
 // instance method without parameters.
-fn check_class(alloc: Global, class: &FirstClass) -> Result<(), ElaborateFail>
+fn check_class(alloc: Global, class: &FirstClass) -> Result<(), FirstFail>
     ensures { Passes result (is_good_class (class_of class.now)) }
 {
     if !are_distinct_methods(alloc, class.methods.as_slice())? {
-        return Err(ElaborateFail::NotFirst);
+        return Err(FirstFail::NotFirst);
     }
     if !has_must(class) {
-        return Err(ElaborateFail::NotFirst);
+        return Err(FirstFail::NotFirst);
     }
     Ok(())
 }

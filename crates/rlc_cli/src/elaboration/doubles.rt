@@ -3,13 +3,13 @@
 
 ghost use Rattle.std.specs.Prelude.{◌≡◌, ◌||◌, IfOk, List, OnOk, map, not, ℕ};
 ghost use Rattle.std.specs.Str.{bytes_eq};
-ghost use Rattle.java_parser.specs.Tree.{MethodTree, method_of};
+ghost use Rattle.rlc_cli.specs.FirstTrees.{MethodTree, method_of};
 ghost use Rattle.rlc_cli.specs.Doubles.{has_method, has_name};
 ghost use Rattle.rlc_cli.specs.Elaboration.{is_same_method};
 ghost use Rattle.rlc_cli.specs.Typing.{are_distinct_methods};
 
 use crate::elaboration::scope::has_parameter;
-use java_parser::FirstMethod;
+use crate::first_language::FirstMethod;
 use std::alloc::{AllocError, Global};
 use std::collections::BTreeSet;
 

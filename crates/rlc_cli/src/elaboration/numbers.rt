@@ -2,14 +2,13 @@
 // objects it must be. Bodies are numbered class by class, a class's constructor first.
 
 ghost use Rattle.std.specs.Prelude.{◌≡◌, ◌≤◌, ◌<◌, ◌^◌, ◌+◌, IfErr, IfOk, IfSome, length, map, position};
-ghost use Rattle.java_parser.specs.Tree.{class_of};
+ghost use Rattle.rlc_cli.specs.FirstTrees.{class_of};
 ghost use Rattle.obligation_flow.specs.Programs.{number_in};
 ghost use Rattle.rlc_cli.specs.Elaboration.{body_count, constructor_number, is_must, must_set, name_number, noted_number};
 ghost use Rattle.rlc_cli.specs.Typing.{AreNumbers};
-ghost use Rattle.rlc_cli.specs.declared.elaboration.ElaborateFail.TheVariants as fails;
+ghost use Rattle.rlc_cli.specs.declared.first_language.FirstFail.TheVariants as fails;
 
-use crate::elaboration::ElaborateFail;
-use java_parser::{FirstClass, FirstMethod};
+use crate::first_language::{FirstClass, FirstFail, FirstMethod};
 use obligation_flow::program::TypedClass;
 use rlc_base::{NameId, NameSet};
 use std::alloc::Global;
@@ -18,7 +17,7 @@ use std::alloc::Global;
 pub(super) fn typed_classes(
     alloc: Global,
     classes: &[FirstClass],
-) -> Result<Vec<TypedClass>, ElaborateFail>
+) -> Result<Vec<TypedClass>, FirstFail>
     requires { length classes.now ≤ 64 }
     ensures numbers { IfOk result (λ all. AreNumbers (map class_of classes.now) all.items) }
     ensures memory { IfErr result (λ fail. fail ≡ fails.NoMemory) }
@@ -31,7 +30,7 @@ pub(super) fn typed_classes(
             constructor: next,
         })?;
         let Some(number) = next_constructor(next, class) else {
-            return Err(ElaborateFail::NoMemory);
+            return Err(FirstFail::NoMemory);
         };
         next = number;
     }

@@ -3,11 +3,11 @@
 ghost use Rattle.std.specs.Prelude.{◌≡◌, ◌≤◌, ◌<◌, IfSome, length, map, position};
 ghost use Rattle.std.specs.List.{list_any};
 ghost use Rattle.std.specs.Str.{bytes_eq};
-ghost use Rattle.java_parser.specs.Tree.{body_of, class_of, method_of};
+ghost use Rattle.rlc_cli.specs.FirstTrees.{body_of, class_of, method_of};
 ghost use Rattle.rlc_cli.specs.Elaboration.{has_parameter, is_method};
 ghost use Rattle.rlc_cli.specs.Typing.{AreNumbers, class_number, method_number, variable_class, variable_number, variable_of};
 
-use java_parser::{FirstBody, FirstClass, FirstMethod};
+use crate::first_language::{FirstBody, FirstClass, FirstMethod};
 use obligation_flow::program::TypedClass;
 
 /// A variable of a body: a local with its class, or the parameter of `main`, whose type is no class of the unit.

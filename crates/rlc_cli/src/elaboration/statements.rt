@@ -1,15 +1,15 @@
 // The statements of a `main` with numbers for names (JLS 14), where each value is of its variable's class (JLS 5.2).
 
 ghost use Rattle.std.specs.Prelude.{◌≡◌, ◌≤◌, ◌+◌, Some, length, map, vec_len};
-ghost use Rattle.java_parser.specs.Tree.{class_of, statement_of, value_of};
+ghost use Rattle.rlc_cli.specs.FirstTrees.{class_of, statement_of, value_of};
 ghost use Rattle.rlc_cli.specs.Elaboration.{parameter_scope};
-ghost use Rattle.rlc_cli.specs.Typing.{AreNumbers, Gives, assignment_by, call_by, call_on_by, creation_by, declaration_by, given, is_class, statement_by, statements_by, value_by, variable_of};
+ghost use Rattle.rlc_cli.specs.Choices.{Gives, given};
+ghost use Rattle.rlc_cli.specs.Typing.{AreNumbers, assignment_by, call_by, call_on_by, creation_by, declaration_by, is_class, statement_by, statements_by, value_by, variable_of};
 
-use crate::elaboration::ElaborateFail;
 use crate::elaboration::scope::{
     DeclaredVariable, class_number, is_declared, method_number, variable_class, variable_number,
 };
-use java_parser::{FirstClass, FirstStatement, FirstValue};
+use crate::first_language::{FirstClass, FirstFail, FirstStatement, FirstValue};
 use obligation_flow::program::{Expression, Statement, TypedClass, Value};
 use std::alloc::Global;
 
@@ -21,7 +21,7 @@ pub(super) fn typed_statements(
     own: u32,
     parameter: &[u8],
     statements: &[FirstStatement],
-) -> Result<Vec<Statement>, ElaborateFail>
+) -> Result<Vec<Statement>, FirstFail>
     requires numbers { AreNumbers (map class_of classes.now) typed.now }
     requires few { length statements.now ≤ 200 }
     ensures { Gives (λ all. all.items) result (statements_by (map class_of classes.now) own (parameter_scope parameter.now) (map statement_of statements.now)) }
@@ -46,7 +46,7 @@ fn typed_statement<'a>(
     own: u32,
     scope: &mut Vec<DeclaredVariable<'a>>,
     statement: &'a FirstStatement,
-) -> Result<Statement, ElaborateFail>
+) -> Result<Statement, FirstFail>
     requires numbers { AreNumbers (map class_of classes.now) typed.now }
     requires few { length scope.old.items ≤ 200 }
     ensures gives { Gives (λ t. (t, map variable_of scope.new.items)) result (statement_by (map class_of classes.now) own (map variable_of scope.old.items) (statement_of statement.now)) }
@@ -73,7 +73,7 @@ fn typed_statement<'a>(
         FirstStatement::Return => Some(Statement::Return),
     };
     let Some(statement) = found else {
-        return Err(ElaborateFail::NotFirst);
+        return Err(FirstFail::NotFirst);
     };
     Ok(statement)
 }
@@ -84,20 +84,20 @@ fn declaration<'a>(
     class: &[u8],
     name: &'a [u8],
     value: &FirstValue,
-) -> Result<Statement, ElaborateFail>
+) -> Result<Statement, FirstFail>
     requires classes { length classes.now ≤ 64 }
     requires few { length scope.old.items ≤ 200 }
     ensures gives { Gives (λ t. (t, map variable_of scope.new.items)) result (declaration_by (map class_of classes.now) (map variable_of scope.old.items) class.now name.now (value_of value.now)) }
     ensures one { length scope.new.items ≤ length scope.old.items + 1 }
 {
     if is_declared(scope.as_slice(), name) {
-        return Err(ElaborateFail::NotFirst);
+        return Err(FirstFail::NotFirst);
     }
     let Some(number) = class_number(classes, class) else {
-        return Err(ElaborateFail::NotFirst);
+        return Err(FirstFail::NotFirst);
     };
     let Some(initial) = typed_value(classes, scope.as_slice(), Some(number), value) else {
-        return Err(ElaborateFail::NotFirst);
+        return Err(FirstFail::NotFirst);
     };
     let variable = scope.len() as u32;
     scope.push(DeclaredVariable {

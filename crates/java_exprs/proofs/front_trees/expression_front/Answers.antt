@@ -1,9 +1,8 @@
-use Rattle.std.proofs.Common.{◌≡◌, ◌-◌, rules, sym, ◌∙◌, ap, map}
+use Rattle.std.proofs.Common.{◌≡◌, ◌-◌, rules}
 use Rattle.java_syntax.specs.declared.symbols.Symbol.TheVariants as symbols
 use Rattle.java_syntax.specs.ExpressionTrees.{expr_of}
-use Rattle.java_syntax.specs.AnnotationTrees.{anno_of}
 use Rattle.java_grammar.specs.Reached.{lexemes_of}
-use Rattle.java_exprs.specs.Values.{values_of}
+use Rattle.java_values.specs.Values.{values_of}
 use Rattle.java_exprs.specs.FrontTrees.{expression_on}
 use Rattle.java_exprs.proofs.FrontTreeLaws.{only_tree}
 use Rattle.java_exprs.proofs.front_trees.expression_front.Goals as goal

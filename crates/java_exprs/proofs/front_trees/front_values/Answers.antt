@@ -1,8 +1,8 @@
 use Rattle.std.proofs.Common.{sym, ◌∙◌, ap, map}
 use Rattle.java_syntax.specs.Derives.{step_of}
 use Rattle.java_grammar.specs.Reached.{lexemes_of}
-use Rattle.java_exprs.specs.Values.{values_of}
-use Rattle.java_exprs.specs.Evaluate.{evaluate}
+use Rattle.java_values.specs.Values.{values_of}
+use Rattle.java_actions.specs.Evaluate.{evaluate}
 use Rattle.java_exprs.proofs.FrontTreeLaws.{only_values}
 use Rattle.java_exprs.proofs.front_trees.front_values.Goals as goal
 

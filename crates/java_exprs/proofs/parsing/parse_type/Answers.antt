@@ -1,4 +1,4 @@
-use Rattle.std.proofs.Common.{◌≡◌, ◌-◌, ◌∙◌, ap, map, drop, List}
+use Rattle.std.proofs.Common.{◌≡◌, ◌-◌, ◌∙◌, ap, map, drop}
 use Rattle.java_syntax.specs.declared.symbols.Symbol.TheVariants as symbols
 use Rattle.java_syntax.specs.Derives.{lexeme_of}
 use Rattle.java_exprs.specs.Classes.{lexeme_of_token}

@@ -1,6 +1,7 @@
 use Rattle.std.proofs.Common.{map, subst}
-use Rattle.java_parser.specs.Tree.{class_of, tree_of}
-use Rattle.rlc_cli.specs.Typing.{Gives, data_of, unit_by}
+use Rattle.rlc_cli.specs.FirstTrees.{class_of, tree_of}
+use Rattle.rlc_cli.specs.Choices.{Gives}
+use Rattle.rlc_cli.specs.Typing.{data_of, unit_by}
 use Rattle.rlc_cli.proofs.ProgramLaws.{Told, only_told, program_told, refused_told, small_told}
 use Rattle.rlc_cli.proofs.elaboration.elaborate.Goals as goal
 

@@ -1,6 +1,6 @@
 use Rattle.std.proofs.Common.{◌∙◌, ◌+◌, sym, ap, map, drop, arith}
 use Rattle.std.proofs.lemmas.Result.{err_from_is_err_and}
-use Rattle.java_parser.specs.Tree.{class_of, method_of}
+use Rattle.rlc_cli.specs.FirstTrees.{class_of, method_of}
 use Rattle.rlc_cli.specs.Typing.{behind, data_of, methods_by}
 use Rattle.rlc_cli.proofs.LoopLaws.{fails_too, methods_done, methods_fail, methods_step, put_seen}
 use Rattle.rlc_cli.proofs.elaboration.bodies.put_bodies.Goals as goal

@@ -1,5 +1,5 @@
 use Rattle.std.proofs.Common.{◌≡◌, map, drop}
-use Rattle.java_parser.specs.Tree.{class_of, method_of}
+use Rattle.rlc_cli.specs.FirstTrees.{class_of, method_of}
 use Rattle.rlc_cli.specs.Typing.{behind, class_bodies_by, data_of, methods_by}
 use Rattle.rlc_cli.proofs.elaboration.bodies.put_bodies.Given as goal
 

@@ -1,6 +1,6 @@
 use Rattle.std.proofs.Common.{◌∙◌, sym, ap, map, arith}
 use Rattle.std.proofs.lemmas.Result.{err_from_is_err_and}
-use Rattle.java_parser.specs.Tree.{class_of, method_of}
+use Rattle.rlc_cli.specs.FirstTrees.{class_of, method_of}
 use Rattle.rlc_cli.specs.Typing.{behind, class_bodies_by, data_of}
 use Rattle.rlc_cli.proofs.LoopLaws.{bodies_done, bodies_fail, bodies_step, fails_too}
 use Rattle.rlc_cli.proofs.elaboration.bodies.typed_bodies.Goals as goal

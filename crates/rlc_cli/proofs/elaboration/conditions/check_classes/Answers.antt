@@ -2,7 +2,7 @@ use Rattle.std.proofs.Common.{◌∙◌, ◌≤◌, not, sym, ap, map, length, a
 use Rattle.std.specs.Prelude.{nat_le}
 use Rattle.std.proofs.lemmas.Bool.{le-leb}
 use Rattle.std.proofs.lemmas.List.{length-map}
-use Rattle.java_parser.specs.Tree.{class_of}
+use Rattle.rlc_cli.specs.FirstTrees.{class_of}
 use Rattle.rlc_cli.specs.Typing.{are_distinct, are_good_classes, class_names, have_no_core_name}
 use Rattle.rlc_cli.proofs.LoopLaws.{passes_too, third_false, three_true}
 use Rattle.rlc_cli.proofs.NameLaws.{no_core_name_is}

@@ -1,5 +1,5 @@
 use Rattle.std.proofs.Common.{◌≡◌, map, drop}
-use Rattle.java_parser.specs.Tree.{class_of}
+use Rattle.rlc_cli.specs.FirstTrees.{class_of}
 use Rattle.rlc_cli.specs.Typing.{are_good_classes}
 use Rattle.rlc_cli.proofs.elaboration.conditions.check_each_class.Given as goal
 

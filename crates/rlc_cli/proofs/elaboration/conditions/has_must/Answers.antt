@@ -1,6 +1,6 @@
 use Rattle.std.proofs.Common.{◌∙◌, false}
 use Rattle.std.specs.List.{list_any}
-use Rattle.java_parser.specs.Tree.{method_of}
+use Rattle.rlc_cli.specs.FirstTrees.{method_of}
 use Rattle.rlc_cli.specs.Elaboration.{is_method}
 use Rattle.rlc_cli.proofs.NameLaws.{has_method_is}
 use Rattle.rlc_cli.proofs.elaboration.conditions.has_must.Goals as goal

@@ -1,6 +1,6 @@
 use Rattle.std.proofs.Common.{◌≡◌, ◌∙◌, ◌&&◌, ◌||◌, not, sym, ap, true, arith}
 use Rattle.std.proofs.lemmas.Bool.{not-false, not-true}
-use Rattle.java_parser.specs.Tree.{method_of}
+use Rattle.rlc_cli.specs.FirstTrees.{method_of}
 use Rattle.rlc_cli.specs.Doubles.{has_method, is_double}
 use Rattle.rlc_cli.specs.Elaboration.{is_same_method}
 use Rattle.rlc_cli.specs.Typing.{are_distinct_methods}

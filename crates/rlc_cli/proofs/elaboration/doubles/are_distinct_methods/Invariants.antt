@@ -1,5 +1,5 @@
 use Rattle.std.proofs.Common.{◌≡◌, true}
-use Rattle.java_parser.specs.Tree.{MethodTree}
+use Rattle.rlc_cli.specs.FirstTrees.{MethodTree}
 use Rattle.rlc_cli.specs.Doubles.{has_method, is_double}
 use Rattle.rlc_cli.specs.Typing.{are_distinct_methods}
 use Rattle.rlc_cli.proofs.DoubleLaws.{trees_before}

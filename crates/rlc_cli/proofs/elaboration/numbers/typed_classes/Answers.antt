@@ -1,6 +1,6 @@
 use Rattle.std.proofs.Common.{◌∙◌, ◌++◌, ◌<◌, ◌^◌, sym, ap, map, lit<, arith, subst}
 use Rattle.std.proofs.lemmas.List.{length-map}
-use Rattle.java_parser.specs.Tree.{class_of}
+use Rattle.rlc_cli.specs.FirstTrees.{class_of}
 use Rattle.rlc_cli.specs.Typing.{typed_classes}
 use Rattle.rlc_cli.proofs.NumberLaws.{constructor_zero, number_done, number_step, typed_done, typed_step}
 use Rattle.rlc_cli.proofs.elaboration.numbers.typed_classes.Goals as goal

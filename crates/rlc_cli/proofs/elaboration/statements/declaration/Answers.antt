@@ -2,7 +2,7 @@ use Rattle.std.proofs.Common.{◌≡◌, ◌∙◌, sym, ap, map, length, arith}
 use Rattle.std.proofs.lemmas.List.{length-map, map_push}
 use Rattle.std.specs.List.{list_any}
 use Rattle.std.specs.Str.{bytes_eq}
-use Rattle.java_parser.specs.Tree.{class_of, value_of}
+use Rattle.rlc_cli.specs.FirstTrees.{class_of, value_of}
 use Rattle.rlc_cli.specs.Typing.{value_by, variable_of}
 use Rattle.std.proofs.Common.{Some}
 use Rattle.rlc_cli.proofs.LoopLaws.{declared_new, declared_twice}

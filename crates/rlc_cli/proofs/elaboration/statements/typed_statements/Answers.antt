@@ -1,6 +1,6 @@
 use Rattle.std.proofs.Common.{◌∙◌, ◌+◌, sym, ap, map, drop, arith}
 use Rattle.std.proofs.lemmas.Result.{err_from_is_err_and}
-use Rattle.java_parser.specs.Tree.{class_of, statement_of}
+use Rattle.rlc_cli.specs.FirstTrees.{class_of, statement_of}
 use Rattle.rlc_cli.specs.Typing.{behind, statements_by, variable_of}
 use Rattle.rlc_cli.proofs.LoopLaws.{fails_too, statements_done, statements_fail, statements_step}
 use Rattle.rlc_cli.proofs.elaboration.statements.typed_statements.Goals as goal

@@ -1,5 +1,5 @@
 use Rattle.std.proofs.Common.{◌≡◌, ◌+◌, ◌≤◌, length, map, drop}
-use Rattle.java_parser.specs.Tree.{class_of, statement_of}
+use Rattle.rlc_cli.specs.FirstTrees.{class_of, statement_of}
 use Rattle.rlc_cli.specs.Elaboration.{parameter_scope}
 use Rattle.rlc_cli.specs.Typing.{behind, statements_by, variable_of}
 use Rattle.rlc_cli.proofs.elaboration.statements.typed_statements.Given as goal

@@ -1,0 +1,114 @@
+ghost use Rattle.std.specs.Prelude.{◌≡◌, ℕ, Bool, true, false, List, map, slice_index_or, IfOk, IfErr};
+ghost use Rattle.java_syntax.specs.Derives.{lexeme_of};
+ghost use Rattle.java_syntax.specs.DeclarationTrees.{UnitTree, unit_of};
+ghost use Rattle.java_syntax.specs.declared.symbols.Symbol.TheVariants as symbols;
+ghost use Rattle.java_grammar.specs.Reached.{lexemes_of};
+ghost use Rattle.java_parser.specs.Stacks.{StacksTree, stacks_of};
+ghost use Rattle.java_parser.specs.FileTrees.{IsFileStacks, IsUnitTree, IsStubTree, IsFileStop};
+
+use crate::evaluation::evaluate;
+use crate::lists::in_order;
+use crate::pops::{pop_unit, pop_units};
+use crate::stacks::Stacks;
+use java_grammar::{DeriveFail, derive};
+use java_syntax::{Symbol, Token, Unit};
+use java_values::BuildFail;
+use rlc_base::{Pos, Refusal, Stop};
+use std::alloc::Global;
+
+/// How many levels a tree may have.
+const LEVELS: u32 = 128;
+
+/// The place of the token of this number, and the end where there is none.
+fn place_at(tokens: &[Token], at: usize, end: Pos) -> Pos
+    ensures { (bytes : List ℕ) → result ≡ slice_index_or (map (λ t. t.pos) (lexemes_of bytes tokens.now)) at end }
+{
+    match tokens.get(at) {
+        Some(token) => token.pos,
+        None => end,
+    }
+}
+
+/// What the derivation of the tokens leaves. `end` is the place behind the last byte.
+///
+/// # Errors
+///
+/// `Refused` with code 20 where there is no derivation: at the first token at which no sentence goes on, or at the end. `TooMuch`
+/// with code 61 where a tree would have more than 128 levels.
+fn file_stacks(
+    alloc: Global,
+    is_stub: bool,
+    symbol: Symbol,
+    bytes: &[u8],
+    tokens: &[Token],
+    end: Pos,
+) -> Result<Stacks, Stop>
+    ensures tree { IfOk result (λ stacks. IsFileStacks is_stub symbol (lexemes_of bytes.now tokens.now) (stacks_of stacks)) }
+    ensures only { IfOk result (λ stacks. (other : StacksTree) → IsFileStacks is_stub symbol (lexemes_of bytes.now tokens.now) other → other ≡ stacks_of stacks) }
+    ensures stopped { IfErr result (λ stop. IsFileStop is_stub symbol (lexemes_of bytes.now tokens.now) end stop) }
+{
+    match derive(alloc, symbol, is_stub, bytes, tokens) {
+        Err(DeriveFail::NoMemory) => Err(Stop::NoMemory),
+        Err(DeriveFail::WrongAt(at)) => {
+            let pos = place_at(tokens, at, end);
+            Err(Stop::Refused(Refusal { code: 20, pos }))
+        }
+        Ok(events) => match evaluate(alloc, LEVELS, bytes, events.as_slice()) {
+            Ok(stacks) => Ok(stacks),
+            Err(BuildFail::NoMemory) => Err(Stop::NoMemory),
+            Err(BuildFail::TooDeep(pos)) => Err(Stop::TooMuch(Refusal { code: 61, pos })),
+        },
+    }
+}
+
+/// The source file (JLS 7.3) with these bytes and tokens. `end` is the place behind the last byte.
+///
+/// # Errors
+///
+/// `Refused` with code 20 where no source file has these tokens: at the first token at which none goes on, or at the end.
+/// `TooMuch` with code 61 where a tree would have more than 128 levels.
+pub(crate) fn unit_tree(
+    alloc: Global,
+    bytes: &[u8],
+    tokens: &[Token],
+    end: Pos,
+) -> Result<Unit, Stop>
+    ensures tree { IfOk result (λ unit. IsUnitTree (lexemes_of bytes.now tokens.now) (unit_of unit)) }
+    ensures only { IfOk result (λ unit. (other : UnitTree) → IsUnitTree (lexemes_of bytes.now tokens.now) other → other ≡ unit_of unit) }
+    ensures stopped { IfErr result (λ stop. IsFileStop false symbols.CompilationUnit (lexemes_of bytes.now tokens.now) end stop) }
+{
+    match file_stacks(alloc, false, Symbol::CompilationUnit, bytes, tokens, end) {
+        Ok(stacks) => {
+            let mut stacks = stacks;
+            let (unit, _) = pop_unit(alloc, &mut stacks.declarations);
+            Ok(unit)
+        }
+        Err(stop) => Err(stop),
+    }
+}
+
+/// The sections of the stub file with these bytes and tokens, in their order. `end` is the place behind the last byte.
+///
+/// # Errors
+///
+/// `Refused` with code 20 where no stub file has these tokens: at the first token at which none goes on, or at the end.
+/// `TooMuch` with code 61 where a tree would have more than 128 levels.
+pub(crate) fn stub_trees(
+    alloc: Global,
+    bytes: &[u8],
+    tokens: &[Token],
+    end: Pos,
+) -> Result<Vec<Unit>, Stop>
+    ensures trees { IfOk result (λ units. IsStubTree (lexemes_of bytes.now tokens.now) (map unit_of units.items)) }
+    ensures only { IfOk result (λ units. (others : List UnitTree) → IsStubTree (lexemes_of bytes.now tokens.now) others → others ≡ map unit_of units.items) }
+    ensures stopped { IfErr result (λ stop. IsFileStop true symbols.StubFile (lexemes_of bytes.now tokens.now) end stop) }
+{
+    match file_stacks(alloc, true, Symbol::StubFile, bytes, tokens, end) {
+        Ok(stacks) => {
+            let mut stacks = stacks;
+            let (units, _) = pop_units(alloc, &mut stacks.declarations);
+            Ok(in_order(units))
+        }
+        Err(stop) => Err(stop),
+    }
+}

@@ -1,0 +1,2 @@
+pub mod StatementValues
+pub mod StatementBuild

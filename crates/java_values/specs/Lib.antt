@@ -1,0 +1,4 @@
+pub mod Values
+pub mod Pops
+pub mod Nodes
+pub mod Operators

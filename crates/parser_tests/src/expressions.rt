@@ -1,0 +1,730 @@
+// Expressions, types and annotations: texts, and the trees of their closed fronts or their refusals.
+
+use crate::answers::{annotations_answer, expression_answer, type_answer};
+use std::alloc::Global;
+use std::process::Abort;
+use std::test::Fail;
+
+// The texts are expressions with these trees.
+fn check_expressions(
+    rt: &impl Abort,
+    alloc: Global,
+    rows: &[(&str, &str)],
+    with_places: bool,
+) -> Result<(), Fail> {
+    for (text, wanted) in rows {
+        let found = expression_answer(alloc, text.as_bytes(), 0, with_places)?;
+        assert_eq!(rt; found.as_str(), *wanted, "of {text}");
+    }
+    Ok(())
+}
+
+// Literals, names, calls, creations, field accesses and indices.
+static PRIMARIES: [(&str, &str); 65] = [
+    ("1", "1"),
+    ("07_1L", "07_1L"),
+    ("'a'", "'a'"),
+    ("\"s\"", "\"s\""),
+    ("true", "true"),
+    ("false", "false"),
+    ("null", "null"),
+    ("this", "this"),
+    ("a", "a"),
+    ("$_1", "$_1"),
+    ("(a)", "a"),
+    ("((a))", "a"),
+    ("(1)", "1"),
+    ("(this)", "this"),
+    ("a()", "(call a)"),
+    ("a(1)", "(call a 1)"),
+    ("a(b, 1, c())", "(call a b 1 (call c))"),
+    ("a(b = 1)", "(call a (= b 1))"),
+    ("a((b), c ? d : e)", "(call a b (? c d e))"),
+    ("super.m()", "(super-call m)"),
+    ("super.m(1, a)", "(super-call m 1 a)"),
+    ("super.m().a", "(field a (super-call m))"),
+    ("super.m()[0]", "(index (super-call m) 0)"),
+    ("super.m().n(1)", "(method-call n (super-call m) 1)"),
+    ("new A()", "(new A)"),
+    ("new a.b.C(1, d)", "(new a.b.C 1 d)"),
+    ("new A().b", "(field b (new A))"),
+    ("new A().m(1)", "(method-call m (new A) 1)"),
+    ("new A()[0]", "(index (new A) 0)"),
+    ("new int[3]", "(new-array int 3)"),
+    ("new boolean[a = 1]", "(new-array boolean (= a 1))"),
+    ("new byte[a[0]]", "(new-array byte (index a 0))"),
+    ("new A[n]", "(new-array A n)"),
+    ("new a.B[n + 1]", "(new-array a.B (+ n 1))"),
+    ("new int[3].length", "(field length (new-array int 3))"),
+    ("new A[3].m()", "(method-call m (new-array A 3))"),
+    ("new long[3].a[1]", "(index (field a (new-array long 3)) 1)"),
+    ("(new char[3])[1]", "(index (new-array char 3) 1)"),
+    ("a.b", "(field b a)"),
+    ("a.b.c", "(field c (field b a))"),
+    ("a . b", "(field b a)"),
+    ("a.b()", "(method-call b a)"),
+    ("a.b(1).c(2, 3)", "(method-call c (method-call b a 1) 2 3)"),
+    ("a.b.c(d.e)", "(method-call c (field b a) (field e d))"),
+    ("a().b", "(field b (call a))"),
+    ("a().b()", "(method-call b (call a))"),
+    ("a[1]", "(index a 1)"),
+    ("a[1][2]", "(index (index a 1) 2)"),
+    ("a[b[c]]", "(index a (index b c))"),
+    ("a[b = 1]", "(index a (= b 1))"),
+    (
+        "a.b[1].c(2)[3].d",
+        "(field d (index (method-call c (index (field b a) 1) 2) 3))",
+    ),
+    ("a()[1]", "(index (call a) 1)"),
+    ("this.a", "(field a this)"),
+    ("this.m(a)", "(method-call m this a)"),
+    ("this[0]", "(index this 0)"),
+    ("\"s\".length()", "(method-call length \"s\")"),
+    ("null.a", "(field a null)"),
+    ("1[2]", "(index 1 2)"),
+    ("(a).b", "(field b a)"),
+    ("(a).m()", "(method-call m a)"),
+    ("(a)[1]", "(index a 1)"),
+    ("(a[0])[1]", "(index (index a 0) 1)"),
+    ("(a + b).c", "(field c (+ a b))"),
+    ("(a = b).c", "(field c (= a b))"),
+    ("(a ? b : c)[0]", "(index (? a b c) 0)"),
+];
+
+// Operators before and behind an operand.
+static UNARIES: [(&str, &str); 35] = [
+    ("+a", "(+ a)"),
+    ("-a", "(- a)"),
+    ("!a", "(! a)"),
+    ("~a", "(~ a)"),
+    ("++a", "(++ a)"),
+    ("--a", "(-- a)"),
+    ("- -a", "(- (- a))"),
+    ("+ +a", "(+ (+ a))"),
+    ("- --a", "(- (-- a))"),
+    ("++ ++a", "(++ (++ a))"),
+    ("++-a", "(++ (- a))"),
+    ("!!a", "(! (! a))"),
+    ("-+~!a", "(- (+ (~ (! a))))"),
+    ("!-a", "(! (- a))"),
+    ("~++a", "(~ (++ a))"),
+    ("-2147483648", "(- 2147483648)"),
+    ("a++", "(post++ a)"),
+    ("a--", "(post-- a)"),
+    ("a++ --", "(post-- (post++ a))"),
+    ("a[1]++", "(post++ (index a 1))"),
+    ("a.b--", "(post-- (field b a))"),
+    ("a.b()++", "(post++ (method-call b a))"),
+    ("5++", "(post++ 5)"),
+    ("this++", "(post++ this)"),
+    ("super.m()--", "(post-- (super-call m))"),
+    ("new int[1]++", "(post++ (new-array int 1))"),
+    ("-a++", "(- (post++ a))"),
+    ("++a--", "(++ (post-- a))"),
+    ("!a.b", "(! (field b a))"),
+    ("-a.b()", "(- (method-call b a))"),
+    ("~a[0]", "(~ (index a 0))"),
+    ("++(a)", "(++ a)"),
+    ("(a)++", "(post++ a)"),
+    ("(a).b++", "(post++ (field b a))"),
+    ("(-a)--", "(post-- (- a))"),
+];
+
+#[test]
+fn operands(rt: HostRuntime) -> Result<(), Fail> {
+    check_expressions(&rt, rt.alloc(), &PRIMARIES, false)?;
+    check_expressions(&rt, rt.alloc(), &UNARIES, false)?;
+    Ok(())
+}
+
+// Casts, and parentheses that look like those of a cast.
+static CASTS: [(&str, &str); 65] = [
+    ("(A) b", "(cast A b)"),
+    ("(a.b) c", "(cast a.b c)"),
+    ("(A) !b", "(cast A (! b))"),
+    ("(A) ~b", "(cast A (~ b))"),
+    ("(A) 1", "(cast A 1)"),
+    ("(A) \"s\"", "(cast A \"s\")"),
+    ("(A) null", "(cast A null)"),
+    ("(A) this", "(cast A this)"),
+    ("(A) new B()", "(cast A (new B))"),
+    ("(A) super.m()", "(cast A (super-call m))"),
+    ("(A) (b)", "(cast A b)"),
+    ("(A) (-b)", "(cast A (- b))"),
+    ("(A) (b = c)", "(cast A (= b c))"),
+    ("(A) (b + c)", "(cast A (+ b c))"),
+    ("(A) (B) c", "(cast A (cast B c))"),
+    ("(A) (B[]) c", "(cast A (cast B[] c))"),
+    ("(A) (int[]) c", "(cast A (cast int[] c))"),
+    ("(A) (b).c", "(cast A (field c b))"),
+    ("(A) !-b", "(cast A (! (- b)))"),
+    ("(A) b.c", "(cast A (field c b))"),
+    ("(A) b()", "(cast A (call b))"),
+    ("(A) b[0]", "(cast A (index b 0))"),
+    ("(A) b++", "(cast A (post++ b))"),
+    ("(A) - b", "(- A b)"),
+    ("(A) + b", "(+ A b)"),
+    ("(a.b) - c", "(- (field b a) c)"),
+    ("(a) * b", "(* a b)"),
+    ("(a) < b", "(< a b)"),
+    ("(a) instanceof B", "(instanceof B a)"),
+    ("(a) ? b : c", "(? a b c)"),
+    ("(a) == b", "(== a b)"),
+    ("(a - b) - c", "(- (- a b) c)"),
+    ("(a()) - b", "(- (call a) b)"),
+    ("(a[0]) - b", "(- (index a 0) b)"),
+    ("(A[]) b", "(cast A[] b)"),
+    ("(a.b[]) c", "(cast a.b[] c)"),
+    ("(A[]) (b)", "(cast A[] b)"),
+    ("(A[]) !b", "(cast A[] (! b))"),
+    ("(int) b", "(cast int b)"),
+    ("(int) - b", "(cast int (- b))"),
+    ("(int) + b", "(cast int (+ b))"),
+    ("(int) ++b", "(cast int (++ b))"),
+    ("(boolean) !b", "(cast boolean (! b))"),
+    ("(byte) (char) b", "(cast byte (cast char b))"),
+    ("(long) (A) b", "(cast long (cast A b))"),
+    ("(int) (b)", "(cast int b)"),
+    ("(int[]) b", "(cast int[] b)"),
+    ("(int[]) (A) b", "(cast int[] (cast A b))"),
+    ("(A) b + c", "(+ (cast A b) c)"),
+    ("a + (B) c", "(+ a (cast B c))"),
+    ("(int) a * b", "(* (cast int a) b)"),
+    ("(int) -a - b", "(- (cast int (- a)) b)"),
+    ("-(A) b", "(- (cast A b))"),
+    ("!(A) b", "(! (cast A b))"),
+    ("((A) b).c", "(field c (cast A b))"),
+    ("((A) b)", "(cast A b)"),
+    ("(A) a ? b : c", "(? (cast A a) b c)"),
+    ("(A) a == (B) b", "(== (cast A a) (cast B b))"),
+    ("(A) b instanceof C", "(instanceof C (cast A b))"),
+    ("a ? (b) - c : d", "(? a (- b c) d)"),
+    ("a ? (B) c : d", "(? a (cast B c) d)"),
+    ("a[(B) c]", "(index a (cast B c))"),
+    ("m((A) b, (a) - b)", "(call m (cast A b) (- a b))"),
+    ("a = (A) b", "(= a (cast A b))"),
+    ("new A((B) c)", "(new A (cast B c))"),
+];
+
+#[test]
+fn casts(rt: HostRuntime) -> Result<(), Fail> {
+    check_expressions(&rt, rt.alloc(), &CASTS, false)?;
+    Ok(())
+}
+
+// Operators of one level, which bind to the left.
+static CHAINS: [(&str, &str); 12] = [
+    ("a * b / c % d", "(% (/ (* a b) c) d)"),
+    ("a - b - c", "(- (- a b) c)"),
+    ("a + b - c + d", "(+ (- (+ a b) c) d)"),
+    ("a << b >> c >>> d", "(>>> (>> (<< a b) c) d)"),
+    ("a < b > c <= d >= e", "(>= (<= (> (< a b) c) d) e)"),
+    ("a == b != c == d", "(== (!= (== a b) c) d)"),
+    ("a & b & c", "(& (& a b) c)"),
+    ("a ^ b ^ c", "(^ (^ a b) c)"),
+    ("a | b | c", "(| (| a b) c)"),
+    ("a && b && c", "(&& (&& a b) c)"),
+    ("a || b || c", "(|| (|| a b) c)"),
+    (
+        "a instanceof B instanceof C",
+        "(instanceof C (instanceof B a))",
+    ),
+];
+
+// Operators of neighbouring levels.
+static LEVELS: [(&str, &str); 56] = [
+    ("a + b * c", "(+ a (* b c))"),
+    ("a * b + c", "(+ (* a b) c)"),
+    ("a - b / c", "(- a (/ b c))"),
+    ("a % b - c", "(- (% a b) c)"),
+    ("a << b + c", "(<< a (+ b c))"),
+    ("a + b << c", "(<< (+ a b) c)"),
+    ("a >> b - c", "(>> a (- b c))"),
+    ("a >>> b - c", "(>>> a (- b c))"),
+    ("a < b << c", "(< a (<< b c))"),
+    ("a << b < c", "(< (<< a b) c)"),
+    ("a > b >> c", "(> a (>> b c))"),
+    ("a <= b >>> c", "(<= a (>>> b c))"),
+    ("a >= b + c", "(>= a (+ b c))"),
+    ("a == b < c", "(== a (< b c))"),
+    ("a < b == c", "(== (< a b) c)"),
+    ("a != b >= c", "(!= a (>= b c))"),
+    ("a & b == c", "(& a (== b c))"),
+    ("a == b & c", "(& (== a b) c)"),
+    ("a & b != c", "(& a (!= b c))"),
+    ("a ^ b & c", "(^ a (& b c))"),
+    ("a & b ^ c", "(^ (& a b) c)"),
+    ("a | b ^ c", "(| a (^ b c))"),
+    ("a ^ b | c", "(| (^ a b) c)"),
+    ("a && b | c", "(&& a (| b c))"),
+    ("a | b && c", "(&& (| a b) c)"),
+    ("a || b && c", "(|| a (&& b c))"),
+    ("a && b || c", "(|| (&& a b) c)"),
+    (
+        "a || b && c | d ^ e & f == g < h << i + j * k",
+        "(|| a (&& b (| c (^ d (& e (== f (< g (<< h (+ i (* j k))))))))))",
+    ),
+    (
+        "a * b + c << d < e == f & g ^ h | i && j || k",
+        "(|| (&& (| (^ (& (== (< (<< (+ (* a b) c) d) e) f) g) h) i) j) k)",
+    ),
+    ("a + b * c - d", "(- (+ a (* b c)) d)"),
+    ("a * (b + c)", "(* a (+ b c))"),
+    ("(a + b) * c", "(* (+ a b) c)"),
+    ("a - (b - c)", "(- a (- b c))"),
+    ("a instanceof B", "(instanceof B a)"),
+    ("a instanceof b.C[]", "(instanceof b.C[] a)"),
+    ("a instanceof int", "(instanceof int a)"),
+    ("a instanceof B && c", "(&& (instanceof B a) c)"),
+    ("a + b instanceof C", "(instanceof C (+ a b))"),
+    ("a < b instanceof C", "(instanceof C (< a b))"),
+    ("a instanceof B < c", "(< (instanceof B a) c)"),
+    ("a instanceof B[] == c", "(== (instanceof B[] a) c)"),
+    ("a == b instanceof C", "(== a (instanceof C b))"),
+    ("a instanceof B ? c : d", "(? (instanceof B a) c d)"),
+    ("!a instanceof B", "(instanceof B (! a))"),
+    ("a || b instanceof C || d", "(|| (|| a (instanceof C b)) d)"),
+    ("a instanceof B | c", "(| (instanceof B a) c)"),
+    ("a - -b", "(- a (- b))"),
+    ("a + +b", "(+ a (+ b))"),
+    ("a+++b", "(+ (post++ a) b)"),
+    ("a - --b", "(- a (-- b))"),
+    ("a-- - --b", "(- (post-- a) (-- b))"),
+    ("-a * b", "(* (- a) b)"),
+    ("a * -b", "(* a (- b))"),
+    ("!a && !b", "(&& (! a) (! b))"),
+    ("~a & b", "(& (~ a) b)"),
+    ("a++ * b", "(* (post++ a) b)"),
+];
+
+#[test]
+fn binary_operators(rt: HostRuntime) -> Result<(), Fail> {
+    check_expressions(&rt, rt.alloc(), &CHAINS, false)?;
+    check_expressions(&rt, rt.alloc(), &LEVELS, false)?;
+    Ok(())
+}
+
+// Conditional expressions and assignments, which bind to the right.
+static ASSIGNMENTS: [(&str, &str); 44] = [
+    ("a ? b : c", "(? a b c)"),
+    ("a ? b : c ? d : e", "(? a b (? c d e))"),
+    ("a ? b ? c : d : e", "(? a (? b c d) e)"),
+    ("(a ? b : c) ? d : e", "(? (? a b c) d e)"),
+    ("a || b ? c : d", "(? (|| a b) c d)"),
+    ("a ? b : c || d", "(? a b (|| c d))"),
+    ("a ? b = c : d", "(? a (= b c) d)"),
+    ("a ? b : (c = d)", "(? a b (= c d))"),
+    ("a() ? b : c", "(? (call a) b c)"),
+    ("a++ ? b : c", "(? (post++ a) b c)"),
+    ("-a ? b : c", "(? (- a) b c)"),
+    ("a = b", "(= a b)"),
+    ("a += b", "(+= a b)"),
+    ("a -= b", "(-= a b)"),
+    ("a *= b", "(*= a b)"),
+    ("a /= b", "(/= a b)"),
+    ("a %= b", "(%= a b)"),
+    ("a &= b", "(&= a b)"),
+    ("a |= b", "(|= a b)"),
+    ("a ^= b", "(^= a b)"),
+    ("a <<= b", "(<<= a b)"),
+    ("a >>= b", "(>>= a b)"),
+    ("a >>>= b", "(>>>= a b)"),
+    ("a = b = c", "(= a (= b c))"),
+    ("a += b -= c", "(+= a (-= b c))"),
+    ("a = b += c = d", "(= a (+= b (= c d)))"),
+    ("a = b ? c : d", "(= a (? b c d))"),
+    ("a = b + c", "(= a (+ b c))"),
+    ("a = (b)", "(= a b)"),
+    ("a = -b", "(= a (- b))"),
+    ("a.b = c", "(= (field b a) c)"),
+    ("a[0] = b", "(= (index a 0) b)"),
+    ("a.b[c].d = e", "(= (field d (index (field b a) c)) e)"),
+    ("a().b += c", "(+= (field b (call a)) c)"),
+    ("a.b().c = d", "(= (field c (method-call b a)) d)"),
+    ("a.b()[0] = c", "(= (index (method-call b a) 0) c)"),
+    ("this.a = b", "(= (field a this) b)"),
+    ("(a).b = c", "(= (field b a) c)"),
+    ("(a)[0] = b", "(= (index a 0) b)"),
+    ("((A) a).b = c", "(= (field b (cast A a)) c)"),
+    ("new A().b = c", "(= (field b (new A)) c)"),
+    ("new int[1].a = 3", "(= (field a (new-array int 1)) 3)"),
+    ("super.m().a = b", "(= (field a (super-call m)) b)"),
+    ("\"s\".a = b", "(= (field a \"s\") b)"),
+];
+
+#[test]
+fn assignments(rt: HostRuntime) -> Result<(), Fail> {
+    check_expressions(&rt, rt.alloc(), &ASSIGNMENTS, false)?;
+    Ok(())
+}
+
+// Expressions that end before the last token, and texts that no expression goes on with.
+static FRONTS: [(&str, &str); 127] = [
+    ("a + b ) c", "(+ a b) up to 3"),
+    ("a b", "a up to 1"),
+    ("a; b", "a up to 1"),
+    ("a, b", "a up to 1"),
+    ("a : b", "a up to 1"),
+    ("a ] b", "a up to 1"),
+    ("a -> b", "a up to 1"),
+    ("a::b", "a up to 1"),
+    ("a ... b", "a up to 1"),
+    ("a {", "a up to 1"),
+    ("a @ b", "a up to 1"),
+    ("a int", "a up to 1"),
+    ("a ! b", "a up to 1"),
+    ("a(b) c", "(call a b) up to 4"),
+    ("a.b c", "(field b a) up to 3"),
+    ("a[0] b", "(index a 0) up to 4"),
+    ("a++ b", "(post++ a) up to 2"),
+    ("a ? b : c d", "(? a b c) up to 5"),
+    ("a instanceof B c", "(instanceof B a) up to 3"),
+    ("a instanceof B[] [", "(instanceof B[] a) up to 5"),
+    ("new A() {", "(new A) up to 4"),
+    ("new int[3][4]", "(new-array int 3) up to 5"),
+    ("new A[3] [", "(new-array A 3) up to 5"),
+    ("(A) b c", "(cast A b) up to 4"),
+    ("a = b c", "(= a b) up to 3"),
+    ("(a) = 3", "a up to 3"),
+    ("(a) += 3", "a up to 3"),
+    ("(a.b) = 3", "(field b a) up to 5"),
+    ("(a[0]) = 3", "(index a 0) up to 6"),
+    ("a() = b", "(call a) up to 3"),
+    ("a.b() = c", "(method-call b a) up to 5"),
+    ("this = a", "this up to 1"),
+    ("1 = a", "1 up to 1"),
+    ("super.m() = b", "(super-call m) up to 5"),
+    ("new A() = b", "(new A) up to 4"),
+    ("new int[3] = b", "(new-array int 3) up to 5"),
+    ("a + b = c", "(+ a b) up to 3"),
+    ("a++ = b", "(post++ a) up to 2"),
+    ("-a = b", "(- a) up to 2"),
+    ("++a = b", "(++ a) up to 2"),
+    ("(A) b = c", "(cast A b) up to 4"),
+    ("a ? b : c = d", "(? a b c) up to 5"),
+    ("a == b = c", "(== a b) up to 3"),
+    ("a instanceof B = c", "(instanceof B a) up to 3"),
+    ("a = (b) = c", "(= a b) up to 5"),
+    ("((A)) b", "A up to 5"),
+    ("(A.b()) c", "(method-call b A) up to 7"),
+    ("(A + b) c", "(+ A b) up to 5"),
+    ("(1) a", "1 up to 3"),
+    ("(this) a", "this up to 3"),
+    ("(a[0]) b", "(index a 0) up to 6"),
+    ("(a) ++b", "(post++ a) up to 4"),
+    ("a + (1) b", "(+ a 1) up to 5"),
+    ("-(b()) c", "(- (call b)) up to 6"),
+    ("a instanceof B + c", "(instanceof B a) up to 3"),
+    ("a instanceof B << c", "(instanceof B a) up to 3"),
+    ("a instanceof B * c", "(instanceof B a) up to 3"),
+    ("", "20 1:1"),
+    (")", "20 1:1"),
+    ("= a", "20 1:1"),
+    ("int", "20 1:1"),
+    ("{1}", "20 1:1"),
+    ("@A", "20 1:1"),
+    ("* a", "20 1:1"),
+    ("class", "20 1:1"),
+    ("a +", "20 1:4"),
+    ("a + )", "20 1:5"),
+    ("a ? b", "20 1:6"),
+    ("a ? : b", "20 1:5"),
+    ("a ? b :", "20 1:8"),
+    ("a ? b ; c", "20 1:7"),
+    ("a[1", "20 1:4"),
+    ("a[]", "20 1:3"),
+    ("a[", "20 1:3"),
+    ("a.", "20 1:3"),
+    ("a.this", "20 1:3"),
+    ("a.new", "20 1:3"),
+    ("a =", "20 1:4"),
+    ("a = {1}", "20 1:5"),
+    ("a +=", "20 1:5"),
+    ("a + = b", "20 1:5"),
+    ("a b = c", "a up to 1"),
+    ("a(", "20 1:3"),
+    ("a(1,)", "20 1:5"),
+    ("a(1", "20 1:4"),
+    ("a(,)", "20 1:3"),
+    ("a(1 2)", "20 1:5"),
+    ("(", "20 1:2"),
+    ("()", "20 1:2"),
+    ("(a", "20 1:3"),
+    ("(a b) c", "20 1:4"),
+    ("(a,", "20 1:3"),
+    ("(int)", "20 1:6"),
+    ("(int", "20 1:5"),
+    ("(void) a", "20 1:2"),
+    ("(A[])", "20 1:6"),
+    ("(A[]) - b", "20 1:7"),
+    ("(A[]) + b", "20 1:7"),
+    ("(A[]) ++b", "20 1:7"),
+    ("(int[]) - b", "20 1:9"),
+    ("-(A[]) - b", "20 1:8"),
+    ("(A) (B[]) - c", "20 1:11"),
+    ("(A[][]) b", "20 1:5"),
+    ("(A) (int) b", "20 1:9"),
+    ("(A) !", "20 1:6"),
+    ("super", "20 1:6"),
+    ("super.x + 1", "20 1:9"),
+    ("super()", "20 1:6"),
+    ("super[0]", "20 1:6"),
+    ("new", "20 1:4"),
+    ("new A", "20 1:6"),
+    ("new A.", "20 1:7"),
+    ("new int()", "20 1:8"),
+    ("new int[]{1}", "20 1:9"),
+    ("new A[]", "20 1:7"),
+    ("new int", "20 1:8"),
+    ("new A<B>()", "20 1:6"),
+    ("-", "20 1:2"),
+    ("!", "20 1:2"),
+    ("++", "20 1:3"),
+    ("a instanceof", "20 1:13"),
+    ("a instanceof 1", "20 1:14"),
+    ("a instanceof final B", "20 1:14"),
+    ("a &&", "20 1:5"),
+    ("a +\n", "20 2:1"),
+    ("a + // b", "20 1:9"),
+    ("a\r\n+\r", "20 3:1"),
+];
+
+#[test]
+fn expression_fronts(rt: HostRuntime) -> Result<(), Fail> {
+    check_expressions(&rt, rt.alloc(), &FRONTS, false)?;
+    Ok(())
+}
+
+// The places of expressions.
+static PLACES: [(&str, &str); 37] = [
+    ("a - b - c", "(-@1:7 (-@1:3 a@1:1 b@1:5) c@1:9)"),
+    ("a.b(1).c", "(field@1:8 c (method-call@1:3 b a@1:1 1@1:5))"),
+    ("m(a)", "(call@1:1 m a@1:3)"),
+    ("super.m(a)", "(super-call@1:7 m a@1:9)"),
+    ("new A(b)", "(new@1:1 A@1:5 b@1:7)"),
+    ("new a.b.C(d)", "(new@1:1 a.b.C@1:5 d@1:11)"),
+    ("new int[3]", "(new-array@1:1 int@1:5 3@1:9)"),
+    (" new A[b].c", "(field@1:11 c (new-array@1:2 A@1:6 b@1:8))"),
+    ("a[i]", "(index@1:2 a@1:1 i@1:3)"),
+    ("a[i][j]", "(index@1:5 (index@1:2 a@1:1 i@1:3) j@1:6)"),
+    ("a++", "(post++@1:2 a@1:1)"),
+    ("a-- ++", "(post++@1:5 (post--@1:2 a@1:1))"),
+    ("++a", "(++@1:1 a@1:3)"),
+    ("- !a", "(-@1:1 (!@1:3 a@1:4))"),
+    ("(A) b", "(cast@1:1 A@1:2 b@1:5)"),
+    ("( int[]) b", "(cast@1:1 int[]@1:3 b@1:10)"),
+    ("(a.b) (c)", "(cast@1:1 a.b@1:2 c@1:8)"),
+    ("( byte ) - 1", "(cast@1:1 byte@1:3 (-@1:10 1@1:12))"),
+    ("a instanceof b.C[]", "(instanceof@1:3 b.C[]@1:14 a@1:1)"),
+    ("a ? b : c", "(?@1:3 a@1:1 b@1:5 c@1:9)"),
+    ("a = b", "(=@1:3 a@1:1 b@1:5)"),
+    ("a >>>= b", "(>>>=@1:3 a@1:1 b@1:8)"),
+    ("(a)", "a@1:2"),
+    ("((a)).b", "(field@1:7 b a@1:3)"),
+    ("(a + b) * c", "(*@1:9 (+@1:4 a@1:2 b@1:6) c@1:11)"),
+    ("(a).m()", "(method-call@1:5 m a@1:2)"),
+    ("(a)[0]", "(index@1:4 a@1:2 0@1:5)"),
+    ("(a)++", "(post++@1:4 a@1:2)"),
+    ("(this)", "this@1:2"),
+    ("this.a", "(field@1:6 a this@1:1)"),
+    ("'c'", "'c'@1:1"),
+    ("a . /* */ b", "(field@1:11 b a@1:1)"),
+    ("a\n + b", "(+@2:2 a@1:1 b@2:4)"),
+    ("a\r\n.b\rc", "(field@2:2 b a@1:1) up to 3"),
+    ("\"é\" + b", "(+@1:6 \"é\"@1:1 b@1:8)"),
+    ("\ta", "a@1:2"),
+    ("a\n\n =\nb", "(=@3:2 a@1:1 b@4:1)"),
+];
+
+#[test]
+fn expression_places(rt: HostRuntime) -> Result<(), Fail> {
+    check_expressions(&rt, rt.alloc(), &PLACES, true)?;
+    Ok(())
+}
+
+// Types.
+static TYPES: [(&str, &str); 29] = [
+    ("int x", "int up to 1"),
+    ("a.b.C [] x", "a.b.C[] up to 7"),
+    ("A", "A"),
+    ("a.b", "a.b"),
+    ("A[]", "A[]"),
+    ("A [ ]", "A[]"),
+    ("A[][]", "A[] up to 3"),
+    ("boolean", "boolean"),
+    ("byte[]", "byte[]"),
+    ("char", "char"),
+    ("int", "int"),
+    ("long x", "long up to 1"),
+    ("int.a", "int up to 1"),
+    ("A<B>", "A up to 1"),
+    ("A...", "A up to 1"),
+    ("A B", "A up to 1"),
+    ("A;", "A up to 1"),
+    ("A = 1", "A up to 1"),
+    ("a.b c", "a.b up to 3"),
+    ("A[1]", "20 1:3"),
+    ("A[", "20 1:3"),
+    ("a.", "20 1:3"),
+    ("a.int", "20 1:3"),
+    ("int[1]", "20 1:5"),
+    ("", "20 1:1"),
+    ("void", "20 1:1"),
+    ("1", "20 1:1"),
+    ("this", "20 1:1"),
+    ("String []]", "String[] up to 3"),
+];
+
+// The places of types.
+static TYPE_PLACES: [(&str, &str); 3] = [
+    (" a.b []", "a.b[]@1:2"),
+    ("\nint", "int@2:1"),
+    ("a . b", "a.b@1:1"),
+];
+
+// The texts are types with these trees.
+fn check_types(
+    rt: &impl Abort,
+    alloc: Global,
+    rows: &[(&str, &str)],
+    with_places: bool,
+) -> Result<(), Fail> {
+    for (text, wanted) in rows {
+        let found = type_answer(alloc, text.as_bytes(), with_places)?;
+        assert_eq!(rt; found.as_str(), *wanted, "of {text}");
+    }
+    Ok(())
+}
+
+#[test]
+fn types(rt: HostRuntime) -> Result<(), Fail> {
+    check_types(&rt, rt.alloc(), &TYPES, false)?;
+    check_types(&rt, rt.alloc(), &TYPE_PLACES, true)?;
+    Ok(())
+}
+
+// Annotations and their values.
+static ANNOTATIONS: [(&str, &str); 76] = [
+    ("class", "up to 0"),
+    ("@A @B(1) class", "(@ A) (@ B 1) up to 7"),
+    ("", ""),
+    ("@A", "(@ A)"),
+    ("@A()", "(@ A)"),
+    ("@a.b.C", "(@ a.b.C)"),
+    ("@ A ( )", "(@ A)"),
+    ("@A(1)", "(@ A 1)"),
+    ("@A(\"s\")", "(@ A \"s\")"),
+    ("@A(x)", "(@ A x)"),
+    ("@A(x.y)", "(@ A (field y x))"),
+    ("@A(x[1] + 2)", "(@ A (+ (index x 1) 2))"),
+    ("@A(x())", "(@ A (call x))"),
+    ("@A(x.m(1).y)", "(@ A (field y (method-call m x 1)))"),
+    ("@A(x++)", "(@ A (post++ x))"),
+    ("@A(x + 1 * y)", "(@ A (+ x (* 1 y)))"),
+    ("@A(x == 1)", "(@ A (== x 1))"),
+    ("@A(x ? y : z)", "(@ A (? x y z))"),
+    ("@A(-1)", "(@ A (- 1))"),
+    ("@A(1 + 2)", "(@ A (+ 1 2))"),
+    ("@A((x))", "(@ A x)"),
+    ("@A((B) x)", "(@ A (cast B x))"),
+    ("@A((x = 1))", "(@ A (= x 1))"),
+    ("@A(new B())", "(@ A (new B))"),
+    ("@A(this)", "(@ A this)"),
+    ("@A(x instanceof B)", "(@ A (instanceof B x))"),
+    ("@A(x = 1)", "(@ A (pair x 1))"),
+    ("@A(x = y)", "(@ A (pair x y))"),
+    ("@A(x = 1, y = 2)", "(@ A (pair x 1) (pair y 2))"),
+    (
+        "@A(x = 1, y = {1, 2,})",
+        "(@ A (pair x 1) (pair y (list 1 2)))",
+    ),
+    ("@A(x = @B)", "(@ A (pair x (@ B)))"),
+    (
+        "@A(x = y ? 1 : 2, z = y.m())",
+        "(@ A (pair x (? y 1 2)) (pair z (method-call m y)))",
+    ),
+    ("@A({})", "(@ A (list))"),
+    ("@A({,})", "(@ A (list))"),
+    ("@A({1})", "(@ A (list 1))"),
+    ("@A({1,})", "(@ A (list 1))"),
+    ("@A({1, x, x + 1})", "(@ A (list 1 x (+ x 1)))"),
+    (
+        "@A({{}, {1}, {{x},},})",
+        "(@ A (list (list) (list 1) (list (list x))))",
+    ),
+    ("@A({1, @B, {2},})", "(@ A (list 1 (@ B) (list 2)))"),
+    ("@A(@B)", "(@ A (@ B))"),
+    ("@A(@B(@C(1)))", "(@ A (@ B (@ C 1)))"),
+    ("@A(@B(x = 1))", "(@ A (@ B (pair x 1)))"),
+    ("@A({@B(1), @C})", "(@ A (list (@ B 1) (@ C)))"),
+    ("@A @B x", "(@ A) (@ B) up to 4"),
+    ("@A (x) y", "(@ A x) up to 5"),
+    ("@A(1)(2)", "(@ A 1) up to 5"),
+    ("@A final", "(@ A) up to 2"),
+    ("@A @B @C", "(@ A) (@ B) (@ C)"),
+    ("1", "up to 0"),
+    ("@", "20 1:2"),
+    ("@interface", "20 1:2"),
+    ("@1", "20 1:2"),
+    ("@A.", "20 1:4"),
+    ("@A.1", "13 1:3"),
+    ("@A(", "20 1:4"),
+    ("@A(,)", "20 1:4"),
+    ("@A(1, 2)", "20 1:5"),
+    ("@A(x, y)", "20 1:5"),
+    ("@A(x = 1, 2)", "20 1:11"),
+    ("@A(x = 1,)", "20 1:10"),
+    ("@A(x = 1, y)", "20 1:12"),
+    ("@A(1, x = 1)", "20 1:5"),
+    ("@A(x += 1)", "20 1:6"),
+    ("@A(x.y = 1)", "20 1:8"),
+    ("@A(x = y = 1)", "20 1:10"),
+    ("@A(x = )", "20 1:8"),
+    ("@A(x = 1", "20 1:9"),
+    ("@A({1,,})", "20 1:7"),
+    ("@A({,1})", "20 1:6"),
+    ("@A({1 2})", "20 1:7"),
+    ("@A({1}", "20 1:7"),
+    ("@A({x = 1})", "20 1:7"),
+    ("@A(x = {1}, @B)", "20 1:13"),
+    ("@A(int)", "20 1:4"),
+    ("@A @", "20 1:5"),
+    ("@A {", "(@ A) up to 2"),
+];
+
+// The places of annotations.
+static ANNOTATION_PLACES: [(&str, &str); 6] = [
+    ("@A(x = 1)", "(@@1:1 A@1:2 (pair x@1:4 1@1:8))"),
+    ("@A({1})", "(@@1:1 A@1:2 (list@1:4 1@1:5))"),
+    ("@A(@B)", "(@@1:1 A@1:2 (@@1:4 B@1:5))"),
+    ("@ a.B", "(@@1:1 a.B@1:3)"),
+    (
+        "@A\n@B(x\n+ 1)",
+        "(@@1:1 A@1:2) (@@2:1 B@2:2 (+@3:1 x@2:4 1@3:3))",
+    ),
+    (
+        "@A(x = @B, y = {})",
+        "(@@1:1 A@1:2 (pair x@1:4 (@@1:8 B@1:9)) (pair y@1:12 (list@1:16)))",
+    ),
+];
+
+// The texts are annotations with these trees.
+fn check_annotations(
+    rt: &impl Abort,
+    alloc: Global,
+    rows: &[(&str, &str)],
+    with_places: bool,
+) -> Result<(), Fail> {
+    for (text, wanted) in rows {
+        let found = annotations_answer(alloc, text.as_bytes(), 0, with_places)?;
+        assert_eq!(rt; found.as_str(), *wanted, "of {text}");
+    }
+    Ok(())
+}
+
+#[test]
+fn annotations(rt: HostRuntime) -> Result<(), Fail> {
+    check_annotations(&rt, rt.alloc(), &ANNOTATIONS, false)?;
+    check_annotations(&rt, rt.alloc(), &ANNOTATION_PLACES, true)?;
+    Ok(())
+}

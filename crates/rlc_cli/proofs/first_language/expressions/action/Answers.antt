@@ -1,0 +1,22 @@
+use Rattle.std.proofs.Common.{rules}
+use Rattle.java_syntax.specs.declared.expression_trees.Expr.{the_lemmas}
+use Rattle.java_syntax.proofs.Rows.{exprs_are_items}
+use Rattle.rlc_cli.proofs.first_language.expressions.action.Goals as goal
+
+pub returns-in_err-class-in-NewObject : goal.returns-in_err-class-in-NewObject
+returns-in_err-class-in-NewObject c = search (rules, the_lemmas, exprs_are_items)
+
+pub returns-in_err-method-in-MethodCall : goal.returns-in_err-method-in-MethodCall
+returns-in_err-method-in-MethodCall c = search (rules, the_lemmas, exprs_are_items)
+
+pub returns-in_err-method-in-Call : goal.returns-in_err-method-in-Call
+returns-in_err-method-in-Call c = search (rules, the_lemmas, exprs_are_items)
+
+pub returns-in_ok-class-in-NewObject : goal.returns-in_ok-class-in-NewObject
+returns-in_ok-class-in-NewObject c = search (rules, the_lemmas, exprs_are_items)
+
+pub returns-in_ok-method-in-MethodCall : goal.returns-in_ok-method-in-MethodCall
+returns-in_ok-method-in-MethodCall c = search (rules, the_lemmas, exprs_are_items)
+
+pub returns-in_ok-method-in-Call : goal.returns-in_ok-method-in-Call
+returns-in_ok-method-in-Call c = search (rules, the_lemmas, exprs_are_items)
