@@ -110,26 +110,23 @@ static SCOPE_ROWS: [Row; 3] = [
         name: "break at the end of a scope",
         control: &[
             Item::Out(BREAK),
-            Item::Leave(Scope::Variables(3, 4), SOMEWHERE),
+            Item::Leave(Scope::Declared(StmtId(3)), SOMEWHERE),
             Item::LoopEnd(StmtId(11), 0),
         ],
-        steps: &["Drop(x3..x4) go @s12 [Out Break@s12 LoopEnd(s11,0)]"],
+        steps: &["Drop(of s3) go @s12 [Out Break@s12 LoopEnd(s11,0)]"],
     },
     Row {
         name: "return of a value at the end of a scope",
         control: &[
             Item::Out(RETURN_VALUE),
-            Item::Leave(Scope::Nothing, SOMEWHERE),
+            Item::Leave(Scope::TempsAbove(2), SOMEWHERE),
         ],
-        steps: &["Drop() go @s26 [Out Return(3)@s26]"],
+        steps: &["Drop(above t2) go @s26 [Out Return(3)@s26]"],
     },
     Row {
         name: "exception at the end of a scope",
-        control: &[
-            Item::Out(THROW),
-            Item::Leave(Scope::Variables(7, 7), SOMEWHERE),
-        ],
-        steps: &["Drop(x7..x7) go @e16 [Out Throw(3,IOException)@e16]"],
+        control: &[Item::Out(THROW), Item::Leave(Scope::Variable(7), SOMEWHERE)],
+        steps: &["Drop(x7) go @e16 [Out Throw(3,IOException)@e16]"],
     },
 ];
 

@@ -58,7 +58,7 @@ static CATCH_ROWS: [Row; 9] = [
             Item::Catch(StmtId(4), 1),
             Item::Fin(StmtId(7), 0),
         ],
-        steps: &["Enter(x0,1,2) go @e8 [Do(s1,1) Leave(x0..x0)@s1 Fin(s7,0)]"],
+        steps: &["Enter(s4:0,x0,1,2) go @e8 [Do(s1,1) Leave(x0)@s1 Fin(s7,0)]"],
     },
     Row {
         name: "class above that of the first clause, and the class of the second one",
@@ -67,8 +67,8 @@ static CATCH_ROWS: [Row; 9] = [
             Item::Catch(StmtId(4), 1),
         ],
         steps: &[
-            "Enter(x0,1,2) go @e8 [Do(s1,1) Leave(x0..x0)@s1]",
-            "Enter(x1,1,2) go @e8 [Do(s2,1) Leave(x1..x1)@s2]",
+            "Enter(s4:0,x0,1,2) go @e8 [Do(s1,1) Leave(x0)@s1]",
+            "Enter(s4:1,x1,1,2) go @e8 [Do(s2,1) Leave(x1)@s2]",
         ],
     },
     Row {
@@ -77,7 +77,7 @@ static CATCH_ROWS: [Row; 9] = [
             Item::Out(Completion::Throw(0, ClassId(7), HERE)),
             Item::Catch(StmtId(4), 0),
         ],
-        steps: &["Enter(x1,0,0) go @e8 [Do(s2,0) Leave(x1..x1)@s2]"],
+        steps: &["Enter(s4:1,x1,0,0) go @e8 [Do(s2,0) Leave(x1)@s2]"],
     },
     Row {
         name: "class above the second alternative of a clause",
@@ -86,8 +86,8 @@ static CATCH_ROWS: [Row; 9] = [
             Item::Catch(StmtId(4), 0),
         ],
         steps: &[
-            "Enter(x1,0,0) go @e8 [Do(s2,0) Leave(x1..x1)@s2]",
-            "Enter(x2,0,0) go @e8 [Do(s3,0) Leave(x2..x2)@s3]",
+            "Enter(s4:1,x1,0,0) go @e8 [Do(s2,0) Leave(x1)@s2]",
+            "Enter(s4:2,x2,0,0) go @e8 [Do(s3,0) Leave(x2)@s3]",
         ],
     },
     Row {
@@ -96,7 +96,7 @@ static CATCH_ROWS: [Row; 9] = [
             Item::Out(Completion::Throw(0, ClassId(6), HERE)),
             Item::Catch(StmtId(4), 0),
         ],
-        steps: &["Enter(x2,0,0) go @e8 [Do(s3,0) Leave(x2..x2)@s3]"],
+        steps: &["Enter(s4:2,x2,0,0) go @e8 [Do(s3,0) Leave(x2)@s3]"],
     },
     Row {
         name: "class above those of all clauses",
@@ -106,9 +106,9 @@ static CATCH_ROWS: [Row; 9] = [
             Item::Fin(StmtId(7), 0),
         ],
         steps: &[
-            "Enter(x0,0,0) go @e8 [Do(s1,0) Leave(x0..x0)@s1 Fin(s7,0)]",
-            "Enter(x1,0,0) go @e8 [Do(s2,0) Leave(x1..x1)@s2 Fin(s7,0)]",
-            "Enter(x2,0,0) go @e8 [Do(s3,0) Leave(x2..x2)@s3 Fin(s7,0)]",
+            "Enter(s4:0,x0,0,0) go @e8 [Do(s1,0) Leave(x0)@s1 Fin(s7,0)]",
+            "Enter(s4:1,x1,0,0) go @e8 [Do(s2,0) Leave(x1)@s2 Fin(s7,0)]",
+            "Enter(s4:2,x2,0,0) go @e8 [Do(s3,0) Leave(x2)@s3 Fin(s7,0)]",
             "Skip go @e8 [Out Throw(0,Throwable)@e8 Fin(s7,0)]",
         ],
     },
@@ -128,7 +128,7 @@ static CATCH_ROWS: [Row; 9] = [
             Item::Fin(StmtId(7), 0),
         ],
         steps: &[
-            "Enter(x3,0,2) go @e8 [Do(s6,0) Leave(x3..x3)@s6 Fin(s7,0)]",
+            "Enter(s8:0,x3,0,2) go @e8 [Do(s6,0) Leave(x3)@s6 Fin(s7,0)]",
             "Skip go @e8 [Out Throw(2,IOException)@e8 Fin(s7,0)]",
         ],
     },

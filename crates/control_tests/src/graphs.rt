@@ -243,7 +243,7 @@ fn refusal(alloc: Global, p: &Program) -> Result<u16, Fail> {
         Ok(_) => Ok(0),
         Err(Stop::TooMuch(Refusal { code, pos })) => {
             if pos == method_place(RUN) {
-                Ok(code)
+                Ok(code.number())
             } else {
                 Ok(1)
             }

@@ -16,6 +16,8 @@ mod paths;
 #[cfg(test)]
 mod programs;
 #[cfg(test)]
+mod scopes;
+#[cfg(test)]
 mod statements;
 #[cfg(test)]
 mod tables;

@@ -120,12 +120,12 @@ static STATEMENT_ROWS: [Row; 31] = [
     Row {
         name: "block",
         control: &[Item::Do(StmtId(3), 0)],
-        steps: &["Skip go @s3 [Do(s0,0) Do(s1,0) Do(s2,0) Leave(x3..x4)@s3]"],
+        steps: &["Skip go @s3 [Do(s0,0) Do(s1,0) Do(s2,0) Leave(of s3)@s3]"],
     },
     Row {
         name: "block without statements",
         control: &[Item::Do(StmtId(18), 2), Item::Do(StmtId(4), 2)],
-        steps: &["Skip go @s18 [Leave()@s18 Do(s4,2)]"],
+        steps: &["Skip go @s18 [Leave(of s18)@s18 Do(s4,2)]"],
     },
     Row {
         name: "empty statement",
@@ -171,13 +171,13 @@ static STATEMENT_ROWS: [Row; 31] = [
         name: "for with a declaration",
         control: &[Item::Do(StmtId(15), 0)],
         steps: &[
-            "Skip go @s15 [Ev(e7,0) Move(x5,t0)@x5 Plain(x6,default int)@x6 For(s15,0) Leave(x5..x6)@s15]",
+            "Skip go @s15 [Ev(e7,0) Move(x5,t0)@x5 Plain(x6,default int)@x6 For(s15,0) Leave(of s15)@s15]",
         ],
     },
     Row {
         name: "for with expressions",
         control: &[Item::Do(StmtId(17), 0)],
-        steps: &["Skip go @s17 [Ev(e14,0) Drop(t0)@e14 For(s17,0) Leave()@s17]"],
+        steps: &["Skip go @s17 [Ev(e14,0) Drop(t0)@e14 For(s17,0) Leave(of s17)@s17]"],
     },
     Row {
         name: "turn of a for",
@@ -228,7 +228,7 @@ static STATEMENT_ROWS: [Row; 31] = [
         name: "try with resources, clauses and finally",
         control: &[Item::Do(StmtId(21), 0)],
         steps: &[
-            "Skip go @s21 [Ev(e15,0) Move(x7,t0)@x7 Ev(e16,0) Move(x8,t0)@x8 Do(s18,0) Close(x8,close,s21,0)@x8 Leave(x8..x8)@x8 Close(x7,close,s21,0)@x7 Leave(x7..x7)@x7 Catch(s21,0) Fin(s20,0)]",
+            "Skip go @s21 [Ev(e15,0) Move(x7,t0)@x7 Ev(e16,0) Move(x8,t0)@x8 Do(s18,0) Close(x8,close,s21,0)@x8 Leave(x8)@x8 Close(x7,close,s21,0)@x7 Leave(x7)@x7 Catch(s21,0) Fin(s20,0)]",
         ],
     },
     Row {
@@ -240,7 +240,7 @@ static STATEMENT_ROWS: [Row; 31] = [
         name: "end of a scope",
         control: &[
             Item::Leave(
-                Scope::Variables(3, 4),
+                Scope::Declared(StmtId(3)),
                 Pos {
                     file: 1,
                     line: 3,
@@ -249,7 +249,7 @@ static STATEMENT_ROWS: [Row; 31] = [
             ),
             Item::Do(StmtId(4), 0),
         ],
-        steps: &["Drop(x3..x4) go @s3 [Do(s4,0)]"],
+        steps: &["Drop(of s3) go @s3 [Do(s4,0)]"],
     },
     Row {
         name: "catch clauses after a block that ends normally",

@@ -6,6 +6,7 @@ ghost use Rattle.java_control.specs.Tables.{highest};
 
 use crate::programs::{BodyPlan, program};
 use crate::wording::{write_list, write_step};
+use crate::world::class_ids;
 use java_control::{Item, Lists, Triple, next, start};
 use program_model::{BodyId, Program, StmtId};
 use std::alloc::Global;
@@ -112,7 +113,20 @@ pub fn check_rows(
     ignored: &[u32],
     rows: &[Row],
 ) -> Result<(), Fail> {
-    let p = program(alloc, plan, ignored)?;
+    check_rows_ignoring(rt, alloc, plan, ignored, &[], rows)
+}
+
+// The rows hold under settings that ignore the first exceptions with their subclasses, and the others alone.
+pub fn check_rows_ignoring(
+    rt: &impl Abort,
+    alloc: Global,
+    plan: &BodyPlan,
+    ignored: &[u32],
+    alone: &[u32],
+    rows: &[Row],
+) -> Result<(), Fail> {
+    let mut p = program(alloc, plan, ignored)?;
+    p.exact = class_ids(alloc, alone)?;
     for row in rows {
         let found = step_lines(alloc, &p, row.control)?;
         let wanted = lines(alloc, row.steps)?;

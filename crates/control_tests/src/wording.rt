@@ -3,12 +3,12 @@
 
 use crate::world::{CLASSES, METHODS};
 use java_control::{
-    Action, Cell, Completion, Condition, Edge, Item, Lists, Operator, Place, PlainValue, Scope,
-    TargetForm, Triple,
+    Action, Cell, ClauseId, Completion, Condition, Edge, Item, Lists, Operator, Place, PlainValue,
+    Scope, TargetForm, Triple,
 };
 use program_model::{
-    BinaryOperator, ClassId, ElementType, Literal, MethodId, OperandType, Primitive, UnaryOperator,
-    VType,
+    BinaryOperator, ClassId, ElementType, Literal, MethodId, OperandType, Primitive, StmtId,
+    UnaryOperator, VType,
 };
 use rlc_base::Pos;
 use std::alloc::Global;
@@ -117,8 +117,8 @@ fn write_place(out: &mut String, place: Place) -> Result<(), Fail> {
 
 fn write_scope(out: &mut String, scope: Scope) -> Result<(), Fail> {
     match scope {
-        Scope::Nothing => {}
-        Scope::Variables(first, last) => write!(out, "x{first}..x{last}")?,
+        Scope::Declared(StmtId(s)) => write!(out, "of s{s}")?,
+        Scope::Variable(x) => write!(out, "x{x}")?,
         Scope::Temp(d) => write!(out, "t{d}")?,
         Scope::TempsAbove(d) => write!(out, "above t{d}")?,
     }
@@ -227,6 +227,13 @@ fn write_settle(out: &mut String, b: u32, completion: Completion) -> Result<(), 
     Ok(())
 }
 
+fn write_enter(out: &mut String, clause: ClauseId, x: u32, b: u32, d: u32) -> Result<(), Fail> {
+    let ClauseId { statement, index } = clause;
+    let StmtId(s) = statement;
+    write!(out, "Enter(s{s}:{index},x{x},{b},{d})")?;
+    Ok(())
+}
+
 fn write_op(out: &mut String, operator: Operator, d: u32, n: u32) -> Result<(), Fail> {
     write!(out, "Op(")?;
     write_operator(out, operator)?;
@@ -257,7 +264,7 @@ fn write_action(out: &mut String, action: Action) -> Result<(), Fail> {
         Action::Plain(x, value) => write_plain_action(out, x, value)?,
         Action::Drop(scope) => write_drop(out, scope)?,
         Action::Settle(b, c) => write_settle(out, b, c)?,
-        Action::Enter(x, b, d) => write!(out, "Enter(x{x},{b},{d})")?,
+        Action::Enter(clause, x, b, d) => write_enter(out, clause, x, b, d)?,
         Action::Test(d) => write!(out, "Test({d})")?,
         Action::Op(k, d, n) => write_op(out, k, d, n)?,
         Action::Raise(d, class) => write_raise(out, d, class)?,

@@ -97,12 +97,13 @@ pub static CLASSES: [(&str, &str, Option<u32>, &[u32]); 19] = [
 ];
 
 // The class, the name, the type, whether it is static, and whether `@Owning` stands on it.
-pub static FIELDS: [(u32, &str, VType, bool, bool); 5] = [
+pub static FIELDS: [(u32, &str, VType, bool, bool); 6] = [
     (16, "next", SOCK, false, false),
     (18, "first", SOCK, false, true),
     (18, "count", INT, false, false),
     (18, "second", SOCK, false, true),
     (18, "total", INT, true, false),
+    (17, "held", SOCK, false, true),
 ];
 
 // A method: `label` is its name, and for a constructor, which has none, the word new and its class.

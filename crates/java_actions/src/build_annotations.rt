@@ -11,9 +11,9 @@ use crate::primaries::begun;
 use java_syntax::{AnnoArgument, DeclarationProduction, Name};
 use java_values::{
     AfterIdentifier, AfterKey, Annotation, AnnotationArguments, AnnotationValue, Annotations,
-    Arguments, BuildFail, Lexeme, Tail, Value, pop_after_key, pop_annotation,
+    Arguments, BuildFail, Lexeme, Tail, Value, leave, pop_after_key, pop_annotation,
     pop_annotation_arguments, pop_annotation_value, pop_annotations, pop_call, pop_choice,
-    pop_name, pop_operations, pop_steps, pop_suffixes, pop_token, push, put,
+    pop_name, pop_operations, pop_place, pop_steps, pop_suffixes, pop_token, put, skip,
 };
 use std::alloc::{AllocError, Global};
 
@@ -89,8 +89,7 @@ fn some_annotations(alloc: Global, stack: &mut Vec<Value>) -> Result<(), BuildFa
     let first = pop_annotation(alloc, stack);
     let more = pop_annotations(alloc, stack);
     let all = with_annotation(first, more)?;
-    push(stack, Value::Annotations(all))?;
-    Ok(())
+    leave(stack, Value::Annotations(all))
 }
 
 /// No annotation.
@@ -103,8 +102,7 @@ fn no_annotations(alloc: Global, stack: &mut Vec<Value>) -> Result<(), BuildFail
         list: Vec::new(alloc),
         depth: 0,
     };
-    push(stack, Value::Annotations(none))?;
-    Ok(())
+    leave(stack, Value::Annotations(none))
 }
 
 /// `@`, a name and arguments.
@@ -113,12 +111,11 @@ fn annotated(alloc: Global, limit: u32, stack: &mut Vec<Value>) -> Result<(), Bu
     ensures made { IfOk result (λ _. build.annotated limit (values_of stack.old.items) ≡ Some (values_of stack.new.items)) }
     ensures too_deep { IfErr result (λ fail. nodes.IsTooDeep fail → build.annotated limit (values_of stack.old.items) ≡ None) }
 {
-    let at = pop_token(alloc, stack);
+    let pos = pop_place(stack);
     let name = pop_name(alloc, stack);
     let arguments = pop_annotation_arguments(alloc, stack);
-    let a = annotation(limit, name, arguments, at.pos)?;
-    push(stack, Value::Annotation(a))?;
-    Ok(())
+    let a = annotation(limit, name, arguments, pos)?;
+    leave(stack, Value::Annotation(a))
 }
 
 /// Arguments in parentheses.
@@ -127,11 +124,10 @@ fn some_annotation_arguments(alloc: Global, stack: &mut Vec<Value>) -> Result<()
     ensures made { IfOk result (λ _. Some (build.some_annotation_arguments (values_of stack.old.items)) ≡ Some (values_of stack.new.items)) }
     ensures too_deep { IfErr result (λ fail. nodes.IsTooDeep fail → Some (build.some_annotation_arguments (values_of stack.old.items)) ≡ None) }
 {
-    let _open = pop_token(alloc, stack);
+    skip(stack);
     let arguments = pop_annotation_arguments(alloc, stack);
-    let _close = pop_token(alloc, stack);
-    push(stack, Value::AnnotationArguments(arguments))?;
-    Ok(())
+    skip(stack);
+    leave(stack, Value::AnnotationArguments(arguments))
 }
 
 /// No arguments.
@@ -141,8 +137,7 @@ fn no_annotation_arguments(alloc: Global, stack: &mut Vec<Value>) -> Result<(), 
     ensures too_deep { IfErr result (λ fail. nodes.IsTooDeep fail → Some (build.no_annotation_arguments (values_of stack.old.items)) ≡ None) }
 {
     let none = no_pair(alloc);
-    push(stack, Value::AnnotationArguments(none))?;
-    Ok(())
+    leave(stack, Value::AnnotationArguments(none))
 }
 
 /// An identifier and what stands behind it.
@@ -154,8 +149,7 @@ fn named_values(alloc: Global, limit: u32, stack: &mut Vec<Value>) -> Result<(),
     let name = pop_token(alloc, stack);
     let more = pop_after_key(alloc, stack);
     let arguments = named_by(alloc, limit, name, more)?;
-    push(stack, Value::AnnotationArguments(arguments))?;
-    Ok(())
+    leave(stack, Value::AnnotationArguments(arguments))
 }
 
 /// A value alone.
@@ -166,8 +160,7 @@ fn one_value(alloc: Global, stack: &mut Vec<Value>) -> Result<(), BuildFail>
 {
     let value = pop_annotation_value(stack);
     let arguments = with_pair(None, value, no_pair(alloc))?;
-    push(stack, Value::AnnotationArguments(arguments))?;
-    Ok(())
+    leave(stack, Value::AnnotationArguments(arguments))
 }
 
 /// `=`, a value and more pairs.
@@ -176,11 +169,10 @@ fn pair(alloc: Global, stack: &mut Vec<Value>) -> Result<(), BuildFail>
     ensures made { IfOk result (λ _. Some (build.pair (values_of stack.old.items)) ≡ Some (values_of stack.new.items)) }
     ensures too_deep { IfErr result (λ fail. nodes.IsTooDeep fail → Some (build.pair (values_of stack.old.items)) ≡ None) }
 {
-    let _assign = pop_token(alloc, stack);
+    skip(stack);
     let value = pop_annotation_value(stack);
     let more = pop_annotation_arguments(alloc, stack);
-    push(stack, Value::AfterKey(AfterKey::Pairs { value, more }))?;
-    Ok(())
+    leave(stack, Value::AfterKey(AfterKey::Pairs { value, more }))
 }
 
 /// The rest of an expression that begins with an identifier.
@@ -204,8 +196,7 @@ fn name_value(alloc: Global, stack: &mut Vec<Value>) -> Result<(), BuildFail>
         suffixes,
         tail,
     };
-    push(stack, Value::AfterKey(AfterKey::Expression(more)))?;
-    Ok(())
+    leave(stack, Value::AfterKey(AfterKey::Expression(more)))
 }
 
 /// A comma, a key, `=`, its value and more pairs.
@@ -214,15 +205,14 @@ fn and_pair(alloc: Global, stack: &mut Vec<Value>) -> Result<(), BuildFail>
     ensures made { IfOk result (λ _. Some (build.and_pair (values_of stack.old.items)) ≡ Some (values_of stack.new.items)) }
     ensures too_deep { IfErr result (λ fail. nodes.IsTooDeep fail → Some (build.and_pair (values_of stack.old.items)) ≡ None) }
 {
-    let _comma = pop_token(alloc, stack);
+    skip(stack);
     let name = pop_token(alloc, stack);
-    let _assign = pop_token(alloc, stack);
+    skip(stack);
     let value = pop_annotation_value(stack);
     let more = pop_annotation_arguments(alloc, stack);
     let key = Some(name_at(name));
     let arguments = with_pair(key, value, more)?;
-    push(stack, Value::AnnotationArguments(arguments))?;
-    Ok(())
+    leave(stack, Value::AnnotationArguments(arguments))
 }
 
 /// Puts what a production of annotations leaves on the stack, in place of the values of its items, and of one of the families behind. Another

@@ -4,13 +4,13 @@ ghost use Rattle.java_values.specs.Nodes as nodes;
 ghost use Rattle.java_actions.specs.Evaluate as evaluation;
 ghost use Rattle.java_actions.specs.Build as build;
 
-use crate::names::name_at;
+use crate::names::with_identifier;
 use crate::primaries::{begun, behind_dot};
 use java_syntax::ExpressionProduction;
 use java_values::{
     AfterBracket, AfterIdentifier, AfterName, Arguments, BuildFail, Inside, Lexeme, Suffix, Value,
-    pop_after_bracket, pop_after_name, pop_arguments, pop_expression, pop_suffixes, pop_tail,
-    pop_token, push, put,
+    leave, pop_after_bracket, pop_after_name, pop_arguments, pop_expression, pop_place,
+    pop_suffixes, pop_tail, pop_token, put, skip,
 };
 use rlc_base::Pos;
 use std::alloc::{AllocError, Global};
@@ -26,16 +26,8 @@ fn inside_named(
     ensures too_deep { IfErr result (λ fail. nodes.IsTooDeep fail → build.inside_named limit (lexeme_in token) (after_name_of more) ≡ None) }
 {
     match more {
-        AfterName::Bare(names) => {
-            let mut names = names;
-            put(&mut names, name_at(token))?;
-            Ok(Inside::Name(names))
-        }
-        AfterName::ArrayType(names) => {
-            let mut names = names;
-            put(&mut names, name_at(token))?;
-            Ok(Inside::ArrayType(names))
-        }
+        AfterName::Bare(names) => Ok(Inside::Name(with_identifier(token, names)?)),
+        AfterName::ArrayType(names) => Ok(Inside::ArrayType(with_identifier(token, names)?)),
         AfterName::More(more) => {
             let e = begun(alloc, limit, token.text, token.pos, more)?;
             Ok(Inside::Expression(e))
@@ -48,16 +40,8 @@ fn after_dot(token: Lexeme, more: AfterName) -> Result<AfterName, AllocError>
     ensures { IfOk result (λ after. after_name_of after ≡ build.after_dot (lexeme_in token) (after_name_of more)) }
 {
     match more {
-        AfterName::Bare(names) => {
-            let mut names = names;
-            put(&mut names, name_at(token))?;
-            Ok(AfterName::Bare(names))
-        }
-        AfterName::ArrayType(names) => {
-            let mut names = names;
-            put(&mut names, name_at(token))?;
-            Ok(AfterName::ArrayType(names))
-        }
+        AfterName::Bare(names) => Ok(AfterName::Bare(with_identifier(token, names)?)),
+        AfterName::ArrayType(names) => Ok(AfterName::ArrayType(with_identifier(token, names)?)),
         AfterName::More(more) => Ok(AfterName::More(behind_dot(token.text, token.pos, more)?)),
     }
 }
@@ -93,20 +77,18 @@ fn inside_name(alloc: Global, limit: u32, stack: &mut Vec<Value>) -> Result<(), 
     let name = pop_token(alloc, stack);
     let more = pop_after_name(alloc, stack);
     let inside = inside_named(alloc, limit, name, more)?;
-    push(stack, Value::Inside(inside))?;
-    Ok(())
+    leave(stack, Value::Inside(inside))
 }
 
 /// An expression and `)`.
 #[tactic(auto, unfolding(crate::specs::Build::inside_other))]
-fn inside_other(alloc: Global, stack: &mut Vec<Value>) -> Result<(), BuildFail>
+fn inside_other(stack: &mut Vec<Value>) -> Result<(), BuildFail>
     ensures made { IfOk result (λ _. Some (build.inside_other (values_of stack.old.items)) ≡ Some (values_of stack.new.items)) }
     ensures too_deep { IfErr result (λ fail. nodes.IsTooDeep fail → Some (build.inside_other (values_of stack.old.items)) ≡ None) }
 {
     let e = pop_expression(stack);
-    let _paren = pop_token(alloc, stack);
-    push(stack, Value::Inside(Inside::Expression(e)))?;
-    Ok(())
+    skip(stack);
+    leave(stack, Value::Inside(Inside::Expression(e)))
 }
 
 /// A dot, an identifier and what stands behind it.
@@ -115,12 +97,11 @@ fn inside_dot(alloc: Global, stack: &mut Vec<Value>) -> Result<(), BuildFail>
     ensures made { IfOk result (λ _. Some (build.inside_dot (values_of stack.old.items)) ≡ Some (values_of stack.new.items)) }
     ensures too_deep { IfErr result (λ fail. nodes.IsTooDeep fail → Some (build.inside_dot (values_of stack.old.items)) ≡ None) }
 {
-    let _dot = pop_token(alloc, stack);
+    skip(stack);
     let name = pop_token(alloc, stack);
     let more = pop_after_name(alloc, stack);
     let after = after_dot(name, more)?;
-    push(stack, Value::AfterName(after))?;
-    Ok(())
+    leave(stack, Value::AfterName(after))
 }
 
 /// The `)` behind a name.
@@ -129,9 +110,8 @@ fn bare_name(alloc: Global, stack: &mut Vec<Value>) -> Result<(), BuildFail>
     ensures made { IfOk result (λ _. Some (build.bare_name (values_of stack.old.items)) ≡ Some (values_of stack.new.items)) }
     ensures too_deep { IfErr result (λ fail. nodes.IsTooDeep fail → Some (build.bare_name (values_of stack.old.items)) ≡ None) }
 {
-    let _paren = pop_token(alloc, stack);
-    push(stack, Value::AfterName(AfterName::Bare(Vec::new(alloc))))?;
-    Ok(())
+    skip(stack);
+    leave(stack, Value::AfterName(AfterName::Bare(Vec::new(alloc))))
 }
 
 /// `[` and what stands behind it.
@@ -140,11 +120,10 @@ fn inside_bracket(alloc: Global, stack: &mut Vec<Value>) -> Result<(), BuildFail
     ensures made { IfOk result (λ _. Some (build.inside_bracket (values_of stack.old.items)) ≡ Some (values_of stack.new.items)) }
     ensures too_deep { IfErr result (λ fail. nodes.IsTooDeep fail → Some (build.inside_bracket (values_of stack.old.items)) ≡ None) }
 {
-    let open = pop_token(alloc, stack);
+    let pos = pop_place(stack);
     let more = pop_after_bracket(stack);
-    let after = after_open_bracket(alloc, open.pos, more)?;
-    push(stack, Value::AfterName(after))?;
-    Ok(())
+    let after = after_open_bracket(alloc, pos, more)?;
+    leave(stack, Value::AfterName(after))
 }
 
 /// Arguments, suffixes, a tail and `)`.
@@ -156,14 +135,13 @@ fn inside_call(alloc: Global, stack: &mut Vec<Value>) -> Result<(), BuildFail>
     let arguments = pop_arguments(alloc, stack);
     let suffixes = pop_suffixes(alloc, stack);
     let tail = pop_tail(alloc, stack);
-    let _paren = pop_token(alloc, stack);
+    skip(stack);
     let more = AfterIdentifier {
         call: Some(arguments),
         suffixes,
         tail,
     };
-    push(stack, Value::AfterName(AfterName::More(more)))?;
-    Ok(())
+    leave(stack, Value::AfterName(AfterName::More(more)))
 }
 
 /// A tail and `)`.
@@ -173,27 +151,25 @@ fn inside_tail(alloc: Global, stack: &mut Vec<Value>) -> Result<(), BuildFail>
     ensures too_deep { IfErr result (λ fail. nodes.IsTooDeep fail → Some (build.inside_tail (values_of stack.old.items)) ≡ None) }
 {
     let tail = pop_tail(alloc, stack);
-    let _paren = pop_token(alloc, stack);
+    skip(stack);
     let suffixes = Vec::new(alloc);
     let more = AfterIdentifier {
         call: None,
         suffixes,
         tail,
     };
-    push(stack, Value::AfterName(AfterName::More(more)))?;
-    Ok(())
+    leave(stack, Value::AfterName(AfterName::More(more)))
 }
 
 /// `]` and `)`.
 #[tactic(auto, unfolding(crate::specs::Build::array_type_inside))]
-fn array_type_inside(alloc: Global, stack: &mut Vec<Value>) -> Result<(), BuildFail>
+fn array_type_inside(stack: &mut Vec<Value>) -> Result<(), BuildFail>
     ensures made { IfOk result (λ _. Some (build.array_type_inside (values_of stack.old.items)) ≡ Some (values_of stack.new.items)) }
     ensures too_deep { IfErr result (λ fail. nodes.IsTooDeep fail → Some (build.array_type_inside (values_of stack.old.items)) ≡ None) }
 {
-    let _close = pop_token(alloc, stack);
-    let _paren = pop_token(alloc, stack);
-    push(stack, Value::AfterBracket(AfterBracket::ArrayType))?;
-    Ok(())
+    skip(stack);
+    skip(stack);
+    leave(stack, Value::AfterBracket(AfterBracket::ArrayType))
 }
 
 /// An index, `]`, suffixes, a tail and `)`.
@@ -203,19 +179,18 @@ fn inside_index(alloc: Global, stack: &mut Vec<Value>) -> Result<(), BuildFail>
     ensures too_deep { IfErr result (λ fail. nodes.IsTooDeep fail → Some (build.inside_index (values_of stack.old.items)) ≡ None) }
 {
     let index = pop_expression(stack);
-    let _close = pop_token(alloc, stack);
+    skip(stack);
     let suffixes = pop_suffixes(alloc, stack);
     let tail = pop_tail(alloc, stack);
-    let _paren = pop_token(alloc, stack);
-    push(
+    skip(stack);
+    leave(
         stack,
         Value::AfterBracket(AfterBracket::Index {
             index,
             suffixes,
             tail,
         }),
-    )?;
-    Ok(())
+    )
 }
 
 /// Puts what a production of what stands in parentheses leaves on the stack, in place of the values of its items. Another
@@ -235,13 +210,13 @@ pub fn build_inside(
 {
     match production {
         ExpressionProduction::InsideName => inside_name(alloc, limit, stack),
-        ExpressionProduction::InsideOther => inside_other(alloc, stack),
+        ExpressionProduction::InsideOther => inside_other(stack),
         ExpressionProduction::InsideDot => inside_dot(alloc, stack),
         ExpressionProduction::BareName => bare_name(alloc, stack),
         ExpressionProduction::InsideBracket => inside_bracket(alloc, stack),
         ExpressionProduction::InsideCall => inside_call(alloc, stack),
         ExpressionProduction::InsideTail => inside_tail(alloc, stack),
-        ExpressionProduction::ArrayTypeInside => array_type_inside(alloc, stack),
+        ExpressionProduction::ArrayTypeInside => array_type_inside(stack),
         ExpressionProduction::InsideIndex => inside_index(alloc, stack),
         _ => Ok(()),
     }

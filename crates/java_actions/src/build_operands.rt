@@ -8,9 +8,9 @@ use crate::build_primaries::build_primary;
 use crate::primaries::{begun, finished, stepped, tailed};
 use java_syntax::ExpressionProduction;
 use java_values::{
-    AfterIdentifier, BuildFail, Opening, Subexpression, Tail, Value, cast, pop_call, pop_choice,
-    pop_expression, pop_opening, pop_operations, pop_steps, pop_suffixes, pop_tail, pop_token,
-    prefix, prefix_operator, prefix_step, push, step_operator,
+    AfterIdentifier, BuildFail, Opening, Subexpression, Tail, Value, cast, leave, pop_call,
+    pop_choice, pop_expression, pop_opening, pop_operations, pop_place, pop_steps, pop_suffixes,
+    pop_tail, pop_token, prefix, prefix_operator, prefix_step, step_operator,
 };
 use rlc_base::Pos;
 use std::alloc::Global;
@@ -55,8 +55,7 @@ fn named(alloc: Global, limit: u32, stack: &mut Vec<Value>) -> Result<(), BuildF
         tail,
     };
     let e = begun(alloc, limit, name.text, name.pos, more)?;
-    push(stack, Value::Expression(e))?;
-    Ok(())
+    leave(stack, Value::Expression(e))
 }
 
 /// An operand that begins with an identifier.
@@ -80,8 +79,7 @@ fn named_unary(alloc: Global, limit: u32, stack: &mut Vec<Value>) -> Result<(), 
         tail,
     };
     let e = begun(alloc, limit, name.text, name.pos, more)?;
-    push(stack, Value::Expression(e))?;
-    Ok(())
+    leave(stack, Value::Expression(e))
 }
 
 /// An operand, operations and a choice.
@@ -94,8 +92,7 @@ fn operated(alloc: Global, limit: u32, stack: &mut Vec<Value>) -> Result<(), Bui
     let operations = pop_operations(alloc, stack);
     let choice = pop_choice(stack);
     let e = finished(alloc, limit, operand, operations, choice)?;
-    push(stack, Value::Expression(e))?;
-    Ok(())
+    leave(stack, Value::Expression(e))
 }
 
 /// A primary and its tail.
@@ -107,8 +104,7 @@ fn primary(alloc: Global, limit: u32, stack: &mut Vec<Value>) -> Result<(), Buil
     let target = pop_expression(stack);
     let tail = pop_tail(alloc, stack);
     let e = tailed(alloc, limit, target, tail)?;
-    push(stack, Value::Expression(e))?;
-    Ok(())
+    leave(stack, Value::Expression(e))
 }
 
 /// A primary and `++` or `--` behind it.
@@ -120,8 +116,7 @@ fn primary_unary(alloc: Global, limit: u32, stack: &mut Vec<Value>) -> Result<()
     let target = pop_expression(stack);
     let steps = pop_steps(alloc, stack);
     let e = stepped(alloc, limit, target, steps)?;
-    push(stack, Value::Expression(e))?;
-    Ok(())
+    leave(stack, Value::Expression(e))
 }
 
 /// A sign, `!` or `~` and its operand.
@@ -134,8 +129,7 @@ fn prefixed(alloc: Global, limit: u32, stack: &mut Vec<Value>) -> Result<(), Bui
     let operand = pop_expression(stack);
     let operator = prefix_operator(sign.text.bytes());
     let e = prefix(alloc, limit, operator, operand, sign.pos)?;
-    push(stack, Value::Expression(e))?;
-    Ok(())
+    leave(stack, Value::Expression(e))
 }
 
 /// `++` or `--` and its operand.
@@ -148,8 +142,7 @@ fn step_prefixed(alloc: Global, limit: u32, stack: &mut Vec<Value>) -> Result<()
     let operand = pop_expression(stack);
     let operator = step_operator(step.text.bytes());
     let e = prefix_step(alloc, limit, operator, operand, step.pos)?;
-    push(stack, Value::Expression(e))?;
-    Ok(())
+    leave(stack, Value::Expression(e))
 }
 
 /// What begins with `(`.
@@ -158,11 +151,10 @@ fn opened(alloc: Global, limit: u32, stack: &mut Vec<Value>) -> Result<(), Build
     ensures made { IfOk result (λ _. build.opened limit (values_of stack.old.items) ≡ Some (values_of stack.new.items)) }
     ensures too_deep { IfErr result (λ fail. nodes.IsTooDeep fail → build.opened limit (values_of stack.old.items) ≡ None) }
 {
-    let paren = pop_token(alloc, stack);
+    let pos = pop_place(stack);
     let opening = pop_opening(stack);
-    let e = opened_at(alloc, limit, paren.pos, opening)?;
-    push(stack, Value::Expression(e))?;
-    Ok(())
+    let e = opened_at(alloc, limit, pos, opening)?;
+    leave(stack, Value::Expression(e))
 }
 
 /// Puts what a production of expressions and operands leaves on the stack, in place of the values of its items, and of one of the families behind. Another

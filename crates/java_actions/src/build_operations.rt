@@ -8,8 +8,8 @@ use crate::build_parentheses::build_parentheses;
 use crate::names::step_at;
 use java_syntax::ExpressionProduction;
 use java_values::{
-    BuildFail, Lexeme, Operation, Subexpression, Value, infix_operator, pop_expression,
-    pop_operation, pop_operations, pop_steps, pop_token, pop_type, push, put,
+    BuildFail, Lexeme, Operation, Subexpression, Value, infix_operator, leave, pop_expression,
+    pop_operation, pop_operations, pop_place, pop_steps, pop_token, pop_type, put,
 };
 use std::alloc::Global;
 
@@ -32,8 +32,7 @@ fn operation(alloc: Global, stack: &mut Vec<Value>) -> Result<(), BuildFail>
 {
     let word = pop_token(alloc, stack);
     let right = pop_expression(stack);
-    push(stack, Value::Operation(binary_at(word, right)))?;
-    Ok(())
+    leave(stack, Value::Operation(binary_at(word, right)))
 }
 
 /// An operation and more.
@@ -46,8 +45,7 @@ fn and_tight(alloc: Global, stack: &mut Vec<Value>) -> Result<(), BuildFail>
     let more = pop_operations(alloc, stack);
     let mut operations = more;
     put(&mut operations, first)?;
-    push(stack, Value::Operations(operations))?;
-    Ok(())
+    leave(stack, Value::Operations(operations))
 }
 
 /// An operator, its right operand and more.
@@ -61,8 +59,7 @@ fn loose_binary(alloc: Global, stack: &mut Vec<Value>) -> Result<(), BuildFail>
     let more = pop_operations(alloc, stack);
     let mut operations = more;
     put(&mut operations, binary_at(word, right))?;
-    push(stack, Value::Operations(operations))?;
-    Ok(())
+    leave(stack, Value::Operations(operations))
 }
 
 /// `instanceof`, a type and more.
@@ -71,16 +68,12 @@ fn instance_test(alloc: Global, stack: &mut Vec<Value>) -> Result<(), BuildFail>
     ensures made { IfOk result (λ _. Some (build.instance_test (values_of stack.old.items)) ≡ Some (values_of stack.new.items)) }
     ensures too_deep { IfErr result (λ fail. nodes.IsTooDeep fail → Some (build.instance_test (values_of stack.old.items)) ≡ None) }
 {
-    let word = pop_token(alloc, stack);
+    let pos = pop_place(stack);
     let typ = pop_type(stack);
     let more = pop_operations(alloc, stack);
     let mut operations = more;
-    put(
-        &mut operations,
-        Operation::InstanceOf { typ, pos: word.pos },
-    )?;
-    push(stack, Value::Operations(operations))?;
-    Ok(())
+    put(&mut operations, Operation::InstanceOf { typ, pos })?;
+    leave(stack, Value::Operations(operations))
 }
 
 /// No operation.
@@ -89,8 +82,7 @@ fn no_operation(alloc: Global, stack: &mut Vec<Value>) -> Result<(), BuildFail>
     ensures made { IfOk result (λ _. Some (build.no_operation (values_of stack.old.items)) ≡ Some (values_of stack.new.items)) }
     ensures too_deep { IfErr result (λ fail. nodes.IsTooDeep fail → Some (build.no_operation (values_of stack.old.items)) ≡ None) }
 {
-    push(stack, Value::Operations(Vec::new(alloc)))?;
-    Ok(())
+    leave(stack, Value::Operations(Vec::new(alloc)))
 }
 
 /// `++` or `--` and more.
@@ -103,8 +95,7 @@ fn and_step(alloc: Global, stack: &mut Vec<Value>) -> Result<(), BuildFail>
     let more = pop_steps(alloc, stack);
     let mut steps = more;
     put(&mut steps, step_at(word))?;
-    push(stack, Value::Steps(steps))?;
-    Ok(())
+    leave(stack, Value::Steps(steps))
 }
 
 /// No `++` or `--`.
@@ -113,8 +104,7 @@ fn no_step(alloc: Global, stack: &mut Vec<Value>) -> Result<(), BuildFail>
     ensures made { IfOk result (λ _. Some (build.no_step (values_of stack.old.items)) ≡ Some (values_of stack.new.items)) }
     ensures too_deep { IfErr result (λ fail. nodes.IsTooDeep fail → Some (build.no_step (values_of stack.old.items)) ≡ None) }
 {
-    push(stack, Value::Steps(Vec::new(alloc)))?;
-    Ok(())
+    leave(stack, Value::Steps(Vec::new(alloc)))
 }
 
 /// Puts what a production of operations leaves on the stack, in place of the values of its items, and of one of the families behind. Another

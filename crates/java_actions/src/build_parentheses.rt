@@ -1,5 +1,5 @@
-ghost use Rattle.std.specs.Prelude.{◌≡◌, Some, None, IfOk, IfErr};
-ghost use Rattle.java_values.specs.Values.{values_of, subexpression_of, operations_of, choice_of, inside_of, after_inside_of, opening_of};
+ghost use Rattle.std.specs.Prelude.{◌≡◌, reverse, Some, None, IfOk, IfErr};
+ghost use Rattle.java_values.specs.Values.{values_of, subexpression_of, operations_of, choice_of, inside_of, after_inside_of, opening_of, CastOpening};
 ghost use Rattle.java_values.specs.Nodes as nodes;
 ghost use Rattle.java_actions.specs.Evaluate as evaluation;
 ghost use Rattle.java_actions.specs.Build as build;
@@ -7,11 +7,12 @@ ghost use Rattle.java_actions.specs.Build as build;
 use crate::build_insides::build_inside;
 use crate::names::{name_expression, primitive_at, type_of};
 use crate::primaries::completed;
-use java_syntax::ExpressionProduction;
+use java_syntax::{ExpressionProduction, Name};
 use java_values::{
     AfterInside, Alternatives, BuildFail, Inside, Opening, Operation, PrimitiveCast, Subexpression,
-    Tail, Value, cast, parenthesized, pop_after_inside, pop_choice, pop_expression, pop_inside,
-    pop_operations, pop_primitive_cast, pop_steps, pop_suffixes, pop_tail, pop_token, push,
+    Tail, Value, cast, leave, parenthesized, pop_after_inside, pop_choice, pop_expression,
+    pop_inside, pop_operations, pop_primitive_cast, pop_steps, pop_suffixes, pop_tail, pop_token,
+    skip,
 };
 use rlc_base::NoMemory;
 use std::alloc::Global;
@@ -28,6 +29,26 @@ fn inside_expression(alloc: Global, limit: u32, inside: Inside) -> Result<Subexp
     }
 }
 
+/// A cast to the type of this name, or to an array of it.
+fn cast_to(
+    alloc: Global,
+    names: Vec<Name>,
+    is_array: bool,
+    operand: Subexpression,
+    operations: Vec<Operation>,
+    choice: Option<Alternatives>,
+) -> Result<Opening, NoMemory>
+    ensures { IfOk result (λ o. opening_of o ≡ CastOpening (build.type_of (reverse names.items) is_array) (subexpression_of operand) (operations_of operations.items) (choice_of choice)) }
+{
+    let typ = type_of(alloc, names, is_array)?;
+    Ok(Opening::Cast {
+        typ,
+        operand,
+        operations,
+        choice,
+    })
+}
+
 #[tactic(auto, unfolding(crate::specs::Build::cast_of))]
 fn cast_of(
     alloc: Global,
@@ -39,24 +60,8 @@ fn cast_of(
     ensures { IfOk result (λ o. opening_of o ≡ build.cast_of (inside_of inside) (subexpression_of operand) (operations_of operations.items) (choice_of choice)) }
 {
     match inside {
-        Inside::Name(names) => {
-            let typ = type_of(alloc, names, false)?;
-            Ok(Opening::Cast {
-                typ,
-                operand,
-                operations,
-                choice,
-            })
-        }
-        Inside::ArrayType(names) => {
-            let typ = type_of(alloc, names, true)?;
-            Ok(Opening::Cast {
-                typ,
-                operand,
-                operations,
-                choice,
-            })
-        }
+        Inside::Name(names) => cast_to(alloc, names, false, operand, operations, choice),
+        Inside::ArrayType(names) => cast_to(alloc, names, true, operand, operations, choice),
         Inside::Expression(e) => Ok(Opening::Whole(e)),
     }
 }
@@ -95,8 +100,7 @@ fn inside_opening(alloc: Global, limit: u32, stack: &mut Vec<Value>) -> Result<(
     let inside = pop_inside(alloc, stack);
     let more = pop_after_inside(alloc, stack);
     let opening = enclosed(alloc, limit, inside, more)?;
-    push(stack, Value::Opening(opening))?;
-    Ok(())
+    leave(stack, Value::Opening(opening))
 }
 
 /// A primitive type, the rest of a cast, operations and a choice.
@@ -111,7 +115,7 @@ fn primitive_cast_expression(alloc: Global, stack: &mut Vec<Value>) -> Result<()
     let choice = pop_choice(stack);
     let PrimitiveCast { is_array, operand } = cast;
     let typ = primitive_at(word, is_array);
-    push(
+    leave(
         stack,
         Value::Opening(Opening::Cast {
             typ,
@@ -119,8 +123,7 @@ fn primitive_cast_expression(alloc: Global, stack: &mut Vec<Value>) -> Result<()
             operations,
             choice,
         }),
-    )?;
-    Ok(())
+    )
 }
 
 /// A primitive type and the rest of a cast.
@@ -134,7 +137,7 @@ fn primitive_cast_unary(alloc: Global, stack: &mut Vec<Value>) -> Result<(), Bui
     let PrimitiveCast { is_array, operand } = cast;
     let typ = primitive_at(word, is_array);
     let operations = Vec::new(alloc);
-    push(
+    leave(
         stack,
         Value::Opening(Opening::Cast {
             typ,
@@ -142,8 +145,7 @@ fn primitive_cast_unary(alloc: Global, stack: &mut Vec<Value>) -> Result<(), Bui
             operations,
             choice: None,
         }),
-    )?;
-    Ok(())
+    )
 }
 
 /// A primitive type, brackets, `)` and the operand.
@@ -153,13 +155,13 @@ fn primitive_array_cast(alloc: Global, stack: &mut Vec<Value>) -> Result<(), Bui
     ensures too_deep { IfErr result (λ fail. nodes.IsTooDeep fail → Some (build.primitive_array_cast (values_of stack.old.items)) ≡ None) }
 {
     let word = pop_token(alloc, stack);
-    let _open = pop_token(alloc, stack);
-    let _close = pop_token(alloc, stack);
-    let _paren = pop_token(alloc, stack);
+    skip(stack);
+    skip(stack);
+    skip(stack);
     let operand = pop_expression(stack);
     let typ = primitive_at(word, true);
     let operations = Vec::new(alloc);
-    push(
+    leave(
         stack,
         Value::Opening(Opening::Cast {
             typ,
@@ -167,46 +169,43 @@ fn primitive_array_cast(alloc: Global, stack: &mut Vec<Value>) -> Result<(), Bui
             operations,
             choice: None,
         }),
-    )?;
-    Ok(())
+    )
 }
 
 /// `)` and the operand.
 #[tactic(auto, unfolding(crate::specs::Build::value_cast))]
-fn value_cast(alloc: Global, stack: &mut Vec<Value>) -> Result<(), BuildFail>
+fn value_cast(stack: &mut Vec<Value>) -> Result<(), BuildFail>
     ensures made { IfOk result (λ _. Some (build.value_cast (values_of stack.old.items)) ≡ Some (values_of stack.new.items)) }
     ensures too_deep { IfErr result (λ fail. nodes.IsTooDeep fail → Some (build.value_cast (values_of stack.old.items)) ≡ None) }
 {
-    let _paren = pop_token(alloc, stack);
+    skip(stack);
     let operand = pop_expression(stack);
-    push(
+    leave(
         stack,
         Value::PrimitiveCast(PrimitiveCast {
             is_array: false,
             operand,
         }),
-    )?;
-    Ok(())
+    )
 }
 
 /// Brackets, `)` and the operand.
 #[tactic(auto, unfolding(crate::specs::Build::array_cast))]
-fn array_cast(alloc: Global, stack: &mut Vec<Value>) -> Result<(), BuildFail>
+fn array_cast(stack: &mut Vec<Value>) -> Result<(), BuildFail>
     ensures made { IfOk result (λ _. Some (build.array_cast (values_of stack.old.items)) ≡ Some (values_of stack.new.items)) }
     ensures too_deep { IfErr result (λ fail. nodes.IsTooDeep fail → Some (build.array_cast (values_of stack.old.items)) ≡ None) }
 {
-    let _open = pop_token(alloc, stack);
-    let _close = pop_token(alloc, stack);
-    let _paren = pop_token(alloc, stack);
+    skip(stack);
+    skip(stack);
+    skip(stack);
     let operand = pop_expression(stack);
-    push(
+    leave(
         stack,
         Value::PrimitiveCast(PrimitiveCast {
             is_array: true,
             operand,
         }),
-    )?;
-    Ok(())
+    )
 }
 
 /// A cast's operand, operations and a choice.
@@ -218,15 +217,14 @@ fn cast_expression(alloc: Global, stack: &mut Vec<Value>) -> Result<(), BuildFai
     let operand = pop_expression(stack);
     let operations = pop_operations(alloc, stack);
     let choice = pop_choice(stack);
-    push(
+    leave(
         stack,
         Value::AfterInside(AfterInside::Cast {
             operand,
             operations,
             choice,
         }),
-    )?;
-    Ok(())
+    )
 }
 
 /// Suffixes and a tail behind parentheses.
@@ -237,11 +235,10 @@ fn parentheses_expression(alloc: Global, stack: &mut Vec<Value>) -> Result<(), B
 {
     let suffixes = pop_suffixes(alloc, stack);
     let tail = pop_tail(alloc, stack);
-    push(
+    leave(
         stack,
         Value::AfterInside(AfterInside::Parentheses { suffixes, tail }),
-    )?;
-    Ok(())
+    )
 }
 
 /// A cast's operand.
@@ -252,15 +249,14 @@ fn cast_operand(alloc: Global, stack: &mut Vec<Value>) -> Result<(), BuildFail>
 {
     let operand = pop_expression(stack);
     let operations = Vec::new(alloc);
-    push(
+    leave(
         stack,
         Value::AfterInside(AfterInside::Cast {
             operand,
             operations,
             choice: None,
         }),
-    )?;
-    Ok(())
+    )
 }
 
 /// Suffixes and `++` or `--` behind parentheses.
@@ -276,11 +272,10 @@ fn parentheses_unary(alloc: Global, stack: &mut Vec<Value>) -> Result<(), BuildF
         operations: Vec::new(alloc),
         choice: None,
     };
-    push(
+    leave(
         stack,
         Value::AfterInside(AfterInside::Parentheses { suffixes, tail }),
-    )?;
-    Ok(())
+    )
 }
 
 /// Puts what a production of parentheses and casts leaves on the stack, in place of the values of its items, and of one of the families behind. Another
@@ -307,8 +302,8 @@ pub fn build_parentheses(
         ExpressionProduction::InsideUnary => inside_opening(alloc, limit, stack),
         ExpressionProduction::PrimitiveArrayCast => primitive_array_cast(alloc, stack),
         ExpressionProduction::InsideUnsigned => inside_opening(alloc, limit, stack),
-        ExpressionProduction::ValueCast => value_cast(alloc, stack),
-        ExpressionProduction::ArrayCast => array_cast(alloc, stack),
+        ExpressionProduction::ValueCast => value_cast(stack),
+        ExpressionProduction::ArrayCast => array_cast(stack),
         ExpressionProduction::CastOf => cast_operand(alloc, stack),
         ExpressionProduction::ParenthesesOf => parentheses_unary(alloc, stack),
         other => build_inside(alloc, limit, other, stack),

@@ -9,9 +9,9 @@ use crate::names::primitive_at;
 use crate::primaries::suffixed;
 use java_syntax::{ExpressionProduction, Name, Typ, TypeName};
 use java_values::{
-    Arguments, BuildFail, Creator, CreatorRest, Subexpression, Value, literal, new_array,
-    new_object, pop_arguments, pop_creator, pop_creator_rest, pop_expression, pop_name,
-    pop_suffixes, pop_token, push, super_call, this,
+    Arguments, BuildFail, Creator, CreatorRest, Subexpression, Value, leave, literal, new_array,
+    new_object, pop_arguments, pop_creator, pop_creator_rest, pop_expression, pop_name, pop_place,
+    pop_suffixes, pop_token, skip, super_call, this,
 };
 use rlc_base::Pos;
 use std::alloc::Global;
@@ -81,8 +81,7 @@ fn literal_primary(alloc: Global, limit: u32, stack: &mut Vec<Value>) -> Result<
     let suffixes = pop_suffixes(alloc, stack);
     let e = literal(limit, token.text, token.pos)?;
     let whole = suffixed(alloc, limit, e, suffixes)?;
-    push(stack, Value::Expression(whole))?;
-    Ok(())
+    leave(stack, Value::Expression(whole))
 }
 
 /// `this` and its suffixes.
@@ -91,12 +90,11 @@ fn this_primary(alloc: Global, limit: u32, stack: &mut Vec<Value>) -> Result<(),
     ensures made { IfOk result (λ _. build.this_primary limit (values_of stack.old.items) ≡ Some (values_of stack.new.items)) }
     ensures too_deep { IfErr result (λ fail. nodes.IsTooDeep fail → build.this_primary limit (values_of stack.old.items) ≡ None) }
 {
-    let token = pop_token(alloc, stack);
+    let pos = pop_place(stack);
     let suffixes = pop_suffixes(alloc, stack);
-    let e = this(limit, token.pos)?;
+    let e = this(limit, pos)?;
     let whole = suffixed(alloc, limit, e, suffixes)?;
-    push(stack, Value::Expression(whole))?;
-    Ok(())
+    leave(stack, Value::Expression(whole))
 }
 
 /// A call on `super` and its suffixes.
@@ -105,15 +103,14 @@ fn super_primary(alloc: Global, limit: u32, stack: &mut Vec<Value>) -> Result<()
     ensures made { IfOk result (λ _. build.super_primary limit (values_of stack.old.items) ≡ Some (values_of stack.new.items)) }
     ensures too_deep { IfErr result (λ fail. nodes.IsTooDeep fail → build.super_primary limit (values_of stack.old.items) ≡ None) }
 {
-    let _super = pop_token(alloc, stack);
-    let _dot = pop_token(alloc, stack);
+    skip(stack);
+    skip(stack);
     let name = pop_token(alloc, stack);
     let arguments = pop_arguments(alloc, stack);
     let suffixes = pop_suffixes(alloc, stack);
     let e = super_call(limit, name.text, arguments, name.pos)?;
     let whole = suffixed(alloc, limit, e, suffixes)?;
-    push(stack, Value::Expression(whole))?;
-    Ok(())
+    leave(stack, Value::Expression(whole))
 }
 
 /// `new` and what it creates.
@@ -122,11 +119,10 @@ fn created(alloc: Global, limit: u32, stack: &mut Vec<Value>) -> Result<(), Buil
     ensures made { IfOk result (λ _. build.created limit (values_of stack.old.items) ≡ Some (values_of stack.new.items)) }
     ensures too_deep { IfErr result (λ fail. nodes.IsTooDeep fail → build.created limit (values_of stack.old.items) ≡ None) }
 {
-    let word = pop_token(alloc, stack);
+    let pos = pop_place(stack);
     let creator = pop_creator(alloc, stack);
-    let e = created_at(alloc, limit, word.pos, creator)?;
-    push(stack, Value::Expression(e))?;
-    Ok(())
+    let e = created_at(alloc, limit, pos, creator)?;
+    leave(stack, Value::Expression(e))
 }
 
 /// A primitive type, a length in brackets and suffixes.
@@ -136,20 +132,19 @@ fn primitive_array(alloc: Global, stack: &mut Vec<Value>) -> Result<(), BuildFai
     ensures too_deep { IfErr result (λ fail. nodes.IsTooDeep fail → Some (build.primitive_array (values_of stack.old.items)) ≡ None) }
 {
     let word = pop_token(alloc, stack);
-    let _open = pop_token(alloc, stack);
+    skip(stack);
     let length = pop_expression(stack);
-    let _close = pop_token(alloc, stack);
+    skip(stack);
     let suffixes = pop_suffixes(alloc, stack);
     let element = primitive_at(word, false);
-    push(
+    leave(
         stack,
         Value::Creator(Creator::Array {
             element,
             length,
             suffixes,
         }),
-    )?;
-    Ok(())
+    )
 }
 
 /// A class's name and what stands behind it.
@@ -160,8 +155,7 @@ fn named_creator(alloc: Global, stack: &mut Vec<Value>) -> Result<(), BuildFail>
 {
     let name = pop_name(alloc, stack);
     let rest = pop_creator_rest(alloc, stack);
-    push(stack, Value::Creator(creator_named(name, rest)))?;
-    Ok(())
+    leave(stack, Value::Creator(creator_named(name, rest)))
 }
 
 /// Arguments and suffixes.
@@ -172,14 +166,13 @@ fn object_rest(alloc: Global, stack: &mut Vec<Value>) -> Result<(), BuildFail>
 {
     let arguments = pop_arguments(alloc, stack);
     let suffixes = pop_suffixes(alloc, stack);
-    push(
+    leave(
         stack,
         Value::CreatorRest(CreatorRest::Object {
             arguments,
             suffixes,
         }),
-    )?;
-    Ok(())
+    )
 }
 
 /// A length in brackets and suffixes.
@@ -188,15 +181,14 @@ fn array_rest(alloc: Global, stack: &mut Vec<Value>) -> Result<(), BuildFail>
     ensures made { IfOk result (λ _. Some (build.array_rest (values_of stack.old.items)) ≡ Some (values_of stack.new.items)) }
     ensures too_deep { IfErr result (λ fail. nodes.IsTooDeep fail → Some (build.array_rest (values_of stack.old.items)) ≡ None) }
 {
-    let _open = pop_token(alloc, stack);
+    skip(stack);
     let length = pop_expression(stack);
-    let _close = pop_token(alloc, stack);
+    skip(stack);
     let suffixes = pop_suffixes(alloc, stack);
-    push(
+    leave(
         stack,
         Value::CreatorRest(CreatorRest::Array { length, suffixes }),
-    )?;
-    Ok(())
+    )
 }
 
 /// Puts what a production of primaries leaves on the stack, in place of the values of its items, and of one of the families behind. Another

@@ -8,8 +8,8 @@ use crate::build_tails::build_tail;
 use crate::primaries::dotted;
 use java_syntax::ExpressionProduction;
 use java_values::{
-    Arguments, BuildFail, Subexpression, Suffix, Value, pop_arguments, pop_call, pop_expression,
-    pop_suffixes, pop_token, push, put,
+    Arguments, BuildFail, Subexpression, Suffix, Value, leave, pop_arguments, pop_call,
+    pop_expression, pop_place, pop_suffixes, pop_token, put, skip,
 };
 use std::alloc::{AllocError, Global};
 
@@ -31,14 +31,13 @@ fn field_suffix(alloc: Global, stack: &mut Vec<Value>) -> Result<(), BuildFail>
     ensures made { IfOk result (λ _. Some (build.field_suffix (values_of stack.old.items)) ≡ Some (values_of stack.new.items)) }
     ensures too_deep { IfErr result (λ fail. nodes.IsTooDeep fail → Some (build.field_suffix (values_of stack.old.items)) ≡ None) }
 {
-    let _dot = pop_token(alloc, stack);
+    skip(stack);
     let name = pop_token(alloc, stack);
     let call = pop_call(stack);
     let more = pop_suffixes(alloc, stack);
     let mut suffixes = more;
     put(&mut suffixes, dotted(name.text, name.pos, call))?;
-    push(stack, Value::Suffixes(suffixes))?;
-    Ok(())
+    leave(stack, Value::Suffixes(suffixes))
 }
 
 /// An index in brackets, and more.
@@ -47,20 +46,13 @@ fn index_suffix(alloc: Global, stack: &mut Vec<Value>) -> Result<(), BuildFail>
     ensures made { IfOk result (λ _. Some (build.index_suffix (values_of stack.old.items)) ≡ Some (values_of stack.new.items)) }
     ensures too_deep { IfErr result (λ fail. nodes.IsTooDeep fail → Some (build.index_suffix (values_of stack.old.items)) ≡ None) }
 {
-    let open = pop_token(alloc, stack);
+    let pos = pop_place(stack);
     let index = pop_expression(stack);
-    let _close = pop_token(alloc, stack);
+    skip(stack);
     let more = pop_suffixes(alloc, stack);
     let mut suffixes = more;
-    put(
-        &mut suffixes,
-        Suffix::Index {
-            index,
-            pos: open.pos,
-        },
-    )?;
-    push(stack, Value::Suffixes(suffixes))?;
-    Ok(())
+    put(&mut suffixes, Suffix::Index { index, pos })?;
+    leave(stack, Value::Suffixes(suffixes))
 }
 
 /// No suffix.
@@ -69,8 +61,7 @@ fn no_suffix(alloc: Global, stack: &mut Vec<Value>) -> Result<(), BuildFail>
     ensures made { IfOk result (λ _. Some (build.no_suffix (values_of stack.old.items)) ≡ Some (values_of stack.new.items)) }
     ensures too_deep { IfErr result (λ fail. nodes.IsTooDeep fail → Some (build.no_suffix (values_of stack.old.items)) ≡ None) }
 {
-    push(stack, Value::Suffixes(Vec::new(alloc)))?;
-    Ok(())
+    leave(stack, Value::Suffixes(Vec::new(alloc)))
 }
 
 /// Arguments behind a name.
@@ -80,8 +71,7 @@ fn some_call(alloc: Global, stack: &mut Vec<Value>) -> Result<(), BuildFail>
     ensures too_deep { IfErr result (λ fail. nodes.IsTooDeep fail → Some (build.some_call (values_of stack.old.items)) ≡ None) }
 {
     let arguments = pop_arguments(alloc, stack);
-    push(stack, Value::Call(Some(arguments)))?;
-    Ok(())
+    leave(stack, Value::Call(Some(arguments)))
 }
 
 /// No arguments behind a name.
@@ -90,8 +80,7 @@ fn no_call(stack: &mut Vec<Value>) -> Result<(), BuildFail>
     ensures made { IfOk result (λ _. Some (build.no_call (values_of stack.old.items)) ≡ Some (values_of stack.new.items)) }
     ensures too_deep { IfErr result (λ fail. nodes.IsTooDeep fail → Some (build.no_call (values_of stack.old.items)) ≡ None) }
 {
-    push(stack, Value::Call(None))?;
-    Ok(())
+    leave(stack, Value::Call(None))
 }
 
 /// Arguments in parentheses.
@@ -100,11 +89,10 @@ fn arguments(alloc: Global, stack: &mut Vec<Value>) -> Result<(), BuildFail>
     ensures made { IfOk result (λ _. Some (build.arguments (values_of stack.old.items)) ≡ Some (values_of stack.new.items)) }
     ensures too_deep { IfErr result (λ fail. nodes.IsTooDeep fail → Some (build.arguments (values_of stack.old.items)) ≡ None) }
 {
-    let _open = pop_token(alloc, stack);
+    skip(stack);
     let arguments = pop_arguments(alloc, stack);
-    let _close = pop_token(alloc, stack);
-    push(stack, Value::Arguments(arguments))?;
-    Ok(())
+    skip(stack);
+    leave(stack, Value::Arguments(arguments))
 }
 
 /// An argument and more.
@@ -116,8 +104,7 @@ fn some_arguments(alloc: Global, stack: &mut Vec<Value>) -> Result<(), BuildFail
     let e = pop_expression(stack);
     let more = pop_arguments(alloc, stack);
     let all = with_argument(e, more)?;
-    push(stack, Value::Arguments(all))?;
-    Ok(())
+    leave(stack, Value::Arguments(all))
 }
 
 /// No argument.
@@ -130,8 +117,7 @@ fn no_argument(alloc: Global, stack: &mut Vec<Value>) -> Result<(), BuildFail>
         list: Vec::new(alloc),
         depth: 0,
     };
-    push(stack, Value::Arguments(none))?;
-    Ok(())
+    leave(stack, Value::Arguments(none))
 }
 
 /// A comma, an argument and more.
@@ -140,12 +126,11 @@ fn and_argument(alloc: Global, stack: &mut Vec<Value>) -> Result<(), BuildFail>
     ensures made { IfOk result (λ _. Some (build.and_argument (values_of stack.old.items)) ≡ Some (values_of stack.new.items)) }
     ensures too_deep { IfErr result (λ fail. nodes.IsTooDeep fail → Some (build.and_argument (values_of stack.old.items)) ≡ None) }
 {
-    let _comma = pop_token(alloc, stack);
+    skip(stack);
     let e = pop_expression(stack);
     let more = pop_arguments(alloc, stack);
     let all = with_argument(e, more)?;
-    push(stack, Value::Arguments(all))?;
-    Ok(())
+    leave(stack, Value::Arguments(all))
 }
 
 /// Puts what a production of suffixes and arguments leaves on the stack, in place of the values of its items, and of one of the families behind. Another

@@ -8,27 +8,20 @@ use crate::build_operations::build_operation;
 use crate::names::step_at;
 use java_syntax::ExpressionProduction;
 use java_values::{
-    Alternatives, BuildFail, Tail, Value, compound_operator, pop_choice, pop_expression,
-    pop_operation, pop_operations, pop_steps, pop_token, push, put,
+    Alternatives, BuildFail, Tail, Value, compound_operator, leave, pop_choice, pop_expression,
+    pop_operation, pop_operations, pop_place, pop_steps, pop_token, put, skip,
 };
 use std::alloc::Global;
 
 /// `=` and what is assigned.
 #[tactic(auto, unfolding(crate::specs::Build::assign_tail))]
-fn assign_tail(alloc: Global, stack: &mut Vec<Value>) -> Result<(), BuildFail>
+fn assign_tail(stack: &mut Vec<Value>) -> Result<(), BuildFail>
     ensures made { IfOk result (λ _. Some (build.assign_tail (values_of stack.old.items)) ≡ Some (values_of stack.new.items)) }
     ensures too_deep { IfErr result (λ fail. nodes.IsTooDeep fail → Some (build.assign_tail (values_of stack.old.items)) ≡ None) }
 {
-    let word = pop_token(alloc, stack);
+    let pos = pop_place(stack);
     let right = pop_expression(stack);
-    push(
-        stack,
-        Value::Tail(Tail::Assign {
-            right,
-            pos: word.pos,
-        }),
-    )?;
-    Ok(())
+    leave(stack, Value::Tail(Tail::Assign { right, pos }))
 }
 
 /// An operator with `=` and its right side.
@@ -40,15 +33,14 @@ fn compound_tail(alloc: Global, stack: &mut Vec<Value>) -> Result<(), BuildFail>
     let word = pop_token(alloc, stack);
     let right = pop_expression(stack);
     let operator = compound_operator(word.text.bytes());
-    push(
+    leave(
         stack,
         Value::Tail(Tail::Compound {
             operator,
             right,
             pos: word.pos,
         }),
-    )?;
-    Ok(())
+    )
 }
 
 /// `++` or `--` and more.
@@ -58,20 +50,18 @@ fn steps_tail(alloc: Global, stack: &mut Vec<Value>) -> Result<(), BuildFail>
     ensures too_deep { IfErr result (λ fail. nodes.IsTooDeep fail → Some (build.steps_tail (values_of stack.old.items)) ≡ None) }
 {
     let word = pop_token(alloc, stack);
-    let more = pop_steps(alloc, stack);
+    let mut steps = pop_steps(alloc, stack);
+    put(&mut steps, step_at(word))?;
     let operations = pop_operations(alloc, stack);
     let choice = pop_choice(stack);
-    let mut steps = more;
-    put(&mut steps, step_at(word))?;
-    push(
+    leave(
         stack,
         Value::Tail(Tail::Operators {
             steps,
             operations,
             choice,
         }),
-    )?;
-    Ok(())
+    )
 }
 
 /// An operation and more.
@@ -81,20 +71,18 @@ fn tight_tail(alloc: Global, stack: &mut Vec<Value>) -> Result<(), BuildFail>
     ensures too_deep { IfErr result (λ fail. nodes.IsTooDeep fail → Some (build.tight_tail (values_of stack.old.items)) ≡ None) }
 {
     let first = pop_operation(stack);
-    let more = pop_operations(alloc, stack);
-    let choice = pop_choice(stack);
-    let mut operations = more;
+    let mut operations = pop_operations(alloc, stack);
     put(&mut operations, first)?;
+    let choice = pop_choice(stack);
     let steps = Vec::new(alloc);
-    push(
+    leave(
         stack,
         Value::Tail(Tail::Operators {
             steps,
             operations,
             choice,
         }),
-    )?;
-    Ok(())
+    )
 }
 
 /// Operations and a choice.
@@ -106,15 +94,14 @@ fn loose_tail(alloc: Global, stack: &mut Vec<Value>) -> Result<(), BuildFail>
     let operations = pop_operations(alloc, stack);
     let choice = pop_choice(stack);
     let steps = Vec::new(alloc);
-    push(
+    leave(
         stack,
         Value::Tail(Tail::Operators {
             steps,
             operations,
             choice,
         }),
-    )?;
-    Ok(())
+    )
 }
 
 /// The alternatives of a conditional.
@@ -126,15 +113,14 @@ fn choice_tail(alloc: Global, stack: &mut Vec<Value>) -> Result<(), BuildFail>
     let choice = pop_choice(stack);
     let steps = Vec::new(alloc);
     let operations = Vec::new(alloc);
-    push(
+    leave(
         stack,
         Value::Tail(Tail::Operators {
             steps,
             operations,
             choice,
         }),
-    )?;
-    Ok(())
+    )
 }
 
 /// No tail.
@@ -145,34 +131,32 @@ fn empty_tail(alloc: Global, stack: &mut Vec<Value>) -> Result<(), BuildFail>
 {
     let steps = Vec::new(alloc);
     let operations = Vec::new(alloc);
-    push(
+    leave(
         stack,
         Value::Tail(Tail::Operators {
             steps,
             operations,
             choice: None,
         }),
-    )?;
-    Ok(())
+    )
 }
 
 /// `?` and the alternatives.
 #[tactic(auto, unfolding(crate::specs::Build::conditional))]
-fn conditional(alloc: Global, stack: &mut Vec<Value>) -> Result<(), BuildFail>
+fn conditional(stack: &mut Vec<Value>) -> Result<(), BuildFail>
     ensures made { IfOk result (λ _. Some (build.conditional (values_of stack.old.items)) ≡ Some (values_of stack.new.items)) }
     ensures too_deep { IfErr result (λ fail. nodes.IsTooDeep fail → Some (build.conditional (values_of stack.old.items)) ≡ None) }
 {
-    let question = pop_token(alloc, stack);
+    let pos = pop_place(stack);
     let when_true = pop_expression(stack);
-    let _colon = pop_token(alloc, stack);
+    skip(stack);
     let when_false = pop_expression(stack);
     let choice = Alternatives {
         when_true,
         when_false,
-        pos: question.pos,
+        pos,
     };
-    push(stack, Value::Choice(Some(choice)))?;
-    Ok(())
+    leave(stack, Value::Choice(Some(choice)))
 }
 
 /// No alternatives.
@@ -181,8 +165,7 @@ fn no_choice(stack: &mut Vec<Value>) -> Result<(), BuildFail>
     ensures made { IfOk result (λ _. Some (build.no_choice (values_of stack.old.items)) ≡ Some (values_of stack.new.items)) }
     ensures too_deep { IfErr result (λ fail. nodes.IsTooDeep fail → Some (build.no_choice (values_of stack.old.items)) ≡ None) }
 {
-    push(stack, Value::Choice(None))?;
-    Ok(())
+    leave(stack, Value::Choice(None))
 }
 
 /// Puts what a production of tails leaves on the stack, in place of the values of its items, and of one of the families behind. Another
@@ -202,14 +185,14 @@ pub fn build_tail(
 {
     match production {
         ExpressionProduction::NoTail => empty_tail(alloc, stack),
-        ExpressionProduction::AssignTail => assign_tail(alloc, stack),
+        ExpressionProduction::AssignTail => assign_tail(stack),
         ExpressionProduction::CompoundTail => compound_tail(alloc, stack),
         ExpressionProduction::StepsTail => steps_tail(alloc, stack),
         ExpressionProduction::TightTail => tight_tail(alloc, stack),
         ExpressionProduction::LooseTail => loose_tail(alloc, stack),
         ExpressionProduction::ChoiceTail => choice_tail(alloc, stack),
         ExpressionProduction::NoChoice => no_choice(stack),
-        ExpressionProduction::Conditional => conditional(alloc, stack),
+        ExpressionProduction::Conditional => conditional(stack),
         other => build_operation(alloc, limit, other, stack),
     }
 }

@@ -7,7 +7,9 @@ ghost use Rattle.java_actions.specs.BuildTypes as build;
 use crate::build_annotations::build_annotation;
 use crate::names::{name_at, name_of, primitive_at};
 use java_syntax::{DeclarationProduction, Typ, TypeName};
-use java_values::{BuildFail, Value, pop_brackets, pop_name, pop_names, pop_token, push, put};
+use java_values::{
+    BuildFail, Value, leave, pop_brackets, pop_name, pop_names, pop_token, put, skip,
+};
 use std::alloc::Global;
 
 /// An identifier and further ones behind dots.
@@ -21,8 +23,7 @@ fn name(alloc: Global, stack: &mut Vec<Value>) -> Result<(), BuildFail>
     let mut names = more;
     put(&mut names, name_at(first))?;
     let name = name_of(alloc, names)?;
-    push(stack, Value::Name(name))?;
-    Ok(())
+    leave(stack, Value::Name(name))
 }
 
 /// A dot, an identifier and further ones.
@@ -31,13 +32,12 @@ fn name_dot(alloc: Global, stack: &mut Vec<Value>) -> Result<(), BuildFail>
     ensures made { IfOk result (λ _. Some (build.name_dot (values_of stack.old.items)) ≡ Some (values_of stack.new.items)) }
     ensures too_deep { IfErr result (λ fail. nodes.IsTooDeep fail → Some (build.name_dot (values_of stack.old.items)) ≡ None) }
 {
-    let _dot = pop_token(alloc, stack);
+    skip(stack);
     let first = pop_token(alloc, stack);
     let more = pop_names(alloc, stack);
     let mut names = more;
     put(&mut names, name_at(first))?;
-    push(stack, Value::Names(names))?;
-    Ok(())
+    leave(stack, Value::Names(names))
 }
 
 /// No further identifier.
@@ -46,8 +46,7 @@ fn name_end(alloc: Global, stack: &mut Vec<Value>) -> Result<(), BuildFail>
     ensures made { IfOk result (λ _. Some (build.name_end (values_of stack.old.items)) ≡ Some (values_of stack.new.items)) }
     ensures too_deep { IfErr result (λ fail. nodes.IsTooDeep fail → Some (build.name_end (values_of stack.old.items)) ≡ None) }
 {
-    push(stack, Value::Names(Vec::new(alloc)))?;
-    Ok(())
+    leave(stack, Value::Names(Vec::new(alloc)))
 }
 
 /// A primitive type and brackets.
@@ -58,8 +57,7 @@ fn primitive_type(alloc: Global, stack: &mut Vec<Value>) -> Result<(), BuildFail
 {
     let word = pop_token(alloc, stack);
     let is_array = pop_brackets(stack);
-    push(stack, Value::Type(primitive_at(word, is_array)))?;
-    Ok(())
+    leave(stack, Value::Type(primitive_at(word, is_array)))
 }
 
 /// A class's name and brackets.
@@ -75,20 +73,18 @@ fn named_type(alloc: Global, stack: &mut Vec<Value>) -> Result<(), BuildFail>
         is_array,
         pos: name.pos,
     };
-    push(stack, Value::Type(typ))?;
-    Ok(())
+    leave(stack, Value::Type(typ))
 }
 
 /// Brackets.
 #[tactic(auto, unfolding(crate::specs::BuildTypes::some_brackets))]
-fn some_brackets(alloc: Global, stack: &mut Vec<Value>) -> Result<(), BuildFail>
+fn some_brackets(stack: &mut Vec<Value>) -> Result<(), BuildFail>
     ensures made { IfOk result (λ _. Some (build.some_brackets (values_of stack.old.items)) ≡ Some (values_of stack.new.items)) }
     ensures too_deep { IfErr result (λ fail. nodes.IsTooDeep fail → Some (build.some_brackets (values_of stack.old.items)) ≡ None) }
 {
-    let _open = pop_token(alloc, stack);
-    let _close = pop_token(alloc, stack);
-    push(stack, Value::Brackets(true))?;
-    Ok(())
+    skip(stack);
+    skip(stack);
+    leave(stack, Value::Brackets(true))
 }
 
 /// No brackets.
@@ -97,8 +93,7 @@ fn no_brackets(stack: &mut Vec<Value>) -> Result<(), BuildFail>
     ensures made { IfOk result (λ _. Some (build.no_brackets (values_of stack.old.items)) ≡ Some (values_of stack.new.items)) }
     ensures too_deep { IfErr result (λ fail. nodes.IsTooDeep fail → Some (build.no_brackets (values_of stack.old.items)) ≡ None) }
 {
-    push(stack, Value::Brackets(false))?;
-    Ok(())
+    leave(stack, Value::Brackets(false))
 }
 
 /// Puts what a production of names and types leaves on the stack, in place of the values of its items, and of one of the families behind. Another
@@ -122,7 +117,7 @@ pub fn build_declaration(
         DeclarationProduction::NameEnd => name_end(alloc, stack),
         DeclarationProduction::PrimitiveType => primitive_type(alloc, stack),
         DeclarationProduction::NamedType => named_type(alloc, stack),
-        DeclarationProduction::SomeBrackets => some_brackets(alloc, stack),
+        DeclarationProduction::SomeBrackets => some_brackets(stack),
         DeclarationProduction::NoBrackets => no_brackets(stack),
         other => build_annotation(alloc, limit, other, stack),
     }

@@ -8,9 +8,9 @@ use crate::annotation_nodes::{annotation, annotation_as_value, expression_value,
 use crate::primaries::{begun, finished};
 use java_syntax::DeclarationProduction;
 use java_values::{
-    AfterIdentifier, AnnotationValue, AnnotationValues, BuildFail, Tail, Value, pop_annotation,
-    pop_annotation_value, pop_annotation_values, pop_call, pop_choice, pop_expression,
-    pop_operations, pop_steps, pop_suffixes, pop_token, push, put,
+    AfterIdentifier, AnnotationValue, AnnotationValues, BuildFail, Tail, Value, leave,
+    pop_annotation, pop_annotation_value, pop_annotation_values, pop_call, pop_choice,
+    pop_expression, pop_operations, pop_place, pop_steps, pop_suffixes, pop_token, put, skip,
 };
 use std::alloc::{AllocError, Global};
 
@@ -53,8 +53,7 @@ fn value_of_name(alloc: Global, limit: u32, stack: &mut Vec<Value>) -> Result<()
     };
     let e = begun(alloc, limit, name.text, name.pos, more)?;
     let value = expression_value(limit, e)?;
-    push(stack, Value::AnnotationValue(value))?;
-    Ok(())
+    leave(stack, Value::AnnotationValue(value))
 }
 
 /// Another expression.
@@ -68,8 +67,7 @@ fn condition_value(alloc: Global, limit: u32, stack: &mut Vec<Value>) -> Result<
     let choice = pop_choice(stack);
     let e = finished(alloc, limit, operand, operations, choice)?;
     let value = expression_value(limit, e)?;
-    push(stack, Value::AnnotationValue(value))?;
-    Ok(())
+    leave(stack, Value::AnnotationValue(value))
 }
 
 /// An annotation as a value.
@@ -80,8 +78,7 @@ fn annotation_value(alloc: Global, limit: u32, stack: &mut Vec<Value>) -> Result
 {
     let a = pop_annotation(alloc, stack);
     let value = annotation_as_value(limit, a)?;
-    push(stack, Value::AnnotationValue(value))?;
-    Ok(())
+    leave(stack, Value::AnnotationValue(value))
 }
 
 /// Values in braces.
@@ -90,12 +87,11 @@ fn list_value(alloc: Global, limit: u32, stack: &mut Vec<Value>) -> Result<(), B
     ensures made { IfOk result (λ _. build.list_value limit (values_of stack.old.items) ≡ Some (values_of stack.new.items)) }
     ensures too_deep { IfErr result (λ fail. nodes.IsTooDeep fail → build.list_value limit (values_of stack.old.items) ≡ None) }
 {
-    let open = pop_token(alloc, stack);
+    let pos = pop_place(stack);
     let values = pop_annotation_values(alloc, stack);
-    let _close = pop_token(alloc, stack);
-    let value = values_as_value(limit, values, open.pos)?;
-    push(stack, Value::AnnotationValue(value))?;
-    Ok(())
+    skip(stack);
+    let value = values_as_value(limit, values, pos)?;
+    leave(stack, Value::AnnotationValue(value))
 }
 
 /// A value and more.
@@ -107,8 +103,7 @@ fn some_values(alloc: Global, stack: &mut Vec<Value>) -> Result<(), BuildFail>
     let first = pop_annotation_value(stack);
     let more = pop_annotation_values(alloc, stack);
     let all = with_value(first, more)?;
-    push(stack, Value::AnnotationValues(all))?;
-    Ok(())
+    leave(stack, Value::AnnotationValues(all))
 }
 
 /// No value.
@@ -121,8 +116,7 @@ fn no_value(alloc: Global, stack: &mut Vec<Value>) -> Result<(), BuildFail>
         list: Vec::new(alloc),
         depth: 0,
     };
-    push(stack, Value::AnnotationValues(none))?;
-    Ok(())
+    leave(stack, Value::AnnotationValues(none))
 }
 
 /// A comma alone.
@@ -131,13 +125,12 @@ fn only_comma(alloc: Global, stack: &mut Vec<Value>) -> Result<(), BuildFail>
     ensures made { IfOk result (λ _. Some (build.only_comma (values_of stack.old.items)) ≡ Some (values_of stack.new.items)) }
     ensures too_deep { IfErr result (λ fail. nodes.IsTooDeep fail → Some (build.only_comma (values_of stack.old.items)) ≡ None) }
 {
-    let _comma = pop_token(alloc, stack);
+    skip(stack);
     let none = AnnotationValues {
         list: Vec::new(alloc),
         depth: 0,
     };
-    push(stack, Value::AnnotationValues(none))?;
-    Ok(())
+    leave(stack, Value::AnnotationValues(none))
 }
 
 /// A comma and more.
@@ -146,10 +139,9 @@ fn and_comma(alloc: Global, stack: &mut Vec<Value>) -> Result<(), BuildFail>
     ensures made { IfOk result (λ _. Some (build.and_comma (values_of stack.old.items)) ≡ Some (values_of stack.new.items)) }
     ensures too_deep { IfErr result (λ fail. nodes.IsTooDeep fail → Some (build.and_comma (values_of stack.old.items)) ≡ None) }
 {
-    let _comma = pop_token(alloc, stack);
+    skip(stack);
     let more = pop_annotation_values(alloc, stack);
-    push(stack, Value::AnnotationValues(more))?;
-    Ok(())
+    leave(stack, Value::AnnotationValues(more))
 }
 
 /// Puts what a production of values in annotations leaves on the stack, in place of the values of its items. Another

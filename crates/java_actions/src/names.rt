@@ -1,4 +1,4 @@
-ghost use Rattle.std.specs.Prelude.{◌≡◌, ◌++◌, reverse, Some, None, IfOk, IfErr};
+ghost use Rattle.std.specs.Prelude.{◌≡◌, ◌++◌, ◌∷◌, reverse, Some, None, IfOk, IfErr};
 ghost use Rattle.java_values.specs.Values.{subexpression_of, lexeme_in};
 ghost use Rattle.java_values.specs.Nodes as nodes;
 ghost use Rattle.java_actions.specs.Primaries as primaries;
@@ -6,11 +6,11 @@ ghost use Rattle.java_actions.specs.Build as build;
 
 use java_syntax::{Expr, Name, Typ, TypeName};
 use java_values::{
-    BuildFail, Lexeme, NOWHERE, Step, Subexpression, field_access, identifier, primitive_name,
+    BuildFail, Lexeme, NOWHERE, Step, Subexpression, field_access, identifier, primitive_name, put,
     step_operator, take,
 };
 use rlc_base::{NoMemory, Text};
-use std::alloc::Global;
+use std::alloc::{AllocError, Global};
 
 /// The text, and behind it the names, each behind its dot. They stand with the last one first.
 fn with_dots(text: Text, names: Vec<Name>) -> Result<Text, NoMemory>
@@ -108,6 +108,15 @@ pub fn name_at(token: Lexeme) -> Name
         text: token.text,
         pos: token.pos,
     }
+}
+
+/// The names with this identifier before them. They stand with the last one first.
+pub fn with_identifier(token: Lexeme, names: Vec<Name>) -> Result<Vec<Name>, AllocError>
+    ensures { IfOk result (λ all. reverse all.items ≡ build.name_at (lexeme_in token) ∷ reverse names.items) }
+{
+    let mut names = names;
+    put(&mut names, name_at(token))?;
+    Ok(names)
 }
 
 /// The primitive type that the token names (JLS 4.2), or an array of it.

@@ -1,6 +1,7 @@
-ghost use Rattle.std.specs.Prelude.{◌≡◌, [], reverse, Some, None, IfOk, IfErr};
+ghost use Rattle.std.specs.Prelude.{◌≡◌, ◌∷◌, [], reverse, Some, None, IfOk, IfErr};
 ghost use Rattle.java_values.specs.Values.{subexpression_of, operation_of, operations_of};
 ghost use Rattle.java_actions.specs.Joined.{joined_of};
+ghost use Rattle.java_values.specs.declared.nodes.BuildFail.TheVariants as fails;
 ghost use Rattle.java_values.specs.Nodes as nodes;
 ghost use Rattle.java_actions.specs.Primaries as primaries;
 
@@ -69,6 +70,57 @@ fn applied(
     }
 }
 
+/// The operation waits behind those that wait already.
+fn waiting(
+    first: Subexpression,
+    done: Vec<Operation>,
+    operation: Operation,
+) -> Result<PartlyJoined, BuildFail>
+    ensures made { IfOk result (λ j. joined_of j ≡ record { first = subexpression_of first; done = operation_of operation ∷ operations_of done.items }) }
+    ensures memory { IfErr result (λ fail. fail ≡ fails.NoMemory) }
+{
+    let mut done = done;
+    put(&mut done, operation)?;
+    Ok(PartlyJoined { first, done })
+}
+
+/// The right operand of the last operation that waits takes the operation; `instanceof` has none, and both wait.
+fn attached_to(
+    alloc: Global,
+    limit: u32,
+    first: Subexpression,
+    done: Vec<Operation>,
+    last: Operation,
+    operation: Operation,
+) -> Result<PartlyJoined, BuildFail>
+    ensures made { IfOk result (λ j. primaries.attached limit (subexpression_of first) (operation_of last ∷ operations_of done.items) (operation_of operation) ≡ Some (joined_of j)) }
+    ensures too_deep { IfErr result (λ fail. nodes.IsTooDeep fail → primaries.attached limit (subexpression_of first) (operation_of last ∷ operations_of done.items) (operation_of operation) ≡ None) }
+{
+    match last {
+        Operation::Binary {
+            operator,
+            right,
+            pos,
+        } => match applied(alloc, limit, right, operation) {
+            Ok(right) => waiting(
+                first,
+                done,
+                Operation::Binary {
+                    operator,
+                    right,
+                    pos,
+                },
+            ),
+            Err(fail) => Err(fail),
+        },
+        Operation::InstanceOf { typ, pos } => {
+            let joined = waiting(first, done, Operation::InstanceOf { typ, pos })?;
+            let PartlyJoined { first, done } = joined;
+            waiting(first, done, operation)
+        }
+    }
+}
+
 /// The operand that stands last takes the operation.
 fn attached(
     alloc: Global,
@@ -82,33 +134,11 @@ fn attached(
 {
     let mut done = passed;
     match take(&mut done) {
-        None => {
-            let first = applied(alloc, limit, first, operation)?;
-            Ok(PartlyJoined { first, done })
-        }
-        Some(
-            Operation::Binary {
-                operator,
-                right,
-                pos,
-            },
-        ) => {
-            let right = applied(alloc, limit, right, operation)?;
-            put(
-                &mut done,
-                Operation::Binary {
-                    operator,
-                    right,
-                    pos,
-                },
-            )?;
-            Ok(PartlyJoined { first, done })
-        }
-        Some(Operation::InstanceOf { typ, pos }) => {
-            put(&mut done, Operation::InstanceOf { typ, pos })?;
-            put(&mut done, operation)?;
-            Ok(PartlyJoined { first, done })
-        }
+        None => match applied(alloc, limit, first, operation) {
+            Ok(first) => Ok(PartlyJoined { first, done }),
+            Err(fail) => Err(fail),
+        },
+        Some(last) => attached_to(alloc, limit, first, done, last, operation),
     }
 }
 
@@ -127,9 +157,7 @@ fn joined_one(
     if operation_level(&operation) == level {
         attached(alloc, limit, first, done, operation)
     } else {
-        let mut done = done;
-        put(&mut done, operation)?;
-        Ok(PartlyJoined { first, done })
+        waiting(first, done, operation)
     }
 }
 

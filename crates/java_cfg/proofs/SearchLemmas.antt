@@ -1,4 +1,5 @@
 -- Lemmas on the search for the controls of a body, over numbers of a table of lists.
+use Rattle.rlc_base.specs.declared.code.Code.TheVariants as refused
 use Rattle.std.proofs.Common.{◌≡◌, ◌∙◌, sym, ap, refl, subst, arith, ℕ, ◌<◌, ◌≤◌, zero, suc, Some, None, List, [], ◌∷◌, ◌++◌, map, length, length-append}
 use Rattle.std.specs.Prelude.{slice_get, Result, Ok, Err, IfErr}
 use Rattle.std.specs.Result.{IsErrAnd}
@@ -181,7 +182,7 @@ search_all p b cells numbers rows h ordered once all =
 -- the cause of a search is one of the graph
 pub cause_told : (p : Program) (b : BodyId) (pos : Pos) (stop : Stop) → pos ≡ method_place p b → IsSearchCause p b pos stop → IsCause p b stop
 cause_told p b pos (stops.Refused r) here cause = cause
-cause_told p b pos (stops.TooMuch r) here cause = too_large (cause.0 ∙ ap (refusal 63) here) cause.1
+cause_told p b pos (stops.TooMuch r) here cause = too_large (cause.0 ∙ ap (refusal refused.MethodTooLarge) here) cause.1
 cause_told p b pos stops.NoMemory here cause = tt
 
 -- a graph of a body has few nodes where its table has few numbers

@@ -7,6 +7,8 @@ use Rattle.program_model.specs.declared.program.Class.{Class}
 use Rattle.program_model.specs.declared.program.Method.{Method}
 use Rattle.program_model.specs.declared.tree.Body.{Body}
 use Rattle.program_model.specs.Lookups.{body_at, class_at, method_at}
+use Rattle.rlc_base.specs.declared.code.Code.{Code}
+use Rattle.rlc_base.specs.declared.code.Code.TheVariants as refused
 use Rattle.rlc_base.specs.declared.faults.Refusal.{Refusal}
 use Rattle.rlc_base.specs.declared.faults.Stop.{Stop}
 use Rattle.rlc_base.specs.declared.faults.Stop.TheVariants as stops
@@ -57,7 +59,7 @@ deepest (actions.Move x y) = max (place_depth x) (place_depth y)
 deepest (actions.Plain x v) = place_depth x
 deepest (actions.Drop x) = scope_depth x
 deepest (actions.Settle b c) = max b (completion_depth c)
-deepest (actions.Enter x b d) = max b d
+deepest (actions.Enter clause x b d) = max b d
 deepest (actions.Test d) = d
 deepest (actions.Op k d n) = max d (d + n - 1)
 deepest (actions.Get f d through_this) = d
@@ -109,13 +111,13 @@ pub data HasTooManyPlaces (p : Program) (b : BodyId) : Type 0 where
   -- a step of a reachable control names a temp of depth 64 or more
   temps : (control : List Todo) (step : Step) → IsReachable p b control → Contains (next_of p b control) step → 64 ≤ deepest step.action → HasTooManyPlaces p b
 
-abbrev pub refusal : ℕ → Pos → Refusal
+abbrev pub refusal : Code → Pos → Refusal
 refusal code pos = record { code = code; pos = pos }
 
 -- the limit that a body passes. Where it passes both, the number of its controls is told
 pub data PassesLimit (p : Program) (b : BodyId) (r : Refusal) : Type 0 where
-  too_large : r ≡ refusal 63 (method_place p b) → ReachesMore p b 65536 → PassesLimit p b r
-  too_many_places : r ≡ refusal 64 (method_place p b) → (ReachesMore p b 65536 → ⊥) → HasTooManyPlaces p b → PassesLimit p b r
+  too_large : r ≡ refusal refused.MethodTooLarge (method_place p b) → ReachesMore p b 65536 → PassesLimit p b r
+  too_many_places : r ≡ refusal refused.TooManyPlaces (method_place p b) → (ReachesMore p b 65536 → ⊥) → HasTooManyPlaces p b → PassesLimit p b r
 
 -- why a body has no graph
 abbrev pub IsCause : Program → BodyId → Stop → Type 0
@@ -126,5 +128,5 @@ IsCause p b stops.NoMemory = Unit {0}
 -- why a search for the controls of a body stops, where `pos` is the place that it tells
 abbrev pub IsSearchCause : Program → BodyId → Pos → Stop → Type 0
 IsSearchCause p b pos (stops.Refused r) = ⊥
-IsSearchCause p b pos (stops.TooMuch r) = (r ≡ refusal 63 pos) × ReachesMore p b 65536
+IsSearchCause p b pos (stops.TooMuch r) = (r ≡ refusal refused.MethodTooLarge pos) × ReachesMore p b 65536
 IsSearchCause p b pos stops.NoMemory = Unit {0}

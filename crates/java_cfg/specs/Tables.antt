@@ -1,4 +1,5 @@
 -- Controls that are named by numbers of a table of lists.
+use Rattle.rlc_base.specs.declared.code.Code.TheVariants as refused
 use Rattle.std.specs.Prelude.{◌≡◌, ◌<◌, ◌++◌, ℕ, Some, List, map, slice_get}
 use Rattle.std.specs.List.{All, Contains}
 use Rattle.rlc_base.specs.declared.faults.Stop.{Stop}
@@ -39,5 +40,5 @@ pub record IsLinked (numbers : List ℕ) (a : Arc) (t : Triple) : Type 0 where
 -- why numbers are not taken, where so many are held then
 abbrev pub IsLinkCause : Pos → ℕ → Stop → Type 0
 IsLinkCause pos count (stops.Refused r) = ⊥
-IsLinkCause pos count (stops.TooMuch r) = (r ≡ refusal 63 pos) × (65536 < count)
+IsLinkCause pos count (stops.TooMuch r) = (r ≡ refusal refused.MethodTooLarge pos) × (65536 < count)
 IsLinkCause pos count stops.NoMemory = Unit {0}

@@ -13,7 +13,7 @@ use crate::link::link;
 use indexmap::IndexSet;
 use java_control::{Lists, next, start};
 use program_model::{BodyId, Program};
-use rlc_base::{Pos, Refusal, Stop};
+use rlc_base::{Code, Pos, Refusal, Stop};
 use std::alloc::Global;
 
 // The graph of a body, whatever places its frames have.
@@ -69,7 +69,11 @@ pub fn build_graph(alloc: Global, p: &Program, b: BodyId) -> Result<Graph, Stop>
     let pos = method_place(p, b);
     let graph = explore(alloc, p, b, pos)?;
     if has_too_many_places(p, b, &graph) {
-        return Err(Stop::TooMuch(Refusal { code: 64, pos }));
+        return Err(Refusal {
+            code: Code::TooManyPlaces,
+            pos,
+        }
+        .stop());
     }
     Ok(graph)
 }

@@ -71,7 +71,7 @@ pub fn deepest(action: Action) -> u64
         Action::Plain(x, _) => u64::from(place_depth(x)),
         Action::Drop(x) => u64::from(scope_depth(x)),
         Action::Settle(b, c) => u64::from(b.max(completion_depth(c))),
-        Action::Enter(_, b, d) => u64::from(b.max(d)),
+        Action::Enter(_, _, b, d) => u64::from(b.max(d)),
         Action::Test(d) => u64::from(d),
         Action::Op(_, d, n) => last_operand(d, n),
         Action::Get(_, d, _) => u64::from(d),

@@ -11,7 +11,7 @@ use crate::arc::Arc;
 use crate::limits::MAX_NODES;
 use indexmap::IndexSet;
 use java_control::Triple;
-use rlc_base::{Pos, Refusal, Stop};
+use rlc_base::{Code, Pos, Refusal, Stop};
 use std::alloc::Global;
 
 // The arc of a step, to the place of what is left among the numbers, where it is put last if it is new.
@@ -26,7 +26,11 @@ fn link_one(numbers: &mut IndexSet<usize>, step: &Triple, pos: Pos) -> Result<Ar
 {
     let (index, _) = numbers.insert_full(step.to)?;
     if numbers.len() > MAX_NODES {
-        return Err(Stop::TooMuch(Refusal { code: 63, pos }));
+        return Err(Refusal {
+            code: Code::MethodTooLarge,
+            pos,
+        }
+        .stop());
     }
     Ok(Arc {
         action: step.action,

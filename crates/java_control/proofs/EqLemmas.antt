@@ -1,5 +1,5 @@
 -- The derived `==` on cells is equality.
-use Rattle.std.proofs.Common.{◌≡◌, ◌∙◌, sym, ap, refl, Bool, true, false, rules, Option}
+use Rattle.std.proofs.Common.{◌≡◌, refl, true, rules}
 use Rattle.java_control.specs.declared.action.Action.{Action}
 use Rattle.java_control.specs.declared.action.Action.TheVariants as actions
 use Rattle.java_control.specs.declared.action.Completion.{Completion}
@@ -16,6 +16,8 @@ use Rattle.java_control.specs.declared.item.Closing.{Closing}
 use Rattle.java_control.specs.declared.item.Condition.{Condition}
 use Rattle.java_control.specs.declared.item.Condition.TheVariants as conditions
 use Rattle.java_control.specs.declared.cell.Cell.{Cell}
+use Rattle.java_control.specs.declared.action.ClauseId.{ClauseId}
+use Rattle.java_control.specs.contracts.action.ClauseIdPartialEq.TheImpl as clause_eq
 use Rattle.java_control.specs.contracts.action.ActionPartialEq.TheImpl as action_eq
 use Rattle.java_control.specs.contracts.action.CompletionPartialEq.TheImpl as completion_eq
 use Rattle.java_control.specs.contracts.action.OperatorPartialEq.TheImpl as operator_eq
@@ -100,11 +102,14 @@ exact_completion (completions.Throw a b c) (completions.Throw a' b' c') h = sear
 exact_completion a b h = cc
 
 pub exact_scope : (a b : Scope) → (scope_eq.ghosts).eq a b ≡ true → a ≡ b
-exact_scope scopes.Nothing scopes.Nothing h = refl
-exact_scope (scopes.Variables a b) (scopes.Variables a' b') h = search rules
+exact_scope (scopes.Declared a) (scopes.Declared a') h = search rules
+exact_scope (scopes.Variable a) (scopes.Variable a') h = search rules
 exact_scope (scopes.Temp a) (scopes.Temp a') h = search rules
 exact_scope (scopes.TempsAbove a) (scopes.TempsAbove a') h = search rules
 exact_scope a b h = cc
+
+pub exact_clause : (a b : ClauseId) → (clause_eq.ghosts).eq a b ≡ true → a ≡ b
+exact_clause a b h = search rules
 
 pub exact_plain : (a b : PlainValue) → (plain_eq.ghosts).eq a b ≡ true → a ≡ b
 exact_plain (plain.Literal a) (plain.Literal a') h = search rules
@@ -132,7 +137,7 @@ exact_action (actions.Move a b) (actions.Move a' b') h = let part0 = and_parts (
 exact_action (actions.Plain a b) (actions.Plain a' b') h = let part0 = and_parts ((place_eq.ghosts).eq a a') ((plain_eq.ghosts).eq b b') h in (λ i. actions.Plain (exact_place a a' part0.0 i) (exact_plain b b' part0.1 i))
 exact_action (actions.Drop a) (actions.Drop a') h = (λ i. actions.Drop (exact_scope a a' h i))
 exact_action (actions.Settle a b) (actions.Settle a' b') h = let part0 = and_parts ((a == a')) ((completion_eq.ghosts).eq b b') h in (λ i. actions.Settle (eqb-true a a' part0.0 i) (exact_completion b b' part0.1 i))
-exact_action (actions.Enter a b c) (actions.Enter a' b' c') h = search (rules, exact_place, exact_plain, exact_scope, exact_completion, exact_operator, exact_form)
+exact_action (actions.Enter a b c d) (actions.Enter a' b' c' d') h = search (rules, exact_clause)
 exact_action (actions.Test a) (actions.Test a') h = search (rules, exact_place, exact_plain, exact_scope, exact_completion, exact_operator, exact_form)
 exact_action (actions.Op a b c) (actions.Op a' b' c') h = let part0 = and_parts ((operator_eq.ghosts).eq a a') ((b == b') && ((c == c'))) h in let part1 = and_parts ((b == b')) ((c == c')) part0.1 in (λ i. actions.Op (exact_operator a a' part0.0 i) (eqb-true b b' part1.0 i) (eqb-true c c' part1.1 i))
 exact_action (actions.Get a b c) (actions.Get a' b' c') h = search (rules, exact_place, exact_plain, exact_scope, exact_completion, exact_operator, exact_form)

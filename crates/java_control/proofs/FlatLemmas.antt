@@ -1,5 +1,5 @@
 -- Lemmas on items and changes without lists.
-use Rattle.std.proofs.Common.{◌≡◌, ◌∙◌, sym, ap, refl, subst, arith, ℕ, ◌+◌, ◌≤◌, max, List, [], ◌∷◌, ◌++◌, map, drop, length, append-nil, append_assoc, get_or, add-one, drop-cons, ap₂, ◌<◌}
+use Rattle.std.proofs.Common.{◌≡◌, ◌∙◌, sym, ap, refl, arith, ℕ, ◌+◌, max, List, [], ◌∷◌, ◌++◌, map, drop, length, append-nil, append_assoc, get_or, add-one, drop-cons, ap₂, ◌<◌}
 use Rattle.std.specs.Prelude.{flat_map}
 use Rattle.program_model.specs.declared.kinds.ExprId.{ExprId}
 use Rattle.program_model.specs.declared.kinds.StmtId.{StmtId}
@@ -9,8 +9,8 @@ use Rattle.java_control.specs.declared.cell.Cell.{Cell}
 use Rattle.java_control.specs.declared.item.Item.{Item}
 use Rattle.java_control.specs.declared.change.Front.{Front}
 use Rattle.java_control.specs.declared.change.Change.{Change}
-use Rattle.java_control.specs.Remaining.{Todo, Do, Ev, todos, nil, Becomes}
-use Rattle.java_control.specs.Tables.{bare, highest, highest_of, view_in, list_at}
+use Rattle.java_control.specs.Remaining.{Todo, Do, Ev, todos}
+use Rattle.java_control.specs.Tables.{bare, highest_of, view_in, list_at}
 use Rattle.java_control.specs.Changes.{front_in, highest_front, seen, highest_changes, bare_change}
 use Rattle.java_control.proofs.TableLemmas.{bare_in, list_at_zero}
 

@@ -1,7 +1,6 @@
 pub mod TableLemmas
 pub mod EqLemmas
 pub mod FlatLemmas
-pub mod ScopeLemmas
 pub mod StepLemmas
 pub mod PushLemmas
-pub mod HierarchyLaws
+pub mod LeavingLaws

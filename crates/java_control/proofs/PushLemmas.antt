@@ -1,9 +1,9 @@
 -- Lemmas on items that are put before a list one after another, the last one first.
-use Rattle.std.proofs.Common.{◌≡◌, ◌∙◌, sym, ap, arith, ℕ, ◌+◌, ◌-◌, ◌<◌, ◌≤◌, zero, suc, max, List, [], ◌∷◌, ◌++◌, map, drop, length, get_or, refl}
+use Rattle.std.proofs.Common.{◌≡◌, ◌∙◌, sym, ap, arith, ℕ, ◌+◌, ◌<◌, ◌≤◌, zero, suc, List, [], ◌∷◌, ◌++◌, map, drop, length, get_or}
 use Rattle.std.proofs.Math.Seq.{drop-length}
 use Rattle.java_control.specs.declared.cell.Cell.{Cell}
 use Rattle.java_control.specs.declared.item.Item.{Item}
-use Rattle.java_control.specs.Remaining.{Todo, todos, cons}
+use Rattle.java_control.specs.Remaining.{todos, cons}
 use Rattle.java_control.specs.Tables.{highest, highest_of, view_in, list_at, Keeps}
 use Rattle.java_control.proofs.FlatLemmas.{drop_at}
 use Rattle.java_control.proofs.StepLemmas.{pushed_more}

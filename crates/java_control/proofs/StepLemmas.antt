@@ -1,12 +1,12 @@
 -- Lemmas on lists that are put together, and on steps over a table that grows.
-use Rattle.std.proofs.Common.{◌≡◌, ◌∙◌, sym, ap, ap₂, refl, subst, arith, ℕ, ◌+◌, ◌-◌, ◌≤◌, zero, suc, max, Option, Some, None, List, [], ◌∷◌, ◌++◌, map, drop, length, append_assoc, append-nil, get_or, ◌<◌}
+use Rattle.std.proofs.Common.{◌≡◌, ◌∙◌, sym, ap, refl, subst, arith, ℕ, ◌+◌, ◌≤◌, zero, suc, max, List, [], ◌∷◌, ◌++◌, map, drop, length, append_assoc, append-nil, get_or, ◌<◌}
 use Rattle.rlc_base.specs.declared.place.Pos.{Pos}
 use Rattle.java_control.specs.declared.cell.Cell.{Cell}
 use Rattle.java_control.specs.declared.item.Item.{Item}
 use Rattle.java_control.specs.declared.change.Front.{Front}
 use Rattle.java_control.specs.declared.change.Change.{Change}
 use Rattle.java_control.specs.declared.triple.Triple.{Triple}
-use Rattle.java_control.specs.Remaining.{Todo, Todos, todos, nil, cons, Becomes}
+use Rattle.java_control.specs.Remaining.{Todo, todos, nil, cons}
 use Rattle.java_control.specs.Tables.{bare, highest, highest_of, view_in, list_at, Keeps}
 use Rattle.java_control.specs.Changes.{front_in, highest_front, seen, highest_changes, highest_steps, step_in}
 use Rattle.java_control.specs.Control.{step_of}

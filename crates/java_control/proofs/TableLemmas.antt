@@ -1,5 +1,5 @@
 -- Lemmas on the table of lists.
-use Rattle.std.proofs.Common.{◌≡◌, ◌∙◌, sym, ap, ap₂, refl, subst, arith, ℕ, ◌+◌, ◌-◌, ◌<◌, ◌≤◌, zero, suc, max, Bool, true, false, cond, Option, Some, None, List, [], ◌∷◌, ◌++◌, map, length, length-append, inl, inr, add-one}
+use Rattle.std.proofs.Common.{◌≡◌, ◌∙◌, sym, ap, refl, subst, arith, ℕ, ◌+◌, ◌-◌, ◌<◌, ◌≤◌, zero, suc, max, Bool, true, false, cond, Option, Some, None, List, [], ◌∷◌, ◌++◌, map, length, length-append, inl, inr, add-one}
 use Rattle.std.specs.Prelude.{slice_get, Result, Ok, Err, IfOk, IfSome, OnErr}
 use Rattle.std.specs.List.{list_any}
 use Rattle.std.proofs.lemmas.Bool.{cases_lt}
@@ -7,7 +7,7 @@ use Rattle.indexmap.specs.IndexSet.{insert_key}
 use Rattle.java_control.specs.declared.cell.Cell.{Cell}
 use Rattle.java_control.specs.declared.item.Item.{Item}
 use Rattle.java_control.specs.declared.item.Item.TheVariants as items
-use Rattle.java_control.specs.Remaining.{Todo, Todos, Cond, NullFork, BoolFork, nil, cons}
+use Rattle.java_control.specs.Remaining.{Todos, Cond, NullFork, BoolFork, nil, cons}
 use Rattle.java_control.specs.Tables.{item_by, highest, highest_of, on_cell, list_from, list_at, view_in, bare, IsFirst, IsOrdered, Keeps}
 
 -- two meanings of numbers that agree as far as an item looks give it one meaning

@@ -3,10 +3,6 @@ use Rattle.std.specs.Prelude.{ℕ, ◌+◌, Option, Some, None, List, [], ◌∷
 use Rattle.program_model.specs.declared.kinds.StmtId.{StmtId}
 use Rattle.program_model.specs.declared.program.Program.{Program}
 use Rattle.program_model.specs.declared.tree.Body.{Body}
-use Rattle.program_model.specs.declared.tree.TStmt.{TStmt}
-use Rattle.program_model.specs.declared.tree.CatchClause.{CatchClause}
-use Rattle.program_model.specs.declared.tree.StatementKind.{StatementKind}
-use Rattle.program_model.specs.declared.tree.StatementKind.TheVariants as statements
 use Rattle.program_model.specs.Lookups.{statement_at}
 use Rattle.java_control.specs.declared.action.Action.TheVariants as actions
 use Rattle.java_control.specs.declared.action.Edge.TheVariants as edges
@@ -14,7 +10,7 @@ use Rattle.java_control.specs.declared.action.Completion.{Completion}
 use Rattle.java_control.specs.declared.action.Completion.TheVariants as completions
 use Rattle.java_control.specs.declared.action.Scope.TheVariants as scopes
 use Rattle.java_control.specs.Statements.{close_front}
-use Rattle.java_control.specs.Exceptions.{caught}
+use Rattle.java_control.specs.Exceptions.{caught, clauses_in}
 use Rattle.java_control.specs.Remaining.{Todo, Do, LoopEnd, Leave, Catch, Fin, Close, Finish, Supp, Out, Ended, Becomes, change}
 
 -- the completion with its value in the temp of depth `b`
@@ -39,17 +35,9 @@ at_loop (completions.Break pos) w d = moves []
 at_loop (completions.Continue pos) w d = moves (LoopEnd w d ∷ [])
 at_loop c w d = moves (Out c ∷ [])
 
-abbrev pub clauses_of_kind : StatementKind → List CatchClause
-clauses_of_kind (statements.Try t) = t.catches.items
-clauses_of_kind _ = []
-
-abbrev pub clauses_in : Option TStmt → List CatchClause
-clauses_in None = []
-clauses_in (Some s) = clauses_of_kind s.kind
-
 -- catch clauses take exceptions alone
 abbrev pub at_catch : Completion → Program → Body → StmtId → ℕ → List Becomes
-at_catch (completions.Throw d t pos) p body s b = caught p body (clauses_in (statement_at body s)) b d t pos
+at_catch (completions.Throw d t pos) p body s b = caught p body s 0 (clauses_in (statement_at body s)) b d t pos
 at_catch c p body s b = moves (Out c ∷ [])
 
 -- an exception that was on its way out when a resource was closed stays, and what closing it gave is dropped

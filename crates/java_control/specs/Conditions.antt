@@ -1,5 +1,5 @@
 -- Conditions: `p` follows where the condition is true and `q` where it is false (JLS 15.15.6, 15.23, 15.24, 14.9).
-use Rattle.std.specs.Prelude.{ℕ, Bool, true, false, List, [], ◌∷◌}
+use Rattle.std.specs.Prelude.{ℕ, true, false, List, [], ◌∷◌}
 use Rattle.program_model.specs.declared.kinds.ExprId.{ExprId}
 use Rattle.program_model.specs.declared.tree.Body.{Body}
 use Rattle.rlc_base.specs.declared.place.Pos.{Pos}

@@ -1,16 +1,21 @@
 -- The exceptions that an action throws (JLS 11.1.1, 15.6), and the catch clauses that take them (JLS 11.3, 14.20).
-use Rattle.std.specs.Prelude.{ℕ, Bool, true, false, ◌||◌, nat_eq, Option, Some, None, List, [], ◌∷◌, ◌++◌, map, if◌then◌else◌}
-use Rattle.std.specs.List.{list_any}
+use Rattle.std.specs.Prelude.{ℕ, zero, suc, ◌+◌, min, Bool, true, false, ◌||◌, ◌&&◌, not, Option, Some, None, List, [], ◌∷◌, ◌++◌, map, length, if◌then◌else◌}
+use Rattle.std.specs.List.{list_any, position_from}
 use Rattle.program_model.specs.declared.kinds.ClassId.{ClassId}
 use Rattle.program_model.specs.declared.kinds.MethodId.{MethodId}
 use Rattle.program_model.specs.declared.kinds.BinaryOperator.{BinaryOperator}
 use Rattle.program_model.specs.declared.kinds.BinaryOperator.TheVariants as binary
 use Rattle.program_model.specs.declared.program.Program.{Program}
-use Rattle.program_model.specs.declared.program.Class.{Class}
 use Rattle.program_model.specs.declared.program.Method.{Method}
 use Rattle.program_model.specs.declared.tree.Body.{Body}
 use Rattle.program_model.specs.declared.tree.CatchClause.{CatchClause}
-use Rattle.program_model.specs.Lookups.{optional, class_at, method_at}
+use Rattle.program_model.specs.declared.tree.TStmt.{TStmt}
+use Rattle.program_model.specs.declared.tree.StatementKind.{StatementKind}
+use Rattle.program_model.specs.declared.tree.StatementKind.TheVariants as statements
+use Rattle.program_model.specs.declared.kinds.StmtId.{StmtId}
+use Rattle.program_model.specs.Lookups.{optional, method_at, statement_at}
+use Rattle.program_model.specs.SuperTests.{has_class, is_under, is_ignored}
+use Rattle.java_control.specs.declared.action.ClauseId.{ClauseId}
 use Rattle.rlc_base.specs.declared.place.Pos.{Pos}
 use Rattle.java_control.specs.declared.action.Action.{Action}
 use Rattle.java_control.specs.declared.action.Action.TheVariants as actions
@@ -19,26 +24,7 @@ use Rattle.java_control.specs.declared.action.Edge.TheVariants as edges
 use Rattle.java_control.specs.declared.action.Operator.{Operator}
 use Rattle.java_control.specs.declared.action.Operator.TheVariants as operators
 use Rattle.java_control.specs.declared.action.Scope.TheVariants as scopes
-use Rattle.java_control.specs.Remaining.{Todo, Do, Leave, Out, Becomes, change, statement_place}
-
-abbrev pub is_class : ClassId → ClassId → Bool
-is_class c d = nat_eq c.0 d.0
-
-abbrev pub has_class : List ClassId → ClassId → Bool
-has_class cs c = list_any (λ x. is_class x c) cs
-
--- the class and all classes above it; a number of no class stands for itself alone
-abbrev pub classes_above : ClassId → Option Class → List ClassId
-classes_above c None = c ∷ []
-classes_above c (Some k) = k.above.items
-
--- `c` is `d` or a subclass of it
-abbrev pub is_under : Program → ClassId → ClassId → Bool
-is_under p c d = has_class (classes_above c (class_at p c)) d
-
--- exceptions of the class are ignored
-abbrev pub is_ignored : Program → ClassId → Bool
-is_ignored p c = list_any (λ d. is_under p c d) p.ignored.items || has_class p.exact.items c
+use Rattle.java_control.specs.Remaining.{Do, Leave, Out, Becomes, change, statement_place}
 
 -- classes with one more, each once and at its first place
 abbrev pub with_class : List ClassId → ClassId → List ClassId
@@ -48,10 +34,44 @@ abbrev pub with_classes : List ClassId → List ClassId → List ClassId
 with_classes cs [] = cs
 with_classes cs (x ∷ xs) = with_classes (with_class cs x) xs
 
+-- the class is under a class that is ignored with its subclasses, so that all classes under it are ignored too
+abbrev pub is_wholly_ignored : Program → ClassId → Bool
+is_wholly_ignored p t = list_any (λ d. is_under p t d) p.ignored.items
+
+-- how many numbers name classes of the program; a number has 32 bits
+abbrev pub class_count : Program → ℕ
+class_count p = min (length p.classes.items) 4294967296
+
+abbrev pub class_with : ℕ → ClassId
+class_with k = record { 0 = k }
+
+-- the class is under `t` and not ignored
+abbrev pub is_heeded_under : Program → ClassId → ClassId → Bool
+is_heeded_under p t c = is_under p c t && not (is_ignored p c)
+
+-- one of the first `n` classes is under `t` and not ignored
+unfoldable pub some_heeded : Program → ClassId → ℕ → Bool
+some_heeded p t zero = false
+some_heeded p t (suc n) = some_heeded p t n || is_heeded_under p t (class_with n)
+
+-- a class of the program that is under `t` is not ignored: `t` itself, or one under it where `t` is ignored alone
+abbrev pub throws_some_heeded : Program → ClassId → Bool
+throws_some_heeded p t = if is_ignored p t then (if is_wholly_ignored p t then false else some_heeded p t (class_count p)) else true
+
+-- the classes of exceptions that a call gives beside those of the throws clause. An exception of a class under one of them
+-- leaves the call by it, so it stays where a class under it is not ignored
+abbrev pub heeded_by_call : Program → List ClassId → List ClassId
+heeded_by_call p [] = []
+heeded_by_call p (c ∷ cs) = if throws_some_heeded p c then (c ∷ heeded_by_call p cs) else heeded_by_call p cs
+
 -- those of the classes that are not ignored
 abbrev pub heeded : Program → List ClassId → List ClassId
 heeded p [] = []
 heeded p (c ∷ cs) = if is_ignored p c then heeded p cs else (c ∷ heeded p cs)
+
+-- the unchecked exceptions of a call (JLS 11.1.1)
+abbrev pub unchecked : Program → List ClassId
+unchecked p = p.core.runtime_exception ∷ p.core.error ∷ []
 
 abbrev pub binary_exceptions : Program → BinaryOperator → List ClassId
 binary_exceptions p binary.Divide = p.core.arithmetic_exception ∷ []
@@ -86,21 +106,25 @@ declared_exceptions p (actions.Super m d n) = throws_clause p m
 declared_exceptions p (actions.Raise d c) = optional c
 declared_exceptions p _ = []
 
+-- the classes of the exceptions that it makes itself
+abbrev pub own_exceptions : Program → Action → List ClassId
+own_exceptions p (actions.Op k d n) = operator_exceptions p k
+own_exceptions p (actions.Get f d through_this) = receiver_exceptions p through_this
+own_exceptions p (actions.Put f d through_this) = receiver_exceptions p through_this
+own_exceptions p (actions.Cast t d) = p.core.class_cast_exception ∷ []
+own_exceptions p (actions.Raise d c) = p.core.null_pointer_exception ∷ []
+own_exceptions p _ = []
+
 -- the classes that it throws where they are not ignored
 abbrev pub other_exceptions : Program → Action → List ClassId
-other_exceptions p (actions.Op k d n) = operator_exceptions p k
-other_exceptions p (actions.Get f d through_this) = receiver_exceptions p through_this
-other_exceptions p (actions.Put f d through_this) = receiver_exceptions p through_this
-other_exceptions p (actions.Cast t d) = p.core.class_cast_exception ∷ []
-other_exceptions p (actions.Call m d n form) = p.core.runtime_exception ∷ p.core.error ∷ []
-other_exceptions p (actions.New m d n) = p.core.runtime_exception ∷ p.core.error ∷ []
-other_exceptions p (actions.Super m d n) = p.core.runtime_exception ∷ p.core.error ∷ []
-other_exceptions p (actions.Raise d c) = p.core.null_pointer_exception ∷ []
-other_exceptions p _ = []
+other_exceptions p (actions.Call m d n form) = heeded_by_call p (unchecked p)
+other_exceptions p (actions.New m d n) = heeded_by_call p (unchecked p)
+other_exceptions p (actions.Super m d n) = heeded_by_call p (unchecked p)
+other_exceptions p a = heeded p (own_exceptions p a)
 
 -- the classes that an action throws, each once
 abbrev pub exceptions_of : Program → Action → List ClassId
-exceptions_of p a = with_classes (with_classes [] (declared_exceptions p a)) (heeded p (other_exceptions p a))
+exceptions_of p a = with_classes (with_classes [] (declared_exceptions p a)) (other_exceptions p a)
 
 -- where an action leaves the exception that it throws
 abbrev pub exception_depth : Action → ℕ
@@ -136,18 +160,36 @@ takes_some p t clause = list_any (λ c. is_under p c t) clause.classes.items
 abbrev pub may_take : Program → ClassId → CatchClause → Bool
 may_take p t clause = takes_wholly p t clause || takes_some p t clause
 
-abbrev pub enters : Body → ℕ → ℕ → CatchClause → Becomes
-enters body b d clause =
-    change (actions.Enter clause.variable b d) edges.Go 2
-    (Do clause.block b ∷ Leave (scopes.Variables clause.variable clause.variable) (statement_place body clause.block) ∷ [])
+abbrev pub clause_at : StmtId → ℕ → ClauseId
+clause_at s i = record { statement = s; index = i }
+
+-- the step into clause number `i` of the statement `s`
+abbrev pub enters : Body → StmtId → ℕ → ℕ → ℕ → CatchClause → Becomes
+enters body s i b d clause =
+    change (actions.Enter (clause_at s i) clause.variable b d) edges.Go 2
+    (Do clause.block b ∷ Leave (scopes.Variable clause.variable) (statement_place body clause.block) ∷ [])
 
 -- an exception that no clause takes wholly goes on
 abbrev pub passes : ℕ → ClassId → Pos → Becomes
 passes d t pos = change actions.Skip edges.Go 2 (Out (completions.Throw d t pos) ∷ [])
 
--- an exception of class `t` meets catch clauses: it may enter each that may take it, up to the first that takes it wholly
-abbrev pub caught : Program → Body → List CatchClause → ℕ → ℕ → ClassId → Pos → List Becomes
-caught p body [] b d t pos = passes d t pos ∷ []
-caught p body (x ∷ xs) b d t pos =
-    if takes_wholly p t x then enters body b d x ∷ []
-    else (if may_take p t x then enters body b d x ∷ caught p body xs b d t pos else caught p body xs b d t pos)
+-- an exception of class `t` meets the catch clauses of the statement `s` from number `i` on: it may enter each that may take
+-- it, up to the first that takes it wholly
+abbrev pub caught : Program → Body → StmtId → ℕ → List CatchClause → ℕ → ℕ → ClassId → Pos → List Becomes
+caught p body s i [] b d t pos = passes d t pos ∷ []
+caught p body s i (x ∷ xs) b d t pos =
+    if takes_wholly p t x then enters body s i b d x ∷ []
+    else (if may_take p t x then enters body s i b d x ∷ caught p body s (i + 1) xs b d t pos else caught p body s (i + 1) xs b d t pos)
+
+abbrev pub clauses_of_kind : StatementKind → List CatchClause
+clauses_of_kind (statements.Try t) = t.catches.items
+clauses_of_kind _ = []
+
+abbrev pub clauses_in : Option TStmt → List CatchClause
+clauses_in None = []
+clauses_in (Some s) = clauses_of_kind s.kind
+
+-- which clause of the statement takes an exception whose own class is `c`: the first that has a class which `c` is under
+-- (JLS 11.3), by its number; None where it passes on
+abbrev pub clause_taken : Program → Body → StmtId → ClassId → Option ℕ
+clause_taken p body s c = position_from (takes_wholly p c) 0 (clauses_in (statement_at body s))

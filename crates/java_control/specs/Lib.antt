@@ -7,6 +7,10 @@ pub mod Conditions
 pub mod Expressions
 pub mod Statements
 pub mod Exceptions
+pub mod Leaving
+pub mod Scopes
+pub mod Calls
+pub mod Sources
 pub mod Completions
 pub mod Control
 pub mod Tables

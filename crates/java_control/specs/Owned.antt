@@ -1,6 +1,5 @@
 -- Owning fields that are reached through `this`, which have a place of their own.
-use Rattle.std.specs.Prelude.{ℕ, Bool, true, false, ◌&&◌, not, min, Option, Some, None, List, [], ◌∷◌, length, filter, take_while, nat_eq, if◌then◌else◌}
-use Rattle.program_model.specs.declared.kinds.ClassId.{ClassId}
+use Rattle.std.specs.Prelude.{ℕ, Bool, true, false, not, min, Option, Some, None, List, [], length, filter, take_while, nat_eq, if◌then◌else◌}
 use Rattle.program_model.specs.declared.kinds.ExprId.{ExprId}
 use Rattle.program_model.specs.declared.kinds.FieldId.{FieldId}
 use Rattle.program_model.specs.declared.program.Program.{Program}
@@ -10,7 +9,9 @@ use Rattle.program_model.specs.declared.tree.Body.{Body}
 use Rattle.program_model.specs.declared.tree.TExpr.{TExpr}
 use Rattle.program_model.specs.declared.tree.ExpressionKind.{ExpressionKind}
 use Rattle.program_model.specs.declared.tree.ExpressionKind.TheVariants as expressions
-use Rattle.program_model.specs.Lookups.{class_at, field_at, expression_at}
+use Rattle.program_model.specs.declared.program.Method.{Method}
+use Rattle.program_model.specs.Lookups.{class_at, field_at, method_at, expression_at}
+use Rattle.program_model.specs.SuperTests.{is_class}
 use Rattle.java_control.specs.declared.place.Place.{Place}
 use Rattle.java_control.specs.declared.place.Place.TheVariants as places
 
@@ -54,6 +55,19 @@ is_this_node (Some x) = is_this_kind x.kind
 abbrev pub is_this : Body → ExprId → Bool
 is_this b e = is_this_node (expression_at b e)
 
--- the field `f` of the value of `e` has a place of its own
+-- the class of the method is that which declares the field
+abbrev pub is_beside : Option Field → Method → Bool
+is_beside None m = false
+is_beside (Some f) m = is_class m.class f.class
+
+abbrev pub is_beside_method : Option Field → Option Method → Bool
+is_beside_method f None = false
+is_beside_method f (Some m) = is_beside f m
+
+-- the body stands in the class that declares the field
+abbrev pub declares_field : Program → Body → FieldId → Bool
+declares_field p b f = is_beside_method (field_at p f) (method_at p b.method)
+
+-- the field `f` of the value of `e` has a place of its own: it is an owning field of `this` that the body's class declares
 abbrev pub has_place : Program → Body → ExprId → FieldId → Bool
-has_place p b e f = if is_this b e then is_owning p f else false
+has_place p b e f = if is_this b e then (if is_owning p f then declares_field p b f else false) else false

@@ -1,12 +1,12 @@
 -- A set of numbers below 256, kept as the bits of two numbers of 128 bits each.
 -- Contracts see it as std's `FinSet nat_cmp` and speak its words alone; what stands here ties the bits to it.
-use Rattle.std.specs.Prelude.{◌≡◌, ◌≢◌, ℕ, ◌+◌, ◌-◌, ◌*◌, ◌/◌, ◌%◌, ◌^◌, ◌<◌, ◌≤◌, Bool, true, false, cond, not, ◌&&◌, ◌||◌, ◌==◌, min, max, zero, suc, refl, bit_and, bit_or}
+use Rattle.std.specs.Prelude.{◌≡◌, ◌≢◌, ℕ, ◌+◌, ◌-◌, ◌*◌, ◌/◌, ◌%◌, ◌^◌, ◌<◌, ◌≤◌, true, false, cond, not, ◌&&◌, ◌||◌, ◌==◌, zero, suc, bit_and, bit_or}
 use Rattle.std.specs.Ordering.{nat_cmp}
 use Rattle.std.specs.Cmp.{nat_cmp_total, unsigned_tied}
 use Rattle.std.specs.FinSet as set
 use Rattle.std.specs.Bool.{Decides}
 use Rattle.std.specs.Int.{bit_at, bit_not, w128}
-use Rattle.std.proofs.Common.{sym, ap, ◌∙◌, arith, inl, inr, mod-eq_of_lt, ne_eqb, lit<, ap₂, mod-lt, lt_of_le_of_lt, eq-eqb, eqb-true, true≢false, lt-ltb, ltb}
+use Rattle.std.proofs.Common.{sym, ap, ◌∙◌, arith, inl, inr, mod-eq_of_lt, ne_eqb, lit<, ap₂, mod-lt, lt_of_le_of_lt, eq-eqb, eqb-true, true≢false, lt-ltb}
 use Rattle.std.proofs.lemmas.Nat.{mod-pow-add, or_lt, and_le_l}
 use Rattle.std.proofs.lemmas.Nat.Bits.{bit_at-lt, bit_at-zero, bit_at_above, bit_at_set_same, bit_at_set_other, bit_at_clear_same, bit_at_clear_other, bit_at_cat_low, bit_at_cat_high, shr_and_one}
 use Rattle.std.proofs.lemmas.Bool.{and_left, le-ltb, cases_lt, cases_eq, or_left, and_parts, and_from}

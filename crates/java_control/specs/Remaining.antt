@@ -1,6 +1,6 @@
 -- What is left of a body to run: a list of items, first things first. An item may hold lists of its own, which follow it
 -- by the outcome of a test.
-use Rattle.std.specs.Prelude.{ℕ, List, [], ◌∷◌, Option, Some, None, unwrap_or, option_map, slice_get}
+use Rattle.std.specs.Prelude.{ℕ, List, [], ◌∷◌, Option, Some, None}
 use Rattle.program_model.specs.declared.kinds.ExprId.{ExprId}
 use Rattle.program_model.specs.declared.kinds.StmtId.{StmtId}
 use Rattle.program_model.specs.declared.tree.Body.{Body}

@@ -1,5 +1,5 @@
 -- Statements (JLS 14), and what their parts leave behind them.
-use Rattle.std.specs.Prelude.{ℕ, ◌+◌, min, max, Bool, true, false, Option, Some, None, List, [], ◌∷◌, ◌++◌, map, flat_map, reverse, length}
+use Rattle.std.specs.Prelude.{ℕ, ◌+◌, Option, Some, None, List, [], ◌∷◌, ◌++◌, map, flat_map, reverse, length}
 use Rattle.program_model.specs.declared.kinds.ClassId.{ClassId}
 use Rattle.program_model.specs.declared.kinds.ExprId.{ExprId}
 use Rattle.program_model.specs.declared.kinds.StmtId.{StmtId}
@@ -17,14 +17,13 @@ use Rattle.program_model.specs.declared.tree.ForInitial.{ForInitial}
 use Rattle.program_model.specs.declared.tree.ForInitial.TheVariants as initials
 use Rattle.program_model.specs.declared.tree.StatementKind.{StatementKind}
 use Rattle.program_model.specs.declared.tree.StatementKind.TheVariants as statements
-use Rattle.program_model.specs.Lookups.{optional, statement_at, type_at, variable_type}
+use Rattle.program_model.specs.Lookups.{statement_at, type_at, variable_type}
 use Rattle.rlc_base.specs.declared.place.Pos.{Pos}
 use Rattle.java_control.specs.declared.place.Place.TheVariants as places
 use Rattle.java_control.specs.declared.action.Action.TheVariants as actions
 use Rattle.java_control.specs.declared.action.Completion.TheVariants as completions
 use Rattle.java_control.specs.declared.action.PlainValue.TheVariants as plain
 use Rattle.java_control.specs.declared.action.TargetForm.TheVariants as forms
-use Rattle.java_control.specs.declared.action.Scope.{Scope}
 use Rattle.java_control.specs.declared.action.Scope.TheVariants as scopes
 use Rattle.java_control.specs.declared.item.Closing.{Closing}
 use Rattle.java_control.specs.declared.item.Condition.{Condition}
@@ -34,36 +33,9 @@ use Rattle.java_control.specs.declared.shape.Decision.TheVariants as decisions
 use Rattle.java_control.specs.Expressions.{type_or_null, evaluations}
 use Rattle.java_control.specs.Remaining.{Todo, Todos, nil, Do, Ev, Act, Cond, NullFork, LoopEnd, For, Leave, Catch, Fin, Close, Out, one, two, cons, expression_place}
 
--- the least run of variables with those of a scope and `x`
-abbrev pub widened : Scope → ℕ → Scope
-widened scopes.Nothing x = scopes.Variables x x
-widened (scopes.Variables first last) x = scopes.Variables (min first x) (max last x)
-widened (scopes.Temp d) x = scopes.Temp d
-widened (scopes.TempsAbove d) x = scopes.TempsAbove d
-
-abbrev pub widened_by : Scope → List ℕ → Scope
-widened_by scope [] = scope
-widened_by scope (x ∷ xs) = widened_by (widened scope x) xs
-
--- the least run of variables that holds all of these. Variables are numbered in textual order, so those between two that
--- one block declares belong to scopes within it, which were left before
-abbrev pub run_of : List ℕ → Scope
-run_of xs = widened_by scopes.Nothing xs
-
-abbrev pub declared_by : StatementKind → List ℕ
-declared_by (statements.LocalDeclaration names) = map (λ (x : Declarator). x.variable) names.items
-declared_by _ = []
-
-abbrev pub declared_at : Option TStmt → List ℕ
-declared_at None = []
-declared_at (Some s) = declared_by s.kind
-
--- the variables that statements declare directly
-abbrev pub declared_in : Body → List StmtId → List ℕ
-declared_in b ss = flat_map (λ s. declared_at (statement_at b s)) ss
-
-abbrev pub block_front : Body → List StmtId → ℕ → Pos → List Todo
-block_front b ss d pos = map (λ s. Do s d) ss ++ Leave (run_of (declared_in b ss)) pos ∷ []
+-- a block's end empties the variables that it declares directly (JLS 6.3)
+abbrev pub block_front : StmtId → List StmtId → ℕ → Pos → List Todo
+block_front s ss d pos = map (λ x. Do x d) ss ++ Leave (scopes.Declared s) pos ∷ []
 
 -- a variable without an initialiser begins with its type's default value
 abbrev pub declarator_with : Body → ℕ → Option ExprId → ℕ → Pos → List Todo
@@ -88,12 +60,8 @@ abbrev pub initial_front : Body → ℕ → ForInitial → List Todo
 initial_front b d (initials.Declaration names) = declaration_front b d names.items
 initial_front b d (initials.Expressions es) = head_front b d es.items
 
-abbrev pub initial_variables : ForInitial → List ℕ
-initial_variables (initials.Declaration names) = map (λ (x : Declarator). x.variable) names.items
-initial_variables (initials.Expressions es) = []
-
 abbrev pub for_front : Body → StmtId → ForLoop → ℕ → Pos → List Todo
-for_front b s l d pos = initial_front b d l.initial ++ For s d ∷ Leave (run_of (initial_variables l.initial)) pos ∷ []
+for_front b s l d pos = initial_front b d l.initial ++ For s d ∷ Leave (scopes.Declared s) pos ∷ []
 
 abbrev pub list_of_branch : Option StmtId → ℕ → Todos
 list_of_branch None d = nil
@@ -114,7 +82,7 @@ abbrev pub opens : ℕ → Resource → List Todo
 opens d r = Ev r.initializer d ∷ Act (actions.Move (places.Var r.variable) (places.Temp d)) r.pos ∷ []
 
 abbrev pub closes : StmtId → ℕ → Resource → List Todo
-closes s d r = Close (closing_of s r) d ∷ Leave (scopes.Variables r.variable r.variable) r.pos ∷ []
+closes s d r = Close (closing_of s r) d ∷ Leave (scopes.Variable r.variable) r.pos ∷ []
 
 -- resources are opened in textual order and closed in the opposite order (JLS 14.20.3)
 abbrev pub resources_front : StmtId → TryStatement → ℕ → List Todo
@@ -151,7 +119,7 @@ decided decisions.Straight d front = front
 
 -- a statement that decides nothing
 abbrev pub straight_front : StatementKind → Body → StmtId → ℕ → Pos → List Todo
-straight_front (statements.Block ss end) b s d pos = block_front b ss.items d pos
+straight_front (statements.Block ss end) b s d pos = block_front s ss.items d pos
 straight_front statements.Empty b s d pos = []
 straight_front (statements.LocalDeclaration names) b s d pos = declaration_front b d names.items
 straight_front (statements.Expression e) b s d pos = expression_statement e d pos

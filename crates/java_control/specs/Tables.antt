@@ -1,10 +1,10 @@
 -- Lists of items that share their tails, kept in one table of cells: 0 is the number of the empty list, and k + 1 that of the
 -- list that begins with cell k. An item of the table names the lists within it by number.
-use Rattle.std.specs.Prelude.{◌≡◌, ℕ, ◌+◌, ◌≤◌, zero, suc, max, Option, Some, None, List, [], ◌∷◌, ◌++◌, map, length, slice_get}
+use Rattle.std.specs.Prelude.{◌≡◌, ℕ, ◌≤◌, zero, suc, max, Option, Some, None, List, [], ◌∷◌, length, slice_get}
 use Rattle.java_control.specs.declared.cell.Cell.{Cell}
 use Rattle.java_control.specs.declared.item.Item.{Item}
 use Rattle.java_control.specs.declared.item.Item.TheVariants as items
-use Rattle.java_control.specs.Remaining.{Todo, Todos, Do, Ev, Act, Cond, NullFork, BoolFork, LoopEnd, For, Leave, Catch, Fin, Close, Finish, Supp, Out, Ended, nil, cons, todos}
+use Rattle.java_control.specs.Remaining.{Todo, Todos, Do, Ev, Act, Cond, NullFork, BoolFork, LoopEnd, For, Leave, Catch, Fin, Close, Finish, Supp, Out, Ended, nil, cons}
 
 -- what an item of a table means, where `list` tells what the numbers of lists mean
 abbrev pub item_by : (ℕ → Todos) → Item → Todo

@@ -2,7 +2,7 @@
 
 use crate::place::Place;
 use program_model::{
-    BinaryOperator, ClassId, FieldId, Literal, MethodId, OperandType, UnaryOperator, VType,
+    BinaryOperator, ClassId, FieldId, Literal, MethodId, OperandType, StmtId, UnaryOperator, VType,
 };
 use rlc_base::Pos;
 
@@ -32,12 +32,21 @@ pub enum Edge {
     Throws(ClassId),
 }
 
+/// A catch clause: its `try` statement, and how many clauses of the statement stand before it.
+#[derive(Clone, Copy, PartialEq, Eq, Hash)]
+pub struct ClauseId {
+    pub statement: StmtId,
+    pub index: usize,
+}
+
 /// Places that are emptied together.
 #[derive(Clone, Copy, PartialEq, Eq, Hash)]
 pub enum Scope {
-    Nothing,
-    /// The variables from the first number to the last, both included.
-    Variables(u32, u32),
+    /// The variables that this block, or the head of this `for` statement, declares directly (JLS 6.3); none for another
+    /// statement.
+    Declared(StmtId),
+    /// The variable of a resource or of a catch clause.
+    Variable(u32),
     /// The temp of this depth.
     Temp(u32),
     /// All temps of a greater depth.
@@ -81,7 +90,7 @@ pub enum Operator {
 /// The form in which the target of a call stands.
 #[derive(Clone, Copy, PartialEq, Eq, Hash)]
 pub enum TargetForm {
-    /// None: a static method.
+    /// No target: a static method, a `new` or a super call.
     Static,
     /// `this`, written or implied.
     This,
@@ -106,8 +115,9 @@ pub enum Action {
     Drop(Scope),
     /// t(b) takes the value of the completion's temp, and all other temps from depth b on are emptied.
     Settle(u32, Completion),
-    /// Variable, b, d: the variable takes the exception in t(d), and all temps from depth b on are emptied.
-    Enter(u32, u32, u32),
+    /// Catch clause, variable, b, d: the clause's variable takes the exception in t(d), and all temps from depth b on are
+    /// emptied.
+    Enter(ClauseId, u32, u32, u32),
     /// t(d) is tested and emptied.
     Test(u32),
     /// Operator, d, n: takes the n operands from t(d) on and gives t(d).

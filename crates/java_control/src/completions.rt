@@ -2,8 +2,8 @@
 
 ghost use Rattle.std.specs.Prelude.{◌≡◌, ◌+◌, ◌≤◌, ◌++◌, ◌∷◌, [], map, length, max, option_map, IfOk, OnOk};
 ghost use Rattle.java_control.specs.Changes.{bare_change, front_in, highest_changes, highest_front, seen};
-ghost use Rattle.java_control.specs.Completions.{alone, at_catch, at_depth, at_loop, at_supp, clauses_of_kind, completion_becomes, moves, settles};
-ghost use Rattle.java_control.specs.Exceptions.{caught, enters};
+ghost use Rattle.java_control.specs.Completions.{alone, at_catch, at_depth, at_loop, at_supp, completion_becomes, moves, settles};
+ghost use Rattle.java_control.specs.Exceptions.{caught, clauses_of_kind, enters};
 ghost use Rattle.java_control.specs.Remaining.{Out, Supp};
 ghost use Rattle.java_control.specs.Statements.{close_fork, close_front};
 ghost use Rattle.java_control.specs.declared.action.Action.TheVariants as actions;
@@ -11,7 +11,7 @@ ghost use Rattle.java_control.specs.declared.item.Item.TheVariants as items;
 ghost use Rattle.java_control.specs.declared.place.Place.TheVariants as places;
 ghost use Rattle.java_control.specs.Tables.{Keeps, bare, highest, highest_of, view_in};
 
-use crate::action::{Action, Completion, Edge, Scope, TargetForm};
+use crate::action::{Action, ClauseId, Completion, Edge, Scope, TargetForm};
 use crate::change::{Change, Front};
 use crate::exceptions::{may_take, takes_wholly};
 use crate::fronts::{deeper, flat, front_of, one_way};
@@ -110,18 +110,19 @@ fn add_entry(
     alloc: Global,
     changes: &mut Vec<Change>,
     body: &Body,
+    id: ClauseId,
     clause: &CatchClause,
     b: u32,
     d: u32,
 ) -> Result<(), NoMemory>
-    ensures means { OnOk result (map bare_change changes.new.items ≡ map bare_change changes.old.items ++ enters body.now b d clause.now ∷ []) }
+    ensures means { OnOk result (map bare_change changes.new.items ≡ map bare_change changes.old.items ++ enters body.now id.statement id.index b d clause.now ∷ []) }
     ensures small { OnOk result (highest_changes changes.new.items ≡ highest_changes changes.old.items) }
 {
-    let scope = Scope::Variables(clause.variable, clause.variable);
+    let scope = Scope::Variable(clause.variable);
     let pos = statement_place(body, clause.block);
     let front = flat(alloc, &[Item::Do(clause.block, b), Item::Leave(scope, pos)])?;
     changes.push(Change {
-        action: Action::Enter(clause.variable, b, d),
+        action: Action::Enter(id, clause.variable, b, d),
         edge: Edge::Go,
         uses: 2,
         front,
@@ -150,23 +151,28 @@ fn caught(
     alloc: Global,
     p: &Program,
     body: &Body,
+    s: StmtId,
     clauses: &[CatchClause],
     b: u32,
     d: u32,
     t: ClassId,
     pos: Pos,
 ) -> Result<Vec<Change>, NoMemory>
-    ensures means { IfOk result (λ v. map bare_change v.items ≡ caught p.now body.now clauses.now b d t pos) }
+    ensures means { IfOk result (λ v. map bare_change v.items ≡ caught p.now body.now s 0 clauses.now b d t pos) }
     ensures small { IfOk result (λ v. highest_changes v.items ≡ 0) }
 {
     let mut changes = Vec::new(alloc);
-    for clause in clauses {
+    for (index, clause) in clauses.iter().enumerate() {
+        let id = ClauseId {
+            statement: s,
+            index,
+        };
         if takes_wholly(p, t, clause) {
-            add_entry(alloc, &mut changes, body, clause, b, d)?;
+            add_entry(alloc, &mut changes, body, id, clause, b, d)?;
             return Ok(changes);
         }
         if may_take(p, t, clause) {
-            add_entry(alloc, &mut changes, body, clause, b, d)?;
+            add_entry(alloc, &mut changes, body, id, clause, b, d)?;
         }
     }
     add_passage(alloc, &mut changes, Completion::Throw(d, t, pos))?;
@@ -178,18 +184,19 @@ fn caught_by(
     alloc: Global,
     p: &Program,
     body: &Body,
+    s: StmtId,
     kind: &StatementKind,
     b: u32,
     d: u32,
     t: ClassId,
     pos: Pos,
 ) -> Result<Vec<Change>, NoMemory>
-    ensures means { IfOk result (λ v. map bare_change v.items ≡ caught p.now body.now (clauses_of_kind kind.now) b d t pos) }
+    ensures means { IfOk result (λ v. map bare_change v.items ≡ caught p.now body.now s 0 (clauses_of_kind kind.now) b d t pos) }
     ensures small { IfOk result (λ v. highest_changes v.items ≡ 0) }
 {
     match kind {
-        StatementKind::Try(try_) => caught(alloc, p, body, &try_.catches, b, d, t, pos),
-        _ => caught(alloc, p, body, &[], b, d, t, pos),
+        StatementKind::Try(try_) => caught(alloc, p, body, s, &try_.catches, b, d, t, pos),
+        _ => caught(alloc, p, body, s, &[], b, d, t, pos),
     }
 }
 
@@ -207,8 +214,8 @@ fn at_catch(
 {
     match c {
         Completion::Throw(d, t, pos) => match body.statement(s) {
-            None => caught(alloc, p, body, &[], b, d, t, pos),
-            Some(found) => caught_by(alloc, p, body, &found.kind, b, d, t, pos),
+            None => caught(alloc, p, body, s, &[], b, d, t, pos),
+            Some(found) => caught_by(alloc, p, body, s, &found.kind, b, d, t, pos),
         },
         _ => moves(alloc, &[Item::Out(c)]),
     }

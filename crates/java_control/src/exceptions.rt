@@ -1,16 +1,22 @@
 //! The exceptions that an action throws, and the catch clauses that take them.
 
 ghost use Rattle.std.specs.Prelude.{◌≡◌, ◌++◌, ◌∷◌, [], map, IfOk, OnOk};
-ghost use Rattle.std.specs.List.{list_any};
 ghost use Rattle.program_model.specs.Lookups.{optional};
+ghost use Rattle.std.specs.List.{position_from};
+ghost use Rattle.java_control.specs.Leaving.{HasEdges};
+ghost use Rattle.program_model.specs.Hierarchy.{IsHierarchy};
+ghost use Rattle.program_model.specs.SuperTests.{has_class};
 ghost use Rattle.java_control.specs.Changes.{bare_change, highest_changes};
-ghost use Rattle.java_control.specs.Exceptions.{action_becomes, caught, declared_exceptions, exception_depth, exceptions_of, goes_on, has_class, heeded, is_ignored, is_under, may_take, operator_exceptions, other_exceptions, receiver_exceptions, takes_some, takes_wholly, throws, throws_clause, with_class, with_classes};
+ghost use Rattle.java_control.specs.Exceptions.{action_becomes, class_count, clause_taken, clauses_of_kind, exception_depth, exceptions_of, goes_on, heeded, heeded_by_call, is_heeded_under, is_wholly_ignored, may_take, operator_exceptions, receiver_exceptions, some_heeded, takes_some, takes_wholly, throws, throws_clause, throws_some_heeded, unchecked, with_class, with_classes};
 
 use crate::action::{Action, Completion, Edge, Operator, Scope};
 use crate::change::Change;
 use crate::fronts::{flat, one_way};
 use crate::item::Item;
-use program_model::{BinaryOperator, Body, CatchClause, ClassId, MethodId, Program, StmtId};
+use program_model::{
+    BinaryOperator, Body, CatchClause, ClassId, MethodId, Program, StatementKind, StmtId,
+    is_ignored, under,
+};
 use rlc_base::{NoMemory, Pos};
 use std::alloc::Global;
 
@@ -20,27 +26,46 @@ fn has_class(classes: &[ClassId], class: ClassId) -> bool
     classes.iter().any(|x| *x == class)
 }
 
-// Whether `class` is `other` or a subclass of it.
-fn is_under(p: &Program, class: ClassId, other: ClassId) -> bool
-    ensures { result ≡ is_under p.now class other }
+// Whether the class is under a class that is ignored with its subclasses.
+fn is_wholly_ignored(p: &Program, class: ClassId) -> bool
+    ensures { result ≡ is_wholly_ignored p.now class }
 {
-    match p.class(class) {
-        None => class == other,
-        Some(found) => has_class(&found.above, other),
+    p.ignored.iter().any(|d| under(p, class, *d))
+}
+
+// Whether the class is under `t` and not ignored.
+fn is_heeded_under(p: &Program, t: ClassId, class: ClassId) -> bool
+    ensures { result ≡ is_heeded_under p.now t class }
+{
+    under(p, class, t) && !is_ignored(p, class)
+}
+
+// Whether a class of the program that is under `t` is not ignored, by looking at all classes.
+fn some_heeded(p: &Program, t: ClassId) -> bool
+    ensures { result ≡ some_heeded p.now t (class_count p.now) }
+{
+    let count = p.classes.len().min(4294967296);
+    let mut some = false;
+    for k in 0..count {
+        let heeded = is_heeded_under(p, t, ClassId(k as u32));
+        some = some || heeded;
     }
+    some
 }
 
-fn is_under_any(p: &Program, class: ClassId, others: &[ClassId]) -> bool
-    ensures { result ≡ list_any (λ d. is_under p.now class d) others.now }
+// Whether a class of the program that is under `t` is not ignored.
+fn throws_some_heeded(p: &Program, t: ClassId) -> bool
+    ensures { result ≡ throws_some_heeded p.now t }
 {
-    others.iter().any(|d| is_under(p, class, *d))
-}
-
-// Whether exceptions of the class are ignored.
-fn is_ignored(p: &Program, class: ClassId) -> bool
-    ensures { result ≡ is_ignored p.now class }
-{
-    is_under_any(p, class, &p.ignored) || has_class(&p.exact, class)
+    if is_ignored(p, t) {
+        if is_wholly_ignored(p, t) {
+            false
+        } else {
+            some_heeded(p, t)
+        }
+    } else {
+        true
+    }
 }
 
 fn add_class(classes: &mut Vec<ClassId>, class: ClassId) -> Result<(), NoMemory>
@@ -72,6 +97,21 @@ fn add_heeded(p: &Program, classes: &mut Vec<ClassId>, more: &[ClassId]) -> Resu
     Ok(())
 }
 
+fn add_heeded_by_call(
+    p: &Program,
+    classes: &mut Vec<ClassId>,
+    more: &[ClassId],
+) -> Result<(), NoMemory>
+    ensures { OnOk result (classes.new.items ≡ with_classes classes.old.items (heeded_by_call p.now more.now)) }
+{
+    for class in more {
+        if throws_some_heeded(p, *class) {
+            add_class(classes, *class)?;
+        }
+    }
+    Ok(())
+}
+
 // The classes of the first list, and those of the second that are not ignored, each once.
 fn thrown(
     alloc: Global,
@@ -87,14 +127,23 @@ fn thrown(
     Ok(classes)
 }
 
+// The classes of a throws clause, and the unchecked ones of which some exceptions are not ignored, each once.
+fn thrown_beside(alloc: Global, p: &Program, declared: &[ClassId]) -> Result<Vec<ClassId>, NoMemory>
+    ensures { IfOk result (λ v. v.items ≡ with_classes (with_classes [] declared.now) (heeded_by_call p.now (unchecked p.now))) }
+{
+    let mut classes = Vec::new(alloc);
+    add_classes(&mut classes, declared)?;
+    add_heeded_by_call(p, &mut classes, &[p.core.runtime_exception, p.core.error])?;
+    Ok(classes)
+}
+
 // The exceptions of a call: those of the throws clause, and the unchecked ones.
 fn thrown_by_call(alloc: Global, p: &Program, m: MethodId) -> Result<Vec<ClassId>, NoMemory>
-    ensures { IfOk result (λ v. v.items ≡ with_classes (with_classes [] (throws_clause p.now m)) (heeded p.now (p.now.core.runtime_exception ∷ p.now.core.error ∷ []))) }
+    ensures { IfOk result (λ v. v.items ≡ with_classes (with_classes [] (throws_clause p.now m)) (heeded_by_call p.now (unchecked p.now))) }
 {
-    let others = [p.core.runtime_exception, p.core.error];
     match p.method(m) {
-        None => thrown(alloc, p, &[], &others),
-        Some(found) => thrown(alloc, p, &found.sig.throws, &others),
+        None => thrown_beside(alloc, p, &[]),
+        Some(found) => thrown_beside(alloc, p, &found.sig.throws),
     }
 }
 
@@ -241,13 +290,13 @@ pub fn action_changes(
 pub fn takes_wholly(p: &Program, t: ClassId, clause: &CatchClause) -> bool
     ensures { result ≡ takes_wholly p.now t clause.now }
 {
-    clause.classes.iter().any(|c| is_under(p, t, *c))
+    clause.classes.iter().any(|c| under(p, t, *c))
 }
 
 fn takes_some(p: &Program, t: ClassId, clause: &CatchClause) -> bool
     ensures { result ≡ takes_some p.now t clause.now }
 {
-    clause.classes.iter().any(|c| is_under(p, *c, t))
+    clause.classes.iter().any(|c| under(p, *c, t))
 }
 
 pub fn may_take(p: &Program, t: ClassId, clause: &CatchClause) -> bool
@@ -255,3 +304,37 @@ pub fn may_take(p: &Program, t: ClassId, clause: &CatchClause) -> bool
 {
     takes_wholly(p, t, clause) || takes_some(p, t, clause)
 }
+
+fn first_taking(p: &Program, clauses: &[CatchClause], class: ClassId) -> Option<usize>
+    ensures { result ≡ position_from (takes_wholly p.now class) 0 clauses.now }
+{
+    clauses.iter().position(|c| takes_wholly(p, class, c))
+}
+
+fn clause_of_kind(p: &Program, kind: &StatementKind, class: ClassId) -> Option<usize>
+    ensures { result ≡ position_from (takes_wholly p.now class) 0 (clauses_of_kind kind.now) }
+{
+    match kind {
+        StatementKind::Try(found) => first_taking(p, &found.catches, class),
+        _ => first_taking(p, &[], class),
+    }
+}
+
+/// Which catch clause of a `try` statement takes an exception whose own class is `class` (JLS 11.3): the first that names a
+/// class which it is under, by the number of clauses before it. None where no clause takes it, and it goes on.
+pub fn clause_taken(p: &Program, body: &Body, s: StmtId, class: ClassId) -> Option<usize>
+    ensures { result ≡ clause_taken p.now body.now s class }
+{
+    match body.statement(s) {
+        None => None,
+        Some(found) => clause_of_kind(p, &found.kind, class),
+    }
+}
+
+/// The law of the edges by which exceptions leave: where the hierarchy of the program is valid, an exception of a class that
+/// is not ignored leaves an action by an edge that the steps of the action have (JLS 11.2).
+#[tactic(auto, using(crate::proofs::LeavingLaws::has_edges))]
+pub fn edges_of_exceptions(p: &Program, action: Action)
+    requires { IsHierarchy p.now }
+    ensures { HasEdges p.now action }
+{}

@@ -2,6 +2,7 @@
 #![tactic(auto)]
 
 mod action;
+mod calls;
 mod cell;
 mod change;
 mod completions;
@@ -16,20 +17,26 @@ mod lists;
 mod owned;
 mod place;
 mod places;
+mod scopes;
 mod shape;
 mod shapes;
+mod sources;
 mod statements;
 mod steps;
 mod triple;
 
-pub use action::{Action, Completion, Edge, Operator, PlainValue, Scope, TargetForm};
+pub use action::{Action, ClauseId, Completion, Edge, Operator, PlainValue, Scope, TargetForm};
+pub use calls::{called_method, completion_temp, operand_at, target_form};
 pub use cell::Cell;
 pub use change::{Change, Front};
 pub use control::{next, start};
+pub use exceptions::{clause_taken, edges_of_exceptions, exceptions_of};
 pub use fact::{Fact, Mode, Origin, OriginKind, Outcome, Rule};
 pub use item::{Closing, Condition, Item};
 pub use lists::Lists;
-pub use owned::field_place;
+pub use owned::{declares_field, field_place, has_place};
 pub use place::{Place, Places};
+pub use scopes::is_dropped;
+pub use sources::source;
 pub use steps::changes;
 pub use triple::Triple;

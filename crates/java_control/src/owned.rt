@@ -1,7 +1,7 @@
 //! Owning fields that are reached through `this`.
 
 ghost use Rattle.std.specs.Prelude.{◌≡◌, length};
-ghost use Rattle.java_control.specs.Owned.{field_number, fields_beside, has_place, is_owning, is_this, is_this_kind, owning_before, place_of_field};
+ghost use Rattle.java_control.specs.Owned.{declares_field, field_number, fields_beside, has_place, is_owning, is_this, is_this_kind, owning_before, place_of_field};
 ghost use Rattle.program_model.specs.Lookups.{field_at};
 
 use crate::place::Place;
@@ -66,12 +66,30 @@ pub fn is_this(body: &Body, e: ExprId) -> bool
     }
 }
 
-/// Whether the field of the value of `e` is an owning field of `this`, which has a place of its own.
+/// Whether the body stands in the class that declares the field.
+pub fn declares_field(p: &Program, body: &Body, f: FieldId) -> bool
+    ensures { result ≡ declares_field p.now body.now f }
+{
+    match p.method(body.method) {
+        None => false,
+        Some(method) => match p.field(f) {
+            None => false,
+            Some(found) => method.class == found.class,
+        },
+    }
+}
+
+/// Whether the field of the value of `e` has a place of its own: it is an owning field of `this`, written or implied, that
+/// the body's class declares.
 pub fn has_place(p: &Program, body: &Body, e: ExprId, f: FieldId) -> bool
     ensures { result ≡ has_place p.now body.now e f }
 {
     if is_this(body, e) {
-        is_owning(p, f)
+        if is_owning(p, f) {
+            declares_field(p, body, f)
+        } else {
+            false
+        }
     } else {
         false
     }

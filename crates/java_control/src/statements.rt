@@ -4,7 +4,7 @@ ghost use Rattle.std.specs.Prelude.{◌≡◌, ◌≤◌, ◌++◌, ◌∷◌, [
 ghost use Rattle.java_control.specs.Changes.{front_in, highest_front};
 ghost use Rattle.java_control.specs.Remaining.{Do, For};
 ghost use Rattle.program_model.specs.Lookups.{statement_at};
-ghost use Rattle.java_control.specs.Statements.{block_front, body_front, class_of_type, decided, decision_of, declaration_front, declarator_front, declared_at, declared_by, declared_in, expression_statement, finally_front, first_items, first_items_at, clauses_front, for_condition, for_decision, for_front, for_turn, head_front, initial_front, initial_variables, list_of_branch, listed_front, loop_turn, opens, closes, resources_front, return_front, run_of, statement_front, straight_front, straight_turn, super_front, try_front, turn_decision, widened, widened_by};
+ghost use Rattle.java_control.specs.Statements.{block_front, body_front, class_of_type, decided, decision_of, declaration_front, declarator_front, expression_statement, finally_front, first_items, first_items_at, clauses_front, for_condition, for_decision, for_front, for_turn, head_front, initial_front, list_of_branch, listed_front, loop_turn, opens, closes, resources_front, return_front, statement_front, straight_front, straight_turn, super_front, try_front, turn_decision};
 ghost use Rattle.java_control.specs.Tables.{Keeps, bare, highest_of, list_at};
 ghost use Rattle.java_control.specs.declared.item.Item.TheVariants as items;
 
@@ -24,70 +24,19 @@ use program_model::{
 use rlc_base::{NoMemory, Pos};
 use std::alloc::Global;
 
-// The least run of variables with those of a scope and `x`.
-fn widened(scope: Scope, x: u32) -> Scope
-    ensures { result ≡ widened scope x }
-{
-    match scope {
-        Scope::Nothing => Scope::Variables(x, x),
-        Scope::Variables(first, last) => Scope::Variables(first.min(x), last.max(x)),
-        Scope::Temp(d) => Scope::Temp(d),
-        Scope::TempsAbove(d) => Scope::TempsAbove(d),
-    }
-}
-
-fn widened_by_names(scope: Scope, names: &[Declarator]) -> Scope
-    ensures { result ≡ widened_by scope (map (λ x. x.variable) names.now) }
-{
-    let mut run = scope;
-    for name in names {
-        run = widened(run, name.variable);
-    }
-    run
-}
-
-fn widened_by_kind(scope: Scope, kind: &StatementKind) -> Scope
-    ensures { result ≡ widened_by scope (declared_by kind.now) }
-{
-    match kind {
-        StatementKind::LocalDeclaration(names) => widened_by_names(scope, names),
-        _ => scope,
-    }
-}
-
-fn widened_by_statement(body: &Body, scope: Scope, s: StmtId) -> Scope
-    ensures { result ≡ widened_by scope (declared_at (statement_at body.now s)) }
-{
-    match body.statement(s) {
-        None => scope,
-        Some(found) => widened_by_kind(scope, &found.kind),
-    }
-}
-
-// The run of the variables that statements declare directly.
-fn declared_run(body: &Body, statements: &[StmtId]) -> Scope
-    ensures { result ≡ run_of (declared_in body.now statements.now) }
-{
-    let mut run = Scope::Nothing;
-    for s in statements {
-        run = widened_by_statement(body, run, *s);
-    }
-    run
-}
-
 #[tactic(auto, using(crate::proofs::FlatLemmas::flat_means, crate::proofs::FlatLemmas::flat_small))]
 fn block_items(
     alloc: Global,
-    body: &Body,
+    s: StmtId,
     statements: &[StmtId],
     d: u32,
     pos: Pos,
 ) -> Result<Vec<Item>, NoMemory>
-    ensures means { IfOk result (λ v. map bare v.items ≡ block_front body.now statements.now d pos) }
+    ensures means { IfOk result (λ v. map bare v.items ≡ block_front s statements.now d pos) }
     ensures small { IfOk result (λ v. highest_of v.items ≡ 0) }
 {
     let mut items = dos(alloc, statements, d)?;
-    items.push(Item::Leave(declared_run(body, statements), pos))?;
+    items.push(Item::Leave(Scope::Declared(s), pos))?;
     Ok(items)
 }
 
@@ -190,15 +139,6 @@ fn initial_items(
     }
 }
 
-fn initial_run(initial: &ForInitial) -> Scope
-    ensures { result ≡ run_of (initial_variables initial.now) }
-{
-    match initial {
-        ForInitial::Declaration(names) => widened_by_names(Scope::Nothing, names),
-        ForInitial::Expressions(_) => Scope::Nothing,
-    }
-}
-
 #[tactic(auto, using(crate::proofs::FlatLemmas::flat_means, crate::proofs::FlatLemmas::flat_small))]
 fn for_items(
     alloc: Global,
@@ -212,7 +152,7 @@ fn for_items(
     ensures small { IfOk result (λ v. highest_of v.items ≡ 0) }
 {
     let mut items = initial_items(alloc, body, d, &l.initial)?;
-    let rest = [Item::For(s, d), Item::Leave(initial_run(&l.initial), pos)];
+    let rest = [Item::For(s, d), Item::Leave(Scope::Declared(s), pos)];
     items.extend_from_slice(&rest)?;
     Ok(items)
 }
@@ -264,7 +204,7 @@ fn closes(alloc: Global, s: StmtId, d: u32, r: &Resource) -> Result<Vec<Item>, N
         pos: r.pos,
         statement: s,
     };
-    let scope = Scope::Variables(r.variable, r.variable);
+    let scope = Scope::Variable(r.variable);
     items_of(alloc, &[Item::Close(closing, d), Item::Leave(scope, r.pos)])
 }
 
@@ -387,7 +327,7 @@ fn straight_items(
 {
     use program_model::StatementKind as Kind;
     match kind {
-        Kind::Block(statements, _) => block_items(alloc, body, statements, d, pos),
+        Kind::Block(statements, _) => block_items(alloc, s, statements, d, pos),
         Kind::Empty => items_of(alloc, &[]),
         Kind::LocalDeclaration(names) => declaration_items(alloc, body, d, names),
         Kind::Expression(e) => expression_items(alloc, *e, d, pos),

@@ -1,5 +1,6 @@
 -- The tree of the closed front of a list of tokens, and why there is none.
 use Rattle.std.specs.Prelude.{◌≡◌, ℕ, false, List, Some, None, map, slice_index_or, ⊤}
+use Rattle.rlc_base.specs.declared.code.Code.TheVariants as refused
 use Rattle.rlc_base.specs.declared.place.Pos.{Pos}
 use Rattle.rlc_base.specs.declared.faults.Refusal.{Refusal}
 use Rattle.rlc_base.specs.declared.faults.Stop.{Stop}
@@ -39,14 +40,14 @@ annotations_on s = (the_annotations (top s)).list
 
 -- There is no closed front, and the place is that of the first token at which no sentence of the symbol goes on, or the end's.
 pub record IsWrongFront (symbol : Symbol) (tokens : List Lexeme) (end : Pos) (r : Refusal) : Type 0 where
-  pub code : r.code ≡ 20
+  pub code : r.code ≡ refused.Syntax
   pub at : ℕ
   pub none : HasNoFront false symbol tokens (fails.WrongAt at)
   pub place : r.pos ≡ slice_index_or (map (λ t. t.pos) tokens) at end
 
 -- There is a closed front, and its tree has more levels than these.
 pub record IsDeepFront (symbol : Symbol) (limit : ℕ) (tokens : List Lexeme) (r : Refusal) : Type 0 where
-  pub code : r.code ≡ 61
+  pub code : r.code ≡ refused.TooDeep
   pub count : ℕ
   pub steps : List Step
   pub front : IsClosedFront false symbol tokens count steps

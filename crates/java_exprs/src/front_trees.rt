@@ -12,7 +12,7 @@ use java_actions::evaluate;
 use java_grammar::{DeriveFail, derive_front};
 use java_syntax::{Anno, Expr, Symbol, Token, Typ};
 use java_values::{BuildFail, Value, pop_annotations, pop_expression, pop_type};
-use rlc_base::{Pos, Refusal, Stop};
+use rlc_base::{Code, Pos, Refusal, Stop};
 use std::alloc::Global;
 
 /// The place of the token of this number, and the end where there is none.
@@ -42,12 +42,16 @@ fn front_values(
         Err(DeriveFail::NoMemory) => Err(Stop::NoMemory),
         Err(DeriveFail::WrongAt(at)) => {
             let pos = place_at(tokens, at, end);
-            Err(Stop::Refused(Refusal { code: 20, pos }))
+            let code = Code::Syntax;
+            Err(Refusal { code, pos }.stop())
         }
         Ok((events, count)) => match evaluate(alloc, limit, bytes, events.as_slice()) {
             Ok(stack) => Ok((stack, count)),
             Err(BuildFail::NoMemory) => Err(Stop::NoMemory),
-            Err(BuildFail::TooDeep(pos)) => Err(Stop::TooMuch(Refusal { code: 61, pos })),
+            Err(BuildFail::TooDeep(pos)) => {
+                let code = Code::TooDeep;
+                Err(Refusal { code, pos }.stop())
+            }
         },
     }
 }
@@ -56,8 +60,8 @@ fn front_values(
 ///
 /// # Errors
 ///
-/// `Refused` with code 20 where no expression ends: at the first token at which none goes on, or at the end. `TooMuch` with
-/// code 61 where it has more levels.
+/// `Refused` with `Code::Syntax` where no expression ends: at the first token at which none goes on, or at the end. `TooMuch` with
+/// `Code::TooDeep` where it has more levels.
 pub(crate) fn expression_front(
     alloc: Global,
     bytes: &[u8],
@@ -84,7 +88,7 @@ pub(crate) fn expression_front(
 ///
 /// # Errors
 ///
-/// `Refused` with code 20 where no type ends: at the first token at which none goes on, or at the end.
+/// `Refused` with `Code::Syntax` where no type ends: at the first token at which none goes on, or at the end.
 pub(crate) fn type_front(
     alloc: Global,
     bytes: &[u8],
@@ -118,8 +122,8 @@ fn turned(list: Vec<Anno>) -> Vec<Anno>
 ///
 /// # Errors
 ///
-/// `Refused` with code 20 where an annotation doesn't end: at the first token at which none goes on, or at the end. `TooMuch`
-/// with code 61 where one has more levels.
+/// `Refused` with `Code::Syntax` where an annotation doesn't end: at the first token at which none goes on, or at the end. `TooMuch`
+/// with `Code::TooDeep` where one has more levels.
 pub(crate) fn annotations_front(
     alloc: Global,
     bytes: &[u8],

@@ -4,19 +4,17 @@ ghost use Rattle.java_syntax.specs.declared.names.Typ.{Typ as TypTree};
 ghost use Rattle.java_syntax.specs.declared.symbols.Symbol.TheVariants as symbols;
 ghost use Rattle.java_syntax.specs.ExpressionTrees.{ExprTree, expr_of};
 ghost use Rattle.java_syntax.specs.AnnotationTrees.{AnnoTree, anno_of};
-ghost use Rattle.java_exprs.specs.Classes.{lexeme_of_token};
+ghost use Rattle.java_grammar.specs.Reached.{lexemes_of};
 ghost use Rattle.java_exprs.specs.FrontTrees.{IsFrontTree, IsFrontStop, expression_on, type_on, annotations_on};
 
-use crate::classes::classed;
 use crate::front_trees::{annotations_front, expression_front, type_front};
-use crate::sources::{Source, end_place};
-use java_lexer::Token as FileToken;
-use java_syntax::{Anno, Expr, Typ};
+use java_lexer::{Source, end_place};
+use java_syntax::{Anno, Expr, Token, Typ};
 use rlc_base::Stop;
 use std::alloc::Global;
 
 /// The tokens from this number on.
-fn tokens_from(tokens: &[FileToken], at: usize) -> &[FileToken]
+fn tokens_from(tokens: &[Token], at: usize) -> &[Token]
     ensures { result.now ≡ drop at tokens.now }
 {
     tokens.get(at..).unwrap_or(&[])
@@ -27,8 +25,8 @@ fn tokens_from(tokens: &[FileToken], at: usize) -> &[FileToken]
 ///
 /// # Errors
 ///
-/// `Refused` with code 20 where no expression ends: at the first token at which none goes on, or behind the last byte of the
-/// file. `TooMuch` with code 61 where it has more levels.
+/// `Refused` with `Code::Syntax` where no expression ends: at the first token at which none goes on, or behind the last byte of the
+/// file. `TooMuch` with `Code::TooDeep` where it has more levels.
 pub fn parse_expr(
     alloc: Global,
     source: &Source,
@@ -37,18 +35,13 @@ pub fn parse_expr(
 ) -> Result<(Expr, usize), Stop>
     requires { length source.now.bytes.now < 2 ^ 32 - 1 }
     ensures behind { IfOk result (λ found. at ≤ found.1) }
-    ensures parsed { IfOk result (λ found. IsFrontTree expression_on symbols.Expression (128 - level) (map (lexeme_of_token source.now.bytes.now) (drop at source.now.tokens.now)) (found.1 - at) (expr_of found.0)) }
-    ensures only { IfOk result (λ found. (count : ℕ) (tree : ExprTree) → IsFrontTree expression_on symbols.Expression (128 - level) (map (lexeme_of_token source.now.bytes.now) (drop at source.now.tokens.now)) count tree → (count ≡ found.1 - at) × (tree ≡ expr_of found.0)) }
-    ensures stopped { IfErr result (λ stop. IsFrontStop symbols.Expression (128 - level) (map (lexeme_of_token source.now.bytes.now) (drop at source.now.tokens.now)) (place_behind source.now.file source.now.bytes.now) stop) }
+    ensures parsed { IfOk result (λ found. IsFrontTree expression_on symbols.Expression (128 - level) (lexemes_of source.now.bytes.now (drop at source.now.tokens.now)) (found.1 - at) (expr_of found.0)) }
+    ensures only { IfOk result (λ found. (count : ℕ) (tree : ExprTree) → IsFrontTree expression_on symbols.Expression (128 - level) (lexemes_of source.now.bytes.now (drop at source.now.tokens.now)) count tree → (count ≡ found.1 - at) × (tree ≡ expr_of found.0)) }
+    ensures stopped { IfErr result (λ stop. IsFrontStop symbols.Expression (128 - level) (lexemes_of source.now.bytes.now (drop at source.now.tokens.now)) (place_behind source.now.file source.now.bytes.now) stop) }
 {
-    let rest = Source {
-        file: source.file,
-        bytes: source.bytes,
-        tokens: tokens_from(source.tokens, at),
-    };
-    let tokens = classed(alloc, &rest)?;
+    let tokens = tokens_from(source.tokens, at);
     let end = end_place(source);
-    match expression_front(alloc, source.bytes, tokens.as_slice(), end, level) {
+    match expression_front(alloc, source.bytes, tokens, end, level) {
         Ok((e, count)) => Ok((e, at + count)),
         Err(stop) => Err(stop),
     }
@@ -58,23 +51,18 @@ pub fn parse_expr(
 ///
 /// # Errors
 ///
-/// `Refused` with code 20 where no type ends: at the first token at which none goes on, or behind the last byte of the
+/// `Refused` with `Code::Syntax` where no type ends: at the first token at which none goes on, or behind the last byte of the
 /// file.
 pub fn parse_type(alloc: Global, source: &Source, at: usize) -> Result<(Typ, usize), Stop>
     requires { length source.now.bytes.now < 2 ^ 32 - 1 }
     ensures behind { IfOk result (λ found. at ≤ found.1) }
-    ensures parsed { IfOk result (λ found. IsFrontTree type_on symbols.Type 128 (map (lexeme_of_token source.now.bytes.now) (drop at source.now.tokens.now)) (found.1 - at) found.0) }
-    ensures only { IfOk result (λ found. (count : ℕ) (tree : TypTree) → IsFrontTree type_on symbols.Type 128 (map (lexeme_of_token source.now.bytes.now) (drop at source.now.tokens.now)) count tree → (count ≡ found.1 - at) × (tree ≡ found.0)) }
-    ensures stopped { IfErr result (λ stop. IsFrontStop symbols.Type 128 (map (lexeme_of_token source.now.bytes.now) (drop at source.now.tokens.now)) (place_behind source.now.file source.now.bytes.now) stop) }
+    ensures parsed { IfOk result (λ found. IsFrontTree type_on symbols.Type 128 (lexemes_of source.now.bytes.now (drop at source.now.tokens.now)) (found.1 - at) found.0) }
+    ensures only { IfOk result (λ found. (count : ℕ) (tree : TypTree) → IsFrontTree type_on symbols.Type 128 (lexemes_of source.now.bytes.now (drop at source.now.tokens.now)) count tree → (count ≡ found.1 - at) × (tree ≡ found.0)) }
+    ensures stopped { IfErr result (λ stop. IsFrontStop symbols.Type 128 (lexemes_of source.now.bytes.now (drop at source.now.tokens.now)) (place_behind source.now.file source.now.bytes.now) stop) }
 {
-    let rest = Source {
-        file: source.file,
-        bytes: source.bytes,
-        tokens: tokens_from(source.tokens, at),
-    };
-    let tokens = classed(alloc, &rest)?;
+    let tokens = tokens_from(source.tokens, at);
     let end = end_place(source);
-    match type_front(alloc, source.bytes, tokens.as_slice(), end) {
+    match type_front(alloc, source.bytes, tokens, end) {
         Ok((typ, count)) => Ok((typ, at + count)),
         Err(stop) => Err(stop),
     }
@@ -85,8 +73,8 @@ pub fn parse_type(alloc: Global, source: &Source, at: usize) -> Result<(Typ, usi
 ///
 /// # Errors
 ///
-/// `Refused` with code 20 where an annotation doesn't end: at the first token at which none goes on, or behind the last byte of the
-/// file. `TooMuch` with code 61 where one has more levels.
+/// `Refused` with `Code::Syntax` where an annotation doesn't end: at the first token at which none goes on, or behind the last byte of the
+/// file. `TooMuch` with `Code::TooDeep` where one has more levels.
 pub fn parse_annos(
     alloc: Global,
     source: &Source,
@@ -95,18 +83,13 @@ pub fn parse_annos(
 ) -> Result<(Vec<Anno>, usize), Stop>
     requires { length source.now.bytes.now < 2 ^ 32 - 1 }
     ensures behind { IfOk result (λ found. at ≤ found.1) }
-    ensures parsed { IfOk result (λ found. IsFrontTree annotations_on symbols.Annotations (128 - level) (map (lexeme_of_token source.now.bytes.now) (drop at source.now.tokens.now)) (found.1 - at) (map anno_of found.0.items)) }
-    ensures only { IfOk result (λ found. (count : ℕ) (tree : List AnnoTree) → IsFrontTree annotations_on symbols.Annotations (128 - level) (map (lexeme_of_token source.now.bytes.now) (drop at source.now.tokens.now)) count tree → (count ≡ found.1 - at) × (tree ≡ map anno_of found.0.items)) }
-    ensures stopped { IfErr result (λ stop. IsFrontStop symbols.Annotations (128 - level) (map (lexeme_of_token source.now.bytes.now) (drop at source.now.tokens.now)) (place_behind source.now.file source.now.bytes.now) stop) }
+    ensures parsed { IfOk result (λ found. IsFrontTree annotations_on symbols.Annotations (128 - level) (lexemes_of source.now.bytes.now (drop at source.now.tokens.now)) (found.1 - at) (map anno_of found.0.items)) }
+    ensures only { IfOk result (λ found. (count : ℕ) (tree : List AnnoTree) → IsFrontTree annotations_on symbols.Annotations (128 - level) (lexemes_of source.now.bytes.now (drop at source.now.tokens.now)) count tree → (count ≡ found.1 - at) × (tree ≡ map anno_of found.0.items)) }
+    ensures stopped { IfErr result (λ stop. IsFrontStop symbols.Annotations (128 - level) (lexemes_of source.now.bytes.now (drop at source.now.tokens.now)) (place_behind source.now.file source.now.bytes.now) stop) }
 {
-    let rest = Source {
-        file: source.file,
-        bytes: source.bytes,
-        tokens: tokens_from(source.tokens, at),
-    };
-    let tokens = classed(alloc, &rest)?;
+    let tokens = tokens_from(source.tokens, at);
     let end = end_place(source);
-    match annotations_front(alloc, source.bytes, tokens.as_slice(), end, level) {
+    match annotations_front(alloc, source.bytes, tokens, end, level) {
         Ok((all, count)) => Ok((all, at + count)),
         Err(stop) => Err(stop),
     }

@@ -2,17 +2,21 @@
 use Rattle.std.proofs.Common.{◌≡◌, ℕ, zero, suc, ◌+◌, ◌<◌, ◌≤◌, Bool, true, false, List, [], ◌∷◌, ◌++◌, length, take, drop, refl, sym, ap, ◌∙◌, subst, arith, inl, inr}
 use Rattle.std.specs.Prelude.{◌⊎◌, ◌||◌, ◌&&◌, ◌==◌, not, nat_lt, slice_index, if◌then◌else◌, Option, Some, None}
 use Rattle.std.specs.List.{AllByRecursion}
+use Rattle.std.specs.Option.{option_map}
 use Rattle.std.specs.Str.{IsUtf8, IsValidUpTo}
 use Rattle.std.proofs.Math.Utf8.{low_scalar}
 use Rattle.std.proofs.lemmas.Bool.{and_parts, or_parts, or_left, or_right, cond-true, cond-false, false≢true, ltb-true, not-true, cases_lt, cases_order}
 use Rattle.std.proofs.lemmas.List.{get_or-take, length-take-le, length-drop, take_all}
 use Rattle.std.proofs.lemmas.Str.{encode_ascii}
 use Rattle.unicode_ident.proofs.IdentLemmas.{is_xid_start-ascii}
-use Rattle.java_lexer.specs.declared.token.Token.{Token}
+use Rattle.rlc_base.specs.Codes.{number_of}
+use Rattle.rlc_base.specs.declared.code.Code.{Code}
+use Rattle.rlc_base.specs.declared.code.Code.TheVariants.{BadByte, OpenComment, OpenText, BadLiteral, LeftOutWord}
+use Rattle.java_syntax.specs.declared.tokens.Token.{Token}
 use Rattle.java_lexer.specs.declared.token.TokenKind.{TokenKind}
 use Rattle.java_lexer.specs.declared.token.TokenKind.TheVariants.{Ident, Reserved, Literal, Separator, Operator}
 use Rattle.java_lexer.specs.Characters.{is_identifier_start, BeginsWith}
-use Rattle.java_lexer.specs.Words.{is_listed, reserved_words, left_out_words, value_words, separators, operators}
+use Rattle.java_lexer.specs.Words.{is_listed, reserved_words, left_out_words, value_words, separators, operators, class_of}
 use Rattle.java_lexer.specs.Reading.{closing_quote}
 use Rattle.java_lexer.specs.Tokens.{IsSkipped, IsToken, blank, line_comment, block_comment, identifier, reserved, named_value, integer, character, string, separator, operator}
 use Rattle.java_lexer.specs.Refusals.{Refuses, by_byte, by_comment, by_text, by_literal, by_word, IsBadByte, bad_byte, IsOpenComment, open_comment, IsOpenText, open_character, open_string, IsBadLiteral, bad_number, fraction, bad_character, bad_string, text_block, IsLeftOutWord}
@@ -100,8 +104,8 @@ left_out_begins (b ∷ rest) left =
       spelled = ap (λ xs. xs ++ rest) (sym (encode_ascii b low));
     }
 
-module _ (text : List ℕ) (c d : ℕ) where
-  both : (n : ℕ) → c ≡ n → d ≡ n → c ≡ d
+module _ (text : List ℕ) (c d : Code) where
+  both : (n : Code) → c ≡ n → d ≡ n → c ≡ d
   both n e f = e ∙ sym f
 
   clash : (quote : ℕ) (open_rest : List ℕ) (len : ℕ) (rest : List ℕ) → text ≡ quote ∷ open_rest → closing_quote quote false open_rest ≡ None
@@ -112,35 +116,35 @@ module _ (text : List ℕ) (c d : ℕ) where
 
   one_refusal : (s : Sort) → RefusalOf s c text → RefusalOf s d text → c ≡ d
   one_refusal Space is also = absurd is
-  one_refusal Mark (inl is) (inl also) = both 11 is.is also.is
+  one_refusal Mark (inl is) (inl also) = both OpenComment is.is also.is
   one_refusal Mark (inl is) (inr also) = let e : ◌≡◌ {A = ℕ} 47 46 = ap (λ xs. slice_index xs 0) (sym is.spelled ∙ also.spelled) in absurd (omega arith)
   one_refusal Mark (inr is) (inl also) = let e : ◌≡◌ {A = ℕ} 46 47 = ap (λ xs. slice_index xs 0) (sym is.spelled ∙ also.spelled) in absurd (omega arith)
-  one_refusal Mark (inr is) (inr also) = both 13 is.is also.is
-  one_refusal Digit is also = both 13 is.is also.is
-  one_refusal Single (inl is) (inl also) = both 12 is.is also.is
+  one_refusal Mark (inr is) (inr also) = both BadLiteral is.is also.is
+  one_refusal Digit is also = both BadLiteral is.is also.is
+  one_refusal Single (inl is) (inl also) = both OpenText is.is also.is
   one_refusal Single (inl is) (inr also) = clash 39 is.rest also.len also.rest is.spelled is.open_end also.spelled also.closed
   one_refusal Single (inr is) (inl also) = clash 39 also.rest is.len is.rest also.spelled also.open_end is.spelled is.closed
-  one_refusal Single (inr is) (inr also) = both 13 is.is also.is
-  one_refusal Double (inl is) (inl also) = both 12 is.is also.is
+  one_refusal Single (inr is) (inr also) = both BadLiteral is.is also.is
+  one_refusal Double (inl is) (inl also) = both OpenText is.is also.is
   one_refusal Double (inl is) (inr (inl also)) = clash 34 is.rest also.len also.rest is.spelled is.open_end also.spelled also.closed
   one_refusal Double (inl is) (inr (inr also)) = clash 34 is.rest 0 (34 ∷ 34 ∷ also.rest) is.spelled is.open_end also.spelled refl
   one_refusal Double (inr (inl is)) (inl also) = clash 34 also.rest is.len is.rest also.spelled also.open_end is.spelled is.closed
   one_refusal Double (inr (inr is)) (inl also) = clash 34 also.rest 0 (34 ∷ 34 ∷ is.rest) also.spelled also.open_end is.spelled refl
-  one_refusal Double (inr (inl is)) (inr (inl also)) = both 13 is.is also.is
-  one_refusal Double (inr (inl is)) (inr (inr also)) = both 13 is.is also.is
-  one_refusal Double (inr (inr is)) (inr (inl also)) = both 13 is.is also.is
-  one_refusal Double (inr (inr is)) (inr (inr also)) = both 13 is.is also.is
-  one_refusal Letter (inl is) (inl also) = both 10 is.is also.is
+  one_refusal Double (inr (inl is)) (inr (inl also)) = both BadLiteral is.is also.is
+  one_refusal Double (inr (inl is)) (inr (inr also)) = both BadLiteral is.is also.is
+  one_refusal Double (inr (inr is)) (inr (inl also)) = both BadLiteral is.is also.is
+  one_refusal Double (inr (inr is)) (inr (inr also)) = both BadLiteral is.is also.is
+  one_refusal Letter (inl is) (inl also) = both BadByte is.is also.is
   one_refusal Letter (inl is) (inr also) = absurd (is.none (left_out_begins text also.word))
   one_refusal Letter (inr is) (inl also) = absurd (also.none (left_out_begins text is.word))
-  one_refusal Letter (inr is) (inr also) = both 14 is.is also.is
+  one_refusal Letter (inr is) (inr also) = both LeftOutWord is.is also.is
 
 -- one code refuses a text
-pub one_code : (text : List ℕ) (c d : ℕ) → Refuses c text → Refuses d text → c ≡ d
+pub one_code : (text : List ℕ) (c d : Code) → Refuses c text → Refuses d text → c ≡ d
 one_code text c d is also = one_refusal text c d (first_sort text) (refusal_by_sort c text is) (refusal_by_sort d text also)
 
--- the codes begin at 10
-pub code_least : (text : List ℕ) (c : ℕ) → Refuses c text → 10 ≤ c
+-- the numbers of the codes begin at 10
+pub code_least : (text : List ℕ) (c : Code) → Refuses c text → 10 ≤ number_of c
 code_least text c (by_byte is) = omega arith
 code_least text c (by_comment is) = omega arith
 code_least text c (by_text is) = omega arith
@@ -169,7 +173,7 @@ left_out_filled : (text : List ℕ) → IsLeftOutWord text → 0 < length text
 left_out_filled [] left = absurd (false≢true (left_out_first [] left.len left.listed))
 left_out_filled (b ∷ bs) left = omega arith
 
-pub refusal_filled : (text : List ℕ) (c : ℕ) → Refuses c text → 0 < length text
+pub refusal_filled : (text : List ℕ) (c : Code) → Refuses c text → 0 < length text
 refusal_filled text c (by_byte is) = bad_byte_filled text is
 refusal_filled text c (by_comment is) = open_comment_filled text is
 refusal_filled text c (by_text is) = open_text_filled text is
@@ -193,7 +197,7 @@ no_front : (bytes : List ℕ) (at n : ℕ) → at ≡ length bytes → IsFront n
 no_front bytes at n e front = let within : at + n ≤ length bytes = front_within bytes at n front in absurd (omega (arith, front_more (drop at bytes) n front))
 
 -- the place of a refusal lies within the text
-refusal_within : (bytes : List ℕ) (at c : ℕ) → Refuses c (drop at bytes) → at < length bytes
+refusal_within : (bytes : List ℕ) (at : ℕ) (c : Code) → Refuses c (drop at bytes) → at < length bytes
 refusal_within bytes at c refuses = omega (arith, refusal_filled (drop at bytes) c refuses, length-drop at bytes)
 
 pub cut_unique : (file : ℕ) (bytes : List ℕ) {at : ℕ} {tokens others : List Token} → Cut file bytes at tokens → Cut file bytes at others → tokens ≡ others
@@ -218,11 +222,11 @@ cut_unique file bytes {at} (take_token {tokens = us} kind n front is rest) (take
     ∙ ap (λ ts. token_at file bytes other_kind at m ∷ ts) (cut_unique file bytes rest (subst (λ k. Cut file bytes (at + k) vs) same more))
 
 -- a place and a code
-pub record AreSame (place other_place code other_code : ℕ) : Type 0 where
+pub record AreSame (place other_place : ℕ) (code other_code : Code) : Type 0 where
   pub places : place ≡ other_place
   pub codes : code ≡ other_code
 
-pub stuck_unique : (bytes : List ℕ) {at place other_place code other_code : ℕ} → Stuck bytes at place code → Stuck bytes at other_place other_code → AreSame place other_place code other_code
+pub stuck_unique : (bytes : List ℕ) {at place other_place : ℕ} {code other_code : Code} → Stuck bytes at place code → Stuck bytes at other_place other_code → AreSame place other_place code other_code
 stuck_unique bytes {at} {place} {other_place} {code} {other_code} (here e is) (here f also) = record { places = e ∙ sym f; codes = one_code (drop at bytes) code other_code is also }
 stuck_unique bytes {at} {place} {other_place} {code} {other_code} (here e is) (behind n front rest) = absurd (front.taken code is)
 stuck_unique bytes {at} {place} {other_place} {code} {other_code} (behind n front rest) (here e is) = absurd (front.taken other_code is)
@@ -230,7 +234,7 @@ stuck_unique bytes {at} {place} {other_place} {code} {other_code} (behind n fron
     let same : m ≡ n = front_same (drop at bytes) m n other front in
     stuck_unique bytes rest (subst (λ k. Stuck bytes (at + k) other_place other_code) same more)
 
-pub stuck_not_cut : (file : ℕ) (bytes : List ℕ) {at place code : ℕ} {tokens : List Token} → Stuck bytes at place code → Cut file bytes at tokens → ⊥
+pub stuck_not_cut : (file : ℕ) (bytes : List ℕ) {at place : ℕ} {code : Code} {tokens : List Token} → Stuck bytes at place code → Cut file bytes at tokens → ⊥
 stuck_not_cut file bytes {at} {place} {code} (here f is) (ended e) = let within : at < length bytes = refusal_within bytes at code is in absurd (omega arith)
 stuck_not_cut file bytes {at} {place} {code} (here f is) (skip n front skips rest) = front.taken code is
 stuck_not_cut file bytes {at} {place} {code} (here f is) (take_token kind n front token' rest) = front.taken code is
@@ -242,11 +246,11 @@ stuck_not_cut file bytes {at} {place} {code} (behind n front rest) (take_token k
     let same : n ≡ m = front_same (drop at bytes) n m front other in
     stuck_not_cut file bytes (subst (λ k. Stuck bytes (at + k) place code) same rest) more
 
-pub record IsStuckWithin (bytes : List ℕ) (place code : ℕ) : Type 0 where
+pub record IsStuckWithin (bytes : List ℕ) (place : ℕ) (code : Code) : Type 0 where
   pub within : place < length bytes
-  pub code_fits : 10 ≤ code
+  pub code_fits : 10 ≤ number_of code
 
-pub stuck_within : (bytes : List ℕ) {at place code : ℕ} → Stuck bytes at place code → IsStuckWithin bytes place code
+pub stuck_within : (bytes : List ℕ) {at place : ℕ} {code : Code} → Stuck bytes at place code → IsStuckWithin bytes place code
 stuck_within bytes {at} {place} {code} (here e is) =
     let within : at < length bytes = refusal_within bytes at code is in
     record { within = omega arith; code_fits = code_least (drop at bytes) code is }
@@ -264,48 +268,48 @@ pub valid_not_utf8 : (bytes : List ℕ) (n : ℕ) → IsValidUpTo bytes n → Is
 valid_not_utf8 bytes n valid utf8 = valid.longest (length bytes) valid.short (subst (λ bs. IsUtf8 bs) (sym (take_all (length bytes) bytes (omega arith))) utf8)
 
 -- the refusals, by where the bytes stop being UTF-8 and where their cut is stuck
-pub stuck_first : (bytes : List ℕ) (place code : ℕ) → Stuck bytes 0 place code → ((n : ℕ) → IsValidUpTo bytes n → place < n) → IsRefusal bytes place code
+pub stuck_first : (bytes : List ℕ) (place : ℕ) (code : Code) → Stuck bytes 0 place code → ((n : ℕ) → IsValidUpTo bytes n → place < n) → IsRefusal bytes place code
 stuck_first bytes place code is later = record { fault = stuck is; least = least }
   where
-    least : (other_place other_code : ℕ) → IsFault bytes other_place other_code → (place < other_place) ⊎ ((place ≡ other_place) × (code ≤ other_code))
+    least : (other_place : ℕ) (other_code : Code) → IsFault bytes other_place other_code → (place < other_place) ⊎ ((place ≡ other_place) × (number_of code ≤ number_of other_code))
     least other_place other_code (no_utf8 valid) = inl (later other_place valid)
-    least other_place other_code (stuck also) = let same = stuck_unique bytes is also in inr (same.places, omega (arith, same.codes))
+    least other_place other_code (stuck also) = let same = stuck_unique bytes is also in inr (same.places, omega (arith, ap number_of same.codes))
 
-pub utf8_first : (bytes : List ℕ) (n : ℕ) → IsValidUpTo bytes n → ((place code : ℕ) → Stuck bytes 0 place code → n ≤ place) → IsRefusal bytes n 10
+pub utf8_first : (bytes : List ℕ) (n : ℕ) → IsValidUpTo bytes n → ((place : ℕ) (code : Code) → Stuck bytes 0 place code → n ≤ place) → IsRefusal bytes n BadByte
 utf8_first bytes n valid later = record { fault = no_utf8 valid; least = least }
   where
-    least : (other_place other_code : ℕ) → IsFault bytes other_place other_code → (n < other_place) ⊎ ((n ≡ other_place) × (10 ≤ other_code))
+    least : (other_place : ℕ) (other_code : Code) → IsFault bytes other_place other_code → (n < other_place) ⊎ ((n ≡ other_place) × (10 ≤ number_of other_code))
     least other_place other_code (no_utf8 also) = inr (valid_unique bytes n other_place valid also, omega arith)
     least other_place other_code (stuck also) = elim (cases_lt n other_place) [
       | inl more ↦ inl more
       | inr less ↦ let place : n ≤ other_place = later other_place other_code also in inr (omega arith, (stuck_within bytes also).code_fits)
     ]
 
-fault_not_cut : (file : ℕ) (bytes : List ℕ) (place code : ℕ) (tokens : List Token) → IsCut file bytes tokens → IsFault bytes place code → ⊥
+fault_not_cut : (file : ℕ) (bytes : List ℕ) (place : ℕ) (code : Code) (tokens : List Token) → IsCut file bytes tokens → IsFault bytes place code → ⊥
 fault_not_cut file bytes place code tokens cut (no_utf8 valid) = valid_not_utf8 bytes place valid cut.utf8
 fault_not_cut file bytes place code tokens cut (stuck is) = stuck_not_cut file bytes is cut.cut
 
 -- bytes that are refused have no cut
-pub refusal_not_cut : (file : ℕ) (bytes : List ℕ) (place code : ℕ) (tokens : List Token) → IsRefusal bytes place code → IsCut file bytes tokens → ⊥
+pub refusal_not_cut : (file : ℕ) (bytes : List ℕ) (place : ℕ) (code : Code) (tokens : List Token) → IsRefusal bytes place code → IsCut file bytes tokens → ⊥
 refusal_not_cut file bytes place code tokens refusal cut = fault_not_cut file bytes place code tokens cut refusal.fault
 
 -- the tokens of a cut lie within the bytes and are tokens
 pub cut_tokens : (file : ℕ) (bytes : List ℕ) {at : ℕ} {tokens : List Token} → Cut file bytes at tokens → AllByRecursion (IsTokenOf bytes) tokens
 cut_tokens file bytes (ended e) = tt
 cut_tokens file bytes (skip n front is rest) = cut_tokens file bytes rest
-cut_tokens file bytes {at} (take_token kind n front is rest) = (record { fits = front_within bytes at n front; is = is }, cut_tokens file bytes rest)
+cut_tokens file bytes {at} (take_token kind n front is rest) = (record { fits = front_within bytes at n front; kind = kind; is = is; word = refl }, cut_tokens file bytes rest)
 
 -- a piece at the front goes before what the rest is cut into
 pub cut_more : (file : ℕ) (bytes : List ℕ) (at n : ℕ) (kind : Option TokenKind) (tokens : List Token) → IsFrontOf (drop at bytes) (Piece kind n) → Cut file bytes (at + n) tokens
-    → Cut file bytes at (tokens_of kind at n (place_behind file (take at bytes)) ++ tokens)
+    → Cut file bytes at (tokens_of (option_map (λ k. class_of k (take n (drop at bytes))) kind) at n (place_behind file (take at bytes)) ++ tokens)
 cut_more file bytes at n None tokens front rest = skip n front.0 front.1 rest
 cut_more file bytes at n (Some kind) tokens front rest = take_token kind n front.0 front.1 rest
 
 -- what a stop says
-pub stop_at : (file : ℕ) (bytes : List ℕ) (place code : ℕ) (stop : Stop) → stop ≡ refused_at file bytes place code → IsRefusal bytes place code → IsStopAt file bytes stop
+pub stop_at : (file : ℕ) (bytes : List ℕ) (place : ℕ) (code : Code) (stop : Stop) → stop ≡ refused_at file bytes place code → IsRefusal bytes place code → IsStopAt file bytes stop
 stop_at file bytes place code stop e refusal = subst (λ s. IsStopAt file bytes s) (sym e) (place, refusal, refl)
 
-pub stop_no_cut : (file : ℕ) (bytes : List ℕ) (place code : ℕ) (stop : Stop) → stop ≡ refused_at file bytes place code → IsRefusal bytes place code → HasNoCut file bytes stop
+pub stop_no_cut : (file : ℕ) (bytes : List ℕ) (place : ℕ) (code : Code) (stop : Stop) → stop ≡ refused_at file bytes place code → IsRefusal bytes place code → HasNoCut file bytes stop
 stop_no_cut file bytes place code stop e refusal = subst (λ s. HasNoCut file bytes s) (sym e) (λ tokens cut. refusal_not_cut file bytes place code tokens refusal cut)
 
 -- the length of the front that is UTF-8
@@ -315,20 +319,20 @@ pub record IsUtf8Len (bytes : List ℕ) (n : ℕ) : Type 0 where
   pub part : n < length bytes → IsValidUpTo bytes n
 
 -- a text that is cut whole, and is not UTF-8
-pub cut_refusal : (file : ℕ) (bytes : List ℕ) (n : ℕ) (tokens : List Token) → IsUtf8Len bytes n → (n ≡ length bytes → ⊥) → Cut file bytes 0 tokens → IsRefusal bytes n 10
+pub cut_refusal : (file : ℕ) (bytes : List ℕ) (n : ℕ) (tokens : List Token) → IsUtf8Len bytes n → (n ≡ length bytes → ⊥) → Cut file bytes 0 tokens → IsRefusal bytes n BadByte
 cut_refusal file bytes n tokens valid less cut = elim (cases_lt n (length bytes)) [
   | inl short ↦ utf8_first bytes n (valid.part short) (λ place code is. absurd (stuck_not_cut file bytes is cut))
   | inr long ↦ absurd (less (omega (arith, valid.within)))
 ]
 
 -- a text whose cut is stuck before it stops being UTF-8, and not before
-pub stuck_refusal : (bytes : List ℕ) (n place code : ℕ) → IsUtf8Len bytes n → place < n → Stuck bytes 0 place code → IsRefusal bytes place code
+pub stuck_refusal : (bytes : List ℕ) (n place : ℕ) (code : Code) → IsUtf8Len bytes n → place < n → Stuck bytes 0 place code → IsRefusal bytes place code
 stuck_refusal bytes n place code valid before is = stuck_first bytes place code is (λ m other. elim (cases_lt n (length bytes)) [
   | inl short ↦ let same : n ≡ m = valid_unique bytes n m (valid.part short) other in omega arith
   | inr long ↦ absurd (valid_not_utf8 bytes m other (valid.whole (omega (arith, valid.within))))
 ])
 
-pub late_refusal : (bytes : List ℕ) (n place code : ℕ) → IsUtf8Len bytes n → n ≤ place → Stuck bytes 0 place code → IsRefusal bytes n 10
+pub late_refusal : (bytes : List ℕ) (n place : ℕ) (code : Code) → IsUtf8Len bytes n → n ≤ place → Stuck bytes 0 place code → IsRefusal bytes n BadByte
 late_refusal bytes n place code valid late is =
     let within : place < length bytes = (stuck_within bytes is).within in
     utf8_first bytes n (valid.part (omega arith)) (λ other_place other_code also.

@@ -7,6 +7,8 @@ use Rattle.std.specs.Str.{bytes_eq}
 use Rattle.std.proofs.lemmas.Bool.{or_cases, false≢true}
 use Rattle.std.proofs.lemmas.List.{take-append-drop, length-take-le}
 use Rattle.std.proofs.lemmas.List.Folds.{list_any-append}
+use Rattle.rlc_base.specs.declared.code.Code.{Code}
+use Rattle.rlc_base.specs.declared.code.Code.TheVariants.{OpenComment, BadLiteral}
 use Rattle.java_lexer.specs.declared.fronts.Front.TheVariants.{Piece, Refused}
 use Rattle.java_lexer.specs.declared.token.TokenKind.TheVariants.{Separator, Operator}
 use Rattle.java_lexer.specs.Characters.{is_blank, is_line_end}
@@ -23,7 +25,7 @@ use Rattle.java_lexer.proofs.EndLaws.{none_some, comment_end_more, comment_end_f
 
 -- a front by the sort of its first byte
 pub front_by : (text : List ℕ) (n : ℕ) (s : Sort) → first_sort text ≡ s → n ≤ length text → IsPiece (take n text)
-    → ((m : ℕ) → m ≤ length text → PieceOf s (take m text) → m ≤ n) → ((code : ℕ) → RefusalOf s code text → ⊥) → IsFront n text
+    → ((m : ℕ) → m ≤ length text → PieceOf s (take m text) → m ≤ n) → ((code : Code) → RefusalOf s code text → ⊥) → IsFront n text
 front_by text n s sort fits piece longest none = record {
   fits = fits;
   piece = piece;
@@ -53,7 +55,7 @@ symbol_longest text n m at separator_fits operator_fits inside (inr (inr (inl is
 symbol_longest text n m at separator_fits operator_fits inside (inr (inr (inr is))) =
     let bytes = front_two text m 47 42 is.body is.spelled in absurd (at.no_block bytes.0 bytes.1)
 
-symbol_taken : (text : List ℕ) → IsSymbolAt text → (code : ℕ) → RefusalOf Mark code text → ⊥
+symbol_taken : (text : List ℕ) → IsSymbolAt text → (code : Code) → RefusalOf Mark code text → ⊥
 symbol_taken text at code (inl is) = at.no_block (ap (λ xs. slice_index xs 0) is.spelled) (ap (λ xs. slice_index xs 1) is.spelled)
 symbol_taken text at code (inr is) =
     at.no_digit (ap (λ xs. slice_index xs 0) is.spelled) (ap (λ xs. is_ascii_digit (slice_index xs 1)) is.spelled ∙ is.is_digit)
@@ -129,7 +131,7 @@ line_longest rest m inside (inr (inr (inl is))) =
 line_longest rest m inside (inr (inr (inr is))) =
     let body = body_of 47 47 42 rest is.body m is.spelled in absurd (omega (arith, body.second))
 
-line_taken : (rest : List ℕ) (code : ℕ) → RefusalOf Mark code (47 ∷ 47 ∷ rest) → ⊥
+line_taken : (rest : List ℕ) (code : Code) → RefusalOf Mark code (47 ∷ 47 ∷ rest) → ⊥
 line_taken rest code (inl is) = let e : ◌≡◌ {A = ℕ} 47 42 = ap (λ xs. slice_index xs 1) is.spelled in absurd (omega arith)
 line_taken rest code (inr is) = let e : ◌≡◌ {A = ℕ} 47 46 = ap (λ xs. slice_index xs 0) is.spelled in absurd (omega arith)
 
@@ -164,7 +166,7 @@ block_longest rest n m closed two inside (inr (inr (inr is))) =
     some_is : (i j : ℕ) → ◌≡◌ {A = Option ℕ} (Some i) (Some j) → i ≡ j
     some_is i j e = cc
 
-block_taken : (rest : List ℕ) (n : ℕ) → comment_end rest ≡ Some n → (code : ℕ) → RefusalOf Mark code (47 ∷ 42 ∷ rest) → ⊥
+block_taken : (rest : List ℕ) (n : ℕ) → comment_end rest ≡ Some n → (code : Code) → RefusalOf Mark code (47 ∷ 42 ∷ rest) → ⊥
 block_taken rest n closed code (inl is) =
     let same : rest ≡ is.rest = ap (drop 2) is.spelled in none_some n (sym is.open_end ∙ ap comment_end (sym same) ∙ closed)
 block_taken rest n closed code (inr is) = let e : ◌≡◌ {A = ℕ} 47 46 = ap (λ xs. slice_index xs 0) is.spelled in absurd (omega arith)
@@ -182,11 +184,11 @@ block_front rest n closed =
 pub block_comment_front : (text : List ℕ) (n : ℕ) → text ≡ 47 ∷ 42 ∷ drop 2 text → comment_end (drop 2 text) ≡ Some n → IsFrontOf text (Piece None (2 + n))
 block_comment_front text n whole closed = subst (λ xs. IsFrontOf xs (Piece None (2 + n))) (sym whole) (block_front (drop 2 text) n closed)
 
-pub open_comment_front : (text : List ℕ) → text ≡ 47 ∷ 42 ∷ drop 2 text → comment_end (drop 2 text) ≡ None → IsFrontOf text (Refused 11)
-open_comment_front text whole none = subst (λ xs. IsFrontOf xs (Refused 11)) (sym whole) (by_comment (open_comment (drop 2 text) none))
+pub open_comment_front : (text : List ℕ) → text ≡ 47 ∷ 42 ∷ drop 2 text → comment_end (drop 2 text) ≡ None → IsFrontOf text (Refused OpenComment)
+open_comment_front text whole none = subst (λ xs. IsFrontOf xs (Refused OpenComment)) (sym whole) (by_comment (open_comment (drop 2 text) none))
 
 -- a number that begins with a point
-pub fraction_front : (text : List ℕ) → slice_index text 0 ≡ 46 → is_ascii_digit (slice_index text 1) ≡ true → IsFrontOf text (Refused 13)
+pub fraction_front : (text : List ℕ) → slice_index text 0 ≡ 46 → is_ascii_digit (slice_index text 1) ≡ true → IsFrontOf text (Refused BadLiteral)
 fraction_front [] first is = absurd (omega arith)
 fraction_front (a ∷ []) first is = absurd (false≢true is)
-fraction_front (a ∷ b ∷ rest) first is = subst (λ n. IsFrontOf (n ∷ b ∷ rest) (Refused 13)) (sym first) (by_literal (fraction b rest is))
+fraction_front (a ∷ b ∷ rest) first is = subst (λ n. IsFrontOf (n ∷ b ∷ rest) (Refused BadLiteral)) (sym first) (by_literal (fraction b rest is))

@@ -6,6 +6,8 @@ use Rattle.std.specs.Char.{is_ascii_digit, encode_utf8}
 use Rattle.std.proofs.lemmas.Bool.{or_left, or_right, false≢true, false_from_ne_true}
 use Rattle.std.proofs.lemmas.List.{get_or-take, length-take-le, length-append, take_at}
 use Rattle.std.proofs.lemmas.Str.{length-encode, len_utf8_bounds}
+use Rattle.rlc_base.specs.declared.code.Code.{Code}
+use Rattle.rlc_base.specs.declared.code.Code.TheVariants.{BadByte, OpenComment, OpenText, BadLiteral, LeftOutWord}
 use Rattle.java_lexer.specs.declared.token.TokenKind.{TokenKind}
 use Rattle.java_lexer.specs.Characters.{is_line_end, is_identifier_start, BeginsWith, IsIdentifier}
 use Rattle.java_lexer.specs.Words.{is_listed, reserved_words, left_out_words, value_words, is_special_word, separators, operators}
@@ -109,51 +111,51 @@ piece_at text s m sort inside piece =
     subst (λ t. PieceOf t (take m text)) (ap sort_of first ∙ sort) (piece_by_sort (take m text) piece)
 
 -- what a refusal is at a text that begins with a byte of this sort
-pub record IsOpenBlock (code : ℕ) (text : List ℕ) : Type 0 where
+pub record IsOpenBlock (code : Code) (text : List ℕ) : Type 0 where
   pub rest : List ℕ
   pub spelled : text ≡ 47 ∷ 42 ∷ rest
   pub open_end : comment_end rest ≡ None
-  pub is : code ≡ 11
+  pub is : code ≡ OpenComment
 
-pub record IsFraction (code : ℕ) (text : List ℕ) : Type 0 where
+pub record IsFraction (code : Code) (text : List ℕ) : Type 0 where
   pub digit : ℕ
   pub rest : List ℕ
   pub spelled : text ≡ 46 ∷ digit ∷ rest
   pub is_digit : is_ascii_digit digit ≡ true
-  pub is : code ≡ 13
+  pub is : code ≡ BadLiteral
 
-pub record IsOpenQuote (quote code : ℕ) (text : List ℕ) : Type 0 where
+pub record IsOpenQuote (quote : ℕ) (code : Code) (text : List ℕ) : Type 0 where
   pub rest : List ℕ
   pub spelled : text ≡ quote ∷ rest
   pub open_end : closing_quote quote false rest ≡ None
-  pub is : code ≡ 12
+  pub is : code ≡ OpenText
 
-pub record IsBadQuote (quote : ℕ) (test : List ℕ → Bool) (code : ℕ) (text : List ℕ) : Type 0 where
+pub record IsBadQuote (quote : ℕ) (test : List ℕ → Bool) (code : Code) (text : List ℕ) : Type 0 where
   pub len : ℕ
   pub rest : List ℕ
   pub spelled : text ≡ quote ∷ rest
   pub closed : closing_quote quote false rest ≡ Some len
   pub unknown : test (take len rest) ≡ false
-  pub is : code ≡ 13
+  pub is : code ≡ BadLiteral
 
-pub record IsBlockQuote (code : ℕ) (text : List ℕ) : Type 0 where
+pub record IsBlockQuote (code : Code) (text : List ℕ) : Type 0 where
   pub rest : List ℕ
   pub spelled : text ≡ 34 ∷ 34 ∷ 34 ∷ rest
-  pub is : code ≡ 13
+  pub is : code ≡ BadLiteral
 
-pub record IsNoStart (code : ℕ) (text : List ℕ) : Type 0 where
+pub record IsNoStart (code : Code) (text : List ℕ) : Type 0 where
   pub none : BeginsWith is_identifier_start text → ⊥
-  pub is : code ≡ 10
+  pub is : code ≡ BadByte
 
-pub record IsLeftOut (code : ℕ) (text : List ℕ) : Type 0 where
+pub record IsLeftOut (code : Code) (text : List ℕ) : Type 0 where
   pub word : IsLeftOutWord text
-  pub is : code ≡ 14
+  pub is : code ≡ LeftOutWord
 
-pub record IsNoInteger (code : ℕ) (text : List ℕ) : Type 0 where
+pub record IsNoInteger (code : Code) (text : List ℕ) : Type 0 where
   pub none : (n : ℕ) → IsWholeInteger n text → ⊥
-  pub is : code ≡ 13
+  pub is : code ≡ BadLiteral
 
-abbrev pub RefusalOf : Sort → ℕ → List ℕ → Type 0
+abbrev pub RefusalOf : Sort → Code → List ℕ → Type 0
 RefusalOf Space code text = ⊥
 RefusalOf Mark code text = IsOpenBlock code text ⊎ IsFraction code text
 RefusalOf Digit code text = IsNoInteger code text
@@ -161,14 +163,14 @@ RefusalOf Single code text = IsOpenQuote 39 code text ⊎ IsBadQuote 39 is_chara
 RefusalOf Double code text = IsOpenQuote 34 code text ⊎ (IsBadQuote 34 (has_known_escapes false) code text ⊎ IsBlockQuote code text)
 RefusalOf Letter code text = IsNoStart code text ⊎ IsLeftOut code text
 
-refusal_of_sort : (text : List ℕ) (s : Sort) (code : ℕ) → first_sort text ≡ s → RefusalOf s code text → RefusalOf (first_sort text) code text
+refusal_of_sort : (text : List ℕ) (s : Sort) (code : Code) → first_sort text ≡ s → RefusalOf s code text → RefusalOf (first_sort text) code text
 refusal_of_sort text s code e refusal = subst (λ t. RefusalOf t code text) (sym e) refusal
 
 body_front : (quote : ℕ) (rest body : List ℕ) → IsClosed quote rest body → take (length body) rest ≡ body
 body_front quote rest body closed = ap (take (length body)) closed.spelled ∙ take_at body (quote ∷ closed.rest) (length body) refl
 
-bad_literal_by_sort : (text : List ℕ) → IsBadLiteral text → RefusalOf (first_sort text) 13 text
-bad_literal_by_sort text (bad_number b rest is none) = refusal_of_sort (b ∷ rest) Digit 13 (digit_sort b is) (record { none = none; is = refl })
+bad_literal_by_sort : (text : List ℕ) → IsBadLiteral text → RefusalOf (first_sort text) BadLiteral text
+bad_literal_by_sort text (bad_number b rest is none) = refusal_of_sort (b ∷ rest) Digit BadLiteral (digit_sort b is) (record { none = none; is = refl })
 bad_literal_by_sort text (fraction b rest is) = inr (record { digit = b; rest = rest; spelled = refl; is_digit = is; is = refl })
 bad_literal_by_sort text (bad_character rest body closed unknown) =
     inr (record { len = length body; rest = rest; spelled = refl; closed = closed_closes 39 rest body refl refl closed; unknown = ap is_character (body_front 39 rest body closed) ∙ unknown; is = refl })
@@ -183,33 +185,33 @@ bad_literal_by_sort text (bad_string rest body closed unknown) =
     }))
 bad_literal_by_sort text (text_block rest) = inr (inr (record { rest = rest; spelled = refl; is = refl }))
 
-open_text_by_sort : (text : List ℕ) → IsOpenText text → RefusalOf (first_sort text) 12 text
+open_text_by_sort : (text : List ℕ) → IsOpenText text → RefusalOf (first_sort text) OpenText text
 open_text_by_sort text (open_character rest none) = inl (record { rest = rest; spelled = refl; open_end = none_closes 39 rest none; is = refl })
 open_text_by_sort text (open_string rest none) = inl (record { rest = rest; spelled = refl; open_end = none_closes 34 rest none; is = refl })
 
-open_comment_by_sort : (text : List ℕ) → IsOpenComment text → RefusalOf (first_sort text) 11 text
+open_comment_by_sort : (text : List ℕ) → IsOpenComment text → RefusalOf (first_sort text) OpenComment text
 open_comment_by_sort text (open_comment rest none) = inl (record { rest = rest; spelled = refl; open_end = none; is = refl })
 
-bad_byte_by_sort : (text : List ℕ) → IsBadByte text → RefusalOf (first_sort text) 10 text
-bad_byte_by_sort text (bad_byte b rest none start) = refusal_of_sort (b ∷ rest) Letter 10 (other_sort b none) (inl (record { none = start; is = refl }))
+bad_byte_by_sort : (text : List ℕ) → IsBadByte text → RefusalOf (first_sort text) BadByte text
+bad_byte_by_sort text (bad_byte b rest none start) = refusal_of_sort (b ∷ rest) Letter BadByte (other_sort b none) (inl (record { none = start; is = refl }))
 
 -- a listed word at the front of a text begins with the text's first byte
 front_listed : (words : List (List ℕ)) (text : List ℕ) (n : ℕ) → is_listed words [] ≡ false → is_listed words (take n text) ≡ true → slice_index (take n text) 0 ≡ slice_index text 0
 front_listed words text zero none is = absurd (false≢true (sym none ∙ is))
 front_listed words text (suc n) none is = get_or-take (suc n) text 0 0 (omega arith)
 
-left_out_by_sort : (text : List ℕ) → IsLeftOutWord text → RefusalOf (first_sort text) 14 text
+left_out_by_sort : (text : List ℕ) → IsLeftOutWord text → RefusalOf (first_sort text) LeftOutWord text
 left_out_by_sort text left =
     let special : is_special_word (take left.len text) ≡ true =
     or_left _ (is_listed value_words (take left.len text)) (or_right (is_listed reserved_words (take left.len text)) (is_listed left_out_words (take left.len text)) left.listed) in
-    refusal_of_sort text Letter 14 (ap sort_of (sym (front_listed left_out_words text left.len refl left.listed)) ∙ special_sort (take left.len text) special) (inr (record { word = left; is = refl }))
+    refusal_of_sort text Letter LeftOutWord (ap sort_of (sym (front_listed left_out_words text left.len refl left.listed)) ∙ special_sort (take left.len text) special) (inr (record { word = left; is = refl }))
 
-pub refusal_by_sort : (code : ℕ) (text : List ℕ) → Refuses code text → RefusalOf (first_sort text) code text
+pub refusal_by_sort : (code : Code) (text : List ℕ) → Refuses code text → RefusalOf (first_sort text) code text
 refusal_by_sort code text (by_byte is) = bad_byte_by_sort text is
 refusal_by_sort code text (by_comment is) = open_comment_by_sort text is
 refusal_by_sort code text (by_text is) = open_text_by_sort text is
 refusal_by_sort code text (by_literal is) = bad_literal_by_sort text is
 refusal_by_sort code text (by_word is) = left_out_by_sort text is
 
-pub refusal_at : (text : List ℕ) (s : Sort) (code : ℕ) → first_sort text ≡ s → Refuses code text → RefusalOf s code text
+pub refusal_at : (text : List ℕ) (s : Sort) (code : Code) → first_sort text ≡ s → Refuses code text → RefusalOf s code text
 refusal_at text s code sort refuses = subst (λ t. RefusalOf t code text) sort (refusal_by_sort code text refuses)

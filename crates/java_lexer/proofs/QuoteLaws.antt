@@ -3,6 +3,8 @@ use Rattle.std.proofs.Common.{◌≡◌, ℕ, zero, suc, ◌+◌, ◌<◌, ◌�
 use Rattle.std.specs.Prelude.{slice_index, Some, None}
 use Rattle.std.proofs.lemmas.Bool.{both_ways}
 use Rattle.std.proofs.lemmas.List.{take-append-drop, length-append, length-take-le, take_more}
+use Rattle.rlc_base.specs.declared.code.Code.{Code}
+use Rattle.rlc_base.specs.declared.code.Code.TheVariants.{OpenText, BadLiteral}
 use Rattle.java_lexer.specs.declared.fronts.Front.TheVariants.{Piece, Refused}
 use Rattle.java_lexer.specs.declared.token.TokenKind.TheVariants.{Literal}
 use Rattle.java_lexer.specs.Literals.{is_character}
@@ -48,18 +50,18 @@ quoted_front quote rest n e =
       spelled = ap (λ k. take k (quote ∷ rest)) two ∙ ap (λ xs. quote ∷ xs) body;
     }
 
-not_open : (quote code : ℕ) (rest : List ℕ) (n : ℕ) → closing_quote quote false rest ≡ Some n → IsOpenQuote quote code (quote ∷ rest) → ⊥
+not_open : (quote : ℕ) (code : Code) (rest : List ℕ) (n : ℕ) → closing_quote quote false rest ≡ Some n → IsOpenQuote quote code (quote ∷ rest) → ⊥
 not_open quote code rest n closed is =
     let same : rest ≡ is.rest = ap (drop 1) is.spelled in
     none_some n (sym is.open_end ∙ ap (closing_quote quote false) (sym same) ∙ closed)
 
-not_bad : (quote code : ℕ) (test : List ℕ → Bool) (rest : List ℕ) (n : ℕ) → closing_quote quote false rest ≡ Some n → test (take n rest) ≡ true → IsBadQuote quote test code (quote ∷ rest) → ⊥
+not_bad : (quote : ℕ) (code : Code) (test : List ℕ → Bool) (rest : List ℕ) (n : ℕ) → closing_quote quote false rest ≡ Some n → test (take n rest) ≡ true → IsBadQuote quote test code (quote ∷ rest) → ⊥
 not_bad quote code test rest n closed known is =
     let same : rest ≡ is.rest = ap (drop 1) is.spelled in
     let len : n ≡ is.len = some_same n is.len (sym closed ∙ ap (closing_quote quote false) same ∙ is.closed) in
     both_ways (test (take n rest)) (ap (λ k. test (take k rest)) len ∙ ap (λ xs. test (take is.len xs)) same ∙ is.unknown) known
 
-character_taken : (rest : List ℕ) (n : ℕ) → closing_quote 39 false rest ≡ Some n → is_character (take n rest) ≡ true → (code : ℕ) → RefusalOf Single code (39 ∷ rest) → ⊥
+character_taken : (rest : List ℕ) (n : ℕ) → closing_quote 39 false rest ≡ Some n → is_character (take n rest) ≡ true → (code : Code) → RefusalOf Single code (39 ∷ rest) → ⊥
 character_taken rest n closed known code (inl is) = not_open 39 code rest n closed is
 character_taken rest n closed known code (inr is) = not_bad 39 code is_character rest n closed known is
 
@@ -74,15 +76,15 @@ pub character_front : (text : List ℕ) (n : ℕ) → text ≡ 39 ∷ drop 1 tex
     → IsFrontOf text (Piece (Some Literal) (n + 2))
 character_front text n whole closed known = subst (λ xs. IsFrontOf xs (Piece (Some Literal) (n + 2))) (sym whole) (character_by (drop 1 text) n closed known)
 
-pub open_character_front : (text : List ℕ) → text ≡ 39 ∷ drop 1 text → closing_quote 39 false (drop 1 text) ≡ None → IsFrontOf text (Refused 12)
-open_character_front text whole none = subst (λ xs. IsFrontOf xs (Refused 12)) (sym whole) (by_text (open_character (drop 1 text) (λ body closed. none_some (length body) (sym none ∙ closed_closes 39 (drop 1 text) body refl refl closed))))
+pub open_character_front : (text : List ℕ) → text ≡ 39 ∷ drop 1 text → closing_quote 39 false (drop 1 text) ≡ None → IsFrontOf text (Refused OpenText)
+open_character_front text whole none = subst (λ xs. IsFrontOf xs (Refused OpenText)) (sym whole) (by_text (open_character (drop 1 text) (λ body closed. none_some (length body) (sym none ∙ closed_closes 39 (drop 1 text) body refl refl closed))))
 
 pub bad_character_front : (text : List ℕ) (n : ℕ) → text ≡ 39 ∷ drop 1 text → closing_quote 39 false (drop 1 text) ≡ Some n → is_character (take n (drop 1 text)) ≡ false
-    → IsFrontOf text (Refused 13)
-bad_character_front text n whole closed unknown = subst (λ xs. IsFrontOf xs (Refused 13)) (sym whole) (by_literal (bad_character (drop 1 text) (take n (drop 1 text)) (closed_body 39 (drop 1 text) n closed) unknown))
+    → IsFrontOf text (Refused BadLiteral)
+bad_character_front text n whole closed unknown = subst (λ xs. IsFrontOf xs (Refused BadLiteral)) (sym whole) (by_literal (bad_character (drop 1 text) (take n (drop 1 text)) (closed_body 39 (drop 1 text) n closed) unknown))
 
 string_taken : (rest : List ℕ) (n : ℕ) → closing_quote 34 false rest ≡ Some n → has_known_escapes false (take n rest) ≡ true → (n ≡ 0 → slice_index rest 1 ≡ 34 → ⊥)
-    → (code : ℕ) → RefusalOf Double code (34 ∷ rest) → ⊥
+    → (code : Code) → RefusalOf Double code (34 ∷ rest) → ⊥
 string_taken rest n closed known no_block code (inl is) = not_open 34 code rest n closed is
 string_taken rest n closed known no_block code (inr (inl is)) = not_bad 34 code (has_known_escapes false) rest n closed known is
 string_taken rest n closed known no_block code (inr (inr is)) =
@@ -102,24 +104,24 @@ pub string_front : (text : List ℕ) (n : ℕ) → text ≡ 34 ∷ drop 1 text �
 string_front text n whole closed known no_block = subst (λ xs. IsFrontOf xs (Piece (Some Literal) (n + 2))) (sym whole)
     (string_by (drop 1 text) n closed known (λ none third. no_block none (ap (λ xs. slice_index xs 2) whole ∙ third)))
 
-pub open_string_front : (text : List ℕ) → text ≡ 34 ∷ drop 1 text → closing_quote 34 false (drop 1 text) ≡ None → IsFrontOf text (Refused 12)
-open_string_front text whole none = subst (λ xs. IsFrontOf xs (Refused 12)) (sym whole) (by_text (open_string (drop 1 text) (λ body closed. none_some (length body) (sym none ∙ closed_closes 34 (drop 1 text) body refl refl closed))))
+pub open_string_front : (text : List ℕ) → text ≡ 34 ∷ drop 1 text → closing_quote 34 false (drop 1 text) ≡ None → IsFrontOf text (Refused OpenText)
+open_string_front text whole none = subst (λ xs. IsFrontOf xs (Refused OpenText)) (sym whole) (by_text (open_string (drop 1 text) (λ body closed. none_some (length body) (sym none ∙ closed_closes 34 (drop 1 text) body refl refl closed))))
 
 pub bad_string_front : (text : List ℕ) (n : ℕ) → text ≡ 34 ∷ drop 1 text → closing_quote 34 false (drop 1 text) ≡ Some n → has_known_escapes false (take n (drop 1 text)) ≡ false
-    → IsFrontOf text (Refused 13)
-bad_string_front text n whole closed unknown = subst (λ xs. IsFrontOf xs (Refused 13)) (sym whole) (by_literal (bad_string (drop 1 text) (take n (drop 1 text)) (closed_body 34 (drop 1 text) n closed)
+    → IsFrontOf text (Refused BadLiteral)
+bad_string_front text n whole closed unknown = subst (λ xs. IsFrontOf xs (Refused BadLiteral)) (sym whole) (by_literal (bad_string (drop 1 text) (take n (drop 1 text)) (closed_body 34 (drop 1 text) n closed)
     (λ known. both_ways (has_known_escapes false (take n (drop 1 text))) unknown (body_known 34 (take n (drop 1 text)) known))))
 
 -- three quotes
-pub text_block_front : (text : List ℕ) → text ≡ 34 ∷ drop 1 text → closing_quote 34 false (drop 1 text) ≡ Some 0 → slice_index text 2 ≡ 34 → IsFrontOf text (Refused 13)
+pub text_block_front : (text : List ℕ) → text ≡ 34 ∷ drop 1 text → closing_quote 34 false (drop 1 text) ≡ Some 0 → slice_index text 2 ≡ 34 → IsFrontOf text (Refused BadLiteral)
 text_block_front text whole closed third =
     let front = closing_front 34 false (drop 1 text) 0 closed in
     three text (ap (λ xs. slice_index xs 0) whole) (ap (λ xs. slice_index xs 1) whole ∙ front.quote_is) third
   where
-    three : (text : List ℕ) → slice_index text 0 ≡ 34 → slice_index text 1 ≡ 34 → slice_index text 2 ≡ 34 → IsFrontOf text (Refused 13)
+    three : (text : List ℕ) → slice_index text 0 ≡ 34 → slice_index text 1 ≡ 34 → slice_index text 2 ≡ 34 → IsFrontOf text (Refused BadLiteral)
     three [] a b c = absurd (omega arith)
     three (x ∷ []) a b c = absurd (omega arith)
     three (x ∷ y ∷ []) a b c = absurd (omega arith)
     three (x ∷ y ∷ z ∷ zs) a b c =
-        subst (λ n. IsFrontOf (n ∷ y ∷ z ∷ zs) (Refused 13)) (sym a) (subst (λ n. IsFrontOf (34 ∷ n ∷ z ∷ zs) (Refused 13)) (sym b) (subst (λ n. IsFrontOf (34 ∷ 34 ∷ n ∷ zs) (Refused 13)) (sym c)
+        subst (λ n. IsFrontOf (n ∷ y ∷ z ∷ zs) (Refused BadLiteral)) (sym a) (subst (λ n. IsFrontOf (34 ∷ n ∷ z ∷ zs) (Refused BadLiteral)) (sym b) (subst (λ n. IsFrontOf (34 ∷ 34 ∷ n ∷ zs) (Refused BadLiteral)) (sym c)
         (by_literal (text_block zs))))

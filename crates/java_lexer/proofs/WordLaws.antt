@@ -11,6 +11,8 @@ use Rattle.std.proofs.lemmas.Str.{encode_same}
 use Rattle.std.proofs.lemmas.List.Folds.{list_any-append}
 use Rattle.unicode_ident.specs.Ident.{is_xid_start, is_xid_continue}
 use Rattle.unicode_ident.proofs.IdentLemmas.{is_xid_continue-ascii, is_xid_start-is_xid_continue}
+use Rattle.rlc_base.specs.declared.code.Code.{Code}
+use Rattle.rlc_base.specs.declared.code.Code.TheVariants.{BadByte, BadLiteral, LeftOutWord}
 use Rattle.java_lexer.specs.declared.fronts.Front.TheVariants.{Piece, Refused}
 use Rattle.java_lexer.specs.declared.token.TokenKind.TheVariants.{Literal}
 use Rattle.java_lexer.specs.Characters.{is_identifier_start, is_identifier_part, BeginsWith, IsRun, IsIdentifier}
@@ -82,7 +84,7 @@ no_integer text n m word is whole =
 
 -- a number that is none of the subset's
 pub bad_number_front : (text : List ℕ) (n : ℕ) → is_ascii_digit (slice_index text 0) ≡ true → IsWordLen text n
-    → (is_integer (take n text) && (is_long (take n text) || not (slice_index text n == 46))) ≡ false → IsFrontOf text (Refused 13)
+    → (is_integer (take n text) && (is_long (take n text) || not (slice_index text n == 46))) ≡ false → IsFrontOf text (Refused BadLiteral)
 bad_number_front [] n digit word is = absurd (false≢true digit)
 bad_number_front (b ∷ rest) n digit word is = by_literal (bad_number b rest digit (λ m whole. no_integer (b ∷ rest) n m word is whole))
 
@@ -102,7 +104,7 @@ word_longest text n m word inside (inr is) = run_longest is_identifier_part text
 left_out_special : (text : List ℕ) → is_listed left_out_words text ≡ true → is_special_word text ≡ true
 left_out_special text is = or_left _ (is_listed value_words text) (or_right (is_listed reserved_words text) (is_listed left_out_words text) is)
 
-word_taken : (text : List ℕ) (n : ℕ) → BeginsWith is_identifier_start text → IsWordLen text n → is_listed left_out_words (take n text) ≡ false → (code : ℕ) → RefusalOf Letter code text → ⊥
+word_taken : (text : List ℕ) (n : ℕ) → BeginsWith is_identifier_start text → IsWordLen text n → is_listed left_out_words (take n text) ≡ false → (code : Code) → RefusalOf Letter code text → ⊥
 word_taken text n begins word used code (inl is) = is.none begins
 word_taken text n begins word used code (inr is) =
     let same : is.word.len ≡ n = same_run text n is.word.len word is.word.fits (special_run (take is.word.len text) (left_out_special (take is.word.len text) is.word.listed)) is.word.ends in
@@ -157,10 +159,10 @@ word_front text n more begins word used =
     let is = kind_is (take n text) (word_identifier text n begins word) used in
     (front_by text n Letter (start_sort text more begins) word.fits (token (word_kind (take n text)) is) (λ m inside piece. word_longest text n m word inside piece) (word_taken text n begins word used), is)
 
-pub left_out_front : (text : List ℕ) (n : ℕ) → IsWordLen text n → is_listed left_out_words (take n text) ≡ true → IsFrontOf text (Refused 14)
+pub left_out_front : (text : List ℕ) (n : ℕ) → IsWordLen text n → is_listed left_out_words (take n text) ≡ true → IsFrontOf text (Refused LeftOutWord)
 left_out_front text n word left = by_word (record { len = n; fits = word.fits; listed = left; ends = word.ends })
 
-pub bad_byte_front : (text : List ℕ) → 0 < length text → begins_other_piece (slice_index text 0) ≡ false → (BeginsWith is_identifier_start text → ⊥) → IsFrontOf text (Refused 10)
+pub bad_byte_front : (text : List ℕ) → 0 < length text → begins_other_piece (slice_index text 0) ≡ false → (BeginsWith is_identifier_start text → ⊥) → IsFrontOf text (Refused BadByte)
 bad_byte_front [] more other none = absurd (omega arith)
 bad_byte_front (b ∷ rest) more other none = by_byte (bad_byte b rest other none)
 

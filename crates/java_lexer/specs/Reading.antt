@@ -1,6 +1,7 @@
 -- What the parts of the lexer say to each other: no public contract cites these.
 use Rattle.std.specs.Prelude.{◌≡◌, ℕ, max, nat_eq, suc, not, ◌&&◌, ◌||◌, ◌+◌, ◌<◌, Bool, true, false, ◌==◌, if◌then◌else◌, List, [], ◌∷◌, ◌++◌, length, take, slice_index, Option, Some, None}
 use Rattle.std.specs.Char.{is_ascii_digit}
+use Rattle.rlc_base.specs.declared.code.Code.{Code}
 use Rattle.rlc_base.specs.declared.place.Pos.{Pos}
 use Rattle.rlc_base.specs.declared.faults.Stop.{Stop}
 use Rattle.rlc_base.specs.declared.faults.Stop.TheVariants.{Refused as RefusedStop}
@@ -9,7 +10,8 @@ use Rattle.java_lexer.specs.declared.fronts.Front.TheVariants.{Piece, Refused}
 use Rattle.java_lexer.specs.declared.lexer.Halt.{Halt}
 use Rattle.java_lexer.specs.declared.lexer.Halt.TheVariants.{Stuck as StuckAt, NoMemory}
 use Rattle.java_lexer.specs.declared.places.Cursor.{Cursor}
-use Rattle.java_lexer.specs.declared.token.Token.{Token}
+use Rattle.java_syntax.specs.declared.tokens.Token.{Token}
+use Rattle.java_syntax.specs.declared.words.Word.{Word}
 use Rattle.java_lexer.specs.declared.token.TokenKind.{TokenKind}
 use Rattle.java_lexer.specs.declared.token.TokenKind.TheVariants.{Ident, Reserved, Literal}
 use Rattle.std.specs.List.{starts_with}
@@ -62,10 +64,10 @@ pub record IsSymbolAt (text : List ℕ) : Type 0 where
 abbrev pub word_kind : List ℕ → TokenKind
 word_kind word = if is_listed reserved_words word then Reserved else if is_listed value_words word then Literal else Ident
 
--- the tokens that a piece gives: one, or none without a kind
-abbrev pub tokens_of : Option TokenKind → ℕ → ℕ → Pos → List Token
+-- the tokens that a piece gives: one, or none without a class
+abbrev pub tokens_of : Option Word → ℕ → ℕ → Pos → List Token
 tokens_of None start len pos = []
-tokens_of (Some kind) start len pos = record { kind = kind; start = start; len = len; pos = pos } ∷ []
+tokens_of (Some word) start len pos = record { word = word; start = start; len = len; pos = pos } ∷ []
 
 -- the cursor behind one more byte
 abbrev pub moved : Cursor → ℕ → Cursor
@@ -85,5 +87,5 @@ IsHalt bytes (StuckAt code place) = Stuck bytes 0 place code
 IsHalt bytes NoMemory = Unit {0}
 
 -- the stop at a place of the bytes
-abbrev pub refused_at : ℕ → List ℕ → ℕ → ℕ → Stop
+abbrev pub refused_at : ℕ → List ℕ → ℕ → Code → Stop
 refused_at file bytes place code = RefusedStop (record { code = code; pos = place_behind file (take place bytes) })

@@ -17,17 +17,7 @@ use crate::literals::{
 };
 use crate::token::TokenKind;
 use crate::words::{is_left_out, is_reserved, is_value, operator_len, separator_len};
-
-/// The code of a byte that begins no token, and of bytes that are no UTF-8.
-pub const BAD_BYTE: u16 = 10;
-
-const OPEN_COMMENT: u16 = 11;
-
-const OPEN_TEXT: u16 = 12;
-
-const BAD_LITERAL: u16 = 13;
-
-const LEFT_OUT_WORD: u16 = 14;
+use rlc_base::Code;
 
 /// What a text begins with.
 #[derive(Clone, Copy, Debug, PartialEq, Eq)]
@@ -35,7 +25,7 @@ pub enum Front {
     /// A token of this kind, or white space or a comment without a kind, and how many bytes it takes.
     Piece(Option<TokenKind>, usize),
     /// What the subset doesn't have, and the code of the refusal.
-    Refused(u16),
+    Refused(Code),
 }
 
 /// How many bytes the text has up to the end of its first `*/`, or None where it has none.
@@ -84,7 +74,7 @@ fn slash(text: &[u8]) -> Front
     } else if second == b'*' {
         match comment_end(behind(text, 2)) {
             Some(len) => Front::Piece(None, 2 + len),
-            None => Front::Refused(OPEN_COMMENT),
+            None => Front::Refused(Code::OpenComment),
         }
     } else {
         symbol(text)
@@ -97,7 +87,7 @@ fn point(text: &[u8]) -> Front
     ensures { IsFrontOf text.now result }
 {
     if byte_at(text, 1).is_ascii_digit() {
-        Front::Refused(BAD_LITERAL)
+        Front::Refused(Code::BadLiteral)
     } else {
         symbol(text)
     }
@@ -121,7 +111,7 @@ fn number(text: &[u8]) -> Front
     if is_whole_integer(text, len) {
         Front::Piece(Some(TokenKind::Literal), len)
     } else {
-        Front::Refused(BAD_LITERAL)
+        Front::Refused(Code::BadLiteral)
     }
 }
 
@@ -135,7 +125,7 @@ fn closed_character(text: &[u8], len: usize) -> Front
     if is_character(&behind(text, 1)[..len]) {
         Front::Piece(Some(TokenKind::Literal), len + 2)
     } else {
-        Front::Refused(BAD_LITERAL)
+        Front::Refused(Code::BadLiteral)
     }
 }
 
@@ -145,7 +135,7 @@ fn character(text: &[u8]) -> Front
     ensures { IsFrontOf text.now result }
 {
     match closing_quote(b'\'', behind(text, 1)) {
-        None => Front::Refused(OPEN_TEXT),
+        None => Front::Refused(Code::OpenText),
         Some(len) => closed_character(text, len),
     }
 }
@@ -158,11 +148,11 @@ fn closed_string(text: &[u8], len: usize) -> Front
     ensures { IsFrontOf text.now result }
 {
     if (len == 0) & (byte_at(text, 2) == b'"') {
-        Front::Refused(BAD_LITERAL)
+        Front::Refused(Code::BadLiteral)
     } else if has_known_escapes(&behind(text, 1)[..len]) {
         Front::Piece(Some(TokenKind::Literal), len + 2)
     } else {
-        Front::Refused(BAD_LITERAL)
+        Front::Refused(Code::BadLiteral)
     }
 }
 
@@ -172,7 +162,7 @@ fn string(text: &[u8]) -> Front
     ensures { IsFrontOf text.now result }
 {
     match closing_quote(b'"', behind(text, 1)) {
-        None => Front::Refused(OPEN_TEXT),
+        None => Front::Refused(Code::OpenText),
         Some(len) => closed_string(text, len),
     }
 }
@@ -207,12 +197,12 @@ fn word(text: &[u8]) -> Front
     ensures { IsFrontOf text.now result }
 {
     if !begins_word(text) {
-        return Front::Refused(BAD_BYTE);
+        return Front::Refused(Code::BadByte);
     }
     let len = word_len(text);
     let word = &text[..len];
     if is_left_out(word) {
-        Front::Refused(LEFT_OUT_WORD)
+        Front::Refused(Code::LeftOutWord)
     } else {
         Front::Piece(Some(word_kind(word)), len)
     }

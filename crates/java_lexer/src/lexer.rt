@@ -1,41 +1,42 @@
 ghost use Rattle.std.specs.Prelude.{◌≡◌, ℕ, ◌+◌, ◌-◌, ◌<◌, ◌≤◌, ◌^◌, ◌++◌, List, length, IfOk, IfErr, OnOk};
 ghost use Rattle.std.specs.List.{All};
 ghost use Rattle.std.specs.Str.{IsUtf8, IsValidUpTo};
-ghost use Rattle.java_lexer.specs.declared.token.Token.{Token};
+ghost use Rattle.java_syntax.specs.declared.tokens.Token.{Token};
 ghost use Rattle.java_lexer.specs.Cut.{Cut, IsCut, IsTokenOf, IsStopAt, HasNoCut};
 ghost use Rattle.java_lexer.specs.Reading.{IsHalt, tokens_of, refused_at};
 
 use crate::characters::behind;
-use crate::fronts::{BAD_BYTE, Front, front_of};
+use crate::classes::piece_class;
+use crate::fronts::{Front, front_of};
 use crate::places::{Cursor, place_behind};
-use crate::token::{Token, TokenKind};
-use rlc_base::{NoMemory, Pos, Refusal, Stop};
+use java_syntax::{Token, Word};
+use rlc_base::{Code, NoMemory, Pos, Refusal, Stop};
 use std::alloc::Global;
 
 /// Why the cut of a text stopped.
 #[derive(Clone, Copy, Debug, PartialEq, Eq)]
 pub enum Halt {
     /// The code refuses what stands at the place.
-    Stuck(u16, usize),
+    Stuck(Code, usize),
     /// Memory ran out.
     NoMemory,
 }
 
-/// Adds the token of a piece, if it is one.
+/// Adds the token of this class, if a piece has one.
 fn put(
     tokens: &mut Vec<Token>,
-    kind: Option<TokenKind>,
+    word: Option<Word>,
     start: u32,
     len: u32,
     pos: Pos,
 ) -> Result<(), NoMemory>
-    ensures { OnOk result (tokens.new.items ≡ tokens.old.items ++ tokens_of kind start len pos) }
+    ensures { OnOk result (tokens.new.items ≡ tokens.old.items ++ tokens_of word start len pos) }
 {
-    let Some(kind) = kind else {
+    let Some(word) = word else {
         return Ok(());
     };
     match tokens.push(Token {
-        kind,
+        word,
         start,
         len,
         pos,
@@ -64,7 +65,8 @@ fn cut(alloc: Global, file: u32, bytes: &[u8]) -> Result<Vec<Token>, Halt>
                     line: cursor.line,
                     col: cursor.col,
                 };
-                let Ok(()) = put(&mut tokens, kind, at as u32, len as u32, pos) else {
+                let word = piece_class(kind, &rest[..len]);
+                let Ok(()) = put(&mut tokens, word, at as u32, len as u32, pos) else {
                     return Err(Halt::NoMemory);
                 };
                 cursor = cursor.moved_past(&rest[..len]);
@@ -88,7 +90,7 @@ fn utf8_len(bytes: &[u8]) -> usize
 }
 
 /// The refusal of the bytes at a place.
-fn refused(file: u32, bytes: &[u8], place: usize, code: u16) -> Stop
+fn refused(file: u32, bytes: &[u8], place: usize, code: Code) -> Stop
     requires within { place ≤ length bytes.now }
     requires small { length bytes.now < 2 ^ 32 - 1 }
     ensures { result ≡ refused_at file bytes.now place code }
@@ -97,11 +99,11 @@ fn refused(file: u32, bytes: &[u8], place: usize, code: u16) -> Stop
     Stop::Refused(Refusal { code, pos })
 }
 
-/// Cuts the bytes of a file into tokens, each the longest possible where it begins (JLS 3.2); white space and comments part
-/// tokens and are left out. A refusal stands at the least place where the bytes are no text of the subset, and has the least
-/// code there: 10 for a byte that begins no token or is no UTF-8, 11 for a comment that is not closed, 12 for a character or
-/// string literal that is not closed on its line, 13 for a literal that the subset leaves out, and 14 for such a word.
-/// Memory may run out.
+/// Cuts the bytes of a file into tokens, each the longest possible where it begins (JLS 3.2), and tells each by its class in
+/// the grammar; white space and comments part tokens and are left out. A refusal stands at the least place where the bytes are no text of the subset, and has the least
+/// code there: `BadByte` for a byte that begins no token or is no UTF-8, `OpenComment` for a comment that is not closed,
+/// `OpenText` for a character or string literal that is not closed on its line, `BadLiteral` for a literal that the subset
+/// leaves out, and `LeftOutWord` for such a word. Memory may run out.
 pub fn lex(alloc: Global, file: u32, bytes: &[u8]) -> Result<Vec<Token>, Stop>
     requires { length bytes.now < 2 ^ 32 - 1 }
     ensures cut { IfOk result (λ tokens. IsCut file bytes.now tokens.items) }
@@ -118,14 +120,14 @@ pub fn lex(alloc: Global, file: u32, bytes: &[u8]) -> Result<Vec<Token>, Stop>
             if valid == bytes.len() {
                 Ok(tokens)
             } else {
-                Err(refused(file, bytes, valid, BAD_BYTE))
+                Err(refused(file, bytes, valid, Code::BadByte))
             }
         }
         Err(Halt::Stuck(code, place)) => {
             if place < valid {
                 Err(refused(file, bytes, place, code))
             } else {
-                Err(refused(file, bytes, valid, BAD_BYTE))
+                Err(refused(file, bytes, valid, Code::BadByte))
             }
         }
         Err(Halt::NoMemory) => Err(Stop::NoMemory),

@@ -2,10 +2,12 @@
 #![tactic(auto)]
 
 mod characters;
+mod classes;
 mod fronts;
 mod lexer;
 mod literals;
 mod places;
+mod sources;
 #[cfg(test)]
 mod tests;
 mod token;
@@ -13,4 +15,5 @@ mod words;
 
 pub use lexer::lex;
 pub use places::place_behind;
-pub use token::{Token, TokenKind};
+pub use sources::{Source, end_place};
+pub use token::TokenKind;

@@ -1,13 +1,14 @@
 use super::*;
+use java_syntax::{Token, Word};
 use rlc_base::Stop;
 use std::alloc::{AllocError, Global};
 use std::test::Fail;
 
-/// Texts, and what `lex` has to answer: the kind, the start, the length, the line and the column of each token, or the code,
-/// the line and the column of a refusal.
+/// Texts, and what `lex` has to answer: the class, the start, the length, the line and the column of each token, or the number
+/// of the code, the line and the column of a refusal.
 static ROWS: [(&[u8], &str); 82] = [
     (b"", ""),
-    (b"a+++b", "I0+1 1:1 O1+2 1:2 O3+1 1:4 I4+1 1:5 "),
+    (b"a+++b", "I0+1 1:1 step1+2 1:2 sign3+1 1:4 I4+1 1:5 "),
     (b"int i = 09;", "13 1:9"),
     (b"int i = 2147483649;", "13 1:9"),
     (b"0x", "13 1:1"),
@@ -39,7 +40,7 @@ static ROWS: [(&[u8], &str); 82] = [
         b"037777777777 01777777777777777777777l",
         "L0+12 1:1 L13+24 1:14 ",
     ),
-    (b"1L.x", "L0+2 1:1 S2+1 1:3 I3+1 1:4 "),
+    (b"1L.x", "L0+2 1:1 dot2+1 1:3 I3+1 1:4 "),
     (b"'a''\\\\''\\377'", "L0+3 1:1 L3+4 1:4 L7+6 1:8 "),
     (b"'\xe2\x82\xac'", "L0+5 1:1 "),
     (b"\"\"", "L0+2 1:1 "),
@@ -85,10 +86,10 @@ static ROWS: [(&[u8], &str); 82] = [
     (b"_", "14 1:1"),
     (b"switch", "14 1:1"),
     (b"strictfp", "14 1:1"),
-    (b"class true falsey", "R0+5 1:1 L6+4 1:7 I11+6 1:12 "),
+    (b"class true falsey", "class0+5 1:1 L6+4 1:7 I11+6 1:12 "),
     (
         b"gr\xc3\xb6\xc3\x9fe \xe6\x95\xb0;",
-        "I0+7 1:1 I8+3 1:9 S11+1 1:12 ",
+        "I0+7 1:1 I8+3 1:9 semicolon11+1 1:12 ",
     ),
     (
         b"a\x0d\x0ab\x0dc\x0a\x0dd",
@@ -97,12 +98,12 @@ static ROWS: [(&[u8], &str); 82] = [
     (b"\x0c\x09a", "I2+1 1:3 "),
     (
         b"a...b....",
-        "I0+1 1:1 S1+3 1:2 I4+1 1:5 S5+3 1:6 S8+1 1:9 ",
+        "I0+1 1:1 other1+3 1:2 I4+1 1:5 other5+3 1:6 dot8+1 1:9 ",
     ),
-    (b":::->", "S0+2 1:1 O2+1 1:3 O3+2 1:4 "),
+    (b":::->", "other0+2 1:1 colon2+1 1:3 other3+2 1:4 "),
     (
         b"a>>>>=b>>>=c>>=d",
-        "I0+1 1:1 O1+3 1:2 O4+2 1:5 I6+1 1:7 O7+4 1:8 I11+1 1:12 O12+3 1:13 I15+1 1:16 ",
+        "I0+1 1:1 tight1+3 1:2 loose4+2 1:5 I6+1 1:7 compound7+4 1:8 I11+1 1:12 compound12+3 1:13 I15+1 1:16 ",
     ),
     (b"\x00", "10 1:1"),
     (b"\x1a", "10 1:1"),
@@ -114,14 +115,22 @@ static ROWS: [(&[u8], &str); 82] = [
     (b"a\xe2\x82\xac", "10 1:2"),
 ];
 
-/// The letter of a kind.
-fn letter(kind: TokenKind) -> &'static str {
-    match kind {
-        TokenKind::Ident => "I",
-        TokenKind::Reserved => "R",
-        TokenKind::Literal => "L",
-        TokenKind::Separator => "S",
-        TokenKind::Operator => "O",
+/// How the rows write a class, and `unnamed` for the classes that no row has.
+fn shown_class(word: Word) -> &'static str {
+    match word {
+        Word::Ident => "I",
+        Word::Literal => "L",
+        Word::Class => "class",
+        Word::Semicolon => "semicolon",
+        Word::Dot => "dot",
+        Word::Colon => "colon",
+        Word::Step => "step",
+        Word::Sign => "sign",
+        Word::Tight => "tight",
+        Word::Loose => "loose",
+        Word::Compound => "compound",
+        Word::Other => "other",
+        _ => "unnamed",
     }
 }
 
@@ -132,14 +141,14 @@ fn shown(alloc: Global, answer: &Result<Vec<Token>, Stop>) -> Result<String, All
         Ok(tokens) => {
             for token in tokens {
                 let Token {
-                    kind,
+                    word,
                     start,
                     len,
                     pos,
                 } = *token;
                 let one = format!(in alloc;
                     "{}{start}+{len} {}:{} ",
-                    letter(kind),
+                    shown_class(word),
                     pos.line,
                     pos.col
                 )?;
@@ -148,7 +157,7 @@ fn shown(alloc: Global, answer: &Result<Vec<Token>, Stop>) -> Result<String, All
         }
         Err(Stop::Refused(refusal)) => {
             let pos = refusal.pos;
-            let one = format!(in alloc; "{} {}:{}", refusal.code, pos.line, pos.col)?;
+            let one = format!(in alloc; "{} {}:{}", refusal.code.number(), pos.line, pos.col)?;
             text.push_str(one.as_str())?;
         }
         Err(_) => text.push_str("stopped")?,

@@ -1,5 +1,3 @@
-use rlc_base::Pos;
-
 /// What kind of token a piece of source text is (JLS 3.5). The literals `true`, `false` and `null` are literals here.
 #[derive(Clone, Copy, Debug, PartialEq, Eq)]
 pub enum TokenKind {
@@ -13,13 +11,4 @@ pub enum TokenKind {
     Separator,
     /// An operator (JLS 3.12).
     Operator,
-}
-
-/// A token of a file: how many bytes of the file stand before it, how many it has, and its place as line and column.
-#[derive(Clone, Copy, Debug, PartialEq, Eq)]
-pub struct Token {
-    pub kind: TokenKind,
-    pub start: u32,
-    pub len: u32,
-    pub pos: Pos,
 }

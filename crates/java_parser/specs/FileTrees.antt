@@ -1,14 +1,14 @@
 -- The tree of a file, and why there is none.
 use Rattle.std.specs.Prelude.{◌≡◌, ℕ, Bool, true, false, List, Some, None, map, slice_index_or}
+use Rattle.rlc_base.specs.declared.code.Code.TheVariants as refused
 use Rattle.rlc_base.specs.declared.place.Pos.{Pos}
 use Rattle.rlc_base.specs.declared.faults.Refusal.{Refusal}
 use Rattle.rlc_base.specs.declared.faults.Stop.{Stop}
 use Rattle.rlc_base.specs.declared.faults.Stop.TheVariants as stops
-use Rattle.java_lexer.specs.declared.token.Token.{Token as FileToken}
-use Rattle.java_exprs.specs.Classes.{lexeme_of_token}
+use Rattle.java_syntax.specs.declared.tokens.Token.{Token}
 use Rattle.java_syntax.specs.declared.symbols.Symbol.{Symbol}
 use Rattle.java_syntax.specs.declared.symbols.Symbol.TheVariants as symbols
-use Rattle.java_syntax.specs.Derives.{Lexeme, Step}
+use Rattle.java_syntax.specs.Derives.{Lexeme, Step, lexeme_of}
 use Rattle.java_syntax.specs.DeclarationTrees.{UnitTree}
 use Rattle.java_grammar.specs.Refusal.{IsDerivation, IsWrongAt}
 use Rattle.java_parser.specs.DeclarationPops as the
@@ -44,14 +44,14 @@ IsStubTree tokens trees = IsFileTree units_on true symbols.StubFile tokens trees
 
 -- There is no derivation, and the place is that of the first token at which no sentence of the symbol goes on, or the end's.
 pub record IsWrongFile (stub : Bool) (symbol : Symbol) (tokens : List Lexeme) (end : Pos) (r : Refusal) : Type 0 where
-  pub code : r.code ≡ 20
+  pub code : r.code ≡ refused.Syntax
   pub at : ℕ
   pub wrong : IsWrongAt stub symbol tokens at
   pub place : r.pos ≡ slice_index_or (map (λ t. t.pos) tokens) at end
 
 -- There is a derivation, and each leaves a tree of more than 128 levels.
 pub record IsDeepFile (stub : Bool) (symbol : Symbol) (tokens : List Lexeme) (r : Refusal) : Type 0 where
-  pub code : r.code ≡ 61
+  pub code : r.code ≡ refused.TooDeep
   pub steps : List Step
   pub derivation : IsDerivation stub symbol tokens steps
   pub deep : (es : List Step) → IsDerivation stub symbol tokens es → evaluate 128 es ≡ None
@@ -72,5 +72,5 @@ HasNoStub tokens stops.NoMemory = Unit {0}
 HasNoStub tokens stop = (trees : List UnitTree) → IsStubTree tokens trees → ⊥
 
 -- what the grammar sees of the tokens of a file with these bytes
-abbrev pub lexemes : List ℕ → List FileToken → List Lexeme
-lexemes bytes tokens = map (lexeme_of_token bytes) tokens
+abbrev pub lexemes : List ℕ → List Token → List Lexeme
+lexemes bytes tokens = map (lexeme_of bytes) tokens

@@ -13,7 +13,7 @@ use crate::pops::{
 use crate::stacks::Stacks;
 use java_actions::name_at;
 use java_syntax::{ClassDecl, DeclarationProduction, Modifier};
-use java_values::{pop_name, pop_token, put};
+use java_values::{pop_name, pop_token, put, skip};
 use rlc_base::NoMemory;
 use std::alloc::{AllocError, Global};
 
@@ -25,8 +25,7 @@ fn names(alloc: Global, stacks: &mut Stacks) -> Result<(), NoMemory>
     let name = pop_name(alloc, &mut stacks.expressions);
     let mut names = pop_names(alloc, &mut stacks.declarations);
     put(&mut names, name)?;
-    push(&mut stacks.declarations, DeclarationValue::Names(names))?;
-    Ok(())
+    push(&mut stacks.declarations, DeclarationValue::Names(names))
 }
 
 /// `,`, a name, further ones.
@@ -34,7 +33,7 @@ fn names(alloc: Global, stacks: &mut Stacks) -> Result<(), NoMemory>
 fn and_name(alloc: Global, stacks: &mut Stacks) -> Result<(), NoMemory>
     ensures { IfOk result (λ _. stacks_of stacks.new ≡ build.and_name (stacks_of stacks.old)) }
 {
-    let _ = pop_token(alloc, &mut stacks.expressions);
+    skip(&mut stacks.expressions);
     names(alloc, stacks)
 }
 
@@ -63,18 +62,16 @@ fn and_type(alloc: Global, stacks: &mut Stacks) -> Result<(), NoMemory>
     push(
         &mut stacks.declarations,
         DeclarationValue::Classes(classes, depth.max(others)),
-    )?;
-    Ok(())
+    )
 }
 
 /// `;` in the place of a class.
 #[tactic(auto, unfolding(crate::specs::ClassBuild::no_type_declared))]
-fn no_type_declared(alloc: Global, stacks: &mut Stacks) -> Result<(), NoMemory>
+fn no_type_declared(stacks: &mut Stacks) -> Result<(), NoMemory>
     ensures { IfOk result (λ _. stacks_of stacks.new ≡ build.no_type_declared (stacks_of stacks.old)) }
 {
-    let _ = pop_token(alloc, &mut stacks.expressions);
-    push(&mut stacks.declarations, DeclarationValue::Class(None, 0))?;
-    Ok(())
+    skip(&mut stacks.expressions);
+    push(&mut stacks.declarations, DeclarationValue::Class(None, 0))
 }
 
 /// The class with these modifiers, which stand with the last one first.
@@ -102,8 +99,7 @@ fn modified_type(alloc: Global, stacks: &mut Stacks) -> Result<(), NoMemory>
     push(
         &mut stacks.declarations,
         DeclarationValue::Class(class, depth.max(others)),
-    )?;
-    Ok(())
+    )
 }
 
 /// `class`, an identifier, its superclass, its interfaces, `{`, its members, `}` (JLS 8.1).
@@ -111,10 +107,10 @@ fn modified_type(alloc: Global, stacks: &mut Stacks) -> Result<(), NoMemory>
 fn class_declaration(alloc: Global, stacks: &mut Stacks) -> Result<(), NoMemory>
     ensures { IfOk result (λ _. stacks_of stacks.new ≡ build.class_declaration (stacks_of stacks.old)) }
 {
-    let _ = pop_token(alloc, &mut stacks.expressions);
+    skip(&mut stacks.expressions);
     let name = pop_token(alloc, &mut stacks.expressions);
-    let _ = pop_token(alloc, &mut stacks.expressions);
-    let _ = pop_token(alloc, &mut stacks.expressions);
+    skip(&mut stacks.expressions);
+    skip(&mut stacks.expressions);
     let superclass = pop_superclass(&mut stacks.declarations);
     let interfaces = pop_names(alloc, &mut stacks.declarations);
     let (members, depth) = pop_members(alloc, &mut stacks.declarations);
@@ -129,8 +125,7 @@ fn class_declaration(alloc: Global, stacks: &mut Stacks) -> Result<(), NoMemory>
     push(
         &mut stacks.declarations,
         DeclarationValue::Class(Some(class), depth),
-    )?;
-    Ok(())
+    )
 }
 
 /// `interface`, an identifier, its super interfaces, `{`, its members, `}` (JLS 9.1).
@@ -138,10 +133,10 @@ fn class_declaration(alloc: Global, stacks: &mut Stacks) -> Result<(), NoMemory>
 fn interface_declaration(alloc: Global, stacks: &mut Stacks) -> Result<(), NoMemory>
     ensures { IfOk result (λ _. stacks_of stacks.new ≡ build.interface_declaration (stacks_of stacks.old)) }
 {
-    let _ = pop_token(alloc, &mut stacks.expressions);
+    skip(&mut stacks.expressions);
     let name = pop_token(alloc, &mut stacks.expressions);
-    let _ = pop_token(alloc, &mut stacks.expressions);
-    let _ = pop_token(alloc, &mut stacks.expressions);
+    skip(&mut stacks.expressions);
+    skip(&mut stacks.expressions);
     let interfaces = pop_names(alloc, &mut stacks.declarations);
     let (members, depth) = pop_members(alloc, &mut stacks.declarations);
     let class = ClassDecl {
@@ -155,8 +150,7 @@ fn interface_declaration(alloc: Global, stacks: &mut Stacks) -> Result<(), NoMem
     push(
         &mut stacks.declarations,
         DeclarationValue::Class(Some(class), depth),
-    )?;
-    Ok(())
+    )
 }
 
 /// `extends`, a name (JLS 8.1.4).
@@ -164,13 +158,12 @@ fn interface_declaration(alloc: Global, stacks: &mut Stacks) -> Result<(), NoMem
 fn superclass(alloc: Global, stacks: &mut Stacks) -> Result<(), NoMemory>
     ensures { IfOk result (λ _. stacks_of stacks.new ≡ build.superclass (stacks_of stacks.old)) }
 {
-    let _ = pop_token(alloc, &mut stacks.expressions);
+    skip(&mut stacks.expressions);
     let name = pop_name(alloc, &mut stacks.expressions);
     push(
         &mut stacks.declarations,
         DeclarationValue::Superclass(Some(name)),
-    )?;
-    Ok(())
+    )
 }
 
 /// What a production of classes and their heads makes of the values on top; any other leaves them.
@@ -197,7 +190,7 @@ pub fn build_class(
             &mut stacks.declarations,
             DeclarationValue::Classes(Vec::new(alloc), 0),
         )?,
-        DeclarationProduction::LoneSemicolon => no_type_declared(alloc, stacks)?,
+        DeclarationProduction::LoneSemicolon => no_type_declared(stacks)?,
         DeclarationProduction::ModifiedType => modified_type(alloc, stacks)?,
         DeclarationProduction::ClassOf => class_declaration(alloc, stacks)?,
         DeclarationProduction::InterfaceOf => interface_declaration(alloc, stacks)?,
@@ -207,7 +200,7 @@ pub fn build_class(
         }
         DeclarationProduction::SomeSuperinterfaces
         | DeclarationProduction::SomeInterfaces
-        | DeclarationProduction::SomeThrows => skipped(alloc, stacks),
+        | DeclarationProduction::SomeThrows => skipped(stacks),
         _ => (),
     }
     Ok(())

@@ -13,7 +13,7 @@ use java_actions::completed;
 use java_statements::{pop_statement, pop_statements};
 use java_syntax::{Block, ConstructorBody, DeclarationProduction, Stmt, SuperCall};
 use java_values::{
-    BuildFail, deeper, pop_arguments, pop_suffixes, pop_tail, pop_token, put,
+    BuildFail, deeper, pop_arguments, pop_place, pop_suffixes, pop_tail, pop_token, put, skip,
     super_call as super_call_of_method,
 };
 use rlc_base::{NoMemory, Pos};
@@ -24,20 +24,19 @@ use std::alloc::Global;
 fn constructor_body(alloc: Global, stacks: &mut Stacks) -> Result<(), NoMemory>
     ensures { IfOk result (λ _. stacks_of stacks.new ≡ build.constructor_body (stacks_of stacks.old)) }
 {
-    let open = pop_token(alloc, &mut stacks.expressions);
-    let close = pop_token(alloc, &mut stacks.expressions);
+    let pos = pop_place(&mut stacks.expressions);
+    let end = pop_place(&mut stacks.expressions);
     let (super_call, statements, depth) = pop_constructor_start(alloc, &mut stacks.declarations);
     let block = Block {
         statements: in_order(statements),
-        pos: open.pos,
-        end: close.pos,
+        pos,
+        end,
     };
     let body = ConstructorBody { super_call, block };
     push(
         &mut stacks.declarations,
         DeclarationValue::ConstructorBody(Some(body), depth),
-    )?;
-    Ok(())
+    )
 }
 
 /// A statement, further ones.
@@ -51,8 +50,7 @@ fn plain_start(alloc: Global, stacks: &mut Stacks) -> Result<(), NoMemory>
     push(
         &mut stacks.declarations,
         DeclarationValue::ConstructorStart(None, statements, depth.max(others)),
-    )?;
-    Ok(())
+    )
 }
 
 /// Nothing between the braces.
@@ -63,8 +61,7 @@ fn empty_start(alloc: Global, stacks: &mut Stacks) -> Result<(), NoMemory>
     push(
         &mut stacks.declarations,
         DeclarationValue::ConstructorStart(None, Vec::new(alloc), 0),
-    )?;
-    Ok(())
+    )
 }
 
 /// Arguments, `;`, statements (JLS 8.8.7.1).
@@ -73,14 +70,13 @@ fn super_call(alloc: Global, stacks: &mut Stacks) -> Result<(), NoMemory>
     ensures { IfOk result (λ _. stacks_of stacks.new ≡ build.super_call (stacks_of stacks.old)) }
 {
     let arguments = pop_arguments(alloc, &mut stacks.expressions);
-    let _ = pop_token(alloc, &mut stacks.expressions);
+    skip(&mut stacks.expressions);
     let (statements, depth) = pop_statements(alloc, &mut stacks.statements);
     let after = AfterSuper::Call(in_order(arguments.list));
     push(
         &mut stacks.declarations,
         DeclarationValue::AfterSuper(after, statements, arguments.depth.max(depth)),
-    )?;
-    Ok(())
+    )
 }
 
 /// What a production of the bodies of constructors makes of the values on top, where no node is made; any other leaves them.
@@ -111,12 +107,12 @@ pub fn super_method_start(alloc: Global, limit: u32, stacks: &mut Stacks) -> Res
     ensures made { IfOk result (λ _. build.super_method_start limit (stacks_of stacks.old) ≡ Some (stacks_of stacks.new)) }
     ensures too_deep { IfErr result (λ fail. nodes.IsTooDeep fail → build.super_method_start limit (stacks_of stacks.old) ≡ None) }
 {
-    let _ = pop_token(alloc, &mut stacks.expressions);
+    skip(&mut stacks.expressions);
     let name = pop_token(alloc, &mut stacks.expressions);
     let arguments = pop_arguments(alloc, &mut stacks.expressions);
     let suffixes = pop_suffixes(alloc, &mut stacks.expressions);
     let tail = pop_tail(alloc, &mut stacks.expressions);
-    let _ = pop_token(alloc, &mut stacks.expressions);
+    skip(&mut stacks.expressions);
     let (statements, depth) = pop_statements(alloc, &mut stacks.statements);
     let first = super_call_of_method(limit, name.text, arguments, name.pos)?;
     let whole = completed(alloc, limit, first, suffixes, tail)?;
@@ -169,9 +165,9 @@ pub fn super_start(alloc: Global, limit: u32, stacks: &mut Stacks) -> Result<(),
     ensures made { IfOk result (λ _. build.super_start limit (stacks_of stacks.old) ≡ Some (stacks_of stacks.new)) }
     ensures too_deep { IfErr result (λ fail. nodes.IsTooDeep fail → build.super_start limit (stacks_of stacks.old) ≡ None) }
 {
-    let word = pop_token(alloc, &mut stacks.expressions);
+    let pos = pop_place(&mut stacks.expressions);
     let (after, more, depth) = pop_after_super(alloc, &mut stacks.declarations);
-    let start = started(limit, word.pos, after, more, depth)?;
+    let start = started(limit, pos, after, more, depth)?;
     push(&mut stacks.declarations, start)?;
     Ok(())
 }

@@ -13,7 +13,7 @@ use crate::stacks::Stacks;
 use java_grammar::{DeriveFail, derive};
 use java_syntax::{Symbol, Token, Unit};
 use java_values::BuildFail;
-use rlc_base::{Pos, Refusal, Stop};
+use rlc_base::{Code, Pos, Refusal, Stop};
 use std::alloc::Global;
 
 /// How many levels a tree may have.
@@ -51,12 +51,16 @@ fn file_stacks(
         Err(DeriveFail::NoMemory) => Err(Stop::NoMemory),
         Err(DeriveFail::WrongAt(at)) => {
             let pos = place_at(tokens, at, end);
-            Err(Stop::Refused(Refusal { code: 20, pos }))
+            let code = Code::Syntax;
+            Err(Refusal { code, pos }.stop())
         }
         Ok(events) => match evaluate(alloc, LEVELS, bytes, events.as_slice()) {
             Ok(stacks) => Ok(stacks),
             Err(BuildFail::NoMemory) => Err(Stop::NoMemory),
-            Err(BuildFail::TooDeep(pos)) => Err(Stop::TooMuch(Refusal { code: 61, pos })),
+            Err(BuildFail::TooDeep(pos)) => {
+                let code = Code::TooDeep;
+                Err(Refusal { code, pos }.stop())
+            }
         },
     }
 }

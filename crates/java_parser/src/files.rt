@@ -11,7 +11,7 @@ use crate::pops::{
 use crate::stacks::Stacks;
 use java_actions::{name_at, name_of};
 use java_syntax::{DeclarationProduction, Import, Unit};
-use java_values::{pop_name, pop_token, put};
+use java_values::{pop_name, pop_place, pop_token, put, skip};
 use rlc_base::{NoMemory, Text};
 use std::alloc::Global;
 
@@ -31,8 +31,7 @@ fn compilation_unit(alloc: Global, stacks: &mut Stacks) -> Result<(), NoMemory>
     push(
         &mut stacks.declarations,
         DeclarationValue::Unit(unit, depth),
-    )?;
-    Ok(())
+    )
 }
 
 /// `package`, a name, `;`, imports, types.
@@ -40,9 +39,9 @@ fn compilation_unit(alloc: Global, stacks: &mut Stacks) -> Result<(), NoMemory>
 fn section(alloc: Global, stacks: &mut Stacks) -> Result<(), NoMemory>
     ensures { IfOk result (λ _. stacks_of stacks.new ≡ build.section (stacks_of stacks.old)) }
 {
-    let _ = pop_token(alloc, &mut stacks.expressions);
+    skip(&mut stacks.expressions);
     let name = pop_name(alloc, &mut stacks.expressions);
-    let _ = pop_token(alloc, &mut stacks.expressions);
+    skip(&mut stacks.expressions);
     let imports = pop_imports(alloc, &mut stacks.declarations);
     let (types, depth) = pop_classes(alloc, &mut stacks.declarations);
     let unit = Unit {
@@ -53,8 +52,7 @@ fn section(alloc: Global, stacks: &mut Stacks) -> Result<(), NoMemory>
     push(
         &mut stacks.declarations,
         DeclarationValue::Unit(unit, depth),
-    )?;
-    Ok(())
+    )
 }
 
 /// A section and those behind it.
@@ -68,8 +66,7 @@ fn and_section(alloc: Global, stacks: &mut Stacks) -> Result<(), NoMemory>
     push(
         &mut stacks.declarations,
         DeclarationValue::Units(units, depth.max(others)),
-    )?;
-    Ok(())
+    )
 }
 
 /// `package`, a name, `;` (JLS 7.4).
@@ -77,14 +74,13 @@ fn and_section(alloc: Global, stacks: &mut Stacks) -> Result<(), NoMemory>
 fn package_declaration(alloc: Global, stacks: &mut Stacks) -> Result<(), NoMemory>
     ensures { IfOk result (λ _. stacks_of stacks.new ≡ build.package_declaration (stacks_of stacks.old)) }
 {
-    let _ = pop_token(alloc, &mut stacks.expressions);
+    skip(&mut stacks.expressions);
     let name = pop_name(alloc, &mut stacks.expressions);
-    let _ = pop_token(alloc, &mut stacks.expressions);
+    skip(&mut stacks.expressions);
     push(
         &mut stacks.declarations,
         DeclarationValue::Package(name.text),
-    )?;
-    Ok(())
+    )
 }
 
 /// An import and those behind it.
@@ -95,8 +91,7 @@ fn and_import(alloc: Global, stacks: &mut Stacks) -> Result<(), NoMemory>
     let import = pop_import(alloc, &mut stacks.declarations);
     let mut imports = pop_imports(alloc, &mut stacks.declarations);
     put(&mut imports, import)?;
-    push(&mut stacks.declarations, DeclarationValue::Imports(imports))?;
-    Ok(())
+    push(&mut stacks.declarations, DeclarationValue::Imports(imports))
 }
 
 /// `import`, an identifier, further ones, `;` (JLS 7.5).
@@ -104,19 +99,18 @@ fn and_import(alloc: Global, stacks: &mut Stacks) -> Result<(), NoMemory>
 fn import_declaration(alloc: Global, stacks: &mut Stacks) -> Result<(), NoMemory>
     ensures { IfOk result (λ _. stacks_of stacks.new ≡ build.import_declaration (stacks_of stacks.old)) }
 {
-    let word = pop_token(alloc, &mut stacks.expressions);
+    let pos = pop_place(&mut stacks.expressions);
     let first = pop_token(alloc, &mut stacks.expressions);
-    let _ = pop_token(alloc, &mut stacks.expressions);
+    skip(&mut stacks.expressions);
     let (mut names, star) = pop_import_tail(alloc, &mut stacks.declarations);
     put(&mut names, name_at(first))?;
     let name = name_of(alloc, names)?;
     let import = Import {
         name: name.text,
         star,
-        pos: word.pos,
+        pos,
     };
-    push(&mut stacks.declarations, DeclarationValue::Import(import))?;
-    Ok(())
+    push(&mut stacks.declarations, DeclarationValue::Import(import))
 }
 
 /// An identifier of an import, further ones.
@@ -130,8 +124,7 @@ fn import_name(alloc: Global, stacks: &mut Stacks) -> Result<(), NoMemory>
     push(
         &mut stacks.declarations,
         DeclarationValue::ImportTail(names, star),
-    )?;
-    Ok(())
+    )
 }
 
 /// The `*` of an import (JLS 7.5.2).
@@ -139,20 +132,19 @@ fn import_name(alloc: Global, stacks: &mut Stacks) -> Result<(), NoMemory>
 fn import_all(alloc: Global, stacks: &mut Stacks) -> Result<(), NoMemory>
     ensures { IfOk result (λ _. stacks_of stacks.new ≡ build.import_all (stacks_of stacks.old)) }
 {
-    let _ = pop_token(alloc, &mut stacks.expressions);
+    skip(&mut stacks.expressions);
     push(
         &mut stacks.declarations,
         DeclarationValue::ImportTail(Vec::new(alloc), true),
-    )?;
-    Ok(())
+    )
 }
 
 /// A token that leaves no trace.
 #[tactic(auto, unfolding(crate::specs::FileBuild::skipped))]
-pub fn skipped(alloc: Global, stacks: &mut Stacks)
+pub fn skipped(stacks: &mut Stacks)
     ensures { stacks_of stacks.new ≡ build.skipped (stacks_of stacks.old) }
 {
-    let _ = pop_token(alloc, &mut stacks.expressions);
+    skip(&mut stacks.expressions);
 }
 
 /// What a production of files makes of the values on top; any other leaves them.
@@ -175,7 +167,7 @@ pub fn build_file(
         DeclarationProduction::NoImport => DeclarationValue::Imports(Vec::new(alloc)),
         DeclarationProduction::ImportOf => return import_declaration(alloc, stacks),
         DeclarationProduction::ImportDot => {
-            skipped(alloc, stacks);
+            skipped(stacks);
             return Ok(());
         }
         DeclarationProduction::ImportEnd => DeclarationValue::ImportTail(Vec::new(alloc), false),
@@ -183,6 +175,5 @@ pub fn build_file(
         DeclarationProduction::ImportAll => return import_all(alloc, stacks),
         _ => return Ok(()),
     };
-    push(&mut stacks.declarations, empty)?;
-    Ok(())
+    push(&mut stacks.declarations, empty)
 }

@@ -19,7 +19,7 @@ use java_syntax::{
     ConstructorDecl, DeclarationProduction, FieldDecl, Member, MethodDecl, Modifier, Name, Typ,
     Variable,
 };
-use java_values::{Lexeme, pop_brackets, pop_names as pop_identifiers, pop_token, put};
+use java_values::{Lexeme, pop_brackets, pop_names as pop_identifiers, pop_token, put, skip};
 use rlc_base::NoMemory;
 use std::alloc::{AllocError, Global};
 
@@ -136,18 +136,16 @@ fn and_member(alloc: Global, stacks: &mut Stacks) -> Result<(), NoMemory>
     push(
         &mut stacks.declarations,
         DeclarationValue::Members(members, depth.max(others)),
-    )?;
-    Ok(())
+    )
 }
 
 /// `;` in the place of a member.
 #[tactic(auto, unfolding(crate::specs::MemberBuild::no_member_declared))]
-fn no_member_declared(alloc: Global, stacks: &mut Stacks) -> Result<(), NoMemory>
+fn no_member_declared(stacks: &mut Stacks) -> Result<(), NoMemory>
     ensures { IfOk result (λ _. stacks_of stacks.new ≡ build.no_member_declared (stacks_of stacks.old)) }
 {
-    let _ = pop_token(alloc, &mut stacks.expressions);
-    push(&mut stacks.declarations, DeclarationValue::Member(None, 0))?;
-    Ok(())
+    skip(&mut stacks.expressions);
+    push(&mut stacks.declarations, DeclarationValue::Member(None, 0))
 }
 
 /// Modifiers, the rest of a member.
@@ -161,8 +159,7 @@ fn modified(alloc: Global, stacks: &mut Stacks) -> Result<(), NoMemory>
     push(
         &mut stacks.declarations,
         DeclarationValue::Member(member, depth.max(others)),
-    )?;
-    Ok(())
+    )
 }
 
 /// `void`, an identifier, the rest of a method.
@@ -170,15 +167,14 @@ fn modified(alloc: Global, stacks: &mut Stacks) -> Result<(), NoMemory>
 fn void_member(alloc: Global, stacks: &mut Stacks) -> Result<(), NoMemory>
     ensures { IfOk result (λ _. stacks_of stacks.new ≡ build.void_member (stacks_of stacks.old)) }
 {
-    let _ = pop_token(alloc, &mut stacks.expressions);
+    skip(&mut stacks.expressions);
     let name = pop_token(alloc, &mut stacks.expressions);
     let (rest, depth) = pop_method_rest(alloc, &mut stacks.declarations);
     let method = method(alloc, None, name_at(name), rest);
     push(
         &mut stacks.declarations,
         DeclarationValue::Member(Some(Member::Method(method)), depth),
-    )?;
-    Ok(())
+    )
 }
 
 /// A primitive type, brackets, an identifier, the rest of a field or method.
@@ -194,8 +190,7 @@ fn primitive_member(alloc: Global, stacks: &mut Stacks) -> Result<(), NoMemory>
     push(
         &mut stacks.declarations,
         DeclarationValue::Member(Some(member), depth),
-    )?;
-    Ok(())
+    )
 }
 
 /// An identifier, what stands behind it.
@@ -209,8 +204,7 @@ fn named_member(alloc: Global, stacks: &mut Stacks) -> Result<(), NoMemory>
     push(
         &mut stacks.declarations,
         DeclarationValue::Member(Some(member), depth),
-    )?;
-    Ok(())
+    )
 }
 
 /// Parameters, a throws clause, a body (JLS 8.8).
@@ -232,8 +226,7 @@ fn constructor(alloc: Global, stacks: &mut Stacks) -> Result<(), NoMemory>
     push(
         &mut stacks.declarations,
         DeclarationValue::AfterName(AfterName::Constructor(constructor), depth.max(others)),
-    )?;
-    Ok(())
+    )
 }
 
 /// `.`, an identifier, further ones, brackets, the name, the rest of a field or method.
@@ -241,7 +234,7 @@ fn constructor(alloc: Global, stacks: &mut Stacks) -> Result<(), NoMemory>
 fn dotted_member(alloc: Global, stacks: &mut Stacks) -> Result<(), NoMemory>
     ensures { IfOk result (λ _. stacks_of stacks.new ≡ build.dotted_member (stacks_of stacks.old)) }
 {
-    let _ = pop_token(alloc, &mut stacks.expressions);
+    skip(&mut stacks.expressions);
     let identifier = pop_token(alloc, &mut stacks.expressions);
     let mut further = pop_identifiers(alloc, &mut stacks.expressions);
     let is_array = pop_brackets(&mut stacks.expressions);
@@ -257,8 +250,7 @@ fn dotted_member(alloc: Global, stacks: &mut Stacks) -> Result<(), NoMemory>
     push(
         &mut stacks.declarations,
         DeclarationValue::AfterName(after, depth),
-    )?;
-    Ok(())
+    )
 }
 
 /// `[`, `]`, the name, the rest of a field or method.
@@ -266,8 +258,8 @@ fn dotted_member(alloc: Global, stacks: &mut Stacks) -> Result<(), NoMemory>
 fn array_member(alloc: Global, stacks: &mut Stacks) -> Result<(), NoMemory>
     ensures { IfOk result (λ _. stacks_of stacks.new ≡ build.array_member (stacks_of stacks.old)) }
 {
-    let _ = pop_token(alloc, &mut stacks.expressions);
-    let _ = pop_token(alloc, &mut stacks.expressions);
+    skip(&mut stacks.expressions);
+    skip(&mut stacks.expressions);
     let name = pop_token(alloc, &mut stacks.expressions);
     let (rest, depth) = pop_field_or_method(alloc, &mut stacks.declarations);
     let after = AfterName::Typed {
@@ -279,8 +271,7 @@ fn array_member(alloc: Global, stacks: &mut Stacks) -> Result<(), NoMemory>
     push(
         &mut stacks.declarations,
         DeclarationValue::AfterName(after, depth),
-    )?;
-    Ok(())
+    )
 }
 
 /// The name, the rest of a field or method.
@@ -299,8 +290,7 @@ fn plain_member(alloc: Global, stacks: &mut Stacks) -> Result<(), NoMemory>
     push(
         &mut stacks.declarations,
         DeclarationValue::AfterName(after, depth),
-    )?;
-    Ok(())
+    )
 }
 
 /// What a production of members makes of the values on top; any other leaves them.
@@ -324,7 +314,7 @@ pub fn build_member(
             Ok(())
         }
         DeclarationProduction::LoneMember | DeclarationProduction::LoneInterfaceMember => {
-            no_member_declared(alloc, stacks)
+            no_member_declared(stacks)
         }
         DeclarationProduction::ModifiedMember => modified(alloc, stacks),
         DeclarationProduction::VoidMember => void_member(alloc, stacks),

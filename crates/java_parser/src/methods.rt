@@ -12,7 +12,7 @@ use crate::stacks::Stacks;
 use java_actions::name_at;
 use java_statements::{pop_block, pop_optional, pop_variables};
 use java_syntax::{DeclarationProduction, Member, MethodDecl};
-use java_values::pop_token;
+use java_values::{pop_token, skip};
 use rlc_base::NoMemory;
 use std::alloc::Global;
 
@@ -25,8 +25,7 @@ fn method_of_rest(alloc: Global, stacks: &mut Stacks) -> Result<(), NoMemory>
     push(
         &mut stacks.declarations,
         DeclarationValue::FieldOrMethod(FieldOrMethod::Method(rest), depth),
-    )?;
-    Ok(())
+    )
 }
 
 /// An initializer, further variables, `;` (JLS 8.3).
@@ -36,13 +35,12 @@ fn fields(alloc: Global, stacks: &mut Stacks) -> Result<(), NoMemory>
 {
     let (initializer, depth) = pop_optional(&mut stacks.statements);
     let (more, others) = pop_variables(alloc, &mut stacks.statements);
-    let _ = pop_token(alloc, &mut stacks.expressions);
+    skip(&mut stacks.expressions);
     let rest = FieldOrMethod::Fields { initializer, more };
     push(
         &mut stacks.declarations,
         DeclarationValue::FieldOrMethod(rest, depth.max(others)),
-    )?;
-    Ok(())
+    )
 }
 
 /// Parameters, a throws clause, a body (JLS 8.4).
@@ -62,8 +60,7 @@ fn method_rest(alloc: Global, stacks: &mut Stacks) -> Result<(), NoMemory>
     push(
         &mut stacks.declarations,
         DeclarationValue::MethodRest(rest, depth.max(others)),
-    )?;
-    Ok(())
+    )
 }
 
 /// A block as a body.
@@ -75,34 +72,31 @@ fn method_body(alloc: Global, stacks: &mut Stacks) -> Result<(), NoMemory>
     push(
         &mut stacks.declarations,
         DeclarationValue::MethodBody(Some(block), depth),
-    )?;
-    Ok(())
+    )
 }
 
 /// `;` in the place of a method's body.
 #[tactic(auto, unfolding(crate::specs::MemberBuild::no_method_body))]
-fn no_method_body(alloc: Global, stacks: &mut Stacks) -> Result<(), NoMemory>
+fn no_method_body(stacks: &mut Stacks) -> Result<(), NoMemory>
     ensures { IfOk result (λ _. stacks_of stacks.new ≡ build.no_method_body (stacks_of stacks.old)) }
 {
-    let _ = pop_token(alloc, &mut stacks.expressions);
+    skip(&mut stacks.expressions);
     push(
         &mut stacks.declarations,
         DeclarationValue::MethodBody(None, 0),
-    )?;
-    Ok(())
+    )
 }
 
 /// `;` in the place of a constructor's body.
 #[tactic(auto, unfolding(crate::specs::MemberBuild::no_constructor_body))]
-fn no_constructor_body(alloc: Global, stacks: &mut Stacks) -> Result<(), NoMemory>
+fn no_constructor_body(stacks: &mut Stacks) -> Result<(), NoMemory>
     ensures { IfOk result (λ _. stacks_of stacks.new ≡ build.no_constructor_body (stacks_of stacks.old)) }
 {
-    let _ = pop_token(alloc, &mut stacks.expressions);
+    skip(&mut stacks.expressions);
     push(
         &mut stacks.declarations,
         DeclarationValue::ConstructorBody(None, 0),
-    )?;
-    Ok(())
+    )
 }
 
 /// Modifiers, a result, an identifier, parameters, a throws clause, `;` (JLS 9.4).
@@ -111,7 +105,7 @@ fn interface_method(alloc: Global, stacks: &mut Stacks) -> Result<(), NoMemory>
     ensures { IfOk result (λ _. stacks_of stacks.new ≡ build.interface_method (stacks_of stacks.old)) }
 {
     let name = pop_token(alloc, &mut stacks.expressions);
-    let _ = pop_token(alloc, &mut stacks.expressions);
+    skip(&mut stacks.expressions);
     let (modifiers, depth) = pop_modifiers(alloc, &mut stacks.declarations);
     let returned = pop_result_type(&mut stacks.declarations);
     let (list, others) = pop_parameters(alloc, &mut stacks.declarations);
@@ -128,8 +122,7 @@ fn interface_method(alloc: Global, stacks: &mut Stacks) -> Result<(), NoMemory>
     push(
         &mut stacks.declarations,
         DeclarationValue::Member(Some(Member::Method(method)), depth.max(others)),
-    )?;
-    Ok(())
+    )
 }
 
 /// What a production of methods, fields and bodies makes of the values on top; any other leaves them.
@@ -146,8 +139,8 @@ pub fn build_method(
         DeclarationProduction::FieldOf => fields(alloc, stacks),
         DeclarationProduction::MethodRestOf => method_rest(alloc, stacks),
         DeclarationProduction::SomeMethodBody => method_body(alloc, stacks),
-        DeclarationProduction::NoMethodBody => no_method_body(alloc, stacks),
-        DeclarationProduction::NoConstructorBody => no_constructor_body(alloc, stacks),
+        DeclarationProduction::NoMethodBody => no_method_body(stacks),
+        DeclarationProduction::NoConstructorBody => no_constructor_body(stacks),
         DeclarationProduction::HeadOf => interface_method(alloc, stacks),
         _ => Ok(()),
     }

@@ -7,7 +7,7 @@ use crate::declaration_values::DeclarationValue;
 use crate::pops::{pop_modifiers, push};
 use crate::stacks::Stacks;
 use java_syntax::{DeclarationProduction, Modifier};
-use java_values::{pop_annotation, pop_token, put};
+use java_values::{pop_annotation, put, skip};
 use rlc_base::NoMemory;
 use std::alloc::Global;
 
@@ -22,8 +22,7 @@ fn and_annotation(alloc: Global, stacks: &mut Stacks) -> Result<(), NoMemory>
     push(
         &mut stacks.declarations,
         DeclarationValue::Modifiers(modifiers, annotation.depth.max(depth)),
-    )?;
-    Ok(())
+    )
 }
 
 /// A modifier word, further modifiers.
@@ -31,14 +30,13 @@ fn and_annotation(alloc: Global, stacks: &mut Stacks) -> Result<(), NoMemory>
 fn and_modifier(alloc: Global, modifier: Modifier, stacks: &mut Stacks) -> Result<(), NoMemory>
     ensures { IfOk result (λ _. stacks_of stacks.new ≡ build.and_modifier (modifier_of modifier) (stacks_of stacks.old)) }
 {
-    let _ = pop_token(alloc, &mut stacks.expressions);
+    skip(&mut stacks.expressions);
     let (mut modifiers, depth) = pop_modifiers(alloc, &mut stacks.declarations);
     put(&mut modifiers, modifier)?;
     push(
         &mut stacks.declarations,
         DeclarationValue::Modifiers(modifiers, depth),
-    )?;
-    Ok(())
+    )
 }
 
 /// What a production of modifiers makes of the values on top; any other leaves them.

@@ -11,7 +11,7 @@ use crate::stacks::Stacks;
 use java_actions::name_at;
 use java_statements::pop_modifiers;
 use java_syntax::{DeclarationProduction, Param};
-use java_values::{pop_token, pop_type, put};
+use java_values::{pop_token, pop_type, put, skip};
 use rlc_base::NoMemory;
 use std::alloc::{AllocError, Global};
 
@@ -39,11 +39,11 @@ fn with_parameter(
 
 /// `(`, parameters, `)`.
 #[tactic(auto, unfolding(crate::specs::ParameterBuild::parameters))]
-fn parameters(alloc: Global, stacks: &mut Stacks)
+fn parameters(stacks: &mut Stacks)
     ensures { stacks_of stacks.new ≡ build.parameters (stacks_of stacks.old) }
 {
-    let _ = pop_token(alloc, &mut stacks.expressions);
-    let _ = pop_token(alloc, &mut stacks.expressions);
+    skip(&mut stacks.expressions);
+    skip(&mut stacks.expressions);
 }
 
 /// Modifiers, a type, a name, further parameters (JLS 8.4.1).
@@ -64,8 +64,7 @@ fn first_parameter(alloc: Global, stacks: &mut Stacks) -> Result<(), NoMemory>
     push(
         &mut stacks.declarations,
         DeclarationValue::Parameters(list, depth.max(others)),
-    )?;
-    Ok(())
+    )
 }
 
 /// `,`, modifiers, a type, an identifier, further parameters.
@@ -74,7 +73,7 @@ fn and_parameter(alloc: Global, stacks: &mut Stacks) -> Result<(), NoMemory>
     ensures { IfOk result (λ _. stacks_of stacks.new ≡ build.and_parameter (stacks_of stacks.old)) }
 {
     let (modifiers, depth) = pop_modifiers(alloc, &mut stacks.statements);
-    let _ = pop_token(alloc, &mut stacks.expressions);
+    skip(&mut stacks.expressions);
     let typ = pop_type(&mut stacks.expressions);
     let name = pop_token(alloc, &mut stacks.expressions);
     let (list, others) = pop_parameters(alloc, &mut stacks.declarations);
@@ -87,8 +86,7 @@ fn and_parameter(alloc: Global, stacks: &mut Stacks) -> Result<(), NoMemory>
     push(
         &mut stacks.declarations,
         DeclarationValue::Parameters(list, depth.max(others)),
-    )?;
-    Ok(())
+    )
 }
 
 /// No parameter, or no further one.
@@ -103,8 +101,7 @@ fn no_parameter(alloc: Global, stacks: &mut Stacks) -> Result<(), NoMemory>
     push(
         &mut stacks.declarations,
         DeclarationValue::Parameters(list, 0),
-    )?;
-    Ok(())
+    )
 }
 
 /// The name of a parameter, or the word `this` of a receiver parameter.
@@ -116,8 +113,7 @@ fn parameter_name(alloc: Global, is_receiver: bool, stacks: &mut Stacks) -> Resu
     push(
         &mut stacks.declarations,
         DeclarationValue::ParameterName(name_at(name), is_receiver),
-    )?;
-    Ok(())
+    )
 }
 
 /// A type as the result of a method.
@@ -129,18 +125,16 @@ fn type_result(stacks: &mut Stacks) -> Result<(), NoMemory>
     push(
         &mut stacks.declarations,
         DeclarationValue::ResultType(Some(typ)),
-    )?;
-    Ok(())
+    )
 }
 
 /// `void` as the result of a method.
 #[tactic(auto, unfolding(crate::specs::ParameterBuild::void_result))]
-fn void_result(alloc: Global, stacks: &mut Stacks) -> Result<(), NoMemory>
+fn void_result(stacks: &mut Stacks) -> Result<(), NoMemory>
     ensures { IfOk result (λ _. stacks_of stacks.new ≡ build.void_result (stacks_of stacks.old)) }
 {
-    let _ = pop_token(alloc, &mut stacks.expressions);
-    push(&mut stacks.declarations, DeclarationValue::ResultType(None))?;
-    Ok(())
+    skip(&mut stacks.expressions);
+    push(&mut stacks.declarations, DeclarationValue::ResultType(None))
 }
 
 /// What a production of parameters and results makes of the values on top; any other leaves them.
@@ -154,7 +148,7 @@ pub fn build_parameter(
 {
     match production {
         DeclarationProduction::ParametersOf => {
-            parameters(alloc, stacks);
+            parameters(stacks);
             Ok(())
         }
         DeclarationProduction::SomeParameter => first_parameter(alloc, stacks),
@@ -165,7 +159,7 @@ pub fn build_parameter(
         DeclarationProduction::ReceiverName => parameter_name(alloc, true, stacks),
         DeclarationProduction::AndParameter => and_parameter(alloc, stacks),
         DeclarationProduction::TypeResult => type_result(stacks),
-        DeclarationProduction::VoidResult => void_result(alloc, stacks),
+        DeclarationProduction::VoidResult => void_result(stacks),
         _ => Ok(()),
     }
 }

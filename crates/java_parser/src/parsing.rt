@@ -5,7 +5,7 @@ ghost use Rattle.java_syntax.specs.DeclarationTrees.{UnitTree, unit_of};
 ghost use Rattle.java_parser.specs.FileTrees.{IsUnitTree, IsStubTree, IsFileStop, HasNoUnit, HasNoStub, lexemes};
 
 use crate::file_trees::{stub_trees, unit_tree};
-use java_exprs::{Source, classed, end_place};
+use java_lexer::{Source, end_place};
 use java_syntax::Unit;
 use rlc_base::Stop;
 use std::alloc::Global;
@@ -24,9 +24,8 @@ pub fn parse_unit(alloc: Global, source: &Source) -> Result<Unit, Stop>
     ensures stopped { IfErr result (λ stop. IsFileStop false symbols.CompilationUnit (lexemes source.now.bytes.now source.now.tokens.now) (place_behind source.now.file source.now.bytes.now) stop) }
     ensures no_unit { IfErr result (λ stop. HasNoUnit (lexemes source.now.bytes.now source.now.tokens.now) stop) }
 {
-    let tokens = classed(alloc, source)?;
     let end = end_place(source);
-    unit_tree(alloc, source.bytes, tokens.as_slice(), end)
+    unit_tree(alloc, source.bytes, source.tokens, end)
 }
 
 /// The sections of a stub file, each as a unit, in their order (Checker Framework manual, the chapter on annotating libraries).
@@ -41,7 +40,6 @@ pub fn parse_stub(alloc: Global, source: &Source) -> Result<Vec<Unit>, Stop>
     ensures stopped { IfErr result (λ stop. IsFileStop true symbols.StubFile (lexemes source.now.bytes.now source.now.tokens.now) (place_behind source.now.file source.now.bytes.now) stop) }
     ensures no_stub { IfErr result (λ stop. HasNoStub (lexemes source.now.bytes.now source.now.tokens.now) stop) }
 {
-    let tokens = classed(alloc, source)?;
     let end = end_place(source);
-    stub_trees(alloc, source.bytes, tokens.as_slice(), end)
+    stub_trees(alloc, source.bytes, source.tokens, end)
 }

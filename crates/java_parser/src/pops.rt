@@ -11,8 +11,9 @@ use crate::declaration_values::{
 use java_syntax::{
     Block, ClassDecl, ConstructorBody, Import, Member, Modifier, Name, Stmt, SuperCall, Typ, Unit,
 };
-use rlc_base::{Pos, Text};
-use std::alloc::{AllocError, Global};
+use java_values::put;
+use rlc_base::{NoMemory, Pos, Text};
+use std::alloc::Global;
 
 /// No place.
 const NOWHERE: Pos = Pos {
@@ -32,11 +33,10 @@ pub fn no_name(alloc: Global) -> Name
 }
 
 /// Puts the value on the stack.
-pub fn push(stack: &mut Vec<DeclarationValue>, value: DeclarationValue) -> Result<(), AllocError>
+pub fn push(stack: &mut Vec<DeclarationValue>, value: DeclarationValue) -> Result<(), NoMemory>
     ensures { IfOk result (λ _. declarations_of stack.new.items ≡ declaration_value_of value ∷ declarations_of stack.old.items) }
 {
-    stack.push(value)?;
-    Ok(())
+    Ok(put(stack, value)?)
 }
 
 /// Takes the top of the stack off it; `DeclarationValue::Nothing` where the stack is empty.

@@ -24,14 +24,14 @@ use crate::statement_values::{StatementValue, drop_top};
 use crate::statements::{
     absent_else, absent_expression, block, block_statement, break_statement, continue_statement,
     do_statement, empty_statement, if_statement, more_statements, no_statements, return_statement,
-    skip, some_else, some_expression, throw_statement, while_statement,
+    some_else, some_expression, throw_statement, while_statement,
 };
 use crate::try_statements::{
     absent_finally, catch_clause, more_catches, more_classes, more_resources, no_catches,
     no_classes, no_resources, resource, some_finally_block, try_statement,
 };
 use java_syntax::{DeclarationProduction, StatementProduction};
-use java_values::{BuildFail, Value};
+use java_values::{BuildFail, Value, skip};
 use std::alloc::{AllocError, Global};
 
 /// Puts on the stacks what this production of statements leaves in place of the values of its items, of which the first is on top.

@@ -14,9 +14,9 @@ use crate::statement_values::{
     StatementValue, drop_top, pop_expressions, pop_for_start, pop_local, pop_optional,
     pop_statement, put, take,
 };
-use crate::statements::{node, skip};
+use crate::statements::node;
 use java_syntax::ForStart;
-use java_values::{BuildFail, Subexpression, Value, pop_expression, pop_token};
+use java_values::{BuildFail, Subexpression, Value, pop_expression, pop_place, skip};
 use std::alloc::{AllocError, Global};
 
 /// This expression, more expressions.
@@ -211,7 +211,7 @@ pub fn for_statement(
     ensures made { IfOk result (λ _. build.for_statement limit (values_of inner.old.items) (statement_values_of own.old.items) ≡ Some (values_of inner.new.items, statement_values_of own.new.items)) }
     ensures too_deep { IfErr result (λ fail. nodes.IsTooDeep fail → build.for_statement limit (values_of inner.old.items) (statement_values_of own.old.items) ≡ None) }
 {
-    let word = pop_token(alloc, inner);
+    let pos = pop_place(inner);
     skip(inner);
     skip(inner);
     skip(inner);
@@ -221,6 +221,6 @@ pub fn for_statement(
     let (updates, update_depth) = pop_expressions(alloc, own);
     let (body, body_depth) = pop_statement(alloc, own)?;
     let depth = start_depth.max(condition_depth.max(update_depth.max(body_depth)));
-    let statement = for_node(start, condition, in_order(updates), body, word.pos);
-    node(alloc, limit, depth, word.pos, statement, own)
+    let statement = for_node(start, condition, in_order(updates), body, pos);
+    node(alloc, limit, depth, pos, statement, own)
 }

@@ -12,11 +12,11 @@ use crate::statement_names::declares;
 use crate::statement_values::{
     StatementValue, pop_local, pop_modifiers, pop_optional, pop_variables, put, take,
 };
-use crate::statements::{node, skip, some_expression};
+use crate::statements::{node, some_expression};
 use java_syntax::{
     Anno, DeclarationProduction, Local, Modifier, Name, Production, Stmt, Typ, Variable,
 };
-use java_values::{BuildFail, Value, pop_annotation, pop_token, pop_type};
+use java_values::{BuildFail, Value, pop_annotation, pop_place, pop_token, pop_type, skip};
 use rlc_base::Pos;
 use std::alloc::{AllocError, Global};
 
@@ -207,11 +207,11 @@ pub fn final_local(
 ) -> Result<(), AllocError>
     ensures { IfOk result (λ _. build.final_local (values_of inner.old.items) (statement_values_of own.old.items) ≡ (values_of inner.new.items, statement_values_of own.new.items)) }
 {
-    let word = pop_token(alloc, inner);
+    let pos = pop_place(inner);
     let typ = pop_type(inner);
     let (mut modifiers, depth) = pop_modifiers(alloc, own);
     lead(&mut modifiers, Modifier::Final)?;
-    local(alloc, modifiers, depth, typ, word.pos, own)
+    local(alloc, modifiers, depth, typ, pos, own)
 }
 
 /// An annotation, more modifiers, a type, variables.

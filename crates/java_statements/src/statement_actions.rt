@@ -8,13 +8,14 @@ ghost use Rattle.java_values.specs.Pops as pops;
 ghost use Rattle.java_actions.specs.Build.{below_four, below_five};
 ghost use Rattle.java_syntax.specs.ExpressionTrees.{expr_of};
 
-use crate::statement_values::{NOWHERE, StatementValue, pop_place, put};
-use crate::statements::{node, skip};
+use crate::statement_values::{NOWHERE, StatementValue, pop_start, put};
+use crate::statements::node;
 use java_actions::{begun, completed, tailed};
 use java_syntax::{Expr, ExpressionProduction, Production, Stmt};
 use java_values::{
-    AfterIdentifier, BuildFail, Subexpression, Tail, Value, parenthesized, pop_arguments, pop_call,
-    pop_expression, pop_steps, pop_suffixes, pop_tail, pop_token, push, super_call,
+    AfterIdentifier, BuildFail, Subexpression, Tail, Value, leave, parenthesized, pop_arguments,
+    pop_call, pop_expression, pop_place, pop_steps, pop_suffixes, pop_tail, pop_token, push, skip,
+    super_call,
 };
 use rlc_base::Pos;
 use std::alloc::{AllocError, Global};
@@ -166,7 +167,7 @@ fn begun_super(alloc: Global, limit: u32, inner: &mut Vec<Value>) -> Result<Begu
     ensures rest { IfOk result (λ _. values_of inner.new.items ≡ pops.rest (below_five (values_of inner.old.items))) }
     ensures too_deep { IfErr result (λ fail. nodes.IsTooDeep fail → build.super_action limit (values_of inner.old.items) ≡ None) }
 {
-    let word = pop_token(alloc, inner);
+    let pos = pop_place(inner);
     skip(inner);
     let identifier = pop_token(alloc, inner);
     let arguments = pop_arguments(alloc, inner);
@@ -174,10 +175,7 @@ fn begun_super(alloc: Global, limit: u32, inner: &mut Vec<Value>) -> Result<Begu
     let tail = pop_tail(alloc, inner);
     let called = super_call(limit, identifier.text, arguments, identifier.pos)?;
     let found = completed(alloc, limit, called, suffixes, tail)?;
-    Ok(Begun {
-        found,
-        pos: word.pos,
-    })
+    Ok(Begun { found, pos })
 }
 
 /// `super`, `.`, an identifier, arguments, suffixes, a tail.
@@ -261,7 +259,7 @@ pub fn placed_statement(
     ensures made { IfOk result (λ _. build.placed_statement limit (values_of inner.old.items) (statement_values_of own.old.items) ≡ Some (values_of inner.new.items, statement_values_of own.new.items)) }
     ensures too_deep { IfErr result (λ fail. nodes.IsTooDeep fail → build.placed_statement limit (values_of inner.old.items) (statement_values_of own.old.items) ≡ None) }
 {
-    let pos = pop_place(own);
+    let pos = pop_start(own);
     let found = pop_expression(inner);
     action_statement(alloc, limit, pos, found, inner, own)
 }
@@ -306,14 +304,14 @@ pub fn parenthesized_action(
     ensures made { IfOk result (λ _. build.parenthesized_action limit (values_of inner.old.items) (statement_values_of own.old.items) ≡ Some (values_of inner.new.items, statement_values_of own.new.items)) }
     ensures too_deep { IfErr result (λ fail. nodes.IsTooDeep fail → build.parenthesized_action limit (values_of inner.old.items) (statement_values_of own.old.items) ≡ None) }
 {
-    let open = pop_token(alloc, inner);
+    let pos = pop_place(inner);
     let found = pop_expression(inner);
     skip(inner);
     let suffixes = pop_suffixes(alloc, inner);
     let tail = pop_tail(alloc, inner);
     let enclosed = parenthesized(limit, found)?;
     let whole = completed(alloc, limit, enclosed, suffixes, tail)?;
-    placed(open.pos, whole, inner, own)?;
+    placed(pos, whole, inner, own)?;
     Ok(())
 }
 
@@ -353,8 +351,7 @@ pub fn pushed_named_action(
     ensures too_deep { IfErr result (λ fail. nodes.IsTooDeep fail → build.pushed_named_action limit (values_of inner.old.items) ≡ None) }
 {
     let found = named_action(alloc, limit, inner)?;
-    push(inner, Value::Expression(found))?;
-    Ok(())
+    leave(inner, Value::Expression(found))
 }
 
 /// `super`, `.`, an identifier, arguments, suffixes, a tail.
@@ -371,8 +368,7 @@ pub fn pushed_super_action(
     ensures too_deep { IfErr result (λ fail. nodes.IsTooDeep fail → build.pushed_super_action limit (values_of inner.old.items) ≡ None) }
 {
     let found = super_action(alloc, limit, inner)?;
-    push(inner, Value::Expression(found))?;
-    Ok(())
+    leave(inner, Value::Expression(found))
 }
 
 /// No assignment, `++` or `--`: a call or a `new` (JLS 14.8).
@@ -447,6 +443,5 @@ pub fn steps_action(alloc: Global, limit: u32, inner: &mut Vec<Value>) -> Result
         operations: Vec::new(alloc),
         choice: None,
     };
-    push(inner, Value::Tail(tail))?;
-    Ok(())
+    leave(inner, Value::Tail(tail))
 }

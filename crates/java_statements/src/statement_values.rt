@@ -4,6 +4,7 @@ ghost use Rattle.java_syntax.specs.AnnotationTrees.{modifier_of};
 ghost use Rattle.java_syntax.specs.StatementTrees.{block_of, catch_of, for_start_of, local_of, resource_of, stmt_of, variable_of};
 ghost use Rattle.java_statements.specs.StatementValues.{statement_value_of, statement_values_of, below, in_box, top_value, the_block, the_statements, the_statement, the_local, the_variables, the_optional, the_else, the_for_start, the_expressions, the_place, the_catch, the_catches, the_finally, the_names, the_resource, the_resources, the_modifiers};
 
+use crate::lists::lead;
 use java_syntax::{
     Block, Catch, Expr, ForStart, Local, Modifier, Name, PrimitiveName, Resource, Stmt, Typ,
     TypeName, Variable,
@@ -64,8 +65,7 @@ pub const NOWHERE: Pos = Pos {
 pub fn put(stack: &mut Vec<StatementValue>, value: StatementValue) -> Result<(), AllocError>
     ensures { IfOk result (λ _. statement_values_of stack.new.items ≡ statement_value_of value ∷ statement_values_of stack.old.items) }
 {
-    stack.push(value)?;
-    Ok(())
+    lead(stack, value)
 }
 
 /// Takes the top off the stack; `StatementValue::Nothing` where the stack is empty.
@@ -237,8 +237,8 @@ pub fn pop_expressions(alloc: Global, stack: &mut Vec<StatementValue>) -> (Vec<E
     }
 }
 
-/// Takes the place off the stack.
-pub fn pop_place(stack: &mut Vec<StatementValue>) -> Pos
+/// Takes the place off the stack where an expression begins.
+pub fn pop_start(stack: &mut Vec<StatementValue>) -> Pos
     ensures popped { result ≡ the_place (top_value (statement_values_of stack.old.items)) }
     ensures rest { statement_values_of stack.new.items ≡ below (statement_values_of stack.old.items) }
 {

@@ -3,7 +3,6 @@ ghost use Rattle.java_values.specs.Values.{values_of};
 ghost use Rattle.java_values.specs.Nodes as nodes;
 ghost use Rattle.java_statements.specs.StatementValues.{statement_values_of};
 ghost use Rattle.java_statements.specs.StatementBuild as build;
-ghost use Rattle.java_values.specs.Pops as pops;
 ghost use Rattle.java_syntax.specs.StatementTrees.{stmt_of};
 
 use crate::lists::{in_order, lead};
@@ -12,16 +11,9 @@ use crate::statement_values::{
     StatementValue, pop_block, pop_else, pop_optional, pop_statement, pop_statements, put,
 };
 use java_syntax::{Block, Stmt};
-use java_values::{BuildFail, Value, deeper, pop, pop_expression, pop_token};
+use java_values::{BuildFail, Value, deeper, pop_expression, pop_place, skip};
 use rlc_base::Pos;
 use std::alloc::{AllocError, Global};
-
-/// Takes the top off the stack.
-pub fn skip(inner: &mut Vec<Value>)
-    ensures { values_of inner.new.items ≡ pops.rest (values_of inner.old.items) }
-{
-    pop(inner);
-}
 
 /// The statement on the heap.
 fn boxed(alloc: Global, statement: Stmt) -> Result<Box<Stmt>, AllocError>
@@ -60,13 +52,13 @@ pub fn block(
 ) -> Result<(), AllocError>
     ensures { IfOk result (λ _. build.block (values_of inner.old.items) (statement_values_of own.old.items) ≡ (values_of inner.new.items, statement_values_of own.new.items)) }
 {
-    let open = pop_token(alloc, inner);
-    let close = pop_token(alloc, inner);
+    let pos = pop_place(inner);
+    let end = pop_place(inner);
     let (statements, depth) = pop_statements(alloc, own);
     let block = Block {
         statements: in_order(statements),
-        pos: open.pos,
-        end: close.pos,
+        pos,
+        end,
     };
     put(own, StatementValue::Block(block, depth))
 }
@@ -123,15 +115,8 @@ pub fn empty_statement(
     ensures made { IfOk result (λ _. build.empty_statement limit (values_of inner.old.items) (statement_values_of own.old.items) ≡ Some (values_of inner.new.items, statement_values_of own.new.items)) }
     ensures too_deep { IfErr result (λ fail. nodes.IsTooDeep fail → build.empty_statement limit (values_of inner.old.items) (statement_values_of own.old.items) ≡ None) }
 {
-    let semicolon = pop_token(alloc, inner);
-    node(
-        alloc,
-        limit,
-        0,
-        semicolon.pos,
-        Stmt::Empty { pos: semicolon.pos },
-        own,
-    )
+    let pos = pop_place(inner);
+    node(alloc, limit, 0, pos, Stmt::Empty { pos }, own)
 }
 
 /// `if`, `(`, an expression, `)`, a statement, what stands behind `else` (JLS 14.9).
@@ -148,15 +133,15 @@ pub fn if_statement(
     ensures made { IfOk result (λ _. build.if_statement limit (values_of inner.old.items) (statement_values_of own.old.items) ≡ Some (values_of inner.new.items, statement_values_of own.new.items)) }
     ensures too_deep { IfErr result (λ fail. nodes.IsTooDeep fail → build.if_statement limit (values_of inner.old.items) (statement_values_of own.old.items) ≡ None) }
 {
-    let word = pop_token(alloc, inner);
+    let (body, body_depth) = pop_statement(alloc, own)?;
+    let pos = pop_place(inner);
     skip(inner);
     let condition = pop_expression(inner);
     skip(inner);
-    let (body, body_depth) = pop_statement(alloc, own)?;
     let (otherwise, else_depth) = pop_else(own);
     let depth = condition.depth.max(body_depth.max(else_depth));
-    let statement = if_node(condition.tree, body, otherwise, word.pos);
-    node(alloc, limit, depth, word.pos, statement, own)
+    let statement = if_node(condition.tree, body, otherwise, pos);
+    node(alloc, limit, depth, pos, statement, own)
 }
 
 /// `else`, a statement.
@@ -193,14 +178,14 @@ pub fn while_statement(
     ensures made { IfOk result (λ _. build.while_statement limit (values_of inner.old.items) (statement_values_of own.old.items) ≡ Some (values_of inner.new.items, statement_values_of own.new.items)) }
     ensures too_deep { IfErr result (λ fail. nodes.IsTooDeep fail → build.while_statement limit (values_of inner.old.items) (statement_values_of own.old.items) ≡ None) }
 {
-    let word = pop_token(alloc, inner);
+    let (body, body_depth) = pop_statement(alloc, own)?;
+    let pos = pop_place(inner);
     skip(inner);
     let condition = pop_expression(inner);
     skip(inner);
-    let (body, body_depth) = pop_statement(alloc, own)?;
     let depth = condition.depth.max(body_depth);
-    let statement = while_node(condition.tree, body, word.pos);
-    node(alloc, limit, depth, word.pos, statement, own)
+    let statement = while_node(condition.tree, body, pos);
+    node(alloc, limit, depth, pos, statement, own)
 }
 
 /// `do`, a statement, `while`, `(`, an expression, `)`, `;` (JLS 14.13).
@@ -217,16 +202,16 @@ pub fn do_statement(
     ensures made { IfOk result (λ _. build.do_statement limit (values_of inner.old.items) (statement_values_of own.old.items) ≡ Some (values_of inner.new.items, statement_values_of own.new.items)) }
     ensures too_deep { IfErr result (λ fail. nodes.IsTooDeep fail → build.do_statement limit (values_of inner.old.items) (statement_values_of own.old.items) ≡ None) }
 {
-    let word = pop_token(alloc, inner);
+    let (body, body_depth) = pop_statement(alloc, own)?;
+    let pos = pop_place(inner);
     skip(inner);
     skip(inner);
     let condition = pop_expression(inner);
     skip(inner);
     skip(inner);
-    let (body, body_depth) = pop_statement(alloc, own)?;
     let depth = body_depth.max(condition.depth);
-    let statement = do_node(body, condition.tree, word.pos);
-    node(alloc, limit, depth, word.pos, statement, own)
+    let statement = do_node(body, condition.tree, pos);
+    node(alloc, limit, depth, pos, statement, own)
 }
 
 /// An expression where one may be absent.
@@ -261,20 +246,10 @@ pub fn return_statement(
     ensures made { IfOk result (λ _. build.return_statement limit (values_of inner.old.items) (statement_values_of own.old.items) ≡ Some (values_of inner.new.items, statement_values_of own.new.items)) }
     ensures too_deep { IfErr result (λ fail. nodes.IsTooDeep fail → build.return_statement limit (values_of inner.old.items) (statement_values_of own.old.items) ≡ None) }
 {
-    let word = pop_token(alloc, inner);
+    let pos = pop_place(inner);
     skip(inner);
     let (value, depth) = pop_optional(own);
-    node(
-        alloc,
-        limit,
-        depth,
-        word.pos,
-        Stmt::Return {
-            value,
-            pos: word.pos,
-        },
-        own,
-    )
+    node(alloc, limit, depth, pos, Stmt::Return { value, pos }, own)
 }
 
 /// `throw`, an expression, `;` (JLS 14.18).
@@ -291,17 +266,17 @@ pub fn throw_statement(
     ensures made { IfOk result (λ _. build.throw_statement limit (values_of inner.old.items) (statement_values_of own.old.items) ≡ Some (values_of inner.new.items, statement_values_of own.new.items)) }
     ensures too_deep { IfErr result (λ fail. nodes.IsTooDeep fail → build.throw_statement limit (values_of inner.old.items) (statement_values_of own.old.items) ≡ None) }
 {
-    let word = pop_token(alloc, inner);
+    let pos = pop_place(inner);
     let found = pop_expression(inner);
     skip(inner);
     node(
         alloc,
         limit,
         found.depth,
-        word.pos,
+        pos,
         Stmt::Throw {
             value: found.tree,
-            pos: word.pos,
+            pos,
         },
         own,
     )
@@ -321,16 +296,9 @@ pub fn break_statement(
     ensures made { IfOk result (λ _. build.break_statement limit (values_of inner.old.items) (statement_values_of own.old.items) ≡ Some (values_of inner.new.items, statement_values_of own.new.items)) }
     ensures too_deep { IfErr result (λ fail. nodes.IsTooDeep fail → build.break_statement limit (values_of inner.old.items) (statement_values_of own.old.items) ≡ None) }
 {
-    let word = pop_token(alloc, inner);
+    let pos = pop_place(inner);
     skip(inner);
-    node(
-        alloc,
-        limit,
-        0,
-        word.pos,
-        Stmt::Break { pos: word.pos },
-        own,
-    )
+    node(alloc, limit, 0, pos, Stmt::Break { pos }, own)
 }
 
 /// `continue`, `;` (JLS 14.16).
@@ -347,14 +315,7 @@ pub fn continue_statement(
     ensures made { IfOk result (λ _. build.continue_statement limit (values_of inner.old.items) (statement_values_of own.old.items) ≡ Some (values_of inner.new.items, statement_values_of own.new.items)) }
     ensures too_deep { IfErr result (λ fail. nodes.IsTooDeep fail → build.continue_statement limit (values_of inner.old.items) (statement_values_of own.old.items) ≡ None) }
 {
-    let word = pop_token(alloc, inner);
+    let pos = pop_place(inner);
     skip(inner);
-    node(
-        alloc,
-        limit,
-        0,
-        word.pos,
-        Stmt::Continue { pos: word.pos },
-        own,
-    )
+    node(alloc, limit, 0, pos, Stmt::Continue { pos }, own)
 }

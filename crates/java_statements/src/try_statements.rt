@@ -10,9 +10,9 @@ use crate::statement_values::{
     StatementValue, pop_block, pop_catch, pop_catches, pop_finally, pop_modifiers, pop_names,
     pop_resource, pop_resources, put,
 };
-use crate::statements::{node, skip};
+use crate::statements::node;
 use java_syntax::{Catch, Name, Resource};
-use java_values::{BuildFail, Value, deeper, pop_expression, pop_name, pop_token};
+use java_values::{BuildFail, Value, deeper, pop_expression, pop_name, pop_place, pop_token, skip};
 use std::alloc::{AllocError, Global};
 
 /// Modifiers, a class, an identifier, `=`, an expression (JLS 14.20.3).
@@ -106,14 +106,13 @@ pub fn catch_clause(
     let identifier = pop_token(alloc, inner);
     skip(inner);
     let (modifiers, depth) = pop_modifiers(alloc, own);
-    let classes = pop_names(alloc, own);
+    let classes = led_by(first, pop_names(alloc, own))?;
     let (block, block_depth) = pop_block(alloc, own);
     let deepest = deeper(limit, block_depth, block.pos)?;
     let name = Name {
         text: identifier.text,
         pos: identifier.pos,
     };
-    let classes = led_by(first, classes)?;
     let clause = Catch {
         modifiers: in_order(modifiers),
         classes,
@@ -183,19 +182,13 @@ pub fn try_statement(
     ensures made { IfOk result (λ _. build.try_statement limit (values_of inner.old.items) (statement_values_of own.old.items) ≡ Some (values_of inner.new.items, statement_values_of own.new.items)) }
     ensures too_deep { IfErr result (λ fail. nodes.IsTooDeep fail → build.try_statement limit (values_of inner.old.items) (statement_values_of own.old.items) ≡ None) }
 {
-    let word = pop_token(alloc, inner);
+    let pos = pop_place(inner);
     let (resources, resource_depth) = pop_resources(alloc, own);
     let (block, block_depth) = pop_block(alloc, own);
     let (catches, catch_depth) = pop_catches(alloc, own);
     let (finally, finally_depth) = pop_finally(own);
     let deepest = deeper(limit, block_depth, block.pos)?;
     let depth = resource_depth.max(deepest.max(catch_depth.max(finally_depth)));
-    let statement = try_node(
-        in_order(resources),
-        block,
-        in_order(catches),
-        finally,
-        word.pos,
-    );
-    node(alloc, limit, depth, word.pos, statement, own)
+    let statement = try_node(in_order(resources), block, in_order(catches), finally, pos);
+    node(alloc, limit, depth, pos, statement, own)
 }

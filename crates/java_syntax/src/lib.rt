@@ -9,6 +9,7 @@ mod expressions;
 mod names;
 mod operators;
 mod productions;
+mod settings;
 mod statement_trees;
 mod statements;
 mod surroundings;
@@ -28,6 +29,7 @@ pub use operators::{InfixOperator, PrefixOperator, StepOperator};
 pub use productions::{
     DeclarationProduction, ExpressionProduction, Production, StatementProduction,
 };
+pub use settings::Settings;
 pub use statement_trees::{Block, Catch, ForStart, Local, Resource, Stmt, Variable};
 pub use surroundings::{Modifiers, Owner};
 pub use symbols::{Item, Symbol};

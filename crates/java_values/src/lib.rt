@@ -17,12 +17,12 @@ pub use operators::{
     compound_operator, infix_operator, prefix_operator, primitive_name, step_operator,
 };
 pub use pops::{
-    NOWHERE, pop, pop_after_bracket, pop_after_inside, pop_after_key, pop_after_name,
+    NOWHERE, leave, pop, pop_after_bracket, pop_after_inside, pop_after_key, pop_after_name,
     pop_annotation, pop_annotation_arguments, pop_annotation_value, pop_annotation_values,
     pop_annotations, pop_arguments, pop_brackets, pop_call, pop_choice, pop_creator,
     pop_creator_rest, pop_expression, pop_inside, pop_name, pop_names, pop_opening, pop_operation,
-    pop_operations, pop_primitive_cast, pop_steps, pop_suffixes, pop_tail, pop_token, pop_type,
-    push,
+    pop_operations, pop_place, pop_primitive_cast, pop_steps, pop_suffixes, pop_tail, pop_token,
+    pop_type, push, skip,
 };
 pub use values::{
     AfterBracket, AfterIdentifier, AfterInside, AfterKey, AfterName, Alternatives, Annotation,

@@ -62,6 +62,22 @@ pub fn deeper(limit: u32, depth: u32, pos: Pos) -> Result<u32, BuildFail>
     }
 }
 
+/// The tree with its depth, which is one more than that of its deepest part.
+fn node(limit: u32, below: u32, tree: Expr, pos: Pos) -> Result<Subexpression, BuildFail>
+    ensures made { IfOk result (λ e. nodes.node limit below (expr_of tree) ≡ Some (subexpression_of e)) }
+    ensures too_deep { IfErr result (λ fail. nodes.IsTooDeep fail → nodes.node limit below (expr_of tree) ≡ None) }
+{
+    let depth = deeper(limit, below, pos)?;
+    Ok(Subexpression { tree, depth })
+}
+
+/// The tree in a box.
+fn boxed(alloc: Global, tree: Expr) -> Result<Box<Expr>, NoMemory>
+    ensures { IfOk result (λ part. expr_of part.value ≡ expr_of tree) }
+{
+    Ok(Box::new(alloc, tree)?)
+}
+
 /// The arguments in their order.
 fn in_order(mut list: Vec<Expr>) -> Vec<Expr>
     ensures { result.items ≡ reverse list.items }
@@ -79,9 +95,7 @@ pub fn literal(limit: u32, text: Text, pos: Pos) -> Result<Subexpression, BuildF
     ensures made { IfOk result (λ e. nodes.literal_node limit text pos ≡ Some (subexpression_of e)) }
     ensures too_deep { IfErr result (λ fail. nodes.IsTooDeep fail → nodes.literal_node limit text pos ≡ None) }
 {
-    let depth = deeper(limit, 0, pos)?;
-    let tree = Expr::Literal { text, pos };
-    Ok(Subexpression { tree, depth })
+    node(limit, 0, Expr::Literal { text, pos }, pos)
 }
 
 /// An identifier alone, one level deeper than its parts.
@@ -93,9 +107,7 @@ pub fn identifier(limit: u32, name: Text, pos: Pos) -> Result<Subexpression, Bui
     ensures made { IfOk result (λ e. nodes.identifier_node limit name pos ≡ Some (subexpression_of e)) }
     ensures too_deep { IfErr result (λ fail. nodes.IsTooDeep fail → nodes.identifier_node limit name pos ≡ None) }
 {
-    let depth = deeper(limit, 0, pos)?;
-    let tree = Expr::Identifier { name, pos };
-    Ok(Subexpression { tree, depth })
+    node(limit, 0, Expr::Identifier { name, pos }, pos)
 }
 
 /// `this`, one level deeper than its parts.
@@ -107,9 +119,7 @@ pub fn this(limit: u32, pos: Pos) -> Result<Subexpression, BuildFail>
     ensures made { IfOk result (λ e. nodes.this_node limit pos ≡ Some (subexpression_of e)) }
     ensures too_deep { IfErr result (λ fail. nodes.IsTooDeep fail → nodes.this_node limit pos ≡ None) }
 {
-    let depth = deeper(limit, 0, pos)?;
-    let tree = Expr::This { pos };
-    Ok(Subexpression { tree, depth })
+    node(limit, 0, Expr::This { pos }, pos)
 }
 
 fn call_tree(name: Text, arguments: Vec<Expr>, pos: Pos) -> Expr
@@ -197,9 +207,16 @@ pub fn method_call(
     ensures made { IfOk result (λ e. nodes.method_call_node limit (subexpression_of target) name (arguments_of arguments) pos ≡ Some (subexpression_of e)) }
     ensures too_deep { IfErr result (λ fail. nodes.IsTooDeep fail → nodes.method_call_node limit (subexpression_of target) name (arguments_of arguments) pos ≡ None) }
 {
-    let depth = deeper(limit, target.depth.max(arguments.depth), pos)?;
-    let tree = method_call_tree(Box::new(alloc, target.tree)?, name, arguments.list, pos);
-    Ok(Subexpression { tree, depth })
+    let below = target.depth.max(arguments.depth);
+    match boxed(alloc, target.tree) {
+        Ok(target) => node(
+            limit,
+            below,
+            method_call_tree(target, name, arguments.list, pos),
+            pos,
+        ),
+        Err(NoMemory) => Err(BuildFail::NoMemory),
+    }
 }
 
 /// A field of an expression (JLS 15.11), one level deeper than its parts.
@@ -217,13 +234,11 @@ pub fn field_access(
     ensures made { IfOk result (λ e. nodes.field_access_node limit (subexpression_of target) name pos ≡ Some (subexpression_of e)) }
     ensures too_deep { IfErr result (λ fail. nodes.IsTooDeep fail → nodes.field_access_node limit (subexpression_of target) name pos ≡ None) }
 {
-    let depth = deeper(limit, target.depth, pos)?;
-    let tree = Expr::FieldAccess {
-        target: Box::new(alloc, target.tree)?,
-        name,
-        pos,
-    };
-    Ok(Subexpression { tree, depth })
+    let below = target.depth;
+    match boxed(alloc, target.tree) {
+        Ok(target) => node(limit, below, Expr::FieldAccess { target, name, pos }, pos),
+        Err(NoMemory) => Err(BuildFail::NoMemory),
+    }
 }
 
 /// An element of an array (JLS 15.10.3), one level deeper than its parts.
@@ -241,13 +256,11 @@ pub fn index(
     ensures made { IfOk result (λ e. nodes.index_node limit (subexpression_of array) (subexpression_of index) pos ≡ Some (subexpression_of e)) }
     ensures too_deep { IfErr result (λ fail. nodes.IsTooDeep fail → nodes.index_node limit (subexpression_of array) (subexpression_of index) pos ≡ None) }
 {
-    let depth = deeper(limit, array.depth.max(index.depth), pos)?;
-    let tree = Expr::Index {
-        array: Box::new(alloc, array.tree)?,
-        index: Box::new(alloc, index.tree)?,
-        pos,
-    };
-    Ok(Subexpression { tree, depth })
+    let below = array.depth.max(index.depth);
+    match (boxed(alloc, array.tree), boxed(alloc, index.tree)) {
+        (Ok(array), Ok(index)) => node(limit, below, Expr::Index { array, index, pos }, pos),
+        _ => Err(BuildFail::NoMemory),
+    }
 }
 
 fn new_object_tree(class: Name, arguments: Vec<Expr>, pos: Pos) -> Expr
@@ -294,13 +307,20 @@ pub fn new_array(
     ensures made { IfOk result (λ e. nodes.new_array_node limit element (subexpression_of length) pos ≡ Some (subexpression_of e)) }
     ensures too_deep { IfErr result (λ fail. nodes.IsTooDeep fail → nodes.new_array_node limit element (subexpression_of length) pos ≡ None) }
 {
-    let depth = deeper(limit, length.depth, pos)?;
-    let tree = Expr::NewArray {
-        element,
-        length: Box::new(alloc, length.tree)?,
-        pos,
-    };
-    Ok(Subexpression { tree, depth })
+    let below = length.depth;
+    match boxed(alloc, length.tree) {
+        Ok(length) => node(
+            limit,
+            below,
+            Expr::NewArray {
+                element,
+                length,
+                pos,
+            },
+            pos,
+        ),
+        Err(NoMemory) => Err(BuildFail::NoMemory),
+    }
 }
 
 /// An operator before its operand (JLS 15.15), one level deeper than its parts.
@@ -318,13 +338,20 @@ pub fn prefix(
     ensures made { IfOk result (λ e. nodes.prefix_node limit operator (subexpression_of operand) pos ≡ Some (subexpression_of e)) }
     ensures too_deep { IfErr result (λ fail. nodes.IsTooDeep fail → nodes.prefix_node limit operator (subexpression_of operand) pos ≡ None) }
 {
-    let depth = deeper(limit, operand.depth, pos)?;
-    let tree = Expr::Prefix {
-        operator,
-        operand: Box::new(alloc, operand.tree)?,
-        pos,
-    };
-    Ok(Subexpression { tree, depth })
+    let below = operand.depth;
+    match boxed(alloc, operand.tree) {
+        Ok(operand) => node(
+            limit,
+            below,
+            Expr::Prefix {
+                operator,
+                operand,
+                pos,
+            },
+            pos,
+        ),
+        Err(NoMemory) => Err(BuildFail::NoMemory),
+    }
 }
 
 /// `++` or `--` before its operand (JLS 15.15.1), one level deeper than its parts.
@@ -342,13 +369,20 @@ pub fn prefix_step(
     ensures made { IfOk result (λ e. nodes.prefix_step_node limit operator (subexpression_of operand) pos ≡ Some (subexpression_of e)) }
     ensures too_deep { IfErr result (λ fail. nodes.IsTooDeep fail → nodes.prefix_step_node limit operator (subexpression_of operand) pos ≡ None) }
 {
-    let depth = deeper(limit, operand.depth, pos)?;
-    let tree = Expr::PrefixStep {
-        operator,
-        operand: Box::new(alloc, operand.tree)?,
-        pos,
-    };
-    Ok(Subexpression { tree, depth })
+    let below = operand.depth;
+    match boxed(alloc, operand.tree) {
+        Ok(operand) => node(
+            limit,
+            below,
+            Expr::PrefixStep {
+                operator,
+                operand,
+                pos,
+            },
+            pos,
+        ),
+        Err(NoMemory) => Err(BuildFail::NoMemory),
+    }
 }
 
 /// `++` or `--` behind its operand (JLS 15.14), one level deeper than its parts.
@@ -366,13 +400,20 @@ pub fn postfix_step(
     ensures made { IfOk result (λ e. nodes.postfix_step_node limit operator (subexpression_of operand) pos ≡ Some (subexpression_of e)) }
     ensures too_deep { IfErr result (λ fail. nodes.IsTooDeep fail → nodes.postfix_step_node limit operator (subexpression_of operand) pos ≡ None) }
 {
-    let depth = deeper(limit, operand.depth, pos)?;
-    let tree = Expr::PostfixStep {
-        operator,
-        operand: Box::new(alloc, operand.tree)?,
-        pos,
-    };
-    Ok(Subexpression { tree, depth })
+    let below = operand.depth;
+    match boxed(alloc, operand.tree) {
+        Ok(operand) => node(
+            limit,
+            below,
+            Expr::PostfixStep {
+                operator,
+                operand,
+                pos,
+            },
+            pos,
+        ),
+        Err(NoMemory) => Err(BuildFail::NoMemory),
+    }
 }
 
 /// A cast (JLS 15.16), one level deeper than its parts.
@@ -390,13 +431,11 @@ pub fn cast(
     ensures made { IfOk result (λ e. nodes.cast_node limit typ (subexpression_of operand) pos ≡ Some (subexpression_of e)) }
     ensures too_deep { IfErr result (λ fail. nodes.IsTooDeep fail → nodes.cast_node limit typ (subexpression_of operand) pos ≡ None) }
 {
-    let depth = deeper(limit, operand.depth, pos)?;
-    let tree = Expr::Cast {
-        typ,
-        operand: Box::new(alloc, operand.tree)?,
-        pos,
-    };
-    Ok(Subexpression { tree, depth })
+    let below = operand.depth;
+    match boxed(alloc, operand.tree) {
+        Ok(operand) => node(limit, below, Expr::Cast { typ, operand, pos }, pos),
+        Err(NoMemory) => Err(BuildFail::NoMemory),
+    }
 }
 
 /// An operator between its operands (JLS 15.17 to 15.24), one level deeper than its parts.
@@ -415,14 +454,21 @@ pub fn infix(
     ensures made { IfOk result (λ e. nodes.infix_node limit operator (subexpression_of left) (subexpression_of right) pos ≡ Some (subexpression_of e)) }
     ensures too_deep { IfErr result (λ fail. nodes.IsTooDeep fail → nodes.infix_node limit operator (subexpression_of left) (subexpression_of right) pos ≡ None) }
 {
-    let depth = deeper(limit, left.depth.max(right.depth), pos)?;
-    let tree = Expr::Infix {
-        operator,
-        left: Box::new(alloc, left.tree)?,
-        right: Box::new(alloc, right.tree)?,
-        pos,
-    };
-    Ok(Subexpression { tree, depth })
+    let below = left.depth.max(right.depth);
+    match (boxed(alloc, left.tree), boxed(alloc, right.tree)) {
+        (Ok(left), Ok(right)) => node(
+            limit,
+            below,
+            Expr::Infix {
+                operator,
+                left,
+                right,
+                pos,
+            },
+            pos,
+        ),
+        _ => Err(BuildFail::NoMemory),
+    }
 }
 
 /// An `instanceof` (JLS 15.20.2), one level deeper than its parts.
@@ -440,13 +486,11 @@ pub fn instance(
     ensures made { IfOk result (λ e. nodes.instance_node limit (subexpression_of operand) typ pos ≡ Some (subexpression_of e)) }
     ensures too_deep { IfErr result (λ fail. nodes.IsTooDeep fail → nodes.instance_node limit (subexpression_of operand) typ pos ≡ None) }
 {
-    let depth = deeper(limit, operand.depth, pos)?;
-    let tree = Expr::InstanceOf {
-        operand: Box::new(alloc, operand.tree)?,
-        typ,
-        pos,
-    };
-    Ok(Subexpression { tree, depth })
+    let below = operand.depth;
+    match boxed(alloc, operand.tree) {
+        Ok(operand) => node(limit, below, Expr::InstanceOf { operand, typ, pos }, pos),
+        Err(NoMemory) => Err(BuildFail::NoMemory),
+    }
 }
 
 /// A conditional expression (JLS 15.25), one level deeper than its parts.
@@ -465,18 +509,25 @@ pub fn conditional(
     ensures made { IfOk result (λ e. nodes.conditional_node limit (subexpression_of condition) (subexpression_of when_true) (subexpression_of when_false) pos ≡ Some (subexpression_of e)) }
     ensures too_deep { IfErr result (λ fail. nodes.IsTooDeep fail → nodes.conditional_node limit (subexpression_of condition) (subexpression_of when_true) (subexpression_of when_false) pos ≡ None) }
 {
-    let depth = deeper(
-        limit,
-        condition.depth.max(when_true.depth.max(when_false.depth)),
-        pos,
-    )?;
-    let tree = Expr::Conditional {
-        condition: Box::new(alloc, condition.tree)?,
-        when_true: Box::new(alloc, when_true.tree)?,
-        when_false: Box::new(alloc, when_false.tree)?,
-        pos,
-    };
-    Ok(Subexpression { tree, depth })
+    let below = condition.depth.max(when_true.depth.max(when_false.depth));
+    match (
+        boxed(alloc, condition.tree),
+        boxed(alloc, when_true.tree),
+        boxed(alloc, when_false.tree),
+    ) {
+        (Ok(condition), Ok(when_true), Ok(when_false)) => node(
+            limit,
+            below,
+            Expr::Conditional {
+                condition,
+                when_true,
+                when_false,
+                pos,
+            },
+            pos,
+        ),
+        _ => Err(BuildFail::NoMemory),
+    }
 }
 
 /// An assignment (JLS 15.26.1), one level deeper than its parts.
@@ -494,13 +545,11 @@ pub fn assignment(
     ensures made { IfOk result (λ e. nodes.assignment_node limit (subexpression_of left) (subexpression_of right) pos ≡ Some (subexpression_of e)) }
     ensures too_deep { IfErr result (λ fail. nodes.IsTooDeep fail → nodes.assignment_node limit (subexpression_of left) (subexpression_of right) pos ≡ None) }
 {
-    let depth = deeper(limit, left.depth.max(right.depth), pos)?;
-    let tree = Expr::Assignment {
-        left: Box::new(alloc, left.tree)?,
-        right: Box::new(alloc, right.tree)?,
-        pos,
-    };
-    Ok(Subexpression { tree, depth })
+    let below = left.depth.max(right.depth);
+    match (boxed(alloc, left.tree), boxed(alloc, right.tree)) {
+        (Ok(left), Ok(right)) => node(limit, below, Expr::Assignment { left, right, pos }, pos),
+        _ => Err(BuildFail::NoMemory),
+    }
 }
 
 /// A compound assignment (JLS 15.26.2), one level deeper than its parts.
@@ -519,14 +568,21 @@ pub fn compound(
     ensures made { IfOk result (λ e. nodes.compound_node limit operator (subexpression_of left) (subexpression_of right) pos ≡ Some (subexpression_of e)) }
     ensures too_deep { IfErr result (λ fail. nodes.IsTooDeep fail → nodes.compound_node limit operator (subexpression_of left) (subexpression_of right) pos ≡ None) }
 {
-    let depth = deeper(limit, left.depth.max(right.depth), pos)?;
-    let tree = Expr::CompoundAssignment {
-        operator,
-        left: Box::new(alloc, left.tree)?,
-        right: Box::new(alloc, right.tree)?,
-        pos,
-    };
-    Ok(Subexpression { tree, depth })
+    let below = left.depth.max(right.depth);
+    match (boxed(alloc, left.tree), boxed(alloc, right.tree)) {
+        (Ok(left), Ok(right)) => node(
+            limit,
+            below,
+            Expr::CompoundAssignment {
+                operator,
+                left,
+                right,
+                pos,
+            },
+            pos,
+        ),
+        _ => Err(BuildFail::NoMemory),
+    }
 }
 
 /// Parentheses round an expression (JLS 15.8.5), which leave no node and are one level.

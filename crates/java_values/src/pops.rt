@@ -1,7 +1,10 @@
-ghost use Rattle.std.specs.Prelude.{◌≡◌, ◌∷◌, reverse, IfOk};
+ghost use Rattle.std.specs.Prelude.{◌≡◌, ◌∷◌, reverse, IfOk, IfErr};
+ghost use Rattle.java_values.specs.declared.nodes.BuildFail.TheVariants as fails;
 ghost use Rattle.java_values.specs.Values.{value_of, values_of, lexeme_in, subexpression_of, arguments_of, call_of, suffixes_of, operation_of, operations_of, choice_of, tail_of, after_name_of, after_bracket_of, inside_of, after_inside_of, opening_of, primitive_cast_of, creator_rest_of, creator_of, annotation_of, annotations_of, annotation_value_of, annotation_values_of, annotation_arguments_of, after_key_of};
 ghost use Rattle.java_values.specs.Pops as pops;
 
+use crate::lists::put;
+use crate::nodes::BuildFail;
 use crate::values::{
     AfterBracket, AfterInside, AfterKey, AfterName, Alternatives, Annotation, AnnotationArguments,
     AnnotationValue, AnnotationValues, Annotations, Arguments, Creator, CreatorRest, Inside,
@@ -22,8 +25,15 @@ pub const NOWHERE: Pos = Pos {
 pub fn push(stack: &mut Vec<Value>, value: Value) -> Result<(), AllocError>
     ensures { IfOk result (λ _. values_of stack.new.items ≡ value_of value ∷ values_of stack.old.items) }
 {
-    stack.push(value)?;
-    Ok(())
+    put(stack, value)
+}
+
+/// Puts the value on the stack, as an action's last step.
+pub fn leave(stack: &mut Vec<Value>, value: Value) -> Result<(), BuildFail>
+    ensures made { IfOk result (λ _. values_of stack.new.items ≡ value_of value ∷ values_of stack.old.items) }
+    ensures memory { IfErr result (λ fail. fail ≡ fails.NoMemory) }
+{
+    Ok(push(stack, value)?)
 }
 
 /// Takes the top of the stack off it; `Value::Nothing` where the stack is empty.
@@ -35,6 +45,13 @@ pub fn pop(stack: &mut Vec<Value>) -> Value
         Some(value) => value,
         None => Value::Nothing,
     }
+}
+
+/// Takes the top of the stack off it and lets it go.
+pub fn skip(stack: &mut Vec<Value>)
+    ensures { values_of stack.new.items ≡ pops.rest (values_of stack.old.items) }
+{
+    pop(stack);
 }
 
 fn no_annotation(alloc: Global) -> Annotation
@@ -60,11 +77,22 @@ pub fn pop_token(alloc: Global, stack: &mut Vec<Value>) -> Lexeme
 {
     match pop(stack) {
         Value::Token(found) => found,
-        _ => Lexeme {
+        _other => Lexeme {
             word: Word::Other,
             text: Text::new(alloc),
             pos: NOWHERE,
         },
+    }
+}
+
+/// Takes the token off the stack and keeps its place alone.
+pub fn pop_place(stack: &mut Vec<Value>) -> Pos
+    ensures popped { result ≡ (pops.the_token (pops.top (values_of stack.old.items))).pos }
+    ensures rest { values_of stack.new.items ≡ pops.rest (values_of stack.old.items) }
+{
+    match pop(stack) {
+        Value::Token(found) => found.pos,
+        _other => NOWHERE,
     }
 }
 
@@ -75,7 +103,7 @@ pub fn pop_name(alloc: Global, stack: &mut Vec<Value>) -> Name
 {
     match pop(stack) {
         Value::Name(found) => found,
-        _ => Name {
+        _other => Name {
             text: Text::new(alloc),
             pos: NOWHERE,
         },
@@ -89,7 +117,7 @@ pub fn pop_names(alloc: Global, stack: &mut Vec<Value>) -> Vec<Name>
 {
     match pop(stack) {
         Value::Names(found) => found,
-        _ => Vec::new(alloc),
+        _other => Vec::new(alloc),
     }
 }
 
@@ -122,7 +150,7 @@ pub fn pop_type(stack: &mut Vec<Value>) -> Typ
 {
     match pop(stack) {
         Value::Type(found) => found,
-        _ => default_type(),
+        _other => default_type(),
     }
 }
 
@@ -133,7 +161,7 @@ pub fn pop_expression(stack: &mut Vec<Value>) -> Subexpression
 {
     match pop(stack) {
         Value::Expression(found) => found,
-        _ => Subexpression {
+        _other => Subexpression {
             tree: Expr::This { pos: NOWHERE },
             depth: 0,
         },
@@ -147,7 +175,7 @@ pub fn pop_arguments(alloc: Global, stack: &mut Vec<Value>) -> Arguments
 {
     match pop(stack) {
         Value::Arguments(found) => found,
-        _ => Arguments {
+        _other => Arguments {
             list: Vec::new(alloc),
             depth: 0,
         },
@@ -161,7 +189,7 @@ pub fn pop_call(stack: &mut Vec<Value>) -> Option<Arguments>
 {
     match pop(stack) {
         Value::Call(found) => found,
-        _ => None,
+        _other => None,
     }
 }
 
@@ -172,7 +200,7 @@ pub fn pop_suffixes(alloc: Global, stack: &mut Vec<Value>) -> Vec<Suffix>
 {
     match pop(stack) {
         Value::Suffixes(found) => found,
-        _ => Vec::new(alloc),
+        _other => Vec::new(alloc),
     }
 }
 
@@ -183,7 +211,7 @@ pub fn pop_steps(alloc: Global, stack: &mut Vec<Value>) -> Vec<Step>
 {
     match pop(stack) {
         Value::Steps(found) => found,
-        _ => Vec::new(alloc),
+        _other => Vec::new(alloc),
     }
 }
 
@@ -194,7 +222,7 @@ pub fn pop_operation(stack: &mut Vec<Value>) -> Operation
 {
     match pop(stack) {
         Value::Operation(found) => found,
-        _ => Operation::Binary {
+        _other => Operation::Binary {
             operator: InfixOperator::Add,
             right: Subexpression {
                 tree: Expr::This { pos: NOWHERE },
@@ -212,7 +240,7 @@ pub fn pop_operations(alloc: Global, stack: &mut Vec<Value>) -> Vec<Operation>
 {
     match pop(stack) {
         Value::Operations(found) => found,
-        _ => Vec::new(alloc),
+        _other => Vec::new(alloc),
     }
 }
 
@@ -223,7 +251,7 @@ pub fn pop_choice(stack: &mut Vec<Value>) -> Option<Alternatives>
 {
     match pop(stack) {
         Value::Choice(found) => found,
-        _ => None,
+        _other => None,
     }
 }
 
@@ -234,7 +262,7 @@ pub fn pop_tail(alloc: Global, stack: &mut Vec<Value>) -> Tail
 {
     match pop(stack) {
         Value::Tail(found) => found,
-        _ => Tail::Operators {
+        _other => Tail::Operators {
             steps: Vec::new(alloc),
             operations: Vec::new(alloc),
             choice: None,
@@ -249,7 +277,7 @@ pub fn pop_after_name(alloc: Global, stack: &mut Vec<Value>) -> AfterName
 {
     match pop(stack) {
         Value::AfterName(found) => found,
-        _ => AfterName::Bare(Vec::new(alloc)),
+        _other => AfterName::Bare(Vec::new(alloc)),
     }
 }
 
@@ -260,7 +288,7 @@ pub fn pop_after_bracket(stack: &mut Vec<Value>) -> AfterBracket
 {
     match pop(stack) {
         Value::AfterBracket(found) => found,
-        _ => AfterBracket::ArrayType,
+        _other => AfterBracket::ArrayType,
     }
 }
 
@@ -271,7 +299,7 @@ pub fn pop_inside(alloc: Global, stack: &mut Vec<Value>) -> Inside
 {
     match pop(stack) {
         Value::Inside(found) => found,
-        _ => Inside::Name(Vec::new(alloc)),
+        _other => Inside::Name(Vec::new(alloc)),
     }
 }
 
@@ -282,7 +310,7 @@ pub fn pop_after_inside(alloc: Global, stack: &mut Vec<Value>) -> AfterInside
 {
     match pop(stack) {
         Value::AfterInside(found) => found,
-        _ => AfterInside::Parentheses {
+        _other => AfterInside::Parentheses {
             suffixes: Vec::new(alloc),
             tail: Tail::Operators {
                 steps: Vec::new(alloc),
@@ -300,7 +328,7 @@ pub fn pop_opening(stack: &mut Vec<Value>) -> Opening
 {
     match pop(stack) {
         Value::Opening(found) => found,
-        _ => Opening::Whole(Subexpression {
+        _other => Opening::Whole(Subexpression {
             tree: Expr::This { pos: NOWHERE },
             depth: 0,
         }),
@@ -314,7 +342,7 @@ pub fn pop_primitive_cast(stack: &mut Vec<Value>) -> PrimitiveCast
 {
     match pop(stack) {
         Value::PrimitiveCast(found) => found,
-        _ => PrimitiveCast {
+        _other => PrimitiveCast {
             is_array: false,
             operand: Subexpression {
                 tree: Expr::This { pos: NOWHERE },
@@ -331,7 +359,7 @@ pub fn pop_creator_rest(alloc: Global, stack: &mut Vec<Value>) -> CreatorRest
 {
     match pop(stack) {
         Value::CreatorRest(found) => found,
-        _ => CreatorRest::Object {
+        _other => CreatorRest::Object {
             arguments: Arguments {
                 list: Vec::new(alloc),
                 depth: 0,
@@ -348,7 +376,7 @@ pub fn pop_creator(alloc: Global, stack: &mut Vec<Value>) -> Creator
 {
     match pop(stack) {
         Value::Creator(found) => found,
-        _ => Creator::Array {
+        _other => Creator::Array {
             element: default_type(),
             length: Subexpression {
                 tree: Expr::This { pos: NOWHERE },
@@ -366,7 +394,7 @@ pub fn pop_annotation(alloc: Global, stack: &mut Vec<Value>) -> Annotation
 {
     match pop(stack) {
         Value::Annotation(found) => found,
-        _ => no_annotation(alloc),
+        _other => no_annotation(alloc),
     }
 }
 
@@ -377,7 +405,7 @@ pub fn pop_annotations(alloc: Global, stack: &mut Vec<Value>) -> Annotations
 {
     match pop(stack) {
         Value::Annotations(found) => found,
-        _ => Annotations {
+        _other => Annotations {
             list: Vec::new(alloc),
             depth: 0,
         },
@@ -391,7 +419,7 @@ pub fn pop_annotation_arguments(alloc: Global, stack: &mut Vec<Value>) -> Annota
 {
     match pop(stack) {
         Value::AnnotationArguments(found) => found,
-        _ => AnnotationArguments {
+        _other => AnnotationArguments {
             list: Vec::new(alloc),
             depth: 0,
         },
@@ -405,7 +433,7 @@ pub fn pop_after_key(alloc: Global, stack: &mut Vec<Value>) -> AfterKey
 {
     match pop(stack) {
         Value::AfterKey(found) => found,
-        _ => AfterKey::Pairs {
+        _other => AfterKey::Pairs {
             value: AnnotationValue {
                 tree: AnnoValue::Expression(Expr::This { pos: NOWHERE }),
                 depth: 0,
@@ -425,7 +453,7 @@ pub fn pop_annotation_value(stack: &mut Vec<Value>) -> AnnotationValue
 {
     match pop(stack) {
         Value::AnnotationValue(found) => found,
-        _ => AnnotationValue {
+        _other => AnnotationValue {
             tree: AnnoValue::Expression(Expr::This { pos: NOWHERE }),
             depth: 0,
         },
@@ -439,7 +467,7 @@ pub fn pop_annotation_values(alloc: Global, stack: &mut Vec<Value>) -> Annotatio
 {
     match pop(stack) {
         Value::AnnotationValues(found) => found,
-        _ => AnnotationValues {
+        _other => AnnotationValues {
             list: Vec::new(alloc),
             depth: 0,
         },

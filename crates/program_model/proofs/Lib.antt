@@ -1,1 +1,2 @@
+pub mod HierarchyLaws
 pub mod Supers

@@ -1,6 +1,11 @@
+pub mod Heads
 pub mod Hierarchy
+pub mod InitialValues
+pub mod Jumps
 pub mod LocalSupers
 pub mod Lookups
+pub mod SuperTests
+pub mod TextOrder
 pub mod Trees
 pub mod Typing
 pub mod Validity

@@ -1,6 +1,6 @@
 -- The types of a body's expressions and statements (JLS 5, 14, 15), as far as the rules and the machine rest on them:
 -- of numbers it is only said that they are numbers, and which of them are added as `int` and which as `long`.
-use Rattle.std.specs.Prelude.{◌≡◌, ◌⊎◌, Bool, true, false, Option, Some, None, List, [], All, codes}
+use Rattle.std.specs.Prelude.{◌≡◌, ◌⊎◌, ◌<◌, Bool, true, false, Option, Some, None, List, [], All, codes, length}
 use Rattle.std.specs.List.{AllZip}
 use Rattle.std.specs.Option.{IsSomeAnd}
 use Rattle.program_model.specs.declared.kinds.ClassId.{ClassId}
@@ -279,11 +279,16 @@ IsStored b a t result = IsOperation b a.operator a.target a.value a.operands res
 abbrev pub IsOperatorAssignment : Program → Body → OperatorAssignment → VType → Type 0
 IsOperatorAssignment p b a t = IsOwnPlace p b (kind_at b a.target) t × IsSomeAnd (binary_result a.operator a.operands) (IsStored b a t)
 
--- the call's target has the form that the method asks for (JLS 15.12.3), and a class that has the method
+-- the type has a class that is under `c`, and not `c` itself
+abbrev pub IsTypeBelow : Program → ClassId → VType → Type 0
+IsTypeBelow p c t = IsTypeUnder p c t × (class_of p t ≡ Some c → ⊥)
+
+-- the call's target has the form that the method asks for (JLS 15.12.3), and a class that has the method; `super` names one
+-- that is declared above the class of `this` (JLS 15.12.1)
 abbrev pub IsCallTarget : Program → Body → CallTarget → Method → Type 0
 IsCallTarget p b calls.Static m = m.kind ≡ methods.Static
 IsCallTarget p b (calls.This e) m = (m.kind ≡ methods.Instance) × (is_this b e ≡ true) × IsSomeAnd (type_at b e) (IsTypeUnder p m.class)
-IsCallTarget p b (calls.Super e) m = (m.kind ≡ methods.Instance) × (is_this b e ≡ true) × IsSomeAnd (type_at b e) (IsTypeUnder p m.class)
+IsCallTarget p b (calls.Super e) m = (m.kind ≡ methods.Instance) × (is_this b e ≡ true) × IsSomeAnd (type_at b e) (IsTypeBelow p m.class)
 IsCallTarget p b (calls.Other e) m = (m.kind ≡ methods.Instance) × (is_this b e ≡ false) × IsSomeAnd (type_at b e) (IsTypeUnder p m.class)
 
 abbrev pub IsCall : Program → Body → CallExpression → Option VType → Type 0
@@ -372,9 +377,9 @@ IsClose p t m = (m.kind ≡ methods.Instance) × (m.name ≡ codes "close") × (
 abbrev pub IsResource : Program → Body → Resource → Type 0
 IsResource p b r = IsSomeAnd (variable_type b r.variable) (λ t. Fits p b r.initializer t × IsSomeAnd (method_at p r.close) (IsClose p t))
 
--- the variable has a class that each of the clause's classes is under
+-- the variable has a class that each of the clause's classes, one or more, is under
 abbrev pub IsCatchClause : Program → Body → CatchClause → Type 0
-IsCatchClause p b c = IsSomeAnd (variable_type b c.variable) (λ t. All (λ d. HasClass p d × IsUnder p d p.core.throwable × IsAssignable p (types.Obj d) t) c.classes.items)
+IsCatchClause p b c = (0 < length c.classes.items) × IsSomeAnd (variable_type b c.variable) (λ t. All (λ d. HasClass p d × IsUnder p d p.core.throwable × IsAssignable p (types.Obj d) t) c.classes.items)
 
 -- a call of a constructor of the super class, in a constructor
 abbrev pub IsSuperCall : Program → Body → SuperCall → Type 0

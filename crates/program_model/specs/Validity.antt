@@ -1,6 +1,6 @@
 -- What makes a program in hand valid. It is said of the program alone: each number that stands in it is one of its
 -- tables', its parts belong together, and its bodies are typed trees.
-use Rattle.std.specs.Prelude.{◌≡◌, ◌<◌, ◌≤◌, ◌^◌, ℕ, Bool, true, false, Option, Some, None, List, [], ◌∷◌, map, length, All, Contains, MatchBool, codes}
+use Rattle.std.specs.Prelude.{◌≡◌, ◌<◌, ◌≤◌, ◌^◌, ◌||◌, not, if◌then◌else◌, ℕ, Bool, true, false, Option, Some, None, is_some, List, [], ◌∷◌, map, length, All, Contains, codes}
 use Rattle.std.specs.Option.{IsSomeAnd}
 use Rattle.std.specs.List.Sorted.{IsStrictlyIncreasing}
 use Rattle.program_model.specs.declared.kinds.ClassId.{ClassId}
@@ -25,10 +25,13 @@ use Rattle.program_model.specs.declared.tree.Body.{Body}
 use Rattle.program_model.specs.declared.tree.Var.{Var}
 use Rattle.program_model.specs.declared.tree.TStmt.{TStmt}
 use Rattle.program_model.specs.declared.tree.TExpr.{TExpr}
-use Rattle.program_model.specs.declared.tree.StatementKind.{StatementKind}
-use Rattle.program_model.specs.declared.tree.StatementKind.TheVariants as statements
 use Rattle.program_model.specs.Lookups.{class_at, method_at, field_at, body_at, statement_at, expression_at}
-use Rattle.program_model.specs.Hierarchy.{HasClass, IsHierarchy}
+use Rattle.program_model.specs.Heads.{HasDueSuperCall, HasInitializersInOrder, HeadsFirst, OneSuperCall, AgreeOnInitializers, is_head}
+use Rattle.program_model.specs.Hierarchy.{HasClass, IsHierarchy, IsUnder}
+use Rattle.program_model.specs.InitialValues.{IsInitialValue}
+use Rattle.program_model.specs.Jumps.{HasJumpsInLoops}
+use Rattle.program_model.specs.SuperTests.{is_class}
+use Rattle.program_model.specs.TextOrder.{HasVariablesInOrder}
 use Rattle.program_model.specs.Trees.{statements_in, HasOperands, HasParts, IsForest}
 use Rattle.program_model.specs.Typing.{IsDeclarable, IsTypedExpression, IsTypedStatement}
 
@@ -48,6 +51,25 @@ pub record HasCoreClasses (p : Program) : Type 0 where
   pub class_cast_exception : IsNamed p p.core.class_cast_exception (codes "java.lang.ClassCastException")
   pub negative_array_size_exception : IsNamed p p.core.negative_array_size_exception (codes "java.lang.NegativeArraySizeException")
   pub null_pointer_exception : IsNamed p p.core.null_pointer_exception (codes "java.lang.NullPointerException")
+
+-- errors and unchecked exceptions are Throwables, and the exceptions that operators throw are unchecked (JLS 11.1.1, 15.6)
+pub record HasExceptionClasses (p : Program) : Type 0 where
+  pub error : IsUnder p p.core.error p.core.throwable
+  pub runtime_exception : IsUnder p p.core.runtime_exception p.core.throwable
+  pub arithmetic_exception : IsUnder p p.core.arithmetic_exception p.core.runtime_exception
+  pub array_index_exception : IsUnder p p.core.array_index_exception p.core.runtime_exception
+  pub class_cast_exception : IsUnder p p.core.class_cast_exception p.core.runtime_exception
+  pub negative_array_size_exception : IsUnder p p.core.negative_array_size_exception p.core.runtime_exception
+  pub null_pointer_exception : IsUnder p p.core.null_pointer_exception p.core.runtime_exception
+
+-- all classes but `Object` extend a class, and interfaces extend none (JLS 8.1.4, 9.1.3)
+abbrev pub has_super_class : Program → ClassId → Class → Bool
+has_super_class p c k = not (k.interface || is_class c p.core.object)
+
+-- what the declaration of a class shows: a super class where it has one, and that interfaces are abstract (JLS 9.1.1.1)
+pub record IsValidClass (p : Program) (c : ClassId) (k : Class) : Type 0 where
+  pub super_class : is_some k.sup ≡ has_super_class p c k
+  pub abstract : k.interface ≡ true → k.is_abstract ≡ true
 
 -- the tables are no longer than numbers reach
 pub record IsNumbered (p : Program) : Type 0 where
@@ -76,13 +98,18 @@ IsListedField p f x = IsSomeAnd (class_at p x.class) (λ k. Contains k.fields.it
 abbrev pub IsListedMethod : Program → MethodId → Method → Type 0
 IsListedMethod p m x = IsSomeAnd (class_at p x.class) (λ k. Contains k.methods.items m)
 
+abbrev pub is_constant : MethodKind → Bool
+is_constant methods.Constant = true
+is_constant k = false
+
 abbrev pub is_class_type : VType → Bool
 is_class_type (types.Obj c) = true
 is_class_type t = false
 
--- a static field is of no class type but String, and a value to begin with is a static field's alone
+-- a static field is of no class type but String, and has a value of its type to begin with, or none; a value to begin with
+-- is a static field's alone
 abbrev pub IsStaticOrNot : Bool → Field → Type 0
-IsStaticOrNot true x = is_class_type x.vtype ≡ false
+IsStaticOrNot true x = (is_class_type x.vtype ≡ false) × IsInitialValue x.vtype x.initial
 IsStaticOrNot false x = x.initial ≡ None
 
 pub record IsValidField (p : Program) (f : FieldId) (x : Field) : Type 0 where
@@ -109,7 +136,7 @@ IsResult p (Some t) = IsDeclarable p t
 pub record IsValidSig (p : Program) (s : Sig) : Type 0 where
   pub params : All (λ x. IsDeclarable p x.vtype) s.params.items
   pub result : IsResult p s.result
-  pub throws : All (HasClass p) s.throws.items
+  pub throws : All (λ c. HasClass p c × IsUnder p c p.core.throwable) s.throws.items
   pub alias : IfPosition s s.alias
   pub reset : IfPosition s s.reset
   pub promises : All (λ x. IsPromised p s x.target) s.promises.items
@@ -126,41 +153,26 @@ abbrev pub OwnsBody : Program → MethodId → Option BodyId → Type 0
 OwnsBody p m None = Unit {0}
 OwnsBody p m (Some b) = IsSomeAnd (body_at p b) (λ x. x.method ≡ m)
 
+-- a method of a program class that is not abstract, and no constant
+abbrev pub RunsBody : Program → Method → Type 0
+RunsBody p m = (m.is_abstract ≡ false) × (is_constant m.kind ≡ false) × IsSomeAnd (class_at p m.class) (λ k. k.library ≡ false)
+
+-- methods of the library, abstract methods and constants have no body
+abbrev pub MayHaveBody : Program → Method → Option BodyId → Type 0
+MayHaveBody p m None = Unit {0}
+MayHaveBody p m (Some b) = RunsBody p m
+
+-- the type of the objects of a class
+abbrev pub type_of_class : Program → ClassId → VType
+type_of_class p c = (if is_class c p.core.string then types.Str else types.Obj c)
+
 pub record IsValidMethod (p : Program) (m : MethodId) (x : Method) : Type 0 where
   pub listed : IsListedMethod p m x
   pub signature : IsValidSig p x.sig
+  pub receiver : x.sig.receiver.vtype ≡ type_of_class p x.class
   pub kind : IsOfKind x.kind x.sig
   pub body : OwnsBody p m x.body
-
--- the super call and the field initialisers, with which a constructor begins
-abbrev pub is_head_kind : StatementKind → Bool
-is_head_kind (statements.SuperCall c) = true
-is_head_kind (statements.FieldInitializer e) = true
-is_head_kind k = false
-
-abbrev pub is_super_call_kind : StatementKind → Bool
-is_super_call_kind (statements.SuperCall c) = true
-is_super_call_kind k = false
-
-abbrev pub is_in : (StatementKind → Bool) → Option TStmt → Bool
-is_in test None = false
-is_in test (Some x) = test x.kind
-
-abbrev pub is_head : Body → StmtId → Bool
-is_head b s = is_in is_head_kind (statement_at b s)
-
-abbrev pub is_super_call : Body → StmtId → Bool
-is_super_call b s = is_in is_super_call_kind (statement_at b s)
-
--- where a statement is no such head, none behind it is
-abbrev pub HeadsFirst : Body → List StmtId → Type 0
-HeadsFirst b [] = Unit {0}
-HeadsFirst b (s ∷ ss) = MatchBool (is_head b s) (HeadsFirst b ss) (All (λ t. is_head b t ≡ false) ss)
-
--- of the body's own statements the first alone may be a super call
-abbrev pub OneSuperCall : Body → List StmtId → Type 0
-OneSuperCall b [] = Unit {0}
-OneSuperCall b (s ∷ ss) = All (λ t. is_super_call b t ≡ false) ss
+  pub bodiless : MayHaveBody p x x.body
 
 -- the first variables are the parameters
 abbrev pub HasParameters : List Var → List ParamSig → Type 0
@@ -189,11 +201,13 @@ pub record IsValidBody (p : Program) (n : BodyId) (b : Body) : Type 0 where
   pub statements : (s : StmtId) (x : TStmt) → statement_at b s ≡ Some x → IsValidStatement p b s x
   pub expressions : (e : ExprId) (x : TExpr) → expression_at b e ≡ Some x → IsValidExpression p b e x
 
--- a valid program, or table without bodies
-pub record IsValid (p : Program) : Type 0 where
+-- the tables belong together, and the bodies are typed trees
+pub record IsTypedProgram (p : Program) : Type 0 where
   pub numbered : IsNumbered p
   pub core : HasCoreClasses p
   pub hierarchy : IsHierarchy p
+  pub exceptions : HasExceptionClasses p
+  pub classes : (c : ClassId) (k : Class) → class_at p c ≡ Some k → IsValidClass p c k
   pub members : (c : ClassId) (k : Class) → class_at p c ≡ Some k → HasMembers p c k.fields.items k.methods.items
   pub fields : (f : FieldId) (x : Field) → field_at p f ≡ Some x → IsValidField p f x
   pub methods : (m : MethodId) (x : Method) → method_at p m ≡ Some x → IsValidMethod p m x
@@ -201,9 +215,18 @@ pub record IsValid (p : Program) : Type 0 where
   pub ignored : All (HasClass p) p.ignored.items
   pub exact : All (HasClass p) p.exact.items
 
--- a method of the kinds that programs write, which is not abstract
-abbrev pub RunsBody : Program → Method → Type 0
-RunsBody p m = (m.is_abstract ≡ false) × IsSomeAnd (class_at p m.class) (λ k. k.library ≡ false)
+-- the parts of a body stand where they should
+pub record IsOrderedBody (p : Program) (b : Body) : Type 0 where
+  pub variables : HasVariablesInOrder p b
+  pub jumps : HasJumpsInLoops b
+  pub super_call : HasDueSuperCall p b
+  pub initializers : HasInitializersInOrder b
+
+-- a valid program, or table without bodies
+pub record IsValid (p : Program) : Type 0 where
+  pub typed : IsTypedProgram p
+  pub ordered : (b : BodyId) (x : Body) → body_at p b ≡ Some x → IsOrderedBody p x
+  pub same_initializers : (b : BodyId) (x : Body) → body_at p b ≡ Some x → (c : BodyId) (y : Body) → body_at p c ≡ Some y → AgreeOnInitializers p x y
 
 -- each method of a program class that is not abstract has its body
 abbrev pub HasBodies : Program → Type 0

@@ -18,5 +18,5 @@ pub use program::{
 pub use tree::{
     AssignmentTarget, BinaryExpression, Body, CallExpression, CallTarget, CatchClause, Declarator,
     ExpressionKind, ForInitial, ForLoop, NewObject, OperatorAssignment, Resource, StatementKind,
-    SuperCall, TExpr, TStmt, TryStatement, Var,
+    SuperCall, TExpr, TStmt, TextPart, TryStatement, Var,
 };

@@ -152,7 +152,11 @@ pub struct RawAnno {
     pub name: Text,
     /// Empty where `shaped` is false.
     pub args: Vec<RawArg>,
-    /// Each value is a text or a list of texts, and no key stands twice.
+    /// False exactly where the arguments have not the form that belongs to the annotation's name (Checker Framework,
+    /// Resource Leak Checker): one text or a list for `InheritableMustCall` and `CalledMethods`; a list for `MustCall`; no
+    /// arguments for `Owning`, `NotOwning` and `MustCallAlias`; none, or the text `this` or `#k` with a number k, for
+    /// `CreatesMustCallFor`; both `value` and `methods`, each a text or a list, for `EnsuresCalledMethods` and
+    /// `EnsuresCalledMethodsOnException`. Under any other name every argument has.
     pub shaped: bool,
     pub pos: Pos,
 }

@@ -70,6 +70,14 @@ pub enum StatementKind {
     FieldInitializer(ExprId),
 }
 
+/// A part of a statement, as the text shows it: a variable that it declares, by its number in the body's list of variables,
+/// or a statement in it.
+#[derive(Clone, Copy)]
+pub enum TextPart {
+    Variable(u32),
+    Statement(StmtId),
+}
+
 /// One declared name of a local declaration.
 #[derive(Clone, Copy)]
 pub struct Declarator {

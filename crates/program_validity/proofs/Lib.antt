@@ -1,5 +1,2 @@
-pub mod Each
-pub mod Firsts
-pub mod Gathered
 pub mod Lengths
 pub mod LocalLemmas

@@ -8,9 +8,16 @@ ghost use Rattle.program_model.specs.declared.program.Class.{Class};
 ghost use Rattle.program_model.specs.Hierarchy.{IsHierarchy, class_number, direct_supers, implied_super};
 ghost use Rattle.program_model.specs.LocalSupers.{HasLocalSupers, IsAmong, IsBelow, IsSupported, Lists};
 
-use crate::all_of::{all_four, is_among};
 use program_model::{Class, ClassId, Program};
+use program_typing::all_four;
 use std::alloc::{AllocError, Global};
+
+// Whether `class` is one of `classes`.
+fn is_among(class: ClassId, classes: &[ClassId]) -> bool
+    ensures { IsTrue result ↔ Contains classes.now class }
+{
+    classes.contains(&class)
+}
 
 // Whether the classes are in the order of their numbers, each once.
 fn are_in_order(classes: &[ClassId]) -> bool

@@ -1,6 +1,6 @@
 //! The tests of a program's classes, fields and methods.
 
-ghost use Rattle.std.specs.Prelude.{◌≡◌, ◌↔◌, ◌<◌, ◌≤◌, ◌^◌, true, [], length, map, All, IsTrue};
+ghost use Rattle.std.specs.Prelude.{◌≡◌, ◌↔◌, ◌<◌, ◌≤◌, ◌^◌, true, false, [], length, map, All, IsTrue};
 ghost use Rattle.std.specs.Option.{IsSomeAnd};
 ghost use Rattle.std.specs.List.Sorted.{IsStrictlyIncreasing};
 ghost use Rattle.program_model.specs.declared.kinds.ClassId.{ClassId};
@@ -10,17 +10,17 @@ ghost use Rattle.program_model.specs.declared.program.Class.{Class};
 ghost use Rattle.program_model.specs.declared.program.Field.{Field};
 ghost use Rattle.program_model.specs.declared.program.Method.{Method};
 ghost use Rattle.program_model.specs.Lookups.{class_at, field_at, method_at};
-ghost use Rattle.program_model.specs.Hierarchy.{HasClass};
+ghost use Rattle.program_model.specs.Hierarchy.{HasClass, IsHierarchy, IsUnder};
 ghost use Rattle.program_model.specs.Typing.{IsDeclarable};
-ghost use Rattle.program_model.specs.Validity.{HasCoreClasses, HasMembers, IfPosition, IsFieldOf, IsListedField, IsListedMethod, IsMethodOf, IsNamed, IsNumbered, IsOfKind, IsPosition, IsPromised, IsResult, IsStaticOrNot, IsValidField, IsValidMethod, IsValidSig, OwnsBody, is_class_type};
+ghost use Rattle.program_model.specs.Validity.{HasCoreClasses, HasMembers, IfPosition, IsFieldOf, IsListedField, IsListedMethod, IsMethodOf, IsNamed, IsNumbered, IsOfKind, IsPosition, IsPromised, IsResult, IsStaticOrNot, IsValidField, IsValidMethod, IsValidSig, MayHaveBody, OwnsBody, RunsBody, is_class_type, is_constant, type_of_class};
 
-use crate::all_of::{all_five, all_four, all_three, both};
-use crate::statement_types::is_text;
-use crate::typing::{has_class, is_declarable};
+use crate::initial_values::is_initial_value;
 use program_model::{
     BodyId, Class, ClassId, Field, FieldId, Method, MethodId, MethodKind, ParamSig, Program,
-    Promise, Sig, Target, VType,
+    Promise, Sig, Target, VType, under,
 };
+use program_structure::are_fields_in_order;
+use program_typing::{all_five, all_four, all_three, both, has_class, is_declarable, is_text};
 
 // A table has fewer items than this.
 const TABLE_LIMIT: usize = 4_294_967_296;
@@ -82,16 +82,6 @@ pub fn has_core_classes(p: &Program) -> bool
     let roots = all_five(object, string, throwable, error, runtime);
     let exceptions = all_five(arithmetic, index, cast, size, null);
     both(roots, exceptions)
-}
-
-// Whether the fields are in the order of their numbers, each once.
-fn are_fields_in_order(fields: &[FieldId]) -> bool
-    ensures { IsTrue result ↔ IsStrictlyIncreasing (map (λ f. f.0) fields.now) }
-{
-    match fields {
-        [first, second, ..] => first.0 < second.0 && are_fields_in_order(&fields[1..]),
-        _ => true,
-    }
 }
 
 // Whether the methods are in the order of their numbers, each once.
@@ -194,7 +184,7 @@ fn is_static_or_not(x: &Field) -> bool
     ensures { IsTrue result ↔ IsStaticOrNot x.now.is_static x.now }
 {
     if x.is_static {
-        !is_class_type(x.vtype)
+        !is_class_type(x.vtype) && is_initial_value(x.vtype, x.initial)
     } else {
         x.initial == None
     }
@@ -292,12 +282,30 @@ pub fn have_classes(p: &Program, classes: &[ClassId]) -> bool
     }
 }
 
+fn is_thrown(p: &Program, class: ClassId) -> bool
+    requires { IsHierarchy p.now }
+    ensures { IsTrue result ↔ (HasClass p.now class × IsUnder p.now class p.now.core.throwable) }
+{
+    has_class(p, class) && under(p, class, p.core.throwable)
+}
+
+fn are_thrown(p: &Program, classes: &[ClassId]) -> bool
+    requires { IsHierarchy p.now }
+    ensures { IsTrue result ↔ All (λ c. HasClass p.now c × IsUnder p.now c p.now.core.throwable) classes.now }
+{
+    match classes {
+        [] => true,
+        [class, rest @ ..] => is_thrown(p, *class) && are_thrown(p, rest),
+    }
+}
+
 fn is_valid_sig(p: &Program, s: &Sig) -> bool
+    requires { IsHierarchy p.now }
     ensures { IsTrue result ↔ IsValidSig p.now s.now }
 {
     let params = are_declarable(p, &s.params);
     let types = is_result(p, s.result);
-    let throws = have_classes(p, &s.throws);
+    let throws = are_thrown(p, &s.throws);
     let alias = is_position_if_any(s, s.alias);
     let reset = is_position_if_any(s, s.reset);
     let promises = are_promises(p, s, &s.promises);
@@ -352,17 +360,71 @@ fn is_listed_method(p: &Program, m: MethodId, x: &Method) -> bool
     }
 }
 
+fn type_of_class(p: &Program, class: ClassId) -> VType
+    ensures { result ≡ type_of_class p.now class }
+{
+    if class == p.core.string {
+        VType::Str
+    } else {
+        VType::Obj(class)
+    }
+}
+
+fn has_receiver(p: &Program, x: &Method) -> bool
+    ensures { IsTrue result ↔ (x.now.sig.receiver.vtype ≡ type_of_class p.now x.now.class) }
+{
+    x.sig.receiver.vtype == type_of_class(p, x.class)
+}
+
+fn is_constant(kind: MethodKind) -> bool
+    ensures { result ≡ is_constant kind }
+{
+    match kind {
+        MethodKind::Constant => true,
+        _ => false,
+    }
+}
+
+fn is_of_program_class(p: &Program, x: &Method) -> bool
+    ensures { IsTrue result ↔ IsSomeAnd (class_at p.now x.now.class) (λ k. k.library ≡ false) }
+{
+    match p.class(x.class) {
+        None => false,
+        Some(k) => !k.library,
+    }
+}
+
+fn runs_body(p: &Program, x: &Method) -> bool
+    ensures { IsTrue result ↔ RunsBody p.now x.now }
+{
+    !x.is_abstract && !is_constant(x.kind) && is_of_program_class(p, x)
+}
+
+fn may_have_body(p: &Program, x: &Method, body: Option<BodyId>) -> bool
+    ensures { IsTrue result ↔ MayHaveBody p.now x.now body }
+{
+    match body {
+        None => true,
+        Some(_) => runs_body(p, x),
+    }
+}
+
 fn is_this_valid_method(p: &Program, m: MethodId, x: &Method) -> bool
+    requires { IsHierarchy p.now }
     ensures { IsTrue result ↔ IsValidMethod p.now m x.now }
 {
     let listed = is_listed_method(p, m, x);
     let signature = is_valid_sig(p, &x.sig);
+    let receiver = has_receiver(p, x);
     let kind = is_of_kind(x.kind, &x.sig);
     let body = owns_body(p, m, x.body);
-    all_four(listed, signature, kind, body)
+    let bodiless = may_have_body(p, x, x.body);
+    let rest = both(body, bodiless);
+    all_five(listed, signature, receiver, kind, rest)
 }
 
 fn is_valid_method(p: &Program, m: MethodId) -> bool
+    requires { IsHierarchy p.now }
     ensures { IsTrue result ↔ ((x : Method) → method_at p.now m ≡ Some x → IsValidMethod p.now m x) }
 {
     match p.method(m) {
@@ -373,7 +435,8 @@ fn is_valid_method(p: &Program, m: MethodId) -> bool
 
 /// Whether the methods of a program are what they should be.
 pub fn are_valid_methods(p: &Program) -> bool
-    requires { length p.now.methods.items < 2 ^ 32 }
+    requires hierarchy { IsHierarchy p.now }
+    requires numbered { length p.now.methods.items < 2 ^ 32 }
     ensures { IsTrue result ↔ ((m : MethodId) (x : Method) → method_at p.now m ≡ Some x → IsValidMethod p.now m x) }
 {
     for i in 0..(p.methods.len() as u32) {

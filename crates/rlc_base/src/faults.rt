@@ -2,6 +2,7 @@ ghost use Rattle.std.specs.Prelude.{◌≡◌};
 ghost use Rattle.rlc_base.specs.declared.faults.Stop.TheVariants as stops;
 ghost use Rattle.rlc_base.specs.declared.faults.InternFail.TheVariants as fails;
 
+use crate::code::Code;
 use crate::place::Pos;
 use std::alloc::{AllocError, AllocFailed};
 use thiserror::Error;
@@ -25,8 +26,7 @@ impl<T: Drop> From<AllocFailed<T>> for NoMemory {
 /// Why a text or a program was not taken: the code of the product's table of refusals, and the place.
 #[derive(Clone, Copy, Debug, PartialEq, Eq)]
 pub struct Refusal {
-    /// A code of the table of refusals, from 10 to 99.
-    pub code: u16,
+    pub code: Code,
     /// Where the cause stands. A refusal with no place has line 0.
     pub pos: Pos,
 }
@@ -37,7 +37,7 @@ pub enum Stop {
     /// The input breaks a rule.
     #[error("refused: {0:?}")]
     Refused(Refusal),
-    /// The input passes a limit: codes 60 to 69.
+    /// The input passes a limit.
     #[error("past a limit: {0:?}")]
     TooMuch(Refusal),
     /// Memory ran out, which may come from each call that allocates.

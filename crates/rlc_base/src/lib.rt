@@ -2,6 +2,7 @@
 #![tactic(auto)]
 
 mod byte_text;
+mod code;
 mod faults;
 mod name_id;
 mod name_set;
@@ -11,6 +12,7 @@ mod place;
 mod tests;
 
 pub use byte_text::Text;
+pub use code::Code;
 pub use faults::{InternFail, NoMemory, Refusal, Stop};
 pub use name_id::NameId;
 pub use name_set::NameSet;

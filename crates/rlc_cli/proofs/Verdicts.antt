@@ -4,7 +4,7 @@ use Rattle.std.proofs.Common.{◌≡◌, ◌∙◌, sym, ℕ, Bool, true, false,
 use Rattle.std.proofs.lemmas.Option.{same_Some, none-some}
 use Rattle.std.specs.Prelude.{Option, Some, None, Result, Ok, Err, IfOk, IfErr}
 use Rattle.rlc_base.specs.declared.faults.Stop.{Stop}
-use Rattle.java_lexer.specs.declared.token.Token.{Token}
+use Rattle.java_syntax.specs.declared.tokens.Token.{Token}
 use Rattle.java_lexer.specs.Cut.{IsCut, place_behind}
 use Rattle.java_syntax.specs.declared.symbols.Symbol.TheVariants as symbols
 use Rattle.java_syntax.specs.declared.declaration_trees.Unit.{Unit as JavaUnit}

@@ -6,7 +6,7 @@ use Rattle.outside.specs.Files.{Contents, file, HasFile, max_file, TakesPast}
 use Rattle.outside.specs.Sink.{AppendsFront}
 use Rattle.rlc_base.specs.declared.faults.Stop.{Stop}
 use Rattle.rlc_base.specs.declared.faults.Stop.TheVariants as stops
-use Rattle.java_lexer.specs.declared.token.Token.{Token}
+use Rattle.java_syntax.specs.declared.tokens.Token.{Token}
 use Rattle.java_lexer.specs.Cut.{IsCut, IsStopAt, HasNoCut, place_behind}
 use Rattle.java_syntax.specs.declared.symbols.Symbol.TheVariants as symbols
 use Rattle.java_syntax.specs.DeclarationTrees.{UnitTree}

@@ -11,9 +11,9 @@ pub enum Verdict {
     Accepted,
     /// The flow rules derive a leak.
     Leaks,
-    /// The bytes are no Java source of the subset: codes 10 to 14 and 20.
+    /// The bytes are no Java source of the subset, by this refusal of the lexer or the parser.
     Refused(Refusal),
-    /// The source nests deeper than the level limit: code 61.
+    /// The source passes a limit: `Code::TooDeep`.
     TooMuch(Refusal),
     /// The bytes are a Java source, and no program of the first language.
     NotBuilt,

@@ -1,10 +1,10 @@
 // The text of what is due.
 
 ghost use Rattle.std.specs.Prelude.{◌≡◌, ◌++◌, IfOk};
-ghost use Rattle.rlc_cli.specs.Texts.{name_in, refusal_names, refusal_text, text_of};
+ghost use Rattle.rlc_cli.specs.Texts.{placeless_text, refusal_text, text_of};
 
 use crate::due::{Due, Verdict};
-use rlc_base::{NoMemory, Pos, Refusal, Text};
+use rlc_base::{Code, NoMemory, Pos, Refusal, Text};
 use std::alloc::Global;
 
 // Two pieces, one behind the other.
@@ -25,30 +25,25 @@ fn read_fault(alloc: Global, name: &str) -> Result<Text, NoMemory>
     Ok(text)
 }
 
-// The name of a refusal that has a place.
-fn refusal_name(code: u16) -> &'static str
-    ensures { result.now ≡ name_in refusal_names code }
+// FILE: NUMBER NAME
+fn placeless(alloc: Global, name: &str, code: Code) -> Result<Text, NoMemory>
+    ensures { IfOk result (λ text. text ≡ placeless_text name.now code) }
 {
-    match code {
-        10 => "BadByte",
-        11 => "OpenComment",
-        12 => "OpenText",
-        13 => "BadLiteral",
-        14 => "LeftOutWord",
-        20 => "Syntax",
-        61 => "TooDeep",
-        _ => "",
-    }
+    let number = code.number();
+    let cause = code.name();
+    let text = format!(in alloc; "{name}: {number} {cause}\n")?;
+    Ok(Text::from_bytes(text.into_bytes()))
 }
 
-// FILE:LINE:COL: CODE NAME
+// FILE:LINE:COL: NUMBER NAME
 fn refusal(alloc: Global, name: &str, refusal: Refusal) -> Result<Text, NoMemory>
     ensures { IfOk result (λ text. text ≡ refusal_text name.now refusal) }
 {
     let Refusal { code, pos } = refusal;
     let Pos { line, col, .. } = pos;
-    let cause = refusal_name(code);
-    let text = format!(in alloc; "{name}:{line}:{col}: {code} {cause}\n")?;
+    let number = code.number();
+    let cause = code.name();
+    let text = format!(in alloc; "{name}:{line}:{col}: {number} {cause}\n")?;
     Ok(Text::from_bytes(text.into_bytes()))
 }
 
@@ -60,8 +55,8 @@ pub fn text_for(alloc: Global, name: &str, due: Due) -> Result<Text, NoMemory>
         Due::Judged(Verdict::Leaks) => joined(alloc, b"leaks", b"\n"),
         Due::Judged(Verdict::Refused(cause)) => refusal(alloc, name, cause),
         Due::Judged(Verdict::TooMuch(cause)) => refusal(alloc, name, cause),
-        Due::Judged(Verdict::NotBuilt) => joined(alloc, name.as_bytes(), b": 90 NotBuilt\n"),
-        Due::FileTooBig => joined(alloc, name.as_bytes(), b": 60 FileTooBig\n"),
+        Due::Judged(Verdict::NotBuilt) => placeless(alloc, name, Code::NotBuilt),
+        Due::FileTooBig => placeless(alloc, name, Code::FileTooBig),
         Due::ReadFault => read_fault(alloc, name),
         Due::Usage => joined(alloc, b"usage", b"\n"),
         Due::Judged(Verdict::Accepted) | Due::NoMemory => Ok(Text::new(alloc)),

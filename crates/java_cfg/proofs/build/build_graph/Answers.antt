@@ -1,8 +1,9 @@
 -- A graph with few nodes leaves no more controls, and a limit on places comes behind that on controls.
-use Rattle.std.proofs.Common.{ap, arith, length, ◌≤◌}
+use Rattle.rlc_base.specs.declared.code.Code.TheVariants as refused
+use Rattle.std.proofs.Common.{ap, arith, length, subst, sym, ◌≤◌}
 use Rattle.java_cfg.specs.Contents.{arcs_of, nodes_of}
 use Rattle.java_cfg.specs.Deep.{rows_of}
-use Rattle.java_cfg.specs.Limits.{refusal, too_many_places}
+use Rattle.java_cfg.specs.Limits.{IsCause, refusal, too_many_places}
 use Rattle.java_cfg.proofs.SearchLemmas.{graph_few}
 use Rattle.java_cfg.proofs.build.build_graph.Goals as goal
 
@@ -11,9 +12,10 @@ unfolding nodes_of arcs_of
 returns-then-has_too_many_places-clause-cause c =
     let g = c.in_ok-graph.graph in
     let few : length g.numbers.keys ≤ 65536 = let small = g.few in let each = g.each in omega (arith, small, each) in
-    too_many_places (ap (refusal 64) c.method_place-pos.ensures)
+    subst (IsCause c.args.p.now c.args.b) (sym c.stop.ensures)
+    (too_many_places (ap (refusal refused.TooManyPlaces) c.method_place-pos.ensures)
     (graph_few c.args.p.now c.args.b g.lists.cells.keys g.numbers.keys (rows_of g.rows.items) c.in_ok-graph.ensures.graph few)
-    (c.has_too_many_places.ensures.0 c.if-has_too_many_places.true)
+    (c.has_too_many_places.ensures.0 c.if-has_too_many_places.true))
 
 pub returns-clause-small : goal.returns-clause-small
 unfolding nodes_of arcs_of

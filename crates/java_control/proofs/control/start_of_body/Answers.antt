@@ -1,5 +1,5 @@
 -- The first items hold no lists.
-use Rattle.std.proofs.Common.{◌≡◌, ◌∙◌, ◌++◌, ap, map}
+use Rattle.std.proofs.Common.{◌∙◌, ◌++◌, ap, map}
 use Rattle.java_control.specs.Remaining.{todos}
 use Rattle.java_control.specs.Tables.{list_at, view_in}
 use Rattle.java_control.proofs.StepLemmas.{start_list}

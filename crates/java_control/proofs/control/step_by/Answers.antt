@@ -1,5 +1,5 @@
 -- What is left after the step: its front, the list behind the front, and what was not used up.
-use Rattle.std.proofs.Common.{◌≡◌, ◌∙◌, ◌++◌, ap, map}
+use Rattle.std.proofs.Common.{◌∙◌, ◌++◌, ap, map}
 use Rattle.java_control.specs.Remaining.{todos}
 use Rattle.java_control.specs.Tables.{list_at, view_in}
 use Rattle.java_control.proofs.StepLemmas.{step_list}

@@ -1,5 +1,5 @@
 use Rattle.std.proofs.Common.{◌≡◌, ◌≤◌, ◌++◌, drop, length, map}
-use Rattle.java_control.specs.Changes.{seen, highest_changes, highest_steps, step_in}
+use Rattle.java_control.specs.Changes.{seen, highest_steps, step_in}
 use Rattle.java_control.specs.Control.{step_of}
 use Rattle.java_control.specs.Remaining.{todos}
 use Rattle.java_control.specs.Tables.{Keeps, list_at}

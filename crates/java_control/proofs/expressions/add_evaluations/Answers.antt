@@ -1,5 +1,5 @@
 -- One operand more is added behind those before it.
-use Rattle.std.proofs.Common.{◌∙◌, ap, arith}
+use Rattle.std.proofs.Common.{arith}
 use Rattle.java_control.proofs.FlatLemmas.{evaluations_step, evaluation_small}
 use Rattle.java_control.proofs.expressions.add_evaluations.Goals as goal
 

@@ -1,4 +1,4 @@
-use Rattle.std.proofs.Common.{◌≡◌, ◌+◌, ◌++◌, drop, length, map}
+use Rattle.std.proofs.Common.{◌≡◌, ◌+◌, ◌++◌, drop, map}
 use Rattle.java_control.specs.Expressions.{evaluations}
 use Rattle.java_control.specs.Tables.{bare, highest_of}
 use Rattle.java_control.proofs.expressions.add_evaluations.Given as goal

@@ -1,8 +1,7 @@
 use Rattle.std.proofs.Common.{◌≡◌, ◌-◌, ◌∙◌, ap, map, drop}
 use Rattle.java_syntax.specs.declared.symbols.Symbol.TheVariants as symbols
-use Rattle.java_syntax.specs.Derives.{lexeme_of}
 use Rattle.java_syntax.specs.AnnotationTrees.{anno_of}
-use Rattle.java_exprs.specs.Classes.{lexeme_of_token}
+use Rattle.java_grammar.specs.Reached.{lexemes_of}
 use Rattle.java_exprs.specs.FrontTrees.{annotations_on}
 use Rattle.java_exprs.proofs.ParsingLaws.{front_moved}
 use Rattle.java_exprs.proofs.parsing.parse_annos.Goals as goal
@@ -10,6 +9,5 @@ use Rattle.java_exprs.proofs.parsing.parse_annos.Goals as goal
 pub returns-in-Ok-clause-only : goal.returns-in-Ok-clause-only
 returns-in-Ok-clause-only c =
     let b = c.args.source.now.bytes.now in
-    let same : map (lexeme_of b) c.as_slice.result.now ≡ map (lexeme_of_token b) (drop c.args.at c.args.source.now.tokens.now) =
-    ap (map (lexeme_of b)) c.as_slice.ensures.value ∙ (c.in_ok-tokens.ensures.lexemes ∙ ap (map (lexeme_of_token b)) c.tokens_from.ensures) in
+    let same : lexemes_of b c.tokens_from-tokens.result.now ≡ lexemes_of b (drop c.args.at c.args.source.now.tokens.now) = ap (lexemes_of b) c.tokens_from-tokens.ensures in
     front_moved annotations_on symbols.Annotations (128 - c.args.level) _ _ c.in-Ok.count c.args.at (map anno_of c.in-Ok.all.items) same c.in-Ok.ensures.only

@@ -1,6 +1,10 @@
 use Rattle.std.proofs.Common.{◌≡◌, ◌+◌, ◌≤◌, ◌<◌, ◌++◌, ℕ, List, [], length, take, drop, refl, sym, ap, ◌∙◌, subst, arith}
+use Rattle.std.specs.Prelude.{Option}
+use Rattle.std.specs.Option.{option_map}
 use Rattle.std.proofs.lemmas.List.{length-take-le, append_assoc, append-nil}
 use Rattle.std.proofs.Math.Seq.{take-add}
+use Rattle.java_syntax.specs.declared.words.Word.{Word}
+use Rattle.java_lexer.specs.Words.{class_of}
 use Rattle.java_lexer.specs.declared.fronts.Front.TheVariants.{Piece, Refused}
 use Rattle.java_lexer.specs.Cut.{Cut, IsFront, ended, here, behind, place_behind}
 use Rattle.java_lexer.specs.Reading.{IsFrontOf, tokens_of}
@@ -40,14 +44,16 @@ loop-at-preserved c =
     (behind_past (take n c.behind-rest.result.now) (take at bytes) c.loop-at.cursor c.loop-at.invariant.behind) in
     let front : take at bytes ++ take n c.behind-rest.result.now ≡ take (at + n) bytes = ap (λ xs. take at bytes ++ take n xs) c.behind-rest.ensures ∙ sym (take-add at n bytes) in
     let place = place_is c.args.file (take at bytes) c.loop-at.cursor c.loop-at.invariant.behind in
-    let items : c.put.new.tokens.items ≡ c.loop-at.tokens.items ++ tokens_of c.in-Piece.kind at n (place_behind c.args.file (take at bytes)) =
-    c.in-Ok.ensures ∙ ap (λ pos. c.loop-at.tokens.items ++ tokens_of c.in-Piece.kind at n pos) place in
+    let class : Option Word = option_map (λ k. class_of k (take n (drop at bytes))) c.in-Piece.kind in
+    let items : c.put.new.tokens.items ≡ c.loop-at.tokens.items ++ tokens_of class at n (place_behind c.args.file (take at bytes)) =
+    c.in-Ok.ensures ∙ ap (λ pos. c.loop-at.tokens.items ++ tokens_of c.piece_class-word.result at n pos) place
+    ∙ ap (λ word. c.loop-at.tokens.items ++ tokens_of word at n (place_behind c.args.file (take at bytes))) (c.piece_class-word.ensures ∙ ap (λ xs. option_map (λ k. class_of k (take n xs)) c.in-Piece.kind) c.behind-rest.ensures) in
     record {
       within = front_within bytes at n is.0;
       behind = subst (λ xs. IsBehind xs c.moved_past-cursor.result) front moved;
       cuts = λ tokens rest. subst (λ ts. Cut c.args.file bytes 0 ts)
-          (sym (ap (λ ts. ts ++ tokens) items ∙ append_assoc c.loop-at.tokens.items (tokens_of c.in-Piece.kind at n (place_behind c.args.file (take at bytes))) tokens))
-          (c.loop-at.invariant.cuts (tokens_of c.in-Piece.kind at n (place_behind c.args.file (take at bytes)) ++ tokens) (cut_more c.args.file bytes at n c.in-Piece.kind tokens is rest));
+          (sym (ap (λ ts. ts ++ tokens) items ∙ append_assoc c.loop-at.tokens.items (tokens_of class at n (place_behind c.args.file (take at bytes))) tokens))
+          (c.loop-at.invariant.cuts (tokens_of class at n (place_behind c.args.file (take at bytes)) ++ tokens) (cut_more c.args.file bytes at n c.in-Piece.kind tokens is rest));
       stuck = λ place code rest. c.loop-at.invariant.stuck place code (behind n is.0 rest);
     }
 

@@ -1,5 +1,6 @@
 use Rattle.std.proofs.Common.{◌≤◌, ◌-◌, ◌++◌, ℕ, List, length, take}
-use Rattle.java_lexer.specs.declared.token.Token.{Token}
+use Rattle.rlc_base.specs.declared.code.Code.{Code}
+use Rattle.java_syntax.specs.declared.tokens.Token.{Token}
 use Rattle.java_lexer.specs.Cut.{Cut, Stuck}
 use Rattle.java_lexer.proofs.PlaceLaws.{IsBehind}
 use Rattle.java_lexer.proofs.lexer.cut.Given as goal
@@ -10,7 +11,7 @@ invariant-loop-at l = record {
   within : l.at ≤ length l.bytes;
   behind : IsBehind (take l.at l.bytes) l.cursor;
   cuts : (tokens : List Token) → Cut l.file l.bytes l.at tokens → Cut l.file l.bytes 0 (l.tokens.items ++ tokens);
-  stuck : (place code : ℕ) → Stuck l.bytes l.at place code → Stuck l.bytes 0 place code;
+  stuck : (place : ℕ) (code : Code) → Stuck l.bytes l.at place code → Stuck l.bytes 0 place code;
 }
 
 abbrev pub decreases-loop-at : goal.decreases-loop-at

@@ -1,9 +1,11 @@
--- A class of the program is under what it lists, and a number of no class under itself alone.
-use Rattle.program_model.proofs.Supers.{known_is_under, unknown_is_under}
+-- What is computed is the relation where the hierarchy is valid.
+use Rattle.std.proofs.Common.{◌≡◌, rules}
+use Rattle.program_model.specs.SuperTests.{is_under}
+use Rattle.program_model.proofs.HierarchyLaws.{is_under_along}
 use Rattle.program_model.proofs.hierarchy.under.Goals as goal
 
-pub returns-in-None : goal.returns-in-None
-returns-in-None c = unknown_is_under _ _ _ _ c.in-None.ensures c.eq.ensures
+pub returns-in-None-clause-relation : goal.returns-in-None-clause-relation
+returns-in-None-clause-relation c = let same : c.eq.result ≡ is_under c.args.p.now c.args.class c.args.other = search rules in is_under_along _ _ _ _ same
 
-pub returns-in-Some : goal.returns-in-Some
-returns-in-Some c = known_is_under _ _ _ c.in-Some.found.now _ _ c.requires c.in-Some.ensures c.deref.ensures.value c.is_among.ensures
+pub returns-in-Some-clause-relation : goal.returns-in-Some-clause-relation
+returns-in-Some-clause-relation c = let same : c.has_class.result ≡ is_under c.args.p.now c.args.class c.args.other = search rules in is_under_along _ _ _ _ same

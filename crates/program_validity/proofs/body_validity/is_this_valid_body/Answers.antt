@@ -1,8 +1,8 @@
 -- The tests are the facts, of the lists that the body has.
 use Rattle.std.proofs.Common.{All}
 use Rattle.program_model.specs.Typing.{IsDeclarable}
-use Rattle.program_model.specs.Validity.{HeadsFirst, OneSuperCall}
-use Rattle.program_validity.proofs.Each.{along}
+use Rattle.program_model.specs.Heads.{HeadsFirst, OneSuperCall}
+use Rattle.program_structure.proofs.Each.{along}
 use Rattle.program_validity.proofs.body_validity.is_this_valid_body.Goals as goal
 
 pub returns : goal.returns

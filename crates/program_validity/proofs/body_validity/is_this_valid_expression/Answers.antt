@@ -1,7 +1,7 @@
 -- The two tests are the facts, of the children that the definition names.
 use Rattle.std.proofs.Common.{◌∙◌, refl}
 use Rattle.program_model.specs.Trees.{operands}
-use Rattle.program_validity.proofs.Each.{below_along}
+use Rattle.program_structure.proofs.Each.{below_along}
 use Rattle.program_validity.proofs.body_validity.is_this_valid_expression.Goals as goal
 
 pub returns : goal.returns

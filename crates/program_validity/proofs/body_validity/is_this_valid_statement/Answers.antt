@@ -1,8 +1,8 @@
 -- The four tests are the facts, of the children that the definition names.
 use Rattle.std.proofs.Common.{◌≡◌, ◌∙◌, refl, false, length, All}
 use Rattle.program_model.specs.Trees.{expressions_in, statements_in}
-use Rattle.program_model.specs.Validity.{is_head}
-use Rattle.program_validity.proofs.Each.{along, below_along}
+use Rattle.program_model.specs.Heads.{is_head}
+use Rattle.program_structure.proofs.Each.{along, below_along}
 use Rattle.program_validity.proofs.body_validity.is_this_valid_statement.Goals as goal
 
 pub returns : goal.returns

@@ -1,6 +1,6 @@
 -- The first has it, and the rest is tested.
 use Rattle.program_model.specs.LocalSupers.{IsBelow}
-use Rattle.program_validity.proofs.Firsts.{all_past_first}
+use Rattle.program_typing.proofs.Firsts.{all_past_first}
 use Rattle.program_validity.proofs.hierarchy_validity.+are_below.Goals as goal
 
 pub returns-then-is_below : goal.returns-then-is_below

@@ -1,6 +1,6 @@
 -- The first is below the second, and the rest is tested.
 use Rattle.program_model.specs.Hierarchy.{class_number}
-use Rattle.program_validity.proofs.Firsts.{rising_past_first}
+use Rattle.program_typing.proofs.Firsts.{rising_past_first}
 use Rattle.program_validity.proofs.hierarchy_validity.+are_in_order.Goals as goal
 
 pub returns-then-first-second : goal.returns-then-first-second

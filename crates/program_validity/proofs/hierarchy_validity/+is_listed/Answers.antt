@@ -2,7 +2,7 @@
 use Rattle.std.proofs.Common.{◌∙◌, sym}
 use Rattle.std.proofs.lemmas.Bool.{true≢false}
 use Rattle.program_model.specs.LocalSupers.{Lists}
-use Rattle.program_validity.proofs.Firsts.{any_past_first}
+use Rattle.program_typing.proofs.Firsts.{any_past_first}
 use Rattle.program_validity.proofs.hierarchy_validity.+is_listed.Goals as goal
 
 pub returns-else-lists : goal.returns-else-lists

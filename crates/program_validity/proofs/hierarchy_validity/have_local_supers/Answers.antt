@@ -3,7 +3,7 @@ use Rattle.std.proofs.Common.{◌∙◌, sym, refl, arith}
 use Rattle.std.proofs.lemmas.Bool.{true≢false}
 use Rattle.program_model.specs.Hierarchy.{direct_supers}
 use Rattle.program_model.specs.LocalSupers.{HasLocalSupers}
-use Rattle.program_validity.proofs.Each.{each_more, each_found}
+use Rattle.program_structure.proofs.Each.{each_more, each_found}
 use Rattle.program_validity.proofs.hierarchy_validity.have_local_supers.Goals as goal
 
 pub loop-i-preserved : goal.loop-i-preserved

@@ -1,6 +1,6 @@
 -- The first has it, and the rest is tested.
 use Rattle.program_model.specs.Validity.{IsFieldOf}
-use Rattle.program_validity.proofs.Firsts.{all_past_first}
+use Rattle.program_typing.proofs.Firsts.{all_past_first}
 use Rattle.program_validity.proofs.member_validity.+are_fields_of.Goals as goal
 
 pub returns-then-is_field_of : goal.returns-then-is_field_of

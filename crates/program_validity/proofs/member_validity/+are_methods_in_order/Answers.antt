@@ -1,5 +1,5 @@
 -- The first is below the second, and the rest is tested.
-use Rattle.program_validity.proofs.Firsts.{rising_past_first}
+use Rattle.program_typing.proofs.Firsts.{rising_past_first}
 use Rattle.program_validity.proofs.member_validity.+are_methods_in_order.Goals as goal
 
 pub returns-then-first-second : goal.returns-then-first-second

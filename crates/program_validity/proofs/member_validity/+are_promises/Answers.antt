@@ -1,7 +1,7 @@
 -- The first has it, and the rest is tested.
 use Rattle.std.proofs.Common.{get_or, subst}
 use Rattle.program_model.specs.Validity.{IsPromised}
-use Rattle.program_validity.proofs.Firsts.{all_past_first}
+use Rattle.program_typing.proofs.Firsts.{all_past_first}
 use Rattle.program_validity.proofs.member_validity.+are_promises.Goals as goal
 
 pub returns-then-is_promised : goal.returns-then-is_promised

@@ -1,6 +1,6 @@
 -- The first has it, and the rest is tested.
 use Rattle.program_model.specs.Hierarchy.{HasClass}
-use Rattle.program_validity.proofs.Firsts.{all_past_first}
+use Rattle.program_typing.proofs.Firsts.{all_past_first}
 use Rattle.program_validity.proofs.member_validity.+have_classes.Goals as goal
 
 pub returns-then-has_class : goal.returns-then-has_class

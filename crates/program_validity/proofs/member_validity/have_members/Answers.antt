@@ -2,7 +2,7 @@
 use Rattle.std.proofs.Common.{◌∙◌, sym, refl, arith}
 use Rattle.std.proofs.lemmas.Bool.{true≢false}
 use Rattle.program_model.specs.Validity.{HasMembers}
-use Rattle.program_validity.proofs.Each.{each_more, each_found}
+use Rattle.program_structure.proofs.Each.{each_more, each_found}
 use Rattle.program_validity.proofs.member_validity.have_members.Goals as goal
 
 pub loop-i-preserved : goal.loop-i-preserved

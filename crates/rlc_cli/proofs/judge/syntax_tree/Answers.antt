@@ -1,5 +1,5 @@
 use Rattle.std.proofs.Common.{◌∙◌, sym, subst, List}
-use Rattle.java_lexer.specs.declared.token.Token.{Token}
+use Rattle.java_syntax.specs.declared.tokens.Token.{Token}
 use Rattle.java_lexer.specs.Cut.{IsCut}
 use Rattle.rlc_cli.proofs.Verdicts.{only_trees, stops_too}
 use Rattle.rlc_cli.proofs.judge.syntax_tree.Goals as goal

@@ -1,0 +1,3 @@
+-- What the contracts of case files speak of.
+pub mod Escapes
+pub mod Faults

@@ -1,6 +1,0 @@
-use Rattle.std.proofs.Common.{◌≡◌, map, drop}
-use Rattle.java_exprs.specs.Classes.{class_in}
-use Rattle.java_exprs.proofs.classes.look_up.Given as goal
-
-abbrev pub invariant-loop-row : goal.invariant-loop-row
-invariant-loop-row l = class_in (map (λ row. (row.0.now, row.1)) l.table) l.text ≡ class_in (map (λ row. (row.0.now, row.1)) (drop l.row-index l.table)) l.text

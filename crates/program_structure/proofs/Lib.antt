@@ -1,0 +1,4 @@
+pub mod Counts
+pub mod Each
+pub mod FreeJumps
+pub mod Gathered

@@ -1,0 +1,15 @@
+-- What holds up to here holds of one more; the test of one of which it does not hold is false.
+use Rattle.std.proofs.Common.{◌∙◌, sym, refl, arith}
+use Rattle.std.proofs.lemmas.Bool.{true≢false}
+use Rattle.program_model.specs.Validity.{IsOrderedBody}
+use Rattle.program_structure.proofs.Each.{each_more, each_found}
+use Rattle.program_structure.proofs.ordered.are_ordered_bodies.Goals as goal
+
+pub loop-i-preserved : goal.loop-i-preserved
+loop-i-preserved c = each_more c.args.p.now.bodies.items (λ j x. IsOrderedBody c.args.p.now x) _ c.loop-i.invariant (c.in_ok-is_ordered_body.ensures.0 c.if-not-branch.false)
+
+pub returns-then-not-branch : goal.returns-then-not-branch
+returns-then-not-branch c = ((λ no. absurd (true≢false (sym no))), (λ all. sym c.if-not-branch.true ∙ c.in_ok-is_ordered_body.ensures.1 (λ x. all (record { 0 = c.loop-i.i }) x)))
+
+pub returns : goal.returns
+returns c = ((λ yes i x. each_found c.args.p.now.bodies.items (λ j x. IsOrderedBody c.args.p.now x) c.loop-i.i (omega (arith, c.loop-i-test.false, c.len-i-end.ensures)) c.loop-i.invariant i.0 x), (λ all. refl))
