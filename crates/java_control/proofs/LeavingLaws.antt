@@ -1,18 +1,17 @@
--- An exception of a class that is not ignored finds its edge.
+-- An exception finds its edge.
 use Rattle.std.proofs.Common.{◌≡◌, ◌∙◌, add-one, ◌<◌, ◌+◌, ℕ, zero, suc, inl, inr, sym, ap, refl, subst, arith, Bool, true, false, true≢false, IsTrue, List, [], ◌∷◌, ◌++◌, Contains}
 use Rattle.std.specs.Prelude.{◌||◌, not, if◌then◌else◌}
 use Rattle.std.specs.List.{list_any}
 use Rattle.std.proofs.lemmas.Bool.{eq-eqb, eqb-true, or_left, or_right, or_cases, and_from, not_from_false, cases_lt, false_from_ne_true}
-use Rattle.std.proofs.lemmas.List.Elements.{Contains-append_cases}
 use Rattle.std.proofs.lemmas.List.Folds.{Any-from_list_any, list_any-from_Any}
 use Rattle.program_model.specs.declared.kinds.ClassId.{ClassId}
 use Rattle.program_model.specs.declared.program.Program.{Program}
-use Rattle.program_model.specs.Hierarchy.{IsHierarchy, IsUnder, itself, above}
+use Rattle.program_model.specs.Hierarchy.{IsHierarchy, IsIgnored, IsUnder, itself, above}
 use Rattle.program_model.specs.SuperTests.{has_class, is_class, is_ignored, is_under}
 use Rattle.java_control.specs.declared.action.Action.{Action}
 use Rattle.java_control.specs.declared.action.Action.TheVariants as actions
 use Rattle.java_control.specs.Exceptions.{class_count, class_with, declared_exceptions, exceptions_of, heeded, heeded_by_call, is_heeded_under, is_wholly_ignored, other_exceptions, own_exceptions, some_heeded, throws_clause, throws_some_heeded, unchecked, with_class, with_classes}
-use Rattle.java_control.specs.Leaving.{HasEdges, LeavesBy, under, made}
+use Rattle.java_control.specs.Leaving.{HasEdges, by_declared, by_call, made, unchecked_exceptions}
 use Rattle.program_model.proofs.HierarchyLaws.{is_under_law, is_ignored_law}
 
 same_class : (c d : ClassId) → c.0 ≡ d.0 → c ≡ d
@@ -144,14 +143,13 @@ declared_edge declared other t here =
 other_edge : (declared other : List ClassId) (t : ClassId) → IsTrue (has_class other t) → Contains (with_classes (with_classes [] declared) other) t
 other_edge declared other t here = contained (with_classes (with_classes [] declared) other) t (all_added (with_classes [] declared) other t here)
 
-call_edge : (p : Program) → IsHierarchy p → (clause : List ClassId) (c t : ClassId) → c.0 < class_count p → is_ignored p c ≡ false → IsUnder p c t → Contains (clause ++ unchecked p) t → Contains (with_classes (with_classes [] clause) (heeded_by_call p (unchecked p))) t
-call_edge p hierarchy clause c t named heeds below here = elim (Contains-append_cases clause (unchecked p) t here) [
-  | inl first ↦ declared_edge clause (heeded_by_call p (unchecked p)) t first
-  | inr rest ↦
-      other_edge clause (heeded_by_call p (unchecked p)) t
-      (call_kept p (unchecked p) t (throws_law p hierarchy c t named heeds below) (listed (unchecked p) t rest))
-]
+-- an exception that is not ignored has its edge, where it leaves a call by an unchecked class
+call_edge : (p : Program) → IsHierarchy p → (clause : List ClassId) (c t : ClassId) → c.0 < class_count p → is_ignored p c ≡ false → IsUnder p c t → Contains (unchecked p) t → Contains (with_classes (with_classes [] clause) (heeded_by_call p (unchecked p))) t
+call_edge p hierarchy clause c t named heeds below here =
+    other_edge clause (heeded_by_call p (unchecked p)) t
+    (call_kept p (unchecked p) t (throws_law p hierarchy c t named heeds below) (listed (unchecked p) t here))
 
+-- an exception that the action makes itself
 own_edge : (p : Program) (declared own : List ClassId) (c t : ClassId) → is_ignored p c ≡ false → c ≡ t → Contains own t → Contains (with_classes (with_classes [] declared) (heeded p own)) t
 own_edge p declared own c t heeds same here =
     let P : ClassId → Type 0 = λ x. is_ignored p x ≡ false in
@@ -160,47 +158,55 @@ own_edge p declared own c t heeds same here =
 none : (t : ClassId) {X : Type 0} → Contains [] t → X
 none t here = absurd (true≢false (sym (listed [] t here)))
 
-edge : (p : Program) → IsHierarchy p → (a : Action) (c t : ClassId) → c.0 < class_count p → is_ignored p c ≡ false → LeavesBy p a c t → Contains (exceptions_of p a) t
-edge p h (actions.Call m d n form) c t named heeds (under here below) = call_edge p h (throws_clause p m) c t named heeds below here
-edge p h (actions.New m d n) c t named heeds (under here below) = call_edge p h (throws_clause p m) c t named heeds below here
-edge p h (actions.Super m d n) c t named heeds (under here below) = call_edge p h (throws_clause p m) c t named heeds below here
-edge p h (actions.Call m d n form) c t named heeds (made here same) = none t here
-edge p h (actions.New m d n) c t named heeds (made here same) = none t here
-edge p h (actions.Super m d n) c t named heeds (made here same) = none t here
-edge p h actions.Skip c t named heeds (under here below) = none t here
-edge p h actions.Skip c t named heeds (made here same) = none t here
-edge p h (actions.Copy x y) c t named heeds (under here below) = none t here
-edge p h (actions.Copy x y) c t named heeds (made here same) = none t here
-edge p h (actions.Move x y) c t named heeds (under here below) = none t here
-edge p h (actions.Move x y) c t named heeds (made here same) = none t here
-edge p h (actions.Plain x v) c t named heeds (under here below) = none t here
-edge p h (actions.Plain x v) c t named heeds (made here same) = none t here
-edge p h (actions.Drop x) c t named heeds (under here below) = none t here
-edge p h (actions.Drop x) c t named heeds (made here same) = none t here
-edge p h (actions.Settle b k) c t named heeds (under here below) = none t here
-edge p h (actions.Settle b k) c t named heeds (made here same) = none t here
-edge p h (actions.Enter k x b d) c t named heeds (under here below) = none t here
-edge p h (actions.Enter k x b d) c t named heeds (made here same) = none t here
-edge p h (actions.Test d) c t named heeds (under here below) = none t here
-edge p h (actions.Test d) c t named heeds (made here same) = none t here
-edge p h (actions.Op k d n) c t named heeds (under here below) = none t here
-edge p h (actions.Op k d n) c t named heeds (made here same) = own_edge p [] (own_exceptions p (actions.Op k d n)) c t heeds same here
-edge p h (actions.Get f d w) c t named heeds (under here below) = none t here
-edge p h (actions.Get f d w) c t named heeds (made here same) = own_edge p [] (own_exceptions p (actions.Get f d w)) c t heeds same here
-edge p h (actions.Put f d w) c t named heeds (under here below) = none t here
-edge p h (actions.Put f d w) c t named heeds (made here same) = own_edge p [] (own_exceptions p (actions.Put f d w)) c t heeds same here
-edge p h (actions.Cast x d) c t named heeds (under here below) = none t here
-edge p h (actions.Cast x d) c t named heeds (made here same) = own_edge p [] (own_exceptions p (actions.Cast x d)) c t heeds same here
-edge p h (actions.PutOwn f d) c t named heeds (under here below) = none t here
-edge p h (actions.PutOwn f d) c t named heeds (made here same) = none t here
-edge p h (actions.Raise d k) c t named heeds (under here below) = declared_edge (declared_exceptions p (actions.Raise d k)) (other_exceptions p (actions.Raise d k)) t here
-edge p h (actions.Raise d k) c t named heeds (made here same) = own_edge p (declared_exceptions p (actions.Raise d k)) (own_exceptions p (actions.Raise d k)) c t heeds same here
-edge p h (actions.End k) c t named heeds (under here below) = none t here
-edge p h (actions.End k) c t named heeds (made here same) = none t here
+unchecked_edge : (p : Program) → IsHierarchy p → (a : Action) (c t : ClassId) → c.0 < class_count p → is_ignored p c ≡ false → Contains (unchecked_exceptions p a) t → IsUnder p c t → Contains (exceptions_of p a) t
+unchecked_edge p h (actions.Call m d n form) c t named heeds here below = call_edge p h (throws_clause p m) c t named heeds below here
+unchecked_edge p h (actions.New m d n) c t named heeds here below = call_edge p h (throws_clause p m) c t named heeds below here
+unchecked_edge p h (actions.Super m d n) c t named heeds here below = call_edge p h (throws_clause p m) c t named heeds below here
+unchecked_edge p h actions.Skip c t named heeds here below = none t here
+unchecked_edge p h (actions.Copy x y) c t named heeds here below = none t here
+unchecked_edge p h (actions.Move x y) c t named heeds here below = none t here
+unchecked_edge p h (actions.Plain x v) c t named heeds here below = none t here
+unchecked_edge p h (actions.Drop x) c t named heeds here below = none t here
+unchecked_edge p h (actions.Settle b k) c t named heeds here below = none t here
+unchecked_edge p h (actions.Enter k x b d) c t named heeds here below = none t here
+unchecked_edge p h (actions.Test d) c t named heeds here below = none t here
+unchecked_edge p h (actions.Op k d n) c t named heeds here below = none t here
+unchecked_edge p h (actions.Get f d w) c t named heeds here below = none t here
+unchecked_edge p h (actions.Put f d w) c t named heeds here below = none t here
+unchecked_edge p h (actions.Cast x d) c t named heeds here below = none t here
+unchecked_edge p h (actions.PutOwn f d) c t named heeds here below = none t here
+unchecked_edge p h (actions.Raise d k) c t named heeds here below = none t here
+unchecked_edge p h (actions.End k) c t named heeds here below = none t here
+
+made_edge : (p : Program) (a : Action) (c t : ClassId) → is_ignored p c ≡ false → Contains (own_exceptions p a) t → c ≡ t → Contains (exceptions_of p a) t
+made_edge p (actions.Call m d n form) c t heeds here same = none t here
+made_edge p (actions.New m d n) c t heeds here same = none t here
+made_edge p (actions.Super m d n) c t heeds here same = none t here
+made_edge p actions.Skip c t heeds here same = none t here
+made_edge p (actions.Copy x y) c t heeds here same = none t here
+made_edge p (actions.Move x y) c t heeds here same = none t here
+made_edge p (actions.Plain x v) c t heeds here same = none t here
+made_edge p (actions.Drop x) c t heeds here same = none t here
+made_edge p (actions.Settle b k) c t heeds here same = none t here
+made_edge p (actions.Enter k x b d) c t heeds here same = none t here
+made_edge p (actions.Test d) c t heeds here same = none t here
+made_edge p (actions.Op k d n) c t heeds here same = own_edge p (declared_exceptions p (actions.Op k d n)) (own_exceptions p (actions.Op k d n)) c t heeds same here
+made_edge p (actions.Get f d w) c t heeds here same = own_edge p (declared_exceptions p (actions.Get f d w)) (own_exceptions p (actions.Get f d w)) c t heeds same here
+made_edge p (actions.Put f d w) c t heeds here same = own_edge p (declared_exceptions p (actions.Put f d w)) (own_exceptions p (actions.Put f d w)) c t heeds same here
+made_edge p (actions.Cast x d) c t heeds here same = own_edge p (declared_exceptions p (actions.Cast x d)) (own_exceptions p (actions.Cast x d)) c t heeds same here
+made_edge p (actions.PutOwn f d) c t heeds here same = none t here
+made_edge p (actions.Raise d k) c t heeds here same = own_edge p (declared_exceptions p (actions.Raise d k)) (own_exceptions p (actions.Raise d k)) c t heeds same here
+made_edge p (actions.End k) c t heeds here same = none t here
 
 pub has_edges : (p : Program) → IsHierarchy p → (a : Action) → HasEdges p a
-has_edges p hierarchy a c t named heeds leaves =
-    edge p hierarchy a c t named (false_from_ne_true (is_ignored p c) (λ holds. heeds ((is_ignored_law p hierarchy c).0 holds))) leaves
+has_edges p hierarchy a c t named leaves = elim leaves [
+  | by_declared here below ↦ declared_edge (declared_exceptions p a) (other_exceptions p a) t here
+  | by_call heeds here below ↦ unchecked_edge p hierarchy a c t named (heeded_law heeds) here below
+  | made heeds here same ↦ made_edge p a c t (heeded_law heeds) here same
+]
+  where
+    heeded_law : (IsIgnored p c → ⊥) → is_ignored p c ≡ false
+    heeded_law heeds = false_from_ne_true (is_ignored p c) (λ holds. heeds ((is_ignored_law p hierarchy c).0 holds))
 
 pub some_heeded_none : (p : Program) (t : ClassId) → false ≡ some_heeded p t 0
 unfolding some_heeded

@@ -4,3 +4,4 @@ pub mod FlatLemmas
 pub mod StepLemmas
 pub mod PushLemmas
 pub mod LeavingLaws
+pub mod WayLemmas

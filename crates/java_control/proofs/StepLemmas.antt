@@ -9,7 +9,7 @@ use Rattle.java_control.specs.declared.triple.Triple.{Triple}
 use Rattle.java_control.specs.Remaining.{Todo, todos, nil, cons}
 use Rattle.java_control.specs.Tables.{bare, highest, highest_of, view_in, list_at, Keeps}
 use Rattle.java_control.specs.Changes.{front_in, highest_front, seen, highest_changes, highest_steps, step_in}
-use Rattle.java_control.specs.Control.{step_of}
+use Rattle.java_control.specs.Becoming.{step_of}
 use Rattle.java_control.proofs.FlatLemmas.{drop_at}
 use Rattle.java_control.proofs.TableLemmas.{bare_in, view_kept, views_kept}
 

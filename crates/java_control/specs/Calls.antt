@@ -1,6 +1,9 @@
 -- What an action calls: the method, the form of its target, and where its operands stand (JLS 15.9, 15.12, 8.8.7.1).
-use Rattle.std.specs.Prelude.{ℕ, zero, suc, ◌+◌, nat_lt, nat_le, ◌&&◌, Option, Some, None, if◌then◌else◌}
+use Rattle.std.specs.Prelude.{ℕ, zero, suc, ◌+◌, nat_lt, nat_le, nat_eq, Bool, true, false, ◌&&◌, Option, Some, None, if◌then◌else◌}
 use Rattle.program_model.specs.declared.kinds.MethodId.{MethodId}
+use Rattle.program_model.specs.declared.program.Program.{Program}
+use Rattle.program_model.specs.declared.program.Method.{Method}
+use Rattle.program_model.specs.Lookups.{method_at}
 use Rattle.java_control.specs.declared.action.Action.{Action}
 use Rattle.java_control.specs.declared.action.Action.TheVariants as actions
 use Rattle.java_control.specs.declared.action.Completion.{Completion}
@@ -15,12 +18,34 @@ called_method (actions.New m d n) = Some m
 called_method (actions.Super m d n) = Some m
 called_method _ = None
 
--- the form of the target of a call; a `new` and a super call have no target
+-- the form of the target of a call; a `new` and a super call have no target. Where operands stand is not to be read from
+-- it: `operand_at` says that
 abbrev pub target_form : Action → Option TargetForm
 target_form (actions.Call m d n form) = Some form
 target_form (actions.New m d n) = Some forms.Static
 target_form (actions.Super m d n) = Some forms.Static
 target_form _ = None
+
+-- the call is on `this`, written or implied, or by `super`
+abbrev pub is_this_form : TargetForm → Bool
+is_this_form forms.Static = false
+is_this_form forms.This = true
+is_this_form forms.Super = true
+is_this_form forms.Other = false
+
+abbrev pub is_receiver : Option ℕ → Bool
+is_receiver None = false
+is_receiver (Some k) = nat_eq k 0
+
+abbrev pub resets_receiver : Option Method → Bool
+resets_receiver None = false
+resets_receiver (Some m) = is_receiver m.sig.reset
+
+-- the call creates the obligation of `this` anew (Checker Framework manual, Resource Leak Checker, "Creating obligations"): its
+-- receiver is the target, and is written `this`, implied, or `super`
+abbrev pub is_reset_of_this : Program → Action → Bool
+is_reset_of_this p (actions.Call m d n form) = is_this_form form && resets_receiver (method_at p m)
+is_reset_of_this p _ = false
 
 -- the depth of the k-th of `n` temps from depth `d` on; a depth has 32 bits
 abbrev pub temp_at : ℕ → ℕ → ℕ → Option ℕ

@@ -1,12 +1,14 @@
 -- What the code's values of fronts and changes mean.
 use Rattle.std.specs.Prelude.{ℕ, max, Option, Some, None, List, [], ◌∷◌, ◌++◌, map}
+use Rattle.java_control.specs.declared.action.Action.{Action}
+use Rattle.java_control.specs.declared.action.Edge.{Edge}
 use Rattle.java_control.specs.declared.cell.Cell.{Cell}
 use Rattle.java_control.specs.declared.item.Item.{Item}
 use Rattle.java_control.specs.declared.change.Front.{Front}
 use Rattle.java_control.specs.declared.change.Change.{Change}
 use Rattle.java_control.specs.declared.triple.Triple.{Triple}
 use Rattle.java_control.specs.Control.{Step}
-use Rattle.java_control.specs.Remaining.{Todo, todos, Becomes}
+use Rattle.java_control.specs.Remaining.{Todo, todos}
 use Rattle.java_control.specs.Tables.{bare, highest, highest_of, view_in, list_at}
 
 abbrev pub front_in : List Cell → Front → List Todo
@@ -14,6 +16,17 @@ front_in cells f = map (view_in cells) f.items.items ++ todos (list_at cells f.t
 
 abbrev pub highest_front : Front → ℕ
 highest_front f = max (highest_of f.items.items) f.then
+
+-- what one step makes of the first items: it takes the action, goes by the edge, and `front` stands in place of `uses`
+-- of them
+pub record Becomes : Type 0 where
+  pub action : Action
+  pub edge : Edge
+  pub uses : ℕ
+  pub front : List Todo
+
+abbrev pub change : Action → Edge → ℕ → List Todo → Becomes
+change a e uses front = record { action = a; edge = e; uses = uses; front = front }
 
 abbrev pub seen : List Cell → Change → Becomes
 seen cells x = record { action = x.action; edge = x.edge; uses = x.uses; front = front_in cells x.front }

@@ -1,35 +1,64 @@
 -- Conditions: `p` follows where the condition is true and `q` where it is false (JLS 15.15.6, 15.23, 15.24, 14.9).
-use Rattle.std.specs.Prelude.{ℕ, true, false, List, [], ◌∷◌}
+use Rattle.std.specs.Prelude.{ℕ, true, false, Option, Some, None, List, [], ◌∷◌}
 use Rattle.program_model.specs.declared.kinds.ExprId.{ExprId}
+use Rattle.program_model.specs.declared.kinds.Literal.{Literal}
+use Rattle.program_model.specs.declared.kinds.Literal.TheVariants as literals
+use Rattle.program_model.specs.declared.kinds.UnaryOperator.{UnaryOperator}
+use Rattle.program_model.specs.declared.kinds.UnaryOperator.TheVariants as unary
+use Rattle.program_model.specs.declared.kinds.BinaryOperator.{BinaryOperator}
+use Rattle.program_model.specs.declared.kinds.BinaryOperator.TheVariants as binary
+use Rattle.program_model.specs.declared.tree.BinaryExpression.{BinaryExpression}
 use Rattle.program_model.specs.declared.tree.Body.{Body}
+use Rattle.program_model.specs.declared.tree.ExpressionKind.{ExpressionKind}
+use Rattle.program_model.specs.declared.tree.ExpressionKind.TheVariants as expressions
+use Rattle.program_model.specs.declared.tree.TExpr.{TExpr}
+use Rattle.program_model.specs.Lookups.{expression_at}
 use Rattle.rlc_base.specs.declared.place.Pos.{Pos}
-use Rattle.java_control.specs.declared.action.Action.TheVariants as actions
-use Rattle.java_control.specs.declared.action.Edge.TheVariants as edges
 use Rattle.java_control.specs.declared.item.Condition.{Condition}
 use Rattle.java_control.specs.declared.item.Condition.TheVariants as conditions
-use Rattle.java_control.specs.declared.shape.Shape.{Shape}
-use Rattle.java_control.specs.declared.shape.Shape.TheVariants as shapes
-use Rattle.java_control.specs.Shapes.{shape_of}
-use Rattle.java_control.specs.Remaining.{Todo, Todos, Ev, Cond, NullFork, BoolFork, todos, one, Becomes, change, expression_place}
+use Rattle.java_control.specs.NullTests.{compared_with_null}
+use Rattle.java_control.specs.Remaining.{Todo, Todos, Ev, Cond, NullFork, BoolFork, todos, one, nowhere}
 
-abbrev pub shape_front : Shape → Pos → ExprId → ℕ → Todos → Todos → List Todo
-shape_front (shapes.Always true) pos e d p q = todos p
-shape_front (shapes.Always false) pos e d p q = todos q
-shape_front (shapes.Negation c) pos e d p q = Cond (conditions.Of c) d q p ∷ []
-shape_front (shapes.Conjunction a b) pos e d p q = Cond (conditions.Of a) d (one (Cond (conditions.Of b) d p q)) q ∷ []
-shape_front (shapes.Disjunction a b) pos e d p q = Cond (conditions.Of a) d p (one (Cond (conditions.Of b) d p q)) ∷ []
-shape_front (shapes.IsNull x) pos e d p q = Ev x d ∷ NullFork pos d p q ∷ []
-shape_front (shapes.IsNotNull x) pos e d p q = Ev x d ∷ NullFork pos d q p ∷ []
-shape_front (shapes.Choice c x y) pos e d p q = Ev e d ∷ BoolFork pos d p q ∷ []
-shape_front shapes.Value pos e d p q = Ev e d ∷ BoolFork pos d p q ∷ []
+-- any other condition: its value is tested
+abbrev pub tests_value : ExprId → Pos → ℕ → Todos → Todos → List Todo
+tests_value e pos d p q = Ev e d ∷ BoolFork pos d p q ∷ []
 
--- an absent condition is true
+abbrev pub literal_condition : Literal → ExprId → Pos → ℕ → Todos → Todos → List Todo
+literal_condition (literals.Boolean true) e pos d p q = todos p
+literal_condition (literals.Boolean false) e pos d p q = todos q
+literal_condition _ e pos d p q = tests_value e pos d p q
+
+abbrev pub unary_condition : UnaryOperator → ExprId → ExprId → Pos → ℕ → Todos → Todos → List Todo
+unary_condition unary.Not c e pos d p q = Cond (conditions.Of c) d q p ∷ []
+unary_condition _ c e pos d p q = tests_value e pos d p q
+
+-- a comparison with the literal `null` tests the other operand
+abbrev pub equal_condition : Option ExprId → ExprId → Pos → ℕ → Todos → Todos → List Todo
+equal_condition (Some x) e pos d p q = Ev x d ∷ NullFork pos d p q ∷ []
+equal_condition None e pos d p q = tests_value e pos d p q
+
+abbrev pub not_equal_condition : Option ExprId → ExprId → Pos → ℕ → Todos → Todos → List Todo
+not_equal_condition (Some x) e pos d p q = Ev x d ∷ NullFork pos d q p ∷ []
+not_equal_condition None e pos d p q = tests_value e pos d p q
+
+abbrev pub binary_condition : BinaryOperator → BinaryExpression → Body → ExprId → Pos → ℕ → Todos → Todos → List Todo
+binary_condition binary.ConditionalAnd x b e pos d p q = Cond (conditions.Of x.left) d (one (Cond (conditions.Of x.right) d p q)) q ∷ []
+binary_condition binary.ConditionalOr x b e pos d p q = Cond (conditions.Of x.left) d p (one (Cond (conditions.Of x.right) d p q)) ∷ []
+binary_condition binary.Equal x b e pos d p q = equal_condition (compared_with_null b x) e pos d p q
+binary_condition binary.NotEqual x b e pos d p q = not_equal_condition (compared_with_null b x) e pos d p q
+binary_condition _ x b e pos d p q = tests_value e pos d p q
+
+abbrev pub kind_condition : ExpressionKind → Body → ExprId → Pos → ℕ → Todos → Todos → List Todo
+kind_condition (expressions.Literal l) b e pos d p q = literal_condition l e pos d p q
+kind_condition (expressions.Unary o c) b e pos d p q = unary_condition o c e pos d p q
+kind_condition (expressions.Binary x) b e pos d p q = binary_condition x.operator x b e pos d p q
+kind_condition _ b e pos d p q = tests_value e pos d p q
+
+abbrev pub node_condition : Option TExpr → Body → ExprId → ℕ → Todos → Todos → List Todo
+node_condition None b e d p q = tests_value e nowhere d p q
+node_condition (Some x) b e d p q = kind_condition x.kind b e x.pos d p q
+
+-- what a condition becomes; an absent one is true
 abbrev pub condition_front : Body → Condition → ℕ → Todos → Todos → List Todo
-condition_front b (conditions.Of e) d p q = shape_front (shape_of b e) (expression_place b e) e d p q
+condition_front b (conditions.Of e) d p q = node_condition (expression_at b e) b e d p q
 condition_front b (conditions.Absent pos) d p q = todos p
-
-abbrev pub null_fork : ℕ → Todos → Todos → List Becomes
-null_fork d p q = change (actions.Test d) edges.Null 1 (todos p) ∷ change (actions.Test d) edges.NonNull 1 (todos q) ∷ []
-
-abbrev pub bool_fork : ℕ → Todos → Todos → List Becomes
-bool_fork d p q = change (actions.Test d) edges.True 1 (todos p) ∷ change (actions.Test d) edges.False 1 (todos q) ∷ []

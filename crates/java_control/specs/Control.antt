@@ -1,5 +1,5 @@
 -- The control relation: the steps of what is left of a body to run.
-use Rattle.std.specs.Prelude.{ℕ, Option, Some, None, List, [], ◌∷◌, ◌++◌, map, drop, slice_get}
+use Rattle.std.specs.Prelude.{ℕ, Option, Some, None, List, [], ◌∷◌, ◌++◌, map}
 use Rattle.program_model.specs.declared.kinds.BodyId.{BodyId}
 use Rattle.program_model.specs.declared.kinds.ExprId.{ExprId}
 use Rattle.program_model.specs.declared.kinds.StmtId.{StmtId}
@@ -14,58 +14,54 @@ use Rattle.java_control.specs.declared.action.Action.TheVariants as actions
 use Rattle.java_control.specs.declared.action.Edge.{Edge}
 use Rattle.java_control.specs.declared.action.Edge.TheVariants as edges
 use Rattle.java_control.specs.declared.action.Completion.TheVariants as completions
-use Rattle.java_control.specs.Conditions.{condition_front, null_fork, bool_fork}
+use Rattle.java_control.specs.Conditions.{condition_front}
 use Rattle.java_control.specs.Expressions.{expression_front}
 use Rattle.java_control.specs.Statements.{statement_front, for_turn, loop_turn, close_front, body_front}
-use Rattle.java_control.specs.Exceptions.{action_becomes}
-use Rattle.java_control.specs.Completions.{completion_becomes}
-use Rattle.java_control.specs.Remaining.{Todo, Do, Ev, Act, Cond, NullFork, BoolFork, LoopEnd, For, Leave, Catch, Fin, Close, Finish, Supp, Out, Ended, Becomes, change, gives, place_of}
+use Rattle.java_control.specs.Exceptions.{action_ways}
+use Rattle.java_control.specs.Completions.{ends, out}
+use Rattle.java_control.specs.Remaining.{Todo, Do, Ev, Act, Cond, NullFork, BoolFork, LoopEnd, For, Leave, Catch, Fin, Close, Finish, Supp, Out, Ended, Way, way, skip, todos, place_of}
 
 -- a number that names no statement or expression gives nothing
-abbrev pub statement_becomes : Body → StmtId → ℕ → Option TStmt → List Becomes
-statement_becomes b s d None = []
-statement_becomes b s d (Some x) = gives (statement_front b s x d)
+abbrev pub statement_ways : Body → StmtId → ℕ → Option TStmt → List Todo → List Way
+statement_ways b s d None k = []
+statement_ways b s d (Some x) k = skip (statement_front x.kind b s d x.pos ++ k)
 
-abbrev pub loop_becomes : Body → StmtId → ℕ → Option TStmt → List Becomes
-loop_becomes b s d None = []
-loop_becomes b s d (Some x) = gives (loop_turn b s x d)
+abbrev pub expression_ways : Program → Body → ExprId → ℕ → Option TExpr → List Todo → List Way
+expression_ways p b e d None k = []
+expression_ways p b e d (Some x) k = skip (expression_front x.kind p b e x.vtype d x.pos ++ k)
 
-abbrev pub for_becomes : StmtId → ℕ → Option TStmt → List Becomes
-for_becomes s d None = []
-for_becomes s d (Some x) = gives (for_turn s x d)
+abbrev pub loop_ways : Body → StmtId → ℕ → Option TStmt → List Todo → List Way
+loop_ways b w d None k = []
+loop_ways b w d (Some x) k = skip (loop_turn x.kind b w d ++ k)
 
-abbrev pub expression_becomes : Program → Body → ExprId → ℕ → Option TExpr → List Becomes
-expression_becomes p b e d None = []
-expression_becomes p b e d (Some x) = gives (expression_front p b e x d)
+abbrev pub for_ways : StmtId → ℕ → Option TStmt → List Todo → List Way
+for_ways w d None k = []
+for_ways w d (Some x) k = skip (for_turn x.kind w d x.pos ++ k)
 
--- a body that is fallen off ends like a `return` at its closing brace
-abbrev pub falls_off : Body → List Becomes
-falls_off b = change (actions.End (completions.Return b.end)) edges.Go 0 (Ended ∷ []) ∷ []
-
--- what the first items become, by the first and the second one
-abbrev pub becomes : Program → Body → Option Todo → Option Todo → List Becomes
-becomes p b None second = falls_off b
-becomes p b (Some (Do s d)) second = statement_becomes b s d (statement_at b s)
-becomes p b (Some (Ev e d)) second = expression_becomes p b e d (expression_at b e)
-becomes p b (Some (Act a pos)) second = action_becomes p a pos
-becomes p b (Some (Cond c d x y)) second = gives (condition_front b c d x y)
-becomes p b (Some (NullFork pos d x y)) second = null_fork d x y
-becomes p b (Some (BoolFork pos d x y)) second = bool_fork d x y
-becomes p b (Some (LoopEnd w d)) second = loop_becomes b w d (statement_at b w)
-becomes p b (Some (For w d)) second = for_becomes w d (statement_at b w)
-becomes p b (Some (Leave x pos)) second = change (actions.Drop x) edges.Go 1 [] ∷ []
-becomes p b (Some (Catch s d)) second = gives []
-becomes p b (Some (Fin f d)) second = gives (Do f d ∷ [])
-becomes p b (Some (Close r d)) second = gives (close_front r d)
-becomes p b (Some (Finish c d f)) second = gives (Out c ∷ [])
-becomes p b (Some (Supp c d s)) second = gives (Out c ∷ [])
-becomes p b (Some (Out c)) second = completion_becomes p b c second
-becomes p b (Some Ended) second = []
+-- what the first items of a control become, where `k` stands behind the first one
+abbrev pub ways : Program → Body → List Todo → List Way
+ways p b [] = ends (completions.Return b.end)
+ways p b (Do s d ∷ k) = statement_ways b s d (statement_at b s) k
+ways p b (Ev e d ∷ k) = expression_ways p b e d (expression_at b e) k
+ways p b (Act a pos ∷ k) = action_ways p a pos k
+ways p b (Cond c d x y ∷ k) = skip (condition_front b c d x y ++ k)
+ways p b (NullFork pos d x y ∷ k) = way (actions.Test d) edges.Null (todos x ++ k) ∷ way (actions.Test d) edges.NonNull (todos y ++ k) ∷ []
+ways p b (BoolFork pos d x y ∷ k) = way (actions.Test d) edges.True (todos x ++ k) ∷ way (actions.Test d) edges.False (todos y ++ k) ∷ []
+ways p b (LoopEnd w d ∷ k) = loop_ways b w d (statement_at b w) k
+ways p b (For w d ∷ k) = for_ways w d (statement_at b w) k
+ways p b (Leave x pos ∷ k) = way (actions.Drop x) edges.Go k ∷ []
+ways p b (Catch s d ∷ k) = skip k
+ways p b (Fin f d ∷ k) = skip (Do f d ∷ k)
+ways p b (Close r d ∷ k) = skip (close_front r d ++ k)
+ways p b (Finish c d f ∷ k) = skip (Out c ∷ k)
+ways p b (Supp c d s ∷ k) = skip (Out c ∷ k)
+ways p b (Out c ∷ k) = out p b c k
+ways p b (Ended ∷ k) = []
 
 -- the place of a control: that of its first item, and that of the body's end where nothing is left
-abbrev pub control_place : Body → Option Todo → Pos
-control_place b None = b.end
-control_place b (Some x) = place_of b x
+abbrev pub control_place : Body → List Todo → Pos
+control_place b [] = b.end
+control_place b (x ∷ k) = place_of b x
 
 -- a step: what it does, the way that it goes, what is left then, and its place
 pub record Step : Type 0 where
@@ -74,11 +70,11 @@ pub record Step : Type 0 where
   pub to : List Todo
   pub pos : Pos
 
-abbrev pub step_of : Pos → List Todo → Becomes → Step
-step_of pos control x = record { action = x.action; edge = x.edge; to = x.front ++ drop x.uses control; pos = pos }
+abbrev pub step_at : Pos → Way → Step
+step_at pos x = record { action = x.action; edge = x.edge; to = x.to; pos = pos }
 
 abbrev pub steps_of : Program → Body → List Todo → List Step
-steps_of p b control = map (step_of (control_place b (slice_get control 0)) control) (becomes p b (slice_get control 0) (slice_get control 1))
+steps_of p b control = map (step_at (control_place b control)) (ways p b control)
 
 abbrev pub steps_in : Program → Option Body → List Todo → List Step
 steps_in p None control = []

@@ -24,7 +24,7 @@ use Rattle.java_control.specs.declared.action.Edge.TheVariants as edges
 use Rattle.java_control.specs.declared.action.Operator.{Operator}
 use Rattle.java_control.specs.declared.action.Operator.TheVariants as operators
 use Rattle.java_control.specs.declared.action.Scope.TheVariants as scopes
-use Rattle.java_control.specs.Remaining.{Do, Leave, Out, Becomes, change, statement_place}
+use Rattle.java_control.specs.Remaining.{Todo, Do, Leave, Out, Way, way, skip, statement_place}
 
 -- classes with one more, each once and at its first place
 abbrev pub with_class : List ClassId → ClassId → List ClassId
@@ -139,15 +139,16 @@ exception_depth (actions.Raise d c) = d
 exception_depth _ = 0
 
 -- a `throw` never goes on
-abbrev pub goes_on : Action → List Becomes
-goes_on (actions.Raise d c) = []
-goes_on a = change a edges.Go 1 [] ∷ []
+abbrev pub goes_on : Action → List Todo → List Way
+goes_on (actions.Raise d c) k = []
+goes_on a k = way a edges.Go k ∷ []
 
-abbrev pub throws : Action → Pos → ClassId → Becomes
-throws a pos c = change a (edges.Throws c) 1 (Out (completions.Throw (exception_depth a) c pos) ∷ [])
+abbrev pub throws : Action → Pos → List Todo → ClassId → Way
+throws a pos k c = way a (edges.Throws c) (Out (completions.Throw (exception_depth a) c pos) ∷ k)
 
-abbrev pub action_becomes : Program → Action → Pos → List Becomes
-action_becomes p a pos = goes_on a ++ map (throws a pos) (exceptions_of p a)
+-- an action goes on with what stands behind it, or throws
+abbrev pub action_ways : Program → Action → Pos → List Todo → List Way
+action_ways p a pos k = goes_on a k ++ map (throws a pos k) (exceptions_of p a)
 
 -- each exception of class `t` is taken by the clause
 abbrev pub takes_wholly : Program → ClassId → CatchClause → Bool
@@ -163,23 +164,19 @@ may_take p t clause = takes_wholly p t clause || takes_some p t clause
 abbrev pub clause_at : StmtId → ℕ → ClauseId
 clause_at s i = record { statement = s; index = i }
 
--- the step into clause number `i` of the statement `s`
-abbrev pub enters : Body → StmtId → ℕ → ℕ → ℕ → CatchClause → Becomes
-enters body s i b d clause =
-    change (actions.Enter (clause_at s i) clause.variable b d) edges.Go 2
-    (Do clause.block b ∷ Leave (scopes.Variable clause.variable) (statement_place body clause.block) ∷ [])
-
--- an exception that no clause takes wholly goes on
-abbrev pub passes : ℕ → ClassId → Pos → Becomes
-passes d t pos = change actions.Skip edges.Go 2 (Out (completions.Throw d t pos) ∷ [])
+-- the way into clause number `i` of the statement `s`
+abbrev pub enters : Body → StmtId → ℕ → ℕ → ℕ → CatchClause → List Todo → Way
+enters body s i b d clause k =
+    way (actions.Enter (clause_at s i) clause.variable b d) edges.Go
+    (Do clause.block b ∷ Leave (scopes.Variable clause.variable) (statement_place body clause.block) ∷ k)
 
 -- an exception of class `t` meets the catch clauses of the statement `s` from number `i` on: it may enter each that may take
--- it, up to the first that takes it wholly
-abbrev pub caught : Program → Body → StmtId → ℕ → List CatchClause → ℕ → ℕ → ClassId → Pos → List Becomes
-caught p body s i [] b d t pos = passes d t pos ∷ []
-caught p body s i (x ∷ xs) b d t pos =
-    if takes_wholly p t x then enters body s i b d x ∷ []
-    else (if may_take p t x then enters body s i b d x ∷ caught p body s (i + 1) xs b d t pos else caught p body s (i + 1) xs b d t pos)
+-- it, up to the first that takes it wholly, and goes on where none does
+abbrev pub caught : Program → Body → StmtId → ℕ → List CatchClause → ℕ → ℕ → ClassId → Pos → List Todo → List Way
+caught p body s i [] b d t pos k = skip (Out (completions.Throw d t pos) ∷ k)
+caught p body s i (x ∷ xs) b d t pos k =
+    if takes_wholly p t x then enters body s i b d x k ∷ []
+    else (if may_take p t x then enters body s i b d x k ∷ caught p body s (i + 1) xs b d t pos k else caught p body s (i + 1) xs b d t pos k)
 
 abbrev pub clauses_of_kind : StatementKind → List CatchClause
 clauses_of_kind (statements.Try t) = t.catches.items

@@ -5,11 +5,16 @@ use Rattle.program_model.specs.declared.kinds.ExprId.{ExprId}
 use Rattle.program_model.specs.declared.kinds.FieldId.{FieldId}
 use Rattle.program_model.specs.declared.kinds.MethodId.{MethodId}
 use Rattle.program_model.specs.declared.kinds.Literal.TheVariants as literals
+use Rattle.program_model.specs.declared.kinds.UnaryOperator.{UnaryOperator}
+use Rattle.program_model.specs.declared.kinds.UnaryOperator.TheVariants as unary
+use Rattle.program_model.specs.declared.kinds.BinaryOperator.{BinaryOperator}
+use Rattle.program_model.specs.declared.kinds.BinaryOperator.TheVariants as binary
 use Rattle.program_model.specs.declared.kinds.VType.{VType}
 use Rattle.program_model.specs.declared.kinds.VType.TheVariants as types
 use Rattle.program_model.specs.declared.program.Program.{Program}
 use Rattle.program_model.specs.declared.tree.Body.{Body}
 use Rattle.program_model.specs.declared.tree.TExpr.{TExpr}
+use Rattle.program_model.specs.declared.tree.BinaryExpression.{BinaryExpression}
 use Rattle.program_model.specs.declared.tree.CallTarget.{CallTarget}
 use Rattle.program_model.specs.declared.tree.CallTarget.TheVariants as calls
 use Rattle.program_model.specs.declared.tree.CallExpression.{CallExpression}
@@ -29,10 +34,8 @@ use Rattle.java_control.specs.declared.action.Operator.TheVariants as operators
 use Rattle.java_control.specs.declared.action.Scope.TheVariants as scopes
 use Rattle.java_control.specs.declared.action.TargetForm.TheVariants as forms
 use Rattle.java_control.specs.declared.item.Condition.TheVariants as conditions
-use Rattle.java_control.specs.declared.shape.Shape.{Shape}
-use Rattle.java_control.specs.declared.shape.Shape.TheVariants as shapes
 use Rattle.java_control.specs.Owned.{is_this, has_place, place_of_field}
-use Rattle.java_control.specs.Shapes.{shape_of}
+use Rattle.java_control.specs.NullTests.{compared_with_null}
 use Rattle.java_control.specs.Remaining.{Todo, Ev, Act, Cond, one}
 
 -- the type of a node, where it has one
@@ -49,12 +52,13 @@ evaluations (e ∷ es) d = Ev e d ∷ evaluations es (d + 1)
 abbrev pub computes : Operator → List ExprId → ℕ → Pos → List Todo
 computes k es d pos = evaluations es d ++ Act (actions.Op k d (length es)) pos ∷ []
 
--- a literal, or the value of a static field
+-- the value of a field (JLS 15.11.1): a field with a place of its own is read there
 abbrev pub field_read : Program → Body → ExprId → FieldId → ℕ → Pos → List Todo
 field_read p b e f d pos =
     if has_place p b e f then Act (actions.Copy (places.Temp d) (place_of_field p f)) pos ∷ []
     else (Ev e d ∷ Act (actions.Get f d (is_this b e)) pos ∷ [])
 
+-- a store into a field (JLS 15.26.1), likewise
 abbrev pub field_store : Program → Body → ExprId → FieldId → ExprId → ℕ → Pos → List Todo
 field_store p b e f value d pos =
     if has_place p b e f then Ev value d ∷ Act (actions.PutOwn f d) pos ∷ []
@@ -105,29 +109,6 @@ call_front c d pos = call_with c.method c.arguments.items c.target d pos
 abbrev pub new_front : NewObject → ℕ → Pos → List Todo
 new_front n d pos = evaluations n.arguments.items (d + 1) ++ Act (actions.New n.constructor d (length n.arguments.items)) pos ∷ []
 
--- the value of an expression that decides nothing
-abbrev pub value_front : Program → Body → ExpressionKind → Option VType → ℕ → Pos → List Todo
-value_front p b (expressions.Literal l) t d pos = Act (actions.Plain (places.Temp d) (plain.Literal l)) pos ∷ []
-value_front p b (expressions.Local x) t d pos = Act (actions.Copy (places.Temp d) (places.Var x)) pos ∷ []
-value_front p b (expressions.This written) t d pos = Act (actions.Copy (places.Temp d) places.This) pos ∷ []
-value_front p b (expressions.Field e f) t d pos = field_read p b e f d pos
-value_front p b (expressions.StaticField f) t d pos = Act (actions.Plain (places.Temp d) (plain.StaticField f)) pos ∷ []
-value_front p b (expressions.LibraryConstant m) t d pos = Act (actions.Plain (places.Temp d) (plain.LibraryConstant m)) pos ∷ []
-value_front p b (expressions.Unary o e) t d pos = computes (operators.Unary o (type_or_null t)) (e ∷ []) d pos
-value_front p b (expressions.Binary x) t d pos = computes (operators.Binary x.operator x.operands (type_or_null t)) (x.left ∷ x.right ∷ []) d pos
-value_front p b (expressions.Conditional c x y) t d pos = []
-value_front p b (expressions.InstanceOf e tested) t d pos = computes (operators.InstanceOf tested) (e ∷ []) d pos
-value_front p b (expressions.PrimitiveCast e) t d pos = computes (operators.Convert (type_or_null t)) (e ∷ []) d pos
-value_front p b (expressions.ReferenceCast e) t d pos = Ev e d ∷ Act (actions.Cast (type_or_null t) d) pos ∷ []
-value_front p b (expressions.Assignment target value) t d pos = assignment_front p b target value d pos
-value_front p b (expressions.OperatorAssignment a) t d pos = update_front b a t d pos
-value_front p b (expressions.PostfixStep a) t d pos = postfix_front b a t d pos
-value_front p b (expressions.Call c) t d pos = call_front c d pos
-value_front p b (expressions.NewObject n) t d pos = new_front n d pos
-value_front p b (expressions.NewArray e) t d pos = computes (operators.NewArray (type_or_null t)) (e ∷ []) d pos
-value_front p b (expressions.Element a i) t d pos = computes operators.Element (a ∷ i ∷ []) d pos
-value_front p b (expressions.Length a) t d pos = computes operators.Length (a ∷ []) d pos
-
 -- the values of a condition that stands where a value is wanted
 abbrev pub truth : ℕ → Bool → Pos → Todo
 truth d value pos = Act (actions.Plain (places.Temp d) (plain.Literal (literals.Boolean value))) pos
@@ -135,16 +116,44 @@ truth d value pos = Act (actions.Plain (places.Temp d) (plain.Literal (literals.
 abbrev pub tested_front : ExprId → ℕ → Pos → List Todo
 tested_front e d pos = Cond (conditions.Of e) d (one (truth d true pos)) (one (truth d false pos)) ∷ []
 
--- `!`, `&&`, `||` and comparisons with null are taken as conditions; of `? :` the condition decides which value is taken
-abbrev pub shaped_front : Shape → Program → Body → ExprId → TExpr → ℕ → List Todo
-shaped_front (shapes.Negation c) p b e x d = tested_front e d x.pos
-shaped_front (shapes.Conjunction c c') p b e x d = tested_front e d x.pos
-shaped_front (shapes.Disjunction c c') p b e x d = tested_front e d x.pos
-shaped_front (shapes.IsNull c) p b e x d = tested_front e d x.pos
-shaped_front (shapes.IsNotNull c) p b e x d = tested_front e d x.pos
-shaped_front (shapes.Choice c y z) p b e x d = Cond (conditions.Of c) d (one (Ev y d)) (one (Ev z d)) ∷ []
-shaped_front (shapes.Always value) p b e x d = value_front p b x.kind x.vtype d x.pos
-shaped_front shapes.Value p b e x d = value_front p b x.kind x.vtype d x.pos
+abbrev pub unary_front : UnaryOperator → ExprId → ExprId → Option VType → ℕ → Pos → List Todo
+unary_front unary.Not x e t d pos = tested_front e d pos
+unary_front o x e t d pos = computes (operators.Unary o (type_or_null t)) (x ∷ []) d pos
 
-abbrev pub expression_front : Program → Body → ExprId → TExpr → ℕ → List Todo
-expression_front p b e x d = shaped_front (shape_of b e) p b e x d
+abbrev pub binary_value : BinaryExpression → Option VType → ℕ → Pos → List Todo
+binary_value x t d pos = computes (operators.Binary x.operator x.operands (type_or_null t)) (x.left ∷ x.right ∷ []) d pos
+
+abbrev pub comparison_front : Option ExprId → BinaryExpression → ExprId → Option VType → ℕ → Pos → List Todo
+comparison_front (Some y) x e t d pos = tested_front e d pos
+comparison_front None x e t d pos = binary_value x t d pos
+
+-- `&&`, `||` and comparisons with null are taken as conditions
+abbrev pub binary_front : BinaryOperator → BinaryExpression → Body → ExprId → Option VType → ℕ → Pos → List Todo
+binary_front binary.ConditionalAnd x b e t d pos = tested_front e d pos
+binary_front binary.ConditionalOr x b e t d pos = tested_front e d pos
+binary_front binary.Equal x b e t d pos = comparison_front (compared_with_null b x) x e t d pos
+binary_front binary.NotEqual x b e t d pos = comparison_front (compared_with_null b x) x e t d pos
+binary_front _ x b e t d pos = binary_value x t d pos
+
+-- what an expression becomes, by its kind, its number and its type
+abbrev pub expression_front : ExpressionKind → Program → Body → ExprId → Option VType → ℕ → Pos → List Todo
+expression_front (expressions.Literal l) p b e t d pos = Act (actions.Plain (places.Temp d) (plain.Literal l)) pos ∷ []
+expression_front (expressions.Local x) p b e t d pos = Act (actions.Copy (places.Temp d) (places.Var x)) pos ∷ []
+expression_front (expressions.This written) p b e t d pos = Act (actions.Copy (places.Temp d) places.This) pos ∷ []
+expression_front (expressions.Field x f) p b e t d pos = field_read p b x f d pos
+expression_front (expressions.StaticField f) p b e t d pos = Act (actions.Plain (places.Temp d) (plain.StaticField f)) pos ∷ []
+expression_front (expressions.LibraryConstant m) p b e t d pos = Act (actions.Plain (places.Temp d) (plain.LibraryConstant m)) pos ∷ []
+expression_front (expressions.Unary o x) p b e t d pos = unary_front o x e t d pos
+expression_front (expressions.Binary x) p b e t d pos = binary_front x.operator x b e t d pos
+expression_front (expressions.Conditional c x y) p b e t d pos = Cond (conditions.Of c) d (one (Ev x d)) (one (Ev y d)) ∷ []
+expression_front (expressions.InstanceOf x tested) p b e t d pos = computes (operators.InstanceOf tested) (x ∷ []) d pos
+expression_front (expressions.PrimitiveCast x) p b e t d pos = computes (operators.Convert (type_or_null t)) (x ∷ []) d pos
+expression_front (expressions.ReferenceCast x) p b e t d pos = Ev x d ∷ Act (actions.Cast (type_or_null t) d) pos ∷ []
+expression_front (expressions.Assignment target value) p b e t d pos = assignment_front p b target value d pos
+expression_front (expressions.OperatorAssignment a) p b e t d pos = update_front b a t d pos
+expression_front (expressions.PostfixStep a) p b e t d pos = postfix_front b a t d pos
+expression_front (expressions.Call c) p b e t d pos = call_front c d pos
+expression_front (expressions.NewObject n) p b e t d pos = new_front n d pos
+expression_front (expressions.NewArray x) p b e t d pos = computes (operators.NewArray (type_or_null t)) (x ∷ []) d pos
+expression_front (expressions.Element a i) p b e t d pos = computes operators.Element (a ∷ i ∷ []) d pos
+expression_front (expressions.Length a) p b e t d pos = computes operators.Length (a ∷ []) d pos

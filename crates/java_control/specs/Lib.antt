@@ -2,7 +2,7 @@ pub mod PlaceNumbers
 pub mod Places
 pub mod Remaining
 pub mod Owned
-pub mod Shapes
+pub mod NullTests
 pub mod Conditions
 pub mod Expressions
 pub mod Statements
@@ -15,3 +15,4 @@ pub mod Completions
 pub mod Control
 pub mod Tables
 pub mod Changes
+pub mod Becoming

@@ -53,20 +53,18 @@ one x = cons x nil
 abbrev pub two : Todo → Todo → Todos
 two x y = cons x (cons y nil)
 
--- what one step makes of the first items: it takes the action, goes by the edge, and `front` stands in place of `uses`
--- of them
-pub record Becomes : Type 0 where
+-- one way of a step: it takes the action, goes by the edge, and `to` is left then
+pub record Way : Type 0 where
   pub action : Action
   pub edge : Edge
-  pub uses : ℕ
-  pub front : List Todo
+  pub to : List Todo
 
-abbrev pub change : Action → Edge → ℕ → List Todo → Becomes
-change a e uses front = record { action = a; edge = e; uses = uses; front = front }
+abbrev pub way : Action → Edge → List Todo → Way
+way a e to = record { action = a; edge = e; to = to }
 
--- the one way of an item that does nothing but give way to others
-abbrev pub gives : List Todo → List Becomes
-gives front = change actions.Skip edges.Go 1 front ∷ []
+-- the one way of a line that names no action
+abbrev pub skip : List Todo → List Way
+skip to = way actions.Skip edges.Go to ∷ []
 
 -- no place
 abbrev pub nowhere : Pos

@@ -1,5 +1,5 @@
 -- From which place each place of a frame takes its value in a step.
-use Rattle.std.specs.Prelude.{ℕ, ◌+◌, min, max, Bool, true, false, nat_lt, nat_le, ◌&&◌, nat_eq, Option, Some, None, if◌then◌else◌}
+use Rattle.std.specs.Prelude.{ℕ, ◌+◌, min, max, Bool, true, false, nat_lt, nat_le, ◌&&◌, ◌||◌, nat_eq, Option, Some, None, if◌then◌else◌}
 use Rattle.program_model.specs.declared.program.Program.{Program}
 use Rattle.program_model.specs.declared.tree.Body.{Body}
 use Rattle.program_model.specs.SuperTests.{is_class}
@@ -9,7 +9,7 @@ use Rattle.java_control.specs.declared.action.Edge.{Edge}
 use Rattle.java_control.specs.declared.action.Edge.TheVariants as edges
 use Rattle.java_control.specs.declared.place.Place.{Place}
 use Rattle.java_control.specs.declared.place.Place.TheVariants as places
-use Rattle.java_control.specs.Calls.{completion_temp}
+use Rattle.java_control.specs.Calls.{completion_temp, is_reset_of_this}
 use Rattle.java_control.specs.Owned.{place_of_field}
 use Rattle.java_control.specs.Scopes.{is_dropped}
 
@@ -74,7 +74,7 @@ is_null_pointer p _ = false
 abbrev pub next_depth : ℕ → ℕ
 next_depth d = min (d + 1) 4294967295
 
--- `Put` leaves the stored value in t(d), where it goes on
+-- `Put` leaves the stored value in t(d), where it goes on. Of its edges all but throws are its going on: a step has no others
 abbrev pub put_source : ℕ → Edge → Place → Option Place
 put_source d (edges.Throws t) q = emptied (is_temp_among d 2 q) q
 put_source d _ q = if is_temp d q then Some (places.Temp (next_depth d)) else emptied (is_temp (next_depth d) q) q
@@ -91,11 +91,26 @@ move_source x y q = if is_place y q then None else source_or_itself (is_place x 
 abbrev pub settle_source : ℕ → Option ℕ → Place → Option Place
 settle_source b value q = if is_temp b q then temp_of value else emptied (is_temp_from b q) q
 
+-- the variable of a catch clause takes the exception. It is in scope nowhere else (JLS 6.3), so it holds nothing before, and a
+-- law over steps has that as its premise
 abbrev pub enter_source : ℕ → ℕ → ℕ → Place → Option Place
 enter_source x b d q = if is_variable x q then Some (places.Temp d) else emptied (is_temp_from b q) q
 
+-- the place is an owning field of `this`, or the part of the super class
+abbrev pub is_part : Place → Bool
+is_part (places.Field k) = true
+is_part places.Super = true
+is_part _ = false
+
+-- a call takes the `n` temps from `d` on, and gives t(d). Where it creates the obligation of `this` anew, it may store into the
+-- owning fields of `this`, whether it ends normally or by an exception
+abbrev pub call_source : Bool → ℕ → ℕ → Place → Option Place
+call_source resets d n q = emptied (is_temp_among d (max n 1) q || resets && is_part q) q
+
 -- the place whose value the place `q` has after the step, by the action and its edge. None: it holds nothing, or a value
--- that the action makes, as a result or an exception
+-- that the action makes, as a result or an exception. The result of a call has no source also where it is an alias of an
+-- operand's resource: it may be another object. Where the static class of a `throw` is NullPointerException itself, its one edge
+-- may as well carry the object in t(d): so what has no source and is an object is new only in a class with obligations
 abbrev pub source : Program → Body → Action → Edge → Place → Option Place
 source p b actions.Skip e q = Some q
 source p b (actions.Copy x y) e q = source_or_itself (is_place x q) y q
@@ -110,7 +125,7 @@ source p b (actions.Get f d through_this) e q = emptied (is_temp d q) q
 source p b (actions.Put f d through_this) e q = put_source d e q
 source p b (actions.Cast t d) e q = emptied (is_throws e && is_temp d q) q
 source p b (actions.PutOwn f d) e q = source_or_itself (is_place (place_of_field p f) q) (places.Temp d) q
-source p b (actions.Call m d n form) e q = emptied (is_temp_among d (max n 1) q) q
+source p b (actions.Call m d n form) e q = call_source (is_reset_of_this p (actions.Call m d n form)) d n q
 source p b (actions.New m d n) e q = emptied (is_temp_among d (n + 1) q) q
 source p b (actions.Super m d n) e q = emptied (is_temp_among d (max n 1) q) q
 source p b (actions.Raise d c) e q = emptied (is_null_pointer p e && is_temp d q) q

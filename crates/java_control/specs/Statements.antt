@@ -12,7 +12,6 @@ use Rattle.program_model.specs.declared.tree.Resource.{Resource}
 use Rattle.program_model.specs.declared.tree.CatchClause.{CatchClause}
 use Rattle.program_model.specs.declared.tree.TryStatement.{TryStatement}
 use Rattle.program_model.specs.declared.tree.SuperCall.{SuperCall}
-use Rattle.program_model.specs.declared.tree.ForLoop.{ForLoop}
 use Rattle.program_model.specs.declared.tree.ForInitial.{ForInitial}
 use Rattle.program_model.specs.declared.tree.ForInitial.TheVariants as initials
 use Rattle.program_model.specs.declared.tree.StatementKind.{StatementKind}
@@ -28,14 +27,8 @@ use Rattle.java_control.specs.declared.action.Scope.TheVariants as scopes
 use Rattle.java_control.specs.declared.item.Closing.{Closing}
 use Rattle.java_control.specs.declared.item.Condition.{Condition}
 use Rattle.java_control.specs.declared.item.Condition.TheVariants as conditions
-use Rattle.java_control.specs.declared.shape.Decision.{Decision}
-use Rattle.java_control.specs.declared.shape.Decision.TheVariants as decisions
 use Rattle.java_control.specs.Expressions.{type_or_null, evaluations}
 use Rattle.java_control.specs.Remaining.{Todo, Todos, nil, Do, Ev, Act, Cond, NullFork, LoopEnd, For, Leave, Catch, Fin, Close, Out, one, two, cons, expression_place}
-
--- a block's end empties the variables that it declares directly (JLS 6.3)
-abbrev pub block_front : StmtId → List StmtId → ℕ → Pos → List Todo
-block_front s ss d pos = map (λ x. Do x d) ss ++ Leave (scopes.Declared s) pos ∷ []
 
 -- a variable without an initialiser begins with its type's default value
 abbrev pub declarator_with : Body → ℕ → Option ExprId → ℕ → Pos → List Todo
@@ -59,9 +52,6 @@ head_front b d es = flat_map (λ e. expression_statement e d (expression_place b
 abbrev pub initial_front : Body → ℕ → ForInitial → List Todo
 initial_front b d (initials.Declaration names) = declaration_front b d names.items
 initial_front b d (initials.Expressions es) = head_front b d es.items
-
-abbrev pub for_front : Body → StmtId → ForLoop → ℕ → Pos → List Todo
-for_front b s l d pos = initial_front b d l.initial ++ For s d ∷ Leave (scopes.Declared s) pos ∷ []
 
 abbrev pub list_of_branch : Option StmtId → ℕ → Todos
 list_of_branch None d = nil
@@ -105,38 +95,27 @@ super_front c d pos =
     Act (actions.Copy (places.Temp d) places.This) pos ∷ evaluations c.arguments.items (d + 1)
     ++ Act (actions.Super c.constructor d (length c.arguments.items + 1)) pos ∷ Act (actions.Drop (scopes.Temp d)) pos ∷ []
 
--- what a statement asks of a condition before all else (JLS 14.9, 14.12)
-abbrev pub decision_of : StatementKind → StmtId → Decision
-decision_of (statements.If c x y) s = decisions.Branch (conditions.Of c) x y
-decision_of (statements.While c x) s = decisions.Loop (conditions.Of c) x s
-decision_of _ s = decisions.Straight
+-- the body of a loop runs where its condition is true, and the end of its turn follows
+abbrev pub turn_front : Condition → StmtId → StmtId → ℕ → List Todo
+turn_front c x w d = Cond c d (two (Do x d) (LoopEnd w d)) nil ∷ []
 
--- a loop's body is followed by the end of its turn
-abbrev pub decided : Decision → ℕ → List Todo → List Todo
-decided (decisions.Branch c x y) d front = Cond c d (one (Do x d)) (list_of_branch y d) ∷ []
-decided (decisions.Loop c x w) d front = Cond c d (two (Do x d) (LoopEnd w d)) nil ∷ []
-decided decisions.Straight d front = front
-
--- a statement that decides nothing
-abbrev pub straight_front : StatementKind → Body → StmtId → ℕ → Pos → List Todo
-straight_front (statements.Block ss end) b s d pos = block_front s ss.items d pos
-straight_front statements.Empty b s d pos = []
-straight_front (statements.LocalDeclaration names) b s d pos = declaration_front b d names.items
-straight_front (statements.Expression e) b s d pos = expression_statement e d pos
-straight_front (statements.If c x y) b s d pos = []
-straight_front (statements.While c x) b s d pos = []
-straight_front (statements.Do x c) b s d pos = Do x d ∷ LoopEnd s d ∷ []
-straight_front (statements.For l) b s d pos = for_front b s l d pos
-straight_front (statements.Return e) b s d pos = return_front e d pos
-straight_front (statements.Throw e) b s d pos = Ev e d ∷ Act (actions.Raise d (class_of_type (type_at b e))) pos ∷ []
-straight_front statements.Break b s d pos = Out (completions.Break pos) ∷ []
-straight_front statements.Continue b s d pos = Out (completions.Continue pos) ∷ []
-straight_front (statements.Try t) b s d pos = try_front s t d
-straight_front (statements.SuperCall c) b s d pos = super_front c d pos
-straight_front (statements.FieldInitializer e) b s d pos = expression_statement e d pos
-
-abbrev pub statement_front : Body → StmtId → TStmt → ℕ → List Todo
-statement_front b s x d = decided (decision_of x.kind s) d (straight_front x.kind b s d x.pos)
+-- what a statement becomes. A block's end empties the variables that it declares directly (JLS 6.3)
+abbrev pub statement_front : StatementKind → Body → StmtId → ℕ → Pos → List Todo
+statement_front (statements.Block ss end) b s d pos = map (λ x. Do x d) ss.items ++ Leave (scopes.Declared s) pos ∷ []
+statement_front statements.Empty b s d pos = []
+statement_front (statements.LocalDeclaration names) b s d pos = declaration_front b d names.items
+statement_front (statements.Expression e) b s d pos = expression_statement e d pos
+statement_front (statements.If c x y) b s d pos = Cond (conditions.Of c) d (one (Do x d)) (list_of_branch y d) ∷ []
+statement_front (statements.While c x) b s d pos = turn_front (conditions.Of c) x s d
+statement_front (statements.Do x c) b s d pos = Do x d ∷ LoopEnd s d ∷ []
+statement_front (statements.For l) b s d pos = initial_front b d l.initial ++ For s d ∷ Leave (scopes.Declared s) pos ∷ []
+statement_front (statements.Return e) b s d pos = return_front e d pos
+statement_front (statements.Throw e) b s d pos = Ev e d ∷ Act (actions.Raise d (class_of_type (type_at b e))) pos ∷ []
+statement_front statements.Break b s d pos = Out (completions.Break pos) ∷ []
+statement_front statements.Continue b s d pos = Out (completions.Continue pos) ∷ []
+statement_front (statements.Try t) b s d pos = try_front s t d
+statement_front (statements.SuperCall c) b s d pos = super_front c d pos
+statement_front (statements.FieldInitializer e) b s d pos = expression_statement e d pos
 
 -- an absent condition has the place of the `for`
 abbrev pub for_condition : Option ExprId → Pos → Condition
@@ -144,26 +123,16 @@ for_condition None pos = conditions.Absent pos
 for_condition (Some e) pos = conditions.Of e
 
 -- one more turn of a `for` whose first part is done (JLS 14.14.1.2)
-abbrev pub for_decision : StatementKind → StmtId → Pos → Decision
-for_decision (statements.For l) s pos = decisions.Loop (for_condition l.condition pos) l.body s
-for_decision _ s pos = decisions.Straight
+abbrev pub for_turn : StatementKind → StmtId → ℕ → Pos → List Todo
+for_turn (statements.For l) w d pos = turn_front (for_condition l.condition pos) l.body w d
+for_turn _ w d pos = []
 
-abbrev pub for_turn : StmtId → TStmt → ℕ → List Todo
-for_turn s x d = decided (for_decision x.kind s x.pos) d []
-
--- the end of a turn of a `do` asks its condition (JLS 14.13)
-abbrev pub turn_decision : StatementKind → StmtId → Decision
-turn_decision (statements.Do x c) s = decisions.Branch (conditions.Of c) s None
-turn_decision _ s = decisions.Straight
-
--- the end of a turn of a `while` or a `for` begins the next one
-abbrev pub straight_turn : StatementKind → Body → StmtId → ℕ → List Todo
-straight_turn (statements.While c x) b s d = Do s d ∷ []
-straight_turn (statements.For l) b s d = head_front b d l.updates.items ++ For s d ∷ []
-straight_turn _ b s d = []
-
-abbrev pub loop_turn : Body → StmtId → TStmt → ℕ → List Todo
-loop_turn b s x d = decided (turn_decision x.kind s) d (straight_turn x.kind b s d)
+-- the end of a loop's turn: a `while` begins again, a `do` asks its condition (JLS 14.13), and a `for` runs its updates
+abbrev pub loop_turn : StatementKind → Body → StmtId → ℕ → List Todo
+loop_turn (statements.While c x) b w d = Do w d ∷ []
+loop_turn (statements.Do x c) b w d = Cond (conditions.Of c) d (one (Do w d)) nil ∷ []
+loop_turn (statements.For l) b w d = head_front b d l.updates.items ++ For w d ∷ []
+loop_turn _ b w d = []
 
 -- a resource that is not null is closed
 abbrev pub close_fork : Closing → ℕ → Todo

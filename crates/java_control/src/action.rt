@@ -20,7 +20,7 @@ pub enum Completion {
 }
 
 /// The way by which a step goes on.
-#[derive(Clone, Copy, PartialEq, Eq, Hash)]
+#[derive(Clone, Copy, PartialEq, Eq)]
 pub enum Edge {
     Go,
     /// The tested value is null.
@@ -33,14 +33,14 @@ pub enum Edge {
 }
 
 /// A catch clause: its `try` statement, and how many clauses of the statement stand before it.
-#[derive(Clone, Copy, PartialEq, Eq, Hash)]
+#[derive(Clone, Copy, PartialEq, Eq)]
 pub struct ClauseId {
     pub statement: StmtId,
     pub index: usize,
 }
 
 /// Places that are emptied together.
-#[derive(Clone, Copy, PartialEq, Eq, Hash)]
+#[derive(Clone, Copy, PartialEq, Eq)]
 pub enum Scope {
     /// The variables that this block, or the head of this `for` statement, declares directly (JLS 6.3); none for another
     /// statement.
@@ -54,7 +54,7 @@ pub enum Scope {
 }
 
 /// A value without an object.
-#[derive(Clone, Copy, PartialEq, Eq, Hash)]
+#[derive(Clone, Copy, PartialEq, Eq)]
 pub enum PlainValue {
     Literal(Literal),
     /// The value that a variable of this type begins with (JLS 4.12.5): 0, false or null.
@@ -66,7 +66,7 @@ pub enum PlainValue {
 }
 
 /// What an `Op` computes from its operands.
-#[derive(Clone, Copy, PartialEq, Eq, Hash)]
+#[derive(Clone, Copy, PartialEq, Eq)]
 pub enum Operator {
     /// The operand promoted to the type, with the operator applied; never `!`.
     Unary(UnaryOperator, VType),
@@ -88,7 +88,7 @@ pub enum Operator {
 }
 
 /// The form in which the target of a call stands.
-#[derive(Clone, Copy, PartialEq, Eq, Hash)]
+#[derive(Clone, Copy, PartialEq, Eq)]
 pub enum TargetForm {
     /// No target: a static method, a `new` or a super call.
     Static,
@@ -102,7 +102,7 @@ pub enum TargetForm {
 
 /// What a step does. `Temp(d)`, the temp of depth d, is written t(d). In a call without a target the operand of position
 /// k is t(d + k - 1), and in every other call, `New` and `Super` it is t(d + k), with the receiver at position 0.
-#[derive(Clone, Copy, PartialEq, Eq, Hash)]
+#[derive(Clone, Copy, PartialEq, Eq)]
 pub enum Action {
     Skip,
     /// The first place takes the value of the second.
@@ -136,8 +136,8 @@ pub enum Action {
     Call(MethodId, u32, u32, TargetForm),
     /// Constructor, d, number of operands: makes an object with the operands from t(d + 1) on. The object is in t(d).
     New(MethodId, u32, u32),
-    /// Constructor, d, number of operands: calls a constructor of the super class on `this`, in t(d), with the operands
-    /// behind it.
+    /// Constructor, d, number of operands with `this` among them: calls a constructor of the super class on `this`, in
+    /// t(d), with the other operands behind it.
     Super(MethodId, u32, u32),
     /// Throws the object in t(d), known by its static class, where it has one.
     Raise(u32, Option<ClassId>),

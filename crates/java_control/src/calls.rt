@@ -1,10 +1,11 @@
 //! What an action calls: the method, the form of its target, and where its operands stand.
 
 ghost use Rattle.std.specs.Prelude.{◌≡◌, ◌≤◌};
-ghost use Rattle.java_control.specs.Calls.{call_operand, called_method, completion_temp, new_operand, operand_at, target_form, temp_at, without_receiver};
+ghost use Rattle.program_model.specs.Lookups.{method_at};
+ghost use Rattle.java_control.specs.Calls.{call_operand, called_method, completion_temp, is_reset_of_this, is_this_form, new_operand, operand_at, resets_receiver, target_form, temp_at, without_receiver};
 
 use crate::action::{Action, Completion, TargetForm};
-use program_model::MethodId;
+use program_model::{MethodId, Program};
 
 /// The method or constructor that the action calls (JLS 15.12, 15.9, 8.8.7.1). None for an action that calls nothing.
 pub fn called_method(action: Action) -> Option<MethodId>
@@ -19,7 +20,8 @@ pub fn called_method(action: Action) -> Option<MethodId>
 }
 
 /// The form in which the target of a call stands. A `new` and a call of the super class's constructor have no target, and so
-/// the form of a static call. None for an action that calls nothing.
+/// the form of a static call, though their operands stand elsewhere: `operand_at` says where. None for an action that calls
+/// nothing.
 pub fn target_form(action: Action) -> Option<TargetForm>
     ensures { result ≡ target_form action }
 {
@@ -28,6 +30,40 @@ pub fn target_form(action: Action) -> Option<TargetForm>
         Action::New(_, _, _) => Some(TargetForm::Static),
         Action::Super(_, _, _) => Some(TargetForm::Static),
         _ => None,
+    }
+}
+
+fn is_this_form(form: TargetForm) -> bool
+    ensures { result ≡ is_this_form form }
+{
+    match form {
+        TargetForm::Static => false,
+        TargetForm::This => true,
+        TargetForm::Super => true,
+        TargetForm::Other => false,
+    }
+}
+
+fn resets_receiver(p: &Program, method: MethodId) -> bool
+    ensures { result ≡ resets_receiver (method_at p.now method) }
+{
+    match p.method(method) {
+        None => false,
+        Some(found) => match found.sig.reset {
+            None => false,
+            Some(position) => position == 0,
+        },
+    }
+}
+
+/// Whether the call creates the obligation of `this` anew (Checker Framework manual, Resource Leak Checker, "Creating
+/// obligations"): its receiver is the target, and is written `this`, implied, or `super`. An argument never counts as `this`.
+pub fn is_reset_of_this(p: &Program, action: Action) -> bool
+    ensures { result ≡ is_reset_of_this p.now action }
+{
+    match action {
+        Action::Call(method, _, _, form) => is_this_form(form) && resets_receiver(p, method),
+        _ => false,
     }
 }
 

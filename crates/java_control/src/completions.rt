@@ -2,8 +2,9 @@
 
 ghost use Rattle.std.specs.Prelude.{◌≡◌, ◌+◌, ◌≤◌, ◌++◌, ◌∷◌, [], map, length, max, option_map, IfOk, OnOk};
 ghost use Rattle.java_control.specs.Changes.{bare_change, front_in, highest_changes, highest_front, seen};
-ghost use Rattle.java_control.specs.Completions.{alone, at_catch, at_depth, at_loop, at_supp, completion_becomes, moves, settles};
-ghost use Rattle.java_control.specs.Exceptions.{caught, clauses_of_kind, enters};
+ghost use Rattle.java_control.specs.Becoming.{alone, catch_change, catch_changes, completion_becomes, entry, loop_change, moves, settled, supp_change};
+ghost use Rattle.java_control.specs.Completions.{at_depth};
+ghost use Rattle.java_control.specs.Exceptions.{clauses_of_kind};
 ghost use Rattle.java_control.specs.Remaining.{Out, Supp};
 ghost use Rattle.java_control.specs.Statements.{close_fork, close_front};
 ghost use Rattle.java_control.specs.declared.action.Action.TheVariants as actions;
@@ -44,7 +45,7 @@ fn moves(alloc: Global, left: &[Item]) -> Result<Vec<Change>, NoMemory>
 
 // Both first items give way, and the completion's value goes to depth `b`.
 fn settles(alloc: Global, b: u32, c: Completion, left: &[Item]) -> Result<Vec<Change>, NoMemory>
-    ensures means { IfOk result (λ v. map bare_change v.items ≡ settles b c (map bare left.now)) }
+    ensures means { IfOk result (λ v. map bare_change v.items ≡ settled b c (map bare left.now)) }
     ensures small { IfOk result (λ v. highest_changes v.items ≡ max (max (highest_of left.now) 0) 0) }
 {
     one_way(alloc, Action::Settle(b, c), Edge::Go, 2, flat(alloc, left)?)
@@ -52,7 +53,7 @@ fn settles(alloc: Global, b: u32, c: Completion, left: &[Item]) -> Result<Vec<Ch
 
 // A loop takes a `break` and a `continue`.
 fn at_loop(alloc: Global, c: Completion, w: StmtId, d: u32) -> Result<Vec<Change>, NoMemory>
-    ensures means { IfOk result (λ v. map bare_change v.items ≡ at_loop c w d) }
+    ensures means { IfOk result (λ v. map bare_change v.items ≡ loop_change c w d) }
     ensures small { IfOk result (λ v. highest_changes v.items ≡ 0) }
 {
     match c {
@@ -86,7 +87,7 @@ fn at_supp(
     c: Completion,
     b: u32,
 ) -> Result<Vec<Change>, NoMemory>
-    ensures means { IfOk result (λ v. map bare_change v.items ≡ at_supp waiting c b) }
+    ensures means { IfOk result (λ v. map bare_change v.items ≡ supp_change waiting c b) }
     ensures small { IfOk result (λ v. highest_changes v.items ≡ 0) }
 {
     match waiting {
@@ -115,7 +116,7 @@ fn add_entry(
     b: u32,
     d: u32,
 ) -> Result<(), NoMemory>
-    ensures means { OnOk result (map bare_change changes.new.items ≡ map bare_change changes.old.items ++ enters body.now id.statement id.index b d clause.now ∷ []) }
+    ensures means { OnOk result (map bare_change changes.new.items ≡ map bare_change changes.old.items ++ entry body.now id.statement id.index b d clause.now ∷ []) }
     ensures small { OnOk result (highest_changes changes.new.items ≡ highest_changes changes.old.items) }
 {
     let scope = Scope::Variable(clause.variable);
@@ -158,7 +159,7 @@ fn caught(
     t: ClassId,
     pos: Pos,
 ) -> Result<Vec<Change>, NoMemory>
-    ensures means { IfOk result (λ v. map bare_change v.items ≡ caught p.now body.now s 0 clauses.now b d t pos) }
+    ensures means { IfOk result (λ v. map bare_change v.items ≡ catch_changes p.now body.now s 0 clauses.now b d t pos) }
     ensures small { IfOk result (λ v. highest_changes v.items ≡ 0) }
 {
     let mut changes = Vec::new(alloc);
@@ -191,7 +192,7 @@ fn caught_by(
     t: ClassId,
     pos: Pos,
 ) -> Result<Vec<Change>, NoMemory>
-    ensures means { IfOk result (λ v. map bare_change v.items ≡ caught p.now body.now s 0 (clauses_of_kind kind.now) b d t pos) }
+    ensures means { IfOk result (λ v. map bare_change v.items ≡ catch_changes p.now body.now s 0 (clauses_of_kind kind.now) b d t pos) }
     ensures small { IfOk result (λ v. highest_changes v.items ≡ 0) }
 {
     match kind {
@@ -209,7 +210,7 @@ fn at_catch(
     s: StmtId,
     b: u32,
 ) -> Result<Vec<Change>, NoMemory>
-    ensures means { IfOk result (λ v. map bare_change v.items ≡ at_catch c p.now body.now s b) }
+    ensures means { IfOk result (λ v. map bare_change v.items ≡ catch_change c p.now body.now s b) }
     ensures small { IfOk result (λ v. highest_changes v.items ≡ 0) }
 {
     match c {
@@ -260,7 +261,7 @@ fn at_close(
     r: Closing,
     b: u32,
 ) -> Result<Vec<Change>, NoMemory>
-    ensures list { IfOk result (λ v. map (seen lists.new.cells.keys) v.items ≡ settles b c (close_front r (b + 1) ++ Supp (at_depth c b) b r.statement ∷ [])) }
+    ensures list { IfOk result (λ v. map (seen lists.new.cells.keys) v.items ≡ settled b c (close_front r (b + 1) ++ Supp (at_depth c b) b r.statement ∷ [])) }
     ensures within { IfOk result (λ v. highest_changes v.items ≤ length lists.new.cells.keys) }
     ensures kept { Keeps lists.old.cells.keys lists.new.cells.keys }
 {

@@ -1,8 +1,9 @@
 //! The control relation: the steps of a control of a body, over the table of lists.
 
 ghost use Rattle.std.specs.Prelude.{◌≡◌, ◌≤◌, map, length, slice_get, option_map, IfOk};
+ghost use Rattle.java_control.specs.Becoming.{step_of};
 ghost use Rattle.java_control.specs.Changes.{highest_changes, highest_first, highest_front, highest_steps, seen, step_in};
-ghost use Rattle.java_control.specs.Control.{control_place, next_of, start_of, step_of, steps_in, steps_of};
+ghost use Rattle.java_control.specs.Control.{control_place, next_of, start_of, steps_in, steps_of};
 ghost use Rattle.java_control.specs.Remaining.{todos};
 ghost use Rattle.java_control.specs.Statements.{body_front};
 ghost use Rattle.java_control.specs.Tables.{Keeps, bare, highest_of, list_at, view_in};
@@ -85,7 +86,7 @@ fn second_item(lists: &Lists, at: usize) -> Option<Item>
 // The place of a control.
 fn place_at(lists: &Lists, body: &Body, at: usize) -> Pos
     requires { at ≤ length lists.now.cells.keys }
-    ensures { result ≡ control_place body.now (slice_get (todos (list_at lists.now.cells.keys at)) 0) }
+    ensures { result ≡ control_place body.now (todos (list_at lists.now.cells.keys at)) }
 {
     match lists.first(at) {
         None => body.end,

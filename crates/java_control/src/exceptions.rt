@@ -6,8 +6,9 @@ ghost use Rattle.std.specs.List.{position_from};
 ghost use Rattle.java_control.specs.Leaving.{HasEdges};
 ghost use Rattle.program_model.specs.Hierarchy.{IsHierarchy};
 ghost use Rattle.program_model.specs.SuperTests.{has_class};
+ghost use Rattle.java_control.specs.Becoming.{action_becomes, go_change, throw_change};
 ghost use Rattle.java_control.specs.Changes.{bare_change, highest_changes};
-ghost use Rattle.java_control.specs.Exceptions.{action_becomes, class_count, clause_taken, clauses_of_kind, exception_depth, exceptions_of, goes_on, heeded, heeded_by_call, is_heeded_under, is_wholly_ignored, may_take, operator_exceptions, receiver_exceptions, some_heeded, takes_some, takes_wholly, throws, throws_clause, throws_some_heeded, unchecked, with_class, with_classes};
+ghost use Rattle.java_control.specs.Exceptions.{binary_exceptions, class_count, clause_taken, clauses_of_kind, exception_depth, exceptions_of, heeded, heeded_by_call, is_heeded_under, is_wholly_ignored, may_take, operator_exceptions, receiver_exceptions, some_heeded, takes_some, takes_wholly, throws_clause, throws_some_heeded, unchecked, with_class, with_classes};
 
 use crate::action::{Action, Completion, Edge, Operator, Scope};
 use crate::change::Change;
@@ -147,6 +148,21 @@ fn thrown_by_call(alloc: Global, p: &Program, m: MethodId) -> Result<Vec<ClassId
     }
 }
 
+fn thrown_by_binary(
+    alloc: Global,
+    p: &Program,
+    operator: BinaryOperator,
+) -> Result<Vec<ClassId>, NoMemory>
+    ensures { IfOk result (λ v. v.items ≡ with_classes [] (heeded p.now (binary_exceptions p.now operator))) }
+{
+    match operator {
+        BinaryOperator::Divide | BinaryOperator::Remainder => {
+            thrown(alloc, p, &[], &[p.core.arithmetic_exception])
+        }
+        _ => thrown(alloc, p, &[], &[]),
+    }
+}
+
 // The exceptions of an operator.
 fn thrown_by_operator(
     alloc: Global,
@@ -156,9 +172,7 @@ fn thrown_by_operator(
     ensures { IfOk result (λ v. v.items ≡ with_classes [] (heeded p.now (operator_exceptions p.now operator))) }
 {
     match operator {
-        Operator::Binary(BinaryOperator::Divide | BinaryOperator::Remainder, _, _) => {
-            thrown(alloc, p, &[], &[p.core.arithmetic_exception])
-        }
+        Operator::Binary(binary, _, _) => thrown_by_binary(alloc, p, binary),
         Operator::Element | Operator::StoreElement => {
             thrown(
                 alloc,
@@ -237,7 +251,7 @@ fn exception_depth(action: Action) -> u32
 
 // The way of an action that goes on.
 fn goes_on(alloc: Global, action: Action) -> Result<Vec<Change>, NoMemory>
-    ensures means { IfOk result (λ v. map bare_change v.items ≡ goes_on action) }
+    ensures means { IfOk result (λ v. map bare_change v.items ≡ go_change action) }
     ensures small { IfOk result (λ v. highest_changes v.items ≡ 0) }
 {
     match action {
@@ -255,7 +269,7 @@ fn add_throw(
     class: ClassId,
     pos: Pos,
 ) -> Result<(), NoMemory>
-    ensures means { OnOk result (map bare_change changes.new.items ≡ map bare_change changes.old.items ++ throws action pos class ∷ []) }
+    ensures means { OnOk result (map bare_change changes.new.items ≡ map bare_change changes.old.items ++ throw_change action pos class ∷ []) }
     ensures small { OnOk result (highest_changes changes.new.items ≡ highest_changes changes.old.items) }
 {
     let completion = Completion::Throw(exception_depth(action), class, pos);
@@ -331,8 +345,9 @@ pub fn clause_taken(p: &Program, body: &Body, s: StmtId, class: ClassId) -> Opti
     }
 }
 
-/// The law of the edges by which exceptions leave: where the hierarchy of the program is valid, an exception of a class that
-/// is not ignored leaves an action by an edge that the steps of the action have (JLS 11.2).
+/// The law of the edges by which exceptions leave: where the hierarchy of the program is valid, an exception leaves an action
+/// by an edge that the steps of the action have (JLS 11.2). Of the ignored exceptions that holds for those under a class of
+/// the throws clause of a call or under the static class of a `throw`.
 #[tactic(auto, using(crate::proofs::LeavingLaws::has_edges))]
 pub fn edges_of_exceptions(p: &Program, action: Action)
     requires { IsHierarchy p.now }

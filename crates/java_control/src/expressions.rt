@@ -2,25 +2,26 @@
 
 ghost use Rattle.std.specs.Prelude.{◌≡◌, ◌+◌, ◌≤◌, ◌++◌, ◌∷◌, [], map, length, IfOk, OnOk};
 ghost use Rattle.java_control.specs.Changes.{front_in, highest_front};
-ghost use Rattle.java_control.specs.Expressions.{assignment_front, call_front, computes, evaluations, expression_front, field_read, field_store, new_front, postfix_front, stored, stored_in, tested_front, type_or_null, update_front, value_front};
+ghost use Rattle.java_control.specs.Expressions.{assignment_front, binary_front, binary_value, call_front, comparison_front, computes, evaluations, expression_front, field_read, field_store, new_front, postfix_front, stored, stored_in, tested_front, type_or_null, unary_front, update_front};
 ghost use Rattle.java_control.specs.Remaining.{Act, Cond, Ev, one};
 ghost use Rattle.java_control.specs.Tables.{Keeps, bare, highest_of};
 ghost use Rattle.java_control.specs.declared.item.Condition.TheVariants as conditions;
 ghost use Rattle.java_control.specs.declared.action.Action.TheVariants as actions;
 ghost use Rattle.java_control.specs.declared.action.TargetForm.TheVariants as forms;
+ghost use Rattle.java_control.specs.declared.place.Place.TheVariants as places;
 
 use crate::action::{Action, Operator, PlainValue, Scope, TargetForm};
 use crate::change::Front;
-use crate::fronts::{deeper, front_of, items_of};
+use crate::fronts::{deeper, front_of, items_of, plain};
 use crate::item::{Condition, Item};
 use crate::lists::Lists;
+use crate::null_tests::compared_with_null;
 use crate::owned::{field_place, has_place, is_this};
 use crate::place::Place;
-use crate::shape::Shape;
-use crate::shapes::shape_of;
 use program_model::{
-    AssignmentTarget, Body, CallExpression, CallTarget, ExprId, ExpressionKind, FieldId, Literal,
-    MethodId, NewObject, OperatorAssignment, Program, TExpr, VType,
+    AssignmentTarget, BinaryExpression, BinaryOperator, Body, CallExpression, CallTarget, ExprId,
+    ExpressionKind, FieldId, Literal, MethodId, NewObject, OperatorAssignment, Program, TExpr,
+    UnaryOperator, VType,
 };
 use rlc_base::{NoMemory, Pos};
 use std::alloc::Global;
@@ -309,63 +310,40 @@ fn new_object(alloc: Global, new: &NewObject, depth: u32, pos: Pos) -> Result<Ve
 }
 
 // An action alone.
-fn act(alloc: Global, action: Action, pos: Pos) -> Result<Vec<Item>, NoMemory>
-    ensures means { IfOk result (λ v. map bare v.items ≡ Act action pos ∷ []) }
-    ensures small { IfOk result (λ v. highest_of v.items ≡ 0) }
+fn act_front(alloc: Global, lists: &Lists, action: Action, pos: Pos) -> Result<Front, NoMemory>
+    ensures front { IfOk result (λ f. front_in lists.now.cells.keys f ≡ Act action pos ∷ []) }
+    ensures highest { IfOk result (λ f. highest_front f ≡ 0) }
 {
-    items_of(alloc, &[Item::Act(action, pos)])
+    Ok(plain(lists, items_of(alloc, &[Item::Act(action, pos)])?))
 }
 
-// The value of an expression that decides nothing.
-fn value(
+// A value without an object.
+fn plain_front(
     alloc: Global,
-    p: &Program,
-    body: &Body,
-    kind: &ExpressionKind,
-    vtype: Option<VType>,
+    lists: &Lists,
+    value: PlainValue,
     d: u32,
     pos: Pos,
-) -> Result<Vec<Item>, NoMemory>
-    ensures means { IfOk result (λ v. map bare v.items ≡ value_front p.now body.now kind.now vtype d pos) }
-    ensures small { IfOk result (λ v. highest_of v.items ≡ 0) }
+) -> Result<Front, NoMemory>
+    ensures front { IfOk result (λ f. front_in lists.now.cells.keys f ≡ Act (actions.Plain (places.Temp d) value) pos ∷ []) }
+    ensures highest { IfOk result (λ f. highest_front f ≡ 0) }
 {
-    use crate::action::Operator as Op;
-    use crate::action::PlainValue as Plain;
-    use program_model::ExpressionKind as Kind;
-    let t = type_or_null(vtype);
-    let temp = Place::Temp(d);
-    match kind {
-        Kind::Literal(l) => act(alloc, Action::Plain(temp, Plain::Literal(*l)), pos),
-        Kind::Local(x) => act(alloc, Action::Copy(temp, Place::Var(*x)), pos),
-        Kind::This(_) => act(alloc, Action::Copy(temp, Place::This), pos),
-        Kind::Field(e, f) => field_read(alloc, p, body, *e, *f, d, pos),
-        Kind::StaticField(f) => act(alloc, Action::Plain(temp, Plain::StaticField(*f)), pos),
-        Kind::LibraryConstant(m) => {
-            act(alloc, Action::Plain(temp, Plain::LibraryConstant(*m)), pos)
-        }
-        Kind::Unary(o, e) => compute(alloc, Op::Unary(*o, t), &[*e], d, pos),
-        Kind::Binary(x) => {
-            let operator = Op::Binary(x.operator, x.operands, t);
-            compute(alloc, operator, &[x.left, x.right], d, pos)
-        }
-        Kind::Conditional(_, _, _) => items_of(alloc, &[]),
-        Kind::InstanceOf(e, tested) => compute(alloc, Op::InstanceOf(*tested), &[*e], d, pos),
-        Kind::PrimitiveCast(e) => compute(alloc, Op::Convert(t), &[*e], d, pos),
-        Kind::ReferenceCast(e) => {
-            items_of(
-                alloc,
-                &[Item::Ev(*e, d), Item::Act(Action::Cast(t, d), pos)],
-            )
-        }
-        Kind::Assignment(target, x) => assignment(alloc, p, body, *target, *x, d, pos),
-        Kind::OperatorAssignment(a) => update(alloc, body, *a, vtype, d, pos),
-        Kind::PostfixStep(a) => postfix(alloc, body, *a, vtype, d, pos),
-        Kind::Call(c) => call(alloc, c, d, pos),
-        Kind::NewObject(n) => new_object(alloc, n, d, pos),
-        Kind::NewArray(e) => compute(alloc, Op::NewArray(t), &[*e], d, pos),
-        Kind::Element(a, i) => compute(alloc, Op::Element, &[*a, *i], d, pos),
-        Kind::Length(a) => compute(alloc, Op::Length, &[*a], d, pos),
-    }
+    act_front(alloc, lists, Action::Plain(Place::Temp(d), value), pos)
+}
+
+// The operands from left to right, and then the operator, as a front.
+fn compute_front(
+    alloc: Global,
+    lists: &Lists,
+    operator: Operator,
+    operands: &[ExprId],
+    depth: u32,
+    pos: Pos,
+) -> Result<Front, NoMemory>
+    ensures front { IfOk result (λ f. front_in lists.now.cells.keys f ≡ computes operator operands.now depth pos) }
+    ensures highest { IfOk result (λ f. highest_front f ≡ 0) }
+{
+    Ok(plain(lists, compute(alloc, operator, operands, depth, pos)?))
 }
 
 // A condition that stands where a value is wanted.
@@ -399,21 +377,193 @@ fn choice(
     front_of(alloc, lists, &[Item::Cond(Condition::Of(c), d, p, q)])
 }
 
-// The value of an expression that decides nothing, as a front.
-fn value_front(
+fn unary_front(
+    alloc: Global,
+    lists: &mut Lists,
+    operator: UnaryOperator,
+    x: ExprId,
+    e: ExprId,
+    vtype: Option<VType>,
+    d: u32,
+    pos: Pos,
+) -> Result<Front, NoMemory>
+    ensures front { IfOk result (λ f. front_in lists.new.cells.keys f ≡ unary_front operator x e vtype d pos) }
+    ensures within { IfOk result (λ f. highest_front f ≤ length lists.new.cells.keys) }
+    ensures kept { Keeps lists.old.cells.keys lists.new.cells.keys }
+{
+    match operator {
+        UnaryOperator::Not => tested(alloc, lists, e, d, pos),
+        _ => {
+            let computed = Operator::Unary(operator, type_or_null(vtype));
+            compute_front(alloc, lists, computed, &[x], d, pos)
+        }
+    }
+}
+
+fn binary_value(
+    alloc: Global,
+    lists: &Lists,
+    x: BinaryExpression,
+    vtype: Option<VType>,
+    d: u32,
+    pos: Pos,
+) -> Result<Front, NoMemory>
+    ensures front { IfOk result (λ f. front_in lists.now.cells.keys f ≡ binary_value x vtype d pos) }
+    ensures highest { IfOk result (λ f. highest_front f ≡ 0) }
+{
+    let operator = Operator::Binary(x.operator, x.operands, type_or_null(vtype));
+    compute_front(alloc, lists, operator, &[x.left, x.right], d, pos)
+}
+
+// A comparison for equality, with the operand that is compared with null where there is one.
+fn comparison_front(
+    alloc: Global,
+    lists: &mut Lists,
+    compared: Option<ExprId>,
+    x: BinaryExpression,
+    e: ExprId,
+    vtype: Option<VType>,
+    d: u32,
+    pos: Pos,
+) -> Result<Front, NoMemory>
+    ensures front { IfOk result (λ f. front_in lists.new.cells.keys f ≡ comparison_front compared x e vtype d pos) }
+    ensures within { IfOk result (λ f. highest_front f ≤ length lists.new.cells.keys) }
+    ensures kept { Keeps lists.old.cells.keys lists.new.cells.keys }
+{
+    match compared {
+        Some(_) => tested(alloc, lists, e, d, pos),
+        None => binary_value(alloc, lists, x, vtype, d, pos),
+    }
+}
+
+fn binary_front(
+    alloc: Global,
+    lists: &mut Lists,
+    body: &Body,
+    x: BinaryExpression,
+    e: ExprId,
+    vtype: Option<VType>,
+    d: u32,
+    pos: Pos,
+) -> Result<Front, NoMemory>
+    ensures front { IfOk result (λ f. front_in lists.new.cells.keys f ≡ binary_front x.operator x body.now e vtype d pos) }
+    ensures within { IfOk result (λ f. highest_front f ≤ length lists.new.cells.keys) }
+    ensures kept { Keeps lists.old.cells.keys lists.new.cells.keys }
+{
+    match x.operator {
+        BinaryOperator::ConditionalAnd | BinaryOperator::ConditionalOr => {
+            tested(alloc, lists, e, d, pos)
+        }
+        BinaryOperator::Equal | BinaryOperator::NotEqual => {
+            let compared = compared_with_null(body, x);
+            comparison_front(alloc, lists, compared, x, e, vtype, d, pos)
+        }
+        _ => binary_value(alloc, lists, x, vtype, d, pos),
+    }
+}
+
+fn field_front(
     alloc: Global,
     lists: &Lists,
     p: &Program,
     body: &Body,
-    found: &TExpr,
+    target: ExprId,
+    field: FieldId,
     d: u32,
+    pos: Pos,
 ) -> Result<Front, NoMemory>
-    ensures front { IfOk result (λ f. front_in lists.now.cells.keys f ≡ value_front p.now body.now found.now.kind found.now.vtype d found.now.pos) }
-    ensures within { IfOk result (λ f. highest_front f ≤ length lists.now.cells.keys) }
+    ensures front { IfOk result (λ f. front_in lists.now.cells.keys f ≡ field_read p.now body.now target field d pos) }
+    ensures highest { IfOk result (λ f. highest_front f ≡ 0) }
 {
-    let items = value(alloc, p, body, &found.kind, found.vtype, d, found.pos)?;
-    let none = lists.empty();
-    Ok(Front { items, then: none })
+    Ok(plain(lists, field_read(alloc, p, body, target, field, d, pos)?))
+}
+
+fn cast_front(
+    alloc: Global,
+    lists: &Lists,
+    x: ExprId,
+    vtype: VType,
+    d: u32,
+    pos: Pos,
+) -> Result<Front, NoMemory>
+    ensures front { IfOk result (λ f. front_in lists.now.cells.keys f ≡ Ev x d ∷ Act (actions.Cast vtype d) pos ∷ []) }
+    ensures highest { IfOk result (λ f. highest_front f ≡ 0) }
+{
+    let cast = Action::Cast(vtype, d);
+    let items = items_of(alloc, &[Item::Ev(x, d), Item::Act(cast, pos)])?;
+    Ok(plain(lists, items))
+}
+
+fn assignment_front(
+    alloc: Global,
+    lists: &Lists,
+    p: &Program,
+    body: &Body,
+    target: AssignmentTarget,
+    value: ExprId,
+    d: u32,
+    pos: Pos,
+) -> Result<Front, NoMemory>
+    ensures front { IfOk result (λ f. front_in lists.now.cells.keys f ≡ assignment_front p.now body.now target value d pos) }
+    ensures highest { IfOk result (λ f. highest_front f ≡ 0) }
+{
+    Ok(plain(lists, assignment(alloc, p, body, target, value, d, pos)?))
+}
+
+fn update_front(
+    alloc: Global,
+    lists: &Lists,
+    body: &Body,
+    a: OperatorAssignment,
+    vtype: Option<VType>,
+    d: u32,
+    pos: Pos,
+) -> Result<Front, NoMemory>
+    ensures front { IfOk result (λ f. front_in lists.now.cells.keys f ≡ update_front body.now a vtype d pos) }
+    ensures highest { IfOk result (λ f. highest_front f ≡ 0) }
+{
+    Ok(plain(lists, update(alloc, body, a, vtype, d, pos)?))
+}
+
+fn postfix_front(
+    alloc: Global,
+    lists: &Lists,
+    body: &Body,
+    a: OperatorAssignment,
+    vtype: Option<VType>,
+    d: u32,
+    pos: Pos,
+) -> Result<Front, NoMemory>
+    ensures front { IfOk result (λ f. front_in lists.now.cells.keys f ≡ postfix_front body.now a vtype d pos) }
+    ensures highest { IfOk result (λ f. highest_front f ≡ 0) }
+{
+    Ok(plain(lists, postfix(alloc, body, a, vtype, d, pos)?))
+}
+
+fn call_front(
+    alloc: Global,
+    lists: &Lists,
+    c: &CallExpression,
+    d: u32,
+    pos: Pos,
+) -> Result<Front, NoMemory>
+    ensures front { IfOk result (λ f. front_in lists.now.cells.keys f ≡ call_front c.now d pos) }
+    ensures highest { IfOk result (λ f. highest_front f ≡ 0) }
+{
+    Ok(plain(lists, call(alloc, c, d, pos)?))
+}
+
+fn new_front(
+    alloc: Global,
+    lists: &Lists,
+    n: &NewObject,
+    d: u32,
+    pos: Pos,
+) -> Result<Front, NoMemory>
+    ensures front { IfOk result (λ f. front_in lists.now.cells.keys f ≡ new_front n.now d pos) }
+    ensures highest { IfOk result (λ f. highest_front f ≡ 0) }
+{
+    Ok(plain(lists, new_object(alloc, n, d, pos)?))
 }
 
 /// What an expression becomes.
@@ -426,17 +576,46 @@ pub fn expression_front(
     found: &TExpr,
     d: u32,
 ) -> Result<Front, NoMemory>
-    ensures front { IfOk result (λ f. front_in lists.new.cells.keys f ≡ expression_front p.now body.now e found.now d) }
+    ensures front { IfOk result (λ f. front_in lists.new.cells.keys f ≡ expression_front found.now.kind p.now body.now e found.now.vtype d found.now.pos) }
     ensures within { IfOk result (λ f. highest_front f ≤ length lists.new.cells.keys) }
     ensures kept { Keeps lists.old.cells.keys lists.new.cells.keys }
 {
-    match shape_of(body, e) {
-        Shape::Negation(_)
-        | Shape::Conjunction(_, _)
-        | Shape::Disjunction(_, _)
-        | Shape::IsNull(_)
-        | Shape::IsNotNull(_) => tested(alloc, lists, e, d, found.pos),
-        Shape::Choice(c, x, y) => choice(alloc, lists, c, x, y, d),
-        Shape::Always(_) | Shape::Value => value_front(alloc, lists, p, body, found, d),
+    use program_model::ExpressionKind as Kind;
+    let (vtype, pos, temp) = (found.vtype, found.pos, Place::Temp(d));
+    let t = type_or_null(vtype);
+    match &found.kind {
+        Kind::Literal(l) => plain_front(alloc, lists, PlainValue::Literal(*l), d, pos),
+        Kind::Local(x) => act_front(alloc, lists, Action::Copy(temp, Place::Var(*x)), pos),
+        Kind::This(_) => act_front(alloc, lists, Action::Copy(temp, Place::This), pos),
+        Kind::Field(x, f) => field_front(alloc, lists, p, body, *x, *f, d, pos),
+        Kind::StaticField(f) => plain_front(alloc, lists, PlainValue::StaticField(*f), d, pos),
+        Kind::LibraryConstant(m) => plain_front(
+            alloc,
+            lists,
+            PlainValue::LibraryConstant(*m),
+            d,
+            pos,
+        ),
+        Kind::Unary(o, x) => unary_front(alloc, lists, *o, *x, e, vtype, d, pos),
+        Kind::Binary(x) => binary_front(alloc, lists, body, *x, e, vtype, d, pos),
+        Kind::Conditional(c, x, y) => choice(alloc, lists, *c, *x, *y, d),
+        Kind::InstanceOf(x, of) => compute_front(
+            alloc,
+            lists,
+            Operator::InstanceOf(*of),
+            &[*x],
+            d,
+            pos,
+        ),
+        Kind::PrimitiveCast(x) => compute_front(alloc, lists, Operator::Convert(t), &[*x], d, pos),
+        Kind::ReferenceCast(x) => cast_front(alloc, lists, *x, t, d, pos),
+        Kind::Assignment(to, x) => assignment_front(alloc, lists, p, body, *to, *x, d, pos),
+        Kind::OperatorAssignment(a) => update_front(alloc, lists, body, *a, vtype, d, pos),
+        Kind::PostfixStep(a) => postfix_front(alloc, lists, body, *a, vtype, d, pos),
+        Kind::Call(c) => call_front(alloc, lists, c, d, pos),
+        Kind::NewObject(n) => new_front(alloc, lists, n, d, pos),
+        Kind::NewArray(x) => compute_front(alloc, lists, Operator::NewArray(t), &[*x], d, pos),
+        Kind::Element(a, i) => compute_front(alloc, lists, Operator::Element, &[*a, *i], d, pos),
+        Kind::Length(a) => compute_front(alloc, lists, Operator::Length, &[*a], d, pos),
     }
 }

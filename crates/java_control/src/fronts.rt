@@ -2,7 +2,7 @@
 
 ghost use Rattle.std.specs.Prelude.{◌≡◌, ◌+◌, ◌≤◌, ◌∷◌, [], map, max, IfOk};
 ghost use Rattle.java_control.specs.Changes.{front_in, highest_front};
-ghost use Rattle.java_control.specs.Tables.{highest_of, view_in};
+ghost use Rattle.java_control.specs.Tables.{bare, highest_of, view_in};
 
 use crate::action::{Action, Edge};
 use crate::change::{Change, Front};
@@ -45,6 +45,16 @@ pub fn front_of(alloc: Global, lists: &Lists, items: &[Item]) -> Result<Front, N
     let then = lists.empty();
     let items = Vec::from_slice(alloc, items)?;
     Ok(Front { items, then })
+}
+
+// Items without lists, over a table.
+pub fn plain(lists: &Lists, items: Vec<Item>) -> Front
+    requires { highest_of items.items ≡ 0 }
+    ensures front { front_in lists.now.cells.keys result ≡ map bare items.items }
+    ensures highest { highest_front result ≡ 0 }
+{
+    let then = lists.empty();
+    Front { items, then }
 }
 
 // The one way of a step.

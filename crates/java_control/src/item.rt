@@ -12,7 +12,7 @@ pub enum Condition {
 }
 
 /// The closing of a resource of a `try` statement (JLS 14.20.3.1).
-#[derive(Clone, Copy, PartialEq, Eq, Hash)]
+#[derive(Clone, Copy, PartialEq, Eq)]
 pub struct Closing {
     pub variable: u32,
     /// The `close()` that the resource's declared type names.
@@ -24,15 +24,18 @@ pub struct Closing {
 }
 
 /// One item of what is left to run. A number of type `u32` that is named depth is that of the first temp which the item may
-/// use. A list within an item is named by its number in the table of lists.
-#[derive(Clone, Copy, PartialEq, Eq, Hash)]
+/// use. A list within an item is named by its number in the table of lists. The hash looks at no more than tells most items
+/// apart: of an action, a scope and a closing at the place or the depth alone.
+#[derive(Clone, Copy, PartialEq, Eq)]
+#[derive_where(Hash)]
 pub enum Item {
     /// A statement, at a depth.
     Do(StmtId, u32),
     /// An expression, whose value goes into the temp of this depth.
     Ev(ExprId, u32),
-    /// An action, with the place of the statement or expression that gives it.
-    Act(Action, Pos),
+    /// An action, with its place: that of the statement or expression that gives it, or of a declared name, a resource's
+    /// name or the word `super`.
+    Act(#[derive_where(skip(Hash))] Action, Pos),
     /// A condition, at a depth, and the lists that follow where it is true and where it is false.
     Cond(Condition, u32, usize, usize),
     /// The value in the temp of this depth is tested for null, and the first list follows where it is. The place is that of
@@ -46,13 +49,13 @@ pub enum Item {
     /// A `for` statement whose first part is done.
     For(StmtId, u32),
     /// The end of a scope, with the place of its block or statement.
-    Leave(Scope, Pos),
+    Leave(#[derive_where(skip(Hash))] Scope, Pos),
     /// The catch clauses of a `try` statement.
     Catch(StmtId, u32),
     /// A `finally` block.
     Fin(StmtId, u32),
     /// The closing of a resource.
-    Close(Closing, u32),
+    Close(#[derive_where(skip(Hash))] Closing, u32),
     /// The completion that waits while a `finally` block runs, with the value in the temp of this depth, and the block.
     Finish(Completion, u32, StmtId),
     /// The completion that waits while a resource is closed, with the value in the temp of this depth, and the `try`

@@ -12,7 +12,7 @@ ghost use Rattle.java_control.specs.Places.{low_of, high_of};
 use std::marker::Model;
 
 /// Where a frame of a body can hold a value.
-#[derive(Clone, Copy, PartialEq, Eq, Hash)]
+#[derive(Clone, Copy, PartialEq, Eq)]
 pub enum Place {
     /// A variable of the body, by its number in the list of variables.
     Var(u32),

@@ -10,8 +10,8 @@ use crate::item::{Condition, Item};
 use program_model::{Body, ExprId, StmtId};
 use rlc_base::Pos;
 
-// No place.
-fn nowhere() -> Pos
+/// No place.
+pub fn nowhere() -> Pos
     ensures { result ≡ nowhere }
 {
     Pos {

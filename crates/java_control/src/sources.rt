@@ -1,10 +1,10 @@
 //! From which place each place of a frame takes its value in a step.
 
 ghost use Rattle.std.specs.Prelude.{◌≡◌, ◌+◌, ◌≤◌};
-ghost use Rattle.java_control.specs.Sources.{emptied, is_field, is_null_pointer, is_place, is_super_place, is_temp, is_temp_among, is_temp_from, is_this_place, is_throws, is_variable, enter_source, move_source, next_depth, put_source, settle_source, source, source_or_itself, temp_of};
+ghost use Rattle.java_control.specs.Sources.{call_source, emptied, is_field, is_null_pointer, is_part, is_place, is_super_place, is_temp, is_temp_among, is_temp_from, is_this_place, is_throws, is_variable, enter_source, move_source, next_depth, put_source, settle_source, source, source_or_itself, temp_of};
 
 use crate::action::{Action, Edge};
-use crate::calls::completion_temp;
+use crate::calls::{completion_temp, is_reset_of_this};
 use crate::owned::field_place;
 use crate::place::Place;
 use crate::scopes::is_dropped;
@@ -185,9 +185,29 @@ fn enter_source(x: u32, b: u32, d: u32, place: Place) -> Option<Place>
     }
 }
 
+// Whether the place is an owning field of `this`, or the part of the super class.
+fn is_part(place: Place) -> bool
+    ensures { result ≡ is_part place }
+{
+    match place {
+        Place::Field(_) | Place::Super => true,
+        _ => false,
+    }
+}
+
+// A call takes its operands, and one that creates the obligation of `this` anew may store into its owning fields.
+fn call_source(resets: bool, d: u32, n: u32, place: Place) -> Option<Place>
+    ensures { result ≡ call_source resets d n place }
+{
+    let taken = is_temp_among(d, u64::from(n.max(1)), place);
+    emptied(taken || resets && is_part(place), place)
+}
+
 /// From which place `place` takes its value in a step, by the action of the step and its edge: after the step `place` holds
 /// what the answer held before it. None where it then holds nothing, or a value that the action makes: one without an
-/// object, a result, an object that is read, or an exception.
+/// object, a result (also one that is an alias of an operand's resource), an object that is read, or an exception; and for the
+/// fields of `this` at a call that creates the obligation of `this` anew, which may store into them. The edge is one that the
+/// steps of the action have, and the variable of a catch clause holds nothing before the clause is entered.
 pub fn source(p: &Program, body: &Body, action: Action, edge: Edge, place: Place) -> Option<Place>
     ensures { result ≡ source p.now body.now action edge place }
 {
@@ -208,7 +228,7 @@ pub fn source(p: &Program, body: &Body, action: Action, edge: Edge, place: Place
             let field = field_place(p, f);
             source_or_itself(is_place(field, place), Place::Temp(d), place)
         }
-        Action::Call(_, d, n, _) => emptied(is_temp_among(d, u64::from(n.max(1)), place), place),
+        Action::Call(_, d, n, _) => call_source(is_reset_of_this(p, action), d, n, place),
         Action::New(_, d, n) => emptied(is_temp_among(d, u64::from(n) + 1, place), place),
         Action::Super(_, d, n) => emptied(is_temp_among(d, u64::from(n.max(1)), place), place),
         Action::Raise(d, _) => emptied(is_null_pointer(p, edge) && is_temp(d, place), place),

@@ -2,21 +2,22 @@
 
 ghost use Rattle.std.specs.Prelude.{◌≡◌, ◌≤◌, ◌++◌, ◌∷◌, [], map, flat_map, reverse, length, IfOk};
 ghost use Rattle.java_control.specs.Changes.{front_in, highest_front};
-ghost use Rattle.java_control.specs.Remaining.{Do, For};
-ghost use Rattle.program_model.specs.Lookups.{statement_at};
-ghost use Rattle.java_control.specs.Statements.{block_front, body_front, class_of_type, decided, decision_of, declaration_front, declarator_front, expression_statement, finally_front, first_items, first_items_at, clauses_front, for_condition, for_decision, for_front, for_turn, head_front, initial_front, list_of_branch, listed_front, loop_turn, opens, closes, resources_front, return_front, statement_front, straight_front, straight_turn, super_front, try_front, turn_decision};
+ghost use Rattle.java_control.specs.Remaining.{Act, Cond, Do, Ev, For, Leave, one};
+ghost use Rattle.java_control.specs.declared.action.Action.TheVariants as actions;
+ghost use Rattle.java_control.specs.declared.action.Scope.TheVariants as scopes;
+ghost use Rattle.program_model.specs.Lookups.{statement_at, type_at};
+ghost use Rattle.java_control.specs.Statements.{body_front, class_of_type, declaration_front, declarator_front, expression_statement, finally_front, first_items, first_items_at, clauses_front, for_condition, for_turn, head_front, initial_front, list_of_branch, listed_front, loop_turn, opens, closes, resources_front, return_front, statement_front, super_front, try_front, turn_front};
 ghost use Rattle.java_control.specs.Tables.{Keeps, bare, highest_of, list_at};
 ghost use Rattle.java_control.specs.declared.item.Item.TheVariants as items;
 
 use crate::action::{Action, Completion, PlainValue, Scope};
 use crate::change::Front;
 use crate::expressions::{add_evaluations, type_or_null};
-use crate::fronts::{deeper, front_of, items_of};
+use crate::fronts::{deeper, front_of, items_of, plain};
 use crate::item::{Closing, Condition, Item};
 use crate::lists::Lists;
 use crate::place::Place;
 use crate::places::expression_place;
-use crate::shape::Decision;
 use program_model::{
     Body, CatchClause, ClassId, Declarator, ExprId, ForInitial, ForLoop, Resource, StatementKind,
     StmtId, SuperCall, TStmt, TryStatement, VType,
@@ -32,7 +33,7 @@ fn block_items(
     d: u32,
     pos: Pos,
 ) -> Result<Vec<Item>, NoMemory>
-    ensures means { IfOk result (λ v. map bare v.items ≡ block_front s statements.now d pos) }
+    ensures means { IfOk result (λ v. map bare v.items ≡ map (λ x. Do x d) statements.now ++ Leave (scopes.Declared s) pos ∷ []) }
     ensures small { IfOk result (λ v. highest_of v.items ≡ 0) }
 {
     let mut items = dos(alloc, statements, d)?;
@@ -148,7 +149,7 @@ fn for_items(
     d: u32,
     pos: Pos,
 ) -> Result<Vec<Item>, NoMemory>
-    ensures means { IfOk result (λ v. map bare v.items ≡ for_front body.now s l.now d pos) }
+    ensures means { IfOk result (λ v. map bare v.items ≡ initial_front body.now d l.now.initial ++ For s d ∷ Leave (scopes.Declared s) pos ∷ []) }
     ensures small { IfOk result (λ v. highest_of v.items ≡ 0) }
 {
     let mut items = initial_items(alloc, body, d, &l.initial)?;
@@ -308,54 +309,9 @@ pub fn super_items(alloc: Global, c: &SuperCall, d: u32, pos: Pos) -> Result<Vec
     let mut items = items_of(alloc, &[Item::Act(this, pos)])?;
     let end = add_evaluations(&mut items, &c.arguments, next)?;
     let call = Action::Super(c.constructor, d, end - d);
-    items.push(Item::Act(call, pos))?;
-    items.push(Item::Act(Action::Drop(Scope::Temp(d)), pos))?;
+    let drop = Action::Drop(Scope::Temp(d));
+    items.extend_from_slice(&[Item::Act(call, pos), Item::Act(drop, pos)])?;
     Ok(items)
-}
-
-// A statement that decides nothing.
-fn straight_items(
-    alloc: Global,
-    body: &Body,
-    kind: &StatementKind,
-    s: StmtId,
-    d: u32,
-    pos: Pos,
-) -> Result<Vec<Item>, NoMemory>
-    ensures means { IfOk result (λ v. map bare v.items ≡ straight_front kind.now body.now s d pos) }
-    ensures small { IfOk result (λ v. highest_of v.items ≡ 0) }
-{
-    use program_model::StatementKind as Kind;
-    match kind {
-        Kind::Block(statements, _) => block_items(alloc, s, statements, d, pos),
-        Kind::Empty => items_of(alloc, &[]),
-        Kind::LocalDeclaration(names) => declaration_items(alloc, body, d, names),
-        Kind::Expression(e) => expression_items(alloc, *e, d, pos),
-        Kind::If(_, _, _) => items_of(alloc, &[]),
-        Kind::While(_, _) => items_of(alloc, &[]),
-        Kind::Do(x, _) => items_of(alloc, &[Item::Do(*x, d), Item::LoopEnd(s, d)]),
-        Kind::For(l) => for_items(alloc, body, s, l, d, pos),
-        Kind::Return(value) => return_items(alloc, *value, d, pos),
-        Kind::Throw(e) => {
-            let raise = Action::Raise(d, class_of_type(body.type_of(*e)));
-            items_of(alloc, &[Item::Ev(*e, d), Item::Act(raise, pos)])
-        }
-        Kind::Break => items_of(alloc, &[Item::Out(Completion::Break(pos))]),
-        Kind::Continue => items_of(alloc, &[Item::Out(Completion::Continue(pos))]),
-        Kind::Try(t) => try_items(alloc, s, t, d),
-        Kind::SuperCall(c) => super_items(alloc, c, d, pos),
-        Kind::FieldInitializer(e) => expression_items(alloc, *e, d, pos),
-    }
-}
-
-fn decision_of(kind: &StatementKind, s: StmtId) -> Decision
-    ensures { result ≡ decision_of kind.now s }
-{
-    match kind {
-        StatementKind::If(c, x, y) => Decision::Branch(Condition::Of(*c), *x, *y),
-        StatementKind::While(c, x) => Decision::Loop(Condition::Of(*c), *x, s),
-        _ => Decision::Straight,
-    }
 }
 
 // The list of what runs where a condition is false.
@@ -370,36 +326,64 @@ fn branch_list(lists: &mut Lists, s: Option<StmtId>, d: u32) -> Result<usize, No
     }
 }
 
-// The condition of a statement, or else its items.
-fn decided(
+// A condition, with one statement where it is true and maybe one where it is false.
+fn branch_front(
     alloc: Global,
     lists: &mut Lists,
-    decision: Decision,
+    c: Condition,
+    x: StmtId,
+    y: Option<StmtId>,
     d: u32,
-    items: Vec<Item>,
 ) -> Result<Front, NoMemory>
-    requires { highest_of items.items ≡ 0 }
-    ensures front { IfOk result (λ f. front_in lists.new.cells.keys f ≡ decided decision d (map bare items.items)) }
+    ensures front { IfOk result (λ f. front_in lists.new.cells.keys f ≡ Cond c d (one (Do x d)) (list_of_branch y d) ∷ []) }
     ensures within { IfOk result (λ f. highest_front f ≤ length lists.new.cells.keys) }
     ensures kept { Keeps lists.old.cells.keys lists.new.cells.keys }
 {
-    match decision {
-        Decision::Branch(c, x, y) => {
-            let p = lists.single(Item::Do(x, d))?;
-            let q = branch_list(lists, y, d)?;
-            front_of(alloc, lists, &[Item::Cond(c, d, p, q)])
-        }
-        Decision::Loop(c, x, w) => {
-            let end = lists.single(Item::LoopEnd(w, d))?;
-            let p = lists.push(Item::Do(x, d), end)?;
-            let q = lists.empty();
-            front_of(alloc, lists, &[Item::Cond(c, d, p, q)])
-        }
-        Decision::Straight => Ok(Front {
-            items,
-            then: lists.empty(),
-        }),
-    }
+    let p = lists.single(Item::Do(x, d))?;
+    let q = branch_list(lists, y, d)?;
+    front_of(alloc, lists, &[Item::Cond(c, d, p, q)])
+}
+
+// A loop's condition, with the loop's body, which the end of its turn follows.
+fn turn_front(
+    alloc: Global,
+    lists: &mut Lists,
+    c: Condition,
+    x: StmtId,
+    w: StmtId,
+    d: u32,
+) -> Result<Front, NoMemory>
+    ensures front { IfOk result (λ f. front_in lists.new.cells.keys f ≡ turn_front c x w d) }
+    ensures within { IfOk result (λ f. highest_front f ≤ length lists.new.cells.keys) }
+    ensures kept { Keeps lists.old.cells.keys lists.new.cells.keys }
+{
+    let end = lists.single(Item::LoopEnd(w, d))?;
+    let p = lists.push(Item::Do(x, d), end)?;
+    let q = lists.empty();
+    front_of(alloc, lists, &[Item::Cond(c, d, p, q)])
+}
+
+fn throw_items(
+    alloc: Global,
+    body: &Body,
+    e: ExprId,
+    d: u32,
+    pos: Pos,
+) -> Result<Vec<Item>, NoMemory>
+    ensures means { IfOk result (λ v. map bare v.items ≡ Ev e d ∷ Act (actions.Raise d (class_of_type (type_at body.now e))) pos ∷ []) }
+    ensures small { IfOk result (λ v. highest_of v.items ≡ 0) }
+{
+    let raise = Action::Raise(d, class_of_type(body.type_of(e)));
+    items_of(alloc, &[Item::Ev(e, d), Item::Act(raise, pos)])
+}
+
+// Items in a front, which hold no lists.
+fn items_front(alloc: Global, lists: &Lists, items: &[Item]) -> Result<Front, NoMemory>
+    requires { highest_of items.now ≡ 0 }
+    ensures front { IfOk result (λ f. front_in lists.now.cells.keys f ≡ map bare items.now) }
+    ensures highest { IfOk result (λ f. highest_front f ≡ 0) }
+{
+    Ok(plain(lists, items_of(alloc, items)?))
 }
 
 /// What a statement becomes.
@@ -411,12 +395,32 @@ pub fn statement_front(
     found: &TStmt,
     d: u32,
 ) -> Result<Front, NoMemory>
-    ensures front { IfOk result (λ f. front_in lists.new.cells.keys f ≡ statement_front body.now s found.now d) }
+    ensures front { IfOk result (λ f. front_in lists.new.cells.keys f ≡ statement_front found.now.kind body.now s d found.now.pos) }
     ensures within { IfOk result (λ f. highest_front f ≤ length lists.new.cells.keys) }
     ensures kept { Keeps lists.old.cells.keys lists.new.cells.keys }
 {
-    let items = straight_items(alloc, body, &found.kind, s, d, found.pos)?;
-    decided(alloc, lists, decision_of(&found.kind, s), d, items)
+    use program_model::StatementKind as Kind;
+    let pos = found.pos;
+    match &found.kind {
+        Kind::Block(ss, _) => Ok(plain(lists, block_items(alloc, s, ss, d, pos)?)),
+        Kind::Empty => items_front(alloc, lists, &[]),
+        Kind::LocalDeclaration(names) => Ok(plain(
+            lists,
+            declaration_items(alloc, body, d, names)?,
+        )),
+        Kind::Expression(e) => Ok(plain(lists, expression_items(alloc, *e, d, pos)?)),
+        Kind::If(c, x, y) => branch_front(alloc, lists, Condition::Of(*c), *x, *y, d),
+        Kind::While(c, x) => turn_front(alloc, lists, Condition::Of(*c), *x, s, d),
+        Kind::Do(x, _) => items_front(alloc, lists, &[Item::Do(*x, d), Item::LoopEnd(s, d)]),
+        Kind::For(l) => Ok(plain(lists, for_items(alloc, body, s, l, d, pos)?)),
+        Kind::Return(value) => Ok(plain(lists, return_items(alloc, *value, d, pos)?)),
+        Kind::Throw(e) => Ok(plain(lists, throw_items(alloc, body, *e, d, pos)?)),
+        Kind::Break => items_front(alloc, lists, &[Item::Out(Completion::Break(pos))]),
+        Kind::Continue => items_front(alloc, lists, &[Item::Out(Completion::Continue(pos))]),
+        Kind::Try(t) => Ok(plain(lists, try_items(alloc, s, t, d)?)),
+        Kind::SuperCall(c) => Ok(plain(lists, super_items(alloc, c, d, pos)?)),
+        Kind::FieldInitializer(e) => Ok(plain(lists, expression_items(alloc, *e, d, pos)?)),
+    }
 }
 
 fn for_condition(condition: Option<ExprId>, pos: Pos) -> Condition
@@ -428,38 +432,24 @@ fn for_condition(condition: Option<ExprId>, pos: Pos) -> Condition
     }
 }
 
-fn for_decision(kind: &StatementKind, s: StmtId, pos: Pos) -> Decision
-    ensures { result ≡ for_decision kind.now s pos }
-{
-    match kind {
-        StatementKind::For(l) => Decision::Loop(for_condition(l.condition, pos), l.body, s),
-        _ => Decision::Straight,
-    }
-}
-
 /// One more turn of a `for` whose first part is done.
 pub fn for_turn(
     alloc: Global,
     lists: &mut Lists,
-    s: StmtId,
+    w: StmtId,
     found: &TStmt,
     d: u32,
 ) -> Result<Front, NoMemory>
-    ensures front { IfOk result (λ f. front_in lists.new.cells.keys f ≡ for_turn s found.now d) }
+    ensures front { IfOk result (λ f. front_in lists.new.cells.keys f ≡ for_turn found.now.kind w d found.now.pos) }
     ensures within { IfOk result (λ f. highest_front f ≤ length lists.new.cells.keys) }
     ensures kept { Keeps lists.old.cells.keys lists.new.cells.keys }
 {
-    let decision = for_decision(&found.kind, s, found.pos);
-    let none = Vec::new(alloc);
-    decided(alloc, lists, decision, d, none)
-}
-
-fn turn_decision(kind: &StatementKind, s: StmtId) -> Decision
-    ensures { result ≡ turn_decision kind.now s }
-{
-    match kind {
-        StatementKind::Do(_, c) => Decision::Branch(Condition::Of(*c), s, None),
-        _ => Decision::Straight,
+    match &found.kind {
+        StatementKind::For(l) => {
+            let condition = for_condition(l.condition, found.pos);
+            turn_front(alloc, lists, condition, l.body, w, d)
+        }
+        _ => items_front(alloc, lists, &[]),
     }
 }
 
@@ -479,39 +469,25 @@ fn updates(
     Ok(items)
 }
 
-// The end of a turn that begins the next one.
-fn straight_turn(
-    alloc: Global,
-    body: &Body,
-    kind: &StatementKind,
-    s: StmtId,
-    d: u32,
-) -> Result<Vec<Item>, NoMemory>
-    ensures means { IfOk result (λ v. map bare v.items ≡ straight_turn kind.now body.now s d) }
-    ensures small { IfOk result (λ v. highest_of v.items ≡ 0) }
-{
-    match kind {
-        StatementKind::While(_, _) => items_of(alloc, &[Item::Do(s, d)]),
-        StatementKind::For(l) => updates(alloc, body, l, s, d),
-        _ => items_of(alloc, &[]),
-    }
-}
-
 /// The end of a loop's turn.
 pub fn loop_turn(
     alloc: Global,
     lists: &mut Lists,
     body: &Body,
-    s: StmtId,
+    w: StmtId,
     found: &TStmt,
     d: u32,
 ) -> Result<Front, NoMemory>
-    ensures front { IfOk result (λ f. front_in lists.new.cells.keys f ≡ loop_turn body.now s found.now d) }
+    ensures front { IfOk result (λ f. front_in lists.new.cells.keys f ≡ loop_turn found.now.kind body.now w d) }
     ensures within { IfOk result (λ f. highest_front f ≤ length lists.new.cells.keys) }
     ensures kept { Keeps lists.old.cells.keys lists.new.cells.keys }
 {
-    let items = straight_turn(alloc, body, &found.kind, s, d)?;
-    decided(alloc, lists, turn_decision(&found.kind, s), d, items)
+    match &found.kind {
+        StatementKind::While(_, _) => items_front(alloc, lists, &[Item::Do(w, d)]),
+        StatementKind::Do(_, c) => branch_front(alloc, lists, Condition::Of(*c), w, None, d),
+        StatementKind::For(l) => Ok(plain(lists, updates(alloc, body, l, w, d)?)),
+        _ => items_front(alloc, lists, &[]),
+    }
 }
 
 // What a statement of the body itself is at the start: a super call and a field initialiser are expanded at once.

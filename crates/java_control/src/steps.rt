@@ -2,7 +2,7 @@
 
 ghost use Rattle.std.specs.Prelude.{◌≡◌, ◌≤◌, ◌∷◌, [], map, length, option_map, IfOk};
 ghost use Rattle.java_control.specs.Changes.{highest_changes, highest_first, seen};
-ghost use Rattle.java_control.specs.Control.{becomes, expression_becomes, for_becomes, loop_becomes, statement_becomes};
+ghost use Rattle.java_control.specs.Becoming.{becomes, expression_becomes, for_becomes, loop_becomes, statement_becomes};
 ghost use Rattle.java_control.specs.declared.action.Action.TheVariants as actions;
 ghost use Rattle.java_control.specs.declared.action.Edge.TheVariants as edges;
 ghost use Rattle.java_control.specs.Tables.{Keeps, view_in};

@@ -1,2 +1,3 @@
 pub mod HierarchyLaws
 pub mod Supers
+pub mod NameLaws

@@ -4,8 +4,10 @@ pub mod InitialValues
 pub mod Jumps
 pub mod LocalSupers
 pub mod Lookups
+pub mod NameSets
 pub mod SuperTests
 pub mod TextOrder
 pub mod Trees
 pub mod Typing
 pub mod Validity
+pub mod Overrides

@@ -1,7 +1,7 @@
 -- One step more, over a table that grew.
 use Rattle.std.proofs.Common.{◌∙◌, ◌+◌, ◌++◌, ◌≤◌, ap, arith, drop, length, map}
 use Rattle.java_control.specs.Changes.{highest_steps, seen, step_in}
-use Rattle.java_control.specs.Control.{step_of}
+use Rattle.java_control.specs.Becoming.{step_of}
 use Rattle.java_control.specs.Remaining.{todos}
 use Rattle.java_control.specs.Tables.{list_at}
 use Rattle.java_control.proofs.StepLemmas.{step_more, steps_small, way_next, way_small}

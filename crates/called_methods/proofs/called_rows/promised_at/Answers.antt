@@ -1,0 +1,11 @@
+use Rattle.program_model.specs.declared.program.Promise.{Promise}
+use Rattle.program_model.specs.NameSets.{Names, when}
+use Rattle.program_model.proofs.NameLaws.{names_more}
+use Rattle.called_methods.specs.CalledRows.{holds_target}
+use Rattle.called_methods.proofs.called_rows.promised_at.Goals as goal
+
+pub loop-promise-preserved : goal.loop-promise-preserved
+loop-promise-preserved c =
+    let f : Promise → Names = λ x. when (holds_target c.args.p.now c.args.body c.args.action c.args.held x.target) x.names in
+    let more = names_more f c.args.promises.now c.loop-promise.promise-index c.promise-item.result c.loop-promise-test.true c.promise-item.is in
+    cc

@@ -1,0 +1,3 @@
+pub mod CalledRows
+pub mod Preconditions
+pub mod Promises

@@ -1,0 +1,4 @@
+pub mod Chains
+pub mod Elements
+pub mod MemberLaws
+pub mod Types

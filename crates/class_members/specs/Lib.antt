@@ -1,0 +1,5 @@
+pub mod Bodies
+pub mod Members
+pub mod Membership
+pub mod Results
+pub mod Signatures

@@ -1,0 +1,4 @@
+pub mod ClassNames
+pub mod Indexes
+pub mod Meanings
+pub mod WrittenTypes

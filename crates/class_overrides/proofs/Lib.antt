@@ -1,0 +1,4 @@
+pub mod CarriedMethods
+pub mod Lists
+pub mod OverrideSteps
+pub mod Walks

@@ -1,0 +1,3 @@
+pub mod CarriedMethods
+pub mod Cases
+pub mod Steps

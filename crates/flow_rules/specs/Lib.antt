@@ -1,0 +1,5 @@
+pub mod Ends
+pub mod Calls
+pub mod Flow
+pub mod Paths
+pub mod Numbering

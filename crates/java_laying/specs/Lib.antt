@@ -1,0 +1,7 @@
+pub mod Bodies
+pub mod Cells
+pub mod Flat
+pub mod Forest
+pub mod StatementCells
+pub mod StatementFlat
+pub mod StatementForest

@@ -1,0 +1,4 @@
+pub mod Assignments
+pub mod Calls
+pub mod Fields
+pub mod Names

@@ -1,0 +1,5 @@
+pub mod Arrays
+pub mod Casts
+pub mod Conditionals
+pub mod Literals
+pub mod Operators

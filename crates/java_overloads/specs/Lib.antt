@@ -1,0 +1,2 @@
+pub mod MostSpecific
+pub mod Overloads

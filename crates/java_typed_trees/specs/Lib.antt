@@ -1,0 +1,9 @@
+pub mod AnswerParts
+pub mod Answers
+pub mod Exceptions
+pub mod ExpressionTrees
+pub mod Names
+pub mod Settling
+pub mod StatementTrees
+pub mod WellFormed
+pub mod WellFormedStatements

@@ -1,0 +1,10 @@
+pub mod MustCallSets
+pub mod Signatures
+pub mod Bodies
+pub mod Assigned
+pub mod Overridings
+pub mod AliasCases
+pub mod OverrideCases
+pub mod OwningCases
+pub mod ResetCases
+pub mod WellFormed
