@@ -18,12 +18,13 @@ use Rattle.program_model.specs.Lookups.{class_at, optional}
 use Rattle.rlc_base.specs.declared.code.Code.TheVariants as refused
 use Rattle.refusal_order.specs.Refusals.{refused_at}
 use Rattle.class_names.specs.declared.class_name.ClassName.{ClassName}
-use Rattle.class_headers.specs.declared.declared.Declared.{Declared}
+use Rattle.class_order.specs.declared.declared.Declared.{Declared}
 use Rattle.class_headers.specs.declared.supers.Supers.{Supers}
 use Rattle.class_names.specs.ClassNames.{class_number}
-use Rattle.class_headers.specs.Cases.{IsCycleAt, IsCycleCase, IsLeast}
+use Rattle.class_headers.specs.Cases.{IsCycleAt, IsCycleCase}
+use Rattle.class_order.specs.Cases.{IsLeast}
 use Rattle.class_headers.specs.Cycles.{marked_classes}
-use Rattle.class_headers.specs.Declarations.{Declaration, declaration_of, place_of}
+use Rattle.class_order.specs.Declarations.{Declaration, declaration_of, place_of}
 use Rattle.class_headers.specs.Headers.{AllList, Header, ListsAbove, declared_header, declared_headers, header_of}
 use Rattle.class_headers.specs.Search.{AreAbove, is_marked}
 use Rattle.class_headers.specs.SuperTypes.{AreKnown, IsAboveItself, IsUnder, SuperTypes, itself, above, all_direct, declared_supers, direct_of, listed_at, object_above, right_above, supers_from, supers_of}

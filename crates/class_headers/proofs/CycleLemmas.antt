@@ -1,12 +1,10 @@
 -- Lemmas on classes above themselves, and on the least of refusals that a relation gives.
 use Rattle.std.proofs.Common.{◌≡◌, ◌↔◌, ◌∙◌, sym, ap, refl, subst, arith, inl, inr, ⊎_elim, ℕ, ◌+◌, ◌<◌, ◌≤◌, Bool, true, false, true≢false, IsTrue, cond, Option, Some, None, List, [], ◌∷◌, ◌++◌, length, map}
-use Rattle.std.specs.Prelude.{slice_get, ◌⊎◌, filter, nat_lt}
+use Rattle.std.specs.Prelude.{slice_get, ◌⊎◌, filter}
 use Rattle.std.specs.List.{range_with_len}
 use Rattle.std.proofs.lemmas.List.{map-append}
 use Rattle.std.proofs.lemmas.List.Elements.{filter-append}
-use Rattle.std.proofs.lemmas.Bool.Decides.{nat_tests}
 use Rattle.std.proofs.lemmas.Option.{slice_get_within}
-use Rattle.rlc_base.specs.Codes.{number_of}
 use Rattle.class_names.proofs.NameLemmas.{range_push}
 use Rattle.std.specs.List.{Contains}
 use Rattle.std.proofs.lemmas.Bool.{cases_lt, eq-eqb, eqb-true}
@@ -15,12 +13,13 @@ use Rattle.rlc_base.specs.declared.code.Code.TheVariants as refused
 use Rattle.rlc_base.specs.declared.faults.Refusal.{Refusal}
 use Rattle.program_model.specs.declared.kinds.ClassId.{ClassId}
 use Rattle.program_model.specs.SuperTests.{has_class, is_class}
-use Rattle.refusal_order.specs.Refusals.{is_before, is_less_or, least, lesser_of, refused_at, where_true}
-use Rattle.refusal_order.proofs.LeastLaws.{is_before-transitive, is_before-weak}
+use Rattle.refusal_order.specs.Refusals.{is_before, least, lesser_of, refused_at, where_true}
 use Rattle.class_names.specs.ClassNames.{class_number}
-use Rattle.class_headers.specs.Cases.{IsCycleAt, IsCycleCase, IsLeast}
+use Rattle.class_headers.specs.Cases.{IsCycleAt, IsCycleCase}
+use Rattle.class_order.specs.Cases.{IsLeast}
+use Rattle.class_order.proofs.LeastLemmas.{least_joined, least_same, not_before_itself}
 use Rattle.class_headers.specs.Cycles.{closes}
-use Rattle.class_headers.specs.Declarations.{Declaration, place_of}
+use Rattle.class_order.specs.Declarations.{Declaration, place_of}
 use Rattle.class_headers.specs.Search.{AreFound}
 use Rattle.class_headers.specs.SuperTypes.{IsAboveItself, IsUnder, itself, above, right_above}
 use Rattle.class_headers.proofs.SearchLemmas.{under_more}
@@ -36,6 +35,13 @@ has_class_contains cs d passes =
 
 pub contains_has_class : (cs : List ClassId) (d : ClassId) → Contains cs d → has_class cs d ≡ true
 contains_has_class cs d here = list_any-from_Any (λ x. is_class x d) cs (here.0, d, here.1, here.2, eq-eqb d.0 d.0 refl)
+
+-- the classes that are found are those that the class stands under
+pub found_under : (direct : List (List ClassId)) (found : List ClassId) (c d : ClassId) (b : Bool) → b ≡ has_class found d → AreFound direct c found → IsTrue b ↔ IsUnder direct c d
+found_under direct found c d b is h = (
+  (λ passes. (h.exact d).0 (has_class_contains found d (sym is ∙ passes))),
+  (λ under. is ∙ contains_has_class found d ((h.exact d).1 under)),
+)
 
 -- a chain that leads back to its begin
 closed_chain : (direct : List (List ClassId)) (c b : ClassId) → IsUnder direct c b → Contains (right_above direct b) c → IsAboveItself direct c
@@ -68,36 +74,7 @@ closes_law direct found c h = (
       list_any-from_Any (λ b. has_class (right_above direct b) c) found (here.0, last.0, here.1, here.2, contains_has_class (right_above direct last.0) c last.2)),
 )
 
--- ---- the least of refusals
-
-pub least_joined : (P Q R : Refusal → Type 0) (x y : Option Refusal) → ((r : Refusal) → R r → P r ⊎ Q r) → ((r : Refusal) → P r → R r) → ((r : Refusal) → Q r → R r) → IsLeast P x → IsLeast Q y → IsLeast R (lesser_of x y)
-least_joined P Q R None None split left right h g = λ r due. ⊎_elim (λ p. h r p) (λ q. g r q) (split r due)
-least_joined P Q R None (Some y) split left right h g = (right y g.0, λ s due. ⊎_elim (λ p. absurd (h s p)) (λ q. g.1 s q) (split s due))
-least_joined P Q R (Some x) None split left right h g = (left x h.0, λ s due. ⊎_elim (λ p. h.1 s p) (λ q. absurd (g s q)) (split s due))
-least_joined P Q R (Some x) (Some y) split left right h g = choose (is_before y x) refl
-  where
-    not_before : (s : Refusal) (b : Bool) → is_before s y ≡ b → is_before y x ≡ true → is_before s x ≡ false → b ≡ false
-    not_before s false is first other = refl
-    not_before s true is first other = absurd (true≢false (sym (is_before-transitive s y x is first) ∙ other))
-
-    choose : (b : Bool) → is_before y x ≡ b → IsLeast R (Some (cond b y x))
-    choose true first = (right y g.0, λ s due. ⊎_elim (λ p. not_before s (is_before s y) refl first (h.1 s p)) (λ q. g.1 s q) (split s due))
-    choose false first = (left x h.0, λ s due. ⊎_elim (λ p. h.1 s p) (λ q. is_before-weak s y x (g.1 s q) first) (split s due))
-
-pub least_same : (P Q : Refusal → Type 0) (x : Option Refusal) → ((r : Refusal) → P r → Q r) → ((r : Refusal) → Q r → P r) → IsLeast P x → IsLeast Q x
-least_same P Q None there back h = λ r due. h r (back r due)
-least_same P Q (Some x) there back h = (there x h.0, λ s due. h.1 s (back s due))
-
-less_or_same : (n : ℕ) (b : Bool) → is_less_or n n b ≡ b
-less_or_same n true = grind (arith, nat_tests)
-less_or_same n false = grind (arith, nat_tests)
-
-not_less : (n : ℕ) → nat_lt n n ≡ false
-not_less n = grind (arith, nat_tests)
-
-not_before_itself : (x : Refusal) → is_before x x ≡ false
-not_before_itself x =
-    less_or_same x.pos.file _ ∙ less_or_same x.pos.line _ ∙ less_or_same x.pos.col _ ∙ not_less (number_of x.code)
+-- ---- the refusals of classes above themselves
 
 -- the refusal of one class
 pub case_least : (direct : List (List ClassId)) (c : ClassId) (o : Option Declaration) (d : Declaration) (b : Bool) → o ≡ Some d → IsTrue b ↔ IsAboveItself direct c → IsLeast (IsCycleAt direct c o) (least (where_true b refused.CyclicSupers (place_of d)))

@@ -16,7 +16,7 @@ use Rattle.class_names.specs.declared.meaning.Meaning.{Meaning}
 use Rattle.class_names.specs.declared.meaning.Meaning.TheVariants.{Named, NoClass, TwoClasses}
 use Rattle.class_names.specs.ClassNames.{class_at, class_number, class_of_name, name_of_class, names_of, simply_named, simply_named_from}
 use Rattle.class_names.specs.Meanings.{CompilationUnit, has, has_dot, is_seen, is_seen_on, meaning_of, or_next, qualified_meaning, seen_class, simple_meaning, sole, those}
-use Rattle.class_headers.specs.Declarations.{Declaration}
+use Rattle.class_order.specs.Declarations.{Declaration}
 use Rattle.class_headers.specs.SuperTypes.{AreKnown, all_direct, class_named, declared_supers, direct_of, implied_class, listed_at, named_class, object_above, right_above, super_class, super_interfaces, supers_from}
 
 -- a meaning within so many classes
@@ -85,6 +85,12 @@ named_known : (n : ℕ) (m : Meaning) → IsWithin n m → All (IsBelow n) (opti
 named_known n (Named c) h = All-cons (IsBelow n) c [] h (All-nil (IsBelow n))
 named_known n NoClass h = All-nil (IsBelow n)
 named_known n TwoClasses h = All-nil (IsBelow n)
+
+-- the class that a name means is one of the list
+pub class_named_known : (classes : List ClassName) (u : CompilationUnit) (x : Name) (c : ClassId) → class_named classes u x ≡ Some c → c.0 < length classes
+class_named_known classes u x c is =
+    let P : Option ClassId → Type 0 = λ o. All (IsBelow (length classes)) (optional o) in
+    All-contains (IsBelow (length classes)) (c ∷ []) c (subst P is (named_known (length classes) (meaning_of classes u x.text) (meaning_within classes u x.text))) (0, (omega arith), refl)
 
 interfaces_known : (classes : List ClassName) (u : CompilationUnit) (names : List Name) → All (IsBelow (length classes)) (super_interfaces classes u names)
 interfaces_known classes u [] = All-nil (IsBelow (length classes))

@@ -1,6 +1,5 @@
 pub mod AboveLemmas
-pub mod CaseLemmas
 pub mod CycleLemmas
-pub mod DeclarationLemmas
 pub mod KnownLemmas
 pub mod SearchLemmas
+pub mod SuperLemmas

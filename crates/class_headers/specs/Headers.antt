@@ -9,7 +9,7 @@ use Rattle.program_model.specs.Lookups.{optional}
 use Rattle.class_names.specs.declared.class_name.ClassName.{ClassName}
 use Rattle.class_names.specs.ClassNames.{class_of_name}
 use Rattle.class_headers.specs.Cases.{is_abstract, is_final}
-use Rattle.class_headers.specs.Declarations.{Declaration, name_of, place_of}
+use Rattle.class_order.specs.Declarations.{Declaration, name_of, place_of}
 use Rattle.class_headers.specs.SuperTypes.{IsUnder, SuperTypes}
 
 -- what a class is

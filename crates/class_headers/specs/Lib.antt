@@ -1,8 +1,5 @@
 pub mod Cases
-pub mod Core
 pub mod Cycles
-pub mod Declarations
 pub mod Headers
 pub mod Search
 pub mod SuperTypes
-pub mod UnknownNames

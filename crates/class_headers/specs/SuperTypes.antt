@@ -8,7 +8,7 @@ use Rattle.class_names.specs.declared.class_name.ClassName.{ClassName}
 use Rattle.class_names.specs.declared.meaning.Meaning.{Meaning}
 use Rattle.class_names.specs.declared.meaning.Meaning.TheVariants.{Named, NoClass, TwoClasses}
 use Rattle.class_names.specs.Meanings.{CompilationUnit, meaning_of}
-use Rattle.class_headers.specs.Declarations.{Declaration}
+use Rattle.class_order.specs.Declarations.{Declaration}
 use Rattle.class_headers.specs.declared.supers.Supers.{Supers}
 
 abbrev pub named_class : Meaning → Option ClassId

@@ -3,14 +3,15 @@
 ghost use Rattle.std.specs.Prelude.{◌≡◌, ◌↔◌, ◌≤◌, ◌<◌, ◌^◌, ◌++◌, ◌∷◌, [], if◌then◌else◌, length, map, slice_get, IsTrue, IfOk, OnOk};
 ghost use Rattle.program_model.specs.SuperTests.{has_class};
 ghost use Rattle.class_names.specs.ClassNames.{class_number, rows_in};
-ghost use Rattle.class_headers.specs.Cases.{IsCycleAt, IsCycleCase, IsLeast};
+ghost use Rattle.class_headers.specs.Cases.{IsCycleAt, IsCycleCase};
+ghost use Rattle.class_order.specs.Cases.{IsLeast};
 ghost use Rattle.class_headers.specs.Cycles.{closes, marked_classes};
-ghost use Rattle.class_headers.specs.Declarations.{declaration_of};
+ghost use Rattle.class_order.specs.Declarations.{declaration_of};
 ghost use Rattle.class_headers.specs.Search.{AreFound, AreMarked};
-ghost use Rattle.class_headers.specs.SuperTypes.{AreKnown, IsAboveItself};
+ghost use Rattle.class_headers.specs.SuperTypes.{AreKnown, IsAboveItself, IsUnder};
 
-use crate::declared::Declared;
 use crate::search::{clear_marks, found_above, right_above};
+use class_order::Declared;
 use program_model::ClassId;
 use refusal_order::{lesser_of, where_true};
 use rlc_base::{Code, NoMemory, Refusal};
@@ -21,6 +22,27 @@ fn has_class(classes: &[ClassId], class: ClassId) -> bool
     ensures { result ≡ has_class classes.now class }
 {
     classes.iter().any(|x| *x == class)
+}
+
+/// Whether a class is the other or stands under it (JLS 4.10.2), by marks of which none is set, before and after. It takes the
+/// time of what the class stands under.
+pub fn is_under(
+    alloc: Global,
+    direct: &[Vec<ClassId>],
+    marks: &mut Vec<bool>,
+    class: ClassId,
+    other: ClassId,
+) -> Result<bool, NoMemory>
+    requires known { AreKnown (rows_in direct.now) }
+    requires within { class.0 < length direct.now }
+    requires long { length marks.old.items ≡ length direct.now }
+    requires clear { AreMarked [] marks.old.items }
+    ensures under { IfOk result (λ b. IsTrue b ↔ IsUnder (rows_in direct.now) class other) }
+    ensures clear { OnOk result (AreMarked [] marks.new.items) }
+    ensures length { OnOk result (length marks.new.items ≡ length marks.old.items) }
+{
+    let found = found_above(alloc, direct, marks, class)?;
+    Ok(has_class(&found, other))
 }
 
 // Whether one of the classes has the class right above it.

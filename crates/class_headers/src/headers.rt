@@ -6,18 +6,19 @@ ghost use Rattle.program_model.specs.Lookups.{optional};
 ghost use Rattle.program_model.specs.declared.kinds.ClassId.{ClassId};
 ghost use Rattle.program_model.specs.declared.program.Class.{Class};
 ghost use Rattle.class_names.specs.ClassNames.{class_number, class_of_name, rows_in};
-ghost use Rattle.class_headers.specs.Cases.{IsCycleCase, IsLeast};
-ghost use Rattle.class_headers.specs.Declarations.{class_names, declaration_of};
+ghost use Rattle.class_headers.specs.Cases.{IsCycleCase};
+ghost use Rattle.class_order.specs.Cases.{IsLeast};
+ghost use Rattle.class_order.specs.Declarations.{class_names, declaration_of};
 ghost use Rattle.class_headers.specs.Headers.{AllList, ListsAbove, classes_of_names, declared_header, declared_headers, header_of};
 ghost use Rattle.class_headers.specs.SuperTypes.{AreKnown, all_direct, all_supers, supers_of};
 
 use crate::cyclic::marked_classes;
-use crate::declared::{Declared, name_of};
 use crate::kinds::{is_abstract, is_final};
 use crate::search::marks_above;
 use crate::super_table::SuperTable;
 use crate::supers::Supers;
 use class_names::ClassNames;
+use class_order::{Declared, name_of};
 use java_syntax::Settings;
 use program_model::{Class, ClassId, CoreClasses, Program};
 use rlc_base::{NameSet, Names, NoMemory, Text};
@@ -134,6 +135,7 @@ pub fn header_table(
     ensures core { IfOk result (λ p. p.core ≡ core) }
     ensures ignored { IfOk result (λ p. p.ignored.items ≡ classes_of_names names.now settings.now.ignored.items) }
     ensures exact { IfOk result (λ p. p.exact.items ≡ classes_of_names names.now settings.now.exact.items) }
+    ensures above { IfOk result (λ p. AllList (rows_in table.now.direct.items) p.classes.items) }
     ensures hierarchy { IfOk result (λ p. IsHierarchy p) }
 {
     let classes = classes_of(alloc, order, table)?;

@@ -1,48 +1,33 @@
-//! Super types of a wrong kind, and too many classes.
+//! Super types of a wrong kind.
 
 ghost use Rattle.std.specs.Prelude.{◌≡◌, map, not, option_map};
 ghost use Rattle.std.specs.List.{list_any};
 ghost use Rattle.std.specs.Option.{option_copied};
 ghost use Rattle.program_model.specs.Lookups.{optional};
 ghost use Rattle.refusal_order.specs.Refusals.{least};
-ghost use Rattle.class_headers.specs.Cases.{bad_super_case, bad_super_cases, bad_super_of, has_bad_super, is_abstract, is_abstract_word, is_extensible, is_final, is_final_word, is_interface, too_many_cases};
-ghost use Rattle.class_headers.specs.Declarations.{declaration_of};
+ghost use Rattle.class_headers.specs.Cases.{bad_super_case, bad_super_cases, bad_super_of, has_bad_super, is_abstract, is_extensible, is_final, is_interface};
+ghost use Rattle.class_order.specs.Declarations.{declaration_of};
 ghost use Rattle.class_headers.specs.SuperTypes.{supers_of};
 
-use crate::declared::Declared;
 use crate::supers::Supers;
-use java_syntax::{ClassDecl, Modifier};
+use class_order::{Declared, has_abstract, has_final};
+use java_syntax::ClassDecl;
 use program_model::ClassId;
 use refusal_order::{lesser_of, where_true};
 use rlc_base::{Code, Refusal};
-
-/// How many classes a program has at most, those of the stubs included.
-pub const MAX_CLASSES: usize = 4096;
-
-fn is_final_word(modifier: &Modifier) -> bool
-    ensures { result ≡ is_final_word modifier.now }
-{
-    matches!(modifier, Modifier::Final)
-}
-
-fn is_abstract_word(modifier: &Modifier) -> bool
-    ensures { result ≡ is_abstract_word modifier.now }
-{
-    matches!(modifier, Modifier::Abstract)
-}
 
 /// Whether `final` stands before a class (JLS 8.1.1.2).
 pub fn is_final(class: &ClassDecl) -> bool
     ensures { result ≡ is_final class.now }
 {
-    class.modifiers.iter().any(|m| is_final_word(m))
+    has_final(&class.modifiers)
 }
 
 /// Whether `abstract` stands before a class (JLS 8.1.1.1).
 pub fn is_abstract(class: &ClassDecl) -> bool
     ensures { result ≡ is_abstract class.now }
 {
-    class.modifiers.iter().any(|m| is_abstract_word(m))
+    has_abstract(&class.modifiers)
 }
 
 // Whether the class with this number is an interface.
@@ -125,17 +110,4 @@ pub fn bad_supers(order: &[Declared], supers: &[Supers]) -> Option<Refusal>
         found = lesser_of(found, bad_super_case(order, supers, number));
     }
     found
-}
-
-/// The refusal of too many classes, code 62 at the first class past 4,096.
-pub fn too_many_classes(order: &[Declared]) -> Option<Refusal>
-    ensures { result ≡ least (too_many_cases (map declaration_of order.now)) }
-{
-    match order.get(MAX_CLASSES) {
-        None => None,
-        Some(class) => Some(Refusal {
-            code: Code::TooManyClasses,
-            pos: class.declaration.name.pos,
-        }),
-    }
 }

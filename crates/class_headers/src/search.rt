@@ -84,7 +84,7 @@ fn search(
 }
 
 /// As many marks as there are classes, none of them set.
-pub(crate) fn clear_marks(alloc: Global, count: usize) -> Result<Vec<bool>, NoMemory>
+pub fn clear_marks(alloc: Global, count: usize) -> Result<Vec<bool>, NoMemory>
     ensures clear { IfOk result (λ m. AreMarked [] m.items) }
     ensures length { IfOk result (λ m. length m.items ≡ count) }
 {
@@ -115,8 +115,9 @@ fn unmark(marks: &mut Vec<bool>, class: ClassId)
     }
 }
 
-/// The class and what it stands under, each once, by marks of which none is set, before and after.
-pub(crate) fn found_above(
+/// The class and what it stands under, each once, by marks of which none is set, before and after. It takes the time of what
+/// it finds.
+pub fn found_above(
     alloc: Global,
     direct: &[Vec<ClassId>],
     marks: &mut Vec<bool>,

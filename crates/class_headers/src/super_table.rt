@@ -2,12 +2,12 @@
 
 ghost use Rattle.std.specs.Prelude.{◌≡◌, ◌≤◌, ◌^◌, Some, codes, length, map, IfOk};
 ghost use Rattle.class_names.specs.ClassNames.{class_of_name, rows_in};
-ghost use Rattle.class_headers.specs.Declarations.{class_names, declaration_of};
+ghost use Rattle.class_order.specs.Declarations.{class_names, declaration_of};
 ghost use Rattle.class_headers.specs.SuperTypes.{AreKnown, all_direct, all_supers, supers_of};
 
-use crate::declared::Declared;
 use crate::supers::{Supers, all_direct, all_supers};
 use class_names::ClassNames;
+use class_order::Declared;
 use program_model::ClassId;
 use rlc_base::NoMemory;
 use std::alloc::Global;

@@ -4,11 +4,11 @@ ghost use Rattle.std.specs.Prelude.{◌≡◌, ◌≤◌, ◌^◌, ◌++◌, map
 ghost use Rattle.program_model.specs.Lookups.{optional};
 ghost use Rattle.class_names.specs.ClassNames.{rows_in};
 ghost use Rattle.class_names.specs.Meanings.{unit_of};
-ghost use Rattle.class_headers.specs.Declarations.{declaration_of};
+ghost use Rattle.class_order.specs.Declarations.{declaration_of};
 ghost use Rattle.class_headers.specs.SuperTypes.{all_direct, all_supers, class_named, declared_supers, direct_of, implied_class, named_class, super_class, super_interfaces, supers_of};
 
-use crate::declared::Declared;
 use class_names::{ClassNames, Meaning, Scope, meaning_of};
+use class_order::Declared;
 use java_syntax::Name;
 use program_model::ClassId;
 use rlc_base::NoMemory;

@@ -15,7 +15,7 @@ use Rattle.java_control.specs.declared.fact.Outcome.TheVariants.{Next, Fault}
 use Rattle.java_control.specs.declared.fact.Rule.{Rule}
 use Rattle.obligation_facts.specs.Facts.{Names}
 use Rattle.class_overrides.specs.Cases.{class_cases}
-use Rattle.must_call_types.specs.AnnotationCases.{annotation_cases}
+use Rattle.annotation_rules.specs.AnnotationCases.{annotation_cases}
 use Rattle.must_call_types.specs.Signed.{IsSigned}
 use Rattle.must_call_sets.specs.WellFormed.{IsWellFormed}
 use Rattle.obligation_facts.specs.SmallActions.{IsSmallAction}

@@ -1,1 +1,1 @@
-mod Evaluation
+pub mod Stacks

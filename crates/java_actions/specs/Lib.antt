@@ -1,6 +1,5 @@
-pub mod Primaries
-pub mod Joined
-pub mod Build
-pub mod BuildTypes
-pub mod BuildAnnotations
-pub mod Evaluate
+pub mod TokenActions
+pub mod ExpressionActions
+pub mod AnnotationActions
+pub mod StatementActions
+pub mod DeclarationActions

@@ -1,24 +1,14 @@
-//! The semantic actions of the productions of expressions, types and annotations, and the fold that performs them.
+//! What each action of the grammar's table does: it takes values off the stack and leaves what it makes of them.
 #![tactic(auto)]
 
-mod annotation_nodes;
-mod build_annotations;
-mod build_insides;
-mod build_operands;
-mod build_operations;
-mod build_parentheses;
-mod build_primaries;
-mod build_suffixes;
-mod build_tails;
-mod build_types;
-mod build_values;
-mod derivations;
-mod names;
-mod operations;
-mod primaries;
+mod annotation_actions;
+mod declaration_actions;
+mod expression_actions;
+mod statement_actions;
+mod token_actions;
 
-pub use build_operands::build_expression;
-pub use build_types::build_declaration;
-pub use derivations::{build, evaluate, lexeme};
-pub use names::{name_at, name_of, primitive_at, type_of};
-pub use primaries::{begun, completed, dotted, finished, head, tailed};
+pub use annotation_actions::perform_annotation_action;
+pub use declaration_actions::perform_declaration_action;
+pub use expression_actions::perform_expression_action;
+pub use statement_actions::perform_statement_action;
+pub use token_actions::perform_token_action;

@@ -6,10 +6,10 @@ use Rattle.java_syntax.specs.Derives.{Lexeme}
 use Rattle.java_values.specs.Values.{ValueTree}
 use Rattle.java_exprs.specs.FrontTrees.{IsFrontTree}
 
-pub front_moved : {A : Type 0} (view : List ValueTree → A) (symbol : Symbol) (limit : ℕ) (old new : List Lexeme) (found at : ℕ) (tree : A) → old ≡ new
-    → ((count : ℕ) (t : A) → IsFrontTree view symbol limit old count t → (count ≡ found) × (t ≡ tree))
-    → (count : ℕ) (t : A) → IsFrontTree view symbol limit new count t → (count ≡ at + found - at) × (t ≡ tree)
-front_moved {A} view symbol limit old new found at tree e only count t f =
-    let r = only count t (subst (λ (ts : List Lexeme). IsFrontTree {A = A} view symbol limit ts count t) (sym e) f) in
+pub front_moved : {A : Type 0} (shows : A → List ValueTree → Type 0) (symbol : Symbol) (limit : ℕ) (start : List ValueTree) (old new : List Lexeme) (found at : ℕ) (tree : A) → old ≡ new
+    → ((count : ℕ) (t : A) → IsFrontTree shows symbol limit start old count t → (count ≡ found) × (t ≡ tree))
+    → (count : ℕ) (t : A) → IsFrontTree shows symbol limit start new count t → (count ≡ at + found - at) × (t ≡ tree)
+front_moved {A} shows symbol limit start old new found at tree e only count t f =
+    let r = only count t (subst (λ (ts : List Lexeme). IsFrontTree {A = A} shows symbol limit start ts count t) (sym e) f) in
     let same : count ≡ found = r.0 in
     (omega (arith, same), r.1)

@@ -1,11 +1,11 @@
-ghost use Rattle.std.specs.Prelude.{◌≡◌, ◌-◌, ◌<◌, ◌≤◌, ◌^◌, ℕ, List, drop, map, length, IfOk, IfErr};
+ghost use Rattle.std.specs.Prelude.{◌≡◌, ◌-◌, ◌<◌, ◌≤◌, ◌^◌, ℕ, List, [], drop, map, length, IfOk, IfErr};
 ghost use Rattle.java_lexer.specs.Cut.{place_behind};
 ghost use Rattle.java_syntax.specs.declared.names.Typ.{Typ as TypTree};
 ghost use Rattle.java_syntax.specs.declared.symbols.Symbol.TheVariants as symbols;
 ghost use Rattle.java_syntax.specs.ExpressionTrees.{ExprTree, expr_of};
 ghost use Rattle.java_syntax.specs.AnnotationTrees.{AnnoTree, anno_of};
 ghost use Rattle.java_grammar.specs.Reached.{lexemes_of};
-ghost use Rattle.java_exprs.specs.FrontTrees.{IsFrontTree, IsFrontStop, expression_on, type_on, annotations_on};
+ghost use Rattle.java_exprs.specs.FrontTrees.{IsExpressionFront, IsTypeFront, IsAnnotationsFront, IsFrontStop, no_annotation};
 
 use crate::front_trees::{annotations_front, expression_front, type_front};
 use java_lexer::{Source, end_place};
@@ -35,9 +35,9 @@ pub fn parse_expr(
 ) -> Result<(Expr, usize), Stop>
     requires { length source.now.bytes.now < 2 ^ 32 - 1 }
     ensures behind { IfOk result (λ found. at ≤ found.1) }
-    ensures parsed { IfOk result (λ found. IsFrontTree expression_on symbols.Expression (128 - level) (lexemes_of source.now.bytes.now (drop at source.now.tokens.now)) (found.1 - at) (expr_of found.0)) }
-    ensures only { IfOk result (λ found. (count : ℕ) (tree : ExprTree) → IsFrontTree expression_on symbols.Expression (128 - level) (lexemes_of source.now.bytes.now (drop at source.now.tokens.now)) count tree → (count ≡ found.1 - at) × (tree ≡ expr_of found.0)) }
-    ensures stopped { IfErr result (λ stop. IsFrontStop symbols.Expression (128 - level) (lexemes_of source.now.bytes.now (drop at source.now.tokens.now)) (place_behind source.now.file source.now.bytes.now) stop) }
+    ensures parsed { IfOk result (λ found. IsExpressionFront (128 - level) (lexemes_of source.now.bytes.now (drop at source.now.tokens.now)) (found.1 - at) (expr_of found.0)) }
+    ensures only { IfOk result (λ found. (count : ℕ) (tree : ExprTree) → IsExpressionFront (128 - level) (lexemes_of source.now.bytes.now (drop at source.now.tokens.now)) count tree → (count ≡ found.1 - at) × (tree ≡ expr_of found.0)) }
+    ensures stopped { IfErr result (λ stop. IsFrontStop symbols.Expression (128 - level) [] (lexemes_of source.now.bytes.now (drop at source.now.tokens.now)) (place_behind source.now.file source.now.bytes.now) stop) }
 {
     let tokens = tokens_from(source.tokens, at);
     let end = end_place(source);
@@ -56,9 +56,9 @@ pub fn parse_expr(
 pub fn parse_type(alloc: Global, source: &Source, at: usize) -> Result<(Typ, usize), Stop>
     requires { length source.now.bytes.now < 2 ^ 32 - 1 }
     ensures behind { IfOk result (λ found. at ≤ found.1) }
-    ensures parsed { IfOk result (λ found. IsFrontTree type_on symbols.Type 128 (lexemes_of source.now.bytes.now (drop at source.now.tokens.now)) (found.1 - at) found.0) }
-    ensures only { IfOk result (λ found. (count : ℕ) (tree : TypTree) → IsFrontTree type_on symbols.Type 128 (lexemes_of source.now.bytes.now (drop at source.now.tokens.now)) count tree → (count ≡ found.1 - at) × (tree ≡ found.0)) }
-    ensures stopped { IfErr result (λ stop. IsFrontStop symbols.Type 128 (lexemes_of source.now.bytes.now (drop at source.now.tokens.now)) (place_behind source.now.file source.now.bytes.now) stop) }
+    ensures parsed { IfOk result (λ found. IsTypeFront (lexemes_of source.now.bytes.now (drop at source.now.tokens.now)) (found.1 - at) found.0) }
+    ensures only { IfOk result (λ found. (count : ℕ) (tree : TypTree) → IsTypeFront (lexemes_of source.now.bytes.now (drop at source.now.tokens.now)) count tree → (count ≡ found.1 - at) × (tree ≡ found.0)) }
+    ensures stopped { IfErr result (λ stop. IsFrontStop symbols.Type 128 [] (lexemes_of source.now.bytes.now (drop at source.now.tokens.now)) (place_behind source.now.file source.now.bytes.now) stop) }
 {
     let tokens = tokens_from(source.tokens, at);
     let end = end_place(source);
@@ -83,9 +83,9 @@ pub fn parse_annos(
 ) -> Result<(Vec<Anno>, usize), Stop>
     requires { length source.now.bytes.now < 2 ^ 32 - 1 }
     ensures behind { IfOk result (λ found. at ≤ found.1) }
-    ensures parsed { IfOk result (λ found. IsFrontTree annotations_on symbols.Annotations (128 - level) (lexemes_of source.now.bytes.now (drop at source.now.tokens.now)) (found.1 - at) (map anno_of found.0.items)) }
-    ensures only { IfOk result (λ found. (count : ℕ) (tree : List AnnoTree) → IsFrontTree annotations_on symbols.Annotations (128 - level) (lexemes_of source.now.bytes.now (drop at source.now.tokens.now)) count tree → (count ≡ found.1 - at) × (tree ≡ map anno_of found.0.items)) }
-    ensures stopped { IfErr result (λ stop. IsFrontStop symbols.Annotations (128 - level) (lexemes_of source.now.bytes.now (drop at source.now.tokens.now)) (place_behind source.now.file source.now.bytes.now) stop) }
+    ensures parsed { IfOk result (λ found. IsAnnotationsFront (128 - level) (lexemes_of source.now.bytes.now (drop at source.now.tokens.now)) (found.1 - at) (map anno_of found.0.items)) }
+    ensures only { IfOk result (λ found. (count : ℕ) (tree : List AnnoTree) → IsAnnotationsFront (128 - level) (lexemes_of source.now.bytes.now (drop at source.now.tokens.now)) count tree → (count ≡ found.1 - at) × (tree ≡ map anno_of found.0.items)) }
+    ensures stopped { IfErr result (λ stop. IsFrontStop symbols.Annotations (128 - level) no_annotation (lexemes_of source.now.bytes.now (drop at source.now.tokens.now)) (place_behind source.now.file source.now.bytes.now) stop) }
 {
     let tokens = tokens_from(source.tokens, at);
     let end = end_place(source);

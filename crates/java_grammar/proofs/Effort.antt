@@ -4,7 +4,7 @@ use Rattle.std.proofs.Common.{refl, arith}
 use Rattle.java_syntax.specs.declared.symbols.Symbol.{Symbol}
 use Rattle.java_syntax.specs.declared.symbols.Symbol.TheVariants as symbol
 use Rattle.java_syntax.specs.declared.symbols.Item.{Item}
-use Rattle.java_syntax.specs.declared.symbols.Item.TheVariants.{Take, Read}
+use Rattle.java_syntax.specs.declared.symbols.Item.TheVariants.{Take, Read, Do}
 use Rattle.java_syntax.specs.declared.productions.Production.{Production}
 use Rattle.java_syntax.specs.declared.productions.Production.TheVariants.{Declare, State, Compute}
 use Rattle.java_syntax.specs.declared.productions.DeclarationProduction.TheVariants as declaration
@@ -97,11 +97,13 @@ weight _ = 0
 abbrev pub effort : List Item → ℕ
 effort [] = 0
 effort (Take w e ∷ is) = 0
+effort (Do a ∷ is) = effort is
 effort (Read s ∷ is) = weight s + 1 + (if is_some (default_production s) then effort is else 0)
 
 effort_append : (xs ys : List Item) → effort (xs ++ ys) ≤ effort xs + (if empty xs then effort ys else 0)
 effort_append [] ys = omega arith
 effort_append (Take w e ∷ xs) ys = omega arith
+effort_append (Do a ∷ xs) ys = effort_append xs ys
 effort_append (Read s ∷ xs) ys = go (is_some (default_production s)) (effort_append xs ys)
   where
     go : (b : Bool) → effort (xs ++ ys) ≤ effort xs + (if empty xs then effort ys else 0)

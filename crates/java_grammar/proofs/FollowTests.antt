@@ -4,7 +4,7 @@ use Rattle.std.proofs.Common.{refl}
 use Rattle.java_syntax.specs.declared.words.Word.{Word}
 use Rattle.java_syntax.specs.declared.symbols.Symbol.{Symbol}
 use Rattle.java_syntax.specs.declared.symbols.Item.{Item}
-use Rattle.java_syntax.specs.declared.symbols.Item.TheVariants.{Take, Read}
+use Rattle.java_syntax.specs.declared.symbols.Item.TheVariants.{Take, Read, Do}
 use Rattle.java_syntax.specs.declared.productions.Production.{Production}
 use Rattle.java_syntax.specs.declared.productions.Production.TheVariants.{Declare, State, Compute}
 use Rattle.java_syntax.specs.declared.productions.DeclarationProduction.{DeclarationProduction}
@@ -58,6 +58,7 @@ parts s x is w = not (leads is (λ v. not (goes_on s v)) w) || not (goes_on x w)
 abbrev pub parts_well : Symbol → List Item → Bool
 parts_well s [] = true
 parts_well s (Take v e ∷ is) = parts_well s is
+parts_well s (Do a ∷ is) = parts_well s is
 parts_well s (Read x ∷ is) = all (parts s x is) words && parts_well s is
 
 parted_declaration : (p : DeclarationProduction) → parts_well (head_of (Declare p)) (body_of (Declare p)) ≡ true

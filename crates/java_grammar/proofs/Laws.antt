@@ -5,10 +5,11 @@ use Rattle.java_syntax.specs.declared.words.Word.{Word}
 use Rattle.java_syntax.specs.declared.words.Effect.{Effect}
 use Rattle.java_syntax.specs.declared.symbols.Symbol.{Symbol}
 use Rattle.java_syntax.specs.declared.symbols.Item.{Item}
-use Rattle.java_syntax.specs.declared.symbols.Item.TheVariants.{Take, Read}
+use Rattle.java_syntax.specs.declared.symbols.Item.TheVariants.{Take, Read, Do}
+use Rattle.java_syntax.specs.declared.actions.Action.{Action}
 use Rattle.java_syntax.specs.declared.productions.Production.{Production}
 use Rattle.java_syntax.specs.Table.{body_of, head_of}
-use Rattle.java_syntax.specs.Derives.{Lexeme, Surroundings, after, enters, allowed, first_word, leaves_no_else, Step, Took, Used, Derives, ended, took, used}
+use Rattle.java_syntax.specs.Derives.{Lexeme, Surroundings, after, enters, allowed, first_word, leaves_no_else, Step, Took, Used, Did, Derives, ended, took, used, did}
 use Rattle.java_grammar.specs.Choices.{default_production}
 use Rattle.java_grammar.specs.Lookahead.{found, candidate}
 use Rattle.java_grammar.specs.Reached.{leads, empty, no_word, goes_on, IsFit}
@@ -20,6 +21,7 @@ use Rattle.java_grammar.proofs.FollowTests.{alone_at, parts, parts_well, parts_a
 leads_grows : (xs : List Item) (G : Word → Bool) (w : Word) → leads xs no_word w ≡ true → leads xs G w ≡ true
 leads_grows [] G w h = grind arith
 leads_grows (Take v e ∷ xs) G w h = h
+leads_grows (Do a ∷ xs) G w h = leads_grows xs G w h
 leads_grows (Read x ∷ xs) G w h = elim (or_cases (is_some (found x w)) (is_some (default_production x) && leads xs no_word w) h) [
   | inl p ↦ rw p refl
   | inr p ↦ let q = and_parts (is_some (default_production x)) (leads xs no_word w) p in rw (q.0, leads_grows xs G w q.1) (or_right _)
@@ -28,16 +30,19 @@ leads_grows (Read x ∷ xs) G w h = elim (or_cases (is_some (found x w)) (is_som
 leads_ends : (xs : List Item) (G : Word → Bool) (w : Word) → empty xs ≡ true → G w ≡ true → leads xs G w ≡ true
 leads_ends [] G w h g = g
 leads_ends (Take v e ∷ xs) G w h g = grind arith
+leads_ends (Do a ∷ xs) G w h g = leads_ends xs G w h g
 leads_ends (Read x ∷ xs) G w h g = let q = and_parts (is_some (default_production x)) (empty xs) h in rw (q.0, leads_ends xs G w q.1 g) (or_right _)
 
 leads_append : (xs ys : List Item) (F : Word → Bool) (w : Word) → leads (xs ++ ys) F w ≡ leads xs (leads ys F) w
 leads_append [] ys F w = refl
 leads_append (Take v e ∷ xs) ys F w = refl
+leads_append (Do a ∷ xs) ys F w = leads_append xs ys F w
 leads_append (Read x ∷ xs) ys F w = ap (λ b. is_some (found x w) || (is_some (default_production x) && b)) (leads_append xs ys F w)
 
 empty_append : (xs ys : List Item) → empty (xs ++ ys) ≡ true → (empty xs ≡ true) × (empty ys ≡ true)
 empty_append [] ys h = (refl, h)
 empty_append (Take v e ∷ xs) ys h = grind arith
+empty_append (Do a ∷ xs) ys h = empty_append xs ys h
 empty_append (Read x ∷ xs) ys h =
     let p = and_parts (is_some (default_production x)) (empty (xs ++ ys)) h in
     let q = empty_append xs ys p.1 in
@@ -46,6 +51,7 @@ empty_append (Read x ∷ xs) ys h =
 leads_cases : (xs : List Item) (F : Word → Bool) (w : Word) → leads xs F w ≡ true → (leads xs no_word w ≡ true) ⊎ ((empty xs ≡ true) × (F w ≡ true))
 leads_cases [] F w h = inr (refl, h)
 leads_cases (Take v e ∷ xs) F w h = inl h
+leads_cases (Do a ∷ xs) F w h = leads_cases xs F w h
 leads_cases (Read x ∷ xs) F w h = elim (or_cases (is_some (found x w)) (is_some (default_production x) && leads xs F w) h) [
   | inl p ↦ inl (rw p refl)
   | inr p ↦ let q = and_parts (is_some (default_production x)) (leads xs F w) p in elim (leads_cases xs F w q.1) [
@@ -60,6 +66,7 @@ leads_more xs F G w k h = elim (leads_cases xs F w h) [ inl p ↦ leads_grows xs
 fits : (s : Symbol) (xs is : List Item) → parts_well s xs ≡ true → ((w : Word) → leads is no_word w ≡ true → goes_on s w ≡ false) → IsFit is → IsFit (xs ++ is)
 fits s [] is h F k = k
 fits s (Take v e ∷ xs) is h F k = fits s xs is h F k
+fits s (Do a ∷ xs) is h F k = fits s xs is h F k
 fits s (Read x ∷ xs) is h F k =
     let p = and_parts (all (parts s x xs) words) (parts_well s xs) h in (
       (λ w q. not_true (goes_on x w) (implied (leads xs (λ v. not (goes_on s v)) w) (not (goes_on x w)) (each_word (parts s x xs) p.0 w)
@@ -74,6 +81,7 @@ fits_used a is k = fits (head_of a) (body_of a) is (parts_at a) k.0 k.1
 pub first_of : {s : Surroundings} {is : List Item} (t : Lexeme) {ts us : List Lexeme} {es : List Step} → Derives s is us es → us ≡ t ∷ ts → leads is no_word t.word ≡ true
 first_of t (ended s) e = grind arith
 first_of t (took s w f u q d) e = let p : u ≡ t = grind arith in rw (sym q, p) (same_word t.word)
+first_of t (did s b d) e = first_of t d e
 first_of t (used s x a {is = is} q g d) e = elim (leads_cases (body_of a) (leads is no_word) t.word (sym (leads_append (body_of a) is no_word t.word) ∙ first_of t d e)) [
   | inl p ↦ rw (sym q, chooses_at a t.word p) refl
   | inr p ↦ rw (sym q, default_at a p.0, p.1) (or_right _)
@@ -82,6 +90,7 @@ first_of t (used s x a {is = is} q g d) e = elim (leads_cases (body_of a) (leads
 pub none_of : {s : Surroundings} {is : List Item} {ts : List Lexeme} {es : List Step} → Derives s is ts es → ts ≡ [] → empty is ≡ true
 none_of (ended s) e = refl
 none_of (took s w f u q d) e = grind arith
+none_of (did s b d) e = none_of d e
 none_of (used s x a {is = is} q g d) e = let p = empty_append (body_of a) is (none_of d e) in rw (sym q, default_at a p.0, p.1) refl
 
 -- The production that is used is the one that the next word chooses.
@@ -104,6 +113,14 @@ pub record Uses (s : Surroundings) (x : Symbol) (is : List Item) (ts : List Lexe
 
 pub uses : {s : Surroundings} {x : Symbol} {is : List Item} {ts : List Lexeme} {es : List Step} → Derives s (Read x ∷ is) ts es → Uses s x is ts es
 uses (used s x a {es = es} q g d) = record { by = a; of = q; may = g; behind = es; steps = refl; derived = d }
+
+pub record Does (s : Surroundings) (a : Action) (is : List Item) (ts : List Lexeme) (es : List Step) : Type 0 where
+  pub behind : List Step
+  pub steps : es ≡ Did a ∷ behind
+  pub derived : Derives s is ts behind
+
+pub does : {s : Surroundings} {a : Action} {is : List Item} {ts : List Lexeme} {es : List Step} → Derives s (Do a ∷ is) ts es → Does s a is ts es
+does (did s a {es = es} d) = record { behind = es; steps = refl; derived = d }
 
 pub record Takes (s : Surroundings) (w : Word) (e : Effect) (is : List Item) (ts : List Lexeme) (es : List Step) : Type 0 where
   pub token : Lexeme
@@ -149,3 +166,6 @@ one_derivation fs k (used s x a {is = is} {ts = ts} {es = es} q g c) d =
     let P : Symbol → Type 0 = λ y. IsFit (Read y ∷ is) in
     let D : Derives (enters a s) (body_of a ++ is) ts u.behind = subst (λ y. Derives (enters y s) (body_of y ++ is) ts u.behind) (sym p) u.derived in
     ap (λ y. Used a ∷ y) (one_derivation u.behind (fits_used a is (subst P (sym q) k)) c D) ∙ ap (λ y. Used y ∷ u.behind) p ∙ sym u.steps
+one_derivation fs k (did s a c) d =
+    let u = does d in
+    ap (λ y. Did a ∷ y) (one_derivation u.behind k c u.derived) ∙ sym u.steps

@@ -8,5 +8,6 @@ mod Effort
 mod Viable
 mod Laws
 mod Steps
+mod ActionSteps
 mod Runs
 mod FrontLaws

@@ -6,16 +6,17 @@ use Rattle.java_syntax.specs.declared.words.Word.{Word}
 use Rattle.java_syntax.specs.declared.words.Effect.{Effect}
 use Rattle.java_syntax.specs.declared.symbols.Symbol.{Symbol}
 use Rattle.java_syntax.specs.declared.symbols.Item.{Item}
-use Rattle.java_syntax.specs.declared.symbols.Item.TheVariants.{Take, Read}
+use Rattle.java_syntax.specs.declared.symbols.Item.TheVariants.{Take, Read, Do}
+use Rattle.java_syntax.specs.declared.actions.Action.{Action}
 use Rattle.java_syntax.specs.declared.productions.Production.{Production}
 use Rattle.java_syntax.specs.Table.{body_of}
-use Rattle.java_syntax.specs.Derives.{Lexeme, Surroundings, after, enters, allowed, first_word, leaves_no_else, Step, Took, Used, Derives, ended, took, used}
+use Rattle.java_syntax.specs.Derives.{Lexeme, Surroundings, after, enters, allowed, first_word, leaves_no_else, Step, Took, Used, Did, Derives, ended, took, used, did}
 use Rattle.java_grammar.specs.declared.machine.Machine.{Machine}
 use Rattle.java_grammar.specs.Lookahead.{candidate, permitted, choice}
 use Rattle.java_grammar.specs.Reached.{IsFit, StartsWith, Anything, Reached, IsWrongAfter, IsSettled, IsNoWord, Keeps}
 use Rattle.java_grammar.proofs.Bools.{and_parts, true_false}
 use Rattle.java_grammar.proofs.SymbolTests.{candidate_is_of, candidate_leaves}
-use Rattle.java_grammar.proofs.Laws.{chosen_is, fits_used, Uses, uses, takes, no_items, some_same, cons_same}
+use Rattle.java_grammar.proofs.Laws.{chosen_is, fits_used, Uses, uses, does, takes, no_items, some_same, cons_same}
 
 pub top : (xs : List Item) (x : Item) → reverse (xs ++ x ∷ []) ≡ x ∷ reverse xs
 top xs x = reverse-append xs (x ∷ [])
@@ -31,6 +32,7 @@ pub nothing_left : (is : List Item) → IsSettled is → IsNoWord is → is ≡ 
 nothing_left [] h k = refl
 nothing_left (Take w e ∷ is) h k = elim k [ ]
 nothing_left (Read x ∷ is) h k = elim h [ ]
+nothing_left (Do a ∷ is) h k = elim h [ ]
 
 none_some : {A : Type 0} (a : A) → None ≡ Some a → ⊥
 none_some a h = grind arith
@@ -90,6 +92,17 @@ module _ (o : Surroundings) (start : List Item) (so_far : List Lexeme) (s : Surr
             let e = some_same _ _ (sym (used_is x s is next ts r.fit n u) ∙ p.0) in
             (u.behind, g.1 ∙ ap (λ y. es ++ y) u.steps ∙ ap (λ y. es ++ Used y ∷ u.behind) e ∙ sym (append_assoc es (Used a ∷ []) u.behind), subst (λ y. Derives (enters y s) (body_of y ++ is) ts u.behind) e u.derived);
       }
+
+  -- an action is done
+  pub acts_by : (IsNext : List Lexeme → Type 0) (a : Action) → Reached o start so_far IsNext s (Do a ∷ is) es → Reached o start so_far IsNext s is (es ++ Did a ∷ [])
+  acts_by IsNext a r = record {
+    fit = r.fit;
+    sound = λ ts fs n d. subst (λ y. Derives o start (so_far ++ ts) y) (sym (append_assoc es (Did a ∷ []) fs)) (r.sound ts (Did a ∷ fs) n (did s a d));
+    complete = λ ts fs n d.
+        let g = r.complete ts fs n d in
+        let u = does g.2 in
+        (u.behind, g.1 ∙ ap (λ y. es ++ y) u.steps ∙ sym (append_assoc es (Did a ∷ []) u.behind), u.derived);
+  }
 
   -- a token is taken
   pub goes_over : (w : Word) (f : Effect) (t : Lexeme) → Reached o start so_far (StartsWith (Some w)) s (Take w f ∷ is) es → t.word ≡ w

@@ -1,5 +1,5 @@
 -- Whatever is still to come, some tokens end it.
-use Rattle.std.specs.Prelude.{◌≡◌, ℕ, ◌+◌, ◌≤◌, Bool, true, false, not, ◌&&◌, ◌||◌, if◌then◌else◌, List, [], ◌∷◌, ◌++◌, Option}
+use Rattle.std.specs.Prelude.{◌≡◌, ℕ, ◌+◌, ◌*◌, ◌≤◌, Bool, true, false, not, ◌&&◌, ◌||◌, if◌then◌else◌, List, [], ◌∷◌, ◌++◌, Option}
 use Rattle.std.proofs.Common.{refl, arith, zero, suc}
 use Rattle.rlc_base.specs.declared.place.Pos.{Pos}
 use Rattle.java_syntax.specs.declared.words.Effect.{Effect}
@@ -8,14 +8,14 @@ use Rattle.java_syntax.specs.declared.words.Word.{Word}
 use Rattle.java_syntax.specs.declared.symbols.Symbol.{Symbol}
 use Rattle.java_syntax.specs.declared.symbols.Symbol.TheVariants as symbol
 use Rattle.java_syntax.specs.declared.symbols.Item.{Item}
-use Rattle.java_syntax.specs.declared.symbols.Item.TheVariants.{Take, Read}
+use Rattle.java_syntax.specs.declared.symbols.Item.TheVariants.{Take, Read, Do}
 use Rattle.java_syntax.specs.declared.productions.Production.{Production}
 use Rattle.java_syntax.specs.declared.productions.Production.TheVariants.{Declare, State, Compute}
 use Rattle.java_syntax.specs.declared.productions.DeclarationProduction.TheVariants as declaration
 use Rattle.java_syntax.specs.declared.productions.StatementProduction.TheVariants as statement
 use Rattle.java_syntax.specs.declared.productions.ExpressionProduction.TheVariants as expression
 use Rattle.java_syntax.specs.Table.{body_of, head_of}
-use Rattle.java_syntax.specs.Derives.{Lexeme, Surroundings, Step, Took, Used, after, enters, allowed, may_cast, is_array_type, first_word, leaves_no_else, Derives, ended, took, used}
+use Rattle.java_syntax.specs.Derives.{Lexeme, Surroundings, Step, Took, Used, Did, after, enters, allowed, may_cast, is_array_type, first_word, leaves_no_else, Derives, ended, took, used, did}
 
 -- a production of each symbol that may be used there, and by which it comes to an end
 abbrev pub short : Symbol → Surroundings → Production
@@ -256,19 +256,22 @@ size symbol.CreatorRest = 5
 size symbol.AfterArray = 0
 size _ = 1
 
+-- an action counts less than a token: a production has no more than eleven actions
 abbrev pub total : List Item → ℕ
 total [] = 0
-total (Take w e ∷ is) = 1 + total is
-total (Read x ∷ is) = 1 + size x + total is
+total (Take w e ∷ is) = 12 + total is
+total (Read x ∷ is) = 12 + 12 * size x + total is
+total (Do a ∷ is) = 1 + total is
 
 total_append : (xs ys : List Item) → total (xs ++ ys) ≡ total xs + total ys
 total_append [] ys = omega arith
 total_append (Take w e ∷ xs) ys = let h = total_append xs ys in omega (arith, h)
 total_append (Read x ∷ xs) ys = let h = total_append xs ys in omega (arith, h)
+total_append (Do a ∷ xs) ys = let h = total_append xs ys in omega (arith, h)
 
 -- The production ends its symbol.
 abbrev IsShort : Production → Symbol → Surroundings → Type 0
-IsShort a x s = (head_of a ≡ x) × (total (body_of a) ≤ size x) × (allowed a s ≡ true) × ((next : Option Word) → leaves_no_else a next ≡ true)
+IsShort a x s = (head_of a ≡ x) × (total (body_of a) ≤ 12 * size x + 11) × (allowed a s ≡ true) × ((next : Option Word) → leaves_no_else a next ≡ true)
 
 pick : (a b : Production) (x : Symbol) (s : Surroundings) (c : Bool) → (c ≡ true → IsShort a x s) → (c ≡ false → IsShort b x s) → IsShort (if c then a else b) x s
 pick a b x s true f g = f refl
@@ -312,14 +315,18 @@ pub ended_by : (n : ℕ) (s : Surroundings) (is : List Item) → total is ≤ n 
 ended_by n s [] h = ([], [], ended s)
 ended_by zero s (Take w e ∷ is) h = let e : ⊥ = omega (arith, h) in absurd e
 ended_by zero s (Read x ∷ is) h = let e : ⊥ = omega (arith, h) in absurd e
+ended_by zero s (Do a ∷ is) h = let e : ⊥ = omega (arith, h) in absurd e
 ended_by (suc n) s (Take w e ∷ is) h =
     let t : Lexeme = record { word = w; text = []; pos = nowhere } in
     let r = ended_by n (after e t s) is (omega (arith, h)) in
     (t ∷ r.0, Took t ∷ r.1, took s w e t refl r.2)
+ended_by (suc n) s (Do a ∷ is) h =
+    let r = ended_by n s is (omega (arith, h)) in
+    (r.0, Did a ∷ r.1, did s a r.2)
 ended_by (suc n) s (Read x ∷ is) h =
     let a = short x s in
     let f = is_short x s in
-    let r = ended_by n (enters a s) (body_of a ++ is) (within (body_of a) is (size x) n f.1 h) in
+    let r = ended_by n (enters a s) (body_of a ++ is) (within (body_of a) is (12 * size x + 11) n f.1 (omega (arith, h))) in
     (r.0, Used a ∷ r.1, used s x a f.0 (may a s (first_word r.0) f.2 (f.3 (first_word r.0))) r.2)
 
 pub ends_some_way : (s : Surroundings) (is : List Item) → Ended s is

@@ -4,7 +4,7 @@ use Rattle.java_syntax.specs.declared.words.Word.{Word}
 use Rattle.java_syntax.specs.declared.words.Word.TheVariants as word
 use Rattle.java_syntax.specs.declared.symbols.Symbol.{Symbol}
 use Rattle.java_syntax.specs.declared.symbols.Item.{Item}
-use Rattle.java_syntax.specs.declared.symbols.Item.TheVariants.{Take, Read}
+use Rattle.java_syntax.specs.declared.symbols.Item.TheVariants.{Take, Read, Do}
 use Rattle.java_syntax.specs.declared.productions.Production.{Production}
 use Rattle.java_syntax.specs.Table.{body_of}
 use Rattle.java_syntax.specs.Derives.{Surroundings, allowed}
@@ -79,6 +79,7 @@ is_in (v ∷ vs) w = same v w || is_in vs w
 abbrev pub led : List Item → Word → Bool
 led [] w = false
 led (Take v e ∷ is) w = same v w
+led (Do a ∷ is) w = led is w
 led (Read x ∷ is) w = is_in (starts_of x) w || (is_some (default_production x) && led is w)
 
 abbrev pub find : Word → List Production → Option Production

@@ -3,9 +3,13 @@ use Rattle.std.specs.Prelude.{reverse, map, take, drop, ◌≡◌, ℕ, Bool, tr
 use Rattle.java_syntax.specs.declared.words.Word.{Word}
 use Rattle.java_syntax.specs.declared.symbols.Symbol.{Symbol}
 use Rattle.java_syntax.specs.declared.symbols.Item.{Item}
-use Rattle.java_syntax.specs.declared.symbols.Item.TheVariants.{Take, Read}
+use Rattle.java_syntax.specs.declared.symbols.Item.TheVariants.{Take, Read, Do}
+use Rattle.java_syntax.specs.declared.actions.Action.{Action}
 use Rattle.java_syntax.specs.declared.tokens.Token.{Token}
-use Rattle.java_syntax.specs.Derives.{Lexeme, lexeme_of, Surroundings, first_word, Step, step_of, Derives}
+use Rattle.java_syntax.specs.declared.tokens.Event.TheVariants as event
+use Rattle.java_syntax.specs.declared.productions.Production.{Production}
+use Rattle.java_syntax.specs.Table.{body_of}
+use Rattle.java_syntax.specs.Derives.{Lexeme, lexeme_of, Surroundings, enters, first_word, Step, step_of, Derives}
 use Rattle.java_grammar.specs.declared.conditions.Span.{Span}
 use Rattle.java_grammar.specs.declared.conditions.Context.{Context}
 use Rattle.java_grammar.specs.declared.machine.Machine.{Machine}
@@ -27,11 +31,13 @@ lexemes_of bytes ts = map (lexeme_of bytes) ts
 abbrev pub leads : List Item → (Word → Bool) → Word → Bool
 leads [] F w = F w
 leads (Take v e ∷ is) F w = same v w
+leads (Do a ∷ is) F w = leads is F w
 leads (Read x ∷ is) F w = is_some (found x w) || (is_some (default_production x) && leads is F w)
 
 abbrev pub empty : List Item → Bool
 empty [] = true
 empty (Take v e ∷ is) = false
+empty (Do a ∷ is) = empty is
 empty (Read x ∷ is) = is_some (default_production x) && empty is
 
 abbrev pub no_word : Word → Bool
@@ -44,6 +50,7 @@ goes_on x w = is_in (going_on x) w
 abbrev pub IsFit : List Item → Type 0
 IsFit [] = Unit {0}
 IsFit (Take v e ∷ is) = IsFit is
+IsFit (Do a ∷ is) = IsFit is
 IsFit (Read x ∷ is) = ((w : Word) → leads is no_word w ≡ true → goes_on x w ≡ false) × IsFit is
 
 -- the tokens begin with the word, or are none
@@ -71,23 +78,48 @@ to_come m = reverse m.stack.items
 abbrev pub Holds : List ℕ → Surroundings → List Item → List Lexeme → (List Lexeme → Type 0) → Machine → Type 0
 Holds bytes origin start used IsNext m = Reached origin start used IsNext (surroundings_of bytes m.context) (to_come m) (map (step_of bytes) m.events.items)
 
--- no symbol comes next
+-- no symbol and no action comes next
 abbrev pub IsSettled : List Item → Type 0
 IsSettled [] = Unit {0}
 IsSettled (Take w e ∷ is) = Unit {0}
 IsSettled (Read x ∷ is) = ⊥
+IsSettled (Do a ∷ is) = ⊥
 
 -- no word comes next
 abbrev pub IsNoWord : List Item → Type 0
 IsNoWord [] = Unit {0}
 IsNoWord (Take w e ∷ is) = ⊥
 IsNoWord (Read x ∷ is) = Unit {0}
+IsNoWord (Do a ∷ is) = Unit {0}
+
+-- no action comes next
+abbrev pub IsNoAction : List Item → Type 0
+IsNoAction [] = Unit {0}
+IsNoAction (Take w e ∷ is) = Unit {0}
+IsNoAction (Read x ∷ is) = Unit {0}
+IsNoAction (Do a ∷ is) = ⊥
 
 abbrev pub IsSettledStack : List Item → Type 0
 IsSettledStack is = IsSettled (reverse is)
 
 abbrev pub HasNoWord : List Item → Type 0
 HasNoWord is = IsNoWord (reverse is)
+
+-- From one machine to another by the actions that come next.
+pub record Acts (m n : Machine) : Type 0 where
+  pub actions : List Action
+  pub came : to_come m ≡ map (λ a. Do a) actions ++ to_come n
+  pub events : n.events.items ≡ m.events.items ++ map (λ a. event.Did a) actions
+  pub context : n.context ≡ m.context
+  pub none : IsNoAction (to_come n)
+
+-- From one machine to another by a production and the actions that come next then.
+pub record Replaces (p : Production) (m n : Machine) : Type 0 where
+  pub actions : List Action
+  pub came : body_of p ++ to_come m ≡ map (λ a. Do a) actions ++ to_come n
+  pub events : n.events.items ≡ (m.events.items ++ event.Used p ∷ []) ++ map (λ a. event.Did a) actions
+  pub context : (bytes : List ℕ) → surroundings_of bytes n.context ≡ enters p (surroundings_of bytes m.context)
+  pub none : IsNoAction (to_come n)
 
 -- From one machine to another without a token: what was reached is kept, or no sentence goes on with the next word.
 abbrev pub Keeps : List ℕ → Option Word → Machine → Machine → Bool → Type 0

@@ -46,6 +46,7 @@ fn is_led(items: &[Item], word: Word) -> bool
                     return false;
                 }
             }
+            Item::Do(_) => {}
         }
     }
     false

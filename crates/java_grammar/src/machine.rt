@@ -1,14 +1,14 @@
 ghost use Rattle.std.specs.Prelude.{◌≡◌, ◌++◌, ◌∷◌, [], List, reverse, map, IfOk, IfErr, MatchOption, Bool, true, false};
 ghost use Rattle.java_syntax.specs.Derives.{Step, step_of};
-ghost use Rattle.java_syntax.specs.declared.symbols.Item.TheVariants.{Read, Take};
+ghost use Rattle.java_syntax.specs.declared.symbols.Item.TheVariants.{Do, Read, Take};
 ghost use Rattle.java_grammar.specs.declared.machine.DeriveFail.TheVariants as fails;
 ghost use Rattle.java_grammar.specs.Lookahead.{choice};
-ghost use Rattle.java_grammar.specs.Reached.{surroundings_of, lexemes_of, Keeps, IsSettledStack, HasNoWord, Advances, Ends};
+ghost use Rattle.java_grammar.specs.Reached.{surroundings_of, lexemes_of, Keeps, IsSettledStack, IsNoAction, HasNoWord, Acts, Replaces, Advances, Ends};
 ghost use Rattle.java_grammar.specs.Refusal.{IsDerivation, IsRefusal};
 
 use crate::conditions::{Context, advance, enter, is_allowed, new_context};
 use crate::lookahead::{choose, is_same};
-use java_syntax::{Effect, Event, Item, Production, Symbol, Token, Word, body};
+use java_syntax::{Action, Effect, Event, Item, Production, Symbol, Token, Word, body};
 use std::alloc::{AllocError, AllocFailed, Global};
 use thiserror::Error;
 
@@ -60,8 +60,37 @@ fn put(stack: &mut Vec<Item>, items: &[Item]) -> Result<(), AllocError>
     Ok(())
 }
 
+/// Takes the next item off the stack where it is an action.
+fn pop_action(stack: &mut Vec<Item>) -> Option<Action>
+    ensures { MatchOption result (IsNoAction (reverse stack.old.items) × (stack.new.items ≡ stack.old.items)) (λ a. stack.old.items ≡ stack.new.items ++ Do a ∷ []) }
+{
+    let top = match stack.last() {
+        Some(item) => *item,
+        None => return None,
+    };
+    match top {
+        Item::Do(action) => {
+            stack.pop();
+            Some(action)
+        }
+        Item::Take(_, _) => None,
+        Item::Read(_) => None,
+    }
+}
+
+/// Does the actions that come next.
+fn act(machine: &mut Machine) -> Result<(), AllocError>
+    ensures { IfOk result (λ _. Acts machine.old machine.new) }
+{
+    while let Some(action) = pop_action(&mut machine.stack) {
+        machine.events.push(Event::Did(action))?;
+    }
+    Ok(())
+}
+
 /// Takes the next item off the stack where it is a symbol, and leaves the stack as it is elsewhere.
 fn pop_symbol(stack: &mut Vec<Item>) -> Option<Symbol>
+    requires { IsNoAction (reverse stack.old.items) }
     ensures { MatchOption result (IsSettledStack stack.old.items × (stack.new.items ≡ stack.old.items)) (λ s. stack.old.items ≡ stack.new.items ++ Read s ∷ []) }
 {
     let top = match stack.last() {
@@ -74,6 +103,7 @@ fn pop_symbol(stack: &mut Vec<Item>) -> Option<Symbol>
             Some(symbol)
         }
         Item::Take(_, _) => None,
+        Item::Do(_) => unreachable!(),
     }
 }
 
@@ -98,17 +128,26 @@ fn choose_allowed(
     }
 }
 
-/// Uses productions until a word comes next or nothing. False where no sentence goes on with the next word.
+/// Uses the production in the place of its symbol, which is off the stack, and does the actions that come next then.
+fn replace(machine: &mut Machine, production: Production) -> Result<(), AllocError>
+    ensures { IfOk result (λ _. Replaces production machine.old machine.new) }
+{
+    put(&mut machine.stack, body(production))?;
+    machine.context = enter(production, machine.context);
+    machine.events.push(Event::Used(production))?;
+    act(machine)
+}
+
+/// Uses productions and does actions until a word comes next or nothing. False where no sentence goes on with the next word.
 fn settle(machine: &mut Machine, bytes: &[u8], next: Option<Word>) -> Result<bool, AllocError>
     ensures { IfOk result (λ b. Keeps bytes.now next machine.old machine.new b) }
 {
+    act(machine)?;
     while let Some(symbol) = pop_symbol(&mut machine.stack) {
         let Some(production) = choose_allowed(bytes, symbol, machine.context, next) else {
             return Ok(false);
         };
-        put(&mut machine.stack, body(production))?;
-        machine.context = enter(production, machine.context);
-        machine.events.push(Event::Used(production))?;
+        replace(machine, production)?;
     }
     Ok(true)
 }
@@ -123,6 +162,7 @@ fn pop_word(stack: &mut Vec<Item>) -> Option<(Word, Effect)>
     };
     match top {
         Item::Read(_) => None,
+        Item::Do(_) => None,
         Item::Take(word, effect) => {
             stack.pop();
             Some((word, effect))

@@ -1,11 +1,13 @@
 //! Character literals.
 
-ghost use Rattle.std.specs.Prelude.{◌≡◌};
+ghost use Rattle.std.specs.Prelude.{◌≡◌, ◌<◌, IfSome};
 ghost use Rattle.java_lexer.specs.Literals.{is_continuation, is_octal_digit};
 ghost use Rattle.java_literals.specs.Characters.{character_value, code_unit, escape_of, escape_value, low_bits, octal, unit_of};
 
-fn escape_of(byte: u8) -> Option<u16>
-    ensures { result ≡ escape_of byte }
+// What a letter or sign behind a backslash stands for.
+pub(crate) fn escape_of(byte: u8) -> Option<u16>
+    ensures value { result ≡ escape_of byte }
+    ensures small { IfSome result (λ c. c < 128) }
 {
     match byte {
         b'b' => Some(8),
@@ -22,7 +24,7 @@ fn escape_of(byte: u8) -> Option<u16>
 }
 
 // Whether the byte is one of `0` to `7`.
-fn is_octal_digit(byte: u8) -> bool
+pub(crate) fn is_octal_digit(byte: u8) -> bool
     ensures { result ≡ is_octal_digit byte }
 {
     b'0' <= byte && byte <= b'7'

@@ -3,6 +3,8 @@
 
 mod characters;
 mod numbers;
+mod texts;
 mod values;
 
+pub use texts::text_value;
 pub use values::{LiteralValue, literal_value};

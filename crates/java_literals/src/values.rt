@@ -28,7 +28,7 @@ pub enum LiteralValue {
 }
 
 // What stands between a literal's quotes.
-fn within_quotes(text: &[u8]) -> &[u8]
+pub(crate) fn within_quotes(text: &[u8]) -> &[u8]
     ensures { result.now ≡ within_quotes text.now }
 {
     match text {
@@ -37,7 +37,8 @@ fn within_quotes(text: &[u8]) -> &[u8]
     }
 }
 
-fn first_byte(text: &[u8]) -> u8
+// The first byte of a literal, and 0 where it has none.
+pub(crate) fn first_byte(text: &[u8]) -> u8
     ensures { result ≡ slice_index text.now 0 }
 {
     text.first().copied().unwrap_or(0)

@@ -29,7 +29,9 @@ fn choice_in(found: Option<MethodId>) -> Choice
     }
 }
 
-fn choice_among(alloc: Global, p: &Program, all: &[MethodId]) -> Result<Choice, NoMemory>
+/// Which of these applicable methods or constructors is meant: the most specific (JLS 15.12.2.5), if there is one. Of several
+/// with one list of parameter types it is the first whose result is a subtype of all others' results.
+pub fn choice_among(alloc: Global, p: &Program, all: &[MethodId]) -> Result<Choice, NoMemory>
     ensures { IfOk result (λ x. x ≡ choice_among p.now all.now) }
 {
     if all.is_empty() {

@@ -6,4 +6,4 @@ mod applicable;
 mod choices;
 mod specific;
 
-pub use choices::{Choice, choose};
+pub use choices::{Choice, choice_among, choose};

@@ -1,5 +1,5 @@
 -- The tree of a file, and why there is none.
-use Rattle.std.specs.Prelude.{◌≡◌, ℕ, Bool, true, false, List, Some, None, map, slice_index_or}
+use Rattle.std.specs.Prelude.{◌≡◌, ℕ, Bool, true, false, List, [], ◌∷◌, None, map, slice_index_or}
 use Rattle.rlc_base.specs.declared.code.Code.TheVariants as refused
 use Rattle.rlc_base.specs.declared.place.Pos.{Pos}
 use Rattle.rlc_base.specs.declared.faults.Refusal.{Refusal}
@@ -8,39 +8,26 @@ use Rattle.rlc_base.specs.declared.faults.Stop.TheVariants as stops
 use Rattle.java_syntax.specs.declared.tokens.Token.{Token}
 use Rattle.java_syntax.specs.declared.symbols.Symbol.{Symbol}
 use Rattle.java_syntax.specs.declared.symbols.Symbol.TheVariants as symbols
-use Rattle.java_syntax.specs.Derives.{Lexeme, Step, lexeme_of}
+use Rattle.java_syntax.specs.Derives.{Lexeme, lexeme_of, Step}
 use Rattle.java_syntax.specs.DeclarationTrees.{UnitTree}
 use Rattle.java_grammar.specs.Refusal.{IsDerivation, IsWrongAt}
-use Rattle.java_parser.specs.DeclarationPops as the
-use Rattle.java_parser.specs.Stacks.{StacksTree}
-use Rattle.java_parser.specs.Evaluation.{evaluate}
+use Rattle.java_values.specs.Values.{ValueTree, AUnit, AUnits}
+use Rattle.java_values.specs.Nodes.{Made, TooDeep}
+use Rattle.java_meaning.specs.Evaluation.{evaluate}
 
 -- The tokens are derived from the symbol, in a stub file or a source file, and this is what their derivation leaves in 128 levels.
-pub record IsFileStacks (stub : Bool) (symbol : Symbol) (tokens : List Lexeme) (stacks : StacksTree) : Type 0 where
+pub record IsFileValues (stub : Bool) (symbol : Symbol) (tokens : List Lexeme) (values : List ValueTree) : Type 0 where
   pub steps : List Step
   pub derivation : IsDerivation stub symbol tokens steps
-  pub evaluated : evaluate 128 steps ≡ Some stacks
-
--- What the derivation of the tokens leaves is seen as this tree.
-pub record IsFileTree {A : Type 0} (view : StacksTree → A) (stub : Bool) (symbol : Symbol) (tokens : List Lexeme) (tree : A) : Type 0 where
-  pub stacks : StacksTree
-  pub derived : IsFileStacks stub symbol tokens stacks
-  pub seen : view stacks ≡ tree
-
--- the unit on top
-abbrev pub unit_on : StacksTree → UnitTree
-unit_on s = (the.unit (the.top s.declarations)).0
-
-abbrev pub units_on : StacksTree → List UnitTree
-units_on s = (the.units (the.top s.declarations)).0
+  pub evaluated : evaluate 128 steps None [] ≡ Made values
 
 -- the tree of a source file with these tokens (JLS 7.3)
 abbrev pub IsUnitTree : List Lexeme → UnitTree → Type 0
-IsUnitTree tokens tree = IsFileTree unit_on false symbols.CompilationUnit tokens tree
+IsUnitTree tokens tree = IsFileValues false symbols.CompilationUnit tokens (AUnit tree ∷ [])
 
 -- the sections of a stub file with these tokens
 abbrev pub IsStubTree : List Lexeme → List UnitTree → Type 0
-IsStubTree tokens trees = IsFileTree units_on true symbols.StubFile tokens trees
+IsStubTree tokens trees = IsFileValues true symbols.StubFile tokens (AUnits trees ∷ [])
 
 -- There is no derivation, and the place is that of the first token at which no sentence of the symbol goes on, or the end's.
 pub record IsWrongFile (stub : Bool) (symbol : Symbol) (tokens : List Lexeme) (end : Pos) (r : Refusal) : Type 0 where
@@ -54,7 +41,7 @@ pub record IsDeepFile (stub : Bool) (symbol : Symbol) (tokens : List Lexeme) (r 
   pub code : r.code ≡ refused.TooDeep
   pub steps : List Step
   pub derivation : IsDerivation stub symbol tokens steps
-  pub deep : (es : List Step) → IsDerivation stub symbol tokens es → evaluate 128 es ≡ None
+  pub deep : (es : List Step) → IsDerivation stub symbol tokens es → evaluate 128 es None [] ≡ TooDeep
 
 abbrev pub IsFileStop : Bool → Symbol → List Lexeme → Pos → Stop → Type 0
 IsFileStop stub symbol tokens end (stops.Refused r) = IsWrongFile stub symbol tokens end r

@@ -1,11 +1,1 @@
-pub mod DeclarationValues
-pub mod DeclarationPops
-pub mod Stacks
-pub mod FileBuild
-pub mod ClassBuild
-pub mod MemberBuild
-pub mod ParameterBuild
-pub mod ConstructorBuild
-pub mod DeclarationBuild
-pub mod Evaluation
 pub mod FileTrees

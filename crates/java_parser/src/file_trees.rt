@@ -1,18 +1,18 @@
-ghost use Rattle.std.specs.Prelude.{◌≡◌, ℕ, Bool, true, false, List, map, slice_index_or, IfOk, IfErr};
-ghost use Rattle.java_syntax.specs.Derives.{lexeme_of};
+ghost use Rattle.std.specs.Prelude.{◌≡◌, ℕ, Bool, true, false, List, [], None, map, slice_index_or, IfOk, IfErr};
+ghost use Rattle.java_syntax.specs.Derives.{Step};
 ghost use Rattle.java_syntax.specs.DeclarationTrees.{UnitTree, unit_of};
 ghost use Rattle.java_syntax.specs.declared.symbols.Symbol.TheVariants as symbols;
 ghost use Rattle.java_grammar.specs.Reached.{lexemes_of};
-ghost use Rattle.java_parser.specs.Stacks.{StacksTree, stacks_of};
-ghost use Rattle.java_parser.specs.FileTrees.{IsFileStacks, IsUnitTree, IsStubTree, IsFileStop};
+ghost use Rattle.java_grammar.specs.Refusal.{IsDerivation};
+ghost use Rattle.java_values.specs.Values.{ValueTree, values_of};
+ghost use Rattle.java_values.specs.Nodes.{IsNoMisfit};
+ghost use Rattle.java_meaning.specs.Evaluation.{evaluate};
+ghost use Rattle.java_parser.specs.FileTrees.{IsFileValues, IsUnitTree, IsStubTree, IsFileStop};
 
-use crate::evaluation::evaluate;
-use crate::lists::in_order;
-use crate::pops::{pop_unit, pop_units};
-use crate::stacks::Stacks;
 use java_grammar::{DeriveFail, derive};
+use java_meaning::evaluate;
 use java_syntax::{Symbol, Token, Unit};
-use java_values::BuildFail;
+use java_values::{BuildFail, Value, pop_unit, pop_units};
 use rlc_base::{Code, Pos, Refusal, Stop};
 use std::alloc::Global;
 
@@ -35,16 +35,17 @@ fn place_at(tokens: &[Token], at: usize, end: Pos) -> Pos
 ///
 /// `Refused` with code 20 where there is no derivation: at the first token at which no sentence goes on, or at the end. `TooMuch`
 /// with code 61 where a tree would have more than 128 levels.
-fn file_stacks(
+fn file_values(
     alloc: Global,
     is_stub: bool,
     symbol: Symbol,
     bytes: &[u8],
     tokens: &[Token],
     end: Pos,
-) -> Result<Stacks, Stop>
-    ensures tree { IfOk result (λ stacks. IsFileStacks is_stub symbol (lexemes_of bytes.now tokens.now) (stacks_of stacks)) }
-    ensures only { IfOk result (λ stacks. (other : StacksTree) → IsFileStacks is_stub symbol (lexemes_of bytes.now tokens.now) other → other ≡ stacks_of stacks) }
+) -> Result<Vec<Value>, Stop>
+    requires { (steps : List Step) → IsDerivation is_stub symbol (lexemes_of bytes.now tokens.now) steps → IsNoMisfit (evaluate 128 steps None []) }
+    ensures tree { IfOk result (λ values. IsFileValues is_stub symbol (lexemes_of bytes.now tokens.now) (values_of values.items)) }
+    ensures only { IfOk result (λ values. (other : List ValueTree) → IsFileValues is_stub symbol (lexemes_of bytes.now tokens.now) other → other ≡ values_of values.items) }
     ensures stopped { IfErr result (λ stop. IsFileStop is_stub symbol (lexemes_of bytes.now tokens.now) end stop) }
 {
     match derive(alloc, symbol, is_stub, bytes, tokens) {
@@ -54,8 +55,8 @@ fn file_stacks(
             let code = Code::Syntax;
             Err(Refusal { code, pos }.stop())
         }
-        Ok(events) => match evaluate(alloc, LEVELS, bytes, events.as_slice()) {
-            Ok(stacks) => Ok(stacks),
+        Ok(events) => match evaluate(alloc, LEVELS, bytes, events.as_slice(), Vec::new(alloc)) {
+            Ok(stack) => Ok(stack),
             Err(BuildFail::NoMemory) => Err(Stop::NoMemory),
             Err(BuildFail::TooDeep(pos)) => {
                 let code = Code::TooDeep;
@@ -81,11 +82,10 @@ pub(crate) fn unit_tree(
     ensures only { IfOk result (λ unit. (other : UnitTree) → IsUnitTree (lexemes_of bytes.now tokens.now) other → other ≡ unit_of unit) }
     ensures stopped { IfErr result (λ stop. IsFileStop false symbols.CompilationUnit (lexemes_of bytes.now tokens.now) end stop) }
 {
-    match file_stacks(alloc, false, Symbol::CompilationUnit, bytes, tokens, end) {
-        Ok(stacks) => {
-            let mut stacks = stacks;
-            let (unit, _) = pop_unit(alloc, &mut stacks.declarations);
-            Ok(unit)
+    match file_values(alloc, false, Symbol::CompilationUnit, bytes, tokens, end) {
+        Ok(values) => {
+            let mut stack = values;
+            Ok(pop_unit(&mut stack))
         }
         Err(stop) => Err(stop),
     }
@@ -107,11 +107,10 @@ pub(crate) fn stub_trees(
     ensures only { IfOk result (λ units. (others : List UnitTree) → IsStubTree (lexemes_of bytes.now tokens.now) others → others ≡ map unit_of units.items) }
     ensures stopped { IfErr result (λ stop. IsFileStop true symbols.StubFile (lexemes_of bytes.now tokens.now) end stop) }
 {
-    match file_stacks(alloc, true, Symbol::StubFile, bytes, tokens, end) {
-        Ok(stacks) => {
-            let mut stacks = stacks;
-            let (units, _) = pop_units(alloc, &mut stacks.declarations);
-            Ok(in_order(units))
+    match file_values(alloc, true, Symbol::StubFile, bytes, tokens, end) {
+        Ok(values) => {
+            let mut stack = values;
+            Ok(pop_units(&mut stack))
         }
         Err(stop) => Err(stop),
     }

@@ -14,7 +14,8 @@ use Rattle.java_syntax.specs.declared.words.Effect.{Effect}
 use Rattle.java_syntax.specs.declared.words.Effect.TheVariants as effect
 use Rattle.java_syntax.specs.declared.symbols.Symbol.{Symbol}
 use Rattle.java_syntax.specs.declared.symbols.Item.{Item}
-use Rattle.java_syntax.specs.declared.symbols.Item.TheVariants.{Take, Read}
+use Rattle.java_syntax.specs.declared.symbols.Item.TheVariants.{Take, Read, Do}
+use Rattle.java_syntax.specs.declared.actions.Action.{Action}
 use Rattle.java_syntax.specs.declared.productions.Production.{Production}
 use Rattle.java_syntax.specs.declared.productions.Production.TheVariants.{Declare, State, Compute}
 use Rattle.java_syntax.specs.declared.productions.DeclarationProduction.TheVariants as declaration
@@ -147,15 +148,18 @@ leaves_no_else _ _ = true
 pub data Step : Type 0 where
   Took : Lexeme → Step
   Used : Production → Step
+  Did : Action → Step
 
 abbrev pub step_of : List ℕ → Event → Step
 step_of bytes (event.Took t) = Took (lexeme_of bytes t)
 step_of bytes (event.Used p) = Used p
+step_of bytes (event.Did a) = Did a
 
--- In these surroundings the items derive the tokens; the steps are the tokens, and before those of a symbol the production that it uses.
+-- In these surroundings the items derive the tokens; the steps are the tokens, before those of a symbol the production that it uses, and the actions in their places.
 pub data Derives : Surroundings → List Item → List Lexeme → List Step → Type 0 where
   ended : (s : Surroundings) → Derives s [] [] []
   took : (s : Surroundings) (w : Word) (e : Effect) (t : Lexeme) {is : List Item} {ts : List Lexeme} {es : List Step} → t.word ≡ w
       → Derives (after e t s) is ts es → Derives s (Take w e ∷ is) (t ∷ ts) (Took t ∷ es)
   used : (s : Surroundings) (x : Symbol) (p : Production) {is : List Item} {ts : List Lexeme} {es : List Step} → head_of p ≡ x
       → (allowed p s && leaves_no_else p (first_word ts)) ≡ true → Derives (enters p s) (body_of p ++ is) ts es → Derives s (Read x ∷ is) ts (Used p ∷ es)
+  did : (s : Surroundings) (a : Action) {is : List Item} {ts : List Lexeme} {es : List Step} → Derives s is ts es → Derives s (Do a ∷ is) ts (Did a ∷ es)

@@ -1,6 +1,7 @@
-//! The syntax of the subset: its trees, its grammar as a table, the classes of tokens that it tells apart, and derivations.
+//! The syntax of the subset: its trees, its grammar as a table with actions, the classes of tokens that it tells apart, and derivations.
 #![tactic(auto)]
 
+mod actions;
 mod annotation_trees;
 mod declaration_trees;
 mod declarations;
@@ -18,6 +19,9 @@ mod table;
 mod tokens;
 mod words;
 
+pub use actions::{
+    Action, AnnotationAction, DeclarationAction, ExpressionAction, StatementAction, TokenAction,
+};
 pub use annotation_trees::{Anno, AnnoArgument, AnnoValue, Modifier};
 pub use declaration_trees::{
     ClassDecl, ConstructorBody, ConstructorDecl, FieldDecl, Import, Member, MethodDecl, Param,

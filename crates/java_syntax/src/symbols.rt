@@ -1,3 +1,4 @@
+use crate::actions::Action;
 use crate::words::{Effect, Word};
 
 /// The symbols of the grammar, each with its name in JLS chapter 19, or the part of such a symbol that it is: the grammar is
@@ -248,11 +249,13 @@ pub enum Symbol {
     AfterArray,
 }
 
-/// An item of a production: a word, with its effect, or a symbol.
+/// An item of a production: a word, with its effect, a symbol, or an action.
 #[derive(Copy, Clone, PartialEq, Eq)]
 pub enum Item {
     /// A word.
     Take(Word, Effect),
     /// A symbol.
     Read(Symbol),
+    /// An action, which takes no token.
+    Do(Action),
 }

@@ -1,3 +1,4 @@
+use crate::actions::Action;
 use crate::productions::Production;
 use crate::words::Word;
 use rlc_base::Pos;
@@ -22,4 +23,6 @@ pub enum Event {
     Took(Token),
     /// A symbol was replaced by the items of this production.
     Used(Production),
+    /// The turn came to an action.
+    Did(Action),
 }

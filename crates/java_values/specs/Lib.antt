@@ -1,4 +1,6 @@
 pub mod Values
-pub mod Pops
+pub mod Kinds
 pub mod Nodes
 pub mod Operators
+pub mod Parts
+pub mod Closed

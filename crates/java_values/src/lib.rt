@@ -1,32 +1,123 @@
-//! The semantic values of the grammar's symbols, the stack that they stand on, and the nodes of expressions.
+//! What the actions of the grammar work on: the values of the stack and their kinds, and what trees are made of: nodes
+//! with their levels, operators, names, lists, annotations, statements.
 #![tactic(auto)]
 
+mod annotation_parts;
 mod lists;
+mod names;
 mod nodes;
+mod operations;
 mod operators;
 mod pops;
+mod statement_parts;
 mod values;
 
-pub use lists::{put, take};
-pub use nodes::{
-    BuildFail, assignment, call, cast, compound, conditional, deeper, field_access, identifier,
-    index, infix, instance, literal, method_call, new_array, new_object, parenthesized, place_of,
-    postfix_step, prefix, prefix_step, super_call, this,
-};
-pub use operators::{
-    compound_operator, infix_operator, prefix_operator, primitive_name, step_operator,
-};
-pub use pops::{
-    NOWHERE, leave, pop, pop_after_bracket, pop_after_inside, pop_after_key, pop_after_name,
-    pop_annotation, pop_annotation_arguments, pop_annotation_value, pop_annotation_values,
-    pop_annotations, pop_arguments, pop_brackets, pop_call, pop_choice, pop_creator,
-    pop_creator_rest, pop_expression, pop_inside, pop_name, pop_names, pop_opening, pop_operation,
-    pop_operations, pop_place, pop_primitive_cast, pop_steps, pop_suffixes, pop_tail, pop_token,
-    pop_type, push, skip,
-};
-pub use values::{
-    AfterBracket, AfterIdentifier, AfterInside, AfterKey, AfterName, Alternatives, Annotation,
-    AnnotationArguments, AnnotationValue, AnnotationValues, Annotations, Arguments, Creator,
-    CreatorRest, Inside, Lexeme, Opening, Operation, PrimitiveCast, Step, Subexpression, Suffix,
-    Tail, Value,
-};
+pub use annotation_parts::annotation;
+pub use annotation_parts::annotation_as_value;
+pub use annotation_parts::argument;
+pub use annotation_parts::expression_value;
+pub use annotation_parts::modifier;
+pub use annotation_parts::place_of_annotation;
+pub use annotation_parts::values_as_value;
+pub use annotation_parts::word;
+pub use lists::added;
+pub use lists::appended;
+pub use lists::none;
+pub use lists::put;
+pub use names::extended;
+pub use names::head;
+pub use names::name_at;
+pub use names::name_expression;
+pub use names::named_call;
+pub use names::primitive_at;
+pub use names::selector;
+pub use names::type_named;
+pub use names::type_of;
+pub use names::with_identifier;
+pub use nodes::BuildFail;
+pub use nodes::assignment;
+pub use nodes::cast;
+pub use nodes::compound;
+pub use nodes::conditional;
+pub use nodes::index;
+pub use nodes::instance;
+pub use nodes::literal;
+pub use nodes::new_array;
+pub use nodes::new_object;
+pub use nodes::parenthesized;
+pub use nodes::postfix_step;
+pub use nodes::prefix;
+pub use nodes::prefix_step;
+pub use nodes::super_call;
+pub use nodes::this;
+pub use operations::COMPARISON;
+pub use operations::Closed;
+pub use operations::LOOSEST;
+pub use operations::close_operations;
+pub use operations::level_of;
+pub use operations::with_operator;
+pub use operators::compound_operator;
+pub use operators::infix_operator;
+pub use operators::prefix_operator;
+pub use operators::step_operator;
+pub use pops::leave;
+pub use pops::pop_annotation;
+pub use pops::pop_annotation_value;
+pub use pops::pop_annotation_values;
+pub use pops::pop_annotations;
+pub use pops::pop_arguments;
+pub use pops::pop_block;
+pub use pops::pop_call;
+pub use pops::pop_catches;
+pub use pops::pop_constructor_body;
+pub use pops::pop_expression;
+pub use pops::pop_expressions;
+pub use pops::pop_for_start;
+pub use pops::pop_identifiers;
+pub use pops::pop_imports;
+pub use pops::pop_local;
+pub use pops::pop_members;
+pub use pops::pop_modifiers;
+pub use pops::pop_name;
+pub use pops::pop_names;
+pub use pops::pop_operations;
+pub use pops::pop_optional_expression;
+pub use pops::pop_optional_name;
+pub use pops::pop_optional_type;
+pub use pops::pop_parameters;
+pub use pops::pop_parenthesized;
+pub use pops::pop_place;
+pub use pops::pop_resources;
+pub use pops::pop_statement;
+pub use pops::pop_statements;
+pub use pops::pop_super_call;
+pub use pops::pop_token;
+pub use pops::pop_typ;
+pub use pops::pop_types;
+pub use pops::pop_unit;
+pub use pops::pop_units;
+pub use pops::pop_variables;
+pub use statement_parts::block;
+pub use statement_parts::block_statement;
+pub use statement_parts::catch_clause;
+pub use statement_parts::do_statement;
+pub use statement_parts::for_statement;
+pub use statement_parts::if_else_statement;
+pub use statement_parts::if_statement;
+pub use statement_parts::initialized;
+pub use statement_parts::local;
+pub use statement_parts::plain_variable;
+pub use statement_parts::resource;
+pub use statement_parts::statement;
+pub use statement_parts::try_finally_statement;
+pub use statement_parts::try_statement;
+pub use statement_parts::unit;
+pub use statement_parts::while_statement;
+pub use values::Identifiers;
+pub use values::Lexeme;
+pub use values::Nested;
+pub use values::OpenOperation;
+pub use values::Parameters;
+pub use values::Parenthesized;
+pub use values::Place;
+pub use values::Value;

@@ -1,11 +1,11 @@
-ghost use Rattle.std.specs.Prelude.{◌≡◌, Some, None, IfOk, IfErr, map, reverse};
+ghost use Rattle.std.specs.Prelude.{◌≡◌, IfOk, map};
 ghost use Rattle.java_syntax.specs.ExpressionTrees.{expr_of, expressions};
 ghost use Rattle.java_syntax.specs.ExpressionTrees as expr;
 ghost use Rattle.java_values.specs.declared.nodes.BuildFail.TheVariants as fails;
-ghost use Rattle.java_values.specs.Values.{subexpression_of, arguments_of};
+ghost use Rattle.java_values.specs.Values.{nested_of, exprs_in};
 ghost use Rattle.java_values.specs.Nodes as nodes;
 
-use crate::values::{Arguments, Subexpression};
+use crate::values::Nested;
 use java_syntax::{Expr, InfixOperator, Name, PrefixOperator, StepOperator, Typ};
 use rlc_base::{NoMemory, Pos, Text};
 use std::alloc::{AllocError, AllocFailed, Global};
@@ -52,8 +52,7 @@ impl From<NoMemory> for BuildFail {
 ///
 /// `TooDeep` with this place where the depth is not below the limit.
 pub fn deeper(limit: u32, depth: u32, pos: Pos) -> Result<u32, BuildFail>
-    ensures made { IfOk result (λ d. nodes.deeper limit depth ≡ Some d) }
-    ensures too_deep { IfErr result (λ fail. nodes.IsTooDeep fail → nodes.deeper limit depth ≡ None) }
+    ensures { nodes.Gives (λ d. d) result (nodes.deeper limit depth) }
 {
     if depth < limit {
         Ok(depth + 1)
@@ -63,12 +62,11 @@ pub fn deeper(limit: u32, depth: u32, pos: Pos) -> Result<u32, BuildFail>
 }
 
 /// The tree with its depth, which is one more than that of its deepest part.
-fn node(limit: u32, below: u32, tree: Expr, pos: Pos) -> Result<Subexpression, BuildFail>
-    ensures made { IfOk result (λ e. nodes.node limit below (expr_of tree) ≡ Some (subexpression_of e)) }
-    ensures too_deep { IfErr result (λ fail. nodes.IsTooDeep fail → nodes.node limit below (expr_of tree) ≡ None) }
+fn node(limit: u32, below: u32, tree: Expr, pos: Pos) -> Result<Nested<Expr>, BuildFail>
+    ensures { nodes.Gives (nested_of expr_of) result (nodes.node limit below (expr_of tree)) }
 {
     let depth = deeper(limit, below, pos)?;
-    Ok(Subexpression { tree, depth })
+    Ok(Nested { tree, depth })
 }
 
 /// The tree in a box.
@@ -78,22 +76,13 @@ fn boxed(alloc: Global, tree: Expr) -> Result<Box<Expr>, NoMemory>
     Ok(Box::new(alloc, tree)?)
 }
 
-/// The arguments in their order.
-fn in_order(mut list: Vec<Expr>) -> Vec<Expr>
-    ensures { result.items ≡ reverse list.items }
-{
-    list.reverse();
-    list
-}
-
 /// A literal (JLS 3.10), one level deeper than its parts.
 ///
 /// # Errors
 ///
 /// `TooDeep` where it would be deeper than the limit.
-pub fn literal(limit: u32, text: Text, pos: Pos) -> Result<Subexpression, BuildFail>
-    ensures made { IfOk result (λ e. nodes.literal_node limit text pos ≡ Some (subexpression_of e)) }
-    ensures too_deep { IfErr result (λ fail. nodes.IsTooDeep fail → nodes.literal_node limit text pos ≡ None) }
+pub fn literal(limit: u32, text: Text, pos: Pos) -> Result<Nested<Expr>, BuildFail>
+    ensures { nodes.Gives (nested_of expr_of) result (nodes.literal_node limit text pos) }
 {
     node(limit, 0, Expr::Literal { text, pos }, pos)
 }
@@ -103,9 +92,8 @@ pub fn literal(limit: u32, text: Text, pos: Pos) -> Result<Subexpression, BuildF
 /// # Errors
 ///
 /// `TooDeep` where it would be deeper than the limit.
-pub fn identifier(limit: u32, name: Text, pos: Pos) -> Result<Subexpression, BuildFail>
-    ensures made { IfOk result (λ e. nodes.identifier_node limit name pos ≡ Some (subexpression_of e)) }
-    ensures too_deep { IfErr result (λ fail. nodes.IsTooDeep fail → nodes.identifier_node limit name pos ≡ None) }
+pub fn identifier(limit: u32, name: Text, pos: Pos) -> Result<Nested<Expr>, BuildFail>
+    ensures { nodes.Gives (nested_of expr_of) result (nodes.identifier_node limit name pos) }
 {
     node(limit, 0, Expr::Identifier { name, pos }, pos)
 }
@@ -115,19 +103,18 @@ pub fn identifier(limit: u32, name: Text, pos: Pos) -> Result<Subexpression, Bui
 /// # Errors
 ///
 /// `TooDeep` where it would be deeper than the limit.
-pub fn this(limit: u32, pos: Pos) -> Result<Subexpression, BuildFail>
-    ensures made { IfOk result (λ e. nodes.this_node limit pos ≡ Some (subexpression_of e)) }
-    ensures too_deep { IfErr result (λ fail. nodes.IsTooDeep fail → nodes.this_node limit pos ≡ None) }
+pub fn this(limit: u32, pos: Pos) -> Result<Nested<Expr>, BuildFail>
+    ensures { nodes.Gives (nested_of expr_of) result (nodes.this_node limit pos) }
 {
     node(limit, 0, Expr::This { pos }, pos)
 }
 
 fn call_tree(name: Text, arguments: Vec<Expr>, pos: Pos) -> Expr
-    ensures { expr_of result ≡ expr.Call name (expressions (map expr_of (reverse arguments.items))) pos }
+    ensures { expr_of result ≡ expr.Call name (expressions (map expr_of arguments.items)) pos }
 {
     Expr::Call {
         name,
-        arguments: in_order(arguments),
+        arguments,
         pos,
     }
 }
@@ -140,23 +127,22 @@ fn call_tree(name: Text, arguments: Vec<Expr>, pos: Pos) -> Expr
 pub fn call(
     limit: u32,
     name: Text,
-    arguments: Arguments,
+    arguments: Nested<Vec<Expr>>,
     pos: Pos,
-) -> Result<Subexpression, BuildFail>
-    ensures made { IfOk result (λ e. nodes.call_node limit name (arguments_of arguments) pos ≡ Some (subexpression_of e)) }
-    ensures too_deep { IfErr result (λ fail. nodes.IsTooDeep fail → nodes.call_node limit name (arguments_of arguments) pos ≡ None) }
+) -> Result<Nested<Expr>, BuildFail>
+    ensures { nodes.Gives (nested_of expr_of) result (nodes.call_node limit name (nested_of exprs_in arguments) pos) }
 {
     let depth = deeper(limit, arguments.depth, pos)?;
-    let tree = call_tree(name, arguments.list, pos);
-    Ok(Subexpression { tree, depth })
+    let tree = call_tree(name, arguments.tree, pos);
+    Ok(Nested { tree, depth })
 }
 
 fn super_call_tree(name: Text, arguments: Vec<Expr>, pos: Pos) -> Expr
-    ensures { expr_of result ≡ expr.SuperCall name (expressions (map expr_of (reverse arguments.items))) pos }
+    ensures { expr_of result ≡ expr.SuperCall name (expressions (map expr_of arguments.items)) pos }
 {
     Expr::SuperCall {
         name,
-        arguments: in_order(arguments),
+        arguments,
         pos,
     }
 }
@@ -169,24 +155,23 @@ fn super_call_tree(name: Text, arguments: Vec<Expr>, pos: Pos) -> Expr
 pub fn super_call(
     limit: u32,
     name: Text,
-    arguments: Arguments,
+    arguments: Nested<Vec<Expr>>,
     pos: Pos,
-) -> Result<Subexpression, BuildFail>
-    ensures made { IfOk result (λ e. nodes.super_call_node limit name (arguments_of arguments) pos ≡ Some (subexpression_of e)) }
-    ensures too_deep { IfErr result (λ fail. nodes.IsTooDeep fail → nodes.super_call_node limit name (arguments_of arguments) pos ≡ None) }
+) -> Result<Nested<Expr>, BuildFail>
+    ensures { nodes.Gives (nested_of expr_of) result (nodes.super_call_node limit name (nested_of exprs_in arguments) pos) }
 {
     let depth = deeper(limit, arguments.depth, pos)?;
-    let tree = super_call_tree(name, arguments.list, pos);
-    Ok(Subexpression { tree, depth })
+    let tree = super_call_tree(name, arguments.tree, pos);
+    Ok(Nested { tree, depth })
 }
 
 fn method_call_tree(target: Box<Expr>, name: Text, arguments: Vec<Expr>, pos: Pos) -> Expr
-    ensures { expr_of result ≡ expr.MethodCall (expr_of target.value) name (expressions (map expr_of (reverse arguments.items))) pos }
+    ensures { expr_of result ≡ expr.MethodCall (expr_of target.value) name (expressions (map expr_of arguments.items)) pos }
 {
     Expr::MethodCall {
-        target: target,
+        target,
         name,
-        arguments: in_order(arguments),
+        arguments,
         pos,
     }
 }
@@ -199,20 +184,19 @@ fn method_call_tree(target: Box<Expr>, name: Text, arguments: Vec<Expr>, pos: Po
 pub fn method_call(
     alloc: Global,
     limit: u32,
-    target: Subexpression,
+    target: Nested<Expr>,
     name: Text,
-    arguments: Arguments,
+    arguments: Nested<Vec<Expr>>,
     pos: Pos,
-) -> Result<Subexpression, BuildFail>
-    ensures made { IfOk result (λ e. nodes.method_call_node limit (subexpression_of target) name (arguments_of arguments) pos ≡ Some (subexpression_of e)) }
-    ensures too_deep { IfErr result (λ fail. nodes.IsTooDeep fail → nodes.method_call_node limit (subexpression_of target) name (arguments_of arguments) pos ≡ None) }
+) -> Result<Nested<Expr>, BuildFail>
+    ensures { nodes.Gives (nested_of expr_of) result (nodes.method_call_node limit (nested_of expr_of target) name (nested_of exprs_in arguments) pos) }
 {
     let below = target.depth.max(arguments.depth);
     match boxed(alloc, target.tree) {
         Ok(target) => node(
             limit,
             below,
-            method_call_tree(target, name, arguments.list, pos),
+            method_call_tree(target, name, arguments.tree, pos),
             pos,
         ),
         Err(NoMemory) => Err(BuildFail::NoMemory),
@@ -227,12 +211,11 @@ pub fn method_call(
 pub fn field_access(
     alloc: Global,
     limit: u32,
-    target: Subexpression,
+    target: Nested<Expr>,
     name: Text,
     pos: Pos,
-) -> Result<Subexpression, BuildFail>
-    ensures made { IfOk result (λ e. nodes.field_access_node limit (subexpression_of target) name pos ≡ Some (subexpression_of e)) }
-    ensures too_deep { IfErr result (λ fail. nodes.IsTooDeep fail → nodes.field_access_node limit (subexpression_of target) name pos ≡ None) }
+) -> Result<Nested<Expr>, BuildFail>
+    ensures { nodes.Gives (nested_of expr_of) result (nodes.field_access_node limit (nested_of expr_of target) name pos) }
 {
     let below = target.depth;
     match boxed(alloc, target.tree) {
@@ -249,12 +232,11 @@ pub fn field_access(
 pub fn index(
     alloc: Global,
     limit: u32,
-    array: Subexpression,
-    index: Subexpression,
+    array: Nested<Expr>,
+    index: Nested<Expr>,
     pos: Pos,
-) -> Result<Subexpression, BuildFail>
-    ensures made { IfOk result (λ e. nodes.index_node limit (subexpression_of array) (subexpression_of index) pos ≡ Some (subexpression_of e)) }
-    ensures too_deep { IfErr result (λ fail. nodes.IsTooDeep fail → nodes.index_node limit (subexpression_of array) (subexpression_of index) pos ≡ None) }
+) -> Result<Nested<Expr>, BuildFail>
+    ensures { nodes.Gives (nested_of expr_of) result (nodes.index_node limit (nested_of expr_of array) (nested_of expr_of index) pos) }
 {
     let below = array.depth.max(index.depth);
     match (boxed(alloc, array.tree), boxed(alloc, index.tree)) {
@@ -264,11 +246,11 @@ pub fn index(
 }
 
 fn new_object_tree(class: Name, arguments: Vec<Expr>, pos: Pos) -> Expr
-    ensures { expr_of result ≡ expr.NewObject class (expressions (map expr_of (reverse arguments.items))) pos }
+    ensures { expr_of result ≡ expr.NewObject class (expressions (map expr_of arguments.items)) pos }
 {
     Expr::NewObject {
         class,
-        arguments: in_order(arguments),
+        arguments,
         pos,
     }
 }
@@ -281,15 +263,14 @@ fn new_object_tree(class: Name, arguments: Vec<Expr>, pos: Pos) -> Expr
 pub fn new_object(
     limit: u32,
     class: Name,
-    arguments: Arguments,
+    arguments: Nested<Vec<Expr>>,
     pos: Pos,
-) -> Result<Subexpression, BuildFail>
-    ensures made { IfOk result (λ e. nodes.new_object_node limit class (arguments_of arguments) pos ≡ Some (subexpression_of e)) }
-    ensures too_deep { IfErr result (λ fail. nodes.IsTooDeep fail → nodes.new_object_node limit class (arguments_of arguments) pos ≡ None) }
+) -> Result<Nested<Expr>, BuildFail>
+    ensures { nodes.Gives (nested_of expr_of) result (nodes.new_object_node limit class (nested_of exprs_in arguments) pos) }
 {
     let depth = deeper(limit, arguments.depth, pos)?;
-    let tree = new_object_tree(class, arguments.list, pos);
-    Ok(Subexpression { tree, depth })
+    let tree = new_object_tree(class, arguments.tree, pos);
+    Ok(Nested { tree, depth })
 }
 
 /// A new array (JLS 15.10.1), one level deeper than its parts.
@@ -301,11 +282,10 @@ pub fn new_array(
     alloc: Global,
     limit: u32,
     element: Typ,
-    length: Subexpression,
+    length: Nested<Expr>,
     pos: Pos,
-) -> Result<Subexpression, BuildFail>
-    ensures made { IfOk result (λ e. nodes.new_array_node limit element (subexpression_of length) pos ≡ Some (subexpression_of e)) }
-    ensures too_deep { IfErr result (λ fail. nodes.IsTooDeep fail → nodes.new_array_node limit element (subexpression_of length) pos ≡ None) }
+) -> Result<Nested<Expr>, BuildFail>
+    ensures { nodes.Gives (nested_of expr_of) result (nodes.new_array_node limit element (nested_of expr_of length) pos) }
 {
     let below = length.depth;
     match boxed(alloc, length.tree) {
@@ -332,11 +312,10 @@ pub fn prefix(
     alloc: Global,
     limit: u32,
     operator: PrefixOperator,
-    operand: Subexpression,
+    operand: Nested<Expr>,
     pos: Pos,
-) -> Result<Subexpression, BuildFail>
-    ensures made { IfOk result (λ e. nodes.prefix_node limit operator (subexpression_of operand) pos ≡ Some (subexpression_of e)) }
-    ensures too_deep { IfErr result (λ fail. nodes.IsTooDeep fail → nodes.prefix_node limit operator (subexpression_of operand) pos ≡ None) }
+) -> Result<Nested<Expr>, BuildFail>
+    ensures { nodes.Gives (nested_of expr_of) result (nodes.prefix_node limit operator (nested_of expr_of operand) pos) }
 {
     let below = operand.depth;
     match boxed(alloc, operand.tree) {
@@ -363,11 +342,10 @@ pub fn prefix_step(
     alloc: Global,
     limit: u32,
     operator: StepOperator,
-    operand: Subexpression,
+    operand: Nested<Expr>,
     pos: Pos,
-) -> Result<Subexpression, BuildFail>
-    ensures made { IfOk result (λ e. nodes.prefix_step_node limit operator (subexpression_of operand) pos ≡ Some (subexpression_of e)) }
-    ensures too_deep { IfErr result (λ fail. nodes.IsTooDeep fail → nodes.prefix_step_node limit operator (subexpression_of operand) pos ≡ None) }
+) -> Result<Nested<Expr>, BuildFail>
+    ensures { nodes.Gives (nested_of expr_of) result (nodes.prefix_step_node limit operator (nested_of expr_of operand) pos) }
 {
     let below = operand.depth;
     match boxed(alloc, operand.tree) {
@@ -394,11 +372,10 @@ pub fn postfix_step(
     alloc: Global,
     limit: u32,
     operator: StepOperator,
-    operand: Subexpression,
+    operand: Nested<Expr>,
     pos: Pos,
-) -> Result<Subexpression, BuildFail>
-    ensures made { IfOk result (λ e. nodes.postfix_step_node limit operator (subexpression_of operand) pos ≡ Some (subexpression_of e)) }
-    ensures too_deep { IfErr result (λ fail. nodes.IsTooDeep fail → nodes.postfix_step_node limit operator (subexpression_of operand) pos ≡ None) }
+) -> Result<Nested<Expr>, BuildFail>
+    ensures { nodes.Gives (nested_of expr_of) result (nodes.postfix_step_node limit operator (nested_of expr_of operand) pos) }
 {
     let below = operand.depth;
     match boxed(alloc, operand.tree) {
@@ -425,11 +402,10 @@ pub fn cast(
     alloc: Global,
     limit: u32,
     typ: Typ,
-    operand: Subexpression,
+    operand: Nested<Expr>,
     pos: Pos,
-) -> Result<Subexpression, BuildFail>
-    ensures made { IfOk result (λ e. nodes.cast_node limit typ (subexpression_of operand) pos ≡ Some (subexpression_of e)) }
-    ensures too_deep { IfErr result (λ fail. nodes.IsTooDeep fail → nodes.cast_node limit typ (subexpression_of operand) pos ≡ None) }
+) -> Result<Nested<Expr>, BuildFail>
+    ensures { nodes.Gives (nested_of expr_of) result (nodes.cast_node limit typ (nested_of expr_of operand) pos) }
 {
     let below = operand.depth;
     match boxed(alloc, operand.tree) {
@@ -447,12 +423,11 @@ pub fn infix(
     alloc: Global,
     limit: u32,
     operator: InfixOperator,
-    left: Subexpression,
-    right: Subexpression,
+    left: Nested<Expr>,
+    right: Nested<Expr>,
     pos: Pos,
-) -> Result<Subexpression, BuildFail>
-    ensures made { IfOk result (λ e. nodes.infix_node limit operator (subexpression_of left) (subexpression_of right) pos ≡ Some (subexpression_of e)) }
-    ensures too_deep { IfErr result (λ fail. nodes.IsTooDeep fail → nodes.infix_node limit operator (subexpression_of left) (subexpression_of right) pos ≡ None) }
+) -> Result<Nested<Expr>, BuildFail>
+    ensures { nodes.Gives (nested_of expr_of) result (nodes.infix_node limit operator (nested_of expr_of left) (nested_of expr_of right) pos) }
 {
     let below = left.depth.max(right.depth);
     match (boxed(alloc, left.tree), boxed(alloc, right.tree)) {
@@ -479,12 +454,11 @@ pub fn infix(
 pub fn instance(
     alloc: Global,
     limit: u32,
-    operand: Subexpression,
+    operand: Nested<Expr>,
     typ: Typ,
     pos: Pos,
-) -> Result<Subexpression, BuildFail>
-    ensures made { IfOk result (λ e. nodes.instance_node limit (subexpression_of operand) typ pos ≡ Some (subexpression_of e)) }
-    ensures too_deep { IfErr result (λ fail. nodes.IsTooDeep fail → nodes.instance_node limit (subexpression_of operand) typ pos ≡ None) }
+) -> Result<Nested<Expr>, BuildFail>
+    ensures { nodes.Gives (nested_of expr_of) result (nodes.instance_node limit (nested_of expr_of operand) typ pos) }
 {
     let below = operand.depth;
     match boxed(alloc, operand.tree) {
@@ -501,13 +475,12 @@ pub fn instance(
 pub fn conditional(
     alloc: Global,
     limit: u32,
-    condition: Subexpression,
-    when_true: Subexpression,
-    when_false: Subexpression,
+    condition: Nested<Expr>,
+    when_true: Nested<Expr>,
+    when_false: Nested<Expr>,
     pos: Pos,
-) -> Result<Subexpression, BuildFail>
-    ensures made { IfOk result (λ e. nodes.conditional_node limit (subexpression_of condition) (subexpression_of when_true) (subexpression_of when_false) pos ≡ Some (subexpression_of e)) }
-    ensures too_deep { IfErr result (λ fail. nodes.IsTooDeep fail → nodes.conditional_node limit (subexpression_of condition) (subexpression_of when_true) (subexpression_of when_false) pos ≡ None) }
+) -> Result<Nested<Expr>, BuildFail>
+    ensures { nodes.Gives (nested_of expr_of) result (nodes.conditional_node limit (nested_of expr_of condition) (nested_of expr_of when_true) (nested_of expr_of when_false) pos) }
 {
     let below = condition.depth.max(when_true.depth.max(when_false.depth));
     match (
@@ -538,12 +511,11 @@ pub fn conditional(
 pub fn assignment(
     alloc: Global,
     limit: u32,
-    left: Subexpression,
-    right: Subexpression,
+    left: Nested<Expr>,
+    right: Nested<Expr>,
     pos: Pos,
-) -> Result<Subexpression, BuildFail>
-    ensures made { IfOk result (λ e. nodes.assignment_node limit (subexpression_of left) (subexpression_of right) pos ≡ Some (subexpression_of e)) }
-    ensures too_deep { IfErr result (λ fail. nodes.IsTooDeep fail → nodes.assignment_node limit (subexpression_of left) (subexpression_of right) pos ≡ None) }
+) -> Result<Nested<Expr>, BuildFail>
+    ensures { nodes.Gives (nested_of expr_of) result (nodes.assignment_node limit (nested_of expr_of left) (nested_of expr_of right) pos) }
 {
     let below = left.depth.max(right.depth);
     match (boxed(alloc, left.tree), boxed(alloc, right.tree)) {
@@ -561,12 +533,11 @@ pub fn compound(
     alloc: Global,
     limit: u32,
     operator: InfixOperator,
-    left: Subexpression,
-    right: Subexpression,
+    left: Nested<Expr>,
+    right: Nested<Expr>,
     pos: Pos,
-) -> Result<Subexpression, BuildFail>
-    ensures made { IfOk result (λ e. nodes.compound_node limit operator (subexpression_of left) (subexpression_of right) pos ≡ Some (subexpression_of e)) }
-    ensures too_deep { IfErr result (λ fail. nodes.IsTooDeep fail → nodes.compound_node limit operator (subexpression_of left) (subexpression_of right) pos ≡ None) }
+) -> Result<Nested<Expr>, BuildFail>
+    ensures { nodes.Gives (nested_of expr_of) result (nodes.compound_node limit operator (nested_of expr_of left) (nested_of expr_of right) pos) }
 {
     let below = left.depth.max(right.depth);
     match (boxed(alloc, left.tree), boxed(alloc, right.tree)) {
@@ -590,12 +561,11 @@ pub fn compound(
 /// # Errors
 ///
 /// `TooDeep` where that would be deeper than the limit.
-pub fn parenthesized(limit: u32, e: Subexpression) -> Result<Subexpression, BuildFail>
-    ensures made { IfOk result (λ whole. nodes.parenthesized limit (subexpression_of e) ≡ Some (subexpression_of whole)) }
-    ensures too_deep { IfErr result (λ fail. nodes.IsTooDeep fail → nodes.parenthesized limit (subexpression_of e) ≡ None) }
+pub fn parenthesized(limit: u32, e: Nested<Expr>) -> Result<Nested<Expr>, BuildFail>
+    ensures { nodes.Gives (nested_of expr_of) result (nodes.parenthesized limit (nested_of expr_of e)) }
 {
     let depth = deeper(limit, e.depth, place_of(&e.tree))?;
-    Ok(Subexpression {
+    Ok(Nested {
         tree: e.tree,
         depth,
     })

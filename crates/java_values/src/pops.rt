@@ -1,475 +1,434 @@
-ghost use Rattle.std.specs.Prelude.{◌≡◌, ◌∷◌, reverse, IfOk, IfErr};
-ghost use Rattle.java_values.specs.declared.nodes.BuildFail.TheVariants as fails;
-ghost use Rattle.java_values.specs.Values.{value_of, values_of, lexeme_in, subexpression_of, arguments_of, call_of, suffixes_of, operation_of, operations_of, choice_of, tail_of, after_name_of, after_bracket_of, inside_of, after_inside_of, opening_of, primitive_cast_of, creator_rest_of, creator_of, annotation_of, annotations_of, annotation_value_of, annotation_values_of, annotation_arguments_of, after_key_of};
-ghost use Rattle.java_values.specs.Pops as pops;
+ghost use Rattle.std.specs.Prelude.{◌≡◌, ◌∷◌, [], reverse, map, option_map};
+ghost use Rattle.java_syntax.specs.ExpressionTrees.{expr_of};
+ghost use Rattle.java_syntax.specs.AnnotationTrees.{anno_of, anno_value_of};
+ghost use Rattle.java_syntax.specs.StatementTrees.{local_of, stmt_of, block_of, for_start_of};
+ghost use Rattle.java_syntax.specs.DeclarationTrees.{super_call_of, constructor_body_of, member_of, class_of, unit_of};
+ghost use Rattle.java_values.specs.Values.{values_of, value_of, lexeme_in, nested_of, exprs_in, annos_in, arguments_in, anno_values_in, modifiers_in, variables_in, stmts_in, resources_in, catches_in, open_operation_of, identifiers_of, optional_in, parenthesized_of, parameters_of};
+ghost use Rattle.java_values.specs.Values as kinds;
+ghost use Rattle.java_values.specs.Kinds.{IsTop, kind_of};
+ghost use Rattle.java_values.specs.Nodes.{Gives, Made};
 
 use crate::lists::put;
 use crate::nodes::BuildFail;
 use crate::values::{
-    AfterBracket, AfterInside, AfterKey, AfterName, Alternatives, Annotation, AnnotationArguments,
-    AnnotationValue, AnnotationValues, Annotations, Arguments, Creator, CreatorRest, Inside,
-    Lexeme, Opening, Operation, PrimitiveCast, Step, Subexpression, Suffix, Tail, Value,
+    Identifiers, Lexeme, Nested, OpenOperation, Parameters, Parenthesized, Place, Value,
 };
-use java_syntax::{Anno, AnnoValue, Expr, InfixOperator, Name, PrimitiveName, Typ, TypeName, Word};
-use rlc_base::{Pos, Text};
-use std::alloc::{AllocError, Global};
-
-/// No place: what a value has that is taken where none of its kind stands.
-pub const NOWHERE: Pos = Pos {
-    file: 0,
-    line: 0,
-    col: 0,
+use java_syntax::{
+    Anno, AnnoArgument, AnnoValue, Block, Catch, ClassDecl, ConstructorBody, Expr, ForStart,
+    Import, Local, Member, Modifier, Name, Resource, Stmt, SuperCall, Typ, Unit, Variable,
 };
-
-/// Puts the value on the stack.
-pub fn push(stack: &mut Vec<Value>, value: Value) -> Result<(), AllocError>
-    ensures { IfOk result (λ _. values_of stack.new.items ≡ value_of value ∷ values_of stack.old.items) }
-{
-    put(stack, value)
-}
 
 /// Puts the value on the stack, as an action's last step.
 pub fn leave(stack: &mut Vec<Value>, value: Value) -> Result<(), BuildFail>
-    ensures made { IfOk result (λ _. values_of stack.new.items ≡ value_of value ∷ values_of stack.old.items) }
-    ensures memory { IfErr result (λ fail. fail ≡ fails.NoMemory) }
+    ensures { Gives (λ _. values_of stack.new.items) result (Made (value_of value ∷ values_of stack.old.items)) }
 {
-    Ok(push(stack, value)?)
+    put(stack, value)?;
+    Ok(())
 }
 
-/// Takes the top of the stack off it; `Value::Nothing` where the stack is empty.
-pub fn pop(stack: &mut Vec<Value>) -> Value
-    ensures popped { value_of result ≡ pops.top (values_of stack.old.items) }
-    ensures rest { values_of stack.new.items ≡ pops.rest (values_of stack.old.items) }
+/// The place that the value is.
+fn place_in(value: Value) -> Place
+    requires { kind_of (value_of value) ≡ kinds.place }
+    ensures { value_of value ≡ kinds.APlace result.pos }
+{
+    match value {
+        Value::Place(found) => found,
+        _ => unreachable!(),
+    }
+}
+
+/// Takes the place of a token off the stack.
+pub fn pop_place(stack: &mut Vec<Value>) -> Place
+    requires { IsTop kinds.place (values_of stack.old.items) }
+    ensures { values_of stack.old.items ≡ kinds.APlace result.pos ∷ values_of stack.new.items }
 {
     match stack.pop() {
-        Some(value) => value,
-        None => Value::Nothing,
+        Some(value) => place_in(value),
+        None => unreachable!(),
     }
 }
 
-/// Takes the top of the stack off it and lets it go.
-pub fn skip(stack: &mut Vec<Value>)
-    ensures { values_of stack.new.items ≡ pops.rest (values_of stack.old.items) }
+/// Takes the value of this kind off the stack: an operator that waits for its operands.
+pub fn pop_token(stack: &mut Vec<Value>) -> Lexeme
+    requires { IsTop kinds.token (values_of stack.old.items) }
+    ensures { values_of stack.old.items ≡ kinds.AToken (lexeme_in result) ∷ values_of stack.new.items }
 {
-    pop(stack);
-}
-
-fn no_annotation(alloc: Global) -> Annotation
-    ensures { annotation_of result ≡ pops.no_annotation }
-{
-    Annotation {
-        tree: Anno {
-            name: Name {
-                text: Text::new(alloc),
-                pos: NOWHERE,
-            },
-            arguments: Vec::new(alloc),
-            pos: NOWHERE,
-        },
-        depth: 0,
+    match stack.pop() {
+        Some(Value::Token(found)) => found,
+        _other => unreachable!(),
     }
 }
 
-/// Takes the token off the stack.
-pub fn pop_token(alloc: Global, stack: &mut Vec<Value>) -> Lexeme
-    ensures popped { lexeme_in result ≡ pops.the_token (pops.top (values_of stack.old.items)) }
-    ensures rest { values_of stack.new.items ≡ pops.rest (values_of stack.old.items) }
+/// Takes the value of this kind off the stack: a name with its dots, or an identifier.
+pub fn pop_name(stack: &mut Vec<Value>) -> Name
+    requires { IsTop kinds.name (values_of stack.old.items) }
+    ensures { values_of stack.old.items ≡ kinds.AName result ∷ values_of stack.new.items }
 {
-    match pop(stack) {
-        Value::Token(found) => found,
-        _other => Lexeme {
-            word: Word::Other,
-            text: Text::new(alloc),
-            pos: NOWHERE,
-        },
+    match stack.pop() {
+        Some(Value::Name(found)) => found,
+        _other => unreachable!(),
     }
 }
 
-/// Takes the token off the stack and keeps its place alone.
-pub fn pop_place(stack: &mut Vec<Value>) -> Pos
-    ensures popped { result ≡ (pops.the_token (pops.top (values_of stack.old.items))).pos }
-    ensures rest { values_of stack.new.items ≡ pops.rest (values_of stack.old.items) }
+/// Takes the value of this kind off the stack: a name that may be absent.
+pub fn pop_optional_name(stack: &mut Vec<Value>) -> Option<Name>
+    requires { IsTop kinds.optional_name (values_of stack.old.items) }
+    ensures { values_of stack.old.items ≡ kinds.AOptionalName result ∷ values_of stack.new.items }
 {
-    match pop(stack) {
-        Value::Token(found) => found.pos,
-        _other => NOWHERE,
+    match stack.pop() {
+        Some(Value::OptionalName(found)) => found,
+        _other => unreachable!(),
     }
 }
 
-/// Takes the name off the stack.
-pub fn pop_name(alloc: Global, stack: &mut Vec<Value>) -> Name
-    ensures popped { result ≡ pops.the_name (pops.top (values_of stack.old.items)) }
-    ensures rest { values_of stack.new.items ≡ pops.rest (values_of stack.old.items) }
+/// Takes the value of this kind off the stack: identifiers that dots join: a type, or an expression.
+pub fn pop_identifiers(stack: &mut Vec<Value>) -> Identifiers
+    requires { IsTop kinds.identifiers (values_of stack.old.items) }
+    ensures { values_of stack.old.items ≡ kinds.AIdentifiers (identifiers_of result) ∷ values_of stack.new.items }
 {
-    match pop(stack) {
-        Value::Name(found) => found,
-        _other => Name {
-            text: Text::new(alloc),
-            pos: NOWHERE,
-        },
+    match stack.pop() {
+        Some(Value::Identifiers(found)) => found,
+        _other => unreachable!(),
     }
 }
 
-/// Takes the identifiers behind dots, the last one first off the stack.
-pub fn pop_names(alloc: Global, stack: &mut Vec<Value>) -> Vec<Name>
-    ensures popped { reverse result.items ≡ pops.the_names (pops.top (values_of stack.old.items)) }
-    ensures rest { values_of stack.new.items ≡ pops.rest (values_of stack.old.items) }
+/// Takes the value of this kind off the stack: names in their order.
+pub fn pop_names(stack: &mut Vec<Value>) -> Vec<Name>
+    requires { IsTop kinds.names (values_of stack.old.items) }
+    ensures { values_of stack.old.items ≡ kinds.ANames result.items ∷ values_of stack.new.items }
 {
-    match pop(stack) {
-        Value::Names(found) => found,
-        _other => Vec::new(alloc),
+    match stack.pop() {
+        Some(Value::Names(found)) => found,
+        _other => unreachable!(),
     }
 }
 
-/// Takes the answer whether brackets stand there off the stack.
-pub fn pop_brackets(stack: &mut Vec<Value>) -> bool
-    ensures popped { result ≡ pops.the_brackets (pops.top (values_of stack.old.items)) }
-    ensures rest { values_of stack.new.items ≡ pops.rest (values_of stack.old.items) }
+/// Takes the value of this kind off the stack: a type.
+pub fn pop_typ(stack: &mut Vec<Value>) -> Typ
+    requires { IsTop kinds.typ (values_of stack.old.items) }
+    ensures { values_of stack.old.items ≡ kinds.AType result ∷ values_of stack.new.items }
 {
-    match pop(stack) {
-        Value::Brackets(found) => found,
-        _ => false,
+    match stack.pop() {
+        Some(Value::Type(found)) => found,
+        _other => unreachable!(),
     }
 }
 
-// A type where there is none.
-fn default_type() -> Typ
-    ensures { result ≡ pops.default_type }
+/// Takes the value of this kind off the stack: the type of a method's result; none for `void`.
+pub fn pop_optional_type(stack: &mut Vec<Value>) -> Option<Typ>
+    requires { IsTop kinds.optional_type (values_of stack.old.items) }
+    ensures { values_of stack.old.items ≡ kinds.AOptionalType result ∷ values_of stack.new.items }
 {
-    Typ {
-        name: TypeName::Primitive(PrimitiveName::Int),
-        is_array: false,
-        pos: NOWHERE,
+    match stack.pop() {
+        Some(Value::OptionalType(found)) => found,
+        _other => unreachable!(),
     }
 }
 
-/// Takes the type off the stack.
-pub fn pop_type(stack: &mut Vec<Value>) -> Typ
-    ensures popped { result ≡ pops.the_type (pops.top (values_of stack.old.items)) }
-    ensures rest { values_of stack.new.items ≡ pops.rest (values_of stack.old.items) }
+/// Takes the value of this kind off the stack: an expression.
+pub fn pop_expression(stack: &mut Vec<Value>) -> Nested<Expr>
+    requires { IsTop kinds.expression (values_of stack.old.items) }
+    ensures { values_of stack.old.items ≡ kinds.AExpression (nested_of expr_of result) ∷ values_of stack.new.items }
 {
-    match pop(stack) {
-        Value::Type(found) => found,
-        _other => default_type(),
+    match stack.pop() {
+        Some(Value::Expression(found)) => found,
+        _other => unreachable!(),
     }
 }
 
-/// Takes the expression off the stack.
-pub fn pop_expression(stack: &mut Vec<Value>) -> Subexpression
-    ensures popped { subexpression_of result ≡ pops.the_expression (pops.top (values_of stack.old.items)) }
-    ensures rest { values_of stack.new.items ≡ pops.rest (values_of stack.old.items) }
+/// Takes the value of this kind off the stack: an expression that may be absent.
+pub fn pop_optional_expression(stack: &mut Vec<Value>) -> Nested<Option<Expr>>
+    requires { IsTop kinds.optional_expression (values_of stack.old.items) }
+    ensures { values_of stack.old.items ≡ kinds.AOptionalExpression (nested_of optional_in result) ∷ values_of stack.new.items }
 {
-    match pop(stack) {
-        Value::Expression(found) => found,
-        _other => Subexpression {
-            tree: Expr::This { pos: NOWHERE },
-            depth: 0,
-        },
+    match stack.pop() {
+        Some(Value::OptionalExpression(found)) => found,
+        _other => unreachable!(),
     }
 }
 
-/// Takes the arguments off the stack.
-pub fn pop_arguments(alloc: Global, stack: &mut Vec<Value>) -> Arguments
-    ensures popped { arguments_of result ≡ pops.the_arguments (pops.top (values_of stack.old.items)) }
-    ensures rest { values_of stack.new.items ≡ pops.rest (values_of stack.old.items) }
+/// Takes the value of this kind off the stack: expressions in their order.
+pub fn pop_expressions(stack: &mut Vec<Value>) -> Nested<Vec<Expr>>
+    requires { IsTop kinds.expressions (values_of stack.old.items) }
+    ensures { values_of stack.old.items ≡ kinds.AExpressions (nested_of exprs_in result) ∷ values_of stack.new.items }
 {
-    match pop(stack) {
-        Value::Arguments(found) => found,
-        _other => Arguments {
-            list: Vec::new(alloc),
-            depth: 0,
-        },
+    match stack.pop() {
+        Some(Value::Expressions(found)) => found,
+        _other => unreachable!(),
     }
 }
 
-/// Takes the arguments that may be absent off the stack.
-pub fn pop_call(stack: &mut Vec<Value>) -> Option<Arguments>
-    ensures popped { call_of result ≡ pops.the_call (pops.top (values_of stack.old.items)) }
-    ensures rest { values_of stack.new.items ≡ pops.rest (values_of stack.old.items) }
+/// Takes the value of this kind off the stack: the arguments behind an identifier, where it is a method's name.
+pub fn pop_call(stack: &mut Vec<Value>) -> Option<Nested<Vec<Expr>>>
+    requires { IsTop kinds.call (values_of stack.old.items) }
+    ensures { values_of stack.old.items ≡ kinds.ACall (option_map (nested_of exprs_in) result) ∷ values_of stack.new.items }
 {
-    match pop(stack) {
-        Value::Call(found) => found,
-        _other => None,
+    match stack.pop() {
+        Some(Value::Call(found)) => found,
+        _other => unreachable!(),
     }
 }
 
-/// Takes the suffixes, the last one first off the stack.
-pub fn pop_suffixes(alloc: Global, stack: &mut Vec<Value>) -> Vec<Suffix>
-    ensures popped { suffixes_of result.items ≡ pops.the_suffixes (pops.top (values_of stack.old.items)) }
-    ensures rest { values_of stack.new.items ≡ pops.rest (values_of stack.old.items) }
+/// Takes the value of this kind off the stack: operators that wait for their right operands, the tightest last.
+pub fn pop_operations(stack: &mut Vec<Value>) -> Vec<OpenOperation>
+    requires { IsTop kinds.operations (values_of stack.old.items) }
+    ensures { values_of stack.old.items ≡ kinds.AOperations (map open_operation_of (reverse result.items)) ∷ values_of stack.new.items }
 {
-    match pop(stack) {
-        Value::Suffixes(found) => found,
-        _other => Vec::new(alloc),
+    match stack.pop() {
+        Some(Value::Operations(found)) => found,
+        _other => unreachable!(),
     }
 }
 
-/// Takes the steps, the last one first off the stack.
-pub fn pop_steps(alloc: Global, stack: &mut Vec<Value>) -> Vec<Step>
-    ensures popped { reverse result.items ≡ pops.the_steps (pops.top (values_of stack.old.items)) }
-    ensures rest { values_of stack.new.items ≡ pops.rest (values_of stack.old.items) }
+/// Takes the value of this kind off the stack: what stands in parentheses.
+pub fn pop_parenthesized(stack: &mut Vec<Value>) -> Parenthesized
+    requires { IsTop kinds.parenthesized (values_of stack.old.items) }
+    ensures { values_of stack.old.items ≡ kinds.AParenthesized (parenthesized_of result) ∷ values_of stack.new.items }
 {
-    match pop(stack) {
-        Value::Steps(found) => found,
-        _other => Vec::new(alloc),
+    match stack.pop() {
+        Some(Value::Parenthesized(found)) => found,
+        _other => unreachable!(),
     }
 }
 
-/// Takes the operation off the stack.
-pub fn pop_operation(stack: &mut Vec<Value>) -> Operation
-    ensures popped { operation_of result ≡ pops.the_operation (pops.top (values_of stack.old.items)) }
-    ensures rest { values_of stack.new.items ≡ pops.rest (values_of stack.old.items) }
+/// Takes the value of this kind off the stack: an annotation.
+pub fn pop_annotation(stack: &mut Vec<Value>) -> Nested<Anno>
+    requires { IsTop kinds.annotation (values_of stack.old.items) }
+    ensures { values_of stack.old.items ≡ kinds.AAnnotation (nested_of anno_of result) ∷ values_of stack.new.items }
 {
-    match pop(stack) {
-        Value::Operation(found) => found,
-        _other => Operation::Binary {
-            operator: InfixOperator::Add,
-            right: Subexpression {
-                tree: Expr::This { pos: NOWHERE },
-                depth: 0,
-            },
-            pos: NOWHERE,
-        },
+    match stack.pop() {
+        Some(Value::Annotation(found)) => found,
+        _other => unreachable!(),
     }
 }
 
-/// Takes the operations, the last one first off the stack.
-pub fn pop_operations(alloc: Global, stack: &mut Vec<Value>) -> Vec<Operation>
-    ensures popped { operations_of result.items ≡ pops.the_operations (pops.top (values_of stack.old.items)) }
-    ensures rest { values_of stack.new.items ≡ pops.rest (values_of stack.old.items) }
+/// Takes the value of this kind off the stack: annotations in their order.
+pub fn pop_annotations(stack: &mut Vec<Value>) -> Nested<Vec<Anno>>
+    requires { IsTop kinds.annotations (values_of stack.old.items) }
+    ensures { values_of stack.old.items ≡ kinds.AAnnotations (nested_of annos_in result) ∷ values_of stack.new.items }
 {
-    match pop(stack) {
-        Value::Operations(found) => found,
-        _other => Vec::new(alloc),
+    match stack.pop() {
+        Some(Value::Annotations(found)) => found,
+        _other => unreachable!(),
     }
 }
 
-/// Takes the alternatives that may be absent off the stack.
-pub fn pop_choice(stack: &mut Vec<Value>) -> Option<Alternatives>
-    ensures popped { choice_of result ≡ pops.the_choice (pops.top (values_of stack.old.items)) }
-    ensures rest { values_of stack.new.items ≡ pops.rest (values_of stack.old.items) }
+/// Takes the value of this kind off the stack: the arguments of an annotation, in their order.
+pub fn pop_arguments(stack: &mut Vec<Value>) -> Nested<Vec<AnnoArgument>>
+    requires { IsTop kinds.arguments (values_of stack.old.items) }
+    ensures { values_of stack.old.items ≡ kinds.AArguments (nested_of arguments_in result) ∷ values_of stack.new.items }
 {
-    match pop(stack) {
-        Value::Choice(found) => found,
-        _other => None,
+    match stack.pop() {
+        Some(Value::Arguments(found)) => found,
+        _other => unreachable!(),
     }
 }
 
-/// Takes the tail off the stack.
-pub fn pop_tail(alloc: Global, stack: &mut Vec<Value>) -> Tail
-    ensures popped { tail_of result ≡ pops.the_tail (pops.top (values_of stack.old.items)) }
-    ensures rest { values_of stack.new.items ≡ pops.rest (values_of stack.old.items) }
+/// Takes the value of this kind off the stack: a value in an annotation.
+pub fn pop_annotation_value(stack: &mut Vec<Value>) -> Nested<AnnoValue>
+    requires { IsTop kinds.annotation_value (values_of stack.old.items) }
+    ensures { values_of stack.old.items ≡ kinds.AAnnotationValue (nested_of anno_value_of result) ∷ values_of stack.new.items }
 {
-    match pop(stack) {
-        Value::Tail(found) => found,
-        _other => Tail::Operators {
-            steps: Vec::new(alloc),
-            operations: Vec::new(alloc),
-            choice: None,
-        },
+    match stack.pop() {
+        Some(Value::AnnotationValue(found)) => found,
+        _other => unreachable!(),
     }
 }
 
-/// Takes what stands behind a name in parentheses off the stack.
-pub fn pop_after_name(alloc: Global, stack: &mut Vec<Value>) -> AfterName
-    ensures popped { after_name_of result ≡ pops.the_after_name (pops.top (values_of stack.old.items)) }
-    ensures rest { values_of stack.new.items ≡ pops.rest (values_of stack.old.items) }
+/// Takes the value of this kind off the stack: values in an annotation, in their order.
+pub fn pop_annotation_values(stack: &mut Vec<Value>) -> Nested<Vec<AnnoValue>>
+    requires { IsTop kinds.annotation_values (values_of stack.old.items) }
+    ensures { values_of stack.old.items ≡ kinds.AAnnotationValues (nested_of anno_values_in result) ∷ values_of stack.new.items }
 {
-    match pop(stack) {
-        Value::AfterName(found) => found,
-        _other => AfterName::Bare(Vec::new(alloc)),
+    match stack.pop() {
+        Some(Value::AnnotationValues(found)) => found,
+        _other => unreachable!(),
     }
 }
 
-/// Takes what stands behind a bracket in parentheses off the stack.
-pub fn pop_after_bracket(stack: &mut Vec<Value>) -> AfterBracket
-    ensures popped { after_bracket_of result ≡ pops.the_after_bracket (pops.top (values_of stack.old.items)) }
-    ensures rest { values_of stack.new.items ≡ pops.rest (values_of stack.old.items) }
+/// Takes the value of this kind off the stack: annotations and modifier words, in their order.
+pub fn pop_modifiers(stack: &mut Vec<Value>) -> Nested<Vec<Modifier>>
+    requires { IsTop kinds.modifiers (values_of stack.old.items) }
+    ensures { values_of stack.old.items ≡ kinds.AModifiers (nested_of modifiers_in result) ∷ values_of stack.new.items }
 {
-    match pop(stack) {
-        Value::AfterBracket(found) => found,
-        _other => AfterBracket::ArrayType,
+    match stack.pop() {
+        Some(Value::Modifiers(found)) => found,
+        _other => unreachable!(),
     }
 }
 
-/// Takes the what stands in parentheses off the stack.
-pub fn pop_inside(alloc: Global, stack: &mut Vec<Value>) -> Inside
-    ensures popped { inside_of result ≡ pops.the_inside (pops.top (values_of stack.old.items)) }
-    ensures rest { values_of stack.new.items ≡ pops.rest (values_of stack.old.items) }
+/// Takes the value of this kind off the stack: variables or fields, in their order.
+pub fn pop_variables(stack: &mut Vec<Value>) -> Nested<Vec<Variable>>
+    requires { IsTop kinds.variables (values_of stack.old.items) }
+    ensures { values_of stack.old.items ≡ kinds.AVariables (nested_of variables_in result) ∷ values_of stack.new.items }
 {
-    match pop(stack) {
-        Value::Inside(found) => found,
-        _other => Inside::Name(Vec::new(alloc)),
+    match stack.pop() {
+        Some(Value::Variables(found)) => found,
+        _other => unreachable!(),
     }
 }
 
-/// Takes what stands behind parentheses off the stack.
-pub fn pop_after_inside(alloc: Global, stack: &mut Vec<Value>) -> AfterInside
-    ensures popped { after_inside_of result ≡ pops.the_after_inside (pops.top (values_of stack.old.items)) }
-    ensures rest { values_of stack.new.items ≡ pops.rest (values_of stack.old.items) }
+/// Takes the value of this kind off the stack: a declaration of local variables.
+pub fn pop_local(stack: &mut Vec<Value>) -> Nested<Local>
+    requires { IsTop kinds.local (values_of stack.old.items) }
+    ensures { values_of stack.old.items ≡ kinds.ALocal (nested_of local_of result) ∷ values_of stack.new.items }
 {
-    match pop(stack) {
-        Value::AfterInside(found) => found,
-        _other => AfterInside::Parentheses {
-            suffixes: Vec::new(alloc),
-            tail: Tail::Operators {
-                steps: Vec::new(alloc),
-                operations: Vec::new(alloc),
-                choice: None,
-            },
-        },
+    match stack.pop() {
+        Some(Value::Local(found)) => found,
+        _other => unreachable!(),
     }
 }
 
-/// Takes the what begins with a parenthesis off the stack.
-pub fn pop_opening(stack: &mut Vec<Value>) -> Opening
-    ensures popped { opening_of result ≡ pops.the_opening (pops.top (values_of stack.old.items)) }
-    ensures rest { values_of stack.new.items ≡ pops.rest (values_of stack.old.items) }
+/// Takes the value of this kind off the stack: a statement.
+pub fn pop_statement(stack: &mut Vec<Value>) -> Nested<Stmt>
+    requires { IsTop kinds.statement (values_of stack.old.items) }
+    ensures { values_of stack.old.items ≡ kinds.AStatement (nested_of stmt_of result) ∷ values_of stack.new.items }
 {
-    match pop(stack) {
-        Value::Opening(found) => found,
-        _other => Opening::Whole(Subexpression {
-            tree: Expr::This { pos: NOWHERE },
-            depth: 0,
-        }),
+    match stack.pop() {
+        Some(Value::Statement(found)) => found,
+        _other => unreachable!(),
     }
 }
 
-/// Takes the rest of a cast to a primitive type off the stack.
-pub fn pop_primitive_cast(stack: &mut Vec<Value>) -> PrimitiveCast
-    ensures popped { primitive_cast_of result ≡ pops.the_primitive_cast (pops.top (values_of stack.old.items)) }
-    ensures rest { values_of stack.new.items ≡ pops.rest (values_of stack.old.items) }
+/// Takes the value of this kind off the stack: statements in their order.
+pub fn pop_statements(stack: &mut Vec<Value>) -> Nested<Vec<Stmt>>
+    requires { IsTop kinds.statements (values_of stack.old.items) }
+    ensures { values_of stack.old.items ≡ kinds.AStatements (nested_of stmts_in result) ∷ values_of stack.new.items }
 {
-    match pop(stack) {
-        Value::PrimitiveCast(found) => found,
-        _other => PrimitiveCast {
-            is_array: false,
-            operand: Subexpression {
-                tree: Expr::This { pos: NOWHERE },
-                depth: 0,
-            },
-        },
+    match stack.pop() {
+        Some(Value::Statements(found)) => found,
+        _other => unreachable!(),
     }
 }
 
-/// Takes what stands behind the class's name in a `new` off the stack.
-pub fn pop_creator_rest(alloc: Global, stack: &mut Vec<Value>) -> CreatorRest
-    ensures popped { creator_rest_of result ≡ pops.the_creator_rest (pops.top (values_of stack.old.items)) }
-    ensures rest { values_of stack.new.items ≡ pops.rest (values_of stack.old.items) }
+/// Takes the value of this kind off the stack: a block.
+pub fn pop_block(stack: &mut Vec<Value>) -> Nested<Block>
+    requires { IsTop kinds.block (values_of stack.old.items) }
+    ensures { values_of stack.old.items ≡ kinds.ABlock (nested_of block_of result) ∷ values_of stack.new.items }
 {
-    match pop(stack) {
-        Value::CreatorRest(found) => found,
-        _other => CreatorRest::Object {
-            arguments: Arguments {
-                list: Vec::new(alloc),
-                depth: 0,
-            },
-            suffixes: Vec::new(alloc),
-        },
+    match stack.pop() {
+        Some(Value::Block(found)) => found,
+        _other => unreachable!(),
     }
 }
 
-/// Takes what stands behind `new` off the stack.
-pub fn pop_creator(alloc: Global, stack: &mut Vec<Value>) -> Creator
-    ensures popped { creator_of result ≡ pops.the_creator (pops.top (values_of stack.old.items)) }
-    ensures rest { values_of stack.new.items ≡ pops.rest (values_of stack.old.items) }
+/// Takes the value of this kind off the stack: what a `for` begins with.
+pub fn pop_for_start(stack: &mut Vec<Value>) -> Nested<ForStart>
+    requires { IsTop kinds.for_start (values_of stack.old.items) }
+    ensures { values_of stack.old.items ≡ kinds.AForStart (nested_of for_start_of result) ∷ values_of stack.new.items }
 {
-    match pop(stack) {
-        Value::Creator(found) => found,
-        _other => Creator::Array {
-            element: default_type(),
-            length: Subexpression {
-                tree: Expr::This { pos: NOWHERE },
-                depth: 0,
-            },
-            suffixes: Vec::new(alloc),
-        },
+    match stack.pop() {
+        Some(Value::ForStart(found)) => found,
+        _other => unreachable!(),
     }
 }
 
-/// Takes the annotation off the stack.
-pub fn pop_annotation(alloc: Global, stack: &mut Vec<Value>) -> Annotation
-    ensures popped { annotation_of result ≡ pops.the_annotation (pops.top (values_of stack.old.items)) }
-    ensures rest { values_of stack.new.items ≡ pops.rest (values_of stack.old.items) }
+/// Takes the value of this kind off the stack: the resources of a `try`, in their order.
+pub fn pop_resources(stack: &mut Vec<Value>) -> Nested<Vec<Resource>>
+    requires { IsTop kinds.resources (values_of stack.old.items) }
+    ensures { values_of stack.old.items ≡ kinds.AResources (nested_of resources_in result) ∷ values_of stack.new.items }
 {
-    match pop(stack) {
-        Value::Annotation(found) => found,
-        _other => no_annotation(alloc),
+    match stack.pop() {
+        Some(Value::Resources(found)) => found,
+        _other => unreachable!(),
     }
 }
 
-/// Takes the annotations, the last one first off the stack.
-pub fn pop_annotations(alloc: Global, stack: &mut Vec<Value>) -> Annotations
-    ensures popped { annotations_of result ≡ pops.the_annotations (pops.top (values_of stack.old.items)) }
-    ensures rest { values_of stack.new.items ≡ pops.rest (values_of stack.old.items) }
+/// Takes the value of this kind off the stack: the catch clauses of a `try`, in their order.
+pub fn pop_catches(stack: &mut Vec<Value>) -> Nested<Vec<Catch>>
+    requires { IsTop kinds.catches (values_of stack.old.items) }
+    ensures { values_of stack.old.items ≡ kinds.ACatches (nested_of catches_in result) ∷ values_of stack.new.items }
 {
-    match pop(stack) {
-        Value::Annotations(found) => found,
-        _other => Annotations {
-            list: Vec::new(alloc),
-            depth: 0,
-        },
+    match stack.pop() {
+        Some(Value::Catches(found)) => found,
+        _other => unreachable!(),
     }
 }
 
-/// Takes the arguments of an annotation, the last one first off the stack.
-pub fn pop_annotation_arguments(alloc: Global, stack: &mut Vec<Value>) -> AnnotationArguments
-    ensures popped { annotation_arguments_of result ≡ pops.the_annotation_arguments (pops.top (values_of stack.old.items)) }
-    ensures rest { values_of stack.new.items ≡ pops.rest (values_of stack.old.items) }
+/// Takes the value of this kind off the stack: the parameters of a method or a constructor.
+pub fn pop_parameters(stack: &mut Vec<Value>) -> Parameters
+    requires { IsTop kinds.parameters (values_of stack.old.items) }
+    ensures { values_of stack.old.items ≡ kinds.AParameters (parameters_of result) ∷ values_of stack.new.items }
 {
-    match pop(stack) {
-        Value::AnnotationArguments(found) => found,
-        _other => AnnotationArguments {
-            list: Vec::new(alloc),
-            depth: 0,
-        },
+    match stack.pop() {
+        Some(Value::Parameters(found)) => found,
+        _other => unreachable!(),
     }
 }
 
-/// Takes what stands behind the first identifier of an annotation's arguments off the stack.
-pub fn pop_after_key(alloc: Global, stack: &mut Vec<Value>) -> AfterKey
-    ensures popped { after_key_of result ≡ pops.the_after_key (pops.top (values_of stack.old.items)) }
-    ensures rest { values_of stack.new.items ≡ pops.rest (values_of stack.old.items) }
+/// Takes the value of this kind off the stack: the call of a constructor of the super class that a constructor begins with, where it is written.
+pub fn pop_super_call(stack: &mut Vec<Value>) -> Option<SuperCall>
+    requires { IsTop kinds.super_call (values_of stack.old.items) }
+    ensures { values_of stack.old.items ≡ kinds.ASuperCall (option_map super_call_of result) ∷ values_of stack.new.items }
 {
-    match pop(stack) {
-        Value::AfterKey(found) => found,
-        _other => AfterKey::Pairs {
-            value: AnnotationValue {
-                tree: AnnoValue::Expression(Expr::This { pos: NOWHERE }),
-                depth: 0,
-            },
-            more: AnnotationArguments {
-                list: Vec::new(alloc),
-                depth: 0,
-            },
-        },
+    match stack.pop() {
+        Some(Value::SuperCall(found)) => found,
+        _other => unreachable!(),
     }
 }
 
-/// Takes the value in an annotation off the stack.
-pub fn pop_annotation_value(stack: &mut Vec<Value>) -> AnnotationValue
-    ensures popped { annotation_value_of result ≡ pops.the_annotation_value (pops.top (values_of stack.old.items)) }
-    ensures rest { values_of stack.new.items ≡ pops.rest (values_of stack.old.items) }
+/// Takes the value of this kind off the stack: the body of a constructor.
+pub fn pop_constructor_body(stack: &mut Vec<Value>) -> ConstructorBody
+    requires { IsTop kinds.constructor_body (values_of stack.old.items) }
+    ensures { values_of stack.old.items ≡ kinds.AConstructorBody (constructor_body_of result) ∷ values_of stack.new.items }
 {
-    match pop(stack) {
-        Value::AnnotationValue(found) => found,
-        _other => AnnotationValue {
-            tree: AnnoValue::Expression(Expr::This { pos: NOWHERE }),
-            depth: 0,
-        },
+    match stack.pop() {
+        Some(Value::ConstructorBody(found)) => found,
+        _other => unreachable!(),
     }
 }
 
-/// Takes the values in an annotation, the last one first off the stack.
-pub fn pop_annotation_values(alloc: Global, stack: &mut Vec<Value>) -> AnnotationValues
-    ensures popped { annotation_values_of result ≡ pops.the_annotation_values (pops.top (values_of stack.old.items)) }
-    ensures rest { values_of stack.new.items ≡ pops.rest (values_of stack.old.items) }
+/// Takes the value of this kind off the stack: members in their order.
+pub fn pop_members(stack: &mut Vec<Value>) -> Vec<Member>
+    requires { IsTop kinds.members (values_of stack.old.items) }
+    ensures { values_of stack.old.items ≡ kinds.AMembers (map member_of result.items) ∷ values_of stack.new.items }
 {
-    match pop(stack) {
-        Value::AnnotationValues(found) => found,
-        _other => AnnotationValues {
-            list: Vec::new(alloc),
-            depth: 0,
-        },
+    match stack.pop() {
+        Some(Value::Members(found)) => found,
+        _other => unreachable!(),
+    }
+}
+
+/// Takes the value of this kind off the stack: classes and interfaces in their order.
+pub fn pop_types(stack: &mut Vec<Value>) -> Vec<ClassDecl>
+    requires { IsTop kinds.types (values_of stack.old.items) }
+    ensures { values_of stack.old.items ≡ kinds.ATypes (map class_of result.items) ∷ values_of stack.new.items }
+{
+    match stack.pop() {
+        Some(Value::Types(found)) => found,
+        _other => unreachable!(),
+    }
+}
+
+/// Takes the value of this kind off the stack: imports in their order.
+pub fn pop_imports(stack: &mut Vec<Value>) -> Vec<Import>
+    requires { IsTop kinds.imports (values_of stack.old.items) }
+    ensures { values_of stack.old.items ≡ kinds.AImports result.items ∷ values_of stack.new.items }
+{
+    match stack.pop() {
+        Some(Value::Imports(found)) => found,
+        _other => unreachable!(),
+    }
+}
+
+/// Takes the value of this kind off the stack: a source file, or a section of a stub file.
+pub fn pop_unit(stack: &mut Vec<Value>) -> Unit
+    requires { IsTop kinds.unit (values_of stack.old.items) }
+    ensures { values_of stack.old.items ≡ kinds.AUnit (unit_of result) ∷ values_of stack.new.items }
+{
+    match stack.pop() {
+        Some(Value::Unit(found)) => found,
+        _other => unreachable!(),
+    }
+}
+
+/// Takes the value of this kind off the stack: the sections of a stub file, in their order.
+pub fn pop_units(stack: &mut Vec<Value>) -> Vec<Unit>
+    requires { IsTop kinds.units (values_of stack.old.items) }
+    ensures { values_of stack.old.items ≡ kinds.AUnits (map unit_of result.items) ∷ values_of stack.new.items }
+{
+    match stack.pop() {
+        Some(Value::Units(found)) => found,
+        _other => unreachable!(),
     }
 }

@@ -6,7 +6,7 @@ use Rattle.std.proofs.lemmas.List.{get_or-map, take-append-drop}
 use Rattle.std.proofs.lemmas.List.Sums.{fold-append, fold_more}
 use Rattle.rlc_base.specs.Names.{place_of, with_name, Lacks}
 use Rattle.program_model.specs.declared.program.RawAnno.{RawAnno}
-use Rattle.must_call_types.specs.Annotations.{names_listed}
+use Rattle.annotation_kinds.specs.Annotations.{names_listed}
 use Rattle.must_call_types.specs.NameTable.{past_limit, with_names}
 
 -- ---- a table never shrinks

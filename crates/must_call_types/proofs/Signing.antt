@@ -7,8 +7,8 @@ use Rattle.program_model.specs.declared.program.Method.{Method}
 use Rattle.std.proofs.lemmas.List.{length-map}
 use Rattle.rlc_base.specs.declared.faults.Refusal.{Refusal}
 use Rattle.refusal_order.specs.Refusals.{least, verdict_of}
-use Rattle.must_call_types.specs.Effective.{signed_parameter}
-use Rattle.must_call_types.specs.Signed.{IsSignedMethod}
+use Rattle.effective_signatures.specs.Effective.{signed_parameter}
+use Rattle.effective_signatures.specs.SignedMethods.{IsSignedMethod}
 
 pub moved_methods : (names : List (List ℕ)) (fields fields' : List Field) (classes classes' : List Class) (methods methods' signed : List Method)
     → fields ≡ fields' → classes ≡ classes' → methods ≡ methods' → AllZip (IsSignedMethod names fields classes) methods signed

@@ -1,30 +1,12 @@
 -- Must-call sets with their inheritance (Checker Framework manual, Must Call Checker).
-use Rattle.std.specs.Prelude.{◌≡◌, ◌⊎◌, ◌<◌, ℕ, nat_lt, Option, Some, None, List, ◌++◌, length, fold, codes, slice_get, slice_index_or, All, if◌then◌else◌}
+use Rattle.std.specs.Prelude.{◌≡◌, ◌⊎◌, ◌<◌, ℕ, List, ◌++◌, length, fold, slice_get, slice_index_or, All}
 use Rattle.std.specs.FinSet as set
-use Rattle.rlc_base.specs.Names.{place_of}
 use Rattle.program_model.specs.declared.kinds.ClassId.{ClassId}
 use Rattle.program_model.specs.declared.program.Class.{Class}
-use Rattle.program_model.specs.declared.program.RawAnno.{RawAnno}
 use Rattle.program_model.specs.Lookups.{optional}
 use Rattle.program_model.specs.NameSets.{Names, no_names}
 use Rattle.must_call_sets.specs.MustCallSets.{must_in}
-use Rattle.must_call_types.specs.declared.annotation.AnnotationKind.TheVariants as annotations
-use Rattle.must_call_types.specs.Annotations.{first_of, texts_at}
-
-abbrev pub with_number : List (List ℕ) → Names → List ℕ → Names
-with_number table names text = if nat_lt (place_of table text) (length table) then set.insert names (place_of table text) else names
-
--- the numbers that the table has for these names
-abbrev pub numbers_of : List (List ℕ) → List (List ℕ) → Names
-numbers_of table texts = fold (with_number table) no_names texts
-
-abbrev pub value_set : List (List ℕ) → Option RawAnno → Option Names
-value_set table None = None
-value_set table (Some a) = Some (numbers_of table (texts_at a (codes "value")))
-
--- the set of a class's own annotation; of several the first counts
-abbrev pub own_set : List (List ℕ) → List RawAnno → Option Names
-own_set table annos = value_set table (first_of annotations.InheritableMustCall annos)
+use Rattle.effective_signatures.specs.Sets.{own_or, own_set}
 
 -- the classes and interfaces that a class names as its super types
 abbrev pub named_supers : Class → List ClassId
@@ -38,10 +20,6 @@ with_set classes names d = set.union names (set_at classes d)
 
 abbrev pub join_sets : List Class → List ClassId → Names
 join_sets classes ds = fold (with_set classes) no_names ds
-
-abbrev pub own_or : Option Names → Names → Names
-own_or None inherited = inherited
-own_or (Some own) inherited = own
 
 -- the set of its own, and where it has no annotation the union of those of its super class and its interfaces
 abbrev pub inherited_or_own : List Class → Class → Names

@@ -13,7 +13,7 @@ use Rattle.program_model.specs.declared.program.Field.{Field}
 use Rattle.program_model.specs.declared.program.Method.{Method}
 use Rattle.program_model.specs.declared.program.ParamSig.{ParamSig}
 use Rattle.program_model.specs.declared.program.RawAnno.{RawAnno}
-use Rattle.must_call_types.specs.Annotations.{names_listed}
+use Rattle.annotation_kinds.specs.Annotations.{names_listed}
 
 abbrev pub annotations_of : Method → List RawAnno
 annotations_of m = m.annos.items ++ flat_map (λ (x : ParamSig). x.annos.items) (m.sig.receiver ∷ m.sig.params.items)

@@ -6,7 +6,7 @@ ghost use Rattle.program_model.specs.Lookups.{optional};
 ghost use Rattle.program_model.specs.NameSets.{no_names};
 ghost use Rattle.must_call_types.specs.MustSets.{but_set, inherited_or_own, set_at, settled, with_own_set, with_set, IsGraded, IsMustSet, IsSettledTo};
 
-use crate::sets::{own_or, own_set};
+use effective_signatures::{own_or, own_set};
 use program_model::{Class, ClassId};
 use rlc_base::{NameSet, Names};
 

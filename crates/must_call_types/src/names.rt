@@ -5,7 +5,7 @@ ghost use Rattle.std.specs.List.{flat_map};
 ghost use Rattle.rlc_base.specs.Codes.{stop_of};
 ghost use Rattle.must_call_types.specs.NameTable.{annotations, annotations_of, past_limit, place_number, with_names, IsInTextOrder, IsNameStop, IsNameTable, IsPastStop};
 
-use crate::annotation::names_listed;
+use annotation_kinds::names_listed;
 use program_model::{Class, Field, Method, ParamSig, Program, RawAnno};
 use rlc_base::{Code, InternFail, Names, NoMemory, Pos, Refusal, Stop};
 use std::alloc::Global;

@@ -2,15 +2,16 @@
 
 ghost use Rattle.std.specs.Prelude.{◌≡◌, ◌-◌, ◌<◌, ◌^◌, [], All, length, IfErr, OnOk};
 ghost use Rattle.std.specs.List.{AllZip};
-ghost use Rattle.must_call_types.specs.AnnotationCases.{annotation_cases};
+ghost use Rattle.annotation_rules.specs.AnnotationCases.{annotation_cases};
 ghost use Rattle.program_model.specs.Hierarchy.{IsHierarchy};
 ghost use Rattle.must_call_types.specs.NameTable.{IsNameStop};
-ghost use Rattle.must_call_types.specs.Signed.{IsSignatureStop, IsSigned, IsSignedMethod};
+ghost use Rattle.effective_signatures.specs.SignedMethods.{IsSignedMethod};
+ghost use Rattle.must_call_types.specs.Signed.{IsSignatureStop, IsSigned};
 
-use crate::effective::sign;
 use crate::inheritance::{put_own_sets, settle};
 use crate::names::name_table;
-use crate::rule::annotation_rule;
+use annotation_rules::annotation_rule;
+use effective_signatures::sign;
 use program_model::{Class, Field, Method, Program};
 use rlc_base::{Names, NoMemory, Stop};
 use std::alloc::Global;

@@ -5,7 +5,6 @@
 mod body_validity;
 mod class_validity;
 mod hierarchy_validity;
-mod initial_values;
 mod member_validity;
 
 pub use body_validity::is_valid;

@@ -14,7 +14,7 @@ ghost use Rattle.program_model.specs.Hierarchy.{HasClass, IsHierarchy, IsUnder};
 ghost use Rattle.program_model.specs.Typing.{IsDeclarable};
 ghost use Rattle.program_model.specs.Validity.{HasCoreClasses, HasMembers, IfPosition, IsFieldOf, IsListedField, IsListedMethod, IsMethodOf, IsNamed, IsNumbered, IsOfKind, IsPosition, IsPromised, IsResult, IsStaticOrNot, IsValidField, IsValidMethod, IsValidSig, MayHaveBody, OwnsBody, RunsBody, is_class_type, is_constant, type_of_class};
 
-use crate::initial_values::is_initial_value;
+use initial_values::is_initial_value;
 use program_model::{
     BodyId, Class, ClassId, Field, FieldId, Method, MethodId, MethodKind, ParamSig, Program,
     Promise, Sig, Target, VType, under,

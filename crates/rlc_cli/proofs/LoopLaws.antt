@@ -7,10 +7,10 @@ use Rattle.rlc_cli.specs.declared.first_language.FirstClass.{FirstClass}
 use Rattle.rlc_cli.specs.declared.first_language.FirstMethod.{FirstMethod}
 use Rattle.rlc_cli.specs.declared.first_language.FirstStatement.{FirstStatement}
 use Rattle.rlc_cli.specs.FirstTrees.{ClassTree, ValueTree, class_of, method_of, statement_of}
-use Rattle.obligation_flow.specs.declared.program.Statement.{Statement}
-use Rattle.obligation_flow.specs.declared.program.Statement.TheVariants as statements
-use Rattle.obligation_flow.specs.declared.program.TypedBody.{TypedBody}
-use Rattle.obligation_flow.specs.declared.program.Value.{Value}
+use Rattle.first_flow.specs.declared.program.Statement.{Statement}
+use Rattle.first_flow.specs.declared.program.Statement.TheVariants as statements
+use Rattle.first_flow.specs.declared.program.TypedBody.{TypedBody}
+use Rattle.first_flow.specs.declared.program.Value.{Value}
 use Rattle.rlc_cli.specs.declared.first_language.FirstFail.{FirstFail}
 use Rattle.rlc_cli.specs.declared.first_language.FirstFail.TheVariants as fails
 use Rattle.rlc_cli.specs.Elaboration.{Bytes, Variable}

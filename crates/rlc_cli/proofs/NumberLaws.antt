@@ -4,11 +4,11 @@ use Rattle.std.proofs.lemmas.List.{at_drop_more, at_drop_all, append-nil, length
 use Rattle.std.proofs.lemmas.Option.{same_Some, none-some, slice_get-map, slice_get_past, slice_get_read, get_or_from_slice_get}
 use Rattle.std.specs.List.{position}
 use Rattle.rlc_cli.specs.declared.first_language.FirstMethod.{FirstMethod}
-use Rattle.obligation_flow.specs.Sets.{Numbers}
+use Rattle.first_flow.specs.Sets.{Numbers}
 use Rattle.std.specs.Prelude.{slice_get, option_map}
 use Rattle.rlc_cli.specs.declared.first_language.FirstClass.{FirstClass}
 use Rattle.rlc_cli.specs.FirstTrees.{ClassTree, class_of, method_of}
-use Rattle.obligation_flow.specs.declared.program.TypedClass.{TypedClass}
+use Rattle.first_flow.specs.declared.program.TypedClass.{TypedClass}
 use Rattle.rlc_cli.specs.Elaboration.{Bytes, constructor_number, body_count, is_method, must_set}
 use Rattle.rlc_cli.specs.Choices.{bind}
 use Rattle.rlc_cli.specs.Typing.{AreNumbers, method_number, method_place, typed_class, typed_classes}

@@ -8,19 +8,19 @@ use Rattle.std.specs.List.{All, count_by}
 use Rattle.rlc_cli.specs.FirstTrees.{ClassTree, MethodTree, BodyTree, Empty, Main, StatementTree, ValueTree, UnitTree}
 use Rattle.rlc_cli.specs.FirstTrees as trees
 use Rattle.rlc_base.specs.declared.name_id.NameId.{NameId}
-use Rattle.obligation_flow.specs.Programs.{program_of, must_in, constructor_in, class_in, kind_in, noted_in, is_main_in, start_in, to_do, number_in}
-use Rattle.obligation_flow.specs.Control.{next_of}
-use Rattle.obligation_flow.specs.Ranges.{IsInRange, IsBodyInRange, IsNameInRange, IsStatementInRange, IsValueInRange}
-use Rattle.obligation_flow.specs.declared.control.Item.{Item}
-use Rattle.obligation_flow.specs.declared.program.TypedProgram.{TypedProgram}
-use Rattle.obligation_flow.specs.declared.program.TypedBody.{TypedBody}
-use Rattle.obligation_flow.specs.declared.program.BodyKind.{BodyKind}
-use Rattle.obligation_flow.specs.declared.program.BodyKind.TheVariants as kinds
-use Rattle.obligation_flow.specs.declared.program.Statement.{Statement}
-use Rattle.obligation_flow.specs.declared.program.Statement.TheVariants as statements
-use Rattle.obligation_flow.specs.declared.program.Expression.TheVariants as expressions
-use Rattle.obligation_flow.specs.declared.program.Value.{Value}
-use Rattle.obligation_flow.specs.declared.program.Value.TheVariants as values
+use Rattle.first_flow.specs.Programs.{program_of, must_in, constructor_in, class_in, kind_in, noted_in, is_main_in, start_in, to_do, number_in}
+use Rattle.first_flow.specs.Control.{next_of}
+use Rattle.first_flow.specs.Ranges.{IsInRange, IsBodyInRange, IsNameInRange, IsStatementInRange, IsValueInRange}
+use Rattle.first_flow.specs.declared.control.Item.{Item}
+use Rattle.first_flow.specs.declared.program.TypedProgram.{TypedProgram}
+use Rattle.first_flow.specs.declared.program.TypedBody.{TypedBody}
+use Rattle.first_flow.specs.declared.program.BodyKind.{BodyKind}
+use Rattle.first_flow.specs.declared.program.BodyKind.TheVariants as kinds
+use Rattle.first_flow.specs.declared.program.Statement.{Statement}
+use Rattle.first_flow.specs.declared.program.Statement.TheVariants as statements
+use Rattle.first_flow.specs.declared.program.Expression.TheVariants as expressions
+use Rattle.first_flow.specs.declared.program.Value.{Value}
+use Rattle.first_flow.specs.declared.program.Value.TheVariants as values
 use Rattle.rlc_cli.specs.declared.first_language.FirstFail.{FirstFail}
 use Rattle.rlc_cli.specs.declared.first_language.FirstFail.TheVariants as fails
 use Rattle.rlc_cli.specs.Elaboration.{Bytes, Variable, IsVariable, IsTypedValue, IsTypedStatement, IsScopeAfter, AreTypedStatements, AreBodyStatements, IsMethodBody, IsConstructorBody, AreMethodBodies, AreClassBodies, AreTypedBodies, IsProgramOf, is_declaration, is_must, name_number_from, noted_number, parameter_scope}

@@ -6,11 +6,11 @@ use Rattle.std.specs.Prelude.{slice_get}
 use Rattle.std.specs.Str.{bytes_eq}
 use Rattle.rlc_cli.specs.FirstTrees.{ClassTree, MethodTree, StatementTree, ValueTree}
 use Rattle.rlc_cli.specs.FirstTrees as trees
-use Rattle.obligation_flow.specs.declared.program.Statement.{Statement}
-use Rattle.obligation_flow.specs.declared.program.Statement.TheVariants as statements
-use Rattle.obligation_flow.specs.declared.program.Expression.TheVariants as expressions
-use Rattle.obligation_flow.specs.declared.program.Value.{Value}
-use Rattle.obligation_flow.specs.declared.program.Value.TheVariants as values
+use Rattle.first_flow.specs.declared.program.Statement.{Statement}
+use Rattle.first_flow.specs.declared.program.Statement.TheVariants as statements
+use Rattle.first_flow.specs.declared.program.Expression.TheVariants as expressions
+use Rattle.first_flow.specs.declared.program.Value.{Value}
+use Rattle.first_flow.specs.declared.program.Value.TheVariants as values
 use Rattle.rlc_cli.specs.Elaboration.{Bytes, AreClassesOfUnit, AreGoodClasses, IsGoodClass, IsClassNamed, IsMethodNamed, IsVariable, IsTypedValue, IsTypedStatement, IsScopeAfter, AreTypedStatements, IsFresh, Variable, constructor_number, is_method}
 use Rattle.rlc_cli.specs.Choices.{bind, given}
 use Rattle.rlc_cli.specs.Typing.{class_number, method_place, method_number, variable_number, variable_class, is_declared, is_class, value_by, new_variable_by, declaration_by, assignment_by, creation_by, call_on_by, call_by, with_scope, statement_by, statements_by}

@@ -6,10 +6,10 @@ use Rattle.std.proofs.lemmas.Option.{same_Some}
 use Rattle.std.specs.Prelude.{nat_le}
 use Rattle.std.specs.List.{count_by, list_any}
 use Rattle.rlc_cli.specs.FirstTrees.{ClassTree, MethodTree, BodyTree, Empty, Main, UnitTree}
-use Rattle.obligation_flow.specs.declared.program.TypedProgram.{TypedProgram}
-use Rattle.obligation_flow.specs.declared.program.TypedClass.{TypedClass}
-use Rattle.obligation_flow.specs.declared.program.TypedBody.{TypedBody}
-use Rattle.obligation_flow.specs.declared.program.Statement.{Statement}
+use Rattle.first_flow.specs.declared.program.TypedProgram.{TypedProgram}
+use Rattle.first_flow.specs.declared.program.TypedClass.{TypedClass}
+use Rattle.first_flow.specs.declared.program.TypedBody.{TypedBody}
+use Rattle.first_flow.specs.declared.program.Statement.{Statement}
 use Rattle.rlc_cli.specs.Elaboration.{Bytes, core_names, names, AreDistinct, HasNoCoreName, AreDistinctMethods, IsMustOf, AreGoodClasses, AreClassesOfUnit, AreBodyStatements, IsMethodBody, IsConstructorBody, AreMethodBodies, AreClassBodies, AreTypedBodies, AreTypedClasses, IsProgramOf, is_declaration, is_same_method, parameter_scope}
 use Rattle.rlc_cli.specs.Choices.{bind}
 use Rattle.rlc_cli.specs.Typing.{are_distinct, have_no_core_name, are_distinct_methods, is_must_of, is_good_class, are_good_classes, class_names, are_classes, statements_by, BodyData, data_of, constructor_body, is_short, body_by, method_body, method_by, methods_by, class_bodies_by, bodies_by, typed_classes, unit_by}

@@ -10,10 +10,10 @@ use Rattle.java_syntax.specs.declared.symbols.Symbol.TheVariants as symbols
 use Rattle.java_syntax.specs.declared.declaration_trees.Unit.{Unit as JavaUnit}
 use Rattle.java_syntax.specs.DeclarationTrees.{UnitTree, unit_of}
 use Rattle.java_parser.specs.FileTrees.{IsFileStop, HasNoUnit, IsUnitTree, lexemes}
-use Rattle.obligation_flow.specs.Programs.{Program, program_of}
-use Rattle.obligation_flow.specs.Paths as paths
-use Rattle.obligation_flow.specs.Ranges.{IsInRange}
-use Rattle.obligation_flow.specs.declared.program.TypedProgram.{TypedProgram}
+use Rattle.first_flow.specs.Programs.{Program, program_of}
+use Rattle.first_flow.specs.Paths as paths
+use Rattle.first_flow.specs.Ranges.{IsInRange}
+use Rattle.first_flow.specs.declared.program.TypedProgram.{TypedProgram}
 use Rattle.soundness_laws.specs.Safe.{Safe}
 use Rattle.rlc_cli.specs.Answers.{IsTreeOf, IsElaborated, IsRead, IsWhole, IsLeaking, IsAccepted, IsNotBuilt, IsStopped, no_tree}
 use Rattle.rlc_cli.specs.Elaboration.{IsProgramOf}

@@ -11,10 +11,10 @@ use Rattle.java_lexer.specs.Cut.{IsCut, IsStopAt, HasNoCut, place_behind}
 use Rattle.java_syntax.specs.declared.symbols.Symbol.TheVariants as symbols
 use Rattle.java_syntax.specs.DeclarationTrees.{UnitTree}
 use Rattle.java_parser.specs.FileTrees.{IsUnitTree, IsFileStop, HasNoUnit, lexemes}
-use Rattle.obligation_flow.specs.Programs.{program_of}
-use Rattle.obligation_flow.specs.Paths as paths
-use Rattle.obligation_flow.specs.Ranges.{IsInRange}
-use Rattle.obligation_flow.specs.declared.program.TypedProgram.{TypedProgram}
+use Rattle.first_flow.specs.Programs.{program_of}
+use Rattle.first_flow.specs.Paths as paths
+use Rattle.first_flow.specs.Ranges.{IsInRange}
+use Rattle.first_flow.specs.declared.program.TypedProgram.{TypedProgram}
 use Rattle.soundness_laws.specs.Safe.{Safe}
 use Rattle.rlc_cli.specs.Elaboration.{IsProgramOf}
 use Rattle.rlc_cli.specs.FirstLanguage.{first_of}

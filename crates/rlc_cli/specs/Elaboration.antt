@@ -6,18 +6,18 @@ use Rattle.std.specs.List.{list_any, count_by}
 use Rattle.std.specs.Str.{bytes_eq}
 use Rattle.rlc_cli.specs.FirstTrees.{UnitTree, ClassTree, MethodTree, BodyTree, Empty, Main, StatementTree, ValueTree}
 use Rattle.rlc_cli.specs.FirstTrees as trees
-use Rattle.obligation_flow.specs.Sets.{Numbers, nothing}
-use Rattle.obligation_flow.specs.declared.program.TypedProgram.{TypedProgram}
-use Rattle.obligation_flow.specs.declared.program.TypedClass.{TypedClass}
-use Rattle.obligation_flow.specs.declared.program.TypedBody.{TypedBody}
-use Rattle.obligation_flow.specs.declared.program.BodyKind.{BodyKind}
-use Rattle.obligation_flow.specs.declared.program.BodyKind.TheVariants as kinds
-use Rattle.obligation_flow.specs.declared.program.Statement.{Statement}
-use Rattle.obligation_flow.specs.declared.program.Statement.TheVariants as statements
-use Rattle.obligation_flow.specs.declared.program.Expression.TheVariants as expressions
-use Rattle.obligation_flow.specs.declared.program.Value.{Value}
-use Rattle.obligation_flow.specs.declared.program.Value.TheVariants as values
-use Rattle.obligation_flow.specs.Programs.{number_in}
+use Rattle.first_flow.specs.Sets.{Numbers, nothing}
+use Rattle.first_flow.specs.declared.program.TypedProgram.{TypedProgram}
+use Rattle.first_flow.specs.declared.program.TypedClass.{TypedClass}
+use Rattle.first_flow.specs.declared.program.TypedBody.{TypedBody}
+use Rattle.first_flow.specs.declared.program.BodyKind.{BodyKind}
+use Rattle.first_flow.specs.declared.program.BodyKind.TheVariants as kinds
+use Rattle.first_flow.specs.declared.program.Statement.{Statement}
+use Rattle.first_flow.specs.declared.program.Statement.TheVariants as statements
+use Rattle.first_flow.specs.declared.program.Expression.TheVariants as expressions
+use Rattle.first_flow.specs.declared.program.Value.{Value}
+use Rattle.first_flow.specs.declared.program.Value.TheVariants as values
+use Rattle.first_flow.specs.Programs.{number_in}
 
 abbrev pub Bytes : Type 0
 Bytes = List ℕ

@@ -6,16 +6,16 @@ use Rattle.std.specs.List.{list_any, count_by, position_from}
 use Rattle.std.specs.Str.{bytes_eq}
 use Rattle.rlc_cli.specs.FirstTrees.{ClassTree, MethodTree, BodyTree, Empty, Main, StatementTree, ValueTree}
 use Rattle.rlc_cli.specs.FirstTrees as trees
-use Rattle.obligation_flow.specs.declared.program.TypedClass.{TypedClass}
-use Rattle.obligation_flow.specs.declared.program.TypedBody.{TypedBody}
-use Rattle.obligation_flow.specs.declared.program.BodyKind.{BodyKind}
-use Rattle.obligation_flow.specs.declared.program.BodyKind.TheVariants as kinds
-use Rattle.obligation_flow.specs.declared.program.Statement.{Statement}
-use Rattle.obligation_flow.specs.declared.program.Statement.TheVariants as statements
-use Rattle.obligation_flow.specs.declared.program.Expression.TheVariants as expressions
-use Rattle.obligation_flow.specs.declared.program.Value.{Value}
-use Rattle.obligation_flow.specs.declared.program.Value.TheVariants as values
-use Rattle.obligation_flow.specs.Programs.{number_in}
+use Rattle.first_flow.specs.declared.program.TypedClass.{TypedClass}
+use Rattle.first_flow.specs.declared.program.TypedBody.{TypedBody}
+use Rattle.first_flow.specs.declared.program.BodyKind.{BodyKind}
+use Rattle.first_flow.specs.declared.program.BodyKind.TheVariants as kinds
+use Rattle.first_flow.specs.declared.program.Statement.{Statement}
+use Rattle.first_flow.specs.declared.program.Statement.TheVariants as statements
+use Rattle.first_flow.specs.declared.program.Expression.TheVariants as expressions
+use Rattle.first_flow.specs.declared.program.Value.{Value}
+use Rattle.first_flow.specs.declared.program.Value.TheVariants as values
+use Rattle.first_flow.specs.Programs.{number_in}
 use Rattle.rlc_cli.specs.Choices.{bind, given}
 use Rattle.rlc_cli.specs.declared.elaboration.scope.DeclaredVariable.{DeclaredVariable}
 use Rattle.rlc_cli.specs.Elaboration.{Bytes, core_names, names, has_parameter, is_same_method, is_method, must_set, body_count, constructor_number, Variable, is_declaration, parameter_scope, method_kind, noted_number}

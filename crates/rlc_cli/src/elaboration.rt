@@ -2,9 +2,9 @@
 
 ghost use Rattle.std.specs.Prelude.{◌≡◌, IfOk, map};
 ghost use Rattle.rlc_cli.specs.FirstTrees.{class_of, tree_of};
-ghost use Rattle.obligation_flow.specs.Programs.{program_of};
-ghost use Rattle.obligation_flow.specs.Ranges.{IsInRange};
-ghost use Rattle.obligation_flow.specs.declared.program.TypedProgram.{TypedProgram};
+ghost use Rattle.first_flow.specs.Programs.{program_of};
+ghost use Rattle.first_flow.specs.Ranges.{IsInRange};
+ghost use Rattle.first_flow.specs.declared.program.TypedProgram.{TypedProgram};
 ghost use Rattle.rlc_cli.specs.Elaboration.{IsProgramOf};
 ghost use Rattle.rlc_cli.specs.Choices.{Gives};
 ghost use Rattle.rlc_cli.specs.Typing.{data_of, unit_by};
@@ -20,7 +20,7 @@ use crate::elaboration::bodies::typed_bodies;
 use crate::elaboration::conditions::check_classes;
 use crate::elaboration::numbers::typed_classes;
 use crate::first_language::{FirstClass, FirstFail, FirstUnit};
-use obligation_flow::program::TypedProgram;
+use first_flow::program::TypedProgram;
 use std::alloc::Global;
 
 /// The typed program of the unit: what each of its names stands for (JLS 6). A unit that breaks a condition of the first

@@ -4,16 +4,16 @@ use Rattle.std.specs.FinSet as set
 use Rattle.std.proofs.lemmas.Grind.{common_steps}
 use native.Mathlib.Omega.{arith}
 use mathlib.Core.Path.{sym, ap, ◌∙◌}
-use Rattle.obligation_flow.specs.Sets.{Numbers, nothing, has, is_empty}
-use Rattle.obligation_flow.specs.Control.{temp}
-use Rattle.obligation_flow.specs.Programs.{Program}
-use Rattle.obligation_flow.specs.Facts.{Fact, need, owes}
-use Rattle.obligation_flow.specs.Flow.{Outcome, Next, Gone, Fault, flow, leave, copied, with_name}
-use Rattle.obligation_flow.specs.Births.{new_fact}
-use Rattle.obligation_flow.specs.declared.fact.Mode.TheVariants as modes
-use Rattle.obligation_flow.specs.declared.control.Action.{Action}
-use Rattle.obligation_flow.specs.declared.control.Action.TheVariants as actions
-use Rattle.obligation_flow.specs.declared.control.Edge.{Edge}
+use Rattle.first_flow.specs.Sets.{Numbers, nothing, has, is_empty}
+use Rattle.first_flow.specs.Control.{temp}
+use Rattle.first_flow.specs.Programs.{Program}
+use Rattle.first_flow.specs.Facts.{Fact, need, owes}
+use Rattle.first_flow.specs.Flow.{Outcome, Next, Gone, Fault, flow, leave, copied, with_name}
+use Rattle.first_flow.specs.Births.{new_fact}
+use Rattle.first_flow.specs.declared.fact.Mode.TheVariants as modes
+use Rattle.first_flow.specs.declared.control.Action.{Action}
+use Rattle.first_flow.specs.declared.control.Action.TheVariants as actions
+use Rattle.first_flow.specs.declared.control.Edge.{Edge}
 use Rattle.soundness_laws.specs.Configurations.{Object, Values, value}
 use Rattle.soundness_laws.specs.Heap.{is_unmet}
 use Rattle.soundness_laws.specs.Machine.{assign, values_after}

@@ -10,7 +10,7 @@ use Rattle.std.proofs.Common.{eq-eqb, eqb-true}
 use native.Mathlib.Omega.{arith}
 use mathlib.Core.Path.{sym, ap, ◌∙◌}
 use mathlib.Core.Logic.{◌⊎◌, inl, inr}
-use Rattle.obligation_flow.specs.Sets.{Numbers, nothing, has, is_empty}
+use Rattle.first_flow.specs.Sets.{Numbers, nothing, has, is_empty}
 use Rattle.soundness_laws.specs.Configurations.{Object, Values, value, holds}
 use Rattle.soundness_laws.specs.Heap.{change_each, passing}
 use Rattle.soundness_laws.specs.Machine.{assign}

@@ -5,8 +5,8 @@ use Rattle.std.proofs.lemmas.Grind.{common_steps}
 use Rattle.std.proofs.Common.{eqb-true}
 use native.Mathlib.Omega.{arith}
 use mathlib.Core.Path.{sym, ap, ◌∙◌}
-use Rattle.obligation_flow.specs.Sets.{has, is_empty}
-use Rattle.obligation_flow.specs.Programs.{Program}
+use Rattle.first_flow.specs.Sets.{has, is_empty}
+use Rattle.first_flow.specs.Programs.{Program}
 use Rattle.soundness_laws.specs.Configurations.{Owner, Nobody, Frame, Library, Released, Lost, Object}
 use Rattle.soundness_laws.specs.Heap.{change_each, change_one, is_unmet, is_owned_by, noted, is_left_open, let_go}
 use Rattle.soundness_laws.specs.Agreement.{class_of}

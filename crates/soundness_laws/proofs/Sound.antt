@@ -2,13 +2,13 @@
 use Rattle.std.specs.Prelude.{◌≡◌, refl, ℕ, zero, suc, Bool, true, false, ◌==◌, Option, Some, None, List, [], ◌∷◌, ◌++◌, length, slice_get, if◌then◌else◌, ⊤}
 use native.Mathlib.Omega.{arith}
 use mathlib.Core.Path.{sym, subst}
-use Rattle.obligation_flow.specs.Control.{Triple, temp}
-use Rattle.obligation_flow.specs.Programs.{Program}
-use Rattle.obligation_flow.specs.Paths.{start as comes_start, IsFaulty}
-use Rattle.obligation_flow.specs.declared.control.Action.{Action}
-use Rattle.obligation_flow.specs.declared.control.Action.TheVariants as actions
-use Rattle.obligation_flow.specs.declared.control.Edge.{Edge}
-use Rattle.obligation_flow.specs.declared.control.Edge.TheVariants as edges
+use Rattle.first_flow.specs.Control.{Triple, temp}
+use Rattle.first_flow.specs.Programs.{Program}
+use Rattle.first_flow.specs.Paths.{start as comes_start, IsFaulty}
+use Rattle.first_flow.specs.declared.control.Action.{Action}
+use Rattle.first_flow.specs.declared.control.Action.TheVariants as actions
+use Rattle.first_flow.specs.declared.control.Edge.{Edge}
+use Rattle.first_flow.specs.declared.control.Edge.TheVariants as edges
 use Rattle.soundness_laws.specs.Configurations.{Owner, Nobody, Frame, Library, Released, Lost, Object, value, Activation, Choice, Configuration}
 use Rattle.soundness_laws.specs.Heap.{is_unmet, begun}
 use Rattle.soundness_laws.specs.Machine.{Turn, Goes, Ended, Stray, start, step, step_of, calls_on, calls, released, ends, acts, leads, takes, turn_of, settled_turn, reached_by, run}

@@ -3,10 +3,10 @@ use Rattle.std.specs.Prelude.{◌≡◌, refl, ℕ, suc, ◌≤◌, Bool, true, 
 use Rattle.std.proofs.Common.{eq-eqb, eqb-true}
 use native.Mathlib.Omega.{arith}
 use mathlib.Core.Path.{sym, ap, ◌∙◌}
-use Rattle.obligation_flow.specs.Sets.{has}
-use Rattle.obligation_flow.specs.Programs.{Program}
-use Rattle.obligation_flow.specs.declared.control.Action.{Action}
-use Rattle.obligation_flow.specs.declared.control.Action.TheVariants as actions
+use Rattle.first_flow.specs.Sets.{has}
+use Rattle.first_flow.specs.Programs.{Program}
+use Rattle.first_flow.specs.declared.control.Action.{Action}
+use Rattle.first_flow.specs.declared.control.Action.TheVariants as actions
 use Rattle.soundness_laws.specs.Configurations.{Object, Values, holds, Activation, is_held_at}
 use Rattle.soundness_laws.specs.Agreement.{Tracks, Covers, class_of, Awaits, Waits, WaitsBelow, Standing}
 use Rattle.soundness_laws.proofs.Laws.{one_in, held_from}

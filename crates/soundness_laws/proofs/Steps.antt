@@ -3,17 +3,17 @@ use Rattle.std.specs.Prelude.{◌≡◌, refl, ℕ, Bool, true, false, not, ◌&
 use native.Mathlib.Omega.{arith}
 use mathlib.Core.Path.{sym, ap, subst, ◌∙◌}
 use mathlib.Core.Logic.{⊎_elim}
-use Rattle.obligation_flow.specs.Sets.{has}
-use Rattle.obligation_flow.specs.Control.{Triple, temp}
-use Rattle.obligation_flow.specs.Programs.{Program}
-use Rattle.obligation_flow.specs.Facts.{Fact, missing}
-use Rattle.obligation_flow.specs.Flow.{Outcome, Next, Gone, Fault, flow}
-use Rattle.obligation_flow.specs.Births.{birth, new_fact}
-use Rattle.obligation_flow.specs.Paths.{start, on, Reach, born, flowed, IsFaulty}
-use Rattle.obligation_flow.specs.declared.fact.Rule.TheVariants as rules
-use Rattle.obligation_flow.specs.declared.control.Action.{Action}
-use Rattle.obligation_flow.specs.declared.control.Action.TheVariants as actions
-use Rattle.obligation_flow.specs.declared.control.Edge.TheVariants as edges
+use Rattle.first_flow.specs.Sets.{has}
+use Rattle.first_flow.specs.Control.{Triple, temp}
+use Rattle.first_flow.specs.Programs.{Program}
+use Rattle.first_flow.specs.Facts.{Fact, missing}
+use Rattle.first_flow.specs.Flow.{Outcome, Next, Gone, Fault, flow}
+use Rattle.first_flow.specs.Births.{birth, new_fact}
+use Rattle.first_flow.specs.Paths.{start, on, Reach, born, flowed, IsFaulty}
+use Rattle.first_flow.specs.declared.fact.Rule.TheVariants as rules
+use Rattle.first_flow.specs.declared.control.Action.{Action}
+use Rattle.first_flow.specs.declared.control.Action.TheVariants as actions
+use Rattle.first_flow.specs.declared.control.Edge.TheVariants as edges
 use Rattle.soundness_laws.specs.Configurations.{Owner, Frame, Object, Values, value, Activation, OutOfReach, Configuration}
 use Rattle.soundness_laws.specs.Heap.{change_each, passing, change_one, is_unmet, is_owned_by, begun, finished, noted, is_left_open, let_go}
 use Rattle.soundness_laws.specs.Machine.{assign, values_after, values_back, heap_back, calls, moves, released, step_of, goes_back, is_out_of_reach, is_lost, given_up, settled}

@@ -5,17 +5,17 @@ use Rattle.std.specs.FinSet as set
 use Rattle.std.specs.FinMap as fin_map
 use native.Mathlib.Omega.{arith}
 use mathlib.Core.Path.{sym, ap, ◌∙◌}
-use Rattle.obligation_flow.specs.Sets.{nothing, is_empty}
-use Rattle.obligation_flow.specs.Control.{temp}
-use Rattle.obligation_flow.specs.Programs.{Program, program_of}
-use Rattle.obligation_flow.specs.Births.{this_place}
-use Rattle.obligation_flow.specs.declared.control.Item.{Item}
-use Rattle.obligation_flow.specs.declared.control.Item.TheVariants as items
-use Rattle.obligation_flow.specs.declared.control.Action.TheVariants as actions
-use Rattle.obligation_flow.specs.declared.program.TypedProgram.{TypedProgram}
-use Rattle.obligation_flow.specs.declared.program.Statement.TheVariants as statements
-use Rattle.obligation_flow.specs.declared.program.Expression.TheVariants as expressions
-use Rattle.obligation_flow.specs.declared.program.Value.TheVariants as values
+use Rattle.first_flow.specs.Sets.{nothing, is_empty}
+use Rattle.first_flow.specs.Control.{temp}
+use Rattle.first_flow.specs.Programs.{Program, program_of}
+use Rattle.first_flow.specs.Births.{this_place}
+use Rattle.first_flow.specs.declared.control.Item.{Item}
+use Rattle.first_flow.specs.declared.control.Item.TheVariants as items
+use Rattle.first_flow.specs.declared.control.Action.TheVariants as actions
+use Rattle.first_flow.specs.declared.program.TypedProgram.{TypedProgram}
+use Rattle.first_flow.specs.declared.program.Statement.TheVariants as statements
+use Rattle.first_flow.specs.declared.program.Expression.TheVariants as expressions
+use Rattle.first_flow.specs.declared.program.Value.TheVariants as values
 use Rattle.soundness_laws.specs.Configurations.{Lost, Object, Values, value, holds, Activation, AtExit, OutOfReach, Configuration}
 use Rattle.soundness_laws.specs.Heap.{begun, finished}
 use Rattle.soundness_laws.specs.Machine.{Goes, assign, entered, start, step, run, comes_to_stray}

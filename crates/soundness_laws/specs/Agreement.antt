@@ -1,15 +1,15 @@
 -- What a run and the flow rules agree on, between any two steps: each open obligation that a frame of the stack has is
 -- followed by a fact of that frame's body.
 use Rattle.std.specs.Prelude.{◌≡◌, ℕ, Bool, true, false, ◌==◌, Option, Some, List, [], ◌∷◌, length, slice_get, option_map, MatchBool, ⊤}
-use Rattle.obligation_flow.specs.Sets.{has, is_empty}
-use Rattle.obligation_flow.specs.Control.{Triple, temp}
-use Rattle.obligation_flow.specs.Programs.{Program}
-use Rattle.obligation_flow.specs.Facts.{Fact, need}
-use Rattle.obligation_flow.specs.Paths.{Comes, Reach}
-use Rattle.obligation_flow.specs.declared.fact.Mode.TheVariants as modes
-use Rattle.obligation_flow.specs.declared.control.Action.{Action}
-use Rattle.obligation_flow.specs.declared.control.Action.TheVariants as actions
-use Rattle.obligation_flow.specs.declared.control.Edge.TheVariants as edges
+use Rattle.first_flow.specs.Sets.{has, is_empty}
+use Rattle.first_flow.specs.Control.{Triple, temp}
+use Rattle.first_flow.specs.Programs.{Program}
+use Rattle.first_flow.specs.Facts.{Fact, need}
+use Rattle.first_flow.specs.Paths.{Comes, Reach}
+use Rattle.first_flow.specs.declared.fact.Mode.TheVariants as modes
+use Rattle.first_flow.specs.declared.control.Action.{Action}
+use Rattle.first_flow.specs.declared.control.Action.TheVariants as actions
+use Rattle.first_flow.specs.declared.control.Edge.TheVariants as edges
 use Rattle.soundness_laws.specs.Configurations.{Owner, Frame, Library, Object, Values, value, Activation, Configuration}
 use Rattle.soundness_laws.specs.Heap.{is_unmet}
 use Rattle.soundness_laws.specs.Machine.{step_of}

@@ -3,8 +3,8 @@ use Rattle.std.specs.Prelude.{ℕ, ℤ, Bool, false, ◌==◌, Option, List, [],
 use Rattle.std.specs.List.{list_any}
 use Rattle.std.specs.Ordering.{nat_cmp}
 use Rattle.std.specs.FinMap as map
-use Rattle.obligation_flow.specs.Sets.{Numbers}
-use Rattle.obligation_flow.specs.declared.control.Item.{Item}
+use Rattle.first_flow.specs.Sets.{Numbers}
+use Rattle.first_flow.specs.declared.control.Item.{Item}
 
 -- Who must see to an object's obligation: the frame at a position of the stack, that of `main` being 1; the library; or,
 -- when the frame that did has ended, no one any more. `Lost` says that the obligation was then still open. While an

@@ -1,8 +1,8 @@
 -- What is done to objects: each by its number and what it is. And which of them have their obligation open.
 use Rattle.std.specs.Prelude.{ℕ, suc, Bool, true, false, not, ◌&&◌, ◌==◌, Option, Some, None, List, [], ◌∷◌, if◌then◌else◌}
 use Rattle.std.specs.FinSet as set
-use Rattle.obligation_flow.specs.Sets.{nothing}
-use Rattle.obligation_flow.specs.Programs.{Program}
+use Rattle.first_flow.specs.Sets.{nothing}
+use Rattle.first_flow.specs.Programs.{Program}
 use Rattle.soundness_laws.specs.Configurations.{Owner, Nobody, Frame, Released, Lost, Object}
 
 -- each object, numbered from `first`, becomes what `f` says

@@ -2,14 +2,14 @@
 -- the Must Call Checker and the Resource Leak Checker).
 use Rattle.std.specs.Prelude.{ℕ, zero, suc, Bool, true, false, not, ◌&&◌, ◌||◌, ◌==◌, Option, Some, None, List, [], ◌∷◌, ◌++◌, map, length, slice_get, if◌then◌else◌}
 use Rattle.std.specs.FinMap as fin_map
-use Rattle.obligation_flow.specs.Control.{Triple, temp}
-use Rattle.obligation_flow.specs.Programs.{Program}
-use Rattle.obligation_flow.specs.Births.{this_place}
-use Rattle.obligation_flow.specs.declared.control.Item.{Item}
-use Rattle.obligation_flow.specs.declared.control.Action.{Action}
-use Rattle.obligation_flow.specs.declared.control.Action.TheVariants as actions
-use Rattle.obligation_flow.specs.declared.control.Edge.{Edge}
-use Rattle.obligation_flow.specs.declared.control.Edge.TheVariants as edges
+use Rattle.first_flow.specs.Control.{Triple, temp}
+use Rattle.first_flow.specs.Programs.{Program}
+use Rattle.first_flow.specs.Births.{this_place}
+use Rattle.first_flow.specs.declared.control.Item.{Item}
+use Rattle.first_flow.specs.declared.control.Action.{Action}
+use Rattle.first_flow.specs.declared.control.Action.TheVariants as actions
+use Rattle.first_flow.specs.declared.control.Edge.{Edge}
+use Rattle.first_flow.specs.declared.control.Edge.TheVariants as edges
 use Rattle.soundness_laws.specs.Configurations.{Owner, Frame, Lost, Object, Values, value, Activation, Choice, AtExit, OutOfReach, Configuration, is_held_at}
 use Rattle.soundness_laws.specs.Heap.{change_each, passing, change_one, is_unmet, begun, finished, noted, is_left_open, let_go}
 

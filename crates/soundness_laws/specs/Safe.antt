@@ -1,11 +1,11 @@
 -- What it is for a program to be safe: in every run no obligation is left behind.
 use Rattle.std.specs.Prelude.{◌≡◌, ℕ, Bool, true, false, Some, List, [], ◌∷◌, slice_get}
-use Rattle.obligation_flow.specs.Sets.{is_empty}
-use Rattle.obligation_flow.specs.Programs.{Program, program_of}
-use Rattle.obligation_flow.specs.declared.program.TypedProgram.{TypedProgram}
-use Rattle.obligation_flow.specs.declared.program.TypedBody.{TypedBody}
-use Rattle.obligation_flow.specs.declared.program.Statement.TheVariants as statements
-use Rattle.obligation_flow.specs.declared.program.Value.TheVariants as values
+use Rattle.first_flow.specs.Sets.{is_empty}
+use Rattle.first_flow.specs.Programs.{Program, program_of}
+use Rattle.first_flow.specs.declared.program.TypedProgram.{TypedProgram}
+use Rattle.first_flow.specs.declared.program.TypedBody.{TypedBody}
+use Rattle.first_flow.specs.declared.program.Statement.TheVariants as statements
+use Rattle.first_flow.specs.declared.program.Value.TheVariants as values
 use Rattle.soundness_laws.specs.Configurations.{Owner, Frame, Library, Object, Activation, Choice, Configuration, is_held_at}
 use Rattle.soundness_laws.specs.Heap.{is_unmet}
 use Rattle.soundness_laws.specs.Machine.{start, run, comes_to_stray}

@@ -3,9 +3,9 @@
 #![tactic(auto)]
 
 ghost use Rattle.std.specs.Prelude.{◌≡◌, ℕ, List};
-ghost use Rattle.obligation_flow.specs.Programs.{Program, program_of};
-ghost use Rattle.obligation_flow.specs.declared.program.TypedProgram.{TypedProgram};
-ghost use Rattle.obligation_flow.specs.Paths.{IsFaulty};
+ghost use Rattle.first_flow.specs.Programs.{Program, program_of};
+ghost use Rattle.first_flow.specs.declared.program.TypedProgram.{TypedProgram};
+ghost use Rattle.first_flow.specs.Paths.{IsFaulty};
 ghost use Rattle.soundness_laws.specs.Configurations.{Choice, Configuration};
 ghost use Rattle.soundness_laws.specs.Machine.{Goes, start, step};
 ghost use Rattle.soundness_laws.specs.Safe.{Forgets, IsSafeAt, Safe};

@@ -11,7 +11,7 @@ use crate::elaboration::numbers::noted_number;
 use crate::elaboration::scope::has_parameter;
 use crate::elaboration::statements::typed_statements;
 use crate::first_language::{FirstBody, FirstClass, FirstFail, FirstMethod, FirstStatement};
-use obligation_flow::program::{BodyKind, Statement, TypedBody, TypedClass};
+use first_flow::program::{BodyKind, Statement, TypedBody, TypedClass};
 use std::alloc::Global;
 
 const MAX_STATEMENTS: usize = 200;

@@ -3,13 +3,13 @@
 
 ghost use Rattle.std.specs.Prelude.{◌≡◌, ◌≤◌, ◌<◌, ◌^◌, ◌+◌, IfErr, IfOk, IfSome, length, map, position};
 ghost use Rattle.rlc_cli.specs.FirstTrees.{class_of};
-ghost use Rattle.obligation_flow.specs.Programs.{number_in};
+ghost use Rattle.first_flow.specs.Programs.{number_in};
 ghost use Rattle.rlc_cli.specs.Elaboration.{body_count, constructor_number, is_must, must_set, name_number, noted_number};
 ghost use Rattle.rlc_cli.specs.Typing.{AreNumbers};
 ghost use Rattle.rlc_cli.specs.declared.first_language.FirstFail.TheVariants as fails;
 
 use crate::first_language::{FirstClass, FirstFail, FirstMethod};
-use obligation_flow::program::TypedClass;
+use first_flow::program::TypedClass;
 use rlc_base::{NameId, NameSet};
 use std::alloc::Global;
 

@@ -8,7 +8,7 @@ ghost use Rattle.rlc_cli.specs.Elaboration.{has_parameter, is_method};
 ghost use Rattle.rlc_cli.specs.Typing.{AreNumbers, class_number, method_number, variable_class, variable_number, variable_of};
 
 use crate::first_language::{FirstBody, FirstClass, FirstMethod};
-use obligation_flow::program::TypedClass;
+use first_flow::program::TypedClass;
 
 /// A variable of a body: a local with its class, or the parameter of `main`, whose type is no class of the unit.
 #[derive(Clone, Copy)]

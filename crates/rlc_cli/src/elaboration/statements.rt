@@ -10,7 +10,7 @@ use crate::elaboration::scope::{
     DeclaredVariable, class_number, is_declared, method_number, variable_class, variable_number,
 };
 use crate::first_language::{FirstClass, FirstFail, FirstStatement, FirstValue};
-use obligation_flow::program::{Expression, Statement, TypedClass, Value};
+use first_flow::program::{Expression, Statement, TypedClass, Value};
 use std::alloc::Global;
 
 /// The statements of the `main` of class number `own`, whose parameter has that name.

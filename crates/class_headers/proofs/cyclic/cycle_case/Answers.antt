@@ -6,8 +6,9 @@ use Rattle.std.proofs.lemmas.Option.{slice_get-get_or, slice_get-map}
 use Rattle.rlc_base.specs.declared.faults.Refusal.{Refusal}
 use Rattle.program_model.specs.declared.kinds.ClassId.{ClassId}
 use Rattle.class_names.specs.ClassNames.{class_number, rows_in}
-use Rattle.class_headers.specs.Cases.{IsCycleAt, IsLeast}
-use Rattle.class_headers.specs.Declarations.{declaration_of}
+use Rattle.class_headers.specs.Cases.{IsCycleAt}
+use Rattle.class_order.specs.Cases.{IsLeast}
+use Rattle.class_order.specs.Declarations.{declaration_of}
 use Rattle.class_headers.proofs.CycleLemmas.{case_least}
 use Rattle.class_headers.proofs.cyclic.cycle_case.Goals as goal
 

@@ -3,8 +3,8 @@ use Rattle.std.proofs.Common.{◌∙◌, sym, subst, map, arith, Option, ◌+◌
 use Rattle.std.proofs.lemmas.List.{length-map}
 use Rattle.rlc_base.specs.declared.faults.Refusal.{Refusal}
 use Rattle.class_names.specs.ClassNames.{rows_in}
-use Rattle.class_headers.specs.Cases.{IsLeast}
-use Rattle.class_headers.specs.Declarations.{declaration_of}
+use Rattle.class_order.specs.Cases.{IsLeast}
+use Rattle.class_order.specs.Declarations.{declaration_of}
 use Rattle.class_headers.proofs.CycleLemmas.{IsEarlyCycle, cycles_all, cycles_more}
 use Rattle.class_headers.proofs.cyclic.cycles.Goals as goal
 

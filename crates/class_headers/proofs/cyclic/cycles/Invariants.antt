@@ -1,7 +1,7 @@
 use Rattle.std.proofs.Common.{◌≡◌, [], length, map}
 use Rattle.class_names.specs.ClassNames.{rows_in}
-use Rattle.class_headers.specs.Cases.{IsLeast}
-use Rattle.class_headers.specs.Declarations.{declaration_of}
+use Rattle.class_order.specs.Cases.{IsLeast}
+use Rattle.class_order.specs.Declarations.{declaration_of}
 use Rattle.class_headers.specs.Search.{AreMarked}
 use Rattle.class_headers.proofs.CycleLemmas.{IsEarlyCycle}
 use Rattle.class_headers.proofs.cyclic.cycles.Given as goal

@@ -1,6 +1,6 @@
 use Rattle.std.proofs.Common.{◌≡◌, length, map, take}
 use Rattle.class_names.specs.ClassNames.{rows_in}
-use Rattle.class_headers.specs.Declarations.{declaration_of}
+use Rattle.class_order.specs.Declarations.{declaration_of}
 use Rattle.class_headers.specs.Headers.{AllList, declared_headers, header_of}
 use Rattle.class_headers.specs.SuperTypes.{supers_of}
 use Rattle.class_headers.proofs.headers.classes_of.Given as goal

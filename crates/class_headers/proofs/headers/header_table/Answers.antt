@@ -2,8 +2,9 @@
 use Rattle.std.proofs.Common.{◌∙◌, sym, ap, refl, subst, map, length, List, None}
 use Rattle.std.proofs.lemmas.List.{length-map}
 use Rattle.program_model.specs.declared.kinds.ClassId.{ClassId}
-use Rattle.class_headers.specs.Cases.{IsCycleCase, IsLeast}
-use Rattle.class_headers.specs.Declarations.{declaration_of}
+use Rattle.class_headers.specs.Cases.{IsCycleCase}
+use Rattle.class_order.specs.Cases.{IsLeast}
+use Rattle.class_order.specs.Declarations.{declaration_of}
 use Rattle.class_headers.specs.Headers.{AllList, declared_headers}
 use Rattle.class_headers.specs.SuperTypes.{AreKnown, all_direct, direct_of, supers_of}
 use Rattle.class_headers.proofs.AboveLemmas.{headers_hierarchy}

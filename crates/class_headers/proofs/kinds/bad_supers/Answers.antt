@@ -2,9 +2,9 @@
 use Rattle.std.proofs.Common.{◌∙◌, sym, map}
 use Rattle.refusal_order.specs.Refusals.{lesser_of}
 use Rattle.class_headers.specs.Cases.{bad_super_case}
-use Rattle.class_headers.specs.Declarations.{declaration_of}
+use Rattle.class_order.specs.Declarations.{declaration_of}
 use Rattle.class_headers.specs.SuperTypes.{supers_of}
-use Rattle.class_headers.proofs.CaseLemmas.{least_next}
+use Rattle.class_order.proofs.CaseLemmas.{least_next}
 use Rattle.class_headers.proofs.kinds.bad_supers.Goals as goal
 
 pub loop-number-preserved : goal.loop-number-preserved

@@ -3,7 +3,7 @@ use Rattle.std.specs.Prelude.{flat_map}
 use Rattle.std.specs.List.{range_with_len}
 use Rattle.refusal_order.specs.Refusals.{least}
 use Rattle.class_headers.specs.Cases.{bad_super_case}
-use Rattle.class_headers.specs.Declarations.{declaration_of}
+use Rattle.class_order.specs.Declarations.{declaration_of}
 use Rattle.class_headers.specs.SuperTypes.{supers_of}
 use Rattle.class_headers.proofs.kinds.bad_supers.Given as goal
 

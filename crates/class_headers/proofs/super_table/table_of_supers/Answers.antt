@@ -3,7 +3,7 @@ use Rattle.std.proofs.Common.{◌≡◌, ◌∙◌, sym, ap, subst, map, length,
 use Rattle.std.specs.Prelude.{codes}
 use Rattle.std.proofs.lemmas.List.{length-map}
 use Rattle.class_names.specs.ClassNames.{rows_in}
-use Rattle.class_headers.specs.Declarations.{class_name_of, declaration_of}
+use Rattle.class_order.specs.Declarations.{class_name_of, declaration_of}
 use Rattle.class_headers.specs.SuperTypes.{AreKnown, all_direct, direct_of, supers_from, supers_of}
 use Rattle.class_headers.proofs.KnownLemmas.{all_known, found_within, length-supers_from}
 use Rattle.class_headers.proofs.super_table.table_of_supers.Goals as goal

@@ -1,7 +1,7 @@
 -- One class more.
 use Rattle.std.proofs.Common.{◌∙◌, sym, ap, map, ◌++◌, ◌∷◌, []}
 use Rattle.class_headers.specs.SuperTypes.{supers_of}
-use Rattle.class_headers.proofs.CaseLemmas.{supers_more}
+use Rattle.class_headers.proofs.SuperLemmas.{supers_more}
 use Rattle.std.proofs.lemmas.List.{map_push}
 use Rattle.class_headers.proofs.supers.all_supers.Goals as goal
 

@@ -1,5 +1,5 @@
 use Rattle.std.proofs.Common.{◌≡◌, map, take}
-use Rattle.class_headers.specs.Declarations.{declaration_of}
+use Rattle.class_order.specs.Declarations.{declaration_of}
 use Rattle.class_headers.specs.SuperTypes.{supers_from, supers_of}
 use Rattle.class_headers.proofs.supers.all_supers.Given as goal
 

@@ -1,8 +1,8 @@
-use Rattle.std.proofs.Common.{◌≡◌, ◌-◌, ◌∙◌, ap, map, drop}
+use Rattle.std.proofs.Common.{◌≡◌, ◌-◌, ap, drop, []}
 use Rattle.java_syntax.specs.declared.symbols.Symbol.TheVariants as symbols
 use Rattle.java_syntax.specs.ExpressionTrees.{expr_of}
 use Rattle.java_grammar.specs.Reached.{lexemes_of}
-use Rattle.java_exprs.specs.FrontTrees.{expression_on}
+use Rattle.java_exprs.specs.FrontTrees.{shows_expression}
 use Rattle.java_exprs.proofs.ParsingLaws.{front_moved}
 use Rattle.java_exprs.proofs.parsing.parse_expr.Goals as goal
 
@@ -10,4 +10,4 @@ pub returns-in-Ok-clause-only : goal.returns-in-Ok-clause-only
 returns-in-Ok-clause-only c =
     let b = c.args.source.now.bytes.now in
     let same : lexemes_of b c.tokens_from-tokens.result.now ≡ lexemes_of b (drop c.args.at c.args.source.now.tokens.now) = ap (lexemes_of b) c.tokens_from-tokens.ensures in
-    front_moved expression_on symbols.Expression (128 - c.args.level) _ _ c.in-Ok.count c.args.at (expr_of c.in-Ok.e) same c.in-Ok.ensures.only
+    front_moved shows_expression symbols.Expression (128 - c.args.level) [] _ _ c.in-Ok.count c.args.at (expr_of c.in-Ok.e) same c.in-Ok.ensures.only

@@ -1,5 +1,5 @@
 use Rattle.must_call_types.specs.MustSets.{with_own_set}
-use Rattle.must_call_types.proofs.Maps.{left_more, map_more}
+use Rattle.effective_signatures.proofs.Maps.{left_more, map_more}
 use Rattle.must_call_types.proofs.inheritance.put_own_sets.Goals as goal
 
 pub loop-class-preserved : goal.loop-class-preserved

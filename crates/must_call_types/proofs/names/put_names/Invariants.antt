@@ -1,6 +1,6 @@
 use Rattle.std.proofs.Common.{◌≡◌, ◌≤◌, fold, take, length}
 use Rattle.rlc_base.specs.Names.{with_name}
-use Rattle.must_call_types.specs.Annotations.{names_listed}
+use Rattle.annotation_kinds.specs.Annotations.{names_listed}
 use Rattle.must_call_types.proofs.names.put_names.Given as goal
 
 abbrev pub invariant-loop-name : goal.invariant-loop-name

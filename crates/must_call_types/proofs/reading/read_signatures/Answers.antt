@@ -1,4 +1,4 @@
-use Rattle.must_call_types.specs.AnnotationCases.{annotation_cases}
+use Rattle.annotation_rules.specs.AnnotationCases.{annotation_cases}
 use Rattle.must_call_types.proofs.Signing.{no_cases}
 use Rattle.must_call_types.proofs.reading.read_signatures.Goals as goal
 

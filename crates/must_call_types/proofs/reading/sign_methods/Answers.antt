@@ -1,7 +1,7 @@
 use Rattle.std.proofs.Common.{◌<◌, length}
 use Rattle.program_model.specs.declared.program.Method.{Method}
-use Rattle.must_call_types.specs.Signed.{IsSignedMethod}
-use Rattle.must_call_types.proofs.Maps.{all_left, left_more, zip_more}
+use Rattle.effective_signatures.specs.SignedMethods.{IsSignedMethod}
+use Rattle.effective_signatures.proofs.Maps.{all_left, left_more, zip_more}
 use Rattle.must_call_types.proofs.reading.sign_methods.Goals as goal
 
 pub sign-requires : goal.sign-requires

@@ -1,6 +1,6 @@
 use Rattle.std.proofs.Common.{◌≡◌, take, drop}
 use Rattle.std.specs.List.{AllZip}
-use Rattle.must_call_types.specs.Signed.{IsSignedMethod}
+use Rattle.effective_signatures.specs.SignedMethods.{IsSignedMethod}
 use Rattle.must_call_types.proofs.reading.sign_methods.Given as goal
 
 abbrev pub invariant-loop-method : goal.invariant-loop-method

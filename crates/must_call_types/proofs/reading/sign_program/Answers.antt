@@ -5,7 +5,7 @@ use Rattle.std.proofs.lemmas.Simd.{map-map}
 use Rattle.std.proofs.lemmas.List.{with_items_is}
 use Rattle.program_model.specs.declared.program.Method.{Method}
 use Rattle.must_call_types.specs.MustSets.{but_set, with_own_set, IsGraded, IsMustSet}
-use Rattle.must_call_types.specs.Signed.{IsSignedMethod}
+use Rattle.effective_signatures.specs.SignedMethods.{IsSignedMethod}
 use Rattle.must_call_types.proofs.Hierarchies.{graded}
 use Rattle.must_call_types.proofs.Settling.{graded_own}
 use Rattle.must_call_types.proofs.Signing.{moved_methods, signed_lengths}

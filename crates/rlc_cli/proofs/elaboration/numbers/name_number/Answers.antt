@@ -1,5 +1,5 @@
 use Rattle.std.proofs.Common.{◌∙◌, ap}
-use Rattle.obligation_flow.specs.Programs.{number_in}
+use Rattle.first_flow.specs.Programs.{number_in}
 use Rattle.rlc_base.specs.declared.name_id.NameId.{NameId}
 use Rattle.rlc_cli.proofs.NameLaws.{must_place_is}
 use Rattle.rlc_cli.proofs.elaboration.numbers.name_number.Goals as goal

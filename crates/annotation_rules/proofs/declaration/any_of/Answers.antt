@@ -1,0 +1,13 @@
+use Rattle.std.proofs.Common.{◌∙◌, ap}
+use Rattle.program_model.specs.declared.program.RawAnno.{RawAnno}
+use Rattle.refusal_order.specs.Refusals.{least}
+use Rattle.annotation_kinds.specs.Annotations.{is_of}
+use Rattle.annotation_rules.specs.Declarations.{bad_annotation}
+use Rattle.annotation_rules.proofs.Folds.{least_turn}
+use Rattle.annotation_rules.proofs.declaration.any_of.Goals as goal
+
+pub loop-annotation-preserved : goal.loop-annotation-preserved
+loop-annotation-preserved c =
+    let f = λ (a : RawAnno). bad_annotation (is_of c.args.kind a) a in
+    least_turn f c.args.annotations.now _ c.annotation-item.result _ _ _ c.loop-annotation-test.true c.annotation-item.is c.loop-annotation.invariant
+    (c.bad_annotation-refusal.ensures ∙ ap (λ b. least (bad_annotation b c.annotation-item.result)) c.is_of.ensures) c.lesser_of-least.ensures

@@ -1,0 +1,8 @@
+use Rattle.std.proofs.Common.{◌≡◌, map, take}
+use Rattle.refusal_order.specs.Refusals.{least}
+use Rattle.class_order.specs.Declarations.{declaration_of}
+use Rattle.class_checks.specs.DoubleMembers.{double_member_cases}
+use Rattle.class_checks.proofs.members.double_member_refusal.Given as goal
+
+abbrev pub invariant-loop-class : goal.invariant-loop-class
+invariant-loop-class l = l.found ≡ least (double_member_cases l.names (map declaration_of (take l.class-index l.order)))

@@ -1,0 +1,3 @@
+pub mod DoubleMembers
+pub mod MemberKeys
+pub mod TypeCases

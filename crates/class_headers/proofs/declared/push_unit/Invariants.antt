@@ -1,6 +1,0 @@
-use Rattle.std.proofs.Common.{◌≡◌, ◌++◌, map, take}
-use Rattle.class_headers.specs.Declarations.{compilation_unit, declaration_of}
-use Rattle.class_headers.proofs.declared.push_unit.Given as goal
-
-abbrev pub invariant-loop-declaration : goal.invariant-loop-declaration
-invariant-loop-declaration l = map declaration_of l.all.items ≡ map declaration_of l.fn.all.items ++ map (λ c. record { class_tree = c; unit = compilation_unit l.number l.library l.unit }) (take l.declaration-index l.unit.types.items)

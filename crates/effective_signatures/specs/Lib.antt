@@ -1,0 +1,4 @@
+pub mod Sets
+pub mod Targets
+pub mod Effective
+pub mod SignedMethods

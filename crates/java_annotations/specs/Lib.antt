@@ -1,0 +1,3 @@
+pub mod Forms
+pub mod Annotations
+pub mod InitialValues

@@ -1,0 +1,106 @@
+//! The values that static fields begin with.
+
+ghost use Rattle.std.specs.Prelude.{◌≡◌};
+ghost use Rattle.java_syntax.specs.ExpressionTrees.{expr_of};
+ghost use Rattle.java_annotations.specs.InitialValues.{IsInitial, value_alone, value_negated, value_of, value_under, value_under_minus, written_value};
+
+use initial_values::fits_field;
+use java_constants::negate;
+use java_literals::{LiteralValue, literal_value};
+use java_syntax::{Expr, PrefixOperator};
+use program_model::{Literal, OperandType, VType};
+
+fn value_alone(literal: LiteralValue) -> Option<Literal>
+    ensures { result ≡ value_alone literal }
+{
+    match literal {
+        LiteralValue::Int(n) | LiteralValue::Long(n) => Some(Literal::Number(n)),
+        LiteralValue::IntLimit | LiteralValue::LongLimit => None,
+        LiteralValue::Character(c) => Some(Literal::Character(c)),
+        LiteralValue::Boolean(b) => Some(Literal::Boolean(b)),
+        LiteralValue::Text => Some(Literal::Text),
+        LiteralValue::Null => Some(Literal::Null),
+    }
+}
+
+// The value of a number under a minus.
+fn value_negated(literal: LiteralValue) -> Option<Literal>
+    ensures { result ≡ value_negated literal }
+{
+    match literal {
+        LiteralValue::Int(n) => Some(Literal::Number(negate(OperandType::Int, n))),
+        LiteralValue::Long(n) => Some(Literal::Number(negate(OperandType::Long, n))),
+        LiteralValue::IntLimit => Some(Literal::Number(-2147483648)),
+        LiteralValue::LongLimit => Some(Literal::Number(i64::MIN)),
+        LiteralValue::Character(_)
+        | LiteralValue::Boolean(_)
+        | LiteralValue::Text
+        | LiteralValue::Null => None,
+    }
+}
+
+fn value_under_minus(e: &Expr) -> Option<Literal>
+    ensures { result ≡ value_under_minus (expr_of e.now) }
+{
+    match e {
+        Expr::Literal { text, .. } => match literal_value(text.bytes()) {
+            None => None,
+            Some(literal) => value_negated(literal),
+        },
+        _other => None,
+    }
+}
+
+fn value_under(operator: PrefixOperator, e: &Expr) -> Option<Literal>
+    ensures { result ≡ value_under operator (expr_of e.now) }
+{
+    match operator {
+        PrefixOperator::Minus => value_under_minus(e),
+        PrefixOperator::Plus | PrefixOperator::Not | PrefixOperator::Complement => None,
+    }
+}
+
+/// The value of an expression that is a literal, or a number under a minus; none of another one.
+pub fn value_of(e: &Expr) -> Option<Literal>
+    ensures { result ≡ value_of (expr_of e.now) }
+{
+    match e {
+        Expr::Literal { text, .. } => match literal_value(text.bytes()) {
+            None => None,
+            Some(literal) => value_alone(literal),
+        },
+        Expr::Prefix {
+            operator,
+            operand,
+            ..
+        } => value_under(*operator, operand),
+        _other => None,
+    }
+}
+
+/// The value that an initialiser is, where it is a literal, or a number under a minus.
+pub fn written_value(initializer: &Option<Expr>) -> Option<Literal>
+    ensures { result ≡ written_value initializer.now }
+{
+    match initializer {
+        None => None,
+        Some(e) => value_of(e),
+    }
+}
+
+/// The value that a static field of the type begins with where this value is written behind its `=`: none where the type
+/// has it not, or where no value is written.
+pub fn initial_value(vtype: VType, written: Option<Literal>) -> Option<Literal>
+    ensures { IsInitial vtype written result }
+{
+    match written {
+        None => None,
+        Some(literal) => {
+            if fits_field(vtype, literal) {
+                Some(literal)
+            } else {
+                None
+            }
+        }
+    }
+}

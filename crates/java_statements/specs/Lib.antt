@@ -1,2 +1,0 @@
-pub mod StatementValues
-pub mod StatementBuild

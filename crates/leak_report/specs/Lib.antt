@@ -1,0 +1,4 @@
+pub mod Words
+pub mod MissingNames
+pub mod Steps
+pub mod Reports

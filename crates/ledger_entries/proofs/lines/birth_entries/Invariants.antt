@@ -1,0 +1,9 @@
+use Rattle.std.proofs.Common.{◌≡◌, ◌+◌, ◌++◌, drop}
+use Rattle.ledger_entries.specs.Entries.{birth_in, lines_from}
+use Rattle.ledger_entries.proofs.lines.birth_entries.Given as goal
+
+abbrev pub invariant-objects : goal.invariant-objects
+invariant-objects l = record {
+  counted : l.number ≡ l.object-index;
+  whole : l.into.items ++ lines_from l.p (birth_in l.pos l.before) (l.object-index + 1) (drop l.object-index l.object-items) ≡ l.initial.into.items ++ lines_from l.p (birth_in l.pos l.before) 1 l.object-items;
+}

@@ -1,0 +1,6 @@
+pub mod Values
+pub mod Contents
+pub mod Heaps
+pub mod Fields
+pub mod Locals
+pub mod Classes

@@ -1,9 +1,0 @@
-use Rattle.std.proofs.Common.{◌≡◌, take}
-use Rattle.std.specs.List.{flat_map}
-use Rattle.refusal_order.specs.Refusals.{least}
-use Rattle.must_call_types.specs.Annotations.{is_of}
-use Rattle.must_call_types.specs.Declarations.{bad_annotation}
-use Rattle.must_call_types.proofs.declaration.any_of.Given as goal
-
-abbrev pub invariant-loop-annotation : goal.invariant-loop-annotation
-invariant-loop-annotation l = l.least ≡ least (flat_map (λ a. bad_annotation (is_of l.kind a) a) (take l.annotation-index l.annotations))

@@ -1,8 +1,0 @@
-use Rattle.std.proofs.Common.{◌≡◌, take}
-use Rattle.std.specs.List.{flat_map}
-use Rattle.refusal_order.specs.Refusals.{least}
-use Rattle.must_call_types.specs.AnnotationCases.{body_cases}
-use Rattle.must_call_types.proofs.rule.body_refusals.Given as goal
-
-abbrev pub invariant-loop-body : goal.invariant-loop-body
-invariant-loop-body l = l.least ≡ least (flat_map (body_cases l.p) (take l.body-index l.bodies))

@@ -1,8 +1,0 @@
-use Rattle.std.proofs.Common.{◌≡◌, take}
-use Rattle.std.specs.List.{flat_map}
-use Rattle.refusal_order.specs.Refusals.{least}
-use Rattle.must_call_types.specs.AnnotationCases.{field_cases}
-use Rattle.must_call_types.proofs.rule.field_refusals.Given as goal
-
-abbrev pub invariant-loop-field : goal.invariant-loop-field
-invariant-loop-field l = l.least ≡ least (flat_map field_cases (take l.field-index l.fields))

@@ -1,0 +1,8 @@
+//! Programs made from a number, by which the speed and the answers of a check are measured.
+#![tactic(auto)]
+
+mod generation;
+#[cfg(test)]
+mod tests;
+
+pub use generation::generate;

@@ -1,0 +1,5 @@
+pub mod VisitLaws
+pub mod Reading
+pub mod Adding
+pub mod Outcomes
+pub mod TrailLaws

@@ -1,0 +1,2 @@
+pub mod CoreStub
+pub mod StubFiles

@@ -1,0 +1,2 @@
+pub mod ObligationLemmas
+pub mod SuperPassLemmas
