@@ -1,0 +1,13 @@
+use Rattle.std.proofs.Common.{◌≡◌, ◌∙◌, ap, sym, None, Some}
+use Rattle.ledger_obligations.specs.Obligations.{finished, first_set}
+use Rattle.ledger_obligations.proofs.ChangeLaws.{change_as}
+use Rattle.ledger_state.specs.declared.entry.Owner.TheVariants as owners
+use Rattle.ledger_state.specs.Heaps.{change_one, object_at}
+use Rattle.ledger_calls.proofs.library.thrown_birth.Goals as goal
+
+pub returns-in-Some : goal.returns-in-Some
+returns-in-Some c =
+    let o : object_at c.args.heap.now c.args.number ≡ Some c.in-Some.x = sym c.object.ensures ∙ c.in-Some.is in
+    let made : c.finished.result ≡ finished (first_set c.args.p.now c.args.class None) owners.Library c.in-Some.x = c.finished.ensures ∙ ap (λ s. finished s owners.Library c.in-Some.x) c.first_set.ensures in
+    c.put.ensures ∙ ap (λ y. change_one c.args.number (λ _. y) c.args.heap.now) made
+    ∙ change_as (finished (first_set c.args.p.now c.args.class None) owners.Library) c.args.number c.args.heap.now c.in-Some.x o
