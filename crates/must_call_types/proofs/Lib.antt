@@ -3,3 +3,7 @@ pub mod Settling
 pub mod Signing
 pub mod NameLaws
 pub mod Orders
+pub mod SignedTables
+pub mod SignedTypes
+pub mod SignedPositions
+pub mod SignedValidity

@@ -4,6 +4,7 @@ ghost use Rattle.std.specs.Prelude.{◌≡◌, ◌-◌, ◌<◌, ◌^◌, [], Al
 ghost use Rattle.std.specs.List.{AllZip};
 ghost use Rattle.annotation_rules.specs.AnnotationCases.{annotation_cases};
 ghost use Rattle.program_model.specs.Hierarchy.{IsHierarchy};
+ghost use Rattle.program_model.specs.Validity.{HasBodies, IsValid};
 ghost use Rattle.must_call_types.specs.NameTable.{IsNameStop};
 ghost use Rattle.effective_signatures.specs.SignedMethods.{IsSignedMethod};
 ghost use Rattle.must_call_types.specs.Signed.{IsSignatureStop, IsSigned};
@@ -50,7 +51,7 @@ fn sign_program(alloc: Global, p: &mut Program) -> Result<(), Stop>
 }
 
 /// Reads the annotations of a program: gives its classes their must-call sets and its methods their effective signatures, and
-/// makes its table of names. After an error the program is only dropped.
+/// makes its table of names. A valid program stays valid. After an error the program is only dropped.
 ///
 /// # Errors
 ///
@@ -61,6 +62,8 @@ pub fn read_signatures(alloc: Global, p: &mut Program) -> Result<(), Stop>
     requires parameters { All (λ m. length m.sig.params.items < 2 ^ 32 - 1) p.old.methods.items }
     ensures signed { OnOk result (IsSigned p.old p.new) }
     ensures right { OnOk result (annotation_cases p.new ≡ []) }
+    ensures valid { OnOk result (IsValid p.old → IsValid p.new) }
+    ensures bodies { OnOk result (HasBodies p.old → HasBodies p.new) }
     ensures stopped { IfErr result (IsSignatureStop p.old p.new) }
 {
     sign_program(alloc, p)?;

@@ -1,0 +1,2 @@
+pub mod BornOrigins
+pub mod OriginLaws

@@ -1,0 +1,148 @@
+//! The origins of a body.
+
+ghost use Rattle.std.specs.List.{flat_map};
+ghost use Rattle.std.specs.Prelude.{◌≡◌, ◌<◌, ◌≤◌, ◌^◌, ℕ, [], length, IfOk, IfErr, OnOk};
+ghost use Rattle.breadth_first.specs.Searches.{IsAt};
+ghost use Rattle.java_cfg.specs.declared.arc.Arc.{Arc as DeclaredArc};
+ghost use Rattle.obligation_facts.specs.SmallActions.{IsSmallAction};
+ghost use Rattle.ownership_rules.specs.Room.{HasRoom};
+ghost use Rattle.indexmap.specs.IndexSet.{insert_all, insert_key};
+ghost use Rattle.java_cfg.specs.Contents.{arcs_of, nodes_of};
+ghost use Rattle.body_origins.specs.Nodes.{AreNodes, FitsRows, relation_in};
+ghost use Rattle.body_origins.specs.Origins.{IsOriginCause, IsOriginsCause, arc_births, births_in, origins_in, origins_of, row_births, same_origin};
+ghost use Rattle.body_origins.specs.Pairs.{IsPairsCause};
+
+use crate::births::{all_entry_births, all_step_births};
+use indexmap::IndexSet;
+use java_cfg::{Arc, Graph};
+use java_control::{Fact, Origin};
+use program_model::{BodyId, Program};
+use rlc_base::{Code, Pos, Refusal, Stop};
+use std::alloc::Global;
+
+/// The most pairs of a node and a fact that paths through a body may reach.
+pub const MAX_PAIRS: usize = 1_000_000;
+
+// Puts the origin of a birth last, unless it is there.
+fn put_origin(origins: &mut IndexSet<Origin>, birth: &(Origin, Fact), pos: Pos) -> Result<(), Stop>
+    ensures origins { OnOk result (origins.new.keys ≡ insert_key same_origin origins.old.keys birth.now.0) }
+    ensures few { OnOk result (length origins.new.keys ≤ 1000000) }
+    ensures cause { IfErr result (λ stop. IsOriginCause pos (length (insert_key same_origin origins.old.keys birth.now.0)) stop) }
+{
+    origins.insert_full(birth.0)?;
+    if origins.len() > MAX_PAIRS {
+        return Err(Refusal {
+            code: Code::TooManyFacts,
+            pos,
+        }
+        .stop());
+    }
+    Ok(())
+}
+
+// Puts the origins of births last that are new.
+fn add_origins(
+    origins: &mut IndexSet<Origin>,
+    births: &[(Origin, Fact)],
+    pos: Pos,
+) -> Result<(), Stop>
+    ensures origins { OnOk result (origins.new.keys ≡ insert_all same_origin origins.old.keys (origins_in births.now)) }
+    ensures few { OnOk result (length origins.old.keys ≤ 1000000 → length origins.new.keys ≤ 1000000) }
+    ensures cause { IfErr result (λ stop. IsOriginsCause origins.old.keys (origins_in births.now) pos stop) }
+{
+    'each: for birth in births {
+        put_origin(origins, birth, pos)?;
+    }
+    Ok(())
+}
+
+// Puts the origins of the births of an arc last that are new.
+fn add_arc(
+    alloc: Global,
+    origins: &mut IndexSet<Origin>,
+    p: &Program,
+    b: BodyId,
+    arc: &Arc,
+    pos: Pos,
+) -> Result<(), Stop>
+    requires room { HasRoom p.now b }
+    requires small { IsSmallAction p.now arc.now.action }
+    requires few { length (arc_births p.now b arc.now) < 2 ^ 32 }
+    ensures origins { OnOk result (origins.new.keys ≡ insert_all same_origin origins.old.keys (origins_in (arc_births p.now b arc.now))) }
+    ensures few { OnOk result (length origins.old.keys ≤ 1000000 → length origins.new.keys ≤ 1000000) }
+    ensures cause { IfErr result (λ stop. IsOriginsCause origins.old.keys (origins_in (arc_births p.now b arc.now)) pos stop) }
+{
+    let births = all_step_births(alloc, p, b, arc)?;
+    add_origins(origins, &births, pos)
+}
+
+// Puts the origins of the births of a row of arcs last that are new.
+fn add_row(
+    alloc: Global,
+    origins: &mut IndexSet<Origin>,
+    p: &Program,
+    b: BodyId,
+    row: &[Arc],
+    pos: Pos,
+) -> Result<(), Stop>
+    requires room { HasRoom p.now b }
+    requires small { (i : ℕ) (a : DeclaredArc) → IsAt row.now i a → IsSmallAction p.now a.action }
+    requires few { (i : ℕ) (a : DeclaredArc) → IsAt row.now i a → length (arc_births p.now b a) < 2 ^ 32 }
+    ensures origins { OnOk result (origins.new.keys ≡ insert_all same_origin origins.old.keys (origins_in (row_births p.now b row.now))) }
+    ensures few { OnOk result (length origins.old.keys ≤ 1000000 → length origins.new.keys ≤ 1000000) }
+    ensures cause { IfErr result (λ stop. IsOriginsCause origins.old.keys (origins_in (row_births p.now b row.now)) pos stop) }
+{
+    'each: for arc in row {
+        add_arc(alloc, origins, p, b, arc, pos)?;
+    }
+    Ok(())
+}
+
+// Puts the origins of the births of all arcs of a graph last that are new.
+fn add_nodes(
+    alloc: Global,
+    origins: &mut IndexSet<Origin>,
+    p: &Program,
+    b: BodyId,
+    graph: &Graph,
+    pos: Pos,
+) -> Result<(), Stop>
+    requires fits { FitsRows p.now b (arcs_of graph.now) }
+    requires long { length (arcs_of graph.now) ≡ length (nodes_of graph.now) }
+    ensures origins { OnOk result (origins.new.keys ≡ insert_all same_origin origins.old.keys (origins_in (flat_map (row_births p.now b) (arcs_of graph.now)))) }
+    ensures few { OnOk result (length origins.old.keys ≤ 1000000 → length origins.new.keys ≤ 1000000) }
+    ensures cause { IfErr result (λ stop. IsOriginsCause origins.old.keys (origins_in (flat_map (row_births p.now b) (arcs_of graph.now))) pos stop) }
+{
+    'each: for node in 0..graph.nodes() {
+        add_row(alloc, origins, p, b, graph.arcs(node), pos)?;
+    }
+    Ok(())
+}
+
+/// The origins of a body, each once, in the order of their first births: at the entry, and then by node and arc. The number
+/// of an origin is its place in this list.
+///
+/// # Errors
+///
+/// `TooMuch` with code 65 at the given place where paths reach more than 1,000,000 pairs of a node and a fact, since they
+/// reach a fact of each origin. `NoMemory` where memory runs out.
+pub fn body_origins(
+    alloc: Global,
+    p: &Program,
+    b: BodyId,
+    graph: &Graph,
+    pos: Pos,
+) -> Result<IndexSet<Origin>, Stop>
+    requires fits { FitsRows p.now b (arcs_of graph.now) }
+    requires nodes { AreNodes (arcs_of graph.now) }
+    requires long { length (arcs_of graph.now) ≡ length (nodes_of graph.now) }
+    ensures origins { IfOk result (λ v. v.keys ≡ origins_of p.now b (arcs_of graph.now)) }
+    ensures few { IfOk result (λ v. length v.keys ≤ 1000000) }
+    ensures cause { IfErr result (λ stop. IsPairsCause p.now b (relation_in (arcs_of graph.now)) pos stop) }
+{
+    let mut origins = IndexSet::new(alloc);
+    let births = all_entry_births(alloc, p, b)?;
+    add_origins(&mut origins, &births, pos)?;
+    add_nodes(alloc, &mut origins, p, b, graph, pos)?;
+    Ok(origins)
+}

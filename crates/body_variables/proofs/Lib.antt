@@ -1,0 +1,2 @@
+mod Annotations
+mod Parameters

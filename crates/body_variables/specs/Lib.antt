@@ -1,0 +1,2 @@
+pub mod BodyVariables
+pub mod Declarations

@@ -1,0 +1,4 @@
+pub mod ModeLemmas
+pub mod NumberLemmas
+pub mod WordLemmas
+pub mod WorkedRows

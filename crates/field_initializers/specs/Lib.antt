@@ -1,0 +1,2 @@
+pub mod FieldConstants
+pub mod FieldInitializers

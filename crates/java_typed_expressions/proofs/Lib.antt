@@ -1,0 +1,4 @@
+pub mod Examples
+pub mod Goodness
+pub mod LocalExamples
+pub mod WellTyped

@@ -1,0 +1,4 @@
+pub mod Accepted
+pub mod Cases
+pub mod Targets
+pub mod Typings

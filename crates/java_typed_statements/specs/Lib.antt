@@ -1,0 +1,5 @@
+pub mod StatementCases
+pub mod StatementCompletions
+pub mod StatementContexts
+pub mod StatementTrees
+pub mod VariableCounts

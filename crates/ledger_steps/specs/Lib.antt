@@ -1,0 +1,4 @@
+pub mod Effects
+pub mod InnerSteps
+pub mod CallSteps
+pub mod Ends

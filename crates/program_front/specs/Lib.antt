@@ -1,0 +1,4 @@
+pub mod Files
+pub mod InTurn
+pub mod Settings
+pub mod Trees

@@ -1,0 +1,22 @@
+-- What one arc more leads to is added.
+use Rattle.std.proofs.Common.{◌∙◌, ap, get_or, sym, ◌++◌}
+use Rattle.std.proofs.lemmas.Option.{slice_get-get_or}
+use Rattle.java_cfg.specs.declared.arc.Arc.{Arc}
+use Rattle.java_control.specs.declared.action.Action.TheVariants.{Skip}
+use Rattle.java_control.specs.declared.action.Edge.TheVariants.{Go}
+use Rattle.reached_facts.specs.Points.{fact_points}
+use Rattle.reached_facts.proofs.ListPoints.{from_more}
+use Rattle.reached_facts.proofs.points.all_fact_points.Goals as goal
+
+-- what a list of arcs gives past its end
+abbrev no_arc : Arc
+no_arc = record { action = Skip; edge = Go; to = 0; pos = record { file = 0; line = 0; col = 0 } }
+
+pub push_fact-requires-clause-small : goal.push_fact-requires-clause-small
+push_fact-requires-clause-small c = c.requires.small c.arcs.i (get_or c.args.row.now c.arcs.i no_arc) (slice_get-get_or c.args.row.now c.arcs.i no_arc c.arcs-test.true)
+
+pub arcs-preserved : goal.arcs-preserved
+arcs-preserved c =
+    let x = get_or c.args.row.now c.arcs.i no_arc in
+    c.in_ok-push_fact.ensures ∙ ap (λ ys. ys ++ fact_points c.args.p.now c.args.b c.args.origin.now c.args.fact.now c.args.at c.arcs.i x) c.arcs.invariant
+    ∙ sym (from_more (fact_points c.args.p.now c.args.b c.args.origin.now c.args.fact.now c.args.at) c.arcs.i c.args.row.now x (slice_get-get_or c.args.row.now c.arcs.i no_arc c.arcs-test.true))
