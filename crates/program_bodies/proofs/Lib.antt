@@ -1,1 +1,2 @@
 mod MethodSteps
+mod NumberSteps

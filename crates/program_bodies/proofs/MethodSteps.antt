@@ -11,7 +11,7 @@ one_method_more bodies first (x ∷ ms) m =
     let next : first + 1 + length ms ≡ first + length (x ∷ ms) = omega arith in
     ap (λ rest. with_body (body_number bodies first) x ∷ rest) (one_method_more bodies (first + 1) ms m ∙ ap (λ n. methods_from bodies (first + 1) ms ++ with_body (body_number bodies n) m ∷ []) next)
 
-count_of_methods : (bodies : List Body) (first : ℕ) (ms : List Method) → length (methods_from bodies first ms) ≡ length ms
+pub count_of_methods : (bodies : List Body) (first : ℕ) (ms : List Method) → length (methods_from bodies first ms) ≡ length ms
 count_of_methods bodies first [] = refl
 count_of_methods bodies first (m ∷ ms) = let rest = count_of_methods bodies (first + 1) ms in omega (arith, rest)
 

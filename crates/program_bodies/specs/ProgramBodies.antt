@@ -1,5 +1,5 @@
 -- A program's table with bodies of its methods.
-use Rattle.std.specs.Prelude.{◌≡◌, ℕ, ◌+◌, nat_eq, Option, List, [], ◌∷◌, option_map}
+use Rattle.std.specs.Prelude.{◌≡◌, ℕ, ◌+◌, ◌<◌, nat_eq, nat_lt, Option, Some, List, [], ◌∷◌, if◌then◌else◌, length, option_map, slice_index_or, slice_set}
 use Rattle.std.specs.List.{position}
 use Rattle.program_model.specs.declared.kinds.BodyId.{BodyId}
 use Rattle.program_model.specs.declared.program.Method.{Method}
@@ -12,6 +12,15 @@ body_id n = record { 0 = n }
 -- the number of the method's body, if it has one
 abbrev pub body_number : List Body → ℕ → Option BodyId
 body_number bodies m = option_map body_id (position (λ b. nat_eq b.method.0 m) bodies)
+
+-- so much is known when a method's body has been noted
+abbrev pub noted : List (Option BodyId) → ℕ → BodyId → List (Option BodyId)
+noted numbers m b = if nat_lt m (length numbers) then slice_set numbers m (Some b) else numbers
+
+-- for each of the first `methods` methods the number of its body, if it has one
+pub record AreBodyNumbers (bodies : List Body) (methods : ℕ) (numbers : List (Option BodyId)) : Type 0 where
+  pub long : length numbers ≡ methods
+  pub each : (m : ℕ) (d : Option BodyId) → m < methods → slice_index_or numbers m d ≡ body_number bodies m
 
 abbrev pub with_body : Option BodyId → Method → Method
 with_body b m = record m { body = b }

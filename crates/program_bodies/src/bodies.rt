@@ -1,31 +1,48 @@
 //! Puts bodies into a program's table.
 
-ghost use Rattle.std.specs.Prelude.{◌≡◌, nat_eq, IfOk};
-ghost use Rattle.std.specs.List.{position};
-ghost use Rattle.program_bodies.specs.ProgramBodies.{HasBodies, body_number, methods_from, with_body};
+ghost use Rattle.std.specs.Prelude.{◌≡◌, IfOk, length};
+ghost use Rattle.program_bodies.specs.ProgramBodies.{AreBodyNumbers, HasBodies, methods_from, noted, with_body};
 
-use program_model::{Body, BodyId, Method, Program};
+use program_model::{Body, BodyId, Method, MethodId, Program};
 use rlc_base::NoMemory;
 use std::alloc::Global;
 
-// The place of the method's body in the list.
-fn place_of(bodies: &[Body], method: usize) -> Option<usize>
-    ensures { result ≡ position (λ b. nat_eq b.method.0 method) bodies.now }
+// How many bodies there are, where each has a number of 32 bits.
+fn body_count(bodies: &[Body]) -> Result<u32, NoMemory>
+    ensures { IfOk result (λ n. n ≡ length bodies.now) }
 {
-    bodies.iter().position(|b| b.method.0 as usize == method)
+    match u32::try_from(bodies.len()) {
+        Ok(count) => Ok(count),
+        Err(_) => Err(NoMemory),
+    }
 }
 
-// The number of the method's body, if it has one.
-fn body_number(bodies: &[Body], method: usize) -> Result<Option<BodyId>, NoMemory>
-    ensures { IfOk result (λ n. n ≡ body_number bodies.now method) }
+// Notes the number of a method's body, where there is such a method.
+fn note_body(numbers: &mut [Option<BodyId>], method: MethodId, body: BodyId)
+    ensures { numbers.new ≡ noted numbers.old method.0 body }
 {
-    match place_of(bodies, method) {
-        None => Ok(None),
-        Some(place) => match u32::try_from(place) {
-            Ok(number) => Ok(Some(BodyId(number))),
-            Err(_) => Err(NoMemory),
-        },
+    let method = method.0 as usize;
+    if method < numbers.len() {
+        numbers[method] = Some(body);
     }
+}
+
+// For each of the first methods the number of its body, if it has one. What is noted for an earlier body replaces what is noted for
+// a later one.
+fn body_numbers(
+    alloc: Global,
+    bodies: &[Body],
+    methods: usize,
+) -> Result<Vec<Option<BodyId>>, NoMemory>
+    ensures { IfOk result (λ v. AreBodyNumbers bodies.now methods v.items) }
+{
+    let mut numbers = vec![in alloc; None; methods]?;
+    let mut number = body_count(bodies)?;
+    while number > 0 {
+        number -= 1;
+        note_body(&mut numbers, bodies[number as usize].method, BodyId(number));
+    }
+    Ok(numbers)
 }
 
 fn with_body(body: Option<BodyId>, method: Method) -> Method
@@ -42,10 +59,10 @@ fn methods_with(
 ) -> Result<Vec<Method>, NoMemory>
     ensures { IfOk result (λ v. v.items ≡ methods_from bodies.now 0 methods.items) }
 {
+    let numbers = body_numbers(alloc, bodies, methods.len())?;
     let mut made = Vec::new(alloc);
     for method in methods {
-        let body = body_number(bodies, made.len())?;
-        made.push(with_body(body, method))?;
+        made.push(with_body(numbers[made.len()], method))?;
     }
     Ok(made)
 }
@@ -54,7 +71,7 @@ fn methods_with(
 ///
 /// # Errors
 ///
-/// Where memory runs out, for which more bodies than there are numbers of bodies, 2 ^ 32, count too.
+/// Where memory runs out, for which 2 ^ 32 bodies or more count too.
 pub fn with_bodies(alloc: Global, table: Program, bodies: Vec<Body>) -> Result<Program, NoMemory>
     ensures { IfOk result (HasBodies table bodies.items) }
 {

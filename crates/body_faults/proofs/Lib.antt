@@ -1,0 +1,3 @@
+pub mod BreachLaws
+pub mod JoinLaws
+pub mod StepLaws

@@ -1,0 +1,9 @@
+use Rattle.std.proofs.Common.{◌≡◌, ◌++◌, map, take}
+use Rattle.source_classes.specs.Members.{environment_in, numbered_method_of}
+use Rattle.source_classes.specs.SourceClasses.{source_class_of}
+use Rattle.java_bodies.specs.Bodies.{bodies_among, source_body_of}
+use Rattle.java_bodies.proofs.declared_bodies.push_bodies.Given as goal
+
+abbrev pub invariant-loop-m : goal.invariant-loop-m
+invariant-loop-m l =
+    map source_body_of l.all.items ≡ map source_body_of l.fn.all.items ++ bodies_among (environment_in l.scope) (source_class_of l.class) (map numbered_method_of (take l.m-index l.methods))

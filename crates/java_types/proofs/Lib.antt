@@ -1,0 +1,4 @@
+mod Environments
+mod LeastSteps
+mod ListSteps
+mod MemberSteps

@@ -1,0 +1,2 @@
+pub mod ProgramCases
+pub mod TypedBodies

@@ -1,0 +1,14 @@
+pub mod AssignmentRules
+pub mod CallRules
+pub mod ConditionalRules
+pub mod Conversions
+pub mod LaidCells
+pub mod Members
+pub mod Methods
+pub mod NameRules
+pub mod OperatorRules
+pub mod Operators
+pub mod Targets
+pub mod TypedExpressions
+pub mod TypedKinds
+pub mod Typings

@@ -1,0 +1,4 @@
+pub mod LaidParts
+pub mod TypedStatements
+pub mod TypedTrees
+pub mod TypingContexts

@@ -1,0 +1,4 @@
+mod FrameLaws
+mod MoveLaws
+mod OneStep
+mod StepLaws

@@ -1,0 +1,16 @@
+use Rattle.std.proofs.Common.{◌∙◌, sym, ap}
+use Rattle.ledger_machine.proofs.MoveLaws.{none_seen}
+use Rattle.ledger_machine.proofs.OneStep.{over_step}
+use Rattle.ledger_machine.specs.Machines.{config_of}
+use Rattle.ledger_machine.specs.Outcomes.{config_after, turn_of}
+use Rattle.ledger_machine.proofs.run.over.Goals as goal
+
+pub returns-clause-turn : goal.returns-clause-turn
+returns-clause-turn c =
+    let m = c.args.m.now in
+    ap turn_of (over_step c.args.p.now (config_of m) (none_seen m.lists.cells.keys m.frames.items (sym m.frames.ok.0 ∙ c.requires)))
+
+pub returns-clause-config : goal.returns-clause-config
+returns-clause-config c =
+    let m = c.args.m.now in
+    ap (config_after (config_of m)) (over_step c.args.p.now (config_of m) (none_seen m.lists.cells.keys m.frames.items (sym m.frames.ok.0 ∙ c.requires)))

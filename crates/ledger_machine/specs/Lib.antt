@@ -1,0 +1,5 @@
+pub mod Machines
+pub mod Outcomes
+pub mod Steps
+pub mod Starts
+pub mod Configurations

@@ -1,0 +1,14 @@
+//! One run of a program.
+
+ghost use Rattle.std.specs.Prelude.{◌≤◌, length};
+ghost use Rattle.ledger_moves.specs.Frames.{highest_control};
+
+use crate::run_state::RunState;
+
+/// One run of a program at one moment: its frames, its heap with the ledger of each object, its arrays and static fields, the
+/// lines of the ledger so far, and the choices of the library. Contracts see it as a configuration.
+#[derive(Drop)]
+pub struct Machine {
+    pub(crate) state: RunState,
+    ghost bounded: { highest_control state.frames.items ≤ length state.lists.cells.keys },
+}

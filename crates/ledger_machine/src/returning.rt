@@ -1,0 +1,255 @@
+//! Steps that end frames.
+
+ghost use Rattle.std.specs.Prelude.{◌≡◌, ◌+◌, ◌-◌, ◌∷◌, ◌++◌, ◌<◌, ◌≤◌, List, length, map, reverse, take, vec_len, IfOk, OnErr, OnOk};
+ghost use Rattle.java_control.specs.Changes.{step_in};
+ghost use Rattle.ledger_calls.specs.Configuration.{Frame};
+ghost use Rattle.ledger_frames.specs.Choosing.{frame_steps};
+ghost use Rattle.ledger_frames.specs.Frames.{locals_after};
+ghost use Rattle.ledger_machine.specs.Machines.{config_of};
+ghost use Rattle.ledger_moves.specs.Frames.{control_back, frame_seen, frames_seen, highest_control, return_seen};
+ghost use Rattle.ledger_moves.specs.Moves.{End, return_move};
+ghost use Rattle.ledger_machine.specs.Outcomes.{config_after, turn_of, went};
+ghost use Rattle.ledger_machine.specs.Steps.{moved_by, returned};
+ghost use Rattle.ledger_obligations.specs.Obligations.{held_in};
+ghost use Rattle.ledger_state.specs.Locals.{held};
+ghost use Rattle.ledger_steps.specs.Ends.{answered, exception_class, result_value, thrown_in};
+ghost use Rattle.ledger_steps.specs.Ends as ends;
+ghost use Rattle.program_model.specs.Lookups.{method_at};
+
+use crate::inner_run::{append_lines, put_top};
+use crate::run_state::{RunState, StepResult};
+use crate::turn::Turn;
+use java_control::{Completion, Triple};
+use ledger_frames::locals_after;
+use ledger_moves::{CallEnd, call_end};
+use ledger_obligations::ActiveFrame;
+use ledger_state::Heap;
+use ledger_steps::{
+    FrameEnd, StepEffect, answered, exception_class, main_effect, result_value, return_effect,
+};
+use program_model::{ClassId, MethodId, Program};
+use rlc_base::{NoMemory, Pos};
+use std::alloc::Global;
+
+// What the end of the top frame and of its call leave of the caller's frame and of the heap.
+fn return_result(
+    alloc: Global,
+    p: &Program,
+    heap: &Heap,
+    end: FrameEnd,
+    caller: &ActiveFrame,
+    below: &[ActiveFrame],
+    named: MethodId,
+    t: Triple,
+) -> Result<StepResult, NoMemory>
+    ensures locals { IfOk result (λ r. r.locals ≡ locals_after p.now heap.now caller.now.method caller.now.locals t.action t.edge (answered end.this t.action end.value end.thrown)) }
+    ensures heap { IfOk result (λ r. r.effect.heap ≡ (ends.returned p.now heap.now (length below.now + 1) end.this caller.now.locals t.action (method_at p.now end.method) (method_at p.now named) end.value end.thrown end.pos t.pos (held r.locals ∷ map held_in (reverse below.now))).heap) }
+    ensures lines { IfOk result (λ r. r.effect.lines.items ≡ (ends.returned p.now heap.now (length below.now + 1) end.this caller.now.locals t.action (method_at p.now end.method) (method_at p.now named) end.value end.thrown end.pos t.pos (held r.locals ∷ map held_in (reverse below.now))).lines) }
+{
+    let value = answered(end.this, t.action, end.value, end.thrown);
+    let locals = locals_after(
+        alloc,
+        p,
+        heap,
+        caller.method,
+        &caller.locals,
+        t.action,
+        t.edge,
+        value,
+    )?;
+    let position = below.len() as u64 + 1;
+    let effect = return_effect(
+        alloc,
+        p,
+        t.pos,
+        position,
+        &caller.locals,
+        t.action,
+        named,
+        end,
+        heap,
+        &locals,
+        below,
+    )?;
+    Ok(StepResult { locals, effect })
+}
+
+// The top frame is no more.
+fn drop_top(frames: &mut Vec<ActiveFrame>)
+    ensures items { frames.new.items ≡ take (vec_len frames.old - 1) frames.old.items }
+    ensures count { vec_len frames.new ≡ vec_len frames.old - 1 }
+{
+    let _gone = frames.pop();
+}
+
+// The frame ends, and its caller takes the step of its call. Where memory runs out all stays.
+fn run_return(
+    alloc: Global,
+    p: &Program,
+    m: &mut RunState,
+    pos: Pos,
+    completion: Completion,
+    thrown: Option<ClassId>,
+    named: MethodId,
+    t: Triple,
+) -> Result<(), NoMemory>
+    requires running { 1 < vec_len m.old.frames }
+    requires bounded { highest_control m.old.frames.items ≤ length m.old.lists.cells.keys }
+    requires within { t.to ≤ length m.old.lists.cells.keys }
+    ensures went { (fr caller : Frame) (frs : List Frame) → (config_of m.old).frames ≡ fr ∷ caller ∷ frs → OnOk result (config_of m.new ≡ returned p.now (config_of m.old) fr caller frs pos completion thrown named (step_in m.old.lists.cells.keys t)) }
+    ensures kept { OnErr result (config_of m.new ≡ config_of m.old) }
+    ensures bounded { highest_control m.new.frames.items ≤ length m.new.lists.cells.keys }
+{
+    if let Some((top, others)) = m.frames.split_last() {
+        if let Some((caller, below)) = others.split_last() {
+            let method = caller.method;
+            let value = result_value(p, &top.locals, top.method, completion);
+            let end = FrameEnd {
+                pos,
+                this: top.locals.this,
+                method: top.method,
+                value,
+                thrown,
+            };
+            let taken = return_result(alloc, p, &m.heap, end, caller, below, named, t)?;
+            append_lines(&mut m.entries, &taken.effect.lines)?;
+            let StepResult { locals, effect } = taken;
+            let StepEffect { heap, lines } = effect;
+            m.heap = heap;
+            drop_top(&mut m.frames);
+            put_top(
+                &mut m.frames,
+                ActiveFrame {
+                    method,
+                    control: t.to,
+                    locals,
+                },
+            );
+        }
+    }
+    Ok(())
+}
+
+// The frame of `main` ends. Where memory runs out all stays.
+fn run_main_end(
+    alloc: Global,
+    p: &Program,
+    m: &mut RunState,
+    pos: Pos,
+    completion: Completion,
+) -> Result<(), NoMemory>
+    requires alone { vec_len m.old.frames ≡ 1 }
+    requires bounded { highest_control m.old.frames.items ≤ length m.old.lists.cells.keys }
+    ensures went { OnOk result (went (config_of m.new) ≡ moved_by p.now (config_of m.old) (config_of m.old).frames (End pos completion)) }
+    ensures kept { OnErr result (config_of m.new ≡ config_of m.old) }
+    ensures bounded { highest_control m.new.frames.items ≤ length m.new.lists.cells.keys }
+{
+    if let Some((top, _below)) = m.frames.split_last() {
+        let effect = main_effect(alloc, p, pos, &m.heap)?;
+        let ended = exception_class(p, &m.heap, &top.locals, completion);
+        append_lines(&mut m.entries, &effect.lines)?;
+        let StepEffect { heap, lines } = effect;
+        m.heap = heap;
+        m.ended = ended;
+        m.frames.clear();
+    }
+    Ok(())
+}
+
+// The caller's part of the end of a frame.
+fn run_call_end(
+    alloc: Global,
+    p: &Program,
+    m: &mut RunState,
+    pos: Pos,
+    completion: Completion,
+) -> Result<CallEnd, NoMemory>
+    requires running { 1 < vec_len m.old.frames }
+    requires bounded { highest_control m.old.frames.items ≤ length m.old.lists.cells.keys }
+    ensures seen { (fr caller : Frame) (frs : List Frame) → (config_of m.old).frames ≡ fr ∷ caller ∷ frs → IfOk result (λ e. return_seen m.new.lists.cells.keys e ≡ return_move p.now (frame_steps p.now caller) (exception_class p.now m.old.heap (thrown_in fr.locals completion))) }
+    ensures within { IfOk result (λ e. control_back e ≤ length m.new.lists.cells.keys) }
+    ensures kept { config_of m.new ≡ config_of m.old }
+    ensures count { vec_len m.new.frames ≡ vec_len m.old.frames }
+    ensures bounded { highest_control m.new.frames.items ≤ length m.new.lists.cells.keys }
+{
+    match m.frames.split_last() {
+        None => Ok(CallEnd::NoWay),
+        Some((top, others)) => match others.split_last() {
+            None => Ok(CallEnd::NoWay),
+            Some((caller, _below)) => {
+                let thrown = exception_class(p, &m.heap, &top.locals, completion);
+                let end = call_end(alloc, &mut m.lists, p, caller, thrown)?;
+                Ok(end)
+            }
+        },
+    }
+}
+
+// The top frame, which has a caller, ends. Where memory runs out, or the exception by which it ends is stray, all stays.
+fn end_call(
+    alloc: Global,
+    p: &Program,
+    m: &mut RunState,
+    pos: Pos,
+    completion: Completion,
+) -> Result<Turn, NoMemory>
+    requires running { 1 < vec_len m.old.frames }
+    requires bounded { highest_control m.old.frames.items ≤ length m.old.lists.cells.keys }
+    ensures turn { IfOk result (λ t. t ≡ turn_of (moved_by p.now (config_of m.old) (config_of m.old).frames (End pos completion))) }
+    ensures config { OnOk result (config_of m.new ≡ config_after (config_of m.old) (moved_by p.now (config_of m.old) (config_of m.old).frames (End pos completion))) }
+    ensures kept { OnErr result (config_of m.new ≡ config_of m.old) }
+    ensures bounded { highest_control m.new.frames.items ≤ length m.new.lists.cells.keys }
+{
+    let end = run_call_end(alloc, p, m, pos, completion)?;
+    match end {
+        CallEnd::NoWay => Ok(Turn::Went),
+        CallEnd::Stray(class, at) => Ok(Turn::Stray(class, at)),
+        CallEnd::Back(thrown, named, t) => {
+            run_return(alloc, p, m, pos, completion, thrown, named, t)?;
+            Ok(Turn::Went)
+        }
+    }
+}
+
+// The frame of `main`, which stands alone, ends. Where memory runs out all stays.
+fn end_main(
+    alloc: Global,
+    p: &Program,
+    m: &mut RunState,
+    pos: Pos,
+    completion: Completion,
+) -> Result<Turn, NoMemory>
+    requires alone { vec_len m.old.frames ≡ 1 }
+    requires bounded { highest_control m.old.frames.items ≤ length m.old.lists.cells.keys }
+    ensures turn { IfOk result (λ t. t ≡ turn_of (moved_by p.now (config_of m.old) (config_of m.old).frames (End pos completion))) }
+    ensures config { OnOk result (config_of m.new ≡ config_after (config_of m.old) (moved_by p.now (config_of m.old) (config_of m.old).frames (End pos completion))) }
+    ensures kept { OnErr result (config_of m.new ≡ config_of m.old) }
+    ensures bounded { highest_control m.new.frames.items ≤ length m.new.lists.cells.keys }
+{
+    run_main_end(alloc, p, m, pos, completion)?;
+    Ok(Turn::Went)
+}
+
+/// Ends the top frame. Where memory runs out, or the exception by which it ends is stray, all stays.
+pub(crate) fn run_end(
+    alloc: Global,
+    p: &Program,
+    m: &mut RunState,
+    pos: Pos,
+    completion: Completion,
+) -> Result<Turn, NoMemory>
+    requires running { 0 < vec_len m.old.frames }
+    requires bounded { highest_control m.old.frames.items ≤ length m.old.lists.cells.keys }
+    ensures turn { IfOk result (λ t. t ≡ turn_of (moved_by p.now (config_of m.old) (config_of m.old).frames (End pos completion))) }
+    ensures config { OnOk result (config_of m.new ≡ config_after (config_of m.old) (moved_by p.now (config_of m.old) (config_of m.old).frames (End pos completion))) }
+    ensures kept { OnErr result (config_of m.new ≡ config_of m.old) }
+    ensures bounded { highest_control m.new.frames.items ≤ length m.new.lists.cells.keys }
+{
+    if m.frames.len() == 1 {
+        let turn = end_main(alloc, p, m, pos, completion)?;
+        Ok(turn)
+    } else {
+        let turn = end_call(alloc, p, m, pos, completion)?;
+        Ok(turn)
+    }
+}
