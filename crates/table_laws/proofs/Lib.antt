@@ -1,3 +1,0 @@
-mod DeclaredNames
-mod QualifiedNames
-pub mod TableNames

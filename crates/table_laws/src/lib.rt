@@ -1,2 +1,0 @@
-//! What holds of the table of classes that the typing of bodies asks for.
-#![tactic(auto)]
