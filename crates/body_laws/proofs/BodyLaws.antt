@@ -9,7 +9,7 @@ use Rattle.java_expression_rules.proofs.Whole.{AreTyped, IsTyped}
 use Rattle.java_typed_expressions.proofs.Goodness.{nil_left, nil_right, nil_second}
 use Rattle.java_typed_statements.specs.StatementCases.{statements_cases}
 use Rattle.java_typed_statements.specs.StatementTrees.{statement_trees}
-use Rattle.java_statement_laws.specs.CatchParameters.{HasCatchTypes, NameClasses}
+use Rattle.java_statement_laws.specs.CatchParameters.{HasCatchTypes}
 use Rattle.java_statement_laws.proofs.Parts.{append_statements_well}
 use Rattle.java_statement_laws.proofs.StatementLaws.{statements_well}
 use Rattle.source_classes.specs.Members.{Environment}
@@ -34,10 +34,10 @@ head_well e b (Some call) none =
     let of_fields = initializers_cases e b.class' (declared_exceptions b) in
     append_statements_well (super_call_statements s call) (initializer_statements e b.class' (declared_exceptions b)) (super_call_well s (locals_typed b) call (nil_left of_call of_fields none)) (initializers_well e b.class' (declared_exceptions b) (nil_right of_call of_fields none))
 
-pub body_well : (e : Environment) → HasCatchTypes e.program → (b : SourceBody) → NameClasses b.body.statements → body_cases e b ≡ [] → AreWellFormedStatements (statements (body_trees e b))
-body_well e catches b named none =
+pub body_well : (e : Environment) → HasCatchTypes e.program → (b : SourceBody) → body_cases e b ≡ [] → AreWellFormedStatements (statements (body_trees e b))
+body_well e catches b none =
     let c = body_context e b in
     let of_parameters = parameters_cases b.body.parameters b.signature.sig.params.items in
     let of_head = head_cases e b b.body.super_call in
     let of_statements = statements_cases c b.body.statements in
-    append_statements_well (head_statements e b b.body.super_call) (statement_trees c b.body.statements) (head_well e b b.body.super_call (nil_second of_parameters of_head of_statements none)) (statements_well c (locals_typed b, catches) b.body.statements named (nil_right (of_parameters ++ of_head) of_statements none))
+    append_statements_well (head_statements e b b.body.super_call) (statement_trees c b.body.statements) (head_well e b b.body.super_call (nil_second of_parameters of_head of_statements none)) (statements_well c (locals_typed b, catches) b.body.statements (nil_right (of_parameters ++ of_head) of_statements none))

@@ -5,10 +5,10 @@ ghost use Rattle.java_typed_trees.specs.StatementTrees.{statements};
 ghost use Rattle.java_typed_trees.specs.WellFormedStatements.{AreWellFormedStatements};
 ghost use Rattle.source_classes.specs.Members.{Environment};
 ghost use Rattle.java_bodies.specs.Bodies.{SourceBody, body_cases, body_trees};
-ghost use Rattle.java_statement_laws.specs.CatchParameters.{HasCatchTypes, NameClasses};
+ghost use Rattle.java_statement_laws.specs.CatchParameters.{HasCatchTypes};
 
 /// The typed trees of a body in which nothing is refused are well-formed, with the super call and the initialisers of fields with
-/// which that of a constructor begins. Any two classes of the program have a least upper bound, and each catch clause names a class.
+/// which that of a constructor begins. Any two classes of the program have a least upper bound.
 pub fn accepted_body_is_well_formed()
-    ensures { (e : Environment) → HasCatchTypes e.program → (b : SourceBody) → NameClasses b.body.statements → body_cases e b ≡ [] → AreWellFormedStatements (statements (body_trees e b)) }
+    ensures { (e : Environment) → HasCatchTypes e.program → (b : SourceBody) → body_cases e b ≡ [] → AreWellFormedStatements (statements (body_trees e b)) }
 {}

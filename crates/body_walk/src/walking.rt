@@ -9,7 +9,7 @@ ghost use Rattle.body_origins.specs.Nodes.{FitsRows, relation_in};
 ghost use Rattle.body_origins.specs.Origins.{origins_of};
 ghost use Rattle.body_origins.specs.Pairs.{IsPairsCause};
 ghost use Rattle.reached_facts.specs.Reading.{AreReachedPairs};
-ghost use Rattle.reached_facts.specs.Steps.{Begins, Leads};
+ghost use Rattle.reached_facts.specs.Steps.{Begins, IsReady, Leads};
 
 use body_origins::body_origins;
 use fact_pool::{Pool, Region};
@@ -49,6 +49,7 @@ pub fn walk_body(
     requires graph { IsGraphOf p.now b (nodes_of graph.now) (arcs_of graph.now) }
     requires live { IsLive pool.old region.now }
     requires empty { list_of pool.old region.now ≡ [] }
+    ensures ready { IfOk result (λ w. IsReady p.now b (nodes_of graph.now) (arcs_of graph.now) w.origins.keys) }
     ensures origins { IfOk result (λ w. w.origins.keys ≡ origins_of p.now b (arcs_of graph.now)) }
     ensures searched { IfOk result (λ w. IsSearched (Begins p.now b w.origins.keys) (Leads p.now b (arcs_of graph.now) w.origins.keys)
         (list_of pool.new region.now) w.visits.visits.keys w.visits.pairs.items w.visits.sources.items (length w.visits.visits.keys)) }

@@ -1,10 +1,11 @@
 //! The passes over the classes, and their table.
 
-ghost use Rattle.std.specs.Prelude.{◌≡◌, [], None, map, IfErr, IfOk};
+ghost use Rattle.std.specs.Prelude.{◌≡◌, [], None, map, All, IfErr, IfOk};
 ghost use Rattle.class_order.specs.Cases.{IsLeast, double_cases, too_many_cases};
 ghost use Rattle.class_order.specs.Core.{AreCore};
 ghost use Rattle.class_order.specs.Declarations.{class_names, declaration_of};
 ghost use Rattle.class_checks.specs.TypeCases.{IsTypeCase};
+ghost use Rattle.table_members.specs.Methods.{HasFewParameters};
 ghost use Rattle.class_table.specs.Passes.{AreFit, IsBehindStop, IsBuilt, IsLaterStop, IsMade, IsTableStop, classes_of};
 ghost use Rattle.class_table.specs.SuperTables.{AreSupers};
 
@@ -60,6 +61,7 @@ fn build_behind_types(
     ensures fit { IfOk result (λ _. AreFit (map declaration_of order.now) core) }
     ensures few { IfOk result (λ _. too_many_cases (map declaration_of order.now) ≡ []) }
     ensures made { IfOk result (λ p. IsMade (map declaration_of order.now) settings.now p) }
+    ensures parameters { IfOk result (λ p. All HasFewParameters p.methods.items) }
     ensures cause { IfErr result (λ stop. IsBehindStop (map declaration_of order.now) core stop) }
 {
     let supers = table_of_supers(alloc, names, core.object, order)?;
@@ -80,6 +82,7 @@ fn build_named(
     requires names { names.now ≡ class_names (map declaration_of order.now) }
     requires single { double_cases (map declaration_of order.now) ≡ [] }
     ensures built { IfOk result (λ p. IsBuilt (map declaration_of order.now) settings.now p) }
+    ensures parameters { IfOk result (λ p. All HasFewParameters p.methods.items) }
     ensures cause { IfErr result (λ stop. IsTableStop (map declaration_of order.now) stop) }
 {
     match check_types(names, order) {
@@ -110,6 +113,7 @@ pub fn build_table(
     settings: &Settings,
 ) -> Result<Program, Stop>
     ensures built { IfOk result (λ p. IsBuilt (classes_of units.now stubs.now settings.now) settings.now p) }
+    ensures parameters { IfOk result (λ p. All HasFewParameters p.methods.items) }
     ensures cause { IfErr result (λ stop. IsTableStop (classes_of units.now stubs.now settings.now) stop) }
 {
     let order = class_order(alloc, settings.core, stubs, units)?;

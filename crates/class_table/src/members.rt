@@ -1,12 +1,12 @@
 //! The members of the table, and of each class the numbers of its own.
 
-ghost use Rattle.std.specs.Prelude.{◌≡◌, ◌≤◌, ◌<◌, ◌^◌, [], length, map, IfOk};
+ghost use Rattle.std.specs.Prelude.{◌≡◌, ◌≤◌, ◌<◌, ◌^◌, [], length, map, All, IfOk};
 ghost use Rattle.std.specs.List.{AllZip};
 ghost use Rattle.rlc_base.specs.Names.{texts};
 ghost use Rattle.class_order.specs.Declarations.{class_names, declaration_of};
 ghost use Rattle.class_checks.specs.TypeCases.{all_type_cases};
 ghost use Rattle.table_members.specs.Fields.{IsField};
-ghost use Rattle.table_members.specs.Methods.{IsMethod};
+ghost use Rattle.table_members.specs.Methods.{HasFewParameters, IsMethod};
 ghost use Rattle.class_table.specs.Numbers.{AreNumbers};
 ghost use Rattle.class_table.specs.Table.{all_fields, all_methods, field_owners, method_owners};
 
@@ -71,7 +71,7 @@ pub fn make_fields(
 ///
 /// # Errors
 ///
-/// Memory may run out. More of them than their numbers reach count as that.
+/// Memory may run out. More of them than their numbers reach count as that, and 2^32 - 1 parameters of one of them and more.
 pub fn make_methods(
     alloc: Global,
     names: &ClassNames,
@@ -82,6 +82,7 @@ pub fn make_methods(
     requires known { all_type_cases names.now (map declaration_of order.now) ≡ [] }
     ensures methods { IfOk result (λ t. AllZip (IsMethod names.now) (all_methods (map declaration_of order.now)) t.methods.items) }
     ensures numbered { IfOk result (λ t. length t.methods.items < 2 ^ 32) }
+    ensures parameters { IfOk result (λ t. All HasFewParameters t.methods.items) }
     ensures rows { IfOk result (λ t. AreNumbers (length order.now) (method_owners (all_methods (map declaration_of order.now))) (texts t.rows.items)) }
     ensures length { IfOk result (λ t. length t.rows.items ≡ length order.now) }
 {

@@ -1,10 +1,11 @@
 //! The table of classes that no pass refuses.
 
-ghost use Rattle.std.specs.Prelude.{◌≡◌, ◌<◌, ◌^◌, [], None, length, map, IfOk};
+ghost use Rattle.std.specs.Prelude.{◌≡◌, ◌<◌, ◌^◌, [], None, length, map, All, IfOk};
 ghost use Rattle.class_order.specs.Cases.{IsLeast};
 ghost use Rattle.class_order.specs.Core.{AreCore};
 ghost use Rattle.class_order.specs.Declarations.{class_names, declaration_of};
 ghost use Rattle.class_checks.specs.TypeCases.{all_type_cases};
+ghost use Rattle.table_members.specs.Methods.{HasFewParameters};
 ghost use Rattle.class_table.specs.Passes.{IsCycle, IsMade};
 ghost use Rattle.class_table.specs.SuperTables.{AreSupers};
 
@@ -55,6 +56,7 @@ pub fn make_table(
     requires acyclic { IsLeast (IsCycle (map declaration_of order.now) core) None }
     ensures core { IfOk result (λ p. p.core ≡ core) }
     ensures made { IfOk result (λ p. IsMade (map declaration_of order.now) settings.now p) }
+    ensures parameters { IfOk result (λ p. All HasFewParameters p.methods.items) }
 {
     let TableFields {
         fields,

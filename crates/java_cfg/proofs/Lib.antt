@@ -4,6 +4,7 @@ pub mod OrderLemmas
 pub mod NumberLemmas
 pub mod GraphLemmas
 pub mod SearchLemmas
-pub mod DeepLemmas
+pub mod SmallLemmas
+pub mod LargeLemmas
 pub mod LinkLemmas
 pub mod RowLemmas

@@ -20,7 +20,7 @@ use Rattle.java_control.specs.Remaining.{Todo, todos}
 use Rattle.java_control.specs.Tables.{IsOrdered, Keeps}
 use Rattle.java_cfg.specs.declared.arc.Arc.{Arc}
 use Rattle.java_cfg.specs.Graphs.{IsArcOf, IsGraphOf, numbers_in, targets_of}
-use Rattle.java_cfg.specs.Deep.{rows_of}
+use Rattle.java_cfg.specs.RowTests.{rows_of}
 use Rattle.java_cfg.specs.Limits.{IsCause, IsSearchCause, ReachesMore, method_place, refusal, too_large}
 use Rattle.java_cfg.specs.Order.{InOrder, counted}
 use Rattle.java_cfg.specs.Reach.{AreOnce}

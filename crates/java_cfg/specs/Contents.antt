@@ -3,7 +3,7 @@ use Rattle.std.specs.Prelude.{List}
 use Rattle.java_control.specs.Remaining.{Todo}
 use Rattle.java_cfg.specs.declared.arc.Arc.{Arc}
 use Rattle.java_cfg.specs.declared.graph.Graph.{Graph}
-use Rattle.java_cfg.specs.Deep.{rows_of}
+use Rattle.java_cfg.specs.RowTests.{rows_of}
 use Rattle.java_cfg.specs.Tables.{controls}
 
 -- the controls that the nodes of a graph stand for

@@ -2,6 +2,7 @@ pub mod Reach
 pub mod Order
 pub mod Graphs
 pub mod Limits
-pub mod Deep
+pub mod SmallTests
+pub mod RowTests
 pub mod Tables
 pub mod Contents

@@ -1,5 +1,5 @@
 -- The limits on a body: how many controls it may reach, and how many places its frames may have.
-use Rattle.std.specs.Prelude.{◌≡◌, ℕ, ◌+◌, ◌-◌, ◌<◌, ◌≤◌, max, Option, Some, None, List, filter, length}
+use Rattle.std.specs.Prelude.{◌≡◌, ℕ, ◌<◌, Option, Some, None, List, filter, length}
 use Rattle.std.specs.List.{All, Contains}
 use Rattle.program_model.specs.declared.kinds.BodyId.{BodyId}
 use Rattle.program_model.specs.declared.program.Program.{Program}
@@ -13,17 +13,10 @@ use Rattle.rlc_base.specs.declared.faults.Refusal.{Refusal}
 use Rattle.rlc_base.specs.declared.faults.Stop.{Stop}
 use Rattle.rlc_base.specs.declared.faults.Stop.TheVariants as stops
 use Rattle.rlc_base.specs.declared.place.Pos.{Pos}
-use Rattle.java_control.specs.declared.action.Action.{Action}
-use Rattle.java_control.specs.declared.action.Action.TheVariants as actions
-use Rattle.java_control.specs.declared.action.Completion.{Completion}
-use Rattle.java_control.specs.declared.action.Completion.TheVariants as completions
-use Rattle.java_control.specs.declared.action.Scope.{Scope}
-use Rattle.java_control.specs.declared.action.Scope.TheVariants as scopes
-use Rattle.java_control.specs.declared.place.Place.{Place}
-use Rattle.java_control.specs.declared.place.Place.TheVariants as places
 use Rattle.java_control.specs.Control.{Step, next_of}
 use Rattle.java_control.specs.Owned.{fields_in, is_owning}
 use Rattle.java_control.specs.Remaining.{Todo, nowhere}
+use Rattle.obligation_facts.specs.SmallActions.{IsSmallAction}
 use Rattle.java_cfg.specs.Graphs.{IsReachable}
 use Rattle.java_cfg.specs.Reach.{AreOnce}
 
@@ -33,44 +26,6 @@ pub record ReachesMore (p : Program) (b : BodyId) (n : ℕ) : Type 0 where
   pub reached : All (IsReachable p b) controls
   pub once : AreOnce controls
   pub more : n < length controls
-
--- the depth of the temp that is the place, and 0 for another place
-abbrev pub place_depth : Place → ℕ
-place_depth (places.Temp d) = d
-place_depth _ = 0
-
--- the depth of the temp that holds the completion's value, and 0 where it has none
-abbrev pub completion_depth : Completion → ℕ
-completion_depth (completions.ReturnValue d pos) = d
-completion_depth (completions.Throw d t pos) = d
-completion_depth _ = 0
-
-abbrev pub scope_depth : Scope → ℕ
-scope_depth (scopes.Temp d) = d
-scope_depth (scopes.TempsAbove d) = d
-scope_depth _ = 0
-
--- the greatest depth of a temp that the action names, and 0 where it names none. Operands stand one behind another from
--- t(d) on, and those of `New` from t(d + 1) on
-abbrev pub deepest : Action → ℕ
-deepest actions.Skip = 0
-deepest (actions.Copy x y) = max (place_depth x) (place_depth y)
-deepest (actions.Move x y) = max (place_depth x) (place_depth y)
-deepest (actions.Plain x v) = place_depth x
-deepest (actions.Drop x) = scope_depth x
-deepest (actions.Settle b c) = max b (completion_depth c)
-deepest (actions.Enter clause x b d) = max b d
-deepest (actions.Test d) = d
-deepest (actions.Op k d n) = max d (d + n - 1)
-deepest (actions.Get f d through_this) = d
-deepest (actions.Put f d through_this) = d + 1
-deepest (actions.Cast t d) = d
-deepest (actions.PutOwn f d) = d
-deepest (actions.Call m d n form) = max d (d + n - 1)
-deepest (actions.New m d n) = d + n
-deepest (actions.Super m d n) = max d (d + n - 1)
-deepest (actions.Raise d c) = d
-deepest (actions.End c) = completion_depth c
 
 abbrev pub variables_in : Option Body → ℕ
 variables_in None = 0
@@ -108,8 +63,11 @@ method_place p b = place_in (method_of p b)
 pub data HasTooManyPlaces (p : Program) (b : BodyId) : Type 0 where
   variables : 160 < variable_count p b → HasTooManyPlaces p b
   fields : 16 < owning_count p b → HasTooManyPlaces p b
-  -- a step of a reachable control names a temp of depth 64 or more
-  temps : (control : List Todo) (step : Step) → IsReachable p b control → Contains (next_of p b control) step → 64 ≤ deepest step.action → HasTooManyPlaces p b
+  -- a step of a reachable control names a place past those that a set of places holds: a temp of depth 64 or more, a
+  -- variable with a number from 160 on, or an owning field from number 16 on. In a body of a valid program a variable that
+  -- is named is one of the body's, and an owning field that is named is one of its class's: there, where the cases above
+  -- don't hold, it is a temp
+  steps : (control : List Todo) (step : Step) → IsReachable p b control → Contains (next_of p b control) step → (IsSmallAction p step.action → ⊥) → HasTooManyPlaces p b
 
 abbrev pub refusal : Code → Pos → Refusal
 refusal code pos = record { code = code; pos = pos }

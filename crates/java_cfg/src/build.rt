@@ -6,10 +6,9 @@ ghost use Rattle.java_cfg.specs.Graphs.{IsGraphOf};
 ghost use Rattle.java_cfg.specs.Limits.{HasTooManyPlaces, IsCause, IsSearchCause, ReachesMore};
 
 use crate::graph::Graph;
-use crate::limits::{
-    MAX_OWNING_FIELDS, MAX_VARIABLES, any_deep, method_place, owning_count, variable_count,
-};
+use crate::limits::{MAX_OWNING_FIELDS, MAX_VARIABLES, method_place, owning_count, variable_count};
 use crate::link::link;
+use crate::small_actions::any_large;
 use indexmap::IndexSet;
 use java_control::{Lists, next, start};
 use program_model::{BodyId, Program};
@@ -48,7 +47,7 @@ fn has_too_many_places(p: &Program, b: BodyId, graph: &Graph) -> bool
 {
     variable_count(p, b) > MAX_VARIABLES
         || owning_count(p, b) > MAX_OWNING_FIELDS
-        || any_deep(&graph.rows)
+        || any_large(p, &graph.rows)
 }
 
 /// The control-flow graph of a body: its nodes stand for the controls that the control relation reaches from the body's
@@ -59,7 +58,10 @@ fn has_too_many_places(p: &Program, b: BodyId, graph: &Graph) -> bool
 ///
 /// `TooMuch` at the place of the body's method: code 63 where more than 65,536 controls are reachable, and else code 64
 /// where the body has more than 160 parameters and locals, its class more than 16 fields marked `@Owning`, or an action of
-/// a reachable control names a temp of depth 64 or more. `NoMemory` where memory runs out.
+/// a reachable control names a temp of depth 64 or more, a variable with a number from 160 on, or an owning field from
+/// number 16 on. In a body of a valid program the last two come only with the first two limits passed: there a variable
+/// that is named is one of the body's, and an owning field that is named is one of its class's. `NoMemory` where memory
+/// runs out.
 pub fn build_graph(alloc: Global, p: &Program, b: BodyId) -> Result<Graph, Stop>
     ensures graph { IfOk result (λ g. IsGraphOf p.now b (nodes_of g) (arcs_of g)) }
     ensures small { IfOk result (λ _. ReachesMore p.now b 65536 → ⊥) }

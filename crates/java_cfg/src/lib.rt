@@ -7,8 +7,9 @@ mod contents;
 mod graph;
 mod limits;
 mod link;
+mod small_actions;
 
 pub use arc::Arc;
 pub use build::build_graph;
 pub use graph::Graph;
-pub use limits::{MAX_NODES, MAX_OWNING_FIELDS, MAX_TEMPS, MAX_VARIABLES, deepest};
+pub use limits::{MAX_NODES, MAX_OWNING_FIELDS, MAX_TEMPS, MAX_VARIABLES, method_place};

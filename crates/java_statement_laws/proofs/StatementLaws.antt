@@ -29,7 +29,7 @@ use Rattle.java_typed_statements.specs.StatementCases.{block_cases, catches_case
 use Rattle.java_typed_statements.specs.StatementCompletions.{finally_completion}
 use Rattle.java_typed_statements.specs.StatementContexts.{after, behind_start, catch_context, catches_context, else_context, finally_context, for_body_context, new_locals, next_catch_context, resources_context, try_block_context}
 use Rattle.java_typed_statements.specs.StatementTrees.{block_tree, catch_forms, catch_trees, else_tree, finally_tree, has_else, has_finally, statement_tree, statement_trees}
-use Rattle.java_statement_laws.specs.CatchParameters.{BlockNamesClasses, ClausesNameClasses, ElseNamesClasses, FinallyNamesClasses, HasCatchTypes, NameClasses, NamesClasses}
+use Rattle.java_statement_laws.specs.CatchParameters.{HasCatchTypes}
 use Rattle.java_statement_laws.proofs.CatchLaws.{parameter_known}
 use Rattle.java_statement_laws.proofs.DeclarationLaws.{declaration_count, declaration_typed, declaration_well}
 use Rattle.java_statement_laws.proofs.HeadLaws.{all_well, optional_count, optional_well, required_well, returned_count, returned_well, start_count, start_typed, start_well, thrown_well}
@@ -74,10 +74,10 @@ after_typed c typed (syntax.Throw e place) none = with_none (locals_of c) typed
 after_typed c typed (syntax.Break place) none = with_none (locals_of c) typed
 after_typed c typed (syntax.Continue place) none = with_none (locals_of c) typed
 
-parameter_typed : (c : StatementContext) → IsTypedContext c → (modifiers : List ModifierTree) (names : List Name) (name : Name) (place : Pos) → 1 ≤ length names → clause_cases c names name place ≡ [] → IsTypedContext (catch_context c modifiers names name)
-parameter_typed c h modifiers names name place some none =
+parameter_typed : (c : StatementContext) → IsTypedContext c → (modifiers : List ModifierTree) (names : List Name) (name : Name) (place : Pos) → clause_cases c names name place ≡ [] → IsTypedContext (catch_context c modifiers names name)
+parameter_typed c h modifiers names name place none =
     let t = parameter_type c.surroundings names in
-    let known = parameter_known c.surroundings h.1 place names some (nil_left (alternatives_cases c.surroundings place names) (double_cases place (locals_of c) name.text) none) in
+    let known = parameter_known c.surroundings h.1 place names (nil_left (alternatives_cases c.surroundings place names) (double_cases place (locals_of c) name.text) none) in
     (with_one_typed (locals_of c) (local_variable c.next_variable name.text t (is_final_parameter modifiers names) None) h.0 (known_is_typed t known), h.1)
 
 -- ---- `for`
@@ -103,25 +103,25 @@ for_well c typed start place e updates none_start none_condition none_updates =
 -- ---- all statements
 
 mutual
-  statement_well : (c : StatementContext) → IsTypedContext c → (t : StmtTree) → NamesClasses t → statement_cases c t ≡ [] → IsWellFormedStatement (statement_tree c t)
-  statement_well c h (syntax.BlockOf b) named none = block_well c h b named none
-  statement_well c h (syntax.Empty place) named none = ((refl, refl), tt, tt)
-  statement_well c h (syntax.LocalOf l place) named none = ((declaration_count c.next_variable c l place, refl), declaration_well c h.0 l place none, tt)
-  statement_well c h (syntax.ExpressionOf e place) named none = ((refl, refl), (well_typed c.surroundings h.0 None e none, tt), tt)
-  statement_well c h (syntax.If e a b place) named none =
+  statement_well : (c : StatementContext) → IsTypedContext c → (t : StmtTree) → statement_cases c t ≡ [] → IsWellFormedStatement (statement_tree c t)
+  statement_well c h (syntax.BlockOf b) none = block_well c h b none
+  statement_well c h (syntax.Empty place) none = ((refl, refl), tt, tt)
+  statement_well c h (syntax.LocalOf l place) none = ((declaration_count c.next_variable c l place, refl), declaration_well c h.0 l place none, tt)
+  statement_well c h (syntax.ExpressionOf e place) none = ((refl, refl), (well_typed c.surroundings h.0 None e none, tt), tt)
+  statement_well c h (syntax.If e a b place) none =
       let condition = required_cases c.surroundings e place in
       let then' = statement_cases c a in
       let otherwise = else_cases (else_context c a) b in
-      ((refl, ap (λ n. 1 + n) (else_count (else_context c a) b)), required_well c.surroundings h.0 e place (nil_first condition then' otherwise none), (statement_well c h a named.0 (nil_second condition then' otherwise none), else_well (else_context c a) h b named.1 (nil_right (condition ++ then') otherwise none)))
-  statement_well c h (syntax.While e body place) named none =
+      ((refl, ap (λ n. 1 + n) (else_count (else_context c a) b)), required_well c.surroundings h.0 e place (nil_first condition then' otherwise none), (statement_well c h a (nil_second condition then' otherwise none), else_well (else_context c a) h b (nil_right (condition ++ then') otherwise none)))
+  statement_well c h (syntax.While e body place) none =
       let condition = required_cases c.surroundings e place in
       let inner = statement_cases (in_a_loop c) body in
-      ((refl, refl), required_well c.surroundings h.0 e place (nil_left condition inner none), (statement_well (in_a_loop c) h body named (nil_right condition inner none), tt))
-  statement_well c h (syntax.DoWhile body e place) named none =
+      ((refl, refl), required_well c.surroundings h.0 e place (nil_left condition inner none), (statement_well (in_a_loop c) h body (nil_right condition inner none), tt))
+  statement_well c h (syntax.DoWhile body e place) none =
       let condition = required_cases c.surroundings e place in
       let inner = statement_cases (in_a_loop c) body in
-      ((refl, refl), required_well c.surroundings h.0 e place (nil_left condition inner none), (statement_well (in_a_loop c) h body named (nil_right condition inner none), tt))
-  statement_well c h (syntax.For start e updates body place) named none =
+      ((refl, refl), required_well c.surroundings h.0 e place (nil_left condition inner none), (statement_well (in_a_loop c) h body (nil_right condition inner none), tt))
+  statement_well c h (syntax.For start e updates body place) none =
       let s = (behind_start c start place).surroundings in
       let first = start_cases c start place in
       let condition = optional_cases s e place in
@@ -129,8 +129,8 @@ mutual
       let inner = statement_cases (for_body_context c start place) body in
       let heads = nil_left (first ++ condition ++ steps) inner none in
       let none_start = nil_first first condition steps heads in
-      ((for_takes c start place e updates, refl), for_well c h.0 start place e updates none_start (nil_second first condition steps heads) (nil_right (first ++ condition) steps heads), (statement_well (for_body_context c start place) (start_typed c h.0 start place none_start, h.1) body named (nil_right (first ++ condition ++ steps) inner none), tt))
-  statement_well c h (syntax.Try rs b cs last place) named none =
+      ((for_takes c start place e updates, refl), for_well c h.0 start place e updates none_start (nil_second first condition steps heads) (nil_right (first ++ condition) steps heads), (statement_well (for_body_context c start place) (start_typed c h.0 start place none_start, h.1) body (nil_right (first ++ condition ++ steps) inner none), tt))
+  statement_well c h (syntax.Try rs b cs last place) none =
       let f : Completion = finally_completion (finally_context c rs b cs) last in
       let of_finally = finally_cases (finally_context c rs b cs) last in
       let of_resources = resources_cases (resources_context c f cs) rs place in
@@ -141,36 +141,36 @@ mutual
       let catch_blocks = catch_trees (catches_context c f rs b) cs in
       let finally_block = finally_tree (finally_context c rs b cs) last in
       let takes = one_more (count_statements (statements (catch_blocks ++ finally_block))) (count_statements (statements catch_blocks)) (count_statements (statements finally_block)) (length (catch_forms (catches_context c f rs b) cs)) (one_if (has_finally last)) (count_statements_append catch_blocks finally_block) (catches_count (catches_context c f rs b) cs) (finally_count (finally_context c rs b cs) last) in
-      let block = block_well (try_block_context c f rs cs) (resources_typed (resources_context c f cs) h.0 rs place none_resources, h.1) b named.0 (nil_right (of_finally ++ of_resources) of_block front) in
-      let catches = catches_well (catches_context c f rs b) h cs place named.1 (nil_right (of_finally ++ of_resources ++ of_block) of_catches none) in
-      let last_block = finally_well (finally_context c rs b cs) h last named.2 (nil_first of_finally of_resources of_block front) in
+      let block = block_well (try_block_context c f rs cs) (resources_typed (resources_context c f cs) h.0 rs place none_resources, h.1) b (nil_right (of_finally ++ of_resources) of_block front) in
+      let catches = catches_well (catches_context c f rs b) h cs place (nil_right (of_finally ++ of_resources ++ of_block) of_catches none) in
+      let last_block = finally_well (finally_context c rs b cs) h last (nil_first of_finally of_resources of_block front) in
       ((resources_count (resources_context c f cs) rs place none_resources, takes), resources_well (resources_context c f cs) h.0 rs place none_resources, (block, append_statements_well catch_blocks finally_block catches last_block))
-  statement_well c h (syntax.Return e place) named none = ((returned_count c.surroundings c.result e, refl), returned_well c.surroundings h.0 c.result e place none, tt)
-  statement_well c h (syntax.Throw e place) named none = ((refl, refl), thrown_well c.surroundings h.0 e place none, tt)
-  statement_well c h (syntax.Break place) named none = ((refl, refl), tt, tt)
-  statement_well c h (syntax.Continue place) named none = ((refl, refl), tt, tt)
+  statement_well c h (syntax.Return e place) none = ((returned_count c.surroundings c.result e, refl), returned_well c.surroundings h.0 c.result e place none, tt)
+  statement_well c h (syntax.Throw e place) none = ((refl, refl), thrown_well c.surroundings h.0 e place none, tt)
+  statement_well c h (syntax.Break place) none = ((refl, refl), tt, tt)
+  statement_well c h (syntax.Continue place) none = ((refl, refl), tt, tt)
 
-  block_well : (c : StatementContext) → IsTypedContext c → (b : BlockTree) → BlockNamesClasses b → block_cases c b ≡ [] → IsWellFormedStatement (block_tree c b)
-  block_well c h (Braces ts place end) named none = (refl, tt, statements_well c h ts named none)
+  block_well : (c : StatementContext) → IsTypedContext c → (b : BlockTree) → block_cases c b ≡ [] → IsWellFormedStatement (block_tree c b)
+  block_well c h (Braces ts place end) none = (refl, tt, statements_well c h ts none)
 
-  pub statements_well : (c : StatementContext) → IsTypedContext c → (ts : StmtTrees) → NameClasses ts → statements_cases c ts ≡ [] → AreWellFormedStatements (statements (statement_trees c ts))
-  statements_well c h no_statement named none = tt
-  statements_well c h (and_statement t ts) named none =
+  pub statements_well : (c : StatementContext) → IsTypedContext c → (ts : StmtTrees) → statements_cases c ts ≡ [] → AreWellFormedStatements (statements (statement_trees c ts))
+  statements_well c h no_statement none = tt
+  statements_well c h (and_statement t ts) none =
       let none_first = nil_left (statement_cases c t) (statements_cases (after c t) ts) none in
-      (statement_well c h t named.0 none_first, statements_well (after c t) (after_typed c h.0 t none_first, h.1) ts named.1 (nil_right (statement_cases c t) (statements_cases (after c t) ts) none))
+      (statement_well c h t none_first, statements_well (after c t) (after_typed c h.0 t none_first, h.1) ts (nil_right (statement_cases c t) (statements_cases (after c t) ts) none))
 
-  catches_well : (c : StatementContext) → IsTypedContext c → (cs : CatchTrees) (place : Pos) → ClausesNameClasses cs → catches_cases c cs place ≡ [] → AreWellFormedStatements (statements (catch_trees c cs))
-  catches_well c h no_catch place named none = tt
-  catches_well c h (and_catch modifiers names name b more) place named none =
+  catches_well : (c : StatementContext) → IsTypedContext c → (cs : CatchTrees) (place : Pos) → catches_cases c cs place ≡ [] → AreWellFormedStatements (statements (catch_trees c cs))
+  catches_well c h no_catch place none = tt
+  catches_well c h (and_catch modifiers names name b more) place none =
       let clause = clause_cases c names name place in
       let inner = block_cases (catch_context c modifiers names name) b in
       let rest = catches_cases (next_catch_context c b) more place in
-      (block_well (catch_context c modifiers names name) (parameter_typed c h modifiers names name place named.0 (nil_first clause inner rest none)) b named.1 (nil_second clause inner rest none), catches_well (next_catch_context c b) h more place named.2 (nil_right (clause ++ inner) rest none))
+      (block_well (catch_context c modifiers names name) (parameter_typed c h modifiers names name place (nil_first clause inner rest none)) b (nil_second clause inner rest none), catches_well (next_catch_context c b) h more place (nil_right (clause ++ inner) rest none))
 
-  else_well : (c : StatementContext) → IsTypedContext c → (b : MaybeStmt) → ElseNamesClasses b → else_cases c b ≡ [] → AreWellFormedStatements (statements (else_tree c b))
-  else_well c h no_else named none = tt
-  else_well c h (some_else t) named none = (statement_well c h t named none, tt)
+  else_well : (c : StatementContext) → IsTypedContext c → (b : MaybeStmt) → else_cases c b ≡ [] → AreWellFormedStatements (statements (else_tree c b))
+  else_well c h no_else none = tt
+  else_well c h (some_else t) none = (statement_well c h t none, tt)
 
-  finally_well : (c : StatementContext) → IsTypedContext c → (b : MaybeBlock) → FinallyNamesClasses b → finally_cases c b ≡ [] → AreWellFormedStatements (statements (finally_tree c b))
-  finally_well c h no_finally named none = tt
-  finally_well c h (some_finally b) named none = (block_well c h b named none, tt)
+  finally_well : (c : StatementContext) → IsTypedContext c → (b : MaybeBlock) → finally_cases c b ≡ [] → AreWellFormedStatements (statements (finally_tree c b))
+  finally_well c h no_finally none = tt
+  finally_well c h (some_finally b) none = (block_well c h b none, tt)

@@ -10,13 +10,13 @@ ghost use Rattle.java_typed_expressions.specs.Accepted.{HaveTypes};
 ghost use Rattle.java_statement_rules.specs.Contexts.{StatementContext, locals_of, program_of};
 ghost use Rattle.java_typed_statements.specs.StatementCases.{statements_cases};
 ghost use Rattle.java_typed_statements.specs.StatementTrees.{statement_trees};
-ghost use Rattle.java_statement_laws.specs.CatchParameters.{HasCatchTypes, NameClasses};
+ghost use Rattle.java_statement_laws.specs.CatchParameters.{HasCatchTypes};
 
 /// The typed trees of statements in which nothing is refused are well-formed: each statement and expression in them is typed, and
-/// has the parts that its form takes. The variables in scope have types, any two classes of the program have a least upper bound,
-/// and each catch clause names a class.
+/// has the parts that its form takes. The variables in scope have types, and any two classes of the program have a least upper
+/// bound.
 pub fn accepted_statements_are_well_formed()
-    ensures { (c : StatementContext) → HaveTypes (locals_of c) → HasCatchTypes (program_of c) → (ts : StmtTrees) → NameClasses ts → statements_cases c ts ≡ [] → AreWellFormedStatements (statements (statement_trees c ts)) }
+    ensures { (c : StatementContext) → HaveTypes (locals_of c) → HasCatchTypes (program_of c) → (ts : StmtTrees) → statements_cases c ts ≡ [] → AreWellFormedStatements (statements (statement_trees c ts)) }
 {}
 
 /// Any two classes of a valid program have a least upper bound (JLS 4.10.4), which the parameter of a catch clause over several

@@ -43,8 +43,17 @@ exception_cases p place (Some c) = unless (is_exception_class p c) place
 abbrev pub alternative_cases : Surroundings → Pos → Name → List Refusal
 alternative_cases s place n = unknown_name_cases (is_some (class_of_name s n.text)) n.pos ++ exception_cases s.context.program place (class_of_name s n.text)
 
+abbrev pub each_alternative_cases : Surroundings → Pos → List Name → List Refusal
+each_alternative_cases s place names = flat_map (alternative_cases s place) names
+
+-- a clause names a class at least
+abbrev pub has_alternative : List Name → Bool
+has_alternative [] = false
+has_alternative (n ∷ ns) = true
+
+-- the refusals of all alternatives; one that names none is refused at the `try`
 abbrev pub alternatives_cases : Surroundings → Pos → List Name → List Refusal
-alternatives_cases s place names = flat_map (alternative_cases s place) names
+alternatives_cases s place names = unless (has_alternative names) place ++ each_alternative_cases s place names
 
 -- ---- what a clause catches
 

@@ -7,7 +7,7 @@ ghost use Rattle.program_model.specs.Lookups.{optional};
 ghost use Rattle.java_syntax.specs.AnnotationTrees.{modifier_of};
 ghost use Rattle.java_expression_rules.specs.Names.{class_of_name};
 ghost use Rattle.java_expression_rules.specs.Surroundings.{surroundings_of};
-ghost use Rattle.java_statement_rules.specs.CatchClauses.{alternative_cases, alternatives_cases, caught_by, caught_class, caught_classes, classes_named, exception_cases, has_several, if_exception, is_exception_class, is_final_parameter, joined_class, joined_classes, or_throwable, parameter_type};
+ghost use Rattle.java_statement_rules.specs.CatchClauses.{alternative_cases, alternatives_cases, caught_by, caught_class, caught_classes, classes_named, each_alternative_cases, exception_cases, has_alternative, has_several, if_exception, is_exception_class, is_final_parameter, joined_class, joined_classes, or_throwable, parameter_type};
 
 use crate::statements::count_unless;
 use crate::variables::has_final;
@@ -71,8 +71,28 @@ fn count_alternative(
     count_exception(scope.scope.program, pos, class, refusals)
 }
 
+fn count_each_alternative(
+    scope: &BodyScope,
+    pos: Pos,
+    names: &[Name],
+    refusals: &mut Vec<Refusal>,
+) -> Result<(), NoMemory>
+    ensures { OnOk result (refusals.new.items ≡ refusals.old.items ++ each_alternative_cases (surroundings_of scope.now) pos names.now) }
+{
+    for name in names {
+        count_alternative(scope, pos, name, refusals)?;
+    }
+    Ok(())
+}
+
+fn has_alternative(names: &[Name]) -> bool
+    ensures { result ≡ has_alternative names.now }
+{
+    !names.is_empty()
+}
+
 /// Counts the refusals of the alternatives of a clause: of a name that means no class, and, at the `try`, of a class that is
-/// none of exceptions.
+/// none of exceptions, and of a clause that names no class.
 pub fn count_alternatives(
     scope: &BodyScope,
     pos: Pos,
@@ -81,10 +101,8 @@ pub fn count_alternatives(
 ) -> Result<(), NoMemory>
     ensures { OnOk result (refusals.new.items ≡ refusals.old.items ++ alternatives_cases (surroundings_of scope.now) pos names.now) }
 {
-    for name in names {
-        count_alternative(scope, pos, name, refusals)?;
-    }
-    Ok(())
+    count_unless(has_alternative(names), pos, refusals)?;
+    count_each_alternative(scope, pos, names, refusals)
 }
 
 fn or_throwable(p: &Program, class: Option<ClassId>) -> ClassId

@@ -18,7 +18,7 @@ use Rattle.obligation_facts.specs.Facts.{Names}
 use Rattle.flow_rules.specs.Paths.{Faulty}
 use Rattle.reached_pairs.specs.declared.visit.Visit.{Visit}
 use Rattle.body_origins.specs.Nodes.{relation_in}
-use Rattle.body_faults.specs.Breaches.{AreBreaches}
+use Rattle.body_faults.specs.Breaches.{AreBreaches, IsFirstBreach}
 use Rattle.body_faults.specs.Broken.{same_breach}
 use Rattle.body_faults.specs.declared.breach.Breach.{Breach}
 use Rattle.body_faults.specs.declared.breach.Breached.{Breached}
@@ -26,6 +26,7 @@ use Rattle.body_faults.proofs.JoinLaws.{exact_breach, same_self}
 use Rattle.fault_order.specs.Order.{order_number}
 use Rattle.fault_order.specs.declared.fault.FaultAt.{FaultAt}
 use Rattle.obligation_flow.specs.Faults.{AreFaultsOf, AreNamed, breach_of, fault_of, order_of}
+use Rattle.obligation_flow.specs.Traces.{AreTracedFaults}
 use Rattle.obligation_flow.specs.declared.faults.TracedFault.{TracedFault}
 use Rattle.obligation_flow.proofs.OnceLaws.{permuted_once, stands_permuted}
 
@@ -100,7 +101,7 @@ module _ (p : Program) (b : BodyId) (rows : List (List Arc)) (origins : List Ori
       ordered_once i j other.0.breach (at_map key_of ordered i one.0 one.1.0 ∙ ap Some key) (at_map key_of ordered j other.0 other.1.0)
 
   -- the faults in their order are those of the body
-  pub ordered_faults : AreFaultsOf p b (relation_in rows) (map fault_of ordered)
+  ordered_faults : AreFaultsOf p b (relation_in rows) (map fault_of ordered)
   ordered_faults = record {
     derived = λ i x at. (let one = map_at fault_of ordered i x at in
         let first = placed i one.0 one.1.0 in
@@ -112,3 +113,13 @@ module _ (p : Program) (b : BodyId) (rows : List (List Arc)) (origins : List Ori
     once = fault_once;
     sorted = nondecreasing_map fault_of order_number ordered order;
   }
+
+  ordered_named : AreNamed origins ordered
+  ordered_named i t at = let first = placed i t at in named first.0 t first.1
+
+  ordered_first : (i : ℕ) (t : TracedFault) → IsAt ordered i t → IsFirstBreach p b rows origins facts visits (breach_of t)
+  ordered_first i t at = let first = placed i t at in are.first first.0 (breach_of t) (entry first.0 t first.1)
+
+  -- and each is told with the first visit from which a step breaks its rule
+  pub ordered_traced : AreTracedFaults p b rows origins facts visits ordered
+  ordered_traced = record { faults = ordered_faults; named = ordered_named; first = ordered_first }

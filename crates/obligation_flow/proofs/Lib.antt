@@ -1,3 +1,6 @@
+pub mod ControlLaws
 pub mod FaultLaws
+pub mod FewLaws
 pub mod ListedLaws
 pub mod OnceLaws
+pub mod TraceLaws

@@ -6,12 +6,12 @@ ghost use Rattle.breadth_first.specs.Searches.{IsAt};
 ghost use Rattle.fact_pool.specs.Regions.{list_of};
 ghost use Rattle.fact_search.specs.Searched.{IsSearched};
 ghost use Rattle.java_cfg.specs.Contents.{arcs_of, nodes_of};
-ghost use Rattle.body_origins.specs.Nodes.{relation_in};
 ghost use Rattle.body_origins.specs.Origins.{origins_of};
 ghost use Rattle.reached_facts.specs.Steps.{Begins, IsReady, Leads};
 ghost use Rattle.body_faults.specs.declared.breach.Breach.{Breach as DeclaredBreach};
 ghost use Rattle.body_faults.specs.declared.breach.Breached.{Breached as DeclaredBreached};
-ghost use Rattle.obligation_flow.specs.Faults.{AreNamed, AreFaultsOf, breach_of, fault_of, order_of};
+ghost use Rattle.obligation_flow.specs.Faults.{AreNamed, breach_of, fault_of, order_of};
+ghost use Rattle.obligation_flow.specs.Traces.{AreTracedFaults};
 
 use body_faults::{Breach, Breached, body_breaches};
 use fact_pool::{Pool, Region};
@@ -77,7 +77,7 @@ fn sort_traced(faults: &mut Vec<TracedFault>) -> Result<(), NoMemory>
 
 /// The faults of a body, in the order of reports: each origin, rule and place once for which some path through the body
 /// breaks the rule, with all names that are missing on some such path. The search of the body has come to its end.
-pub fn body_faults(
+pub(crate) fn body_faults(
     alloc: Global,
     flow: &BodyFlow,
     visits: &Visits,
@@ -88,7 +88,7 @@ pub fn body_faults(
     requires origins { flow.now.origins.now.keys ≡ origins_of flow.now.program.now flow.now.body (arcs_of flow.now.graph.now) }
     requires searched { IsSearched (Begins flow.now.program.now flow.now.body flow.now.origins.now.keys) (Leads flow.now.program.now flow.now.body (arcs_of flow.now.graph.now) flow.now.origins.now.keys)
         (list_of pool.now region.now) visits.now.visits.keys visits.now.pairs.items visits.now.sources.items (length visits.now.visits.keys) }
-    ensures { IfOk result (λ v. AreFaultsOf flow.now.program.now flow.now.body (relation_in (arcs_of flow.now.graph.now)) (map fault_of v.items)) }
+    ensures { IfOk result (λ v. AreTracedFaults flow.now.program.now flow.now.body (arcs_of flow.now.graph.now) flow.now.origins.now.keys (list_of pool.now region.now) visits.now.visits.keys v.items) }
 {
     let breaches = body_breaches(alloc, flow, visits, pool, region)?;
     let mut faults = all_faults(alloc, flow.origins, &breaches)?;

@@ -1,12 +1,3 @@
-pub mod Verdicts
-pub mod DoubleLaws
-pub mod EachLaws
-pub mod LookupLaws
-pub mod LoopLaws
-pub mod NameLaws
-pub mod NodeLaws
-pub mod NumberLaws
-pub mod ProgramLaws
-pub mod StatementLaws
-pub mod TextLaws
-pub mod UnitLaws
+mod Headlines
+mod ReadFaults
+mod RequestLaws

@@ -1,10 +1,2 @@
 pub mod Answers
-pub mod Choices
-pub mod Doubles
-pub mod Elaboration
-pub mod FirstLanguage
-pub mod FirstTrees
-pub mod Status
-pub mod Texts
-pub mod Typing
-pub mod Words
+pub mod Headline

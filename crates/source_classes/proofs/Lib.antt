@@ -1,3 +1,4 @@
 pub mod ClassLemmas
 pub mod MemberLemmas
+pub mod NameLemmas
 pub mod ParameterLemmas

@@ -35,16 +35,22 @@ source_classes p units = numbered_from (length (library_classes p)) (declaration
 
 -- ---- names
 
--- what stands behind the last dot of a qualified name (JLS 6.2); the code of `.` is 46
+-- what stands behind the last dot of a text, and else what is found so far; the code of `.` is 46
 abbrev pub behind_last_dot : List ℕ → List ℕ → List ℕ
 behind_last_dot found [] = found
 behind_last_dot found (b ∷ bs) = behind_last_dot (cond (nat_eq b 46) bs found) bs
 
-abbrev pub simple_name : List ℕ → List ℕ
-simple_name name = behind_last_dot name name
-
+-- the package of a qualified name (JLS 6.2): what stands in front of its last dot
 abbrev pub package_name : List ℕ → List ℕ
-package_name name = take (length name - (length (simple_name name) + 1)) name
+package_name name = take (length name - (length (behind_last_dot name name) + 1)) name
+
+-- the simple name in a package, which is the whole name where that is empty
+abbrev pub simple_in : List ℕ → List ℕ → List ℕ
+simple_in [] name = name
+simple_in (b ∷ bs) name = behind_last_dot name name
+
+abbrev pub simple_name : List ℕ → List ℕ
+simple_name name = simple_in (package_name name) name
 
 -- a class of a stub by its name; no source file has the unit's number
 abbrev pub library_name : ℕ → Class → ClassName

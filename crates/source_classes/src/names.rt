@@ -3,7 +3,7 @@
 ghost use Rattle.std.specs.Prelude.{◌≡◌, ◌++◌, ◌≤◌, ◌∷◌, [], drop, length, map, if◌then◌else◌, IfOk, OnOk};
 ghost use Rattle.class_names.specs.ClassNames.{doubles};
 ghost use Rattle.class_order.specs.Declarations.{class_name_of, class_names, declaration_of};
-ghost use Rattle.source_classes.specs.SourceClasses.{all_names, library_classes, library_name, package_name, simple_name};
+ghost use Rattle.source_classes.specs.SourceClasses.{all_names, behind_last_dot, library_classes, library_name, package_name, simple_name};
 
 use class_names::{ClassName, ClassNames, Indexed};
 use class_order::{Declared, class_order};
@@ -12,10 +12,10 @@ use program_model::{Class, Program};
 use rlc_base::{NoMemory, Text};
 use std::alloc::Global;
 
-// Where the simple name begins in a qualified name (JLS 6.2): behind the last dot.
-fn simple_start(name: &[u8]) -> usize
+// Where what stands behind the last dot of a name begins: at 0 where it has no dot.
+fn last_part_start(name: &[u8]) -> usize
     ensures within { result ≤ length name.now }
-    ensures simple { drop result name.now ≡ simple_name name.now }
+    ensures behind { drop result name.now ≡ behind_last_dot name.now name.now }
 {
     let mut start = 0;
     for (i, byte) in name.iter().enumerate() {
@@ -24,6 +24,23 @@ fn simple_start(name: &[u8]) -> usize
         }
     }
     start
+}
+
+// The package of a qualified name (JLS 6.2): what stands in front of its last dot.
+fn package_name(name: &[u8]) -> &[u8]
+    ensures { result.now ≡ package_name name.now }
+{
+    let start = last_part_start(name);
+    &name[..start.saturating_sub(1)]
+}
+
+// The simple name of a qualified name (JLS 6.2): what stands behind the dot of its package, and the whole name where that is empty.
+#[tactic(auto, using(crate::proofs::NameLemmas::simple_behind, crate::proofs::NameLemmas::simple_whole))]
+fn simple_name(name: &[u8]) -> &[u8]
+    ensures { result.now ≡ simple_name name.now }
+{
+    let start = last_part_start(name);
+    if start > 1 { &name[start..] } else { name }
 }
 
 fn text(alloc: Global, bytes: &[u8]) -> Result<Text, NoMemory>
@@ -37,10 +54,9 @@ fn library_name(alloc: Global, unit: usize, class: &Class) -> Result<ClassName, 
     ensures { IfOk result (λ k. k ≡ library_name unit class.now) }
 {
     let name = class.name.bytes();
-    let start = simple_start(name);
     Ok(ClassName {
-        package: text(alloc, &name[..start.saturating_sub(1)])?,
-        simple: text(alloc, &name[start..])?,
+        package: text(alloc, package_name(name))?,
+        simple: text(alloc, simple_name(name))?,
         unit,
         library: true,
     })

@@ -1,6 +1,6 @@
 -- The methods, constructors and constants of the table by their declarations, without their bodies (JLS 8.4, 8.8). Effective
 -- signatures come later.
-use Rattle.std.specs.Prelude.{◌≡◌, false, Option, Some, None, IsSome, List, [], map, All}
+use Rattle.std.specs.Prelude.{◌≡◌, ◌<◌, ◌-◌, ◌^◌, false, Option, Some, None, IsSome, List, [], length, map, All}
 use Rattle.std.specs.List.{AllZip}
 use Rattle.java_syntax.specs.declared.names.Name.{Name}
 use Rattle.java_syntax.specs.declared.names.Typ.{Typ}
@@ -85,6 +85,10 @@ pub record IsSignature (classes : List ClassName) (c : ClassId) (u : Compilation
   pub unsigned : IsUnsigned s
 
 -- ---- members
+
+-- a method's parameters and their count have numbers of 32 bits
+abbrev pub HasFewParameters : Method → Type 0
+HasFewParameters m = length m.sig.params.items < 2 ^ 32 - 1
 
 -- a method, constructor or constant by what is written
 pub record IsMethod (classes : List ClassName) (w : WrittenMethod) (m : Method) : Type 0 where

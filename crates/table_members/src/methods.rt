@@ -4,7 +4,7 @@ ghost use Rattle.std.specs.Prelude.{◌≡◌, All, IfOk, map};
 ghost use Rattle.std.specs.List.{AllZip};
 ghost use Rattle.class_names.specs.Meanings.{unit_of};
 ghost use Rattle.class_declarations.specs.Members.{written_method_of, written_of};
-ghost use Rattle.table_members.specs.Methods.{IsKnownHead, IsMethod};
+ghost use Rattle.table_members.specs.Methods.{HasFewParameters, IsKnownHead, IsMethod};
 
 use crate::signatures::signature;
 use class_declarations::DeclaredMethod;
@@ -30,7 +30,8 @@ fn table_method(
     written: &DeclaredMethod,
 ) -> Result<Method, NoMemory>
     requires { IsKnownHead names.now (unit_of written.now.declared.scope) (written_of written.now.tree) }
-    ensures { IfOk result (λ m. IsMethod names.now (written_method_of written.now) m) }
+    ensures method { IfOk result (λ m. IsMethod names.now (written_method_of written.now) m) }
+    ensures parameters { IfOk result HasFewParameters }
 {
     let name = text(alloc, written.tree.name())?;
     let annos = raw_annotations(alloc, written.tree.modifiers())?;
@@ -62,14 +63,15 @@ fn table_method(
 ///
 /// # Errors
 ///
-/// Memory may run out.
+/// Memory may run out. 2^32 - 1 parameters of one method and more count as that.
 pub fn table_methods(
     alloc: Global,
     names: &ClassNames,
     written: &[DeclaredMethod],
 ) -> Result<Vec<Method>, NoMemory>
     requires { All (λ w. IsKnownHead names.now w.declaration.unit w.written) (map written_method_of written.now) }
-    ensures { IfOk result (λ v. AllZip (IsMethod names.now) (map written_method_of written.now) v.items) }
+    ensures methods { IfOk result (λ v. AllZip (IsMethod names.now) (map written_method_of written.now) v.items) }
+    ensures parameters { IfOk result (λ v. All HasFewParameters v.items) }
 {
     let mut methods = Vec::new(alloc);
     'each: for method in written {

@@ -1,6 +1,6 @@
 //! The signatures of the table, of which nothing but types and the throws clause is read yet.
 
-ghost use Rattle.std.specs.Prelude.{◌≡◌, All, IfOk, IsSome, Some, false, map};
+ghost use Rattle.std.specs.Prelude.{◌≡◌, ◌<◌, ◌-◌, ◌^◌, All, IfOk, IsSome, Some, false, length, map};
 ghost use Rattle.std.specs.List.{AllZip};
 ghost use Rattle.std.specs.Option.{option_copied};
 ghost use Rattle.class_names.specs.Meanings.{unit_of};
@@ -18,6 +18,9 @@ use java_syntax::{Name, Param, Typ};
 use program_model::{ClassId, ParamSig, RawAnno, Sig, VType};
 use rlc_base::{NameSet, NoMemory};
 use std::alloc::Global;
+
+// How many parameters a method has at most, so that their numbers and their count fit 32 bits.
+const MAX_PARAMETERS: usize = 0xFFFF_FFFE;
 
 /// The type that is written, where its name means a class.
 pub fn known_type(names: &ClassNames, scope: &Scope, typ: &Typ) -> VType
@@ -75,6 +78,7 @@ fn parameter(
     })
 }
 
+// The declared parameters. More of them than their numbers reach count as want of memory.
 fn parameters(
     alloc: Global,
     names: &ClassNames,
@@ -82,11 +86,15 @@ fn parameters(
     written: &[Param],
 ) -> Result<Vec<ParamSig>, NoMemory>
     requires { All (λ x. IsKnown names.now (unit_of scope.now) x.typ) written.now }
-    ensures { IfOk result (λ v. AllZip (IsParameter names.now (unit_of scope.now)) written.now v.items) }
+    ensures parameters { IfOk result (λ v. AllZip (IsParameter names.now (unit_of scope.now)) written.now v.items) }
+    ensures few { IfOk result (λ v. length v.items < 2 ^ 32 - 1) }
 {
     let mut made = Vec::new(alloc);
     'each: for param in written {
         made.push(parameter(alloc, names, scope, param)?)?;
+    }
+    if made.len() > MAX_PARAMETERS {
+        return Err(NoMemory);
     }
     Ok(made)
 }
@@ -175,6 +183,10 @@ fn unsigned(
 }
 
 /// The signature of what a class has as a method, where each name in it means a class.
+///
+/// # Errors
+///
+/// Memory may run out. 2^32 - 1 parameters and more count as that.
 pub fn signature(
     alloc: Global,
     names: &ClassNames,
@@ -183,7 +195,8 @@ pub fn signature(
     tree: &MethodTree,
 ) -> Result<Sig, NoMemory>
     requires { IsKnownHead names.now (unit_of scope.now) (written_of tree.now) }
-    ensures { IfOk result (λ s. IsSignature names.now class (unit_of scope.now) (written_of tree.now) s) }
+    ensures signature { IfOk result (λ s. IsSignature names.now class (unit_of scope.now) (written_of tree.now) s) }
+    ensures few { IfOk result (λ s. length s.params.items < 2 ^ 32 - 1) }
 {
     let returned = result_type(names, scope, tree.result());
     let throws = thrown(alloc, names, scope, tree.throws())?;

@@ -18,7 +18,7 @@ pub returns-clause-numbered : goal.returns-clause-numbered
 returns-clause-numbered c =
     let few = c.if-len-gt-MAX_MEMBERS.false in
     let count = c.len.ensures in
-    let long = zip_long (IsMethod c.args.names.now) (map written_method_of c.deref-3.result.now) c.in_ok-methods.methods.items c.in_ok-methods.ensures in
+    let long = zip_long (IsMethod c.args.names.now) (map written_method_of c.deref-3.result.now) c.in_ok-methods.methods.items c.in_ok-methods.ensures.methods in
     let wide = length-map c.deref-3.result.now written_method_of in
     let same = ap length c.deref-3.ensures.value in
     omega (arith, few, count, long, wide, same)

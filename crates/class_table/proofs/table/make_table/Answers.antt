@@ -1,5 +1,5 @@
 -- The table of the headers with its members is the table.
-use Rattle.std.proofs.Common.{◌≡◌, ◌∙◌, ◌<◌, ◌^◌, sym, ap, subst, map, length, List, None, ℕ}
+use Rattle.std.proofs.Common.{◌≡◌, ◌∙◌, ◌<◌, ◌^◌, sym, ap, subst, map, length, List, None, ℕ, All}
 use Rattle.std.specs.List.{AllZip}
 use Rattle.std.proofs.lemmas.List.{length-map, with_items_is}
 use Rattle.rlc_base.specs.Names.{texts}
@@ -13,7 +13,7 @@ use Rattle.class_headers.specs.Cases.{IsCycleCase}
 use Rattle.class_headers.specs.Headers.{AllList, declared_headers}
 use Rattle.class_headers.specs.SuperTypes.{AreKnown, supers_of}
 use Rattle.table_members.specs.Fields.{IsField}
-use Rattle.table_members.specs.Methods.{IsMethod}
+use Rattle.table_members.specs.Methods.{HasFewParameters, IsMethod}
 use Rattle.class_table.specs.Numbers.{AreNumbers, row_at}
 use Rattle.class_table.specs.Table.{AllHave, all_fields, all_methods, bare_of, field_owners, method_owners}
 use Rattle.class_table.proofs.BuiltLemmas.{headers_long, made}
@@ -32,6 +32,11 @@ header_table-requires-clause-acyclic c =
 pub put_all_members-requires-clause-long : goal.put_all_members-requires-clause-long
 put_all_members-requires-clause-long c =
     ap length c.deref_mut.ensures.value ∙ headers_long c.args.order.now c.args.core (map supers_of c.args.supers.now.supers.items) c.in_ok-program.program.classes.items c.requires.supers.supers c.in_ok-program.ensures.headers
+
+pub returns-clause-parameters : goal.returns-clause-parameters
+returns-clause-parameters c =
+    let P : List Method → Type 0 = All HasFewParameters in
+    subst P (sym c.put_tables.ensures.methods) c.in_ok-methods.ensures.parameters
 
 pub returns-clause-made : goal.returns-clause-made
 returns-clause-made c =

@@ -2,7 +2,7 @@
 use Rattle.rlc_base.specs.declared.code.Code.TheVariants as refused
 use Rattle.std.proofs.Common.{ap, arith, length, subst, sym, ◌≤◌}
 use Rattle.java_cfg.specs.Contents.{arcs_of, nodes_of}
-use Rattle.java_cfg.specs.Deep.{rows_of}
+use Rattle.java_cfg.specs.RowTests.{rows_of}
 use Rattle.java_cfg.specs.Limits.{IsCause, refusal, too_many_places}
 use Rattle.java_cfg.proofs.SearchLemmas.{graph_few}
 use Rattle.java_cfg.proofs.build.build_graph.Goals as goal

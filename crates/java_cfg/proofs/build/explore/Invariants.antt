@@ -1,5 +1,5 @@
 use Rattle.std.proofs.Common.{◌-◌, length}
-use Rattle.java_cfg.specs.Deep.{rows_of}
+use Rattle.java_cfg.specs.RowTests.{rows_of}
 use Rattle.java_cfg.proofs.SearchLemmas.{IsSearch}
 use Rattle.java_cfg.proofs.build.explore.Given as goal
 

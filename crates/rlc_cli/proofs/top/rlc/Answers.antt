@@ -1,10 +1,29 @@
-use Rattle.std.proofs.Common.{sym, refl}
-use Rattle.rlc_cli.specs.declared.due.Due.TheVariants as dues
+use Rattle.std.proofs.Common.{map, string_bytes, Global}
+use Rattle.command_words.specs.Requests.{request_in}
+use Rattle.rlc_cli.proofs.Headlines.{headline}
+use Rattle.rlc_cli.proofs.ReadFaults.{after_rise}
 use Rattle.rlc_cli.proofs.top.rlc.Goals as goal
 
-pub returns-in-None-clause-answered : goal.returns-in-None-clause-answered
-returns-in-None-clause-answered g c = rw (sym c.in-None.ensures) (dues.Usage, (refl, refl), c.answer.ensures.sent)
+pub returns-in-Ok-clause-read_rose : goal.returns-in-Ok-clause-read_rose
+returns-in-Ok-clause-read_rose g c = λ rose.
+    after_rise (g.F.Files.contents c.args.files.now)
+    (record {
+      faults = g.F.Files.faults c.args.files.now;
+      faults_now = g.F.Files.faults c.answer.new.files;
+      taken = g.F.Files.taken c.args.files.now;
+      taken_now = g.F.Files.taken c.answer.new.files;
+    })
+    (request_in (map (string_bytes {Z = Global}) c.args.words.now)) (g.O.Sink.sure c.args.out.now) (g.O.Sink.bytes c.args.out.now) (g.O.Sink.bytes c.send.new.out) c.in-Ok.answer
+    c.send.result c.in-Ok.ensures.answer c.send.ensures.sent rose
 
-pub returns-in-Some-clause-answered : goal.returns-in-Some-clause-answered
-returns-in-Some-clause-answered g c =
-    rw (sym c.in-Some.ensures) (c.due_for_file-due.result, c.due_for_file-due.ensures.due, c.answer-in-Some.ensures.sent)
+pub returns-in-Ok-clause-headline : goal.returns-in-Ok-clause-headline
+returns-in-Ok-clause-headline g c =
+    headline (g.F.Files.contents c.args.files.now)
+    (record {
+      faults = g.F.Files.faults c.args.files.now;
+      faults_now = g.F.Files.faults c.answer.new.files;
+      taken = g.F.Files.taken c.args.files.now;
+      taken_now = g.F.Files.taken c.answer.new.files;
+    })
+    (request_in (map (string_bytes {Z = Global}) c.args.words.now)) (g.O.Sink.sure c.args.out.now) (g.O.Sink.bytes c.args.out.now) (g.O.Sink.bytes c.send.new.out) c.in-Ok.answer
+    c.send.result c.in-Ok.ensures.answer c.send.ensures.sent

@@ -1,0 +1,17 @@
+use Rattle.command_inputs.proofs.HaltLaws.{answers_too}
+use Rattle.command_inputs.proofs.ReadLaws.{read_as_many}
+use Rattle.command_inputs.specs.Inputs.{AreFileTexts, names_of, texts_of}
+use Rattle.command_programs.proofs.ShortLaws.{read_short}
+use Rattle.check_command.specs.Checks.{read}
+use Rattle.check_command.proofs.checks.check_files.Goals as goal
+
+pub texts_of-requires : goal.texts_of-requires
+texts_of-requires g c = rw c.deref.ensures.value (read_as_many _ _ _ _ c.in_ok-texts.ensures.read)
+
+pub check_texts-requires : goal.check_texts-requires
+check_texts-requires g c = read_short _ _ _ (c.texts_of.ensures _ _ (rw (← c.deref.ensures.value) at c.in_ok-texts.ensures.read))
+
+pub returns-clause-answer : goal.returns-clause-answer
+returns-clause-answer g c =
+    let are = c.texts_of.ensures _ _ (rw (← c.deref.ensures.value) at c.in_ok-texts.ensures.read) in
+    answers_too c.check_texts.result _ _ (λ answer checked. read (texts_of c.texts_of.result) are c.in_ok-texts.ensures.read.no_fault checked) c.check_texts.ensures

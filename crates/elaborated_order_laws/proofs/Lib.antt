@@ -1,0 +1,2 @@
+pub mod ElaboratedBodies
+pub mod Risings

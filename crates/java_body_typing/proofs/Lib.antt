@@ -1,0 +1,4 @@
+pub mod BodyTyping
+pub mod InitializerTyping
+pub mod ParameterTyping
+pub mod SuperCallTyping

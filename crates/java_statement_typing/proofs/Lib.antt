@@ -1,0 +1,12 @@
+pub mod CatchTyping
+pub mod ClosingMethods
+pub mod DeclarationTyping
+pub mod HeadTyping
+pub mod LaidParts
+pub mod LaidStatements
+pub mod ResourceTyping
+pub mod StatementKinds
+pub mod StatementTyping
+pub mod TableLaws
+pub mod Values
+pub mod VariableLaws

@@ -1,0 +1,5 @@
+pub mod Scopes
+pub mod Tables
+pub mod TypedBodies
+pub mod TypedForms
+pub mod TypedStatements

@@ -1,0 +1,4 @@
+pub mod Heads
+pub mod Initializers
+pub mod Jumps
+pub mod Stands

@@ -1,0 +1,4 @@
+pub mod BirthLaws
+pub mod WalkLaws
+pub mod BreakingLaws
+pub mod ControlLaws

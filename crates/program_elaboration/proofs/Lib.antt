@@ -1,0 +1,2 @@
+pub mod BuiltTables
+pub mod WellFormedBodies

@@ -1,0 +1,3 @@
+pub mod CountOnce
+pub mod StopOnce
+pub mod Rooms

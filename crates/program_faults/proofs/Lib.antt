@@ -1,0 +1,4 @@
+pub mod PoolLaws
+pub mod LimitLaws
+pub mod PrintLaws
+pub mod CountLaws

@@ -1,0 +1,2 @@
+pub mod BodyReports
+pub mod ProgramReports

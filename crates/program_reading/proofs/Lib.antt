@@ -1,0 +1,5 @@
+mod FileNames
+mod InputNumbers
+mod Results
+mod SignedProgram
+mod TypedTables

@@ -1,0 +1,51 @@
+//! The annotations of a typed program, and the rules on its signatures.
+
+ghost use Rattle.std.specs.Prelude.{All, IfErr, IfOk, OnOk};
+ghost use Rattle.program_model.specs.Hierarchy.{IsHierarchy};
+ghost use Rattle.program_model.specs.Validity.{IsNumbered};
+ghost use Rattle.must_call_sets.specs.WellFormed.{HasSmallInterests};
+ghost use Rattle.table_members.specs.Methods.{HasFewParameters};
+ghost use Rattle.signature_rules.specs.RulePasses.{HasNoRuleCase};
+ghost use Rattle.program_reading.specs.SignedPrograms.{HasListedFields, IsAnnotated, IsRuleStop, IsSigningStop};
+
+use must_call_types::read_signatures;
+use program_model::Program;
+use rlc_base::Stop;
+use signature_rules::rule_refusal;
+use std::alloc::Global;
+
+// The rules on signatures.
+fn check_rules(p: &Program) -> Result<(), Stop>
+    requires { IsNumbered p.now }
+    ensures right { OnOk result (HasNoRuleCase p.now) }
+    ensures stopped { IfErr result (IsRuleStop p.now) }
+{
+    match rule_refusal(p) {
+        Ok(()) => Ok(()),
+        Err(refusal) => Err(Stop::Refused(refusal)),
+    }
+}
+
+/// The program with the sets and signatures that its annotations say.
+///
+/// # Errors
+///
+/// As by `read_signatures`, and else as by `rule_refusal`.
+pub fn signed(alloc: Global, typed: Program) -> Result<Program, Stop>
+    requires hierarchy { IsHierarchy typed }
+    requires numbered { IsNumbered typed }
+    requires parameters { All HasFewParameters typed.methods.items }
+    requires fields { HasListedFields typed }
+    ensures annotated { IfOk result (IsAnnotated typed) }
+    ensures right { IfOk result HasNoRuleCase }
+    ensures numbered { IfOk result IsNumbered }
+    ensures parameters { IfOk result (λ p. All HasFewParameters p.methods.items) }
+    ensures fields { IfOk result HasListedFields }
+    ensures interests { IfOk result HasSmallInterests }
+    ensures stopped { IfErr result (IsSigningStop typed) }
+{
+    let mut program = typed;
+    read_signatures(alloc, &mut program)?;
+    check_rules(&program)?;
+    Ok(program)
+}

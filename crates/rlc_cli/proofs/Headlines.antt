@@ -1,0 +1,126 @@
+-- The statuses 0 and 1 of `check` come with a program.
+use Rattle.std.proofs.Common.{◌≡◌, ◌∙◌, ap, sym, subst, ℕ, List, Option, Some, None}
+use Rattle.outside.specs.Files.{Contents}
+use Rattle.rlc_base.specs.declared.faults.Stop.{Stop}
+use Rattle.rlc_base.specs.declared.faults.Stop.TheVariants as stops
+use Rattle.source_files.specs.Reading.{Counts}
+use Rattle.source_files.specs.declared.stops.ReadingStop.{ReadingStop}
+use Rattle.source_files.specs.declared.stops.ReadingStop.TheVariants as readings
+use Rattle.input_files.specs.Inputs.{IsStopLine}
+use Rattle.command_words.specs.Requests.{Request, check, generate, run, settings}
+use Rattle.command_answers.specs.Sending.{IsSent}
+use Rattle.command_answers.specs.Statuses.{status_of}
+use Rattle.command_answers.specs.declared.answers.Answer.{Answer}
+use Rattle.command_answers.specs.declared.answers.Outcome.{Outcome}
+use Rattle.command_answers.specs.declared.answers.Outcome.TheVariants as outcomes
+use Rattle.command_answers.specs.declared.statuses.Status.{Status}
+use Rattle.command_answers.specs.declared.statuses.Status.TheVariants as statuses
+use Rattle.command_inputs.specs.Inputs.{FileNames, FileText, FileTexts, IsUnread, stopped, too_many}
+use Rattle.command_programs.specs.Programs.{IsProgramOf}
+use Rattle.command_programs.specs.Refusals.{IsSettingsAnswer, IsStopAnswer}
+use Rattle.check_command.specs.Checks.{IsCheckAnswer, IsChecked, IsUnchecked, accepted, by_limit, by_program, by_settings, leaking, read, unchecked, unread}
+use Rattle.program_model.specs.declared.program.Program.{Program}
+use Rattle.program_faults.specs.ProgramReports.{IsFaulty}
+use Rattle.rlc_cli.specs.Answers.{IsAnswer}
+use Rattle.rlc_cli.specs.Headline.{IsAcceptedCheck, IsHeadline, IsLeakingCheck}
+
+-- no program was checked
+abbrev IsHalting : Outcome → Type 0
+IsHalting outcomes.Accepted = ⊥
+IsHalting outcomes.Leaks = ⊥
+IsHalting outcomes.Refused = Unit {0}
+IsHalting outcomes.Usage = ⊥
+IsHalting outcomes.ReadFault = Unit {0}
+IsHalting outcomes.Limit = Unit {0}
+IsHalting outcomes.RunCut = ⊥
+IsHalting outcomes.Stray = ⊥
+
+halting_not_accepted : {A : Type 0} (o : Outcome) → IsHalting o → statuses.Accepted ≡ status_of o → A
+halting_not_accepted outcomes.Accepted halts is = absurd halts
+halting_not_accepted outcomes.Leaks halts is = absurd halts
+halting_not_accepted outcomes.Refused halts is = absurd (let no : statuses.Accepted ≡ statuses.Refused = is in cc)
+halting_not_accepted outcomes.Usage halts is = absurd halts
+halting_not_accepted outcomes.ReadFault halts is = absurd (let no : statuses.Accepted ≡ statuses.ReadFault = is in cc)
+halting_not_accepted outcomes.Limit halts is = absurd (let no : statuses.Accepted ≡ statuses.Limit = is in cc)
+halting_not_accepted outcomes.RunCut halts is = absurd halts
+halting_not_accepted outcomes.Stray halts is = absurd halts
+
+halting_not_leaking : {A : Type 0} (o : Outcome) → IsHalting o → statuses.Leaks ≡ status_of o → A
+halting_not_leaking outcomes.Accepted halts is = absurd halts
+halting_not_leaking outcomes.Leaks halts is = absurd halts
+halting_not_leaking outcomes.Refused halts is = absurd (let no : statuses.Leaks ≡ statuses.Refused = is in cc)
+halting_not_leaking outcomes.Usage halts is = absurd halts
+halting_not_leaking outcomes.ReadFault halts is = absurd (let no : statuses.Leaks ≡ statuses.ReadFault = is in cc)
+halting_not_leaking outcomes.Limit halts is = absurd (let no : statuses.Leaks ≡ statuses.Limit = is in cc)
+halting_not_leaking outcomes.RunCut halts is = absurd halts
+halting_not_leaking outcomes.Stray halts is = absurd halts
+
+halts_by : (answer : Answer) (o : Outcome) → IsHalting o → answer.outcome ≡ o → IsHalting answer.outcome
+halts_by answer o halts is = subst IsHalting (sym is) halts
+
+reading_halts : (names : List (List ℕ)) (stop : ReadingStop) (answer : Answer) → IsStopLine names stop answer → IsHalting answer.outcome
+reading_halts names (readings.Failed at) answer (name, here, outcome, text) = halts_by answer outcomes.ReadFault tt outcome
+reading_halts names (readings.TooBig at) answer (name, here, outcome, text) = halts_by answer outcomes.Limit tt outcome
+reading_halts names (readings.TooMuch at) answer (name, here, outcome, text) = halts_by answer outcomes.Limit tt outcome
+reading_halts names readings.NoMemory answer line = absurd line
+
+unread_halts : (told : Option Contents) (names : FileNames) (c : Counts) (answer : Answer) → IsUnread told names c answer → IsHalting answer.outcome
+unread_halts told names c answer (too_many (name, here, outcome, text) none) = halts_by answer outcomes.Limit tt outcome
+unread_halts told names c answer (stopped few stop) = reading_halts _ stop.stop answer stop.line
+
+stop_halts : (names : List (List ℕ)) (stop : Stop) (answer : Answer) → IsStopAnswer names stop answer → IsHalting answer.outcome
+stop_halts names (stops.Refused r) answer line = halts_by answer outcomes.Refused tt line.outcome_is
+stop_halts names (stops.TooMuch r) answer line = halts_by answer outcomes.Limit tt line.outcome_is
+stop_halts names stops.NoMemory answer line = absurd line
+
+settings_halt : (file : Option FileText) (answer : Answer) → IsSettingsAnswer file answer → IsHalting answer.outcome
+settings_halt None answer is = absurd is
+settings_halt (Some file) answer is = halts_by answer outcomes.Refused tt is.outcome_is
+
+unchecked_halts : (files : FileTexts) (answer : Answer) → IsUnchecked files answer → IsHalting answer.outcome
+unchecked_halts files answer (by_settings why) = settings_halt files.settings answer why
+unchecked_halts files answer (by_program s is why) = stop_halts _ why.stop answer why.line
+unchecked_halts files answer (by_limit p why) = stop_halts _ why.stop answer why.line
+
+checked_accepted : (files : FileTexts) (answer : Answer) → IsChecked files answer → statuses.Accepted ≡ status_of answer.outcome → (p : Program) × (IsProgramOf files p × (IsFaulty p → ⊥))
+checked_accepted files answer (unchecked why) is = halting_not_accepted answer.outcome (unchecked_halts files answer why) is
+checked_accepted files answer (accepted p program none outcome text) is = (p, (program, none))
+checked_accepted files answer (leaking p count program fault outcome counted text) is = absurd (let no : statuses.Accepted ≡ statuses.Leaks = is ∙ ap status_of outcome in cc)
+
+checked_leaking : (files : FileTexts) (answer : Answer) → IsChecked files answer → statuses.Leaks ≡ status_of answer.outcome → (p : Program) × (IsProgramOf files p × IsFaulty p)
+checked_leaking files answer (unchecked why) is = halting_not_leaking answer.outcome (unchecked_halts files answer why) is
+checked_leaking files answer (accepted p program none outcome text) is = absurd (let no : statuses.Leaks ≡ statuses.Accepted = is ∙ ap status_of outcome in cc)
+checked_leaking files answer (leaking p count program fault outcome counted text) is = (p, (program, fault))
+
+check_accepted : (told : Option Contents) (names : FileNames) (c : Counts) (answer : Answer) → IsCheckAnswer told names c answer → statuses.Accepted ≡ status_of answer.outcome → IsAcceptedCheck told names
+check_accepted told names c answer (unread why) is = halting_not_accepted answer.outcome (unread_halts told names c answer why) is
+check_accepted told names c answer (read files texts none checked) is =
+    let found = checked_accepted files answer checked is in
+    record { files = files; texts = texts; program = found.0; is_program = found.1.0; no_fault = found.1.1 }
+
+check_leaking : (told : Option Contents) (names : FileNames) (c : Counts) (answer : Answer) → IsCheckAnswer told names c answer → statuses.Leaks ≡ status_of answer.outcome → IsLeakingCheck told names
+check_leaking told names c answer (unread why) is = halting_not_leaking answer.outcome (unread_halts told names c answer why) is
+check_leaking told names c answer (read files texts none checked) is =
+    let found = checked_leaking files answer checked is in
+    record { files = files; texts = texts; program = found.0; is_program = found.1.0; fault = found.1.1 }
+
+pub headline : (told : Option Contents) (c : Counts) (request : Option Request) (room : ℕ) (old new : Option (List ℕ)) (answer : Answer) (status : Status) → IsAnswer told c request answer
+    → IsSent answer room old new status → IsHeadline told request status
+headline told c None room old new answer statuses.Accepted said sent = tt
+headline told c (Some (check input)) room old new answer statuses.Accepted said (is, sent) = check_accepted told _ c answer said is
+headline told c (Some (run main choices steps input)) room old new answer statuses.Accepted said sent = tt
+headline told c (Some (generate seed methods)) room old new answer statuses.Accepted said sent = tt
+headline told c (Some (settings file)) room old new answer statuses.Accepted said sent = tt
+headline told c None room old new answer statuses.Leaks said sent = tt
+headline told c (Some (check input)) room old new answer statuses.Leaks said (is, sent) = check_leaking told _ c answer said is
+headline told c (Some (run main choices steps input)) room old new answer statuses.Leaks said sent = tt
+headline told c (Some (generate seed methods)) room old new answer statuses.Leaks said sent = tt
+headline told c (Some (settings file)) room old new answer statuses.Leaks said sent = tt
+headline told c request room old new answer statuses.Refused said sent = tt
+headline told c request room old new answer statuses.Usage said sent = tt
+headline told c request room old new answer statuses.ReadFault said sent = tt
+headline told c request room old new answer statuses.WriteFault said sent = tt
+headline told c request room old new answer statuses.NoMemory said sent = tt
+headline told c request room old new answer statuses.Limit said sent = tt
+headline told c request room old new answer statuses.RunCut said sent = tt
+headline told c request room old new answer statuses.Stray said sent = tt

@@ -1,9 +1,0 @@
-use Rattle.std.proofs.Common.{◌≡◌, ◌∙◌, ◌∷◌, ◌++◌, [], ap, codes, string_bytes}
-use Rattle.std.specs.Fmt.{decimal}
-use Rattle.rlc_cli.proofs.TextLaws.{grouped}
-use Rattle.rlc_cli.proofs.text.refusal.Goals as goal
-
-pub returns : goal.returns
-returns c =
-    let e : string_bytes c.in_ok-text.text ≡ c.args.name.now ++ (codes ":" ++ (decimal c.args.refusal.pos.line ++ (codes ":" ++ (decimal c.args.refusal.pos.col ++ (codes ": " ++ (decimal c.number-number.result ++ (codes " " ++ (c.name-cause.result.now ++ 10 ∷ [])))))))) = c.in_ok-text.ensures.ok in
-    c.from_bytes.ensures ∙ ap (λ v. v.items) c.into_bytes.ensures.value ∙ e ∙ grouped c.args.name.now c.args.refusal c.number-number.result c.name-cause.result.now c.number-number.ensures c.name-cause.ensures

@@ -1,0 +1,47 @@
+-- What it says of a program that `check` accepts it, and that it has leaks.
+use Rattle.std.specs.Prelude.{ℕ, Option, Some, None}
+use Rattle.outside.specs.Files.{Contents}
+use Rattle.command_words.specs.Requests.{Request, check, generate, run, settings}
+use Rattle.command_answers.specs.declared.statuses.Status.{Status}
+use Rattle.command_answers.specs.declared.statuses.Status.TheVariants as statuses
+use Rattle.command_inputs.specs.Inputs.{AreFileTexts, FileNames, FileTexts}
+use Rattle.command_programs.specs.Programs.{IsProgramOf}
+use Rattle.program_model.specs.declared.program.Program.{Program}
+use Rattle.program_faults.specs.ProgramReports.{IsFaulty}
+use Rattle.rlc_cli.specs.Answers.{check_names}
+
+-- the files of these names make a program, in which the flow rules derive no fault
+pub record IsAcceptedCheck (told : Option Contents) (names : FileNames) : Type 0 where
+  pub files : FileTexts
+  pub texts : AreFileTexts told names files
+  pub program : Program
+  pub is_program : IsProgramOf files program
+  pub no_fault : IsFaulty program → ⊥
+
+-- the files of these names make a program, in which the flow rules derive a fault
+pub record IsLeakingCheck (told : Option Contents) (names : FileNames) : Type 0 where
+  pub files : FileTexts
+  pub texts : AreFileTexts told names files
+  pub program : Program
+  pub is_program : IsProgramOf files program
+  pub fault : IsFaulty program
+
+abbrev pub IsAcceptedRequest : Option Contents → Option Request → Type 0
+IsAcceptedRequest told None = Unit {0}
+IsAcceptedRequest told (Some (check input)) = IsAcceptedCheck told (check_names input)
+IsAcceptedRequest told (Some (run main choices steps input)) = Unit {0}
+IsAcceptedRequest told (Some (generate seed methods)) = Unit {0}
+IsAcceptedRequest told (Some (settings file)) = Unit {0}
+
+abbrev pub IsLeakingRequest : Option Contents → Option Request → Type 0
+IsLeakingRequest told None = Unit {0}
+IsLeakingRequest told (Some (check input)) = IsLeakingCheck told (check_names input)
+IsLeakingRequest told (Some (run main choices steps input)) = Unit {0}
+IsLeakingRequest told (Some (generate seed methods)) = Unit {0}
+IsLeakingRequest told (Some (settings file)) = Unit {0}
+
+-- What the statuses 0 and 1 of `check` say. No other status comes with either.
+abbrev pub IsHeadline : Option Contents → Option Request → Status → Type 0
+IsHeadline told request statuses.Accepted = IsAcceptedRequest told request
+IsHeadline told request statuses.Leaks = IsLeakingRequest told request
+IsHeadline told request status = Unit {0}

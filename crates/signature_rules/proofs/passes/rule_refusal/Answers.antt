@@ -1,0 +1,15 @@
+-- Where the last pass refuses nothing, none has a case.
+use Rattle.signature_rules.proofs.NoCases.{all_passed, no_cases}
+use Rattle.must_call_sets.specs.AliasCases.{alias_cases}
+use Rattle.must_call_sets.specs.OverrideCases.{override_cases}
+use Rattle.must_call_sets.specs.OwningCases.{owning_cases}
+use Rattle.signature_rules.proofs.passes.rule_refusal.Goals as goal
+
+pub returns-clause-right : goal.returns-clause-right
+returns-clause-right c =
+    let p = c.args.p.now in
+    all_passed p c.reset_rule.result
+    (no_cases (alias_cases p) c.in_ok-alias_rule.field-0 c.in_ok-alias_rule.ensures)
+    (no_cases (override_cases p) c.in_ok-override_rule.field-0 c.in_ok-override_rule.ensures)
+    (no_cases (owning_cases p) c.in_ok-owning_rule.field-0 c.in_ok-owning_rule.ensures)
+    c.reset_rule.ensures

@@ -1,0 +1,31 @@
+//! The passes over the effective signatures of a program.
+
+ghost use Rattle.std.specs.Prelude.{◌≡◌, OnOk};
+ghost use Rattle.program_model.specs.Validity.{IsNumbered};
+ghost use Rattle.refusal_order.specs.Refusals.{verdict_of};
+ghost use Rattle.signature_rules.specs.RulePasses.{HasNoRuleCase, rule_refusal};
+
+use alias_sets::alias_rule;
+use called_methods::override_rule;
+use must_call_reset::reset_rule;
+use owning_fields::owning_rule;
+use program_model::Program;
+use rlc_base::Refusal;
+
+/// Refuses a program by the rules on its effective signatures (Checker Framework manual, Resource Leak Checker). There are four
+/// passes: over resource aliases (code 52), over what overriding methods ask, promise and take (code 53), over owning fields
+/// (codes 54 and 55), and over methods that create obligations anew (code 56). It takes no memory.
+///
+/// # Errors
+///
+/// The first pass that has a case refuses, at its least place, and there by the least code.
+pub fn rule_refusal(p: &Program) -> Result<(), Refusal>
+    requires { IsNumbered p.now }
+    ensures first { result ≡ verdict_of (rule_refusal p.now) }
+    ensures right { OnOk result (HasNoRuleCase p.now) }
+{
+    alias_rule(p)?;
+    override_rule(p)?;
+    owning_rule(p)?;
+    reset_rule(p)
+}

@@ -1,7 +1,0 @@
-mod Laws
-mod Objects
-mod Following
-mod Stack
-mod Steps
-mod Sound
-mod Unsafe

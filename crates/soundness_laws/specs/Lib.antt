@@ -1,5 +1,0 @@
-pub mod Configurations
-pub mod Heap
-pub mod Machine
-pub mod Safe
-pub mod Agreement

@@ -1,0 +1,3 @@
+pub mod SourceBodies
+pub mod SourceMethods
+pub mod TableMethods

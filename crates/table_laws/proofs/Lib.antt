@@ -1,0 +1,3 @@
+mod DeclaredNames
+mod QualifiedNames
+pub mod TableNames

@@ -1,0 +1,4 @@
+mod Interests
+mod Assigned
+pub mod WellFormedLaws
+pub mod SignedTwice

@@ -1,0 +1,17 @@
+import java.io.IOException;
+import java.net.Socket;
+
+@InheritableMustCall("close")
+class CtorThrow {
+    private final @Owning Socket socket;
+
+    CtorThrow() throws IOException {
+        new Object();
+        socket = new Socket("localhost", 80);
+    }
+
+    @EnsuresCalledMethods(value = "this.socket", methods = "close")
+    void close() throws IOException {
+        socket.close();
+    }
+}

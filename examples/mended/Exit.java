@@ -1,0 +1,9 @@
+import java.io.IOException;
+import java.net.Socket;
+
+class Exit {
+    static void main(String[] args) throws IOException {
+        Socket socket = new Socket("localhost", 80);
+        socket.close();
+    }
+}

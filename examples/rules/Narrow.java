@@ -1,0 +1,11 @@
+import java.io.IOException;
+import java.net.Socket;
+
+class Narrow {
+    static void keep(@Owning Object any) {
+    }
+
+    static void main(String[] args) throws IOException {
+        keep(new Socket("localhost", 80));
+    }
+}

@@ -1,0 +1,26 @@
+import java.io.IOException;
+import java.net.Socket;
+
+@InheritableMustCall("close")
+class Channel {
+    private @Owning Socket socket;
+
+    @CreatesMustCallFor("this")
+    void connect() throws IOException {
+        if (socket != null) {
+            socket.close();
+        }
+        socket = new Socket("localhost", 80);
+    }
+
+    @EnsuresCalledMethods(value = "this.socket", methods = "close")
+    void close() throws IOException {
+        socket.close();
+    }
+}
+
+class ResetNotOwned {
+    static void use(Channel channel) throws IOException {
+        channel.connect();
+    }
+}
