@@ -10,6 +10,7 @@ use Rattle.command_programs.specs.Programs.{IsProgramAnswer, IsProgramOf, IsSett
 use Rattle.command_programs.specs.Refusals.{IsSettingsAnswer, IsStopAnswer}
 use Rattle.java_syntax.specs.declared.settings.Settings.{Settings}
 use Rattle.program_model.specs.declared.program.Program.{Program}
+use Rattle.flow_rules.specs.Paths.{Accept}
 use Rattle.program_faults.specs.ProgramReports.{IsFaultCount, IsFaultStop, IsFaulty, IsReportText}
 use Rattle.program_reading.specs.Inputs.{file_names}
 
@@ -40,11 +41,11 @@ pub data IsUnchecked (files : FileTexts) (answer : Answer) : Type 0 where
 
 -- ---- the answer
 
--- Why this is the answer of a check of these texts: it is accepted where the flow rules derive no fault in the program, and has
--- leaks, with their reports, where they derive one.
+-- Why this is the answer of a check of these texts: it is accepted where the program is, so that it is well formed and no path in a
+-- body of it breaks a rule; and it has leaks, with their reports, where the flow rules derive a fault in the program.
 pub data IsChecked (files : FileTexts) (answer : Answer) : Type 0 where
   unchecked : IsUnchecked files answer → IsChecked files answer
-  accepted : (p : Program) → IsProgramOf files p → (IsFaulty p → ⊥) → answer.outcome ≡ outcomes.Accepted → answer.text ≡ [] → IsChecked files answer
+  accepted : (p : Program) → IsProgramOf files p → Accept p → answer.outcome ≡ outcomes.Accepted → answer.text ≡ [] → IsChecked files answer
   leaking : (p : Program) (count : ℕ) → IsProgramOf files p → IsFaulty p → answer.outcome ≡ outcomes.Leaks → IsFaultCount p count
       → IsReportText p (file_names files.names) count answer.text → IsChecked files answer
 

@@ -19,7 +19,7 @@ use Rattle.class_order.specs.Cases.{IsLeast}
 use Rattle.class_order.specs.Declarations.{Declaration, class_name_of, class_names, name_of}
 use Rattle.class_headers.specs.SuperTypes.{IsUnder}
 use Rattle.class_headers.proofs.KnownLemmas.{found_within}
-use Rattle.super_checks.specs.SuperCases.{HasExceptions, direct_in, exceptions_misplaced}
+use Rattle.super_checks.specs.SuperCases.{HasExceptions, core_misplaced, direct_in}
 use Rattle.super_obligations.specs.SuperPass.{IsSuperCase}
 use Rattle.class_table.specs.Table.{IsTable}
 use Rattle.class_table.proofs.TableFacts.{declared_class, some_at, stable_under, table_long}
@@ -84,7 +84,7 @@ core_exceptions order settings p t hierarchy none =
     let direct = direct_in order p.core in
     let roots = t.core.roots in
     let thrown = t.core.thrown in
-    let told : (HasExceptions direct p.core → ⊥) → ⊥ = λ no. none exceptions_misplaced (inr (inr (inr (no, refl)))) in
+    let told : (HasExceptions direct p.core → ⊥) → ⊥ = λ no. none core_misplaced (inr (inr (inr ((λ h. no h.exceptions), refl)))) in
     let under : (c d : ClassId) → c.0 < length order → (HasExceptions direct p.core → IsUnder direct c d) → model.IsUnder p c d =
     λ c d below part. stable_under order settings p t hierarchy c d below (λ no. told (λ h. no (part h))) in
     record {

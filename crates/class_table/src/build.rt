@@ -104,7 +104,8 @@ fn build_named(
 /// code 33 at a member of one name, and for methods and constructors of one parameter list, with an earlier one of its class
 /// (JLS 8.3, 8.4.2, 8.8.2);
 /// code 34 at a class with a super type of a wrong kind (JLS 8.1.4, 8.1.5, 9.1.3), at a program class that extends a class of the
-/// library with a must-call set that is not empty, and at a name of a throws clause that is no `Throwable` (JLS 8.4.6).
+/// library with a must-call set that is not empty, and at a name of a throws clause that is no `Throwable` (JLS 8.4.6); with no
+/// place for a core library whose exceptions or class of strings are not as the language says (JLS 4.3.3, 11.1.1, 15.6).
 /// `TooMuch` with code 62 at the first class past 4,096. `NoMemory` where memory runs out.
 pub fn build_table(
     alloc: Global,

@@ -6,6 +6,7 @@ use Rattle.rlc_base.specs.declared.faults.Stop.TheVariants as stops
 use Rattle.java_syntax.specs.declared.declaration_trees.Unit as tree
 use Rattle.program_model.specs.declared.program.Program.{Program}
 use Rattle.program_model.specs.declared.tree.Body.{Body}
+use Rattle.program_model.specs.Trees.{IsForest}
 use Rattle.refusal_order.specs.Refusals.{least}
 use Rattle.java_typed_trees.specs.WellFormedStatements.{AreWellFormedStatements}
 use Rattle.java_laying.specs.Bodies.{IsLaid}
@@ -33,11 +34,12 @@ AreWellFormedUnlessRefused p units = All (IsWellFormedUnlessRefused (environment
 
 -- ---- the program
 
--- a typed body in its two tables
+-- a typed body in its two tables, in which each node has one parent or is a statement of the body itself
 pub record IsBodyOf (t : TypedBody) (x : Body) : Type 0 where
   pub method : x.method ≡ t.method
   pub variables : map variable_in x.vars.items ≡ t.variables
   pub laid : IsLaid x t.statements
+  pub forest : IsForest x
   pub end : x.end ≡ t.end
 
 -- the program of the table and of typed bodies: its bodies are these, laid, and each method has the number of its body

@@ -9,5 +9,5 @@ mod Viable
 mod Laws
 mod Steps
 mod ActionSteps
-mod Runs
+pub mod Runs
 mod FrontLaws

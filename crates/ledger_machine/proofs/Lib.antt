@@ -2,3 +2,4 @@ mod FrameLaws
 mod MoveLaws
 mod OneStep
 mod StepLaws
+pub mod TopLaws

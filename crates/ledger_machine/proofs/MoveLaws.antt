@@ -267,3 +267,10 @@ back_went p c same d pos q e named t kept h seen is =
 pub on_error : {X E P : Type 0} (r : Result X E) → P → OnErr r P
 on_error (Ok x) h = tt
 on_error (Err e) h = h
+
+-- so is a heap that stays
+pub all_kept_heap : (m : RunState) (cells : List Cell) (frames : List ActiveFrame) (heap : HeapContents) (entries : List Entry) → Keeps m.lists.cells.keys cells → highest_control m.frames.items ≤ length m.lists.cells.keys → frames ≡ m.frames.items → heap ≡ m.heap → entries ≡ m.entries.items
+    → record (config_of m) { frames = frames_seen cells frames; heap = heap; entries = entries } ≡ config_of m
+all_kept_heap m cells frames heap entries keeps h frames_are heap_is lines_are =
+    let seen : frames_seen cells frames ≡ frames_seen m.lists.cells.keys m.frames.items = ap (frames_seen cells) frames_are ∙ frames_kept m.lists.cells.keys cells m.frames.items keeps h in
+    (λ i. record (config_of m) { frames = seen i; heap = heap_is i; entries = lines_are i })

@@ -3,3 +3,4 @@ pub mod Outcomes
 pub mod Steps
 pub mod Starts
 pub mod Configurations
+pub mod HeapChanges

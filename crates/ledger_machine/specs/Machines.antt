@@ -1,7 +1,13 @@
 -- The machine as a configuration: its frames stand bottom first, and the control of each is a number in a table of lists.
+use Rattle.std.specs.Prelude.{ℕ, ◌≡◌, true, List, map, reverse}
 use Rattle.ledger_calls.specs.Configuration.{Config}
 use Rattle.ledger_machine.specs.declared.run_state.RunState.{RunState}
 use Rattle.ledger_moves.specs.Frames.{frames_seen}
+use Rattle.ledger_obligations.specs.Obligations.{held_in}
+use Rattle.ledger_state.specs.declared.value.Value.{Value}
+use Rattle.ledger_state.specs.Contents.{HeapContents}
+use Rattle.plain_returns.specs.PlainReturns.{OwnersBelow}
+use Rattle.settled_heaps.specs.Settled.{Settled}
 
 -- the configuration of a run
 abbrev pub config_of : RunState → Config
@@ -15,3 +21,11 @@ config_of m = record {
   used = m.used;
   ended = m.ended;
 }
+
+-- no object is left to lose, and no frame above position `n` owns one
+abbrev pub NothingToLose : HeapContents → List (List Value) → ℕ → Type 0
+NothingToLose h held n = Settled h held × OwnersBelow h n
+
+-- where the run says so, no object is left to lose
+abbrev pub HasNothingToLose : RunState → Type 0
+HasNothingToLose m = m.settled ≡ true → NothingToLose m.heap (map held_in (reverse m.frames.items)) m.owning

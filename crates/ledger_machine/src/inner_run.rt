@@ -1,9 +1,9 @@
 //! Steps within a frame.
 
-ghost use Rattle.std.specs.Prelude.{◌≡◌, ◌∷◌, ◌++◌, ◌-◌, ◌<◌, ◌≤◌, [], length, map, reverse, slice_set, vec_capacity, vec_len, IfOk, OnErr, OnOk};
+ghost use Rattle.std.specs.Prelude.{◌≡◌, ◌+◌, ◌∷◌, ◌++◌, ◌-◌, ◌<◌, ◌≤◌, [], length, map, reverse, slice_set, vec_capacity, vec_len, IfOk, OnErr, OnOk, None, false, true, unwrap_or};
 ghost use Rattle.java_control.specs.Changes.{step_in};
 ghost use Rattle.ledger_frames.specs.Frames.{locals_after};
-ghost use Rattle.ledger_machine.specs.Machines.{config_of};
+ghost use Rattle.ledger_machine.specs.Machines.{HasNothingToLose, config_of};
 ghost use Rattle.ledger_moves.specs.Frames.{highest_control};
 ghost use Rattle.ledger_moves.specs.Moves.{Inner};
 ghost use Rattle.ledger_machine.specs.Outcomes.{went};
@@ -11,10 +11,11 @@ ghost use Rattle.ledger_machine.specs.Steps.{if_thrown, moved_by};
 ghost use Rattle.ledger_obligations.specs.Obligations.{held_in};
 ghost use Rattle.ledger_operations.specs.Operations.{arrays_after, made_value, next_choice, statics_after, statics_with, used_after};
 ghost use Rattle.ledger_state.specs.Locals.{held};
-ghost use Rattle.ledger_steps.specs.InnerSteps.{inner, thrown_value};
+ghost use Rattle.ledger_steps.specs.InnerSteps.{inner, store_of, thrown_value};
 ghost use Rattle.program_model.specs.Lookups.{optional};
+ghost use Rattle.settled_heaps.specs.Settled.{Settled, drops_any};
 
-use crate::run_state::{RunState, StepResult};
+use crate::run_state::{InnerResult, RunState};
 use java_control::{Action, Triple};
 use ledger_frames::locals_after;
 use ledger_obligations::ActiveFrame;
@@ -22,9 +23,10 @@ use ledger_operations::{
     array_made, made_value, next_choice, static_of, store_into_array, used_after,
 };
 use ledger_state::{ArrayObject, Entry, Heap, Locals, StoredStatic, Value, put_static};
-use ledger_steps::{StepEffect, inner_effect, thrown_value};
+use ledger_steps::{StepEffect, inner_effect, store_of, thrown_value};
 use program_model::{ClassId, Program};
 use rlc_base::NoMemory;
+use settled_heaps::drops_any;
 use std::alloc::Global;
 use stub_conduct::Choice;
 
@@ -140,32 +142,66 @@ fn used_by(
     }
 }
 
-// What a step within the top frame leaves of the frame and of the heap.
-fn inner_result(
+/// Whether the top frame, whose places held `before` and hold `now`, drops no object.
+pub(crate) fn keeps_all(heap: &Heap, below: &[ActiveFrame], before: &Locals, now: &Locals) -> bool
+    ensures { result ≡ true → drops_any heap.now (length below.now + 1) (held before.now) (held now.now) ≡ false }
+{
+    let position = below.len() as u64 + 1;
+    !drops_any(heap, position, before, now)
+}
+
+// Whether the step stores nothing, throws nothing, and drops no object: it leaves the heap as it is.
+fn is_quiet(
+    heap: &Heap,
+    below: &[ActiveFrame],
+    before: &Locals,
+    now: &Locals,
+    thrown: Option<ClassId>,
+    action: Action,
+) -> bool
+    ensures none { result ≡ true → thrown ≡ None }
+    ensures stores { result ≡ true → store_of before.now action ≡ None }
+    ensures keeps { result ≡ true → drops_any heap.now (length below.now + 1) (held before.now) (held now.now) ≡ false }
+{
+    match thrown {
+        Some(_) => false,
+        None => match store_of(before, action) {
+            Some(_) => false,
+            None => keeps_all(heap, below, before, now),
+        },
+    }
+}
+
+// What a step within the top frame leaves that leaves the heap as it is.
+fn quiet_result(alloc: Global, locals: Locals) -> InnerResult
+    ensures locals { result.locals ≡ locals }
+    ensures heap { result.heap ≡ None }
+    ensures lines { result.lines.items ≡ [] }
+{
+    InnerResult {
+        locals,
+        heap: None,
+        lines: Vec::new(alloc),
+        settled: true,
+    }
+}
+
+// What a step within the top frame leaves of the heap, whatever it changes. `locals` are the values of the frame after it.
+fn changed_result(
     alloc: Global,
     p: &Program,
     heap: &Heap,
-    made: Value,
+    locals: Locals,
     top: &ActiveFrame,
     below: &[ActiveFrame],
     thrown: Option<ClassId>,
     s: Triple,
-) -> Result<StepResult, NoMemory>
-    ensures locals { IfOk result (λ r. r.locals ≡ locals_after p.now heap.now top.now.method top.now.locals s.action s.edge (thrown_value heap.now thrown made)) }
-    ensures heap { IfOk result (λ r. r.effect.heap ≡ (inner p.now heap.now top.now.method top.now.locals thrown s.action s.pos (held r.locals ∷ map held_in (reverse below.now))).heap) }
-    ensures lines { IfOk result (λ r. r.effect.lines.items ≡ (inner p.now heap.now top.now.method top.now.locals thrown s.action s.pos (held r.locals ∷ map held_in (reverse below.now))).lines) }
+) -> Result<InnerResult, NoMemory>
+    ensures locals { IfOk result (λ r. r.locals ≡ locals) }
+    ensures heap { IfOk result (λ r. unwrap_or r.heap heap.now ≡ (inner p.now heap.now top.now.method top.now.locals thrown s.action s.pos (held locals ∷ map held_in (reverse below.now))).heap) }
+    ensures lines { IfOk result (λ r. r.lines.items ≡ (inner p.now heap.now top.now.method top.now.locals thrown s.action s.pos (held locals ∷ map held_in (reverse below.now))).lines) }
+    ensures settled { IfOk result (λ r. r.settled ≡ false) }
 {
-    let value = thrown_value(heap, thrown, made);
-    let locals = locals_after(
-        alloc,
-        p,
-        heap,
-        top.method,
-        &top.locals,
-        s.action,
-        s.edge,
-        value,
-    )?;
     let effect = inner_effect(
         alloc,
         p,
@@ -178,7 +214,62 @@ fn inner_result(
         &locals,
         below,
     )?;
-    Ok(StepResult { locals, effect })
+    let StepEffect { heap: after, lines } = effect;
+    let heap = Some(after);
+    Ok(InnerResult {
+        locals,
+        heap,
+        lines,
+        settled: false,
+    })
+}
+
+// What a step within the top frame leaves of the frame and of the heap, in which nothing is left to lose where `settled` says so.
+fn inner_result(
+    alloc: Global,
+    p: &Program,
+    heap: &Heap,
+    made: Value,
+    top: &ActiveFrame,
+    below: &[ActiveFrame],
+    thrown: Option<ClassId>,
+    s: Triple,
+    settled: bool,
+) -> Result<InnerResult, NoMemory>
+    requires { settled ≡ true → Settled heap.now (held top.now.locals ∷ map held_in (reverse below.now)) }
+    ensures locals { IfOk result (λ r. r.locals ≡ locals_after p.now heap.now top.now.method top.now.locals s.action s.edge (thrown_value heap.now thrown made)) }
+    ensures heap { IfOk result (λ r. unwrap_or r.heap heap.now ≡ (inner p.now heap.now top.now.method top.now.locals thrown s.action s.pos (held r.locals ∷ map held_in (reverse below.now))).heap) }
+    ensures lines { IfOk result (λ r. r.lines.items ≡ (inner p.now heap.now top.now.method top.now.locals thrown s.action s.pos (held r.locals ∷ map held_in (reverse below.now))).lines) }
+    ensures settled { IfOk result (λ r. r.settled ≡ true → Settled (unwrap_or r.heap heap.now) (held r.locals ∷ map held_in (reverse below.now))) }
+    ensures same { IfOk result (λ r. r.settled ≡ true → r.heap ≡ None) }
+    ensures was { IfOk result (λ r. r.settled ≡ true → settled ≡ true) }
+{
+    let value = thrown_value(heap, thrown, made);
+    let locals = locals_after(
+        alloc,
+        p,
+        heap,
+        top.method,
+        &top.locals,
+        s.action,
+        s.edge,
+        value,
+    )?;
+    if settled {
+        if is_quiet(heap, below, &top.locals, &locals, thrown, s.action) {
+            return Ok(quiet_result(alloc, locals));
+        }
+    }
+    changed_result(alloc, p, heap, locals, top, below, thrown, s)
+}
+
+// The heap becomes the one that a step leaves, where that is another one.
+fn take_heap(heap: &mut Heap, left: Option<Heap>)
+    ensures { heap.new ≡ unwrap_or left heap.old }
+{
+    if let Some(after) = left {
+        *heap = after;
+    }
 }
 
 /// Takes a step within the top frame, which throws an exception of this class, or none. Where memory runs out all stays.
@@ -192,9 +283,11 @@ pub(crate) fn run_inner(
     requires running { 0 < vec_len m.old.frames }
     requires bounded { highest_control m.old.frames.items ≤ length m.old.lists.cells.keys }
     requires within { s.to ≤ length m.old.lists.cells.keys }
+    requires settled { HasNothingToLose m.old }
     ensures went { OnOk result (went (config_of m.new) ≡ moved_by p.now (config_of m.old) (config_of m.old).frames (Inner thrown (step_in m.old.lists.cells.keys s))) }
     ensures kept { OnErr result (config_of m.new ≡ config_of m.old) }
     ensures bounded { highest_control m.new.frames.items ≤ length m.new.lists.cells.keys }
+    ensures settled { HasNothingToLose m.new }
 {
     if let Some((top, below)) = m.frames.split_last() {
         let method = top.method;
@@ -208,7 +301,7 @@ pub(crate) fn run_inner(
             &top.locals,
             s.action,
         );
-        let taken = inner_result(alloc, p, &m.heap, made, top, below, thrown, s)?;
+        let taken = inner_result(alloc, p, &m.heap, made, top, below, thrown, s, m.settled)?;
         let used = used_by(&m.arrays, &m.choices, m.used, &top.locals, thrown, s.action);
         store_results(
             alloc,
@@ -218,12 +311,17 @@ pub(crate) fn run_inner(
             &top.locals,
             thrown,
             s.action,
-            &taken.effect.lines,
+            &taken.lines,
         )?;
         m.used = used;
-        let StepResult { locals, effect } = taken;
-        let StepEffect { heap, lines } = effect;
-        m.heap = heap;
+        let InnerResult {
+            locals,
+            heap,
+            lines,
+            settled,
+        } = taken;
+        m.settled = settled;
+        take_heap(&mut m.heap, heap);
         put_top(
             &mut m.frames,
             ActiveFrame {

@@ -1,7 +1,8 @@
 //! One run of a program.
 
-ghost use Rattle.std.specs.Prelude.{◌≤◌, length};
+ghost use Rattle.std.specs.Prelude.{◌≡◌, ◌≤◌, length, true};
 ghost use Rattle.ledger_moves.specs.Frames.{highest_control};
+ghost use Rattle.ledger_machine.specs.Machines.{HasNothingToLose};
 
 use crate::run_state::RunState;
 
@@ -11,4 +12,5 @@ use crate::run_state::RunState;
 pub struct Machine {
     pub(crate) state: RunState,
     ghost bounded: { highest_control state.frames.items ≤ length state.lists.cells.keys },
+    ghost settled: { HasNothingToLose state },
 }

@@ -1,11 +1,11 @@
 //! Steps that end frames.
 
-ghost use Rattle.std.specs.Prelude.{◌≡◌, ◌+◌, ◌-◌, ◌∷◌, ◌++◌, ◌<◌, ◌≤◌, List, length, map, reverse, take, vec_len, IfOk, OnErr, OnOk};
+ghost use Rattle.std.specs.Prelude.{◌≡◌, ◌+◌, ◌-◌, ◌∷◌, ◌++◌, ◌<◌, ◌≤◌, List, length, map, reverse, take, vec_len, IfOk, IfSome, None, OnErr, OnOk, false, true};
 ghost use Rattle.java_control.specs.Changes.{step_in};
 ghost use Rattle.ledger_calls.specs.Configuration.{Frame};
 ghost use Rattle.ledger_frames.specs.Choosing.{frame_steps};
 ghost use Rattle.ledger_frames.specs.Frames.{locals_after};
-ghost use Rattle.ledger_machine.specs.Machines.{config_of};
+ghost use Rattle.ledger_machine.specs.Machines.{HasNothingToLose, NothingToLose, config_of};
 ghost use Rattle.ledger_moves.specs.Frames.{control_back, frame_seen, frames_seen, highest_control, return_seen};
 ghost use Rattle.ledger_moves.specs.Moves.{End, return_move};
 ghost use Rattle.ledger_machine.specs.Outcomes.{config_after, turn_of, went};
@@ -14,25 +14,121 @@ ghost use Rattle.ledger_obligations.specs.Obligations.{held_in};
 ghost use Rattle.ledger_state.specs.Locals.{held};
 ghost use Rattle.ledger_steps.specs.Ends.{answered, exception_class, result_value, thrown_in};
 ghost use Rattle.ledger_steps.specs.Ends as ends;
+ghost use Rattle.ledger_machine.specs.HeapChanges.{heap_left};
+ghost use Rattle.plain_calls.specs.PlainCalls.{left_by, put_noted};
+ghost use Rattle.plain_returns.specs.PlainReturns.{OwnersBelow};
+ghost use Rattle.settled_heaps.specs.Settled.{Settled};
 ghost use Rattle.program_model.specs.Lookups.{method_at};
 
 use crate::inner_run::{append_lines, put_top};
-use crate::run_state::{RunState, StepResult};
+use crate::run_state::{CallResult, PlainResult, RunState};
+use crate::stepping::{add_lines, plain_end, take_change, whole_end};
 use crate::turn::Turn;
 use java_control::{Completion, Triple};
 use ledger_frames::locals_after;
 use ledger_moves::{CallEnd, call_end};
 use ledger_obligations::ActiveFrame;
-use ledger_state::Heap;
+use ledger_state::{Heap, Locals};
 use ledger_steps::{
     FrameEnd, StepEffect, answered, exception_class, main_effect, result_value, return_effect,
 };
+use plain_calls::PlainChange;
+use plain_returns::{PlainReturn, plain_return};
 use program_model::{ClassId, MethodId, Program};
 use rlc_base::{NoMemory, Pos};
 use std::alloc::Global;
 
-// What the end of the top frame and of its call leave of the caller's frame and of the heap.
-fn return_result(
+fn plain_of_return(found: PlainReturn) -> Option<PlainResult>
+    ensures { IfSome result (λ r. (r.change.noted ≡ found.noted) × (r.change.made ≡ None) × (r.lines.items ≡ found.lines.items) × (r.owning ≡ found.owning)) }
+{
+    let PlainReturn {
+        noted,
+        lines,
+        owning,
+    } = found;
+    let change = PlainChange { noted, made: None };
+    Some(PlainResult {
+        change,
+        lines,
+        owning,
+    })
+}
+
+// What a plain return changes, where this is one and the heap is `settled`. `locals` are the values of the caller after it, and `ended`
+// those of the frame that ends.
+fn return_found(
+    alloc: Global,
+    p: &Program,
+    heap: &Heap,
+    end: FrameEnd,
+    ended: &Locals,
+    caller: &ActiveFrame,
+    below: &[ActiveFrame],
+    named: MethodId,
+    t: Triple,
+    locals: &Locals,
+    settled: bool,
+    owning: u64,
+) -> Result<Option<PlainReturn>, NoMemory>
+    requires { settled ≡ true → NothingToLose heap.now (held ended.now ∷ held caller.now.locals ∷ map held_in (reverse below.now)) owning }
+    ensures heap { IfOk result (λ o. IfSome o (λ r. (ends.returned p.now heap.now (length below.now + 1) end.this caller.now.locals t.action (method_at p.now end.method) (method_at p.now named) end.value end.thrown end.pos t.pos (held locals.now ∷ map held_in (reverse below.now))).heap ≡ put_noted r.noted heap.now)) }
+    ensures lines { IfOk result (λ o. IfSome o (λ r. (ends.returned p.now heap.now (length below.now + 1) end.this caller.now.locals t.action (method_at p.now end.method) (method_at p.now named) end.value end.thrown end.pos t.pos (held locals.now ∷ map held_in (reverse below.now))).lines ≡ r.lines.items)) }
+    ensures settled { IfOk result (λ o. IfSome o (λ r. Settled (put_noted r.noted heap.now) (held locals.now ∷ map held_in (reverse below.now)))) }
+    ensures owners { IfOk result (λ o. IfSome o (λ r. OwnersBelow (put_noted r.noted heap.now) r.owning)) }
+{
+    if !settled {
+        return Ok(None);
+    }
+    let position = below.len() as u64 + 1;
+    plain_return(
+        alloc,
+        p,
+        t.pos,
+        position,
+        &caller.locals,
+        t.action,
+        named,
+        end,
+        heap,
+        ended,
+        locals,
+        below,
+        owning,
+    )
+}
+
+// What a plain return leaves, where this is one and the heap is `settled`. `locals` are the values of the caller after it, and `ended`
+// those of the frame that ends.
+fn return_plain(
+    alloc: Global,
+    p: &Program,
+    heap: &Heap,
+    end: FrameEnd,
+    ended: &Locals,
+    caller: &ActiveFrame,
+    below: &[ActiveFrame],
+    named: MethodId,
+    t: Triple,
+    locals: &Locals,
+    settled: bool,
+    owning: u64,
+) -> Result<Option<PlainResult>, NoMemory>
+    requires { settled ≡ true → NothingToLose heap.now (held ended.now ∷ held caller.now.locals ∷ map held_in (reverse below.now)) owning }
+    ensures heap { IfOk result (λ o. IfSome o (λ r. (ends.returned p.now heap.now (length below.now + 1) end.this caller.now.locals t.action (method_at p.now end.method) (method_at p.now named) end.value end.thrown end.pos t.pos (held locals.now ∷ map held_in (reverse below.now))).heap ≡ left_by r.change.noted r.change.made heap.now)) }
+    ensures lines { IfOk result (λ o. IfSome o (λ r. (ends.returned p.now heap.now (length below.now + 1) end.this caller.now.locals t.action (method_at p.now end.method) (method_at p.now named) end.value end.thrown end.pos t.pos (held locals.now ∷ map held_in (reverse below.now))).lines ≡ r.lines.items)) }
+    ensures nothing { IfOk result (λ o. IfSome o (λ r. NothingToLose (left_by r.change.noted r.change.made heap.now) (held locals.now ∷ map held_in (reverse below.now)) r.owning)) }
+{
+    let found = return_found(
+        alloc, p, heap, end, ended, caller, below, named, t, locals, settled, owning,
+    )?;
+    match found {
+        None => Ok(None),
+        Some(plain) => Ok(plain_of_return(plain)),
+    }
+}
+
+// What the end of the top frame and of its call leave, whatever they change. `locals` are the values of the caller after it.
+fn whole_return(
     alloc: Global,
     p: &Program,
     heap: &Heap,
@@ -41,22 +137,13 @@ fn return_result(
     below: &[ActiveFrame],
     named: MethodId,
     t: Triple,
-) -> Result<StepResult, NoMemory>
-    ensures locals { IfOk result (λ r. r.locals ≡ locals_after p.now heap.now caller.now.method caller.now.locals t.action t.edge (answered end.this t.action end.value end.thrown)) }
-    ensures heap { IfOk result (λ r. r.effect.heap ≡ (ends.returned p.now heap.now (length below.now + 1) end.this caller.now.locals t.action (method_at p.now end.method) (method_at p.now named) end.value end.thrown end.pos t.pos (held r.locals ∷ map held_in (reverse below.now))).heap) }
-    ensures lines { IfOk result (λ r. r.effect.lines.items ≡ (ends.returned p.now heap.now (length below.now + 1) end.this caller.now.locals t.action (method_at p.now end.method) (method_at p.now named) end.value end.thrown end.pos t.pos (held r.locals ∷ map held_in (reverse below.now))).lines) }
+    locals: Locals,
+) -> Result<CallResult, NoMemory>
+    ensures locals { IfOk result (λ r. r.locals ≡ locals) }
+    ensures heap { IfOk result (λ r. heap_left r.change heap.now ≡ (ends.returned p.now heap.now (length below.now + 1) end.this caller.now.locals t.action (method_at p.now end.method) (method_at p.now named) end.value end.thrown end.pos t.pos (held locals ∷ map held_in (reverse below.now))).heap) }
+    ensures lines { IfOk result (λ r. r.lines.items ≡ (ends.returned p.now heap.now (length below.now + 1) end.this caller.now.locals t.action (method_at p.now end.method) (method_at p.now named) end.value end.thrown end.pos t.pos (held locals ∷ map held_in (reverse below.now))).lines) }
+    ensures settled { IfOk result (λ r. r.settled ≡ false) }
 {
-    let value = answered(end.this, t.action, end.value, end.thrown);
-    let locals = locals_after(
-        alloc,
-        p,
-        heap,
-        caller.method,
-        &caller.locals,
-        t.action,
-        t.edge,
-        value,
-    )?;
     let position = below.len() as u64 + 1;
     let effect = return_effect(
         alloc,
@@ -71,7 +158,47 @@ fn return_result(
         &locals,
         below,
     )?;
-    Ok(StepResult { locals, effect })
+    Ok(whole_end(locals, effect))
+}
+
+// What the end of the top frame, which held `ended`, and of its call leave of the caller's frame and of the heap.
+fn return_result(
+    alloc: Global,
+    p: &Program,
+    heap: &Heap,
+    end: FrameEnd,
+    ended: &Locals,
+    caller: &ActiveFrame,
+    below: &[ActiveFrame],
+    named: MethodId,
+    t: Triple,
+    settled: bool,
+    owning: u64,
+) -> Result<CallResult, NoMemory>
+    requires { settled ≡ true → NothingToLose heap.now (held ended.now ∷ held caller.now.locals ∷ map held_in (reverse below.now)) owning }
+    ensures locals { IfOk result (λ r. r.locals ≡ locals_after p.now heap.now caller.now.method caller.now.locals t.action t.edge (answered end.this t.action end.value end.thrown)) }
+    ensures heap { IfOk result (λ r. heap_left r.change heap.now ≡ (ends.returned p.now heap.now (length below.now + 1) end.this caller.now.locals t.action (method_at p.now end.method) (method_at p.now named) end.value end.thrown end.pos t.pos (held r.locals ∷ map held_in (reverse below.now))).heap) }
+    ensures lines { IfOk result (λ r. r.lines.items ≡ (ends.returned p.now heap.now (length below.now + 1) end.this caller.now.locals t.action (method_at p.now end.method) (method_at p.now named) end.value end.thrown end.pos t.pos (held r.locals ∷ map held_in (reverse below.now))).lines) }
+    ensures nothing { IfOk result (λ r. r.settled ≡ true → NothingToLose (heap_left r.change heap.now) (held r.locals ∷ map held_in (reverse below.now)) r.owning) }
+{
+    let value = answered(end.this, t.action, end.value, end.thrown);
+    let locals = locals_after(
+        alloc,
+        p,
+        heap,
+        caller.method,
+        &caller.locals,
+        t.action,
+        t.edge,
+        value,
+    )?;
+    let found = return_plain(
+        alloc, p, heap, end, ended, caller, below, named, t, &locals, settled, owning,
+    )?;
+    match found {
+        Some(result) => Ok(plain_end(locals, result)),
+        None => whole_return(alloc, p, heap, end, caller, below, named, t, locals),
+    }
 }
 
 // The top frame is no more.
@@ -95,10 +222,12 @@ fn run_return(
 ) -> Result<(), NoMemory>
     requires running { 1 < vec_len m.old.frames }
     requires bounded { highest_control m.old.frames.items ≤ length m.old.lists.cells.keys }
+    requires settled { HasNothingToLose m.old }
     requires within { t.to ≤ length m.old.lists.cells.keys }
     ensures went { (fr caller : Frame) (frs : List Frame) → (config_of m.old).frames ≡ fr ∷ caller ∷ frs → OnOk result (config_of m.new ≡ returned p.now (config_of m.old) fr caller frs pos completion thrown named (step_in m.old.lists.cells.keys t)) }
     ensures kept { OnErr result (config_of m.new ≡ config_of m.old) }
     ensures bounded { highest_control m.new.frames.items ≤ length m.new.lists.cells.keys }
+    ensures settled { HasNothingToLose m.new }
 {
     if let Some((top, others)) = m.frames.split_last() {
         if let Some((caller, below)) = others.split_last() {
@@ -111,11 +240,31 @@ fn run_return(
                 value,
                 thrown,
             };
-            let taken = return_result(alloc, p, &m.heap, end, caller, below, named, t)?;
-            append_lines(&mut m.entries, &taken.effect.lines)?;
-            let StepResult { locals, effect } = taken;
-            let StepEffect { heap, lines } = effect;
-            m.heap = heap;
+            let taken = return_result(
+                alloc,
+                p,
+                &m.heap,
+                end,
+                &top.locals,
+                caller,
+                below,
+                named,
+                t,
+                m.settled,
+                m.owning,
+            )?;
+            let CallResult {
+                locals,
+                change,
+                lines,
+                settled,
+                owning,
+            } = taken;
+            m.entries.reserve(lines.len())?;
+            take_change(&mut m.heap, change)?;
+            add_lines(&mut m.entries, &lines);
+            m.settled = settled;
+            m.owning = owning;
             drop_top(&mut m.frames);
             put_top(
                 &mut m.frames,
@@ -140,9 +289,11 @@ fn run_main_end(
 ) -> Result<(), NoMemory>
     requires alone { vec_len m.old.frames ≡ 1 }
     requires bounded { highest_control m.old.frames.items ≤ length m.old.lists.cells.keys }
+    requires settled { HasNothingToLose m.old }
     ensures went { OnOk result (went (config_of m.new) ≡ moved_by p.now (config_of m.old) (config_of m.old).frames (End pos completion)) }
     ensures kept { OnErr result (config_of m.new ≡ config_of m.old) }
     ensures bounded { highest_control m.new.frames.items ≤ length m.new.lists.cells.keys }
+    ensures settled { HasNothingToLose m.new }
 {
     if let Some((top, _below)) = m.frames.split_last() {
         let effect = main_effect(alloc, p, pos, &m.heap)?;
@@ -150,6 +301,7 @@ fn run_main_end(
         append_lines(&mut m.entries, &effect.lines)?;
         let StepEffect { heap, lines } = effect;
         m.heap = heap;
+        m.settled = false;
         m.ended = ended;
         m.frames.clear();
     }
@@ -166,11 +318,13 @@ fn run_call_end(
 ) -> Result<CallEnd, NoMemory>
     requires running { 1 < vec_len m.old.frames }
     requires bounded { highest_control m.old.frames.items ≤ length m.old.lists.cells.keys }
+    requires settled { HasNothingToLose m.old }
     ensures seen { (fr caller : Frame) (frs : List Frame) → (config_of m.old).frames ≡ fr ∷ caller ∷ frs → IfOk result (λ e. return_seen m.new.lists.cells.keys e ≡ return_move p.now (frame_steps p.now caller) (exception_class p.now m.old.heap (thrown_in fr.locals completion))) }
     ensures within { IfOk result (λ e. control_back e ≤ length m.new.lists.cells.keys) }
     ensures kept { config_of m.new ≡ config_of m.old }
     ensures count { vec_len m.new.frames ≡ vec_len m.old.frames }
     ensures bounded { highest_control m.new.frames.items ≤ length m.new.lists.cells.keys }
+    ensures settled { HasNothingToLose m.new }
 {
     match m.frames.split_last() {
         None => Ok(CallEnd::NoWay),
@@ -195,10 +349,12 @@ fn end_call(
 ) -> Result<Turn, NoMemory>
     requires running { 1 < vec_len m.old.frames }
     requires bounded { highest_control m.old.frames.items ≤ length m.old.lists.cells.keys }
+    requires settled { HasNothingToLose m.old }
     ensures turn { IfOk result (λ t. t ≡ turn_of (moved_by p.now (config_of m.old) (config_of m.old).frames (End pos completion))) }
     ensures config { OnOk result (config_of m.new ≡ config_after (config_of m.old) (moved_by p.now (config_of m.old) (config_of m.old).frames (End pos completion))) }
     ensures kept { OnErr result (config_of m.new ≡ config_of m.old) }
     ensures bounded { highest_control m.new.frames.items ≤ length m.new.lists.cells.keys }
+    ensures settled { HasNothingToLose m.new }
 {
     let end = run_call_end(alloc, p, m, pos, completion)?;
     match end {
@@ -221,10 +377,12 @@ fn end_main(
 ) -> Result<Turn, NoMemory>
     requires alone { vec_len m.old.frames ≡ 1 }
     requires bounded { highest_control m.old.frames.items ≤ length m.old.lists.cells.keys }
+    requires settled { HasNothingToLose m.old }
     ensures turn { IfOk result (λ t. t ≡ turn_of (moved_by p.now (config_of m.old) (config_of m.old).frames (End pos completion))) }
     ensures config { OnOk result (config_of m.new ≡ config_after (config_of m.old) (moved_by p.now (config_of m.old) (config_of m.old).frames (End pos completion))) }
     ensures kept { OnErr result (config_of m.new ≡ config_of m.old) }
     ensures bounded { highest_control m.new.frames.items ≤ length m.new.lists.cells.keys }
+    ensures settled { HasNothingToLose m.new }
 {
     run_main_end(alloc, p, m, pos, completion)?;
     Ok(Turn::Went)
@@ -240,10 +398,12 @@ pub(crate) fn run_end(
 ) -> Result<Turn, NoMemory>
     requires running { 0 < vec_len m.old.frames }
     requires bounded { highest_control m.old.frames.items ≤ length m.old.lists.cells.keys }
+    requires settled { HasNothingToLose m.old }
     ensures turn { IfOk result (λ t. t ≡ turn_of (moved_by p.now (config_of m.old) (config_of m.old).frames (End pos completion))) }
     ensures config { OnOk result (config_of m.new ≡ config_after (config_of m.old) (moved_by p.now (config_of m.old) (config_of m.old).frames (End pos completion))) }
     ensures kept { OnErr result (config_of m.new ≡ config_of m.old) }
     ensures bounded { highest_control m.new.frames.items ≤ length m.new.lists.cells.keys }
+    ensures settled { HasNothingToLose m.new }
 {
     if m.frames.len() == 1 {
         let turn = end_main(alloc, p, m, pos, completion)?;

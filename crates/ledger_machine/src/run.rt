@@ -2,7 +2,7 @@
 
 ghost use Rattle.std.specs.Prelude.{◌≡◌, ◌∷◌, ◌<◌, ◌≤◌, [], length, vec_len, IfOk, OnErr, OnOk};
 ghost use Rattle.ledger_machine.specs.Configurations.{configuration};
-ghost use Rattle.ledger_machine.specs.Machines.{config_of};
+ghost use Rattle.ledger_machine.specs.Machines.{HasNothingToLose, config_of};
 ghost use Rattle.ledger_moves.specs.Frames.{control_left, highest_control, move_seen};
 ghost use Rattle.ledger_machine.specs.Outcomes.{config_after, turn_of};
 ghost use Rattle.ledger_machine.specs.Starts.{start_config};
@@ -18,8 +18,10 @@ use java_control::Lists;
 use ledger_moves::{Advance, begin, frame_move};
 use ledger_operations::next_choice;
 use ledger_state::{Entry, Heap, Value, library_array};
+use plain_returns::highest_owner;
 use program_model::{ClassId, ElementType, MethodId, Program};
 use rlc_base::NoMemory;
+use settled_heaps::is_settled_heap;
 use std::alloc::Global;
 use stub_conduct::Choices;
 
@@ -61,11 +63,13 @@ impl Machine {
 // What the top frame does next.
 fn next_advance(alloc: Global, p: &Program, m: &mut RunState) -> Result<Advance, NoMemory>
     requires bounded { highest_control m.old.frames.items ≤ length m.old.lists.cells.keys }
+    requires settled { HasNothingToLose m.old }
     ensures seen { IfOk result (λ a. move_seen m.new.lists.cells.keys a ≡ top_move p.now (config_of m.old) (config_of m.old).frames) }
     ensures within { IfOk result (λ a. control_left a ≤ length m.new.lists.cells.keys) }
     ensures kept { config_of m.new ≡ config_of m.old }
     ensures count { vec_len m.new.frames ≡ vec_len m.old.frames }
     ensures bounded { highest_control m.new.frames.items ≤ length m.new.lists.cells.keys }
+    ensures settled { HasNothingToLose m.new }
 {
     match m.frames.split_last() {
         None => Ok(Advance::Rest),
@@ -86,11 +90,13 @@ fn take_move(
 ) -> Result<Turn, NoMemory>
     requires running { 0 < vec_len m.old.frames }
     requires bounded { highest_control m.old.frames.items ≤ length m.old.lists.cells.keys }
+    requires settled { HasNothingToLose m.old }
     requires within { control_left advance ≤ length m.old.lists.cells.keys }
     ensures turn { IfOk result (λ t. t ≡ turn_of (moved_by p.now (config_of m.old) (config_of m.old).frames (move_seen m.old.lists.cells.keys advance))) }
     ensures config { OnOk result (config_of m.new ≡ config_after (config_of m.old) (moved_by p.now (config_of m.old) (config_of m.old).frames (move_seen m.old.lists.cells.keys advance))) }
     ensures kept { OnErr result (config_of m.new ≡ config_of m.old) }
     ensures bounded { highest_control m.new.frames.items ≤ length m.new.lists.cells.keys }
+    ensures settled { HasNothingToLose m.new }
 {
     match advance {
         Advance::Inner(thrown, s) => {
@@ -123,27 +129,51 @@ fn over(p: &Program, m: &RunState) -> Turn
     Turn::Ended(m.ended)
 }
 
+// Looks whether an object is left to lose, where that is not known.
+fn settle(m: &mut RunState)
+    requires bounded { highest_control m.old.frames.items ≤ length m.old.lists.cells.keys }
+    requires settled { HasNothingToLose m.old }
+    ensures kept { config_of m.new ≡ config_of m.old }
+    ensures bounded { highest_control m.new.frames.items ≤ length m.new.lists.cells.keys }
+    ensures settled { HasNothingToLose m.new }
+{
+    if m.settled {
+        return;
+    }
+    let settled = match m.frames.split_last() {
+        None => false,
+        Some((top, below)) => is_settled_heap(&m.heap, &top.locals, below),
+    };
+    m.owning = highest_owner(&m.heap);
+    m.settled = settled;
+}
+
 // The top frame takes a step.
 fn step_on(alloc: Global, p: &Program, m: &mut RunState) -> Result<Turn, NoMemory>
     requires running { 0 < vec_len m.old.frames }
     requires bounded { highest_control m.old.frames.items ≤ length m.old.lists.cells.keys }
+    requires settled { HasNothingToLose m.old }
     ensures turn { IfOk result (λ t. t ≡ turn_of (step p.now (config_of m.old))) }
     ensures config { OnOk result (config_of m.new ≡ config_after (config_of m.old) (step p.now (config_of m.old))) }
     ensures kept { OnErr result (config_of m.new ≡ config_of m.old) }
     ensures bounded { highest_control m.new.frames.items ≤ length m.new.lists.cells.keys }
+    ensures settled { HasNothingToLose m.new }
 {
     let advance = next_advance(alloc, p, m)?;
     let turn = take_move(alloc, p, m, advance)?;
+    settle(m);
     Ok(turn)
 }
 
 // Takes one step.
 fn take_step(alloc: Global, p: &Program, m: &mut RunState) -> Result<Turn, NoMemory>
     requires bounded { highest_control m.old.frames.items ≤ length m.old.lists.cells.keys }
+    requires settled { HasNothingToLose m.old }
     ensures turn { IfOk result (λ t. t ≡ turn_of (step p.now (config_of m.old))) }
     ensures config { OnOk result (config_of m.new ≡ config_after (config_of m.old) (step p.now (config_of m.old))) }
     ensures kept { OnErr result (config_of m.new ≡ config_of m.old) }
     ensures bounded { highest_control m.new.frames.items ≤ length m.new.lists.cells.keys }
+    ensures settled { HasNothingToLose m.new }
 {
     if m.frames.is_empty() {
         let turn = over(p, m);
@@ -184,6 +214,8 @@ pub fn start_machine(
             choices: choices.list,
             used: 0,
             ended: None,
+            settled: false,
+            owning: 0,
         },
     })
 }

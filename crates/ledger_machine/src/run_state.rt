@@ -3,7 +3,7 @@
 use java_control::Lists;
 use ledger_obligations::ActiveFrame;
 use ledger_state::{ArrayObject, Entry, Heap, Locals, StoredStatic};
-use ledger_steps::StepEffect;
+use plain_calls::PlainChange;
 use program_model::ClassId;
 use stub_conduct::Choice;
 
@@ -24,18 +24,58 @@ pub struct RunState {
     pub used: usize,
     /// Where no frame is left, the class of the exception by which `main` ended.
     pub ended: Option<ClassId>,
+    /// Where this is true, no object is left to lose; where it is false, nothing is said.
+    pub settled: bool,
+    /// Where `settled` is true, no frame above this position owns an object.
+    pub owning: u64,
 }
 
-/// What a step leaves: the values of the frame that is then on top, the heap, and the lines of the ledger that it writes.
+/// What a step within a frame leaves: the values of the frame, the heap, where it is another one than before, and the lines of the
+/// ledger that it writes. Where `settled` is true, no object is left to lose.
 #[derive(Drop)]
-pub struct StepResult {
+pub struct InnerResult {
     pub locals: Locals,
-    pub effect: StepEffect,
+    pub heap: Option<Heap>,
+    pub lines: Vec<Entry>,
+    pub settled: bool,
 }
 
-/// What the start of a call leaves: the frame that begins, the heap, and the lines of the ledger that the step writes.
+/// What the start or the end of a call leaves of the heap.
+#[derive(Drop)]
+pub enum HeapChange {
+    /// Another heap.
+    Whole(Heap),
+    /// The same heap, which is changed at one object and has one object more.
+    Plain(PlainChange),
+}
+
+/// What the start or the end of a call leaves that changes one object at most and makes one at most: no object is left to lose then, and no
+/// frame above `owning` owns one.
+#[derive(Drop)]
+pub struct PlainResult {
+    pub change: PlainChange,
+    pub lines: Vec<Entry>,
+    pub owning: u64,
+}
+
+/// What the end of a call leaves, of the library or of a method of the program: the values of the caller, the heap, and the lines of the
+/// ledger that the step writes. Where `settled` is true, no object is left to lose, and no frame above `owning` owns one.
+#[derive(Drop)]
+pub struct CallResult {
+    pub locals: Locals,
+    pub change: HeapChange,
+    pub lines: Vec<Entry>,
+    pub settled: bool,
+    pub owning: u64,
+}
+
+/// What the start of a call leaves: the frame that begins, the heap, and the lines of the ledger that the step writes. Where `settled`
+/// is true, no object is left to lose, and no frame above `owning` owns one.
 #[derive(Drop)]
 pub struct StartResult {
     pub frame: ActiveFrame,
-    pub effect: StepEffect,
+    pub change: HeapChange,
+    pub lines: Vec<Entry>,
+    pub settled: bool,
+    pub owning: u64,
 }

@@ -1,12 +1,13 @@
 //! Steps that begin and end calls.
 
-ghost use Rattle.std.specs.Prelude.{◌≡◌, ◌+◌, ◌∷◌, ◌++◌, ◌<◌, ◌≤◌, [], List, length, map, reverse, vec_capacity, vec_len, IfOk, OnErr, OnOk};
+ghost use Rattle.std.specs.Prelude.{◌≡◌, ◌+◌, ◌∷◌, ◌++◌, ◌<◌, ◌≤◌, [], List, length, map, reverse, vec_capacity, vec_len, IfOk, IfSome, None, OnErr, OnOk, false, true};
 ghost use Rattle.java_control.specs.Changes.{step_in};
 ghost use Rattle.java_control.specs.Tables.{Keeps};
 ghost use Rattle.ledger_calls.specs.Calls.{argument_values, begun};
 ghost use Rattle.ledger_calls.specs.Conducts.{arguments_shared, arrays_given, conduct_value, positions, result_in};
 ghost use Rattle.ledger_frames.specs.Frames.{locals_after};
-ghost use Rattle.ledger_machine.specs.Machines.{config_of};
+ghost use Rattle.ledger_machine.specs.HeapChanges.{heap_left};
+ghost use Rattle.ledger_machine.specs.Machines.{HasNothingToLose, NothingToLose, config_of};
 ghost use Rattle.ledger_moves.specs.Frames.{frame_seen, highest_control};
 ghost use Rattle.ledger_moves.specs.Moves.{Library, Start};
 ghost use Rattle.ledger_machine.specs.Outcomes.{went};
@@ -16,45 +17,111 @@ ghost use Rattle.ledger_state.specs.declared.array.ArrayObject.{ArrayObject};
 ghost use Rattle.ledger_state.specs.Heaps.{next_number};
 ghost use Rattle.ledger_state.specs.Locals.{held};
 ghost use Rattle.ledger_steps.specs.CallSteps.{library_done, self_begun, started};
+ghost use Rattle.plain_calls.specs.PlainCalls.{left_by};
+ghost use Rattle.plain_returns.specs.PlainReturns.{object_of, with_position};
 ghost use Rattle.program_model.specs.Lookups.{method_at, optional};
+ghost use Rattle.settled_heaps.specs.Settled.{Settled};
 
-use crate::inner_run::{add_array, append_lines, put_top};
-use crate::run_state::{RunState, StartResult, StepResult};
+use crate::inner_run::{add_array, keeps_all, put_top};
+use crate::run_state::{CallResult, HeapChange, PlainResult, RunState, StartResult};
 use java_control::{Action, Lists, Triple};
 use ledger_calls::{argument_values, conduct_value, result_of, share_arguments};
 use ledger_frames::locals_after;
 use ledger_moves::begin;
 use ledger_obligations::ActiveFrame;
 use ledger_operations::one_more_used;
-use ledger_state::{ArrayObject, Heap, Locals, Value, library_array};
+use ledger_state::{ArrayObject, Entry, Heap, Locals, Object, Value, library_array};
 use ledger_steps::{StepEffect, library_effect, self_begun, start_effect};
+use plain_calls::{PlainCall, PlainChange, apply_change, begun, plain_call, takes_owning};
+use plain_returns::owners_after;
 use program_model::{MethodId, Program, VType};
 use rlc_base::{NoMemory, Pos};
 use std::alloc::Global;
 use stub_conduct::Conduct;
 
-// The frame that a call begins, and what the step leaves of the heap.
-fn start_result(
+// What a call of the program's method that moves no argument leaves, where the heap is `settled`. `locals` are the values of the frame
+// that begins.
+fn start_plain(
     alloc: Global,
     p: &Program,
-    lists: &mut Lists,
     heap: &Heap,
     top: &ActiveFrame,
     frames: &[ActiveFrame],
     named: MethodId,
-    runs: MethodId,
     action: Action,
     pos: Pos,
-) -> Result<StartResult, NoMemory>
-    ensures frame { IfOk result (λ r. frame_seen lists.new.cells.keys r.frame ≡ begun p.now runs (self_begun top.now.locals action heap.now) (argument_values top.now.locals action (method_at p.now named))) }
-    ensures heap { IfOk result (λ r. r.effect.heap ≡ (started p.now heap.now top.now.locals action (method_at p.now named) (length frames.now + 1) pos (held r.frame.locals ∷ map held_in (reverse frames.now))).heap) }
-    ensures lines { IfOk result (λ r. r.effect.lines.items ≡ (started p.now heap.now top.now.locals action (method_at p.now named) (length frames.now + 1) pos (held r.frame.locals ∷ map held_in (reverse frames.now))).lines) }
-    ensures within { IfOk result (λ r. r.frame.control ≤ length lists.new.cells.keys) }
-    ensures kept { Keeps lists.old.cells.keys lists.new.cells.keys }
+    locals: &Locals,
+    settled: bool,
+    owning: u64,
+) -> Option<PlainResult>
+    requires { settled ≡ true → NothingToLose heap.now (map held_in (reverse frames.now)) owning }
+    ensures heap { IfSome result (λ r. (started p.now heap.now top.now.locals action (method_at p.now named) (length frames.now + 1) pos (held locals.now ∷ map held_in (reverse frames.now))).heap ≡ left_by r.change.noted r.change.made heap.now) }
+    ensures lines { IfSome result (λ r. (started p.now heap.now top.now.locals action (method_at p.now named) (length frames.now + 1) pos (held locals.now ∷ map held_in (reverse frames.now))).lines ≡ r.lines.items) }
+    ensures nothing { IfSome result (λ r. NothingToLose (left_by r.change.noted r.change.made heap.now) (held locals.now ∷ map held_in (reverse frames.now)) r.owning) }
 {
-    let this = self_begun(&top.locals, action, heap);
-    let arguments = argument_values(alloc, p, &top.locals, action, named)?;
-    let frame = begin(alloc, p, lists, runs, this, arguments)?;
+    if !settled {
+        return None;
+    }
+    if takes_owning(p, named) {
+        return None;
+    }
+    let made = begun(p, action, named);
+    let highest = owners_after(&None, &made, owning);
+    Some(made_result(alloc, made, highest))
+}
+
+fn made_result(alloc: Global, made: Option<Object>, owning: u64) -> PlainResult
+    ensures noted { result.change.noted ≡ None }
+    ensures made { result.change.made ≡ made }
+    ensures lines { result.lines.items ≡ [] }
+    ensures owning { result.owning ≡ owning }
+{
+    let change = PlainChange { noted: None, made };
+    PlainResult {
+        change,
+        lines: Vec::new(alloc),
+        owning,
+    }
+}
+
+fn plain_start(frame: ActiveFrame, found: PlainResult) -> StartResult
+    ensures frame { result.frame ≡ frame }
+    ensures change { result.change ≡ HeapChange.Plain found.change }
+    ensures lines { result.lines.items ≡ found.lines.items }
+    ensures owning { result.owning ≡ found.owning }
+{
+    let PlainResult {
+        change,
+        lines,
+        owning,
+    } = found;
+    let change = HeapChange::Plain(change);
+    StartResult {
+        frame,
+        change,
+        lines,
+        settled: true,
+        owning,
+    }
+}
+
+// What a call of the program's method leaves, whatever it changes.
+fn whole_start(
+    alloc: Global,
+    p: &Program,
+    heap: &Heap,
+    top: &ActiveFrame,
+    frames: &[ActiveFrame],
+    named: MethodId,
+    action: Action,
+    pos: Pos,
+    frame: ActiveFrame,
+) -> Result<StartResult, NoMemory>
+    ensures frame { IfOk result (λ r. r.frame ≡ frame) }
+    ensures heap { IfOk result (λ r. heap_left r.change heap.now ≡ (started p.now heap.now top.now.locals action (method_at p.now named) (length frames.now + 1) pos (held frame.locals ∷ map held_in (reverse frames.now))).heap) }
+    ensures lines { IfOk result (λ r. r.lines.items ≡ (started p.now heap.now top.now.locals action (method_at p.now named) (length frames.now + 1) pos (held frame.locals ∷ map held_in (reverse frames.now))).lines) }
+    ensures settled { IfOk result (λ r. r.settled ≡ false) }
+{
     let position = frames.len() as u64 + 1;
     let effect = start_effect(
         alloc,
@@ -68,7 +135,103 @@ fn start_result(
         &frame.locals,
         frames,
     )?;
-    Ok(StartResult { frame, effect })
+    let StepEffect { heap: after, lines } = effect;
+    let change = HeapChange::Whole(after);
+    Ok(StartResult {
+        frame,
+        change,
+        lines,
+        settled: false,
+        owning: 0,
+    })
+}
+
+// What the start of a call leaves of the heap, with the frame that it begins.
+fn start_change(
+    alloc: Global,
+    p: &Program,
+    heap: &Heap,
+    top: &ActiveFrame,
+    frames: &[ActiveFrame],
+    named: MethodId,
+    action: Action,
+    pos: Pos,
+    frame: ActiveFrame,
+    settled: bool,
+    owning: u64,
+) -> Result<StartResult, NoMemory>
+    requires { settled ≡ true → NothingToLose heap.now (map held_in (reverse frames.now)) owning }
+    ensures frame { IfOk result (λ r. r.frame ≡ frame) }
+    ensures heap { IfOk result (λ r. heap_left r.change heap.now ≡ (started p.now heap.now top.now.locals action (method_at p.now named) (length frames.now + 1) pos (held frame.locals ∷ map held_in (reverse frames.now))).heap) }
+    ensures lines { IfOk result (λ r. r.lines.items ≡ (started p.now heap.now top.now.locals action (method_at p.now named) (length frames.now + 1) pos (held frame.locals ∷ map held_in (reverse frames.now))).lines) }
+    ensures nothing { IfOk result (λ r. r.settled ≡ true → NothingToLose (heap_left r.change heap.now) (held frame.locals ∷ map held_in (reverse frames.now)) r.owning) }
+{
+    match start_plain(
+        alloc,
+        p,
+        heap,
+        top,
+        frames,
+        named,
+        action,
+        pos,
+        &frame.locals,
+        settled,
+        owning,
+    ) {
+        Some(found) => Ok(plain_start(frame, found)),
+        None => whole_start(alloc, p, heap, top, frames, named, action, pos, frame),
+    }
+}
+
+// The frame that a call begins.
+fn start_frame(
+    alloc: Global,
+    p: &Program,
+    lists: &mut Lists,
+    heap: &Heap,
+    top: &ActiveFrame,
+    named: MethodId,
+    runs: MethodId,
+    action: Action,
+) -> Result<ActiveFrame, NoMemory>
+    ensures frame { IfOk result (λ fr. frame_seen lists.new.cells.keys fr ≡ begun p.now runs (self_begun top.now.locals action heap.now) (argument_values top.now.locals action (method_at p.now named))) }
+    ensures within { IfOk result (λ fr. fr.control ≤ length lists.new.cells.keys) }
+    ensures kept { Keeps lists.old.cells.keys lists.new.cells.keys }
+{
+    let this = self_begun(&top.locals, action, heap);
+    let arguments = argument_values(alloc, p, &top.locals, action, named)?;
+    let frame = begin(alloc, p, lists, runs, this, arguments)?;
+    Ok(frame)
+}
+
+// The frame that a call begins, and what the step leaves of the heap.
+fn start_result(
+    alloc: Global,
+    p: &Program,
+    lists: &mut Lists,
+    heap: &Heap,
+    top: &ActiveFrame,
+    frames: &[ActiveFrame],
+    named: MethodId,
+    runs: MethodId,
+    action: Action,
+    pos: Pos,
+    settled: bool,
+    owning: u64,
+) -> Result<StartResult, NoMemory>
+    requires { settled ≡ true → NothingToLose heap.now (map held_in (reverse frames.now)) owning }
+    ensures frame { IfOk result (λ r. frame_seen lists.new.cells.keys r.frame ≡ begun p.now runs (self_begun top.now.locals action heap.now) (argument_values top.now.locals action (method_at p.now named))) }
+    ensures heap { IfOk result (λ r. heap_left r.change heap.now ≡ (started p.now heap.now top.now.locals action (method_at p.now named) (length frames.now + 1) pos (held r.frame.locals ∷ map held_in (reverse frames.now))).heap) }
+    ensures lines { IfOk result (λ r. r.lines.items ≡ (started p.now heap.now top.now.locals action (method_at p.now named) (length frames.now + 1) pos (held r.frame.locals ∷ map held_in (reverse frames.now))).lines) }
+    ensures nothing { IfOk result (λ r. r.settled ≡ true → NothingToLose (heap_left r.change heap.now) (held r.frame.locals ∷ map held_in (reverse frames.now)) r.owning) }
+    ensures within { IfOk result (λ r. r.frame.control ≤ length lists.new.cells.keys) }
+    ensures kept { Keeps lists.old.cells.keys lists.new.cells.keys }
+{
+    let frame = start_frame(alloc, p, lists, heap, top, named, runs, action)?;
+    start_change(
+        alloc, p, heap, top, frames, named, action, pos, frame, settled, owning,
+    )
 }
 
 // The frame stands on top of the others; there is room for it.
@@ -94,9 +257,11 @@ pub(crate) fn run_start(
 ) -> Result<(), NoMemory>
     requires running { 0 < vec_len m.old.frames }
     requires bounded { highest_control m.old.frames.items ≤ length m.old.lists.cells.keys }
+    requires settled { HasNothingToLose m.old }
     ensures went { OnOk result (went (config_of m.new) ≡ moved_by p.now (config_of m.old) (config_of m.old).frames (Start named runs action pos)) }
     ensures kept { OnErr result (config_of m.new ≡ config_of m.old) }
     ensures bounded { highest_control m.new.frames.items ≤ length m.new.lists.cells.keys }
+    ensures settled { HasNothingToLose m.new }
 {
     m.frames.reserve(1)?;
     if let Some((top, _below)) = m.frames.split_last() {
@@ -111,43 +276,130 @@ pub(crate) fn run_start(
             runs,
             action,
             pos,
+            m.settled,
+            m.owning,
         )?;
-        append_lines(&mut m.entries, &started.effect.lines)?;
-        let StartResult { frame, effect } = started;
-        let StepEffect { heap, lines } = effect;
-        m.heap = heap;
+        let StartResult {
+            frame,
+            change,
+            lines,
+            settled,
+            owning,
+        } = started;
+        m.entries.reserve(lines.len())?;
+        take_change(&mut m.heap, change)?;
+        add_lines(&mut m.entries, &lines);
+        m.settled = settled;
+        m.owning = owning;
         add_frame(&mut m.frames, frame);
     }
     Ok(())
 }
 
-// What a call of the library leaves of the frame and of the heap, where it gives this value.
-fn library_result(
+fn plain_of(call: PlainCall, owning: u64) -> Option<PlainResult>
+    ensures { IfSome result (λ r. (r.change ≡ call.change) × (r.lines.items ≡ call.lines.items) × (r.owning ≡ with_position (object_of call.change.noted) (with_position call.change.made owning))) }
+{
+    let PlainCall { change, lines } = call;
+    let highest = owners_after(&change.noted, &change.made, owning);
+    Some(PlainResult {
+        change,
+        lines,
+        owning: highest,
+    })
+}
+
+// What a plain call of the library changes, where this is one and the heap is `settled`. `locals` are the values of the caller after
+// it.
+fn library_call(
     alloc: Global,
     p: &Program,
     heap: &Heap,
-    value: Value,
     top: &ActiveFrame,
     below: &[ActiveFrame],
     named: MethodId,
     method: MethodId,
     conduct: Conduct,
     s: Triple,
-) -> Result<StepResult, NoMemory>
-    ensures locals { IfOk result (λ r. r.locals ≡ locals_after p.now heap.now top.now.method top.now.locals s.action s.edge value) }
-    ensures heap { IfOk result (λ r. r.effect.heap ≡ (library_done p.now heap.now top.now.locals s.action (method_at p.now named) (method_at p.now method) conduct (length below.now + 1) s.pos (held r.locals ∷ map held_in (reverse below.now))).heap) }
-    ensures lines { IfOk result (λ r. r.effect.lines.items ≡ (library_done p.now heap.now top.now.locals s.action (method_at p.now named) (method_at p.now method) conduct (length below.now + 1) s.pos (held r.locals ∷ map held_in (reverse below.now))).lines) }
+    locals: &Locals,
+    settled: bool,
+) -> Result<Option<PlainCall>, NoMemory>
+    requires { settled ≡ true → Settled heap.now (held top.now.locals ∷ map held_in (reverse below.now)) }
+    ensures heap { IfOk result (λ o. IfSome o (λ c. (library_done p.now heap.now top.now.locals s.action (method_at p.now named) (method_at p.now method) conduct (length below.now + 1) s.pos (held locals.now ∷ map held_in (reverse below.now))).heap ≡ left_by c.change.noted c.change.made heap.now)) }
+    ensures lines { IfOk result (λ o. IfSome o (λ c. (library_done p.now heap.now top.now.locals s.action (method_at p.now named) (method_at p.now method) conduct (length below.now + 1) s.pos (held locals.now ∷ map held_in (reverse below.now))).lines ≡ c.lines.items)) }
+    ensures settled { IfOk result (λ o. IfSome o (λ c. Settled (left_by c.change.noted c.change.made heap.now) (held locals.now ∷ map held_in (reverse below.now)))) }
+    ensures was { IfOk result (λ o. IfSome o (λ c. settled ≡ true)) }
 {
-    let locals = locals_after(
+    if !settled {
+        return Ok(None);
+    }
+    if !keeps_all(heap, below, &top.locals, locals) {
+        return Ok(None);
+    }
+    let position = below.len() as u64 + 1;
+    plain_call(
         alloc,
         p,
-        heap,
-        top.method,
+        s.pos,
         &top.locals,
         s.action,
-        s.edge,
-        value,
+        named,
+        method,
+        conduct,
+        position,
+        heap,
+        locals,
+        below,
+    )
+}
+
+// What a plain call of the library leaves, where this is one and the heap is `settled`. `locals` are the values of the caller after
+// it.
+fn library_plain(
+    alloc: Global,
+    p: &Program,
+    heap: &Heap,
+    top: &ActiveFrame,
+    below: &[ActiveFrame],
+    named: MethodId,
+    method: MethodId,
+    conduct: Conduct,
+    s: Triple,
+    locals: &Locals,
+    settled: bool,
+    owning: u64,
+) -> Result<Option<PlainResult>, NoMemory>
+    requires { settled ≡ true → NothingToLose heap.now (held top.now.locals ∷ map held_in (reverse below.now)) owning }
+    ensures heap { IfOk result (λ o. IfSome o (λ r. (library_done p.now heap.now top.now.locals s.action (method_at p.now named) (method_at p.now method) conduct (length below.now + 1) s.pos (held locals.now ∷ map held_in (reverse below.now))).heap ≡ left_by r.change.noted r.change.made heap.now)) }
+    ensures lines { IfOk result (λ o. IfSome o (λ r. (library_done p.now heap.now top.now.locals s.action (method_at p.now named) (method_at p.now method) conduct (length below.now + 1) s.pos (held locals.now ∷ map held_in (reverse below.now))).lines ≡ r.lines.items)) }
+    ensures nothing { IfOk result (λ o. IfSome o (λ r. NothingToLose (left_by r.change.noted r.change.made heap.now) (held locals.now ∷ map held_in (reverse below.now)) r.owning)) }
+{
+    let found = library_call(
+        alloc, p, heap, top, below, named, method, conduct, s, locals, settled,
     )?;
+    match found {
+        None => Ok(None),
+        Some(call) => Ok(plain_of(call, owning)),
+    }
+}
+
+// What a call of the library leaves, whatever it changes. `locals` are the values of the caller after it.
+fn whole_result(
+    alloc: Global,
+    p: &Program,
+    heap: &Heap,
+    top: &ActiveFrame,
+    below: &[ActiveFrame],
+    named: MethodId,
+    method: MethodId,
+    conduct: Conduct,
+    s: Triple,
+    locals: Locals,
+) -> Result<CallResult, NoMemory>
+    ensures locals { IfOk result (λ r. r.locals ≡ locals) }
+    ensures heap { IfOk result (λ r. heap_left r.change heap.now ≡ (library_done p.now heap.now top.now.locals s.action (method_at p.now named) (method_at p.now method) conduct (length below.now + 1) s.pos (held locals ∷ map held_in (reverse below.now))).heap) }
+    ensures lines { IfOk result (λ r. r.lines.items ≡ (library_done p.now heap.now top.now.locals s.action (method_at p.now named) (method_at p.now method) conduct (length below.now + 1) s.pos (held locals ∷ map held_in (reverse below.now))).lines) }
+    ensures settled { IfOk result (λ r. r.settled ≡ false) }
+{
     let position = below.len() as u64 + 1;
     let effect = library_effect(
         alloc,
@@ -163,7 +415,114 @@ fn library_result(
         &locals,
         below,
     )?;
-    Ok(StepResult { locals, effect })
+    Ok(whole_end(locals, effect))
+}
+
+/// What a call's end leaves that changes one object at most and makes one at most.
+pub(crate) fn plain_end(locals: Locals, found: PlainResult) -> CallResult
+    ensures locals { result.locals ≡ locals }
+    ensures change { result.change ≡ HeapChange.Plain found.change }
+    ensures lines { result.lines.items ≡ found.lines.items }
+    ensures owning { result.owning ≡ found.owning }
+{
+    let PlainResult {
+        change,
+        lines,
+        owning,
+    } = found;
+    let change = HeapChange::Plain(change);
+    CallResult {
+        locals,
+        change,
+        lines,
+        settled: true,
+        owning,
+    }
+}
+
+/// What a call's end leaves, whatever it changes.
+pub(crate) fn whole_end(locals: Locals, effect: StepEffect) -> CallResult
+    ensures locals { result.locals ≡ locals }
+    ensures change { result.change ≡ HeapChange.Whole effect.heap }
+    ensures lines { result.lines.items ≡ effect.lines.items }
+    ensures settled { result.settled ≡ false }
+{
+    let StepEffect { heap: after, lines } = effect;
+    let change = HeapChange::Whole(after);
+    CallResult {
+        locals,
+        change,
+        lines,
+        settled: false,
+        owning: 0,
+    }
+}
+
+// What a call of the library leaves of the frame and of the heap, where it gives this value.
+fn library_result(
+    alloc: Global,
+    p: &Program,
+    heap: &Heap,
+    value: Value,
+    top: &ActiveFrame,
+    below: &[ActiveFrame],
+    named: MethodId,
+    method: MethodId,
+    conduct: Conduct,
+    s: Triple,
+    settled: bool,
+    owning: u64,
+) -> Result<CallResult, NoMemory>
+    requires { settled ≡ true → NothingToLose heap.now (held top.now.locals ∷ map held_in (reverse below.now)) owning }
+    ensures locals { IfOk result (λ r. r.locals ≡ locals_after p.now heap.now top.now.method top.now.locals s.action s.edge value) }
+    ensures heap { IfOk result (λ r. heap_left r.change heap.now ≡ (library_done p.now heap.now top.now.locals s.action (method_at p.now named) (method_at p.now method) conduct (length below.now + 1) s.pos (held r.locals ∷ map held_in (reverse below.now))).heap) }
+    ensures lines { IfOk result (λ r. r.lines.items ≡ (library_done p.now heap.now top.now.locals s.action (method_at p.now named) (method_at p.now method) conduct (length below.now + 1) s.pos (held r.locals ∷ map held_in (reverse below.now))).lines) }
+    ensures nothing { IfOk result (λ r. r.settled ≡ true → NothingToLose (heap_left r.change heap.now) (held r.locals ∷ map held_in (reverse below.now)) r.owning) }
+{
+    let locals = locals_after(
+        alloc,
+        p,
+        heap,
+        top.method,
+        &top.locals,
+        s.action,
+        s.edge,
+        value,
+    )?;
+    let found = library_plain(
+        alloc, p, heap, top, below, named, method, conduct, s, &locals, settled, owning,
+    )?;
+    match found {
+        Some(result) => Ok(plain_end(locals, result)),
+        None => whole_result(
+            alloc, p, heap, top, below, named, method, conduct, s, locals,
+        ),
+    }
+}
+
+/// The heap becomes what the start or the end of a call leaves of it. Where memory runs out it stays.
+pub(crate) fn take_change(heap: &mut Heap, change: HeapChange) -> Result<(), NoMemory>
+    ensures ok { OnOk result (heap.new ≡ heap_left change heap.old) }
+    ensures err { OnErr result (heap.new ≡ heap.old) }
+{
+    match change {
+        HeapChange::Whole(after) => {
+            *heap = after;
+            Ok(())
+        }
+        HeapChange::Plain(found) => apply_change(heap, found),
+    }
+}
+
+/// Appends the lines of a step to the ledger, for which there is room.
+pub(crate) fn add_lines(entries: &mut Vec<Entry>, lines: &[Entry])
+    requires { vec_len entries.old + length lines.now ≤ vec_capacity entries.old }
+    ensures { entries.new.items ≡ entries.old.items ++ lines.now }
+{
+    match entries.extend_from_slice(lines) {
+        Ok(()) => {}
+        Err(_) => {}
+    }
 }
 
 // The array that the library gives, where its result is one.
@@ -211,9 +570,11 @@ pub(crate) fn run_library(
     requires running { 0 < vec_len m.old.frames }
     requires bounded { highest_control m.old.frames.items ≤ length m.old.lists.cells.keys }
     requires within { s.to ≤ length m.old.lists.cells.keys }
+    requires settled { HasNothingToLose m.old }
     ensures went { OnOk result (went (config_of m.new) ≡ moved_by p.now (config_of m.old) (config_of m.old).frames (Library named method conduct (step_in m.old.lists.cells.keys s))) }
     ensures kept { OnErr result (config_of m.new ≡ config_of m.old) }
     ensures bounded { highest_control m.new.frames.items ≤ length m.new.lists.cells.keys }
+    ensures settled { HasNothingToLose m.new }
 {
     m.arrays.reserve(1)?;
     if let Some((top, below)) = m.frames.split_last() {
@@ -222,9 +583,18 @@ pub(crate) fn run_library(
         let count = m.arrays.len();
         let value = conduct_value(p, count, method, &top.locals, s.action, number, conduct);
         let taken = library_result(
-            alloc, p, &m.heap, value, top, below, named, method, conduct, s,
+            alloc, p, &m.heap, value, top, below, named, method, conduct, s, m.settled, m.owning,
         )?;
-        append_lines(&mut m.entries, &taken.effect.lines)?;
+        let CallResult {
+            locals,
+            change,
+            lines,
+            settled,
+            owning,
+        } = taken;
+        m.entries.reserve(lines.len())?;
+        take_change(&mut m.heap, change)?;
+        add_lines(&mut m.entries, &lines);
         give_arrays(
             alloc,
             p,
@@ -236,9 +606,8 @@ pub(crate) fn run_library(
             conduct,
         );
         m.used = one_more_used(&m.choices, m.used);
-        let StepResult { locals, effect } = taken;
-        let StepEffect { heap, lines } = effect;
-        m.heap = heap;
+        m.settled = settled;
+        m.owning = owning;
         put_top(
             &mut m.frames,
             ActiveFrame {

@@ -1,5 +1,5 @@
 -- A program's table with bodies of its methods.
-use Rattle.std.specs.Prelude.{◌≡◌, ℕ, ◌+◌, ◌<◌, nat_eq, nat_lt, Option, Some, List, [], ◌∷◌, if◌then◌else◌, length, option_map, slice_index_or, slice_set}
+use Rattle.std.specs.Prelude.{◌≡◌, ℕ, ◌+◌, ◌<◌, ◌^◌, nat_eq, nat_lt, Option, Some, List, [], ◌∷◌, if◌then◌else◌, length, option_map, slice_index_or, slice_set}
 use Rattle.std.specs.List.{position}
 use Rattle.program_model.specs.declared.kinds.BodyId.{BodyId}
 use Rattle.program_model.specs.declared.program.Method.{Method}
@@ -30,7 +30,8 @@ abbrev pub methods_from : List Body → ℕ → List Method → List Method
 methods_from bodies first [] = []
 methods_from bodies first (m ∷ ms) = with_body (body_number bodies first) m ∷ methods_from bodies (first + 1) ms
 
--- the table with these bodies, in this order, and no other. Nothing else of it has changed
+-- the table with these bodies, in this order, and no other, of which there are no more than numbers reach. Nothing else of it has
+-- changed
 pub record HasBodies (p : Program) (bodies : List Body) (q : Program) : Type 0 where
   pub classes : q.classes.items ≡ p.classes.items
   pub methods : q.methods.items ≡ methods_from bodies 0 p.methods.items
@@ -40,3 +41,4 @@ pub record HasBodies (p : Program) (bodies : List Body) (q : Program) : Type 0 w
   pub exact : q.exact.items ≡ p.exact.items
   pub names : q.names ≡ p.names
   pub core : q.core ≡ p.core
+  pub few : length bodies < 2 ^ 32

@@ -1,6 +1,6 @@
 //! Puts bodies into a program's table.
 
-ghost use Rattle.std.specs.Prelude.{◌≡◌, IfOk, length};
+ghost use Rattle.std.specs.Prelude.{◌≡◌, ◌<◌, ◌^◌, IfOk, length};
 ghost use Rattle.program_bodies.specs.ProgramBodies.{AreBodyNumbers, HasBodies, methods_from, noted, with_body};
 
 use program_model::{Body, BodyId, Method, MethodId, Program};
@@ -34,7 +34,8 @@ fn body_numbers(
     bodies: &[Body],
     methods: usize,
 ) -> Result<Vec<Option<BodyId>>, NoMemory>
-    ensures { IfOk result (λ v. AreBodyNumbers bodies.now methods v.items) }
+    ensures numbers { IfOk result (λ v. AreBodyNumbers bodies.now methods v.items) }
+    ensures few { IfOk result (λ v. length bodies.now < 2 ^ 32) }
 {
     let mut numbers = vec![in alloc; None; methods]?;
     let mut number = body_count(bodies)?;
@@ -57,7 +58,8 @@ fn methods_with(
     bodies: &[Body],
     methods: Vec<Method>,
 ) -> Result<Vec<Method>, NoMemory>
-    ensures { IfOk result (λ v. v.items ≡ methods_from bodies.now 0 methods.items) }
+    ensures methods { IfOk result (λ v. v.items ≡ methods_from bodies.now 0 methods.items) }
+    ensures few { IfOk result (λ v. length bodies.now < 2 ^ 32) }
 {
     let numbers = body_numbers(alloc, bodies, methods.len())?;
     let mut made = Vec::new(alloc);

@@ -1,2 +1,2 @@
-pub mod BuiltTables
+pub mod Outcomes
 pub mod WellFormedBodies

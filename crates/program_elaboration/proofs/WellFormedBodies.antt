@@ -4,6 +4,7 @@ use Rattle.std.proofs.lemmas.List.Elements.{All-cons, All-nil}
 use Rattle.java_syntax.specs.declared.declaration_trees.Unit as tree
 use Rattle.program_model.specs.declared.program.Program.{Program}
 use Rattle.java_statement_laws.specs.CatchParameters.{HasCatchTypes}
+use Rattle.java_statement_laws.proofs.LeastClasses.{valid_has_catch_types}
 use Rattle.source_classes.specs.Members.{Environment}
 use Rattle.source_classes.specs.SourceClasses.{source_classes}
 use Rattle.java_bodies.specs.Bodies.{SourceBody, all_bodies}
@@ -17,4 +18,4 @@ each_well_formed e exceptions [] = All-nil (IsWellFormedUnlessRefused e)
 each_well_formed e exceptions (b ∷ bodies) = All-cons (IsWellFormedUnlessRefused e) b bodies (λ none. body_well e exceptions b none) (each_well_formed e exceptions bodies)
 
 pub well_formed_bodies : (p : Program) (units : List tree.Unit) → IsTableOf p units → AreWellFormedUnlessRefused p units
-well_formed_bodies p units t = each_well_formed (environment_of p units) t.exceptions (all_bodies (environment_of p units) (source_classes p units))
+well_formed_bodies p units t = each_well_formed (environment_of p units) (valid_has_catch_types p t.built.valid.typed) (all_bodies (environment_of p units) (source_classes p units))

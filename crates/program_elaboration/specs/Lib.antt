@@ -1,1 +1,2 @@
+pub mod Elaborations
 pub mod Tables

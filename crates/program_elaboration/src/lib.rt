@@ -2,7 +2,5 @@
 #![tactic(auto)]
 
 mod elaborations;
-mod laws;
 
 pub use elaborations::elaborate;
-pub use laws::built_table_can_be_elaborated;

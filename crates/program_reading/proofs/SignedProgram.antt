@@ -1,5 +1,5 @@
 -- What holds of a program holds of it with its annotations read.
-use Rattle.std.proofs.Common.{◌≡◌, ◌∙◌, ap, sym, subst, refl, arith, ℕ, suc, ◌<◌, ◌≤◌, Bool, true, false, Option, Some, None, List, [], ◌∷◌, fold, length, slice_get, nat_lt, if◌then◌else◌, All, Contains}
+use Rattle.std.proofs.Common.{◌≡◌, ◌∙◌, ap, sym, subst, refl, arith, ℕ, suc, ◌<◌, ◌≤◌, Bool, true, false, Option, Some, None, List, [], ◌∷◌, fold, length, nat_lt, if◌then◌else◌, All}
 use Rattle.std.specs.List.{AllZip}
 use Rattle.std.proofs.lemmas.Bool.Decides.{Decides-ltb, nat_tests}
 use Rattle.std.proofs.lemmas.List.{length-map}
@@ -11,37 +11,15 @@ use Rattle.program_model.specs.declared.program.Field.{Field}
 use Rattle.program_model.specs.declared.program.Method.{Method}
 use Rattle.program_model.specs.declared.program.Program.{Program}
 use Rattle.program_model.specs.declared.program.RawAnno.{RawAnno}
-use Rattle.program_model.specs.Validity.{IsNumbered}
 use Rattle.effective_signatures.specs.Effective.{is_plain, number_in, signed_parameter}
 use Rattle.effective_signatures.specs.SignedMethods.{IsSignedMethod}
 use Rattle.must_call_sets.specs.WellFormed.{HasSmallInterests}
-use Rattle.must_call_types.specs.MustSets.{but_set, with_own_set}
 use Rattle.must_call_types.specs.NameTable.{past_limit, with_names}
 use Rattle.must_call_types.specs.Signed.{IsSigned}
-use Rattle.must_call_types.proofs.SignedTables.{SameClass, at_same, before, same_classes}
+use Rattle.must_call_types.proofs.SignedTables.{before}
 use Rattle.table_members.specs.Methods.{HasFewParameters}
-use Rattle.program_reading.specs.SignedPrograms.{HasListedFields}
 
 -- ---- tables
-
-zip_long : {X Y : Type 0} (R : X → Y → Type 0) (xs : List X) (ys : List Y) → AllZip R xs ys → length ys ≡ length xs
-zip_long R [] [] all = refl
-zip_long R [] (y ∷ ys) all = absurd all
-zip_long R (x ∷ xs) [] all = absurd all
-zip_long R (x ∷ xs) (y ∷ ys) all = ap suc (zip_long R xs ys all.1)
-
-pub numbered_signed : (p q : Program) → IsSigned p q → IsNumbered p → IsNumbered q
-numbered_signed p q signed numbered =
-    let of_classes = sym (length-map q.classes.items but_set) ∙ ap length signed.classes ∙ length-map p.classes.items (λ k. but_set (with_own_set q.names k)) in
-    let of_methods = zip_long (IsSignedMethod q.names p.fields.items p.classes.items) p.methods.items q.methods.items signed.methods in
-    let of_fields = ap (λ v. length v.items) signed.fields in
-    let of_bodies = ap (λ v. length v.items) signed.bodies in
-    record {
-      classes = omega (arith, of_classes, numbered.classes);
-      methods = omega (arith, of_methods, numbered.methods);
-      fields = omega (arith, of_fields, numbered.fields);
-      bodies = omega (arith, of_bodies, numbered.bodies);
-    }
 
 few_signed : (table : List (List ℕ)) (fields : List Field) (classes : List Class) (old signed : List Method) → AllZip (IsSignedMethod table fields classes) old signed → All HasFewParameters old → All HasFewParameters signed
 few_signed table fields classes [] [] all few = λ k d h. absurd (omega arith)
@@ -54,13 +32,6 @@ few_signed table fields classes (m ∷ ms) (s ∷ ss) all few =
 
 pub parameters_signed : (p q : Program) → IsSigned p q → All HasFewParameters p.methods.items → All HasFewParameters q.methods.items
 parameters_signed p q signed few = few_signed q.names p.fields.items p.classes.items p.methods.items q.methods.items signed.methods few
-
-pub fields_signed : (p q : Program) → IsSigned p q → HasListedFields p → HasListedFields q
-fields_signed p q signed listed f x found =
-    let F : Class → Type 0 = λ k. Contains k.fields.items f in
-    at_same SameClass F F p.classes.items q.classes.items x.class.0 (same_classes q.names p.classes.items q.classes.items signed.classes)
-    (λ k j same has. subst (λ fs. Contains fs f) (ap (λ z. z.fields.items) same) has)
-    (listed f x (ap (λ v. slice_get v.items f.0) (sym signed.fields) ∙ found))
 
 -- ---- names of interest
 

@@ -4,6 +4,7 @@ use Rattle.rlc_base.specs.declared.faults.Stop.{Stop}
 use Rattle.java_syntax.specs.declared.declaration_trees.Unit as tree
 use Rattle.java_syntax.specs.declared.settings.Settings.{Settings}
 use Rattle.program_model.specs.declared.program.Program.{Program}
+use Rattle.must_call_sets.specs.WellFormed.{IsWellFormed}
 use Rattle.signature_rules.specs.RulePasses.{HasNoRuleCase}
 use Rattle.program_reading.specs.Fronts.{IsFilesStop, IsFront}
 use Rattle.program_reading.specs.SignedPrograms.{IsAnnotated, IsSigningStop}
@@ -15,7 +16,8 @@ pub record Input : Type 0 where
   pub words : List (List ℕ)
   pub texts : List (List ℕ)
 
--- the program of the input: nothing in its files is refused, and no rule on signatures refuses it
+-- The program of the input: nothing in its files is refused, and no rule on signatures refuses it. It is well formed: its tables belong
+-- together, its bodies are typed trees, and each method that runs a body has it.
 pub record IsProgram (input : Input) (p : Program) : Type 0 where
   pub sections : List tree.Unit
   pub sources : List tree.Unit
@@ -24,6 +26,7 @@ pub record IsProgram (input : Input) (p : Program) : Type 0 where
   pub is_typed : IsTyped input.settings sections sources typed
   pub annotated : IsAnnotated typed p
   pub right : HasNoRuleCase p
+  pub well_formed : IsWellFormed p
 
 -- Why there is no program: the first that refuses of the tokens and trees of the files, the table, the types, the annotations and the
 -- rules on signatures; or memory ran out.

@@ -5,13 +5,17 @@ use Rattle.java_syntax.specs.declared.declaration_trees.Unit as tree
 use Rattle.java_syntax.specs.declared.settings.Settings.{Settings}
 use Rattle.program_model.specs.declared.program.Program.{Program}
 use Rattle.class_table.specs.Passes.{IsBuilt, IsTableStop, classes_of}
+use Rattle.method_bodies.specs.MethodBodies.{body_cases}
 use Rattle.java_types.specs.ProgramCases.{program_cases, typed_program}
-use Rattle.java_elaboration.specs.Elaborations.{IsElaborationStop, IsProgramOf}
+use Rattle.java_elaboration.specs.Elaborations.{IsProgramOf}
+use Rattle.program_elaboration.specs.Elaborations.{IsElaborationStop}
 
--- the table of the classes with the bodies of the sources: no class is refused, and nothing in a body
+-- the table of the classes with the bodies of the sources: no class is refused, methods have bodies exactly where they are not abstract,
+-- and nothing in a body is refused
 pub record IsTyped (settings : Settings) (sections sources : List tree.Unit) (typed : Program) : Type 0 where
   pub table : Program
   pub built : IsBuilt (classes_of sources sections settings) settings table
+  pub due : body_cases sources ≡ []
   pub right : program_cases table sources ≡ []
   pub elaborated : IsProgramOf table (typed_program table sources) typed
 

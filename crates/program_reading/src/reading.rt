@@ -1,7 +1,6 @@
 //! The program that the files of a command make.
 
 ghost use Rattle.std.specs.Prelude.{◌-◌, ◌<◌, ◌^◌, All, IfErr, IfOk, length, map};
-ghost use Rattle.program_model.specs.Validity.{IsNumbered};
 ghost use Rattle.must_call_sets.specs.WellFormed.{HasSmallInterests};
 ghost use Rattle.table_members.specs.Methods.{HasFewParameters};
 ghost use Rattle.program_reading.specs.Programs.{IsProgram, IsProgramStop};
@@ -32,7 +31,6 @@ pub fn read_program(
     requires few { length words.now < 2 ^ 31 }
     requires short { All (λ text. length text < 2 ^ 32 - 1) texts.now }
     ensures program { IfOk result (IsProgram (record { settings = settings.now; words = map (λ word. word.now) words.now; texts = texts.now })) }
-    ensures numbered { IfOk result IsNumbered }
     ensures parameters { IfOk result (λ p. All HasFewParameters p.methods.items) }
     ensures fields { IfOk result HasListedFields }
     ensures interests { IfOk result HasSmallInterests }

@@ -1,12 +1,11 @@
 //! The annotations of a typed program, and the rules on its signatures.
 
 ghost use Rattle.std.specs.Prelude.{All, IfErr, IfOk, OnOk};
-ghost use Rattle.program_model.specs.Hierarchy.{IsHierarchy};
-ghost use Rattle.program_model.specs.Validity.{IsNumbered};
-ghost use Rattle.must_call_sets.specs.WellFormed.{HasSmallInterests};
+ghost use Rattle.program_model.specs.Validity.{HasBodies, IsNumbered, IsValid};
+ghost use Rattle.must_call_sets.specs.WellFormed.{HasSmallInterests, IsWellFormed};
 ghost use Rattle.table_members.specs.Methods.{HasFewParameters};
 ghost use Rattle.signature_rules.specs.RulePasses.{HasNoRuleCase};
-ghost use Rattle.program_reading.specs.SignedPrograms.{HasListedFields, IsAnnotated, IsRuleStop, IsSigningStop};
+ghost use Rattle.program_reading.specs.SignedPrograms.{IsAnnotated, IsRuleStop, IsSigningStop};
 
 use must_call_types::read_signatures;
 use program_model::Program;
@@ -32,15 +31,13 @@ fn check_rules(p: &Program) -> Result<(), Stop>
 ///
 /// As by `read_signatures`, and else as by `rule_refusal`.
 pub fn signed(alloc: Global, typed: Program) -> Result<Program, Stop>
-    requires hierarchy { IsHierarchy typed }
-    requires numbered { IsNumbered typed }
+    requires valid { IsValid typed }
+    requires bodies { HasBodies typed }
     requires parameters { All HasFewParameters typed.methods.items }
-    requires fields { HasListedFields typed }
     ensures annotated { IfOk result (IsAnnotated typed) }
     ensures right { IfOk result HasNoRuleCase }
-    ensures numbered { IfOk result IsNumbered }
+    ensures well_formed { IfOk result IsWellFormed }
     ensures parameters { IfOk result (λ p. All HasFewParameters p.methods.items) }
-    ensures fields { IfOk result HasListedFields }
     ensures interests { IfOk result HasSmallInterests }
     ensures stopped { IfErr result (IsSigningStop typed) }
 {

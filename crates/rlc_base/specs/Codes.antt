@@ -53,7 +53,6 @@ number_of refused.CertOpen = 81
 number_of refused.CertTooBig = 82
 number_of refused.BadScript = 83
 number_of refused.TooManyEdits = 84
-number_of refused.NotBuilt = 90
 
 abbrev pub name_of : Code → List ℕ
 name_of refused.BadByte = codes "BadByte"
@@ -102,7 +101,6 @@ name_of refused.CertOpen = codes "CertOpen"
 name_of refused.CertTooBig = codes "CertTooBig"
 name_of refused.BadScript = codes "BadScript"
 name_of refused.TooManyEdits = codes "TooManyEdits"
-name_of refused.NotBuilt = codes "NotBuilt"
 
 -- a limit is passed, and no rule broken
 abbrev pub is_limit : Code → Bool
@@ -152,7 +150,6 @@ is_limit refused.CertOpen = false
 is_limit refused.CertTooBig = true
 is_limit refused.BadScript = false
 is_limit refused.TooManyEdits = true
-is_limit refused.NotBuilt = false
 
 -- how a layer stops by a refusal
 abbrev pub stop_of : Refusal → Stop

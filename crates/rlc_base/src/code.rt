@@ -100,12 +100,10 @@ pub enum Code {
     BadScript,
     /// 84: the script has more than 100 edits.
     TooManyEdits,
-    /// 90: the program is of a form that this version does not check yet.
-    NotBuilt,
 }
 
 impl Code {
-    /// The number of the code, from 10 to 90.
+    /// The number of the code, from 10 to 84.
     pub fn number(self) -> u16
         ensures { result ≡ number_of self }
     {
@@ -156,7 +154,6 @@ impl Code {
             Code::CertTooBig => 82,
             Code::BadScript => 83,
             Code::TooManyEdits => 84,
-            Code::NotBuilt => 90,
         }
     }
 
@@ -211,7 +208,6 @@ impl Code {
             Code::CertTooBig => "CertTooBig",
             Code::BadScript => "BadScript",
             Code::TooManyEdits => "TooManyEdits",
-            Code::NotBuilt => "NotBuilt",
         }
     }
 
@@ -265,8 +261,7 @@ impl Code {
             | Code::NoMain
             | Code::BadCert
             | Code::CertOpen
-            | Code::BadScript
-            | Code::NotBuilt => false,
+            | Code::BadScript => false,
         }
     }
 }

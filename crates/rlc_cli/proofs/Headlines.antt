@@ -20,6 +20,7 @@ use Rattle.command_programs.specs.Programs.{IsProgramOf}
 use Rattle.command_programs.specs.Refusals.{IsSettingsAnswer, IsStopAnswer}
 use Rattle.check_command.specs.Checks.{IsCheckAnswer, IsChecked, IsUnchecked, accepted, by_limit, by_program, by_settings, leaking, read, unchecked, unread}
 use Rattle.program_model.specs.declared.program.Program.{Program}
+use Rattle.flow_rules.specs.Paths.{Accept}
 use Rattle.program_faults.specs.ProgramReports.{IsFaulty}
 use Rattle.rlc_cli.specs.Answers.{IsAnswer}
 use Rattle.rlc_cli.specs.Headline.{IsAcceptedCheck, IsHeadline, IsLeakingCheck}
@@ -82,21 +83,21 @@ unchecked_halts files answer (by_settings why) = settings_halt files.settings an
 unchecked_halts files answer (by_program s is why) = stop_halts _ why.stop answer why.line
 unchecked_halts files answer (by_limit p why) = stop_halts _ why.stop answer why.line
 
-checked_accepted : (files : FileTexts) (answer : Answer) → IsChecked files answer → statuses.Accepted ≡ status_of answer.outcome → (p : Program) × (IsProgramOf files p × (IsFaulty p → ⊥))
+checked_accepted : (files : FileTexts) (answer : Answer) → IsChecked files answer → statuses.Accepted ≡ status_of answer.outcome → (p : Program) × (IsProgramOf files p × Accept p)
 checked_accepted files answer (unchecked why) is = halting_not_accepted answer.outcome (unchecked_halts files answer why) is
-checked_accepted files answer (accepted p program none outcome text) is = (p, (program, none))
+checked_accepted files answer (accepted p program accept outcome text) is = (p, (program, accept))
 checked_accepted files answer (leaking p count program fault outcome counted text) is = absurd (let no : statuses.Accepted ≡ statuses.Leaks = is ∙ ap status_of outcome in cc)
 
 checked_leaking : (files : FileTexts) (answer : Answer) → IsChecked files answer → statuses.Leaks ≡ status_of answer.outcome → (p : Program) × (IsProgramOf files p × IsFaulty p)
 checked_leaking files answer (unchecked why) is = halting_not_leaking answer.outcome (unchecked_halts files answer why) is
-checked_leaking files answer (accepted p program none outcome text) is = absurd (let no : statuses.Leaks ≡ statuses.Accepted = is ∙ ap status_of outcome in cc)
+checked_leaking files answer (accepted p program accept outcome text) is = absurd (let no : statuses.Leaks ≡ statuses.Accepted = is ∙ ap status_of outcome in cc)
 checked_leaking files answer (leaking p count program fault outcome counted text) is = (p, (program, fault))
 
 check_accepted : (told : Option Contents) (names : FileNames) (c : Counts) (answer : Answer) → IsCheckAnswer told names c answer → statuses.Accepted ≡ status_of answer.outcome → IsAcceptedCheck told names
 check_accepted told names c answer (unread why) is = halting_not_accepted answer.outcome (unread_halts told names c answer why) is
 check_accepted told names c answer (read files texts none checked) is =
     let found = checked_accepted files answer checked is in
-    record { files = files; texts = texts; program = found.0; is_program = found.1.0; no_fault = found.1.1 }
+    record { files = files; texts = texts; program = found.0; is_program = found.1.0; accepted = found.1.1 }
 
 check_leaking : (told : Option Contents) (names : FileNames) (c : Counts) (answer : Answer) → IsCheckAnswer told names c answer → statuses.Leaks ≡ status_of answer.outcome → IsLeakingCheck told names
 check_leaking told names c answer (unread why) is = halting_not_leaking answer.outcome (unread_halts told names c answer why) is

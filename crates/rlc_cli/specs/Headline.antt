@@ -7,18 +7,20 @@ use Rattle.command_answers.specs.declared.statuses.Status.TheVariants as statuse
 use Rattle.command_inputs.specs.Inputs.{AreFileTexts, FileNames, FileTexts}
 use Rattle.command_programs.specs.Programs.{IsProgramOf}
 use Rattle.program_model.specs.declared.program.Program.{Program}
+use Rattle.flow_rules.specs.Paths.{Accept}
 use Rattle.program_faults.specs.ProgramReports.{IsFaulty}
 use Rattle.rlc_cli.specs.Answers.{check_names}
 
--- the files of these names make a program, in which the flow rules derive no fault
+-- the files of these names make a program that is accepted: it is well formed, no body of it passes a limit, and no path in a body
+-- breaks a rule
 pub record IsAcceptedCheck (told : Option Contents) (names : FileNames) : Type 0 where
   pub files : FileTexts
   pub texts : AreFileTexts told names files
   pub program : Program
   pub is_program : IsProgramOf files program
-  pub no_fault : IsFaulty program → ⊥
+  pub accepted : Accept program
 
--- the files of these names make a program, in which the flow rules derive a fault
+-- the files of these names make a program, which is well formed, and in which the flow rules derive a fault
 pub record IsLeakingCheck (told : Option Contents) (names : FileNames) : Type 0 where
   pub files : FileTexts
   pub texts : AreFileTexts told names files

@@ -20,23 +20,24 @@ use Rattle.class_names.specs.declared.class_name.ClassName.{ClassName}
 use Rattle.class_names.specs.ClassNames.{class_number}
 use Rattle.class_order.specs.Declarations.{Declaration, class_names, compilation_unit, declared_from, declared_in, name_of}
 use Rattle.class_order.specs.Declarations as order
-use Rattle.class_declarations.specs.Members.{Written, MethodOf, ConstructorOf, ImpliedConstructor, constants_among, implied_constructor, is_constant, is_constructor, kind_of, parameters_of, written_by, written_by_all, written_in}
+use Rattle.class_order.specs.Modifiers.{has_abstract}
+use Rattle.class_declarations.specs.Members.{Written, MethodOf, ConstructorOf, ImpliedConstructor, ConstantOf, constants_among, implied_constructor, is_abstract_in, is_constant, is_constructor, kind_of, parameters_of, written_by, written_by_all, written_in}
 use Rattle.table_members.specs.Methods.{IsMethod, IsParameter}
 use Rattle.class_table.specs.Passes.{classes_of}
 use Rattle.class_table.specs.Table.{IsTable}
 use Rattle.source_classes.specs.SourceClasses.{SourceClass, declarations, library_classes, numbered_from, source_classes}
 use Rattle.table_laws.proofs.TableNames.{library_names_are}
 use Rattle.source_body_laws.specs.SourceBodies.{source_declaration, table_declaration}
-use Rattle.source_body_laws.proofs.TableMethods.{IsListed, listed_methods}
+use Rattle.source_body_laws.proofs.TableMethods.{IsListed, listed_count, listed_methods}
 
 -- ---- what is written in a class of the source files: names and units have no part in it
 
-abbrev plain_by : Member → List Written
+abbrev pub plain_by : Member → List Written
 plain_by (members.Field f) = []
 plain_by (members.Method m) = MethodOf m ∷ []
 plain_by (members.Constructor k) = ConstructorOf k ∷ []
 
-abbrev plain_written : ClassDecl → List Written
+abbrev pub plain_written : ClassDecl → List Written
 plain_written t = cond (not (t.is_interface || list_any is_constructor t.members.items)) (ImpliedConstructor t.name.pos ∷ []) [] ++ flat_map plain_by t.members.items
 
 member_plain : (names : List ClassName) (d : Declaration) (m : Member) → d.unit.library ≡ false → written_by names d m ≡ plain_by m
@@ -48,7 +49,7 @@ members_plain : (names : List ClassName) (d : Declaration) (ms : List Member) �
 members_plain names d [] own = refl
 members_plain names d (m ∷ ms) own = ap (λ (ws : List Written). ws ++ written_by_all names d ms) (member_plain names d m own) ∙ ap (λ (ws : List Written). plain_by m ++ ws) (members_plain names d ms own)
 
-written_plain : (names : List ClassName) (d : Declaration) → d.unit.library ≡ false → written_in names d ≡ plain_written d.class_tree
+pub written_plain : (names : List ClassName) (d : Declaration) → d.unit.library ≡ false → written_in names d ≡ plain_written d.class_tree
 written_plain names d own = ap (λ (ws : List Written). implied_constructor d ++ ws) (members_plain names d d.class_tree.members.items own)
 
 -- ---- the classes of the source files
@@ -62,7 +63,7 @@ pub record IsLinked (table source : ℕ → Option Declaration) (c : SourceClass
   pub in_source : c.declaration.unit.library ≡ false
   pub written : source c.class'.0 ≡ Some c.declaration
 
-abbrev IsSame : Declaration → Declaration → Type 0
+abbrev pub IsSame : Declaration → Declaration → Type 0
 IsSame d x = (x.class_tree ≡ d.class_tree) × (x.unit.library ≡ false) × (d.unit.library ≡ false)
 
 both_zipped : {X Y : Type 0} (R : X → Y → Type 0) (xs xs' : List X) (ys ys' : List Y) → AllZip R xs ys → AllZip R xs' ys' → AllZip R (xs ++ xs') (ys ++ ys')
@@ -75,7 +76,7 @@ same_in : (n m : ℕ) (u : tree.Unit) (ts : List ClassDecl) → AllZip IsSame (m
 same_in n m u [] = tt
 same_in n m u (t ∷ ts) = ((refl, refl, refl), same_in n m u ts)
 
-same_units : (n m : ℕ) (us : List tree.Unit) → AllZip IsSame (declared_from n false us) (declared_from m false us)
+pub same_units : (n m : ℕ) (us : List tree.Unit) → AllZip IsSame (declared_from n false us) (declared_from m false us)
 same_units n m [] = tt
 same_units n m (u ∷ us) = both_zipped IsSame (declared_in n false u) (declared_from (n + 1) false us) (declared_in m false u) (declared_from (m + 1) false us) (same_in n m u u.types.items) (same_units (n + 1) (m + 1) us)
 
@@ -93,12 +94,18 @@ behind : (xs ys : List Declaration) (i : ℕ) → slice_get (xs ++ ys) (length x
 behind [] ys i = let start : 0 + i ≡ i = omega arith in ap (λ n. slice_get ys n) start
 behind (x ∷ xs) ys i = let next : suc (length xs) + i ≡ suc (length xs + i) = omega arith in ap (λ n. slice_get (x ∷ (xs ++ ys)) n) next ∙ behind xs ys i
 
+-- how many classes of the stubs the table has
+pub library_count : (units stubs : List tree.Unit) (settings : Settings) (p : Program) → IsTable (classes_of units stubs settings) settings p → length (library_classes p) ≡ length (order.library_classes settings.core (declared_from 0 true stubs))
+library_count units stubs settings p t =
+    let kept : List Declaration = order.library_classes settings.core (declared_from 0 true stubs) in
+    sym (length-map (library_classes p) (λ (k : Class). k.name)) ∙ ap length (library_names_are units stubs settings p t) ∙ length-map kept name_of
+
 pub linked_classes : (units stubs : List tree.Unit) (settings : Settings) (p : Program) → IsTable (classes_of units stubs settings) settings p → All (IsLinked (table_declaration units stubs settings) (source_declaration p units)) (source_classes p units)
 linked_classes units stubs settings p t =
     let kept : List Declaration = order.library_classes settings.core (declared_from 0 true stubs) in
     let own : List Declaration = declared_from (length stubs) false units in
     let first : ℕ = length (library_classes p) in
-    let count : first ≡ length kept = sym (length-map (library_classes p) (λ (k : Class). k.name)) ∙ ap length (library_names_are units stubs settings p t) ∙ length-map kept name_of in
+    let count : first ≡ length kept = library_count units stubs settings p t in
     linked (table_declaration units stubs settings) (source_declaration p units) first (declarations units) own
     (λ i. ap (λ n. slice_get (kept ++ own) (n + i)) count ∙ behind kept own i)
     (λ i. (let from : first + i - first ≡ i = omega arith in ap (λ n. slice_get (declarations units) n) from))
@@ -106,9 +113,18 @@ linked_classes units stubs settings p t =
 
 -- ---- their methods
 
+-- whether a method is abstract says its class's tree alone
+abstract_same : (d x : Declaration) (w : Written) → d.class_tree ≡ x.class_tree → d.unit.library ≡ false → x.unit.library ≡ false → is_abstract_in d w ≡ is_abstract_in x w
+abstract_same d x (MethodOf m) same in_table in_source =
+    let library : d.unit.library ≡ x.unit.library = in_table ∙ sym in_source in
+    λ i. (same i).is_interface || (not (library i) && has_abstract m.modifiers.items)
+abstract_same d x (ConstructorOf k) same in_table in_source = refl
+abstract_same d x (ImpliedConstructor place) same in_table in_source = refl
+abstract_same d x (ConstantOf f v) same in_table in_source = refl
+
 -- the method of the class that is written so
 abbrev pub IsMethodOf : SourceClass → Written → Method → Type 0
-IsMethodOf c w m = (m.class ≡ c.class') × (m.kind ≡ kind_of w) × (length (parameters_of w) ≡ length m.sig.params.items)
+IsMethodOf c w m = (m.class ≡ c.class') × (m.kind ≡ kind_of w) × (length (parameters_of w) ≡ length m.sig.params.items) × (m.is_abstract ≡ is_abstract_in c.declaration w)
 
 abbrev pub IsOwnMethod : Program → SourceClass → MethodId × Written → Type 0
 IsOwnMethod p c w = IsSomeAnd (method_at p w.0) (IsMethodOf c w.1)
@@ -119,12 +135,17 @@ zip_long R [] (y ∷ ys) all = absurd all
 zip_long R (x ∷ xs) [] all = absurd all
 zip_long R (x ∷ xs) (y ∷ ys) all = ap suc (zip_long R xs ys all.1)
 
-own_method : (names : List ClassName) (c : SourceClass) (d : Declaration) (w : Written) (m : Method) → IsMethod names (record { class' = c.class'; declaration = d; written = w }) m → IsMethodOf c w m
-own_method names c d w m is = (is.class', is.kind, zip_long (IsParameter names d.unit) (parameters_of w) m.sig.params.items is.signature.params)
+own_method : (names : List ClassName) (c : SourceClass) (d : Declaration) (w : Written) (m : Method) → d.class_tree ≡ c.declaration.class_tree → d.unit.library ≡ false → c.declaration.unit.library ≡ false → IsMethod names (record { class' = c.class'; declaration = d; written = w }) m → IsMethodOf c w m
+own_method names c d w m same in_table in_source is =
+    (is.class', is.kind, zip_long (IsParameter names d.unit) (parameters_of w) m.sig.params.items is.signature.params, is.abstract ∙ abstract_same d c.declaration w same in_table in_source)
 
 some_weaker : (P Q : Method → Type 0) → ((m : Method) → P m → Q m) → (o : Option Method) → IsSomeAnd o P → IsSomeAnd o Q
 some_weaker P Q f None h = h
 some_weaker P Q f (Some m) h = f m h
+
+-- what is written in the class, by the source files and by the table
+written_same : (names all_names : List ClassName) (table source : ℕ → Option Declaration) (c : SourceClass) (l : IsLinked table source c) → written_in all_names l.declaration ≡ written_in names c.declaration
+written_same names all_names table source c l = written_plain all_names l.declaration l.in_table ∙ ap plain_written l.class_tree ∙ sym (written_plain names c.declaration l.in_source)
 
 pub own_methods : (units stubs : List tree.Unit) (settings : Settings) (p : Program) → IsTable (classes_of units stubs settings) settings p → (names : List ClassName) (c : SourceClass) → IsLinked (table_declaration units stubs settings) (source_declaration p units) c → All (IsOwnMethod p c) (zip (methods_of p c.class') (written_in names c.declaration))
 own_methods units stubs settings p t names c l = by (class_at p c.class') refl
@@ -137,6 +158,15 @@ own_methods units stubs settings p t names c l = by (class_at p c.class') refl
         let d : Declaration = l.declaration in
         let P : MethodId × Written → Type 0 = IsListed all_names (λ n. slice_get p.methods.items n) c.class' d in
         let listed = listed_methods all_names whole p.methods.items c.class'.0 d k.methods.items t.methods l.at (t.members c.class'.0 d k l.at at).methods in
-        let same : written_in all_names d ≡ written_in names c.declaration = written_plain all_names d l.in_table ∙ ap plain_written l.class_tree ∙ sym (written_plain names c.declaration l.in_source) in
+        let same : written_in all_names d ≡ written_in names c.declaration = written_same names all_names (table_declaration units stubs settings) (source_declaration p units) c l in
         let moved : All P (zip k.methods.items (written_in names c.declaration)) = subst (λ (ws : List Written). All P (zip k.methods.items ws)) same listed in
-        All-weaker P (IsOwnMethod p c) (λ w one. some_weaker (IsMethod all_names (record { class' = c.class'; declaration = d; written = w.1 })) (IsMethodOf c w.1) (own_method all_names c d w.1) (method_at p w.0) one) (zip k.methods.items (written_in names c.declaration)) moved
+        All-weaker P (IsOwnMethod p c) (λ w one. some_weaker (IsMethod all_names (record { class' = c.class'; declaration = d; written = w.1 })) (IsMethodOf c w.1) (λ m is. own_method all_names c d w.1 m l.class_tree l.in_table l.in_source is) (method_at p w.0) one) (zip k.methods.items (written_in names c.declaration)) moved
+
+-- the class lists as many methods as are written in it
+pub own_count : (units stubs : List tree.Unit) (settings : Settings) (p : Program) → IsTable (classes_of units stubs settings) settings p → (names : List ClassName) (c : SourceClass) → IsLinked (table_declaration units stubs settings) (source_declaration p units) c → (k : Class) → class_at p c.class' ≡ Some k → length k.methods.items ≡ length (written_in names c.declaration)
+own_count units stubs settings p t names c l k at =
+    let whole : List Declaration = classes_of units stubs settings in
+    let all_names : List ClassName = class_names whole in
+    let d : Declaration = l.declaration in
+    listed_count all_names whole p.methods.items c.class'.0 d k.methods.items t.methods l.at (t.members c.class'.0 d k l.at at).methods
+    ∙ ap length (written_same names all_names (table_declaration units stubs settings) (source_declaration p units) c l)

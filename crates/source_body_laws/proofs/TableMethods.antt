@@ -1,5 +1,5 @@
 -- The methods that a class of the table lists are those that are written in it, in their order.
-use Rattle.std.proofs.Common.{◌≡◌, ◌∙◌, sym, ap, refl, subst, arith, ℕ, zero, suc, ◌+◌, ◌<◌, Bool, true, false, cond, Option, Some, None, List, [], ◌∷◌, ◌++◌, All, map, zip}
+use Rattle.std.proofs.Common.{◌≡◌, ◌∙◌, sym, ap, refl, subst, arith, ℕ, zero, suc, ◌+◌, ◌<◌, Bool, true, false, cond, Option, Some, None, List, [], ◌∷◌, ◌++◌, All, length, map, zip}
 use Rattle.std.specs.Prelude.{nat_eq, slice_get}
 use Rattle.std.specs.List.{AllZip, filter}
 use Rattle.std.specs.Option.{IsSomeAnd}
@@ -125,13 +125,29 @@ pairs_listed names lookup c d [] ws all = All-nil (IsListed names lookup c d)
 pairs_listed names lookup c d (m ∷ ids) [] all = absurd all
 pairs_listed names lookup c d (m ∷ ids) (w ∷ ws) all = All-cons (IsListed names lookup c d) (m, w) (zip ids ws) all.0 (pairs_listed names lookup c d ids ws all.1)
 
--- the methods that the class with this number lists, where the table is made of these declarations
-pub listed_methods : (names : List ClassName) (order : List Declaration) (ms : List Method) (n : ℕ) (d : Declaration) (ids : List MethodId) → AllZip (IsMethod names) (methods_from 0 names order) ms → slice_get order n ≡ Some d → map (λ m. m.0) ids ≡ numbers_where (is_of n) 0 (map owner (methods_from 0 names order)) → All (IsListed names (λ k. slice_get ms k) (class_number n) d) (zip ids (written_in names d))
-listed_methods names order ms n d ids zipped at same =
+-- beside the methods that the class with this number lists stand those that are written in it, where the table is made of these
+-- declarations
+owned_listed : (names : List ClassName) (order : List Declaration) (ms : List Method) (n : ℕ) (d : Declaration) (ids : List MethodId) → AllZip (IsMethod names) (methods_from 0 names order) ms → slice_get order n ≡ Some d → map (λ m. m.0) ids ≡ numbers_where (is_of n) 0 (map owner (methods_from 0 names order)) → AllZip (IsAt names (λ k. slice_get ms k)) (map (λ m. m.0) ids) (methods_written (class_number n) d (written_in names d))
+owned_listed names order ms n d ids zipped at same =
     let lookup : ℕ → Option Method = λ k. slice_get ms k in
     let start : 0 + n ≡ n = omega arith in
     let P : ℕ → Type 0 = λ k. filter (is_owned k) (methods_from 0 names order) ≡ methods_of names (class_number k) d in
     let owned : filter (is_owned n) (methods_from 0 names order) ≡ methods_of names (class_number n) d = subst P start (owned_are names 0 n order d at) in
     let all = numbers_at names lookup n 0 (methods_from 0 names order) ms (λ i. (let from : 0 + i ≡ i = omega arith in ap lookup from)) zipped in
     let Q : List ℕ → Type 0 = λ ks. AllZip (IsAt names lookup) ks (methods_of names (class_number n) d) in
-    pairs_listed names lookup (class_number n) d ids (written_in names d) (subst Q (sym same) (subst (λ (ws : List WrittenMethod). AllZip (IsAt names lookup) (numbers_where (is_of n) 0 (map owner (methods_from 0 names order))) ws) owned all))
+    subst Q (sym same) (subst (λ (ws : List WrittenMethod). AllZip (IsAt names lookup) (numbers_where (is_of n) 0 (map owner (methods_from 0 names order))) ws) owned all)
+
+-- the methods that the class with this number lists, where the table is made of these declarations
+pub listed_methods : (names : List ClassName) (order : List Declaration) (ms : List Method) (n : ℕ) (d : Declaration) (ids : List MethodId) → AllZip (IsMethod names) (methods_from 0 names order) ms → slice_get order n ≡ Some d → map (λ m. m.0) ids ≡ numbers_where (is_of n) 0 (map owner (methods_from 0 names order)) → All (IsListed names (λ k. slice_get ms k) (class_number n) d) (zip ids (written_in names d))
+listed_methods names order ms n d ids zipped at same =
+    pairs_listed names (λ k. slice_get ms k) (class_number n) d ids (written_in names d) (owned_listed names order ms n d ids zipped at same)
+
+pairs_count : (names : List ClassName) (lookup : ℕ → Option Method) (c : ClassId) (d : Declaration) (ids : List MethodId) (ws : List Written) → AllZip (IsAt names lookup) (map (λ m. m.0) ids) (methods_written c d ws) → length ids ≡ length ws
+pairs_count names lookup c d [] [] all = refl
+pairs_count names lookup c d [] (w ∷ ws) all = absurd all
+pairs_count names lookup c d (m ∷ ids) [] all = absurd all
+pairs_count names lookup c d (m ∷ ids) (w ∷ ws) all = ap suc (pairs_count names lookup c d ids ws all.1)
+
+-- how many methods the class lists
+pub listed_count : (names : List ClassName) (order : List Declaration) (ms : List Method) (n : ℕ) (d : Declaration) (ids : List MethodId) → AllZip (IsMethod names) (methods_from 0 names order) ms → slice_get order n ≡ Some d → map (λ m. m.0) ids ≡ numbers_where (is_of n) 0 (map owner (methods_from 0 names order)) → length ids ≡ length (written_in names d)
+listed_count names order ms n d ids zipped at same = pairs_count names (λ k. slice_get ms k) (class_number n) d ids (written_in names d) (owned_listed names order ms n d ids zipped at same)

@@ -1,1 +1,2 @@
 pub mod SourceBodies
+pub mod MethodNumbers

@@ -3,4 +3,7 @@
 
 mod laws;
 
-pub use laws::source_bodies_have_their_methods;
+pub use laws::{
+    methods_have_source_bodies, source_bodies_are_of_distinct_methods, source_bodies_are_run,
+    source_bodies_have_their_methods,
+};

@@ -1,5 +1,5 @@
--- What a throws clause may not name (JLS 8.4.6), and the exceptions of the core library (JLS 11.1.1, 15.6).
-use Rattle.std.specs.Prelude.{◌≡◌, ◌&&◌, is_some, Option, Some, None, List, ◌++◌, flat_map}
+-- What a throws clause may not name (JLS 8.4.6), and what the classes of the core library are (JLS 4.3.3, 11.1.1, 15.6).
+use Rattle.std.specs.Prelude.{◌≡◌, ◌&&◌, Bool, true, false, not, is_some, Option, Some, None, List, ◌++◌, flat_map, slice_get}
 use Rattle.rlc_base.specs.declared.code.Code.TheVariants as refused
 use Rattle.rlc_base.specs.declared.faults.Refusal.{Refusal}
 use Rattle.java_syntax.specs.declared.names.Name.{Name}
@@ -10,7 +10,7 @@ use Rattle.class_names.specs.declared.class_name.ClassName.{ClassName}
 use Rattle.class_names.specs.Meanings.{CompilationUnit}
 use Rattle.class_order.specs.Cases.{IsAmong}
 use Rattle.class_order.specs.Declarations.{Declaration, class_names, place_of}
-use Rattle.class_headers.specs.Cases.{bad_super_cases}
+use Rattle.class_headers.specs.Cases.{bad_super_cases, is_final}
 use Rattle.class_headers.specs.SuperTypes.{IsUnder, SuperTypes, all_direct, all_supers, class_named}
 use Rattle.class_declarations.specs.Members.{Written, throws_of, written_in}
 
@@ -58,7 +58,7 @@ IsThrowsOf classes direct throwable d r = IsAmong (IsThrowsIn classes direct thr
 abbrev pub IsThrowsCase : List Declaration → CoreClasses → Refusal → Type 0
 IsThrowsCase order core r = IsAmong (IsThrowsOf (class_names order) (direct_in order core) core.throwable) order r
 
--- ---- the exceptions of the core library
+-- ---- the core library
 
 -- errors and unchecked exceptions are Throwables, and the exceptions that operators throw are unchecked
 pub record HasExceptions (direct : List (List ClassId)) (core : CoreClasses) : Type 0 where
@@ -70,9 +70,27 @@ pub record HasExceptions (direct : List (List ClassId)) (core : CoreClasses) : T
   pub negative_array_size_exception : IsUnder direct core.negative_array_size_exception core.runtime_exception
   pub null_pointer_exception : IsUnder direct core.null_pointer_exception core.runtime_exception
 
--- the refusal of a core library in which they are not so: it has no place in its file
-abbrev pub exceptions_misplaced : Refusal
-exceptions_misplaced = refused_at refused.BadSuper (record { file = 0; line = 0; col = 0 })
+-- a final class of the library
+abbrev pub is_final_in_library : Declaration → Bool
+is_final_in_library d = d.unit.library && (not d.class_tree.is_interface && is_final d.class_tree)
+
+abbrev pub is_final_at : Option Declaration → Bool
+is_final_at None = false
+is_final_at (Some d) = is_final_in_library d
+
+-- String is a final class of the library (JLS 4.3.3, 8.1.1.2), and no class of exceptions (JLS 11.1.1)
+pub record HasStringClass (order : List Declaration) (direct : List (List ClassId)) (core : CoreClasses) : Type 0 where
+  pub final : is_final_at (slice_get order core.string.0) ≡ true
+  pub no_exception : IsUnder direct core.string core.throwable → ⊥
+
+-- the classes of the core library are as the language says
+pub record IsCoreLibrary (order : List Declaration) (direct : List (List ClassId)) (core : CoreClasses) : Type 0 where
+  pub exceptions : HasExceptions direct core
+  pub string : HasStringClass order direct core
+
+-- the refusal of another core library: it has no place in its file
+abbrev pub core_misplaced : Refusal
+core_misplaced = refused_at refused.BadSuper (record { file = 0; line = 0; col = 0 })
 
 abbrev pub IsCoreCase : List Declaration → CoreClasses → Refusal → Type 0
-IsCoreCase order core r = (HasExceptions (direct_in order core) core → ⊥) × (r ≡ exceptions_misplaced)
+IsCoreCase order core r = (IsCoreLibrary order (direct_in order core) core → ⊥) × (r ≡ core_misplaced)

@@ -2,17 +2,15 @@
 
 ghost use Rattle.std.specs.Prelude.{◌≡◌, ◌↔◌, ◌&&◌, All, length, IsTrue, IfOk};
 ghost use Rattle.class_names.specs.ClassNames.{rows_in};
-ghost use Rattle.class_order.specs.Cases.{IsLeast};
 ghost use Rattle.class_order.specs.Core.{AreCore};
 ghost use Rattle.class_headers.specs.SuperTypes.{AreKnown};
-ghost use Rattle.super_checks.specs.SuperCases.{HasExceptions, exceptions_misplaced};
+ghost use Rattle.super_checks.specs.SuperCases.{HasExceptions};
 ghost use Rattle.super_checks.specs.Readiness.{IsPairUnder, IsPairWithin};
 
 use class_headers::{clear_marks, is_under};
 use class_names::ClassNames;
 use program_model::{ClassId, CoreClasses};
-use refusal_order::where_true;
-use rlc_base::{Code, NoMemory, Pos, Refusal};
+use rlc_base::NoMemory;
 use std::alloc::Global;
 
 /// A class and one that it has to stand under.
@@ -22,7 +20,8 @@ pub struct Pair {
     pub upper: ClassId,
 }
 
-fn both(first: bool, second: bool) -> bool
+/// Whether both hold.
+pub(crate) fn both(first: bool, second: bool) -> bool
     ensures { result ≡ (first && second) }
 {
     first && second
@@ -43,8 +42,8 @@ fn are_under(alloc: Global, direct: &[Vec<ClassId>], pairs: &[Pair]) -> Result<b
     Ok(all)
 }
 
-// Whether the exceptions of the core library stand under each other as the language says.
-fn has_exceptions(
+/// Whether the exceptions of the core library stand under each other as the language says (JLS 11.1.1, 15.6).
+pub(crate) fn has_exceptions(
     alloc: Global,
     names: &ClassNames,
     direct: &[Vec<ClassId>],
@@ -88,26 +87,4 @@ fn has_exceptions(
     ];
     let all = are_under(alloc, direct, &pairs)?;
     Ok(all)
-}
-
-/// The refusal of a core library whose exceptions do not stand under each other as the language says (JLS 11.1.1, 15.6): code
-/// 34, with no place in its file.
-pub fn exception_refusal(
-    alloc: Global,
-    names: &ClassNames,
-    direct: &[Vec<ClassId>],
-    core: CoreClasses,
-) -> Result<Option<Refusal>, NoMemory>
-    requires known { AreKnown (rows_in direct.now) }
-    requires long { length names.now ≡ length direct.now }
-    requires core { AreCore names.now core }
-    ensures { IfOk result (λ r. IsLeast (λ x. (HasExceptions (rows_in direct.now) core → ⊥) × (x ≡ exceptions_misplaced)) r) }
-{
-    let are_there = has_exceptions(alloc, names, direct, core)?;
-    let no_place = Pos {
-        file: 0,
-        line: 0,
-        col: 0,
-    };
-    Ok(where_true(!are_there, Code::BadSuper, no_place))
 }

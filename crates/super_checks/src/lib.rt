@@ -1,11 +1,12 @@
-//! The refusals of super types that members bring: throws clauses, super classes of the library that have obligations, and the
-//! exceptions of the core library.
+//! The refusals of super types of a wrong kind, of throws clauses, and of a core library that is not as the language says.
 #![tactic(auto)]
 
+mod core_library;
 mod exceptions;
 mod kinds;
 mod throws;
 
-pub use exceptions::{Pair, exception_refusal};
+pub use core_library::core_refusal;
+pub use exceptions::Pair;
 pub use kinds::kind_refusal;
 pub use throws::{Hierarchy, throws_refusal};

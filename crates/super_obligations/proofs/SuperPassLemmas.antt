@@ -11,17 +11,17 @@ use Rattle.class_order.specs.Cases.{IsAmong, IsLeast}
 use Rattle.class_order.specs.Declarations.{Declaration, class_names}
 use Rattle.class_order.proofs.LeastLemmas.{least_either, least_of_list}
 use Rattle.class_headers.specs.SuperTypes.{SuperTypes, all_direct, all_supers}
-use Rattle.super_checks.specs.SuperCases.{HasExceptions, IsCoreCase, IsThrowsCase, IsThrowsOf, direct_in, exceptions_misplaced, kind_cases, kind_cases_by, supers_in}
+use Rattle.super_checks.specs.SuperCases.{IsCoreCase, IsCoreLibrary, IsThrowsCase, IsThrowsOf, core_misplaced, direct_in, kind_cases, kind_cases_by, supers_in}
 use Rattle.super_obligations.specs.Obligations.{IsObligationAt, IsObligationCase, own_sets}
 use Rattle.super_obligations.specs.SuperPass.{IsSuperCase}
 
-pub super_least : (order : List Declaration) (core : CoreClasses) (kinds throws obligations exceptions : Option Refusal) → kinds ≡ least (kind_cases order core) → IsLeast (IsThrowsCase order core) throws → IsLeast (IsObligationCase order core) obligations → IsLeast (IsCoreCase order core) exceptions
-    → IsLeast (IsSuperCase order core) (lesser_of kinds (lesser_of throws (lesser_of obligations exceptions)))
-super_least order core kinds throws obligations exceptions is h g k =
+pub super_least : (order : List Declaration) (core : CoreClasses) (kinds throws obligations library : Option Refusal) → kinds ≡ least (kind_cases order core) → IsLeast (IsThrowsCase order core) throws → IsLeast (IsObligationCase order core) obligations → IsLeast (IsCoreCase order core) library
+    → IsLeast (IsSuperCase order core) (lesser_of kinds (lesser_of throws (lesser_of obligations library)))
+super_least order core kinds throws obligations library is h g k =
     let Behind : Refusal → Type 0 = λ r. IsObligationCase order core r ⊎ IsCoreCase order core r in
     let Later : Refusal → Type 0 = λ r. IsThrowsCase order core r ⊎ Behind r in
-    least_either (Contains (kind_cases order core)) Later kinds (lesser_of throws (lesser_of obligations exceptions)) (least_of_list (kind_cases order core) is)
-    (least_either (IsThrowsCase order core) Behind throws (lesser_of obligations exceptions) h (least_either (IsObligationCase order core) (IsCoreCase order core) obligations exceptions g k))
+    least_either (Contains (kind_cases order core)) Later kinds (lesser_of throws (lesser_of obligations library)) (least_of_list (kind_cases order core) is)
+    (least_either (IsThrowsCase order core) Behind throws (lesser_of obligations library) h (least_either (IsObligationCase order core) (IsCoreCase order core) obligations library g k))
 
 -- the super types of the table are those of the declarations
 pub table_supers : (classes : List ClassName) (order : List Declaration) (core : CoreClasses) (supers : List SuperTypes) → classes ≡ class_names order → supers ≡ all_supers classes core.object order → supers ≡ supers_in order core
@@ -44,7 +44,7 @@ obligations_here order core supers r same h =
     let P : List SuperTypes → Type 0 = λ ss. IsLeast (IsAmong (IsObligationAt order (own_sets order) ss) (range_with_len 0 (length order))) r in
     subst P same h
 
-pub exceptions_here : (order : List Declaration) (core : CoreClasses) (direct : List (List ClassId)) (r : Option Refusal) → direct ≡ direct_in order core → IsLeast (λ x. (HasExceptions direct core → ⊥) × (x ≡ exceptions_misplaced)) r → IsLeast (IsCoreCase order core) r
-exceptions_here order core direct r rows h =
-    let P : List (List ClassId) → Type 0 = λ rs. IsLeast (λ x. (HasExceptions rs core → ⊥) × (x ≡ exceptions_misplaced)) r in
+pub core_here : (order : List Declaration) (core : CoreClasses) (direct : List (List ClassId)) (r : Option Refusal) → direct ≡ direct_in order core → IsLeast (λ x. (IsCoreLibrary order direct core → ⊥) × (x ≡ core_misplaced)) r → IsLeast (IsCoreCase order core) r
+core_here order core direct r rows h =
+    let P : List (List ClassId) → Type 0 = λ rs. IsLeast (λ x. (IsCoreLibrary order rs core → ⊥) × (x ≡ core_misplaced)) r in
     subst P rows h

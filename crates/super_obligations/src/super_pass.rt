@@ -16,11 +16,11 @@ use program_model::CoreClasses;
 use refusal_order::lesser_of;
 use rlc_base::{NoMemory, Refusal};
 use std::alloc::Global;
-use super_checks::{Hierarchy, exception_refusal, kind_refusal, throws_refusal};
+use super_checks::{Hierarchy, core_refusal, kind_refusal, throws_refusal};
 
 /// The least refusal of super types and throws clauses, code 34: at the class for a super type of a wrong kind, or a super class
 /// of the library that has obligations; at a name in a throws clause that means a class that is not under `Throwable`; with no
-/// place for a core library whose exceptions do not stand under each other as the language says.
+/// place for a core library whose exceptions or class of strings are not as the language says.
 pub fn super_refusal(
     alloc: Global,
     order: &[Declared],
@@ -46,8 +46,8 @@ pub fn super_refusal(
     };
     let throws = throws_refusal(alloc, &hierarchy, order)?;
     let obligations = obligation_refusal(alloc, order, supers, direct, core.object)?;
-    let exceptions = exception_refusal(alloc, names, direct, core)?;
-    let of_core = lesser_of(obligations, exceptions);
-    let behind_kinds = lesser_of(throws, of_core);
+    let library = core_refusal(alloc, order, names, direct, core)?;
+    let behind_throws = lesser_of(obligations, library);
+    let behind_kinds = lesser_of(throws, behind_throws);
     Ok(lesser_of(kinds, behind_kinds))
 }

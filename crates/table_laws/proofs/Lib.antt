@@ -1,3 +1,5 @@
 mod DeclaredNames
+pub mod LibraryString
 mod QualifiedNames
+pub mod StringClass
 pub mod TableNames

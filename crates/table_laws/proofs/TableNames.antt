@@ -58,12 +58,19 @@ header_names [] ss same = refl
 header_names (d ∷ ds) [] same = absurd (omega (arith, same))
 header_names (d ∷ ds) (s ∷ ss) same = ap (λ rest. declaration_named d ∷ rest) (header_names ds ss (omega (arith, same)))
 
+classes_named : (order : List Declaration) (settings : Settings) (p : Program) → IsTable order settings p → map class_named p.classes.items ≡ map declaration_named order
+classes_named order settings p t =
+    sym (map-map header_named header_of p.classes.items) ∙ ap (map header_named) t.headers
+    ∙ header_names order (supers_in order p.core) (sym (length-supers_from (class_names order) p.core.object 0 order))
+
+-- the names of the classes of a table are those of its declarations
+class_names_are : (order : List Declaration) (settings : Settings) (p : Program) → IsTable order settings p → map (λ (k : Class). k.name) p.classes.items ≡ map name_of order
+class_names_are order settings p t =
+    sym (map-map (λ (n : Named). n.0) class_named p.classes.items) ∙ ap (map (λ (n : Named). n.0)) (classes_named order settings p t) ∙ map-map (λ (n : Named). n.0) declaration_named order
+
 table_names : (order : List Declaration) (settings : Settings) (p : Program) → IsTable order settings p → map (λ (k : Class). k.name) (library_classes p) ≡ map name_of (filter is_of_library order)
 table_names order settings p t =
-    let pairs : map class_named p.classes.items ≡ map declaration_named order =
-    sym (map-map header_named header_of p.classes.items) ∙ ap (map header_named) t.headers
-    ∙ header_names order (supers_in order p.core) (sym (length-supers_from (class_names order) p.core.object 0 order)) in
-    filtered_names (λ (k : Class). k.name) (λ (k : Class). k.library) p.classes.items ∙ ap names_where pairs ∙ sym (filtered_names name_of is_of_library order)
+    filtered_names (λ (k : Class). k.name) (λ (k : Class). k.library) p.classes.items ∙ ap names_where (classes_named order settings p t) ∙ sym (filtered_names name_of is_of_library order)
 
 -- ---- the names of all classes
 
@@ -90,6 +97,12 @@ all_names_are units stubs settings p t =
     ∙ ap (λ rest. map name_of kept ++ rest) (map-map name_of_class class_name_of (declarations units) ∙ names_of_units 0 (length stubs) units)
     ∙ sym (map-append name_of kept own)
     ∙ sym (map-map name_of_class class_name_of (kept ++ own))
+
+-- the names by which bodies are typed are those of the table
+pub table_names_are : (units stubs : List tree.Unit) (settings : Settings) (p : Program) → IsTable (classes_of units stubs settings) settings p → names_of (all_names p units) ≡ map (λ (k : Class). k.name) p.classes.items
+table_names_are units stubs settings p t =
+    let written : List Declaration = classes_of units stubs settings in
+    all_names_are units stubs settings p t ∙ map-map name_of_class class_name_of written ∙ sym (class_names_are written settings p t)
 
 -- ---- doubles
 

@@ -1,7 +1,9 @@
-use Rattle.std.proofs.Common.{◌≡◌, ◌∙◌, sym, ap, subst, arith, ◌≤◌, [], ◌∷◌, ◌++◌, length}
+use Rattle.std.proofs.Common.{◌≡◌, ◌∙◌, sym, ap, refl, subst, arith, ◌≤◌, [], ◌∷◌, ◌++◌, length}
 use Rattle.ledger_machine.proofs.FrameLaws.{put_bounded, rest_bounded}
 use Rattle.ledger_machine.proofs.MoveLaws.{return_went, top_dropped, top_put}
 use Rattle.ledger_machine.proofs.StepLaws.{frame_with}
+use Rattle.ledger_machine.proofs.TopLaws.{nothing_apart_two, nothing_with}
+use Rattle.ledger_machine.specs.HeapChanges.{heap_left}
 use Rattle.ledger_moves.specs.Frames.{highest_control}
 use Rattle.ledger_machine.proofs.returning.run_return.Goals as goal
 
@@ -11,8 +13,8 @@ put_top-requires c =
     let running = c.requires.running in
     omega (arith, count, running)
 
-pub returns-in_ok-append_lines-clause-went : goal.returns-in_ok-append_lines-clause-went
-returns-in_ok-append_lines-clause-went c =
+pub returns-in_ok-take_change-clause-went : goal.returns-in_ok-take_change-clause-went
+returns-in_ok-take_change-clause-went c =
     let m = c.args.m.now in
     let t = c.args.t in
     let top = c.in-Some.top.now in
@@ -24,12 +26,12 @@ returns-in_ok-append_lines-clause-went c =
     let under : others ≡ below ++ caller ∷ [] = c.in-Some-split_last.ensures.cases.0 in
     let left : c.drop_top.new.frames.items ≡ others = c.drop_top.ensures.items ∙ top_dropped m.frames.items others top m.frames.len split (sym c.deref.ensures.len ∙ ap length c.deref.ensures.value) in
     let put = top_put c.put_top.new.frames.items c.drop_top.new.frames.items below caller (frame_with caller.method t.to taken.locals) c.drop_top.new.frames.len (left ∙ under) c.drop_top.new.frames.ok.0 c.put_top.ensures in
-    let entries = c.in_ok-append_lines.ensures.entries ∙ ap (λ xs. m.entries.items ++ xs) (c.deref-in-Some-split_last.ensures.value ∙ c.in_ok-taken.ensures.lines) in
-    λ fr from frs h. return_went c.args.p.now m top caller below others fr from frs c.args.pos c.args.completion c.args.thrown c.args.named t c.result_value-value.result taken.locals c.put_top.new.frames.items taken.effect.heap c.append_lines.new.entries.items
-    split under h put c.result_value-value.ensures c.in_ok-taken.ensures.locals c.in_ok-taken.ensures.heap entries
+    let entries = c.add_lines.ensures ∙ (λ i. c.reserve.ensures.items i ++ (c.deref-in-Some-split_last.ensures.value ∙ c.in_ok-taken.ensures.lines) i) in
+    λ fr from frs h. return_went c.args.p.now m top caller below others fr from frs c.args.pos c.args.completion c.args.thrown c.args.named t c.result_value-value.result taken.locals c.put_top.new.frames.items c.take_change.new.heap c.add_lines.new.entries.items
+    split under h put c.result_value-value.ensures c.in_ok-taken.ensures.locals (c.in_ok-take_change.ensures.ok ∙ c.in_ok-taken.ensures.heap) entries
 
-pub returns-in_ok-append_lines-clause-bounded : goal.returns-in_ok-append_lines-clause-bounded
-returns-in_ok-append_lines-clause-bounded c =
+pub returns-in_ok-take_change-clause-bounded : goal.returns-in_ok-take_change-clause-bounded
+returns-in_ok-take_change-clause-bounded c =
     let m = c.args.m.now in
     let n = length c.args.m.now.lists.cells.keys in
     let top = c.in-Some.top.now in
@@ -42,3 +44,25 @@ returns-in_ok-append_lines-clause-bounded c =
     let left : c.drop_top.new.frames.items ≡ others = c.drop_top.ensures.items ∙ top_dropped m.frames.items others top m.frames.len split (sym c.deref.ensures.len ∙ ap length c.deref.ensures.value) in
     let put = top_put c.put_top.new.frames.items c.drop_top.new.frames.items below caller new c.drop_top.new.frames.len (left ∙ under) c.drop_top.new.frames.ok.0 c.put_top.ensures in
     subst (λ xs. highest_control xs ≤ n) (sym put) (put_bounded n others below caller new under (rest_bounded n m.frames.items others top split c.requires.bounded) c.requires.within)
+
+pub return_result-requires : goal.return_result-requires
+return_result-requires c =
+    let m = c.args.m.now in
+    let split : m.frames.items ≡ c.in-Some.others.now ++ c.in-Some.top.now ∷ [] = sym c.deref.ensures.value ∙ c.in-Some.ensures.cases.0 in
+    let under : c.in-Some.others.now ≡ c.in-Some-split_last.below.now ++ c.in-Some-split_last.caller.now ∷ [] = c.in-Some-split_last.ensures.cases.0 in
+    nothing_apart_two m c.in-Some.top.now c.in-Some-split_last.caller.now c.in-Some.others.now c.in-Some-split_last.below.now split under c.requires.settled
+
+pub returns-in_ok-take_change-clause-settled : goal.returns-in_ok-take_change-clause-settled
+returns-in_ok-take_change-clause-settled c =
+    let m = c.args.m.now in
+    let top = c.in-Some.top.now in
+    let others = c.in-Some.others.now in
+    let caller = c.in-Some-split_last.caller.now in
+    let below = c.in-Some-split_last.below.now in
+    let taken = c.in_ok-taken.taken in
+    let new = frame_with caller.method c.args.t.to taken.locals in
+    let split : m.frames.items ≡ others ++ top ∷ [] = sym c.deref.ensures.value ∙ c.in-Some.ensures.cases.0 in
+    let under : others ≡ below ++ caller ∷ [] = c.in-Some-split_last.ensures.cases.0 in
+    let left : c.drop_top.new.frames.items ≡ others = c.drop_top.ensures.items ∙ top_dropped m.frames.items others top m.frames.len split (sym c.deref.ensures.len ∙ ap length c.deref.ensures.value) in
+    let put = top_put c.put_top.new.frames.items c.drop_top.new.frames.items below caller new c.drop_top.new.frames.len (left ∙ under) c.drop_top.new.frames.ok.0 c.put_top.ensures in
+    λ so. nothing_with c.take_change.new.heap (heap_left taken.change m.heap) c.put_top.new.frames.items below new taken.locals taken.owning c.in_ok-take_change.ensures.ok put refl (c.in_ok-taken.ensures.nothing so)

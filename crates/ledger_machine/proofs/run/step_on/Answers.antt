@@ -14,7 +14,7 @@ returns-clause-turn c =
 pub returns-clause-config : goal.returns-clause-config
 returns-clause-config c =
     let after = c.next_advance.new.m in
-    c.in_ok-turn.ensures.config
+    c.settle.ensures.kept ∙ c.in_ok-turn.ensures.config
     ∙ (λ i. config_after (c.next_advance.ensures.kept i) (step_taken c.args.p.now (config_of c.args.m.now) (config_of after) (move_seen after.lists.cells.keys c.in_ok-advance.advance) c.next_advance.ensures.kept c.in_ok-advance.ensures.seen i))
 
 pub returns-in_err-turn-clause-kept : goal.returns-in_err-turn-clause-kept

@@ -1,15 +1,17 @@
-use Rattle.std.proofs.Common.{◌≡◌, ◌∙◌, sym, ap, subst, ◌≤◌, [], ◌∷◌, ◌++◌, length}
+use Rattle.std.proofs.Common.{◌≡◌, ◌∙◌, sym, ap, refl, subst, ◌≤◌, [], ◌∷◌, ◌++◌, length}
 use Rattle.program_model.specs.Lookups.{method_at}
 use Rattle.ledger_calls.specs.Conducts.{arguments_shared, arrays_given, conduct_value, positions, result_in}
 use Rattle.ledger_machine.proofs.FrameLaws.{put_bounded}
 use Rattle.ledger_machine.proofs.MoveLaws.{library_call_went, top_put}
 use Rattle.ledger_machine.proofs.StepLaws.{frame_with}
+use Rattle.ledger_machine.proofs.TopLaws.{nothing_apart, nothing_with}
+use Rattle.ledger_machine.specs.HeapChanges.{heap_left}
 use Rattle.ledger_moves.specs.Frames.{highest_control}
 use Rattle.ledger_operations.specs.Operations.{one_more_used}
 use Rattle.ledger_machine.proofs.stepping.run_library.Goals as goal
 
-pub returns-in_ok-append_lines-clause-went : goal.returns-in_ok-append_lines-clause-went
-returns-in_ok-append_lines-clause-went c =
+pub returns-in_ok-take_change-clause-went : goal.returns-in_ok-take_change-clause-went
+returns-in_ok-take_change-clause-went c =
     let p = c.args.p.now in
     let m = c.args.m.now in
     let s = c.args.s in
@@ -22,12 +24,12 @@ returns-in_ok-append_lines-clause-went c =
     let value = c.conduct_value-value.ensures ∙ ap (λ k. conduct_value c.len-count.result (method_at p c.args.method) (positions top.locals s.action k c.args.conduct) k c.args.conduct) c.next_number-number.ensures in
     let arrays = c.give_arrays.ensures ∙ ap (λ xs. arrays_given (arguments_shared xs top.locals s.action (method_at p c.args.named)) (result_in (method_at p c.args.method)) c.args.conduct) c.reserve.ensures.items in
     let used = c.one_more_used-m.ensures ∙ ap (λ xs. one_more_used xs m.used) c.deref-in-Some-2.ensures.value in
-    let entries = c.in_ok-append_lines.ensures.entries ∙ ap (λ xs. m.entries.items ++ xs) (c.deref-in-Some.ensures.value ∙ c.in_ok-taken.ensures.lines) in
-    library_call_went p m top below c.args.named c.args.method c.args.conduct s c.len-count.result c.conduct_value-value.result taken.locals c.put_top.new.frames.items taken.effect.heap c.give_arrays.new.arrays.items c.one_more_used-m.result c.append_lines.new.entries.items
-    split put count value c.in_ok-taken.ensures.locals c.in_ok-taken.ensures.heap arrays used entries
+    let entries = c.add_lines.ensures ∙ (λ i. c.reserve-in-Some.ensures.items i ++ (c.deref-in-Some.ensures.value ∙ c.in_ok-taken.ensures.lines) i) in
+    library_call_went p m top below c.args.named c.args.method c.args.conduct s c.len-count.result c.conduct_value-value.result taken.locals c.put_top.new.frames.items c.take_change.new.heap c.give_arrays.new.arrays.items c.one_more_used-m.result c.add_lines.new.entries.items
+    split put count value c.in_ok-taken.ensures.locals (c.in_ok-take_change.ensures.ok ∙ c.in_ok-taken.ensures.heap) arrays used entries
 
-pub returns-in_ok-append_lines-clause-bounded : goal.returns-in_ok-append_lines-clause-bounded
-returns-in_ok-append_lines-clause-bounded c =
+pub returns-in_ok-take_change-clause-bounded : goal.returns-in_ok-take_change-clause-bounded
+returns-in_ok-take_change-clause-bounded c =
     let m = c.args.m.now in
     let top = c.in-Some.top.now in
     let below = c.in-Some.below.now in
@@ -35,3 +37,20 @@ returns-in_ok-append_lines-clause-bounded c =
     let split : m.frames.items ≡ below ++ top ∷ [] = sym c.deref.ensures.value ∙ c.in-Some.ensures.cases.0 in
     let put = top_put c.put_top.new.frames.items m.frames.items below top new m.frames.len split (sym c.deref.ensures.len ∙ ap length c.deref.ensures.value) c.put_top.ensures in
     subst (λ xs. highest_control xs ≤ length m.lists.cells.keys) (sym put) (put_bounded (length m.lists.cells.keys) m.frames.items below top new split c.requires.bounded c.requires.within)
+
+pub library_result-requires : goal.library_result-requires
+library_result-requires c =
+    let m = c.args.m.now in
+    let split : m.frames.items ≡ c.in-Some.below.now ++ c.in-Some.top.now ∷ [] = sym c.deref.ensures.value ∙ c.in-Some.ensures.cases.0 in
+    nothing_apart m c.in-Some.top.now c.in-Some.below.now split c.requires.settled
+
+pub returns-in_ok-take_change-clause-settled : goal.returns-in_ok-take_change-clause-settled
+returns-in_ok-take_change-clause-settled c =
+    let m = c.args.m.now in
+    let top = c.in-Some.top.now in
+    let below = c.in-Some.below.now in
+    let taken = c.in_ok-taken.taken in
+    let new = frame_with top.method c.args.s.to taken.locals in
+    let split : m.frames.items ≡ below ++ top ∷ [] = sym c.deref.ensures.value ∙ c.in-Some.ensures.cases.0 in
+    let put = top_put c.put_top.new.frames.items m.frames.items below top new m.frames.len split (sym c.deref.ensures.len ∙ ap length c.deref.ensures.value) c.put_top.ensures in
+    λ so. nothing_with c.take_change.new.heap (heap_left taken.change m.heap) c.put_top.new.frames.items below new taken.locals taken.owning c.in_ok-take_change.ensures.ok put refl (c.in_ok-taken.ensures.nothing so)

@@ -10,7 +10,7 @@ index-requires c =
     let next = YieldsList-turn (YieldsList-from_vec {s = c.into_iter-method-iterator.result} c.args.methods.items (search rules) (search rules)) c.loop-method.yielded c.loop-method.method-iterator c.loop-method.yielded_by c.next.result c.next.new.self c.in-Some.method c.in-Some.is c.next.ensures.steps in
     let many = count_of_methods c.args.bodies.now 0 c.loop-method.yielded in
     let same = ap length c.loop-method.invariant in
-    let long = c.in_ok-numbers.ensures.long in
+    let long = c.in_ok-numbers.ensures.numbers.long in
     omega (arith, next.0, many, same, long)
 
 pub loop-method-preserved : goal.loop-method-preserved
@@ -20,4 +20,4 @@ loop-method-preserved c =
     let same = ap length c.loop-method.invariant in
     let below : c.len-in-loop-method.result < c.len.result = omega (arith, next.0, many, same) in
     method_step c.args.bodies.now c.loop-method.yielded c.in-Some.method c.loop-method.made.items c.push.new.self.items c.len-in-loop-method.result c.index.result.now c.with_body.result c.loop-method.invariant (grind (arith, common_steps))
-    (c.index.ensures ∙ c.in_ok-numbers.ensures.each c.len-in-loop-method.result c.index.result.now below) c.with_body.ensures c.in_ok-push.ensures.items
+    (c.index.ensures ∙ c.in_ok-numbers.ensures.numbers.each c.len-in-loop-method.result c.index.result.now below) c.with_body.ensures c.in_ok-push.ensures.items

@@ -3,12 +3,13 @@ use Rattle.std.proofs.Common.{◌≡◌, ◌∙◌, map, ℕ, List, Bor, Result,
 use Rattle.rlc_base.specs.declared.faults.Stop.{Stop}
 use Rattle.java_syntax.specs.declared.declaration_trees.Unit as tree
 use Rattle.program_model.specs.declared.program.Program.{Program}
+use Rattle.must_call_sets.specs.WellFormed.{IsWellFormed}
 use Rattle.signature_rules.specs.RulePasses.{HasNoRuleCase}
 use Rattle.program_reading.specs.Fronts.{IsFront}
 use Rattle.program_reading.specs.Programs.{Input, IsProgram, IsProgramStop, by_files, by_signing, by_typing}
-use Rattle.program_reading.specs.SignedPrograms.{IsAnnotated, IsSigningStop}
+use Rattle.program_reading.specs.SignedPrograms.{HasListedFields, IsAnnotated, IsSigningStop}
 use Rattle.program_reading.specs.TypedPrograms.{IsTyped}
-use Rattle.program_reading.proofs.Results.{if_err}
+use Rattle.program_reading.proofs.Results.{if_err, if_ok}
 use Rattle.program_reading.proofs.reading.read_program.Goals as goal
 
 moved : (words texts : List (List ℕ)) (sections sections' sources sources' : List tree.Unit) → sections' ≡ sections → sources' ≡ sources → IsFront words texts sections sources
@@ -17,10 +18,10 @@ moved words texts sections sections' sources sources' same equal front =
     record { trees = front.trees; has_trees = front.has_trees; sections_are = same ∙ front.sections_are; sources_are = equal ∙ front.sources_are }
 
 program_if : (input : Input) (sections sources : List tree.Unit) (typed : Program) (r : Result Program Stop) → IsFront input.words input.texts sections sources → IsTyped input.settings sections sources typed
-    → IfOk r (IsAnnotated typed) → IfOk r HasNoRuleCase → IfOk r (IsProgram input)
-program_if input sections sources typed (Ok p) front is annotated right =
-    record { sections = sections; sources = sources; typed = typed; front = front; is_typed = is; annotated = annotated; right = right }
-program_if input sections sources typed (Err stop) front is annotated right = tt
+    → IfOk r (IsAnnotated typed) → IfOk r HasNoRuleCase → IfOk r IsWellFormed → IfOk r (IsProgram input)
+program_if input sections sources typed (Ok p) front is annotated right well_formed =
+    record { sections = sections; sources = sources; typed = typed; front = front; is_typed = is; annotated = annotated; right = right; well_formed = well_formed }
+program_if input sections sources typed (Err stop) front is annotated right well_formed = tt
 
 pub returns-in-Err-clause-stopped : goal.returns-in-Err-clause-stopped
 returns-in-Err-clause-stopped c = by_files c.in-Err.ensures.stopped
@@ -33,7 +34,7 @@ returns-in-Ok-typed-clause-program c =
     let sections = c.deref.result.now in
     let sources = c.deref-2.result.now in
     let front = moved words texts c.in-Ok.trees.sections.items sections c.in-Ok.trees.sources.items sources c.deref.ensures.value c.deref-2.ensures.value c.in-Ok.ensures.front in
-    program_if input sections sources c.in-Ok-typed.program c.signed.result front c.in-Ok-typed.ensures.typed c.signed.ensures.annotated c.signed.ensures.right
+    program_if input sections sources c.in-Ok-typed.program c.signed.result front c.in-Ok-typed.ensures.typed c.signed.ensures.annotated c.signed.ensures.right c.signed.ensures.well_formed
 
 pub returns-in-Ok-typed-clause-stopped : goal.returns-in-Ok-typed-clause-stopped
 returns-in-Ok-typed-clause-stopped c =
@@ -54,3 +55,6 @@ returns-clause-stopped c =
     let sources = c.deref-2.result.now in
     let front = moved words texts c.in-Ok.trees.sections.items sections c.in-Ok.trees.sources.items sources c.deref.ensures.value c.deref-2.ensures.value c.in-Ok.ensures.front in
     by_typing sections sources front c.in-Err-typed.ensures.stopped
+
+pub returns-in-Ok-typed-clause-fields : goal.returns-in-Ok-typed-clause-fields
+returns-in-Ok-typed-clause-fields c = if_ok IsWellFormed HasListedFields c.signed.result (λ p is f x found. (is.valid.typed.fields f x found).listed) c.signed.ensures.well_formed

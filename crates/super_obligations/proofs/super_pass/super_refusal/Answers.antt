@@ -12,7 +12,7 @@ use Rattle.class_headers.specs.SuperTypes.{AreKnown, all_direct, supers_of}
 use Rattle.class_headers.proofs.KnownLemmas.{length-supers_from}
 use Rattle.super_obligations.specs.Obligations.{IsObligationAt, own_sets}
 use Rattle.super_obligations.specs.SuperPass.{IsSuperCase}
-use Rattle.super_obligations.proofs.SuperPassLemmas.{exceptions_here, kinds_here, obligations_here, super_least, table_direct, table_supers, throws_here}
+use Rattle.super_obligations.proofs.SuperPassLemmas.{core_here, kinds_here, obligations_here, super_least, table_direct, table_supers, throws_here}
 use Rattle.super_obligations.proofs.super_pass.super_refusal.Goals as goal
 
 pub throws_refusal-requires-clause-known : goal.throws_refusal-requires-clause-known
@@ -34,11 +34,11 @@ obligation_refusal-requires-clause-wide c =
     sym (length-map c.args.order.now declaration_of) ∙ sym (length-supers_from c.args.names.now c.args.core.object 0 (map declaration_of c.args.order.now)) ∙ sym (ap length c.requires.supers)
     ∙ length-map c.args.table.now.supers.items supers_of ∙ sym (ap length c.as_slice-supers.ensures.value)
 
-pub exception_refusal-requires-clause-known : goal.exception_refusal-requires-clause-known
-exception_refusal-requires-clause-known c = let K : List (List ClassId) → Type 0 = AreKnown in subst K (sym (ap rows_in c.as_slice-direct.ensures.value)) c.requires.known
+pub core_refusal-requires-clause-known : goal.core_refusal-requires-clause-known
+core_refusal-requires-clause-known c = let K : List (List ClassId) → Type 0 = AreKnown in subst K (sym (ap rows_in c.as_slice-direct.ensures.value)) c.requires.known
 
-pub exception_refusal-requires-clause-long : goal.exception_refusal-requires-clause-long
-exception_refusal-requires-clause-long c =
+pub core_refusal-requires-clause-long : goal.core_refusal-requires-clause-long
+core_refusal-requires-clause-long c =
     ap length c.requires.names ∙ length-map (map declaration_of c.args.order.now) class_name_of ∙ length-map c.args.order.now declaration_of ∙ c.requires.long ∙ sym (ap length c.as_slice-direct.ensures.value)
 
 pub returns : goal.returns
@@ -53,13 +53,13 @@ returns c =
     let kinds = c.kind_refusal-kinds.result in
     let throws = c.in_ok-throws.throws in
     let obligations = c.in_ok-obligations.obligations in
-    let exceptions = c.in_ok-exceptions.exceptions in
+    let library = c.in_ok-library.library in
     let L : Option Refusal → Type 0 = IsLeast (IsSuperCase order core) in
     let N = length-map c.args.order.now declaration_of in
     let O : ℕ → Type 0 = λ n. IsLeast (IsAmong (IsObligationAt order (own_sets order) supers) (range_with_len 0 n)) obligations in
-    subst L (sym (c.lesser_of.ensures ∙ ap (lesser_of kinds) (c.lesser_of-behind_kinds.ensures ∙ ap (lesser_of throws) c.lesser_of-of_core.ensures)))
-    (super_least order core kinds throws obligations exceptions
+    subst L (sym (c.lesser_of.ensures ∙ ap (lesser_of kinds) (c.lesser_of-behind_kinds.ensures ∙ ap (lesser_of throws) c.lesser_of-behind_throws.ensures)))
+    (super_least order core kinds throws obligations library
     (kinds_here order core supers kinds supers_are c.kind_refusal-kinds.ensures)
     (throws_here names order core direct throws c.requires.names direct_are c.in_ok-throws.ensures)
     (obligations_here order core supers obligations supers_are (subst O (sym N) c.in_ok-obligations.ensures))
-    (exceptions_here order core direct exceptions direct_are c.in_ok-exceptions.ensures))
+    (core_here order core direct library direct_are c.in_ok-library.ensures))

@@ -1,0 +1,101 @@
+-- How a run agrees with the facts of the flow rules: the invariant of safety. It is said by families, one for each key: for each
+-- unmet object that a frame owns there is a fact. Roots stand for objects throughout.
+use Rattle.std.specs.Prelude.{◌≡◌, ℕ, ◌+◌, Bool, true, false, Some, None, List, [], ◌∷◌, length, nat_eq, MatchBool}
+use Rattle.std.specs.List.{list_any}
+use Rattle.std.specs.FinSet as set
+use Rattle.program_model.specs.declared.kinds.BodyId.{BodyId}
+use Rattle.program_model.specs.declared.kinds.MethodId.{MethodId}
+use Rattle.program_model.specs.declared.program.Program.{Program}
+use Rattle.program_model.specs.declared.tree.Body.{Body}
+use Rattle.program_model.specs.Lookups.{body_at, method_at}
+use Rattle.must_call_sets.specs.MustCallSets.{fits}
+use Rattle.java_control.specs.PlaceNumbers.{IsSmall}
+use Rattle.java_control.specs.declared.fact.Fact.{Fact}
+use Rattle.java_control.specs.declared.fact.Mode.TheVariants as modes
+use Rattle.java_control.specs.declared.fact.Origin.{Origin}
+use Rattle.java_control.specs.declared.place.Place.{Place}
+use Rattle.obligation_facts.specs.Facts.{has, is_nowhere, need}
+use Rattle.ownership_rules.specs.MovesAtReturns.{result_in}
+use Rattle.flow_rules.specs.Paths.{Comes, Reach, relation_of}
+use Rattle.ledger_state.specs.Contents.{HeapContents}
+use Rattle.ledger_state.specs.Heaps.{object_at, root_of}
+use Rattle.ledger_state.specs.declared.entry.Entry.{Entry}
+use Rattle.ledger_state.specs.declared.entry.Owner.{Owner}
+use Rattle.ledger_state.specs.declared.entry.Owner.TheVariants as owners
+use Rattle.ledger_state.specs.declared.locals.Locals.{Locals}
+use Rattle.ledger_state.specs.declared.object.Object.{Object}
+use Rattle.ledger_obligations.specs.Obligations.{is_unmet}
+use Rattle.ledger_operations.specs.Places.{place_value}
+use Rattle.ledger_calls.specs.Configuration.{Config, Frame}
+use Rattle.ledger_frames.specs.Choosing.{body_id}
+use Rattle.run_command.specs.RunAnswers.{is_leak}
+use Rattle.heap_laws.specs.Heaps.{IsUnlinked}
+use Rattle.place_laws.specs.Places.{HasPlacesAlone, is_local}
+
+-- A fact speaks the truth of object `o`, which is `x`, in a frame of the method `m`: the frame owns the object, all that must be
+-- called on it is needed by the fact, all that the fact knows was called, and the places of the fact, of which there is one at
+-- least, are variables and temps that hold it.
+pub record Follows (p : Program) (h : HeapContents) (m : MethodId) (l : Locals) (o : ℕ) (x : Object) (origin : Origin) (f : Fact) : Type 0 where
+  pub own : f.mode ≡ modes.Own
+  pub class : fits p x.class origin.class ≡ true
+  pub need : set.is_subset x.must (need origin f) ≡ true
+  pub called : set.is_subset f.called x.called ≡ true
+  pub some : is_nowhere f.places ≡ false
+  pub alone : HasPlacesAlone f.places
+  pub places : (q : Place) → IsSmall q → has f.places q ≡ true → (is_local q ≡ true) × (root_of h (place_value p h m l q) ≡ Some o)
+
+-- a path through the frame's body brings such a fact to the control where the frame stands
+pub record Tracks (p : Program) (h : HeapContents) (fr : Frame) (o : ℕ) (x : Object) : Type 0 where
+  pub body : BodyId
+  pub id : body_id p fr.method ≡ Some body
+  pub origin : Origin
+  pub fact : Fact
+  pub reached : Reach p body (relation_of p body) origin fr.control fact
+  pub follows : Follows p h fr.method fr.locals o x origin fact
+
+-- the frame at position `j` tracks the object. The top one stands first
+abbrev pub IsTracked : Program → HeapContents → List Frame → ℕ → Object → ℕ → Type 0
+IsTracked p h [] o x j = ⊥
+IsTracked p h (fr ∷ frs) o x j = MatchBool (nat_eq (length frs + 1) j) (Tracks p h fr o x) (IsTracked p h frs o x j)
+
+-- the frame stands at a control that its body reaches, with the variables of that body
+pub record Stands (p : Program) (fr : Frame) : Type 0 where
+  pub number : BodyId
+  pub body : Body
+  pub id : body_id p fr.method ≡ Some number
+  pub at : body_at p number ≡ Some body
+  pub method : body.method ≡ fr.method
+  pub control : Comes (relation_of p number) fr.control
+  pub variables : length fr.locals.variables ≡ length body.vars.items
+
+abbrev pub AllStand : Program → List Frame → Type 0
+AllStand p [] = Unit {0}
+AllStand p (fr ∷ frs) = Stands p fr × AllStand p frs
+
+-- a frame or the library
+abbrev pub is_answering : Owner → Bool
+is_answering (owners.Frame j) = true
+is_answering owners.Library = true
+is_answering (owners.Field w f) = false
+is_answering owners.Released = false
+is_answering owners.Lost = false
+is_answering owners.Unowned = false
+
+-- no frame waits, and the one that runs gives no result: for now no method of the program is called
+abbrev pub IsMainAlone : Program → List Frame → Type 0
+IsMainAlone p [] = Unit {0}
+IsMainAlone p (fr ∷ []) = result_in (method_at p fr.method) ≡ None
+IsMainAlone p (fr ∷ caller ∷ frs) = ⊥
+
+-- the frames, the heap and the lines of a run agree with the facts
+pub record Agrees (p : Program) (frs : List Frame) (h : HeapContents) (lines : List Entry) : Type 0 where
+  pub standing : AllStand p frs
+  pub alone : IsMainAlone p frs
+  pub unlinked : IsUnlinked h
+  pub tracked : (o : ℕ) (x : Object) (j : ℕ) → object_at h o ≡ Some x → is_unmet x ≡ true → x.owner ≡ owners.Frame j → IsTracked p h frs o x j
+  pub answered : (o : ℕ) (x : Object) → object_at h o ≡ Some x → is_unmet x ≡ true → is_answering x.owner ≡ true
+  pub no_leak : list_any is_leak lines ≡ false
+
+-- the configuration agrees with the facts
+abbrev pub Agree : Program → Config → Type 0
+Agree p c = Agrees p c.frames c.heap c.entries

@@ -1,0 +1,2 @@
+//! How a run agrees with the facts of the flow rules.
+#![tactic(auto)]

@@ -1,0 +1,5 @@
+pub mod BodyTables
+pub mod BuiltStrings
+pub mod ElaboratedValidity
+pub mod MethodsWithBodies
+pub mod SingleBodies

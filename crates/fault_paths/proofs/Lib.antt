@@ -1,0 +1,4 @@
+pub mod AnyLaws
+pub mod StepLaws
+pub mod TestLaws
+pub mod ControlLaws

@@ -1,0 +1,3 @@
+-- What the contracts of cases of graphs speak of.
+pub mod Answers
+pub mod Counts

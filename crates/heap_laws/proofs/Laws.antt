@@ -1,0 +1,109 @@
+-- The laws, under their names, for the crates above.
+use Rattle.std.specs.FinSet as set
+use Rattle.std.specs.Option.{option_map}
+use Rattle.heap_laws.specs.Heaps.{Evolves, GoesOn, IsOlder, IsUnlinked}
+use Rattle.ledger_calls.specs.Calls.{move_params}
+use Rattle.ledger_entries.specs.Entries.{birth_entries, called_entries, leak_entries, owner_entries, reset_entries}
+use Rattle.ledger_obligations.specs.Obligations.{all_notes, end_frame, has_note, is_frame, is_unmet, lose, may_move, noted, noted_object, owner_holds}
+use Rattle.ledger_obligations.specs.declared.note.Note.{Note}
+use Rattle.ledger_state.specs.Contents.{HeapContents}
+use Rattle.ledger_state.specs.Heaps.{append, change_each, next_number, object_at, root, root_of, unfinished}
+use Rattle.ledger_state.specs.declared.entry.Entry.{Entry}
+use Rattle.ledger_state.specs.declared.entry.LeakWord.{LeakWord}
+use Rattle.ledger_state.specs.declared.entry.Owner.{Owner}
+use Rattle.ledger_state.specs.declared.object.Object.{Object}
+use Rattle.ledger_state.specs.declared.value.Value.{Value}
+use Rattle.ledger_steps.specs.Effects.{left}
+use Rattle.program_model.specs.declared.kinds.ClassId.{ClassId}
+use Rattle.program_model.specs.declared.program.ParamSig.{ParamSig}
+use Rattle.program_model.specs.declared.program.Program.{Program}
+use Rattle.rlc_base.specs.declared.place.Pos.{Pos}
+use Rattle.run_command.specs.RunAnswers.{is_leak}
+use Rattle.std.specs.List.{list_any}
+use Rattle.std.proofs.Common.{refl}
+use Rattle.std.specs.Prelude.{if◌then◌else◌, List, Some, [], false, nat_eq, slice_get, true, ℕ, ◌+◌, ◌<◌, ◌≡◌}
+use Rattle.heap_laws.proofs.LineLaws.{birth_none, called_none, end_none, leaks_unchanged, owner_none, reset_none, step_none}
+use Rattle.heap_laws.proofs.MoveLaws.{params_count, params_evolve, params_given, params_older}
+use Rattle.heap_laws.proofs.NoteLaws.{noted_evolves, noted_goes_on, noted_has}
+use Rattle.heap_laws.proofs.ObjectLaws.{appended_at, appended_count, changed_at, changed_count, evolves_further, evolves_self, in_range, not_lost, root_changed, unchanged, unlinked_root, unlinked_value}
+
+pub changed_object_at-object : (change : ℕ → Object → Object) (h : HeapContents) (k : ℕ) → object_at (change_each change h) k ≡ option_map (change k) (object_at h k)
+changed_object_at-object = changed_at
+
+pub changed_object_at-count : (change : ℕ → Object → Object) (h : HeapContents) → next_number (change_each change h) ≡ next_number h
+changed_object_at-count = changed_count
+
+pub appended_object_at-object : (h : HeapContents) (c : ClassId) (k : ℕ) → object_at (append h c) k ≡ (if nat_eq k (next_number h) then Some (unfinished c) else object_at h k)
+appended_object_at-object = appended_at
+
+pub appended_object_at-count : (h : HeapContents) (c : ClassId) → next_number (append h c) ≡ next_number h + 1
+appended_object_at-count = appended_count
+
+pub numbers_are_in_range : (h : HeapContents) (k : ℕ) (x : Object) → object_at h k ≡ Some x → (0 < k) × (k < next_number h)
+numbers_are_in_range = in_range
+
+pub nothing_is_changed : (change : ℕ → Object → Object) (h : HeapContents) → ((k : ℕ) (x : Object) → object_at h k ≡ Some x → change k x ≡ x) → change_each change h ≡ h
+nothing_is_changed = unchanged
+
+pub nothing_is_lost : (held : List (List Value)) (h : HeapContents) → ((k : ℕ) (x : Object) → object_at h k ≡ Some x → is_unmet x ≡ true → owner_holds h held x.owner k ≡ true) → lose held h ≡ h
+nothing_is_lost = not_lost
+
+pub evolving_heaps-same : (h : HeapContents) → Evolves h h
+evolving_heaps-same = evolves_self
+
+pub evolving_heaps-further : (h k j : HeapContents) → Evolves h k → Evolves k j → Evolves h j
+evolving_heaps-further = evolves_further
+
+pub roots_of_unlinked-root : (h : HeapContents) (k : ℕ) → IsUnlinked h → root h k ≡ k
+roots_of_unlinked-root = unlinked_root
+
+pub roots_of_unlinked-value : (h k : HeapContents) (v : Value) → IsUnlinked h → IsUnlinked k → root_of h v ≡ root_of k v
+roots_of_unlinked-value = unlinked_value
+
+pub root_of_changed : (change : ℕ → Object → Object) (h : HeapContents) (k : ℕ) → ((n : ℕ) (x : Object) → (change n x).link ≡ x.link) → root (change_each change h) k ≡ root h k
+root_of_changed = root_changed
+
+pub moved_arguments_are_older-older : (p : Program) (o : Owner) (arguments : ℕ → Value) (k : ℕ) (params : List ParamSig) (h : HeapContents) (n : ℕ) (y : Object) → object_at (move_params p o arguments k params h) n ≡ Some y → IsOlder h n y o
+moved_arguments_are_older-older = params_older
+
+pub moved_arguments_are_older-evolves : (p : Program) (o : Owner) (arguments : ℕ → Value) (k : ℕ) (params : List ParamSig) (h : HeapContents) → Evolves h (move_params p o arguments k params h)
+moved_arguments_are_older-evolves = params_evolve
+
+pub moves_make_nothing : (p : Program) (o : Owner) (arguments : ℕ → Value) (k : ℕ) (params : List ParamSig) (h : HeapContents) → next_number (move_params p o arguments k params h) ≡ next_number h
+moves_make_nothing = params_count
+
+pub given_arguments_are_owned : (p : Program) (o : Owner) (arguments : ℕ → Value) (k i : ℕ) (params : List ParamSig) (q : ParamSig) (h : HeapContents) (n : ℕ) (x : Object) → slice_get params i ≡ Some q → q.owning ≡ true → root_of h (arguments (k + i)) ≡ Some n → object_at h n ≡ Some x → may_move p q.vtype x ≡ true → (y : Object) × (object_at (move_params p o arguments k params h) n ≡ Some y) × (y.owner ≡ o)
+given_arguments_are_owned = params_given
+
+pub notes_add_names-object : (notes : List Note) (k : ℕ) (x : Object) → GoesOn x (noted_object notes k x)
+notes_add_names-object = noted_goes_on
+
+pub notes_add_names-owner : (notes : List Note) (k : ℕ) (x : Object) → (noted_object notes k x).owner ≡ x.owner
+notes_add_names-owner notes k x = refl
+
+pub notes_add_names-heap : (p : Program) (notes : List Note) (h : HeapContents) → Evolves h (noted p notes h)
+notes_add_names-heap = noted_evolves
+
+pub noted_names_stand : (p : Program) (notes : List Note) (h : HeapContents) (a : Note) (x : Object) → has_note notes a ≡ true → a.name.0 < 128 → set.contains (noted_object (all_notes p h notes) a.object x).called a.name.0 ≡ true
+noted_names_stand = noted_has
+
+pub owner_lines_leak_nothing : (p : Program) (pos : Pos) (h k : HeapContents) → list_any is_leak (owner_entries p pos h k) ≡ false
+owner_lines_leak_nothing = owner_none
+
+pub called_lines_leak_nothing : (p : Program) (pos : Pos) (h k : HeapContents) → list_any is_leak (called_entries p pos h k) ≡ false
+called_lines_leak_nothing = called_none
+
+pub reset_lines_leak_nothing : (p : Program) (pos : Pos) (roots : List ℕ) (h : HeapContents) → list_any is_leak (reset_entries p pos roots h) ≡ false
+reset_lines_leak_nothing = reset_none
+
+pub birth_lines_leak_nothing : (p : Program) (pos : Pos) (h k : HeapContents) → list_any is_leak (birth_entries p pos h k) ≡ false
+birth_lines_leak_nothing = birth_none
+
+pub step_leaks_nothing-lines : (p : Program) (pos : Pos) (held : List (List Value)) (lines : List Entry) (h : HeapContents) → lose held h ≡ h → list_any is_leak lines ≡ false → list_any is_leak (left p pos held lines [] h).lines ≡ false
+step_leaks_nothing-lines = step_none
+
+pub step_leaks_nothing-unchanged : (p : Program) (word : LeakWord) (pos : Pos) (h : HeapContents) → leak_entries p word pos h h ≡ []
+step_leaks_nothing-unchanged = leaks_unchanged
+
+pub end_of_frame_leaks_nothing : (p : Program) (word : LeakWord) (pos : Pos) (j : ℕ) (h : HeapContents) → ((n : ℕ) (x : Object) → object_at h n ≡ Some x → is_frame x.owner j ≡ true → is_unmet x ≡ false) → leak_entries p word pos h (end_frame j h) ≡ []
+end_of_frame_leaks_nothing = end_none

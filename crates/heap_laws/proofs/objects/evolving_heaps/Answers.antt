@@ -1,0 +1,5 @@
+use Rattle.heap_laws.proofs.Laws.{evolving_heaps-same, evolving_heaps-further}
+use Rattle.heap_laws.proofs.objects.evolving_heaps.Goals as goal
+
+pub returns : goal.returns
+returns c = record { same = evolving_heaps-same; further = evolving_heaps-further }

@@ -1,0 +1,5 @@
+use Rattle.heap_laws.proofs.Laws.{nothing_is_changed}
+use Rattle.heap_laws.proofs.objects.nothing_is_changed.Goals as goal
+
+pub returns : goal.returns
+returns c = nothing_is_changed

@@ -1,0 +1,33 @@
+//! Arguments that move at the start of a call. Each law is the contract of a function that does nothing.
+
+ghost use Rattle.std.specs.Prelude.{◌≡◌, ℕ, ◌+◌, true, Some, List, slice_get};
+ghost use Rattle.program_model.specs.declared.program.ParamSig.{ParamSig};
+ghost use Rattle.program_model.specs.declared.program.Program.{Program};
+ghost use Rattle.ledger_state.specs.Contents.{HeapContents};
+ghost use Rattle.ledger_state.specs.Heaps.{next_number, object_at, root_of};
+ghost use Rattle.ledger_state.specs.declared.entry.Owner.{Owner};
+ghost use Rattle.ledger_state.specs.declared.object.Object.{Object};
+ghost use Rattle.ledger_state.specs.declared.value.Value.{Value};
+ghost use Rattle.ledger_obligations.specs.Obligations.{may_move};
+ghost use Rattle.ledger_calls.specs.Calls.{move_params};
+ghost use Rattle.heap_laws.specs.Heaps.{Evolves, IsOlder};
+
+/// Each object goes on, with its owner or the new one.
+pub fn moved_arguments_are_older()
+    ensures older { (p : Program) (o : Owner) (arguments : ℕ → Value) (k : ℕ) (params : List ParamSig) (h : HeapContents) (n : ℕ) (y : Object)
+        → object_at (move_params p o arguments k params h) n ≡ Some y → IsOlder h n y o }
+    ensures evolves { (p : Program) (o : Owner) (arguments : ℕ → Value) (k : ℕ) (params : List ParamSig) (h : HeapContents) → Evolves h (move_params p o arguments k params h) }
+{}
+
+/// No object is made.
+pub fn moves_make_nothing()
+    ensures { (p : Program) (o : Owner) (arguments : ℕ → Value) (k : ℕ) (params : List ParamSig) (h : HeapContents)
+        → next_number (move_params p o arguments k params h) ≡ next_number h }
+{}
+
+/// The root of an owning argument that may move has the new owner: also where several parameters take it.
+pub fn given_arguments_are_owned()
+    ensures { (p : Program) (o : Owner) (arguments : ℕ → Value) (k i : ℕ) (params : List ParamSig) (q : ParamSig) (h : HeapContents) (n : ℕ) (x : Object)
+        → slice_get params i ≡ Some q → q.owning ≡ true → root_of h (arguments (k + i)) ≡ Some n → object_at h n ≡ Some x → may_move p q.vtype x ≡ true
+        → (y : Object) × (object_at (move_params p o arguments k params h) n ≡ Some y) × (y.owner ≡ o) }
+{}

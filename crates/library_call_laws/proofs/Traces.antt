@@ -1,0 +1,204 @@
+-- Where an object after a call of the library comes from: it was there when the arguments had moved, and notes were added; or the
+-- call made it.
+use Rattle.std.proofs.Common.{◌≡◌, ◌⊎◌, inl, inr, ℕ, ◌+◌, ◌<◌, Bool, true, false, Option, Some, None, List, [], ◌++◌, slice_get, option_map, nat_eq, refl, sym, ap, ◌∙◌, subst, true≢false, if◌then◌else◌, arith, eqb-true, eq-eqb}
+use Rattle.std.specs.FinSet as set
+use Rattle.std.specs.List.{list_any}
+use Rattle.rlc_base.specs.declared.place.Pos.{Pos}
+use Rattle.program_model.specs.declared.kinds.ClassId.{ClassId}
+use Rattle.program_model.specs.declared.program.Method.{Method}
+use Rattle.program_model.specs.declared.program.ParamSig.{ParamSig}
+use Rattle.program_model.specs.declared.program.Program.{Program}
+use Rattle.must_call_sets.specs.MustCallSets.{must_of}
+use Rattle.java_control.specs.declared.action.Action.{Action}
+use Rattle.stub_conduct.specs.declared.choice.Conduct.{Conduct}
+use Rattle.stub_conduct.specs.declared.choice.Conduct.TheVariants as conducts
+use Rattle.ledger_state.specs.Contents.{HeapContents}
+use Rattle.ledger_state.specs.Heaps.{append, change_each, change_one, next_number, object_at, only_at, root_of, unfinished}
+use Rattle.ledger_state.specs.declared.entry.Owner.TheVariants as owners
+use Rattle.ledger_state.specs.declared.locals.Locals.{Locals}
+use Rattle.ledger_state.specs.declared.object.Object.{Object}
+use Rattle.ledger_obligations.specs.declared.note.Note.{Note}
+use Rattle.ledger_obligations.specs.Obligations.{all_notes, finished, first_set, has_note, may_move, noted_object, reset_in}
+use Rattle.ledger_calls.specs.Calls.{alias_position, arguments_moved, operand_of, params_in, position_of, receiver_note, reset_position}
+use Rattle.ledger_calls.specs.Conducts.{fresh_born, library_notes}
+use Rattle.ledger_steps.specs.CallSteps.{library_called, library_entries, library_heap, library_made, library_reset, library_roots}
+use Rattle.ledger_steps.specs.InnerSteps.{thrown_heap}
+use Rattle.ledger_entries.specs.Entries.{birth_entries, called_entries, owner_entries, reset_entries}
+use Rattle.run_command.specs.RunAnswers.{is_leak}
+use Rattle.heap_laws.specs.Heaps.{GoesOn, IsOlder}
+use Rattle.heap_laws.proofs.LineLaws.{any_in_both, birth_none, called_none, owner_none, reset_none}
+use Rattle.heap_laws.proofs.MoveLaws.{params_count, params_given, params_older}
+use Rattle.heap_laws.proofs.NoteLaws.{has_left, noted_goes_on, noted_has}
+use Rattle.heap_laws.proofs.ObjectLaws.{appended_at, changed_at, goes_on_further, in_range, unchanged}
+use Rattle.library_call_laws.specs.LibraryCalls.{IsMadeAs}
+
+mapped_back : (f : ℕ → Object → Object) (h : HeapContents) (n : ℕ) (y : Object) → object_at (change_each f h) n ≡ Some y → (x : Object) × (object_at h n ≡ Some x) × (f n x ≡ y)
+mapped_back f h n y at = go (object_at h n) refl (sym (changed_at f h n) ∙ at)
+  where
+    go : (x : Option Object) → object_at h n ≡ x → option_map (f n) x ≡ Some y → (x : Object) × (object_at h n ≡ Some x) × (f n x ≡ y)
+    go None before same = absurd (let never : None ≡ Some y = same in cc)
+    go (Some x) before same = (x, before, (let one : f n x ≡ y = cc in one))
+
+-- one object is changed
+one_back : (k : ℕ) (f : Object → Object) (h : HeapContents) (n : ℕ) (y : Object) → object_at (change_one k f h) n ≡ Some y
+    → (x : Object) × (object_at h n ≡ Some x) × (((n ≡ k) × (f x ≡ y)) ⊎ (((n ≡ k) → ⊥) × (x ≡ y)))
+one_back k f h n y at =
+    let x = mapped_back (only_at k f) h n y at in
+    (x.0, x.1, go x.0 (nat_eq n k) refl x.2)
+  where
+    go : (x : Object) (b : Bool) → nat_eq n k ≡ b → (if b then f x else x) ≡ y → ((n ≡ k) × (f x ≡ y)) ⊎ (((n ≡ k) → ⊥) × (x ≡ y))
+    go x true is same = inl (eqb-true n k is, same)
+    go x false is same = inr ((λ at'. true≢false (sym (eq-eqb n k at') ∙ is)), same)
+
+module _ (p : Program) (l : Locals) (a : Action) (named m : Option Method) (d : Conduct) (i : ℕ) (h : HeapContents) where
+  abbrev moved : HeapContents
+  moved = arguments_moved p owners.Library l a named h
+
+  abbrev notes : List Note
+  notes = library_notes p (library_made p l a named d h) l a named m (next_number h) d
+
+  abbrev all : List Note
+  all = all_notes p (library_made p l a named d h) notes
+
+  count : next_number moved ≡ next_number h
+  count = params_count p owners.Library (operand_of l a) 1 (params_in named) h
+
+  -- no root is reset
+  no_reset : reset_position named ≡ None → library_reset p l a named m d h ≡ library_called p l a named m d h
+  no_reset none = rw none (unchanged (reset_in p (library_called p l a named m d h) []) (library_called p l a named m d h) (λ k x at. refl))
+
+  abbrev IsOld : ℕ → Object → Type 0
+  IsOld n y = (x : Object) × (object_at moved n ≡ Some x) × (noted_object all n x ≡ y)
+
+  -- an object that is made has the link and the class of the appended one
+  made_object : (e : ClassId) (n : ℕ) (x : Object) → object_at (append moved e) n ≡ Some x → ((n ≡ next_number h) × (x ≡ unfinished e)) ⊎ (((n ≡ next_number h) → ⊥) × (object_at moved n ≡ Some x))
+  made_object e n x at = go (nat_eq n (next_number moved)) refl (sym (appended_at moved e n) ∙ at)
+    where
+      go : (b : Bool) → nat_eq n (next_number moved) ≡ b → (if b then Some (unfinished e) else object_at moved n) ≡ Some x
+          → ((n ≡ next_number h) × (x ≡ unfinished e)) ⊎ (((n ≡ next_number h) → ⊥) × (object_at moved n ≡ Some x))
+      go true is same = inl (eqb-true n (next_number moved) is ∙ count, (let one : x ≡ unfinished e = cc in one))
+      go false is same = inr ((λ here. true≢false (sym (eq-eqb n (next_number moved) (here ∙ sym count)) ∙ is)), same)
+
+  -- the call makes no object
+  plain_trace : (n : ℕ) (y : Object) → library_made p l a named d h ≡ moved → library_heap p l a named m d i h ≡ library_reset p l a named m d h → reset_position named ≡ None
+      → object_at (library_heap p l a named m d i h) n ≡ Some y → IsOld n y
+  plain_trace n y made heap none at =
+      let x = mapped_back (noted_object all) (library_made p l a named d h) n y (subst (λ (g : HeapContents). object_at g n ≡ Some y) (heap ∙ no_reset none) at) in
+      (x.0, subst (λ (g : HeapContents). object_at g n ≡ Some x.0) made x.1, x.2)
+
+  -- the call makes an object of the class, which is born by `f`
+  making_trace : (P : Object → Type 0) (f : Object → Object) (e : ClassId) (n : ℕ) (y : Object) → library_made p l a named d h ≡ append moved e
+      → library_heap p l a named m d i h ≡ change_one (next_number h) f (library_reset p l a named m d h) → reset_position named ≡ None
+      → ((x : Object) → x.class ≡ e → x.link ≡ None → P (f x))
+      → object_at (library_heap p l a named m d i h) n ≡ Some y → IsOld n y ⊎ ((n ≡ next_number h) × P y)
+  making_trace P f e n y made heap none born at =
+      let x = one_back (next_number h) f (library_reset p l a named m d h) n y (subst (λ (g : HeapContents). object_at g n ≡ Some y) heap at) in
+      let z = mapped_back (noted_object all) (library_made p l a named d h) n x.0 (subst (λ (g : HeapContents). object_at g n ≡ Some x.0) (no_reset none) x.1) in
+      let w = made_object e n z.0 (subst (λ (g : HeapContents). object_at g n ≡ Some z.0) made z.1) in
+      go x.0 z.0 z.2 w x.2
+    where
+      go : (x z : Object) → noted_object all n z ≡ x → ((n ≡ next_number h) × (z ≡ unfinished e)) ⊎ (((n ≡ next_number h) → ⊥) × (object_at moved n ≡ Some z))
+          → ((n ≡ next_number h) × (f x ≡ y)) ⊎ (((n ≡ next_number h) → ⊥) × (x ≡ y)) → IsOld n y ⊎ ((n ≡ next_number h) × P y)
+      go x z same (inl (here, new)) (inl (is, last)) =
+          inr (here, subst P last (born x (sym (ap (λ (u : Object). u.class) same) ∙ ap (λ (u : Object). u.class) new) (sym (ap (λ (u : Object). u.link) same) ∙ ap (λ (u : Object). u.link) new)))
+      go x z same (inl (here, new)) (inr (other, last)) = absurd (other here)
+      go x z same (inr (other, old)) (inl (is, last)) = absurd (other is)
+      go x z same (inr (other, old)) (inr (out, last)) = inl (z, old, same ∙ last)
+
+abbrev pub IsTraced : Program → Locals → Action → Option Method → Option Method → Conduct → ℕ → HeapContents → ℕ → Object → Type 0
+IsTraced p l a named m d i h n y =
+    ((x : Object) × (object_at (arguments_moved p owners.Library l a named h) n ≡ Some x)
+    × (noted_object (all_notes p (library_made p l a named d h) (library_notes p (library_made p l a named d h) l a named m (next_number h) d)) n x ≡ y))
+    ⊎ ((n ≡ next_number h) × IsMadeAs p a m i d y)
+
+pub trace : (p : Program) (l : Locals) (a : Action) (named m : Option Method) (d : Conduct) (i : ℕ) (h : HeapContents) (n : ℕ) (y : Object) → reset_position named ≡ None → alias_position m ≡ None
+    → object_at (library_heap p l a named m d i h) n ≡ Some y → IsTraced p l a named m d i h n y
+trace p l a named m (conducts.Throws e) i h n y none plain at =
+    making_trace p l a named m (conducts.Throws e) i h (IsMadeAs p a m i (conducts.Throws e)) (finished (first_set p e None) owners.Library) e n y refl refl none
+    (λ x class link. (refl, link)) at
+trace p l a named m (conducts.Fresh e) i h n y none plain at =
+    making_trace p l a named m (conducts.Fresh e) i h (IsMadeAs p a m i (conducts.Fresh e)) (fresh_born p e m a i (position_of None l a)) e n y refl refl none
+    (λ x class link. rw plain (class, refl, refl, link)) at
+trace p l a named m conducts.Null i h n y none plain at = inl (plain_trace p l a named m conducts.Null i h n y refl refl none at)
+trace p l a named m (conducts.Existing k) i h n y none plain at = inl (plain_trace p l a named m (conducts.Existing k) i h n y refl refl none at)
+trace p l a named m conducts.Argument i h n y none plain at = inl (plain_trace p l a named m conducts.Argument i h n y refl refl none at)
+trace p l a named m (conducts.Value z) i h n y none plain at = inl (plain_trace p l a named m (conducts.Value z) i h n y refl refl none at)
+trace p l a named m conducts.Nothing i h n y none plain at = inl (plain_trace p l a named m conducts.Nothing i h n y refl refl none at)
+
+pub older_or_made : (p : Program) (l : Locals) (a : Action) (named m : Option Method) (d : Conduct) (i : ℕ) (h : HeapContents) (n : ℕ) (y : Object)
+    → reset_position named ≡ None → alias_position m ≡ None → object_at (library_heap p l a named m d i h) n ≡ Some y
+    → IsOlder h n y owners.Library ⊎ ((n ≡ next_number h) × IsMadeAs p a m i d y)
+older_or_made p l a named m d i h n y none plain at = go (trace p l a named m d i h n y none plain at)
+  where
+    go : IsTraced p l a named m d i h n y → IsOlder h n y owners.Library ⊎ ((n ≡ next_number h) × IsMadeAs p a m i d y)
+    go (inr made) = inr made
+    go (inl (x, before, same)) =
+        let old = params_older p owners.Library (operand_of l a) 1 (params_in named) h n x before in
+        let notes = all_notes p (library_made p l a named d h) (library_notes p (library_made p l a named d h) l a named m (next_number h) d) in
+        inl (record {
+          before = old.before;
+          at = old.at;
+          goes_on = subst (λ (z : Object). GoesOn old.before z) same (goes_on_further old.before x (noted_object notes n x) old.goes_on (noted_goes_on notes n x));
+          owner = subst (λ (z : Object). (z.owner ≡ old.before.owner) ⊎ (z.owner ≡ owners.Library)) same old.owner;
+        })
+
+-- an object that was there before the call is traced to the arguments that moved
+traced : (p : Program) (l : Locals) (a : Action) (named m : Option Method) (d : Conduct) (i : ℕ) (h : HeapContents) (n : ℕ) (x y : Object) → reset_position named ≡ None → alias_position m ≡ None
+    → object_at h n ≡ Some x → object_at (library_heap p l a named m d i h) n ≡ Some y
+    → (z : Object) × (object_at (arguments_moved p owners.Library l a named h) n ≡ Some z)
+    × (noted_object (all_notes p (library_made p l a named d h) (library_notes p (library_made p l a named d h) l a named m (next_number h) d)) n z ≡ y)
+traced p l a named m d i h n x y none plain before at = go (trace p l a named m d i h n y none plain at)
+  where
+    go : IsTraced p l a named m d i h n y
+        → (z : Object) × (object_at (arguments_moved p owners.Library l a named h) n ≡ Some z)
+        × (noted_object (all_notes p (library_made p l a named d h) (library_notes p (library_made p l a named d h) l a named m (next_number h) d)) n z ≡ y)
+    go (inl old) = old
+    go (inr (here, made)) = absurd (let range = in_range h n x before in omega (arith, range.1, here))
+
+pub given_stays : (p : Program) (l : Locals) (a : Action) (named m : Option Method) (d : Conduct) (i j : ℕ) (q : ParamSig) (h : HeapContents) (n : ℕ) (x y : Object)
+    → reset_position named ≡ None → alias_position m ≡ None → slice_get (params_in named) j ≡ Some q → q.owning ≡ true → root_of h (operand_of l a (1 + j)) ≡ Some n
+    → object_at h n ≡ Some x → may_move p q.vtype x ≡ true → object_at (library_heap p l a named m d i h) n ≡ Some y → y.owner ≡ owners.Library
+given_stays p l a named m d i j q h n x y none plain there owning root before may at =
+    let z = traced p l a named m d i h n x y none plain before at in
+    let w = params_given p owners.Library (operand_of l a) 1 j (params_in named) q h n x there owning root before may in
+    let same : w.0 ≡ z.0 = (let both : Some w.0 ≡ Some z.0 = sym w.1 ∙ z.1 in cc) in
+    sym (ap (λ (u : Object). u.owner) z.2) ∙ sym (ap (λ (u : Object). u.owner) same) ∙ w.2
+
+pub called_on_receiver : (p : Program) (l : Locals) (a : Action) (named m : Option Method) (d : Conduct) (i : ℕ) (h : HeapContents) (note : Note) (x y : Object)
+    → reset_position named ≡ None → alias_position m ≡ None → has_note (receiver_note l a named) note ≡ true → note.name.0 < 128
+    → object_at h note.object ≡ Some x → object_at (library_heap p l a named m d i h) note.object ≡ Some y → set.contains y.called note.name.0 ≡ true
+called_on_receiver p l a named m d i h note x y none plain has small before at =
+    let z = traced p l a named m d i h note.object x y none plain before at in
+    let made = library_made p l a named d h in
+    let notes = library_notes p made l a named m (next_number h) d in
+    ap (λ (u : Object). set.contains u.called note.name.0) (sym z.2)
+    ∙ noted_has p notes made note z.0 (has_left (receiver_note l a named) _ note has) small
+
+pub leaks_nothing : (p : Program) (pos : Pos) (l : Locals) (a : Action) (named m : Option Method) (d : Conduct) (i : ℕ) (h : HeapContents)
+    → list_any is_leak (library_entries p pos l a named m d i h) ≡ false
+leaks_nothing p pos l a named m d i h =
+    let owners' = owner_entries p pos h (arguments_moved p owners.Library l a named h) in
+    let called = called_entries p pos (library_made p l a named d h) (library_called p l a named m d h) in
+    let resets = reset_entries p pos (library_roots p l a named m d h) (library_called p l a named m d h) in
+    let births = birth_entries p pos (library_reset p l a named m d h) (library_heap p l a named m d i h) in
+    any_in_both (owners' ++ called ++ resets) births
+    (any_in_both (owners' ++ called) resets
+    (any_in_both owners' called (owner_none p pos h (arguments_moved p owners.Library l a named h)) (called_none p pos (library_made p l a named d h) (library_called p l a named m d h)))
+    (reset_none p pos (library_roots p l a named m d h) (library_called p l a named m d h)))
+    (birth_none p pos (library_reset p l a named m d h) (library_heap p l a named m d i h))
+
+pub thrown_is_librarys : (p : Program) (e : Option ClassId) (h : HeapContents) (n : ℕ) (y : Object) → object_at (thrown_heap p e h) n ≡ Some y
+    → (object_at h n ≡ Some y) ⊎ ((n ≡ next_number h) × (y.owner ≡ owners.Library) × (y.link ≡ None))
+thrown_is_librarys p None h n y at = inl at
+thrown_is_librarys p (Some e) h n y at =
+    let x = one_back (next_number h) (finished (must_of p e) owners.Library) (append h e) n y at in
+    go x.0 (nat_eq n (next_number h)) refl (sym (appended_at h e n) ∙ x.1) x.2
+  where
+    go : (x : Object) (b : Bool) → nat_eq n (next_number h) ≡ b → (if b then Some (unfinished e) else object_at h n) ≡ Some x
+        → ((n ≡ next_number h) × (finished (must_of p e) owners.Library x ≡ y)) ⊎ (((n ≡ next_number h) → ⊥) × (x ≡ y))
+        → (object_at h n ≡ Some y) ⊎ ((n ≡ next_number h) × (y.owner ≡ owners.Library) × (y.link ≡ None))
+    go x true is new (inl (here, last)) =
+        inr (here, sym (ap (λ (u : Object). u.owner) last), sym (ap (λ (u : Object). u.link) last) ∙ (let one : x ≡ unfinished e = cc in ap (λ (u : Object). u.link) one))
+    go x true is new (inr (out, last)) = absurd (out (eqb-true n (next_number h) is))
+    go x false is old (inl (here, last)) = absurd (true≢false (sym (eq-eqb n (next_number h) here) ∙ is))
+    go x false is old (inr (out, last)) = inl (old ∙ ap Some last)

@@ -1,0 +1,4 @@
+pub mod Alike
+pub mod SameCases
+pub mod SameRuns
+pub mod SignedTables

@@ -1,0 +1,2 @@
+pub mod OwedFacts
+pub mod Ends

@@ -1,0 +1,6 @@
+-- The law is a lemma over the definitions alone.
+use Rattle.place_laws.proofs.Laws.{made_value_stands}
+use Rattle.place_laws.proofs.values.made_value_stands.Goals as goal
+
+pub returns : goal.returns
+returns c = made_value_stands

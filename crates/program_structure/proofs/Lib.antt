@@ -1,4 +1,0 @@
-pub mod Counts
-pub mod Each
-pub mod FreeJumps
-pub mod Gathered

@@ -1,9 +1,0 @@
-use Rattle.std.proofs.Common.{ℕ, ◌<◌, ◌≡◌, Some}
-use Rattle.program_model.specs.declared.tree.Body.{Body}
-use Rattle.program_model.specs.Lookups.{body_at}
-use Rattle.program_model.specs.Heads.{AgreeOnInitializers}
-use Rattle.program_model.specs.declared.kinds.BodyId.{BodyId}
-use Rattle.program_structure.proofs.ordered.have_same_initializers.Given as goal
-
-abbrev pub invariant-loop-i : goal.invariant-loop-i
-invariant-loop-i l = (j : ℕ) → j < l.i → (x : Body) → body_at l.p (record { 0 = j }) ≡ Some x → (m : BodyId) (y : Body) → body_at l.p m ≡ Some y → AgreeOnInitializers l.p x y

@@ -1,5 +1,0 @@
-use Rattle.std.proofs.Common.{length}
-use Rattle.program_validity.proofs.member_validity.+are_methods_in_order.Given as goal
-
-abbrev pub decreases-are_methods_in_order : goal.decreases-are_methods_in_order
-decreases-are_methods_in_order l = length l.methods.now

@@ -1,0 +1,6 @@
+//! What it is for a program to be safe.
+#![tactic(auto)]
+
+mod laws;
+
+pub use laws::safe_run_leaks_nothing;

@@ -1,0 +1,141 @@
+-- A fact that speaks the truth of an object goes on to do so, where a step keeps it.
+use Rattle.std.proofs.Common.{◌≡◌, ℕ, ◌+◌, Bool, true, false, Option, Some, None, List, [], ◌∷◌, length, nat_eq, refl, sym, ap, ◌∙◌, true≢false}
+use Rattle.std.specs.FinSet as set
+use Rattle.std.specs.Prelude.{MatchBool}
+use Rattle.program_model.specs.declared.kinds.BodyId.{BodyId}
+use Rattle.program_model.specs.declared.kinds.MethodId.{MethodId}
+use Rattle.program_model.specs.declared.program.Program.{Program}
+use Rattle.program_model.specs.declared.tree.Body.{Body}
+use Rattle.program_model.specs.Lookups.{body_at}
+use Rattle.must_call_sets.specs.MustCallSets.{Names, fits}
+use Rattle.java_control.specs.PlaceNumbers.{IsSmall}
+use Rattle.java_control.specs.Sources.{source}
+use Rattle.java_control.specs.declared.action.Action.{Action}
+use Rattle.java_control.specs.declared.action.Edge.{Edge}
+use Rattle.java_control.specs.declared.fact.Fact.{Fact}
+use Rattle.java_control.specs.declared.fact.Mode.TheVariants as modes
+use Rattle.java_control.specs.declared.fact.Origin.{Origin}
+use Rattle.java_control.specs.declared.place.Place.{Place}
+use Rattle.java_control.specs.declared.place.Place.TheVariants as places
+use Rattle.obligation_facts.specs.Facts.{PlaceSet, has, is_nowhere, need}
+use Rattle.obligation_facts.specs.SmallActions.{IsSmallAction}
+use Rattle.alias_sets.specs.Aliases.{alias_operand}
+use Rattle.alias_sets.specs.PlaceRows.{places_after}
+use Rattle.ledger_state.specs.Contents.{HeapContents}
+use Rattle.ledger_state.specs.Heaps.{root_of}
+use Rattle.ledger_state.specs.declared.locals.Locals.{Locals}
+use Rattle.ledger_state.specs.declared.object.Object.{Object}
+use Rattle.ledger_state.specs.declared.value.Value.{Value}
+use Rattle.ledger_operations.specs.Places.{place_value}
+use Rattle.ledger_calls.specs.Configuration.{Frame}
+use Rattle.ledger_frames.specs.Choosing.{method_body}
+use Rattle.ledger_frames.specs.Frames.{locals_after}
+use Rattle.rlc_base.proofs.SetLaws.{within_trans}
+use Rattle.heap_laws.specs.Heaps.{GoesOn, IsUnlinked}
+use Rattle.place_laws.specs.Places.{HasTarget, IsFreshIn, IsWay, SetsLocals, has_source, is_local}
+use Rattle.agreement.specs.Agreement.{Follows, IsTracked, Tracks}
+use Rattle.heap_laws.proofs.Laws.{roots_of_unlinked-value}
+use Rattle.place_laws.proofs.Laws.{no_other_place_joins, places_come_from_sources, places_stay_in_range, source_is_small, value_comes_from_source}
+
+-- all that the laws on places ask of a step
+pub record Ready (p : Program) (m : MethodId) (l : Locals) (b : BodyId) (body : Body) (a : Action) (e : Edge) : Type 0 where
+  pub at : body_at p b ≡ Some body
+  pub method : method_body p m ≡ Some body
+  pub small : IsSmallAction p a
+  pub locals : SetsLocals a
+  pub target : HasTarget l a
+  pub no_alias : alias_operand p a ≡ None
+  pub way : IsWay a e
+
+-- the places hold the object
+abbrev pub HoldIt : Program → HeapContents → MethodId → Locals → ℕ → PlaceSet → Type 0
+HoldIt p h m l o held = (q : Place) → IsSmall q → has held q ≡ true → (is_local q ≡ true) × (root_of h (place_value p h m l q) ≡ Some o)
+
+module _ (p : Program) (h k : HeapContents) (m : MethodId) (l : Locals) (b : BodyId) (body : Body) (a : Action) (e : Edge) (v : Value)
+    (r : Ready p m l b body a e) (uh : IsUnlinked h) (uk : IsUnlinked k) where
+  pub places_hold : (o : ℕ) (held : PlaceSet) → IsFreshIn held a → HoldIt p h m l o held → HoldIt p k m (locals_after p h m l a e v) o (places_after p b a e held)
+  places_hold o held fresh before q small is = go (is_local q) refl
+    where
+      from : is_local q ≡ true → (z : Option Place) → source p body a e q ≡ z → has_source held z ≡ true
+          → (is_local q ≡ true) × (root_of k (place_value p k m (locals_after p h m l a e v) q) ≡ Some o)
+      from local None s one = absurd (true≢false (sym one))
+      from local (Some z) s one =
+          let was = (before z (source_is_small p body a e q z r.small small s) one).1 in (
+            local,
+            roots_of_unlinked-value k h (place_value p k m (locals_after p h m l a e v) q) uk uh
+                ∙ ap (root_of h) (value_comes_from_source p h k m body l a e v q z o r.method small local r.target s was) ∙ was,
+          )
+
+      go : (x : Bool) → is_local q ≡ x → (is_local q ≡ true) × (root_of k (place_value p k m (locals_after p h m l a e v) q) ≡ Some o)
+      go true local = from local (source p body a e q) refl (sym (places_come_from_sources p b body a e held q r.at r.small small local r.no_alias r.way fresh) ∙ is)
+      go false out = absurd (true≢false (sym (before q small (no_other_place_joins p b a e held q r.small r.locals small out is)).0 ∙ out))
+
+  module _ (o : ℕ) (x y : Object) (origin : Origin) (f : Fact) (fresh : IsFreshIn f.places a) (before : Follows p h m l o x origin f) (goes : GoesOn x y) where
+    -- the fact at the places after the step, with more names called
+    pub carried : (names : Names) → set.is_subset names y.called ≡ true → is_nowhere (places_after p b a e f.places) ≡ false
+        → Follows p k m (locals_after p h m l a e v) o y origin (record f { places = places_after p b a e f.places; mode = modes.Own; called = names })
+    carried names known some = record {
+      own = refl;
+      class = ap (λ c. fits p c origin.class) goes.class ∙ before.class;
+      need = ap (λ s. set.is_subset s (need origin f)) goes.must ∙ before.need;
+      called = known;
+      some = some;
+      alone = places_stay_in_range p b a e f.places r.small before.alone;
+      places = places_hold o f.places fresh before.places;
+    }
+
+    known_still : set.is_subset f.called y.called ≡ true
+    known_still = within_trans f.called x.called y.called before.called goes.called
+
+    -- the fact as it was
+    pub kept : ((q : Place) → has f.places q ≡ true → has (places_after p b a e f.places) q ≡ true) → Follows p k m (locals_after p h m l a e v) o y origin f
+    kept stay = record {
+      own = before.own;
+      class = ap (λ c. fits p c origin.class) goes.class ∙ before.class;
+      need = ap (λ s. set.is_subset s (need origin f)) goes.must ∙ before.need;
+      called = known_still;
+      some = before.some;
+      alone = before.alone;
+      places = λ q small is. places_hold o f.places fresh before.places q small (stay q is);
+    }
+
+-- ---- frames that wait
+
+-- what a variable or a temp holds does not stand in the heap
+local_value : (p : Program) (h k : HeapContents) (m : MethodId) (l : Locals) (q : Place) → is_local q ≡ true → place_value p k m l q ≡ place_value p h m l q
+local_value p h k m l (places.Var i) local = refl
+local_value p h k m l (places.Temp d) local = refl
+local_value p h k m l places.This local = absurd (true≢false (sym local))
+local_value p h k m l (places.Field n) local = absurd (true≢false (sym local))
+local_value p h k m l places.Super local = absurd (true≢false (sym local))
+
+awaits : (p : Program) (h k : HeapContents) (m : MethodId) (l : Locals) (o : ℕ) (x y : Object) (origin : Origin) (f : Fact) → IsUnlinked h → IsUnlinked k → GoesOn x y
+    → Follows p h m l o x origin f → Follows p k m l o y origin f
+awaits p h k m l o x y origin f uh uk goes before = record {
+  own = before.own;
+  class = ap (λ c. fits p c origin.class) goes.class ∙ before.class;
+  need = ap (λ s. set.is_subset s (need origin f)) goes.must ∙ before.need;
+  called = within_trans f.called x.called y.called before.called goes.called;
+  some = before.some;
+  alone = before.alone;
+  places = λ q small is.
+      let was = before.places q small is in
+      (was.0, roots_of_unlinked-value k h (place_value p k m l q) uk uh ∙ ap (root_of h) (local_value p h k m l q was.0) ∙ was.1);
+}
+
+pub still_tracked : (p : Program) (h k : HeapContents) (frs : List Frame) (o : ℕ) (x y : Object) (j : ℕ) → IsUnlinked h → IsUnlinked k → GoesOn x y
+    → IsTracked p h frs o x j → IsTracked p k frs o y j
+still_tracked p h k [] o x y j uh uk goes before = before
+still_tracked p h k (fr ∷ frs) o x y j uh uk goes before = go (still_tracked p h k frs o x y j uh uk goes) (nat_eq (length frs + 1) j) before
+  where
+    go : (IsTracked p h frs o x j → IsTracked p k frs o y j) → (b : Bool)
+        → MatchBool b (Tracks p h fr o x) (IsTracked p h frs o x j) → MatchBool b (Tracks p k fr o y) (IsTracked p k frs o y j)
+    go further true t = record {
+      body = t.body;
+      id = t.id;
+      origin = t.origin;
+      fact = t.fact;
+      reached = t.reached;
+      follows = awaits p h k fr.method fr.locals o x y t.origin t.fact uh uk goes t.follows;
+    }
+    go further false w = further w

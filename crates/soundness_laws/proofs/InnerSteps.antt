@@ -1,0 +1,153 @@
+-- A step within a frame: an operation, a store into a field that is not owning, or an exception.
+use Rattle.std.proofs.Common.{◌≡◌, ◌⊎◌, inl, inr, ℕ, ◌+◌, true, false, Option, Some, None, List, [], ◌∷◌, ◌++◌, slice_get, refl, sym, ap, ◌∙◌, true≢false, arith}
+use Rattle.std.specs.FinSet as set
+use Rattle.program_model.specs.declared.kinds.ClassId.{ClassId}
+use Rattle.program_model.specs.declared.kinds.FieldId.{FieldId}
+use Rattle.program_model.specs.declared.program.Method.{Method}
+use Rattle.program_model.specs.declared.program.Program.{Program}
+use Rattle.program_model.specs.Lookups.{method_at}
+use Rattle.rlc_base.specs.declared.place.Pos.{Pos}
+use Rattle.java_control.specs.Control.{Step}
+use Rattle.java_control.specs.Owned.{is_owning}
+use Rattle.java_control.specs.declared.action.Action.{Action}
+use Rattle.java_control.specs.declared.action.Action.TheVariants as actions
+use Rattle.obligation_facts.specs.Callees.{may_be_null_target}
+use Rattle.flow_rules.specs.Paths.{Accept}
+use Rattle.ledger_state.specs.Contents.{HeapContents}
+use Rattle.ledger_state.specs.Heaps.{next_number, object_at}
+use Rattle.ledger_state.specs.Values.{is_null, number_of}
+use Rattle.ledger_state.specs.Locals.{temp_value}
+use Rattle.ledger_state.specs.declared.entry.Entry.{Entry}
+use Rattle.ledger_state.specs.declared.entry.Owner.TheVariants as owners
+use Rattle.ledger_state.specs.declared.locals.Locals.{Locals}
+use Rattle.ledger_state.specs.declared.object.Object.{Object}
+use Rattle.ledger_state.specs.declared.value.Value.{Value}
+use Rattle.ledger_obligations.specs.Obligations.{is_unmet}
+use Rattle.ledger_calls.specs.Calls.{operand_of}
+use Rattle.ledger_calls.specs.Configuration.{Frame, held_by}
+use Rattle.ledger_frames.specs.Choosing.{frame_steps}
+use Rattle.ledger_frames.specs.Frames.{frame_after}
+use Rattle.ledger_steps.specs.declared.store.Store.{Store}
+use Rattle.ledger_steps.specs.InnerSteps.{displaced_entries, heap_stored, inner, store_entries, store_into, store_of, store_unless, thrown_heap}
+use Rattle.must_call_sets.specs.MustCallSets.{Names}
+use Rattle.rlc_base.proofs.SetLaws.{within_self}
+use Rattle.heap_laws.specs.Heaps.{GoesOn, IsUnlinked}
+use Rattle.place_laws.specs.Places.{IsWay}
+use Rattle.agreement.specs.Agreement.{Agrees, IsMainAlone, IsTracked, Stands, Tracks, is_answering}
+use Rattle.agreement.specs.FirstForms.{HasFirstForms, HasFreshClauses, IsFirstAction}
+use Rattle.owned_fact_laws.specs.Outcomes.{IsCallRow, IsPlainRow}
+use Rattle.soundness_laws.proofs.CallNames.{called_names, first_receiver, known_names, operand_of_fact}
+use Rattle.soundness_laws.proofs.Landing.{landed}
+use Rattle.library_call_laws.proofs.Laws.{exceptions_are_the_librarys}
+use Rattle.soundness_laws.proofs.Moving.{moved_is_given}
+use Rattle.soundness_laws.proofs.Ready.{first_step, ready}
+use Rattle.soundness_laws.proofs.Tracking.{IsTrueTest, is_owing, null_is_no_object, stack_tracks, tracks_call, tracks_plain}
+
+-- an object as it is goes on
+pub same_goes_on : (x : Object) → GoesOn x x
+same_goes_on x = record { class = refl; link = refl; finished = refl; must = refl; called = within_self x.called }
+
+-- ---- the heap
+
+abbrev pub IsFirstStore : Program → Option Store → Type 0
+IsFirstStore p None = Unit {0}
+IsFirstStore p (Some s) = is_owning p s.field ≡ false
+
+first_stored : (p : Program) (m : Option Method) (l : Locals) (s : Option Store) (h : HeapContents) (n : ℕ) → IsFirstStore p s → object_at (heap_stored p m l s h) n ≡ object_at h n
+first_stored p m l None h n first = refl
+first_stored p m l (Some s) h n first = rw first refl
+
+first_lines : (p : Program) (pos : Pos) (m : Option Method) (l : Locals) (s : Option Store) (h : HeapContents) → IsFirstStore p s → store_entries p pos m l s h ≡ []
+first_lines p pos m l None h first = refl
+first_lines p pos m l (Some s) h first = rw first refl
+
+first_displaced : (p : Program) (pos : Pos) (s : Option Store) (h : HeapContents) → IsFirstStore p s → displaced_entries p pos s h ≡ []
+first_displaced p pos None h first = refl
+first_displaced p pos (Some s) h first = rw first refl
+
+first_into : (p : Program) (w : Option ℕ) (f : FieldId) (v : Value) → is_owning p f ≡ false → IsFirstStore p (store_into w f v)
+first_into p None f v first = tt
+first_into p (Some w) f v first = first
+
+first_store_of : (p : Program) (l : Locals) (a : Action) → IsFirstAction p a → IsFirstStore p (store_of l a)
+first_store_of p l actions.Skip first = tt
+first_store_of p l (actions.Put f d this) first = first_into p (number_of (temp_value l d)) f (temp_value l (d + 1)) first
+first_store_of p l (actions.PutOwn f d) first = absurd first
+first_store_of p l a first = tt
+
+first_unless : (p : Program) (e : Option ClassId) (s : Option Store) → IsFirstStore p s → IsFirstStore p (store_unless e s)
+first_unless p None s first = first
+first_unless p (Some e) s first = tt
+
+-- ---- the step
+
+-- a step that calls nothing, or a call whose target is null
+abbrev pub IsNullCall : Program → Locals → Step → Type 0
+IsNullCall p l s = IsCallRow s.action × (is_null (operand_of l s.action 0) ≡ true) × (may_be_null_target p s.action s.edge ≡ true)
+
+abbrev pub IsInnerStep : Program → Locals → Step → Type 0
+IsInnerStep p l s = (IsPlainRow s.action × IsWay s.action s.edge × IsTrueTest l s.action s.edge) ⊎ IsNullCall p l s
+
+pub way_of_call : (s : Step) → IsCallRow s.action → IsWay s.action s.edge
+way_of_call s row = go s.action row
+  where
+    go : (a : Action) → IsCallRow a → IsWay a s.edge
+    go actions.Skip row' = tt
+    go (actions.Put f d this) row' = absurd row'
+    go a row' = tt
+
+module _ (p : Program) (ac : Accept p) (first : HasFirstForms p) (regular : HasFreshClauses p) (fr : Frame) (frs : List Frame) (h : HeapContents) (es : List Entry)
+    (agrees : Agrees p (fr ∷ frs) h es) (i : ℕ) (s : Step) (here : slice_get (frame_steps p fr) i ≡ Some s) (e : Option ClassId) (v : Value) where
+  abbrev after : Frame
+  after = frame_after p h fr s v
+
+  abbrev store : Option Store
+  store = store_unless e (store_of fr.locals s.action)
+
+  abbrev heap : HeapContents
+  heap = heap_stored p (method_at p fr.method) fr.locals store (thrown_heap p e h)
+
+  is_first : IsFirstStore p store
+  is_first = first_unless p e (store_of fr.locals s.action) (first_store_of p fr.locals s.action (first_step p ac first regular fr agrees.standing.0 i s here))
+
+  -- an object was there before, or is the library's
+  was_there : (o : ℕ) (y : Object) → object_at heap o ≡ Some y → (object_at h o ≡ Some y) ⊎ ((o ≡ next_number h) × (y.owner ≡ owners.Library) × (y.link ≡ None))
+  was_there o y at = exceptions_are_the_librarys p e h o y (sym (first_stored p (method_at p fr.method) fr.locals store (thrown_heap p e h) o is_first) ∙ at)
+
+  unlinked : IsUnlinked heap
+  unlinked o y at = elim (was_there o y at) [ inl old ↦ agrees.unlinked o y old | inr new ↦ new.2 ]
+
+  answered : (o : ℕ) (y : Object) → object_at heap o ≡ Some y → is_unmet y ≡ true → is_answering y.owner ≡ true
+  answered o y at unmet = elim (was_there o y at) [ inl old ↦ agrees.answered o y old unmet | inr new ↦ ap is_answering new.1 ]
+
+  null_call : (o : ℕ) (y : Object) → is_unmet y ≡ true → IsNullCall p fr.locals s → Tracks p h fr o y → Tracks p heap after o y
+  null_call o y unmet (row, null, target) t =
+      let st = agrees.standing.0 in
+      let way = way_of_call s row in
+      let form = first_step p ac first regular fr st i s here in
+      let small = (ready p ac first regular fr st i s here way).small in
+      tracks_call p ac first regular h heap agrees.unlinked unlinked fr st i s here way v o y y (same_goes_on y) unmet t row
+      (ap (λ (names : Names). set.is_subset names y.called) (called_names p st.number s.action s.edge t.fact form row)
+      ∙ known_names p s.action t.fact.places t.fact.called y.called t.follows.called
+      (λ n held named. absurd (null_is_no_object h (operand_of fr.locals s.action 0) o null
+      (operand_of_fact p h fr.method fr.locals s.action o 0 t.fact.places small (omega arith) t.follows.places (sym (first_receiver p s.action t.fact.places form) ∙ held)))))
+      (λ moved. true≢false (sym ((moved_is_given p t.origin s.action s.edge t.fact moved).started target)
+      ∙ is_owing p ac first regular h heap agrees.unlinked unlinked fr st i s here way v o y y (same_goes_on y) unmet t))
+
+  top : (o : ℕ) (y : Object) → is_unmet y ≡ true → IsInnerStep p fr.locals s → Tracks p h fr o y → Tracks p heap after o y
+  top o y unmet (inl (row, way, test)) t =
+      tracks_plain p ac first regular h heap agrees.unlinked unlinked fr agrees.standing.0 i s here way v o y y (same_goes_on y) unmet t row test
+  top o y unmet (inr null) t = null_call o y unmet null t
+
+  tracked : IsInnerStep p fr.locals s → (o : ℕ) (y : Object) (j : ℕ) → object_at heap o ≡ Some y → is_unmet y ≡ true → y.owner ≡ owners.Frame j → IsTracked p heap (after ∷ frs) o y j
+  tracked kind o y j at unmet owner = elim (was_there o y at) [
+    | inl old ↦ stack_tracks p h heap fr after frs o y y j agrees.unlinked unlinked (same_goes_on y) (top o y unmet kind) (agrees.tracked o y j old unmet owner)
+    | inr new ↦ absurd (let never : owners.Frame j ≡ owners.Library = sym owner ∙ new.1 in cc)
+  ]
+
+  pub inner_agrees : Stands p after → IsMainAlone p (after ∷ frs) → IsInnerStep p fr.locals s
+      → Agrees p (after ∷ frs) (inner p h fr.method fr.locals e s.action s.pos (held_by (after ∷ frs))).heap
+      (es ++ (inner p h fr.method fr.locals e s.action s.pos (held_by (after ∷ frs))).lines)
+  inner_agrees stands alone kind =
+      let agreed = landed p (after ∷ frs) heap es s.pos [] (stands, agrees.standing.1) alone unlinked (tracked kind) answered agrees.no_leak refl in
+      rw (first_lines p s.pos (method_at p fr.method) fr.locals store (thrown_heap p e h) is_first, first_displaced p s.pos store (thrown_heap p e h) is_first) agreed

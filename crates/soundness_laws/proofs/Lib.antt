@@ -1,0 +1,17 @@
+pub mod Carried
+pub mod Landing
+pub mod Moving
+pub mod Ready
+pub mod Following
+pub mod CallNames
+pub mod Tracking
+pub mod InnerSteps
+pub mod Births
+pub mod LibrarySteps
+pub mod MainEnds
+pub mod Cases
+pub mod Steps
+pub mod Starts
+pub mod Safe
+pub mod NameCounts
+pub mod Runs

@@ -1,0 +1,81 @@
+-- The steps of a frame that stands at a reached control are such as the laws on places ask for.
+use Rattle.std.proofs.Common.{◌≡◌, ℕ, ◌<◌, Option, Some, None, length, slice_get, option_map, refl, sym, ap, ◌∙◌, subst}
+use Rattle.std.proofs.lemmas.Option.{slice_get-map}
+use Rattle.program_model.specs.declared.kinds.BodyId.{BodyId}
+use Rattle.program_model.specs.declared.program.Method.{Method}
+use Rattle.program_model.specs.declared.program.Program.{Program}
+use Rattle.program_model.specs.declared.tree.Body.{Body}
+use Rattle.program_model.specs.Lookups.{method_at}
+use Rattle.must_call_sets.specs.Bodies.{alias_in}
+use Rattle.java_control.specs.Control.{Step, next_of}
+use Rattle.java_control.specs.declared.action.Action.{Action}
+use Rattle.java_control.specs.declared.action.Action.TheVariants as actions
+use Rattle.java_control.specs.declared.place.Place.{Place}
+use Rattle.java_control.specs.declared.place.Place.TheVariants as places
+use Rattle.alias_sets.specs.Aliases.{alias_operand, operand_of}
+use Rattle.flow_rules.specs.Paths.{Accept, move_of, relation_of}
+use Rattle.ledger_state.specs.declared.locals.Locals.{Locals}
+use Rattle.ledger_calls.specs.Configuration.{Frame}
+use Rattle.ledger_frames.specs.Choosing.{body_by, frame_steps, steps_by}
+use Rattle.place_laws.specs.Places.{HasTarget, HasVariable, IsWay, SetsLocals}
+use Rattle.agreement.specs.Agreement.{Stands}
+use Rattle.agreement.specs.FirstForms.{HasFirstForms, HasFreshClauses, IsFirstAction, IsPlainSignature}
+use Rattle.named_step_laws.specs.Naming.{HasTargetIn, IsInBody}
+use Rattle.named_step_laws.proofs.Reached.{names_what_is_there}
+use Rattle.soundness_laws.proofs.Carried.{Ready}
+
+-- the step is one of the control relation
+pub step_here : (p : Program) (fr : Frame) (st : Stands p fr) (i : ℕ) (t : Step) → slice_get (frame_steps p fr) i ≡ Some t → slice_get (next_of p st.number fr.control) i ≡ Some t
+step_here p fr st i t here = ap (λ (b : Option BodyId). slice_get (steps_by p b fr.control) i) (sym st.id) ∙ here
+
+pub step_there : (p : Program) (fr : Frame) (st : Stands p fr) (i : ℕ) (t : Step) → slice_get (frame_steps p fr) i ≡ Some t
+    → slice_get ((relation_of p st.number).next fr.control) i ≡ Some (move_of t)
+step_there p fr st i t here =
+    slice_get-map move_of (next_of p st.number fr.control) i
+    ∙ ap (option_map move_of) (ap (λ (b : Option BodyId). slice_get (steps_by p b fr.control) i) (sym st.id) ∙ here)
+
+first_sets_locals : (p : Program) (a : Action) → IsFirstAction p a → SetsLocals a
+first_sets_locals p actions.Skip first = tt
+first_sets_locals p (actions.Copy x y) first = first
+first_sets_locals p (actions.Move x y) first = first
+first_sets_locals p (actions.PutOwn f d) first = absurd first
+first_sets_locals p a first = tt
+
+has_variable : (l : Locals) (body : Body) (x : Place) → length l.variables ≡ length body.vars.items → IsInBody body x → HasVariable l x
+has_variable l body (places.Var i) same in_body = subst (λ n. i < n) (sym same) in_body
+has_variable l body x same in_body = tt
+
+has_target : (l : Locals) (body : Body) (a : Action) → length l.variables ≡ length body.vars.items → HasTargetIn body a → HasTarget l a
+has_target l body actions.Skip same in_body = tt
+has_target l body (actions.Copy x y) same in_body = has_variable l body x same in_body
+has_target l body (actions.Move x y) same in_body = has_variable l body x same in_body
+has_target l body (actions.Plain x v) same in_body = has_variable l body x same in_body
+has_target l body (actions.Enter clause x d k) same in_body = subst (λ n. x < n) (sym same) in_body
+has_target l body a same in_body = tt
+
+plain_alias : (m : Option Method) → IsPlainSignature m → alias_in m ≡ None
+plain_alias None plain = refl
+plain_alias (Some m) plain = plain.0
+
+first_no_alias : (p : Program) (a : Action) → IsFirstAction p a → alias_operand p a ≡ None
+first_no_alias p actions.Skip first = refl
+first_no_alias p (actions.Call m d n form) first = ap (operand_of (actions.Call m d n form)) (plain_alias (method_at p m) first.0.signature)
+first_no_alias p (actions.New m d n) first = ap (operand_of (actions.New m d n)) (plain_alias (method_at p m) first.signature)
+first_no_alias p (actions.Super m d n) first = absurd first
+first_no_alias p a first = refl
+
+module _ (p : Program) (ac : Accept p) (first : HasFirstForms p) (regular : HasFreshClauses p) (fr : Frame) (st : Stands p fr) (i : ℕ) (t : Step)
+    (here : slice_get (frame_steps p fr) i ≡ Some t) where
+  pub first_step : IsFirstAction p t.action
+  first_step = first.steps st.number i (move_of t) st.control (step_there p fr st i t here)
+
+  pub ready : IsWay t.action t.edge → Ready p fr.method fr.locals st.number st.body t.action t.edge
+  ready way = record {
+    at = st.at;
+    method = ap (body_by p) st.id ∙ st.at;
+    small = (ac.fits st.number).steps i (move_of t) st.control (step_there p fr st i t here);
+    locals = first_sets_locals p t.action first_step;
+    target = has_target fr.locals st.body t.action st.variables (names_what_is_there p ac.well_formed.valid.typed st.number st.body fr.control i (move_of t) st.at st.control (step_there p fr st i t here)).0;
+    no_alias = first_no_alias p t.action first_step;
+    way = way;
+  }

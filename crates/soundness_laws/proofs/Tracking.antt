@@ -1,0 +1,117 @@
+-- The top frame goes on to track an object over one step of its own.
+use Rattle.std.proofs.Common.{◌≡◌, ℕ, ◌+◌, Bool, true, false, Option, Some, List, ◌∷◌, length, slice_get, nat_eq, refl, sym, ap, ◌∙◌, subst, true≢false}
+use Rattle.std.specs.FinSet as set
+use Rattle.std.specs.Prelude.{MatchBool}
+use Rattle.program_model.specs.declared.kinds.BodyId.{BodyId}
+use Rattle.program_model.specs.declared.program.Program.{Program}
+use Rattle.java_control.specs.Control.{Step}
+use Rattle.java_control.specs.declared.action.Action.{Action}
+use Rattle.java_control.specs.declared.action.Action.TheVariants as actions
+use Rattle.java_control.specs.declared.action.Edge.{Edge}
+use Rattle.java_control.specs.declared.action.Edge.TheVariants as edges
+use Rattle.java_control.specs.declared.fact.Fact.{Fact}
+use Rattle.java_control.specs.declared.fact.Origin.{Origin}
+use Rattle.java_control.specs.declared.place.Place.TheVariants as places
+use Rattle.obligation_facts.specs.Facts.{Names, has, is_met, need}
+use Rattle.obligation_facts.specs.SmallActions.{IsSmallAction}
+use Rattle.called_methods.specs.CalledRows.{called_after}
+use Rattle.ownership_rules.specs.MovesAtCalls.{moved_at_call}
+use Rattle.ownership_rules.specs.declared.moved.Moved.TheVariants as moves
+use Rattle.flow_rules.specs.Flow.{flow}
+use Rattle.flow_rules.specs.Paths.{Accept, Reach, move_of, relation_of}
+use Rattle.ledger_state.specs.Contents.{HeapContents}
+use Rattle.ledger_state.specs.Heaps.{root_of}
+use Rattle.ledger_state.specs.Locals.{temp_value}
+use Rattle.ledger_state.specs.Values.{is_null}
+use Rattle.ledger_state.specs.declared.locals.Locals.{Locals}
+use Rattle.ledger_state.specs.declared.object.Object.{Object}
+use Rattle.ledger_state.specs.declared.value.Value.{Value}
+use Rattle.ledger_state.specs.declared.value.Value.TheVariants as values
+use Rattle.ledger_obligations.specs.Obligations.{is_unmet}
+use Rattle.ledger_calls.specs.Configuration.{Frame}
+use Rattle.ledger_frames.specs.Choosing.{body_id, frame_steps}
+use Rattle.ledger_frames.specs.Frames.{frame_after, locals_after}
+use Rattle.rlc_base.proofs.SetLaws.{within_trans}
+use Rattle.heap_laws.specs.Heaps.{GoesOn, IsUnlinked}
+use Rattle.place_laws.specs.Places.{IsFreshIn, IsWay}
+use Rattle.agreement.specs.Agreement.{Follows, IsTracked, Stands, Tracks}
+use Rattle.agreement.specs.FirstForms.{HasFirstForms, HasFreshClauses}
+use Rattle.owned_fact_laws.specs.Outcomes.{After, IsCallRow, IsNotNull, IsPlainRow}
+use Rattle.owned_fact_laws.proofs.OwedFacts.{call_row, owed, plain_row}
+use Rattle.soundness_laws.proofs.Carried.{carried, kept, still_tracked}
+use Rattle.soundness_laws.proofs.CallNames.{first_no_reset}
+use Rattle.soundness_laws.proofs.Following.{followed}
+use Rattle.soundness_laws.proofs.Ready.{first_step, ready, step_there}
+
+pub null_is_no_object : (h : HeapContents) (v : Value) (o : ℕ) → is_null v ≡ true → root_of h v ≡ Some o → ⊥
+null_is_no_object h values.Nothing o null is = cc
+null_is_no_object h (values.Object k) o null is = true≢false (sym null)
+null_is_no_object h v o null is = cc
+
+-- a test that goes by its null edge has found null
+abbrev pub IsTrueTest : Locals → Action → Edge → Type 0
+IsTrueTest l (actions.Test d) edges.Null = is_null (temp_value l d) ≡ true
+IsTrueTest l a e = Unit {0}
+
+not_null : (p : Program) (h : HeapContents) (fr : Frame) (o : ℕ) (x : Object) (origin : Origin) (f : Fact) (a : Action) (e : Edge) → IsSmallAction p a
+    → Follows p h fr.method fr.locals o x origin f → IsTrueTest fr.locals a e → IsNotNull f a e
+not_null p h fr o x origin f actions.Skip e small follows test = tt
+not_null p h fr o x origin f (actions.Test d) edges.Null small follows test = go (has f.places (places.Temp d)) refl
+  where
+    go : (b : Bool) → has f.places (places.Temp d) ≡ b → has f.places (places.Temp d) ≡ false
+    go true is = absurd (null_is_no_object h (temp_value fr.locals d) o test (follows.places (places.Temp d) small is).1)
+    go false is = is
+not_null p h fr o x origin f (actions.Test d) e small follows test = tt
+not_null p h fr o x origin f a e small follows test = tt
+
+pub same_body : (b c : BodyId) (x : Option BodyId) → x ≡ Some b → x ≡ Some c → b ≡ c
+same_body b c x one other = let same : Some b ≡ Some c = sym one ∙ other in cc
+
+module _ (p : Program) (ac : Accept p) (first : HasFirstForms p) (regular : HasFreshClauses p) (h k : HeapContents) (uh : IsUnlinked h) (uk : IsUnlinked k)
+    (fr : Frame) (st : Stands p fr) (i : ℕ) (s : Step) (here : slice_get (frame_steps p fr) i ≡ Some s) (way : IsWay s.action s.edge) (v : Value)
+    (o : ℕ) (x y : Object) (goes : GoesOn x y) (unmet : is_unmet y ≡ true) (t : Tracks p h fr o x) where
+  reached : Reach p st.number (relation_of p st.number) t.origin fr.control t.fact
+  reached = subst (λ (b : BodyId). Reach p b (relation_of p b) t.origin fr.control t.fact) (same_body t.body st.number (body_id p fr.method) t.id st.id) t.reached
+
+  fresh : IsFreshIn t.fact.places s.action
+  fresh = regular.fresh st.number t.origin i (move_of s) reached (step_there p fr st i s here)
+
+  abbrev Goal : Fact → Type 0
+  Goal g = Follows p k fr.method (locals_after p h fr.method fr.locals s.action s.edge v) o y t.origin g
+
+  goes_on : After Goal (flow p st.number t.origin s.action s.edge t.fact) → Tracks p k (frame_after p h fr s v) o y
+  goes_on after =
+      let next = followed p ac st.number t.origin i (move_of s) t.fact Goal reached (step_there p fr st i s here) after in
+      record { body = st.number; id = st.id; origin = t.origin; fact = next.0; reached = next.1; follows = next.2 }
+
+  known : set.is_subset t.fact.called y.called ≡ true
+  known = within_trans t.fact.called x.called y.called t.follows.called goes.called
+
+  needed : set.is_subset y.must (need t.origin t.fact) ≡ true
+  needed = ap (λ (must : Names). set.is_subset must (need t.origin t.fact)) goes.must ∙ t.follows.need
+
+  pub is_owing : is_met t.origin t.fact ≡ false
+  is_owing = owed y t.origin t.fact unmet needed known
+
+  pub tracks_plain : IsPlainRow s.action → IsTrueTest fr.locals s.action s.edge → Tracks p k (frame_after p h fr s v) o y
+  tracks_plain row test = goes_on (plain_row Goal p st.number t.origin s.action s.edge t.fact row t.follows.own is_owing
+      (not_null p h fr o x t.origin t.fact s.action s.edge (ready p ac first regular fr st i s here way).small t.follows test)
+      (λ some. carried p h k fr.method fr.locals st.number st.body s.action s.edge v (ready p ac first regular fr st i s here way) uh uk o x y t.origin t.fact fresh t.follows goes t.fact.called known some)
+      (λ stay. kept p h k fr.method fr.locals st.number st.body s.action s.edge v (ready p ac first regular fr st i s here way) uh uk o x y t.origin t.fact fresh t.follows goes stay))
+
+  pub tracks_call : IsCallRow s.action → set.is_subset (called_after p st.number s.action s.edge t.fact) y.called ≡ true
+      → (moved_at_call p t.origin s.action s.edge t.fact ≡ moves.Moves → ⊥) → Tracks p k (frame_after p h fr s v) o y
+  tracks_call row all stays = goes_on (call_row Goal p st.number t.origin s.action s.edge t.fact row (first_no_reset p s.action (first_step p ac first regular fr st i s here)) t.follows.own
+      (owed y t.origin (record t.fact { called = called_after p st.number s.action s.edge t.fact }) unmet needed all)
+      stays
+      (λ some. carried p h k fr.method fr.locals st.number st.body s.action s.edge v (ready p ac first regular fr st i s here way) uh uk o x y t.origin t.fact fresh t.follows goes
+      (called_after p st.number s.action s.edge t.fact) all some))
+
+-- the frames of a stack, of which the top one takes a step
+pub stack_tracks : (p : Program) (h k : HeapContents) (fr after : Frame) (frs : List Frame) (o : ℕ) (x y : Object) (j : ℕ) → IsUnlinked h → IsUnlinked k → GoesOn x y
+    → (Tracks p h fr o x → Tracks p k after o y) → IsTracked p h (fr ∷ frs) o x j → IsTracked p k (after ∷ frs) o y j
+stack_tracks p h k fr after frs o x y j uh uk goes top before = go (nat_eq (length frs + 1) j) before
+  where
+    go : (b : Bool) → MatchBool b (Tracks p h fr o x) (IsTracked p h frs o x j) → MatchBool b (Tracks p k after o y) (IsTracked p k frs o y j)
+    go true w = top w
+    go false w = still_tracked p h k frs o x y j uh uk goes w

@@ -1,0 +1,5 @@
+use Rattle.soundness_laws.proofs.Runs.{accepted_is_safe}
+use Rattle.soundness_laws.proofs.soundness.accepted_is_safe.Goals as goal
+
+pub returns : goal.returns
+returns c = accepted_is_safe

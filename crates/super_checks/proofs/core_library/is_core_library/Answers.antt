@@ -1,0 +1,15 @@
+-- The two parts.
+use Rattle.std.proofs.Common.{◌↔◌, sym, subst, map, Bool, IsTrue}
+use Rattle.class_names.specs.ClassNames.{rows_in}
+use Rattle.class_order.specs.Declarations.{declaration_of}
+use Rattle.super_checks.specs.SuperCases.{IsCoreLibrary}
+use Rattle.super_checks.proofs.CoreLemmas.{library_told}
+use Rattle.super_checks.proofs.core_library.is_core_library.Goals as goal
+
+pub returns : goal.returns
+returns c =
+    let order = map declaration_of c.args.order.now in
+    let direct = rows_in c.args.direct.now in
+    let core = c.args.core in
+    let B : Bool → Type 0 = λ b. IsTrue b ↔ IsCoreLibrary order direct core in
+    subst B (sym c.both.ensures) (library_told order direct core c.in_ok-exceptions.exceptions c.in_ok-string.string c.in_ok-exceptions.ensures c.in_ok-string.ensures)

@@ -1,0 +1,19 @@
+mod Cells
+mod Tables
+mod Outcomes
+mod Moves
+mod Equal
+mod Suffixes
+mod Sources
+mod Plans
+mod Begins
+mod ExpressionLaws
+mod TokenActs
+mod ExpressionActs
+mod AnnotationActs
+mod StatementActs
+mod DeclarationActs
+mod ActionActs
+mod Search
+mod Reading
+pub mod Files
