@@ -15,12 +15,10 @@ use Rattle.java_control.specs.declared.action.PlainValue.{PlainValue}
 use Rattle.java_control.specs.declared.action.PlainValue.TheVariants as plain
 use Rattle.java_control.specs.declared.action.TargetForm.{TargetForm}
 use Rattle.java_control.specs.declared.action.TargetForm.TheVariants as forms
-use Rattle.java_control.specs.declared.fact.Fact.{Fact}
-use Rattle.java_control.specs.declared.fact.Origin.{Origin}
-use Rattle.flow_rules.specs.Paths.{Comes, Move, Reach, relation_of}
+use Rattle.flow_rules.specs.Paths.{Comes, Move, relation_of}
 use Rattle.ledger_calls.specs.Calls.{overriding_in}
 use Rattle.ledger_obligations.specs.Obligations.{is_library_method}
-use Rattle.place_laws.specs.Places.{IsFreshIn, SetsLocals}
+use Rattle.place_laws.specs.Places.{SetsLocals}
 
 -- ---- the first forms
 
@@ -65,10 +63,3 @@ IsFirstAction p a = Unit {0}
 pub record HasFirstForms (p : Program) : Type 0 where
   pub steps : (b : BodyId) {k : List Todo} (i : ℕ) (t : Move (List Todo)) → Comes (relation_of p b) k
       → slice_get ((relation_of p b).next k) i ≡ Some t → IsFirstAction p t.action
-
--- ---- fresh clauses: what holds of the control relation of every valid program, and is not yet a law of it
-
--- a catch clause is entered before its variable holds anything
-pub record HasFreshClauses (p : Program) : Type 0 where
-  pub fresh : (b : BodyId) (o : Origin) {k : List Todo} {f : Fact} (i : ℕ) (t : Move (List Todo)) → Reach p b (relation_of p b) o k f
-      → slice_get ((relation_of p b).next k) i ≡ Some t → IsFreshIn f.places t.action

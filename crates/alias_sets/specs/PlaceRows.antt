@@ -31,7 +31,7 @@ settled held first value = if has_temp held value then with_place (below held fi
 
 -- a variable takes the exception in t(d), and all temps from `first` on are emptied
 abbrev pub entered : PlaceSet → ℕ → ℕ → ℕ → PlaceSet
-entered held x first d = if has held (places.Temp d) then with_place (below held first) (places.Var x) else below held first
+entered held x first d = below (copied held (places.Var x) (places.Temp d)) first
 
 -- a store leaves the stored value of t(d + 1) in t(d), where it goes on
 abbrev pub stored : PlaceSet → ℕ → Edge → PlaceSet

@@ -52,11 +52,7 @@ fn entered(held: Places, variable: u32, first: u32, d: u32) -> Places
     requires depth { d < 64 }
     ensures { result ≡ entered held variable first d }
 {
-    if held.contains(Place::Temp(d)) {
-        below(held, first).with(Place::Var(variable))
-    } else {
-        below(held, first)
-    }
+    below(copied(held, Place::Var(variable), Place::Temp(d)), first)
 }
 
 // A store leaves the stored value of the temp behind `d` in that of depth `d`, where it goes on.

@@ -1,7 +1,7 @@
 -- When an answer agrees with the one that a case wants.
 use Rattle.std.specs.Prelude.{◌≡◌, Bool, IsTrue, ◌↔◌}
-use Rattle.case_runner.specs.declared.agreement.Comparison.{Comparison}
-use Rattle.case_runner.specs.declared.agreement.Comparison.TheVariants.{Whole, Status, Counted, Open}
+use Rattle.case_runner.specs.declared.comparison.Comparison.{Comparison}
+use Rattle.case_runner.specs.declared.comparison.Comparison.TheVariants.{Whole, Status, Counted, Open}
 use Rattle.case_runner.specs.declared.answer.Answer.{Answer}
 
 -- the exit statuses are the same

@@ -2,14 +2,14 @@
 // case whose answer is another than the case wants, and how many cases passed and failed.
 #![tactic(auto)]
 
-mod agreement;
 mod answer;
+mod comparison;
 mod count;
 mod reports;
 mod trial;
 
-use crate::agreement::agrees;
 use crate::answer::Answer;
+use crate::comparison::agrees;
 use crate::count::Count;
 use crate::trial::trial_of;
 use case_files::{Case, FormFail, read_cases};

@@ -1,7 +1,7 @@
 // What a case asks for, as its sections say.
 
-use crate::agreement::Comparison;
 use crate::answer::Answer;
+use crate::comparison::Comparison;
 use case_files::{Case, FormFail, Section};
 use outside::{MemFiles, MemSink};
 use rlc_cli::rlc;

@@ -12,7 +12,7 @@ use Rattle.java_syntax.specs.declared.settings.Settings.{Settings}
 use Rattle.program_model.specs.declared.program.Program.{Program}
 use Rattle.flow_rules.specs.Paths.{Accept}
 use Rattle.program_faults.specs.ProgramReports.{IsFaultCount, IsFaultStop, IsFaulty, IsReportText}
-use Rattle.program_reading.specs.Inputs.{file_names}
+use Rattle.command_programs.specs.Inputs.{file_names}
 
 -- ---- what the flow rules say
 

@@ -2,8 +2,8 @@
 
 ghost use Rattle.std.specs.Prelude.{◌≡◌, ◌<◌, IfOk};
 ghost use Rattle.must_call_sets.specs.WellFormed.{HasSmallInterests};
-ghost use Rattle.program_reading.specs.Inputs.{file_names};
-ghost use Rattle.program_reading.specs.SignedPrograms.{HasListedFields};
+ghost use Rattle.command_programs.specs.Inputs.{file_names};
+ghost use Rattle.command_programs.specs.SignedPrograms.{HasListedFields};
 ghost use Rattle.program_faults.specs.ProgramReports.{IsFaultCount, IsFaultStop, IsFaulty, IsReportText};
 ghost use Rattle.command_inputs.specs.Halts.{IfHalted};
 ghost use Rattle.command_inputs.specs.Inputs.{texts_of};
@@ -12,10 +12,9 @@ ghost use Rattle.command_programs.specs.Programs.{IsProgramOf, IsShort};
 ghost use Rattle.check_command.specs.Checks.{AreFaults, IsLimitAnswer, IsUnchecked};
 
 use command_inputs::{CommandTexts, Halt};
-use command_programs::{halt_of, program_under, settings_for};
+use command_programs::{file_names, halt_of, program_under, settings_for};
 use program_faults::{ProgramFaults, check_program};
 use program_model::Program;
-use program_reading::file_names;
 use rlc_base::Text;
 use std::alloc::Global;
 

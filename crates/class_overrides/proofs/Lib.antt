@@ -2,3 +2,4 @@ pub mod CarriedMethods
 pub mod Lists
 pub mod OverrideSteps
 pub mod Walks
+mod NoneAlike

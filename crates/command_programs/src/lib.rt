@@ -5,6 +5,7 @@ mod programs;
 mod settings;
 mod stops;
 
+pub use program_reading::file_names;
 pub use programs::program_under;
 pub use settings::settings_for;
 pub use stops::halt_of;

@@ -91,8 +91,7 @@ move_source x y q = if is_place y q then None else source_or_itself (is_place x 
 abbrev pub settle_source : ℕ → Option ℕ → Place → Option Place
 settle_source b value q = if is_temp b q then temp_of value else emptied (is_temp_from b q) q
 
--- the variable of a catch clause takes the exception. It is in scope nowhere else (JLS 6.3), so it holds nothing before, and a
--- law over steps has that as its premise
+-- the variable of a catch clause takes the exception, and all temps from b on are emptied
 abbrev pub enter_source : ℕ → ℕ → ℕ → Place → Option Place
 enter_source x b d q = if is_variable x q then Some (places.Temp d) else emptied (is_temp_from b q) q
 

@@ -6,17 +6,19 @@ use program_model::{
 };
 use rlc_base::Pos;
 
-/// A statement or an exception that ends what runs, and is on its way out (JLS 14.1), with the place where it began.
-#[derive(Clone, Copy, PartialEq, Eq, Hash)]
+/// A statement or an exception that ends what runs, and is on its way out (JLS 14.1), with the place where it began. The hash looks
+/// at the place alone.
+#[derive(Clone, Copy, PartialEq, Eq)]
+#[derive_where(Hash)]
 pub enum Completion {
     Break(Pos),
     Continue(Pos),
     /// `return` without a value.
     Return(Pos),
     /// `return` of the value in the temp of this depth.
-    ReturnValue(u32, Pos),
+    ReturnValue(#[derive_where(skip(Hash))] u32, Pos),
     /// An exception in the temp of this depth, and the class by which it is known.
-    Throw(u32, ClassId, Pos),
+    Throw(#[derive_where(skip(Hash))] u32, #[derive_where(skip(Hash))] ClassId, Pos),
 }
 
 /// The way by which a step goes on.

@@ -15,7 +15,7 @@ ghost use Rattle.java_control.specs.Tables.{Keeps, bare, highest, highest_of, vi
 use crate::action::{Action, ClauseId, Completion, Edge, Scope, TargetForm};
 use crate::change::{Change, Front};
 use crate::exceptions::{may_take, takes_wholly};
-use crate::fronts::{deeper, flat, front_of, one_way};
+use crate::fronts::{deeper, flat, front_of, one_way, put};
 use crate::item::{Closing, Item};
 use crate::lists::Lists;
 use crate::place::Place;
@@ -122,13 +122,13 @@ fn add_entry(
     let scope = Scope::Variable(clause.variable);
     let pos = statement_place(body, clause.block);
     let front = flat(alloc, &[Item::Do(clause.block, b), Item::Leave(scope, pos)])?;
-    changes.push(Change {
+    let change = Change {
         action: Action::Enter(id, clause.variable, b, d),
         edge: Edge::Go,
         uses: 2,
         front,
-    })?;
-    Ok(())
+    };
+    put(changes, change)
 }
 
 // Adds the way past the catch clauses.
@@ -138,13 +138,13 @@ fn add_passage(alloc: Global, changes: &mut Vec<Change>, thrown: Completion) -> 
     ensures small { OnOk result (highest_changes changes.new.items ≡ highest_changes changes.old.items) }
 {
     let front = flat(alloc, &[Item::Out(thrown)])?;
-    changes.push(Change {
+    let change = Change {
         action: Action::Skip,
         edge: Edge::Go,
         uses: 2,
         front,
-    })?;
-    Ok(())
+    };
+    put(changes, change)
 }
 
 // An exception of class `t` meets catch clauses.

@@ -11,7 +11,7 @@ ghost use Rattle.program_model.specs.Lookups.{expression_at};
 
 use crate::action::{Action, Edge};
 use crate::change::{Change, Front};
-use crate::fronts::front_of;
+use crate::fronts::{front_of, put};
 use crate::item::{Condition, Item};
 use crate::lists::Lists;
 use crate::null_tests::compared_with_null;
@@ -262,8 +262,7 @@ pub fn fork(
     ensures list { (cells : List Cell) → IfOk result (λ v. map (seen cells) v.items ≡ change (actions.Test d) first 1 (todos (list_at cells p)) ∷ change (actions.Test d) second 1 (todos (list_at cells q)) ∷ []) }
     ensures within { IfOk result (λ v. highest_changes v.items ≡ max p q) }
 {
-    let mut changes = Vec::new(alloc);
-    changes.push(Change {
+    let one = Change {
         action: Action::Test(d),
         edge: first,
         uses: 1,
@@ -271,8 +270,8 @@ pub fn fork(
             items: Vec::new(alloc),
             then: p,
         },
-    })?;
-    changes.push(Change {
+    };
+    let other = Change {
         action: Action::Test(d),
         edge: second,
         uses: 1,
@@ -280,6 +279,9 @@ pub fn fork(
             items: Vec::new(alloc),
             then: q,
         },
-    })?;
+    };
+    let mut changes = Vec::new(alloc);
+    put(&mut changes, one)?;
+    put(&mut changes, other)?;
     Ok(changes)
 }

@@ -12,7 +12,7 @@ ghost use Rattle.java_control.specs.Exceptions.{binary_exceptions, class_count, 
 
 use crate::action::{Action, Completion, Edge, Operator, Scope};
 use crate::change::Change;
-use crate::fronts::{flat, one_way};
+use crate::fronts::{flat, one_way, put};
 use crate::item::Item;
 use program_model::{
     BinaryOperator, Body, CatchClause, ClassId, MethodId, Program, StatementKind, StmtId,
@@ -274,13 +274,13 @@ fn add_throw(
 {
     let completion = Completion::Throw(exception_depth(action), class, pos);
     let front = flat(alloc, &[Item::Out(completion)])?;
-    changes.push(Change {
+    let change = Change {
         action,
         edge: Edge::Throws(class),
         uses: 1,
         front,
-    })?;
-    Ok(())
+    };
+    put(changes, change)
 }
 
 /// The ways of an action: on, and by each exception that it throws.

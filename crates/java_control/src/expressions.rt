@@ -12,7 +12,7 @@ ghost use Rattle.java_control.specs.declared.place.Place.TheVariants as places;
 
 use crate::action::{Action, Operator, PlainValue, Scope, TargetForm};
 use crate::change::Front;
-use crate::fronts::{deeper, front_of, items_of, plain};
+use crate::fronts::{deeper, front_of, items_front, items_of, plain};
 use crate::item::{Condition, Item};
 use crate::lists::Lists;
 use crate::null_tests::compared_with_null;
@@ -75,27 +75,33 @@ fn compute(
 
 fn field_read(
     alloc: Global,
+    lists: &Lists,
     p: &Program,
     body: &Body,
     target: ExprId,
     field: FieldId,
     depth: u32,
     pos: Pos,
-) -> Result<Vec<Item>, NoMemory>
-    ensures means { IfOk result (λ v. map bare v.items ≡ field_read p.now body.now target field depth pos) }
-    ensures small { IfOk result (λ v. highest_of v.items ≡ 0) }
+) -> Result<Front, NoMemory>
+    ensures front { IfOk result (λ f. front_in lists.now.cells.keys f ≡ field_read p.now body.now target field depth pos) }
+    ensures highest { IfOk result (λ f. highest_front f ≡ 0) }
 {
     if has_place(p, body, target, field) {
         let copy = Action::Copy(Place::Temp(depth), field_place(p, field));
-        items_of(alloc, &[Item::Act(copy, pos)])
+        items_front(alloc, lists, &[Item::Act(copy, pos)])
     } else {
         let get = Action::Get(field, depth, is_this(body, target));
-        items_of(alloc, &[Item::Ev(target, depth), Item::Act(get, pos)])
+        items_front(
+            alloc,
+            lists,
+            &[Item::Ev(target, depth), Item::Act(get, pos)],
+        )
     }
 }
 
 fn field_store(
     alloc: Global,
+    lists: &Lists,
     p: &Program,
     body: &Body,
     target: ExprId,
@@ -103,18 +109,19 @@ fn field_store(
     value: ExprId,
     depth: u32,
     pos: Pos,
-) -> Result<Vec<Item>, NoMemory>
-    ensures means { IfOk result (λ v. map bare v.items ≡ field_store p.now body.now target field value depth pos) }
-    ensures small { IfOk result (λ v. highest_of v.items ≡ 0) }
+) -> Result<Front, NoMemory>
+    ensures front { IfOk result (λ f. front_in lists.now.cells.keys f ≡ field_store p.now body.now target field value depth pos) }
+    ensures highest { IfOk result (λ f. highest_front f ≡ 0) }
 {
     if has_place(p, body, target, field) {
         let put = Action::PutOwn(field, depth);
-        items_of(alloc, &[Item::Ev(value, depth), Item::Act(put, pos)])
+        items_front(alloc, lists, &[Item::Ev(value, depth), Item::Act(put, pos)])
     } else {
         let next = deeper(depth, 1)?;
         let put = Action::Put(field, depth, is_this(body, target));
-        items_of(
+        items_front(
             alloc,
+            lists,
             &[
                 Item::Ev(target, depth),
                 Item::Ev(value, next),
@@ -126,27 +133,41 @@ fn field_store(
 
 fn assignment(
     alloc: Global,
+    lists: &Lists,
     p: &Program,
     body: &Body,
     target: AssignmentTarget,
     value: ExprId,
     depth: u32,
     pos: Pos,
-) -> Result<Vec<Item>, NoMemory>
-    ensures means { IfOk result (λ v. map bare v.items ≡ assignment_front p.now body.now target value depth pos) }
-    ensures small { IfOk result (λ v. highest_of v.items ≡ 0) }
+) -> Result<Front, NoMemory>
+    ensures front { IfOk result (λ f. front_in lists.now.cells.keys f ≡ assignment_front p.now body.now target value depth pos) }
+    ensures highest { IfOk result (λ f. highest_front f ≡ 0) }
 {
     match target {
         AssignmentTarget::Local(x) => {
             let copy = Action::Copy(Place::Var(x), Place::Temp(depth));
-            items_of(alloc, &[Item::Ev(value, depth), Item::Act(copy, pos)])
+            items_front(
+                alloc,
+                lists,
+                &[Item::Ev(value, depth), Item::Act(copy, pos)],
+            )
         }
-        AssignmentTarget::Field(e, f) => field_store(alloc, p, body, e, f, value, depth, pos),
+        AssignmentTarget::Field(e, f) => field_store(
+            alloc, lists, p, body, e, f, value, depth, pos,
+        ),
         AssignmentTarget::StaticField(f) => {
-            compute(alloc, Operator::StoreStatic(f), &[value], depth, pos)
+            compute_front(alloc, lists, Operator::StoreStatic(f), &[value], depth, pos)
         }
         AssignmentTarget::Element(a, i) => {
-            compute(alloc, Operator::StoreElement, &[a, i, value], depth, pos)
+            compute_front(
+                alloc,
+                lists,
+                Operator::StoreElement,
+                &[a, i, value],
+                depth,
+                pos,
+            )
         }
     }
 }
@@ -246,67 +267,99 @@ fn postfix(
 #[tactic(auto, using(crate::proofs::FlatLemmas::flat_means, crate::proofs::FlatLemmas::flat_small))]
 fn targeted_call(
     alloc: Global,
+    lists: &Lists,
     method: MethodId,
     target: ExprId,
     arguments: &[ExprId],
     form: TargetForm,
     depth: u32,
     pos: Pos,
-) -> Result<Vec<Item>, NoMemory>
-    ensures means { IfOk result (λ v. map bare v.items ≡ Ev target depth ∷ evaluations arguments.now (depth + 1) ++ Act (actions.Call method depth (length arguments.now + 1) form) pos ∷ []) }
-    ensures small { IfOk result (λ v. highest_of v.items ≡ 0) }
+) -> Result<Front, NoMemory>
+    ensures front { IfOk result (λ f. front_in lists.now.cells.keys f ≡ Ev target depth ∷ evaluations arguments.now (depth + 1) ++ Act (actions.Call method depth (length arguments.now + 1) form) pos ∷ []) }
+    ensures highest { IfOk result (λ f. highest_front f ≡ 0) }
 {
     let next = deeper(depth, 1)?;
     let mut items = items_of(alloc, &[Item::Ev(target, depth)])?;
     let end = add_evaluations(&mut items, arguments, next)?;
     let call = Action::Call(method, depth, end - depth, form);
     items.push(Item::Act(call, pos))?;
-    Ok(items)
+    Ok(plain(lists, items))
 }
 
 #[tactic(auto, using(crate::proofs::FlatLemmas::flat_means, crate::proofs::FlatLemmas::flat_small))]
 fn static_call(
     alloc: Global,
+    lists: &Lists,
     method: MethodId,
     arguments: &[ExprId],
     depth: u32,
     pos: Pos,
-) -> Result<Vec<Item>, NoMemory>
-    ensures means { IfOk result (λ v. map bare v.items ≡ evaluations arguments.now depth ++ Act (actions.Call method depth (length arguments.now) forms.Static) pos ∷ []) }
-    ensures small { IfOk result (λ v. highest_of v.items ≡ 0) }
+) -> Result<Front, NoMemory>
+    ensures front { IfOk result (λ f. front_in lists.now.cells.keys f ≡ evaluations arguments.now depth ++ Act (actions.Call method depth (length arguments.now) forms.Static) pos ∷ []) }
+    ensures highest { IfOk result (λ f. highest_front f ≡ 0) }
 {
     let mut items = Vec::new(alloc);
     let end = add_evaluations(&mut items, arguments, depth)?;
     let call = Action::Call(method, depth, end - depth, TargetForm::Static);
     items.push(Item::Act(call, pos))?;
-    Ok(items)
+    Ok(plain(lists, items))
 }
 
-fn call(alloc: Global, call: &CallExpression, depth: u32, pos: Pos) -> Result<Vec<Item>, NoMemory>
-    ensures means { IfOk result (λ v. map bare v.items ≡ call_front call.now depth pos) }
-    ensures small { IfOk result (λ v. highest_of v.items ≡ 0) }
+fn call(
+    alloc: Global,
+    lists: &Lists,
+    call: &CallExpression,
+    depth: u32,
+    pos: Pos,
+) -> Result<Front, NoMemory>
+    ensures front { IfOk result (λ f. front_in lists.now.cells.keys f ≡ call_front call.now depth pos) }
+    ensures highest { IfOk result (λ f. highest_front f ≡ 0) }
 {
     let m = call.method;
     let es = &call.arguments;
     match call.target {
-        CallTarget::Static => static_call(alloc, m, es, depth, pos),
-        CallTarget::This(e) => targeted_call(alloc, m, e, es, TargetForm::This, depth, pos),
-        CallTarget::Super(e) => targeted_call(alloc, m, e, es, TargetForm::Super, depth, pos),
-        CallTarget::Other(e) => targeted_call(alloc, m, e, es, TargetForm::Other, depth, pos),
+        CallTarget::Static => static_call(alloc, lists, m, es, depth, pos),
+        CallTarget::This(e) => targeted_call(alloc, lists, m, e, es, TargetForm::This, depth, pos),
+        CallTarget::Super(e) => targeted_call(
+            alloc,
+            lists,
+            m,
+            e,
+            es,
+            TargetForm::Super,
+            depth,
+            pos,
+        ),
+        CallTarget::Other(e) => targeted_call(
+            alloc,
+            lists,
+            m,
+            e,
+            es,
+            TargetForm::Other,
+            depth,
+            pos,
+        ),
     }
 }
 
 #[tactic(auto, using(crate::proofs::FlatLemmas::flat_means, crate::proofs::FlatLemmas::flat_small))]
-fn new_object(alloc: Global, new: &NewObject, depth: u32, pos: Pos) -> Result<Vec<Item>, NoMemory>
-    ensures means { IfOk result (λ v. map bare v.items ≡ new_front new.now depth pos) }
-    ensures small { IfOk result (λ v. highest_of v.items ≡ 0) }
+fn new_object(
+    alloc: Global,
+    lists: &Lists,
+    new: &NewObject,
+    depth: u32,
+    pos: Pos,
+) -> Result<Front, NoMemory>
+    ensures front { IfOk result (λ f. front_in lists.now.cells.keys f ≡ new_front new.now depth pos) }
+    ensures highest { IfOk result (λ f. highest_front f ≡ 0) }
 {
     let next = deeper(depth, 1)?;
     let mut items = Vec::new(alloc);
     let end = add_evaluations(&mut items, &new.arguments, next)?;
     let make = Action::New(new.constructor, depth, end - next);
     items.push(Item::Act(make, pos))?;
-    Ok(items)
+    Ok(plain(lists, items))
 }
 
 // An action alone.
@@ -314,7 +367,7 @@ fn act_front(alloc: Global, lists: &Lists, action: Action, pos: Pos) -> Result<F
     ensures front { IfOk result (λ f. front_in lists.now.cells.keys f ≡ Act action pos ∷ []) }
     ensures highest { IfOk result (λ f. highest_front f ≡ 0) }
 {
-    Ok(plain(lists, items_of(alloc, &[Item::Act(action, pos)])?))
+    items_front(alloc, lists, &[Item::Act(action, pos)])
 }
 
 // A value without an object.
@@ -462,22 +515,6 @@ fn binary_front(
     }
 }
 
-fn field_front(
-    alloc: Global,
-    lists: &Lists,
-    p: &Program,
-    body: &Body,
-    target: ExprId,
-    field: FieldId,
-    d: u32,
-    pos: Pos,
-) -> Result<Front, NoMemory>
-    ensures front { IfOk result (λ f. front_in lists.now.cells.keys f ≡ field_read p.now body.now target field d pos) }
-    ensures highest { IfOk result (λ f. highest_front f ≡ 0) }
-{
-    Ok(plain(lists, field_read(alloc, p, body, target, field, d, pos)?))
-}
-
 fn cast_front(
     alloc: Global,
     lists: &Lists,
@@ -490,80 +527,7 @@ fn cast_front(
     ensures highest { IfOk result (λ f. highest_front f ≡ 0) }
 {
     let cast = Action::Cast(vtype, d);
-    let items = items_of(alloc, &[Item::Ev(x, d), Item::Act(cast, pos)])?;
-    Ok(plain(lists, items))
-}
-
-fn assignment_front(
-    alloc: Global,
-    lists: &Lists,
-    p: &Program,
-    body: &Body,
-    target: AssignmentTarget,
-    value: ExprId,
-    d: u32,
-    pos: Pos,
-) -> Result<Front, NoMemory>
-    ensures front { IfOk result (λ f. front_in lists.now.cells.keys f ≡ assignment_front p.now body.now target value d pos) }
-    ensures highest { IfOk result (λ f. highest_front f ≡ 0) }
-{
-    Ok(plain(lists, assignment(alloc, p, body, target, value, d, pos)?))
-}
-
-fn update_front(
-    alloc: Global,
-    lists: &Lists,
-    body: &Body,
-    a: OperatorAssignment,
-    vtype: Option<VType>,
-    d: u32,
-    pos: Pos,
-) -> Result<Front, NoMemory>
-    ensures front { IfOk result (λ f. front_in lists.now.cells.keys f ≡ update_front body.now a vtype d pos) }
-    ensures highest { IfOk result (λ f. highest_front f ≡ 0) }
-{
-    Ok(plain(lists, update(alloc, body, a, vtype, d, pos)?))
-}
-
-fn postfix_front(
-    alloc: Global,
-    lists: &Lists,
-    body: &Body,
-    a: OperatorAssignment,
-    vtype: Option<VType>,
-    d: u32,
-    pos: Pos,
-) -> Result<Front, NoMemory>
-    ensures front { IfOk result (λ f. front_in lists.now.cells.keys f ≡ postfix_front body.now a vtype d pos) }
-    ensures highest { IfOk result (λ f. highest_front f ≡ 0) }
-{
-    Ok(plain(lists, postfix(alloc, body, a, vtype, d, pos)?))
-}
-
-fn call_front(
-    alloc: Global,
-    lists: &Lists,
-    c: &CallExpression,
-    d: u32,
-    pos: Pos,
-) -> Result<Front, NoMemory>
-    ensures front { IfOk result (λ f. front_in lists.now.cells.keys f ≡ call_front c.now d pos) }
-    ensures highest { IfOk result (λ f. highest_front f ≡ 0) }
-{
-    Ok(plain(lists, call(alloc, c, d, pos)?))
-}
-
-fn new_front(
-    alloc: Global,
-    lists: &Lists,
-    n: &NewObject,
-    d: u32,
-    pos: Pos,
-) -> Result<Front, NoMemory>
-    ensures front { IfOk result (λ f. front_in lists.now.cells.keys f ≡ new_front n.now d pos) }
-    ensures highest { IfOk result (λ f. highest_front f ≡ 0) }
-{
-    Ok(plain(lists, new_object(alloc, n, d, pos)?))
+    items_front(alloc, lists, &[Item::Ev(x, d), Item::Act(cast, pos)])
 }
 
 /// What an expression becomes.
@@ -587,7 +551,7 @@ pub fn expression_front(
         Kind::Literal(l) => plain_front(alloc, lists, PlainValue::Literal(*l), d, pos),
         Kind::Local(x) => act_front(alloc, lists, Action::Copy(temp, Place::Var(*x)), pos),
         Kind::This(_) => act_front(alloc, lists, Action::Copy(temp, Place::This), pos),
-        Kind::Field(x, f) => field_front(alloc, lists, p, body, *x, *f, d, pos),
+        Kind::Field(x, f) => field_read(alloc, lists, p, body, *x, *f, d, pos),
         Kind::StaticField(f) => plain_front(alloc, lists, PlainValue::StaticField(*f), d, pos),
         Kind::LibraryConstant(m) => plain_front(
             alloc,
@@ -609,11 +573,11 @@ pub fn expression_front(
         ),
         Kind::PrimitiveCast(x) => compute_front(alloc, lists, Operator::Convert(t), &[*x], d, pos),
         Kind::ReferenceCast(x) => cast_front(alloc, lists, *x, t, d, pos),
-        Kind::Assignment(to, x) => assignment_front(alloc, lists, p, body, *to, *x, d, pos),
-        Kind::OperatorAssignment(a) => update_front(alloc, lists, body, *a, vtype, d, pos),
-        Kind::PostfixStep(a) => postfix_front(alloc, lists, body, *a, vtype, d, pos),
-        Kind::Call(c) => call_front(alloc, lists, c, d, pos),
-        Kind::NewObject(n) => new_front(alloc, lists, n, d, pos),
+        Kind::Assignment(to, x) => assignment(alloc, lists, p, body, *to, *x, d, pos),
+        Kind::OperatorAssignment(a) => Ok(plain(lists, update(alloc, body, *a, vtype, d, pos)?)),
+        Kind::PostfixStep(a) => Ok(plain(lists, postfix(alloc, body, *a, vtype, d, pos)?)),
+        Kind::Call(c) => call(alloc, lists, c, d, pos),
+        Kind::NewObject(n) => new_object(alloc, lists, n, d, pos),
         Kind::NewArray(x) => compute_front(alloc, lists, Operator::NewArray(t), &[*x], d, pos),
         Kind::Element(a, i) => compute_front(alloc, lists, Operator::Element, &[*a, *i], d, pos),
         Kind::Length(a) => compute_front(alloc, lists, Operator::Length, &[*a], d, pos),

@@ -82,7 +82,7 @@ pub enum Rule {
 }
 
 /// What a step makes of a fact.
-#[derive(Clone, Copy, PartialEq, Eq)]
+#[derive(Clone, Copy)]
 pub enum Outcome {
     Next(Fact),
     Gone,

@@ -1,6 +1,6 @@
 //! The making of fronts and changes.
 
-ghost use Rattle.std.specs.Prelude.{◌≡◌, ◌+◌, ◌≤◌, ◌∷◌, [], map, max, IfOk};
+ghost use Rattle.std.specs.Prelude.{◌≡◌, ◌+◌, ◌≤◌, ◌++◌, ◌∷◌, [], map, max, IfOk, OnOk};
 ghost use Rattle.java_control.specs.Changes.{front_in, highest_front};
 ghost use Rattle.java_control.specs.Tables.{bare, highest_of, view_in};
 
@@ -57,6 +57,23 @@ pub fn plain(lists: &Lists, items: Vec<Item>) -> Front
     Front { items, then }
 }
 
+// Items without lists, in a front.
+pub fn items_front(alloc: Global, lists: &Lists, items: &[Item]) -> Result<Front, NoMemory>
+    requires { highest_of items.now ≡ 0 }
+    ensures front { IfOk result (λ f. front_in lists.now.cells.keys f ≡ map bare items.now) }
+    ensures highest { IfOk result (λ f. highest_front f ≡ 0) }
+{
+    Ok(plain(lists, items_of(alloc, items)?))
+}
+
+// Puts an item at the end of a list.
+pub fn put<T: Drop>(list: &mut Vec<T>, item: T) -> Result<(), NoMemory>
+    ensures { OnOk result (list.new.items ≡ list.old.items ++ item ∷ []) }
+{
+    list.push(item)?;
+    Ok(())
+}
+
 // The one way of a step.
 pub fn one_way(
     alloc: Global,
@@ -68,11 +85,12 @@ pub fn one_way(
     ensures { IfOk result (λ v. v.items ≡ record { action = action; edge = edge; uses = uses; front = front } ∷ []) }
 {
     let mut changes = Vec::new(alloc);
-    changes.push(Change {
+    let change = Change {
         action,
         edge,
         uses,
         front,
-    })?;
+    };
+    put(&mut changes, change)?;
     Ok(changes)
 }

@@ -5,7 +5,7 @@ use program_model::{ExprId, MethodId, StmtId};
 use rlc_base::Pos;
 
 /// A condition. An absent one, of a `for`, is true, and has the place of that statement.
-#[derive(Clone, Copy, PartialEq, Eq, Hash)]
+#[derive(Clone, Copy, PartialEq, Eq)]
 pub enum Condition {
     Of(ExprId),
     Absent(Pos),
@@ -25,7 +25,7 @@ pub struct Closing {
 
 /// One item of what is left to run. A number of type `u32` that is named depth is that of the first temp which the item may
 /// use. A list within an item is named by its number in the table of lists. The hash looks at no more than tells most items
-/// apart: of an action, a scope and a closing at the place or the depth alone.
+/// apart: of an action, a scope and a closing at the place or the depth alone, of a condition at the lists that follow it.
 #[derive(Clone, Copy, PartialEq, Eq)]
 #[derive_where(Hash)]
 pub enum Item {
@@ -37,7 +37,7 @@ pub enum Item {
     /// name or the word `super`.
     Act(#[derive_where(skip(Hash))] Action, Pos),
     /// A condition, at a depth, and the lists that follow where it is true and where it is false.
-    Cond(Condition, u32, usize, usize),
+    Cond(#[derive_where(skip(Hash))] Condition, u32, usize, usize),
     /// The value in the temp of this depth is tested for null, and the first list follows where it is. The place is that of
     /// the condition.
     NullFork(Pos, u32, usize, usize),

@@ -207,7 +207,7 @@ fn call_source(resets: bool, d: u32, n: u32, place: Place) -> Option<Place>
 /// what the answer held before it. None where it then holds nothing, or a value that the action makes: one without an
 /// object, a result (also one that is an alias of an operand's resource), an object that is read, or an exception; and for the
 /// fields of `this` at a call that creates the obligation of `this` anew, which may store into them. The edge is one that the
-/// steps of the action have, and the variable of a catch clause holds nothing before the clause is entered.
+/// steps of the action have.
 pub fn source(p: &Program, body: &Body, action: Action, edge: Edge, place: Place) -> Option<Place>
     ensures { result ≡ source p.now body.now action edge place }
 {

@@ -13,7 +13,7 @@ ghost use Rattle.java_control.specs.declared.item.Item.TheVariants as items;
 use crate::action::{Action, Completion, PlainValue, Scope};
 use crate::change::Front;
 use crate::expressions::{add_evaluations, type_or_null};
-use crate::fronts::{deeper, front_of, items_of, plain};
+use crate::fronts::{deeper, front_of, items_front, items_of, plain};
 use crate::item::{Closing, Condition, Item};
 use crate::lists::Lists;
 use crate::place::Place;
@@ -375,15 +375,6 @@ fn throw_items(
 {
     let raise = Action::Raise(d, class_of_type(body.type_of(e)));
     items_of(alloc, &[Item::Ev(e, d), Item::Act(raise, pos)])
-}
-
-// Items in a front, which hold no lists.
-fn items_front(alloc: Global, lists: &Lists, items: &[Item]) -> Result<Front, NoMemory>
-    requires { highest_of items.now ≡ 0 }
-    ensures front { IfOk result (λ f. front_in lists.now.cells.keys f ≡ map bare items.now) }
-    ensures highest { IfOk result (λ f. highest_front f ≡ 0) }
-{
-    Ok(plain(lists, items_of(alloc, items)?))
 }
 
 /// What a statement becomes.

@@ -1,5 +1,5 @@
 -- What the parts of the lexer say to each other: no public contract cites these.
-use Rattle.std.specs.Prelude.{◌≡◌, ℕ, max, nat_eq, suc, not, ◌&&◌, ◌||◌, ◌+◌, ◌<◌, Bool, true, false, ◌==◌, if◌then◌else◌, List, [], ◌∷◌, ◌++◌, length, take, slice_index, Option, Some, None}
+use Rattle.std.specs.Prelude.{◌≡◌, ℕ, suc, not, ◌&&◌, ◌||◌, ◌+◌, ◌<◌, Bool, true, false, ◌==◌, if◌then◌else◌, List, [], ◌∷◌, ◌++◌, length, take, slice_index, Option, Some, None}
 use Rattle.std.specs.Char.{is_ascii_digit}
 use Rattle.rlc_base.specs.declared.code.Code.{Code}
 use Rattle.rlc_base.specs.declared.place.Pos.{Pos}
@@ -14,11 +14,10 @@ use Rattle.java_syntax.specs.declared.tokens.Token.{Token}
 use Rattle.java_syntax.specs.declared.words.Word.{Word}
 use Rattle.java_lexer.specs.declared.token.TokenKind.{TokenKind}
 use Rattle.java_lexer.specs.declared.token.TokenKind.TheVariants.{Ident, Reserved, Literal}
-use Rattle.std.specs.List.{starts_with}
 use Rattle.std.specs.Option.{option_map}
 use Rattle.java_lexer.specs.Characters.{is_line_end}
 use Rattle.java_lexer.specs.Literals.{is_escape}
-use Rattle.java_lexer.specs.Words.{is_listed, reserved_words, value_words, separators, operators}
+use Rattle.java_words.specs.Words.{is_listed, reserved_words, value_words, separators, operators}
 use Rattle.java_lexer.specs.Tokens.{IsSkipped, IsToken}
 use Rattle.java_lexer.specs.Refusals.{Refuses}
 use Rattle.java_lexer.specs.Cut.{IsFront, Stuck, place_behind}
@@ -32,11 +31,6 @@ IsPieceOf (Some kind) text = IsToken kind text
 abbrev pub IsFrontOf : List ℕ → Front → Type 0
 IsFrontOf text (Piece kind n) = IsFront n text × IsPieceOf kind (take n text)
 IsFrontOf text (Refused code) = Refuses code text
-
--- the length of the longest listed word that the text begins with; 0 where none does
-abbrev pub longest_listed : List (List ℕ) → List ℕ → ℕ
-longest_listed [] text = 0
-longest_listed (word ∷ words) text = max (if starts_with nat_eq text word then length word else 0) (longest_listed words text)
 
 -- how many bytes stand before the quote that closes a literal on its line: the first one that is not escaped. `escaped`: a
 -- backslash before the text escapes its first byte

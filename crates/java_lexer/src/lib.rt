@@ -11,7 +11,6 @@ mod sources;
 #[cfg(test)]
 mod tests;
 mod token;
-mod words;
 
 pub use lexer::lex;
 pub use places::place_behind;

@@ -1,41 +1,21 @@
-ghost use Rattle.std.specs.Prelude.{◌≡◌, map, bytes_eq};
+ghost use Rattle.std.specs.Prelude.{◌≡◌};
 ghost use Rattle.java_values.specs.Operators as operators;
 
 use java_syntax::{InfixOperator, PrefixOperator, PrimitiveName, StepOperator};
+use java_words::{Meaning, operator_meaning, reserved_word_meaning};
 
-/// The operators between two operands (JLS 15.17 to 15.24), but `instanceof`.
-const INFIX: [(&[u8], InfixOperator); 19] = [
-    (b"*", InfixOperator::Multiply),
-    (b"/", InfixOperator::Divide),
-    (b"%", InfixOperator::Remainder),
-    (b"+", InfixOperator::Add),
-    (b"-", InfixOperator::Subtract),
-    (b"<<", InfixOperator::ShiftLeft),
-    (b">>", InfixOperator::ShiftRight),
-    (b">>>", InfixOperator::ShiftRightUnsigned),
-    (b"<", InfixOperator::Less),
-    (b">", InfixOperator::Greater),
-    (b"<=", InfixOperator::LessOrEqual),
-    (b">=", InfixOperator::GreaterOrEqual),
-    (b"==", InfixOperator::Equal),
-    (b"!=", InfixOperator::NotEqual),
-    (b"&", InfixOperator::And),
-    (b"^", InfixOperator::Xor),
-    (b"|", InfixOperator::Or),
-    (b"&&", InfixOperator::ConditionalAnd),
-    (b"||", InfixOperator::ConditionalOr),
-];
-
-/// The operator that stands beside the text in the table.
-fn look_up(table: &[(&[u8], InfixOperator)], text: &[u8]) -> InfixOperator
-    ensures { result ≡ operators.infix_in (map (λ row. (row.0.now, row.1)) table.now) text.now }
+/// The operator between two operands that is meant (JLS 15.17 to 15.24), but `instanceof`. Where none is meant it is `||`.
+fn infix_of(meaning: Meaning) -> InfixOperator
+    ensures { result ≡ operators.infix_of meaning }
 {
-    for row in table {
-        if row.0 == text {
-            return row.1;
-        }
+    match meaning {
+        Meaning::Infix(operator) => operator,
+        Meaning::Sign(_, operator) => operator,
+        Meaning::Plain => InfixOperator::ConditionalOr,
+        Meaning::Primitive(_) => InfixOperator::ConditionalOr,
+        Meaning::Step(_) => InfixOperator::ConditionalOr,
+        Meaning::Prefix(_) => InfixOperator::ConditionalOr,
     }
-    InfixOperator::ConditionalOr
 }
 
 /// The operator between two operands that is written so. Of a text that is none it is `||`.
@@ -43,8 +23,7 @@ fn look_up(table: &[(&[u8], InfixOperator)], text: &[u8]) -> InfixOperator
 pub fn infix_operator(text: &[u8]) -> InfixOperator
     ensures { result ≡ operators.infix_operator text.now }
 {
-    let table: [(&[u8], InfixOperator); 19] = INFIX;
-    look_up(table.as_slice(), text)
+    infix_of(operator_meaning(text))
 }
 
 /// The operator of a compound assignment (JLS 15.26.2), as `+` of `+=`. Of a text that is none it is `||`.
@@ -56,10 +35,18 @@ pub fn compound_operator(text: &[u8]) -> InfixOperator
     infix_operator(&text[..len])
 }
 
-fn is(text: &[u8], word: &[u8]) -> bool
-    ensures { result ≡ bytes_eq text.now word.now }
+/// The operator before an operand that is meant (JLS 15.15). Where none is meant it is `+`.
+fn prefix_of(meaning: Meaning) -> PrefixOperator
+    ensures { result ≡ operators.prefix_of meaning }
 {
-    text == word
+    match meaning {
+        Meaning::Prefix(operator) => operator,
+        Meaning::Sign(operator, _) => operator,
+        Meaning::Plain => PrefixOperator::Plus,
+        Meaning::Primitive(_) => PrefixOperator::Plus,
+        Meaning::Step(_) => PrefixOperator::Plus,
+        Meaning::Infix(_) => PrefixOperator::Plus,
+    }
 }
 
 /// The operator before an operand that is written so. Of a text that is none it is `+`.
@@ -67,14 +54,20 @@ fn is(text: &[u8], word: &[u8]) -> bool
 pub fn prefix_operator(text: &[u8]) -> PrefixOperator
     ensures { result ≡ operators.prefix_operator text.now }
 {
-    if is(text, b"-") {
-        PrefixOperator::Minus
-    } else if is(text, b"!") {
-        PrefixOperator::Not
-    } else if is(text, b"~") {
-        PrefixOperator::Complement
-    } else {
-        PrefixOperator::Plus
+    prefix_of(operator_meaning(text))
+}
+
+/// `++` or `--`, whichever is meant (JLS 15.14, 15.15). Where none of the two is meant it is `++`.
+fn step_of(meaning: Meaning) -> StepOperator
+    ensures { result ≡ operators.step_of meaning }
+{
+    match meaning {
+        Meaning::Step(operator) => operator,
+        Meaning::Plain => StepOperator::Increment,
+        Meaning::Primitive(_) => StepOperator::Increment,
+        Meaning::Prefix(_) => StepOperator::Increment,
+        Meaning::Infix(_) => StepOperator::Increment,
+        Meaning::Sign(_, _) => StepOperator::Increment,
     }
 }
 
@@ -83,10 +76,20 @@ pub fn prefix_operator(text: &[u8]) -> PrefixOperator
 pub fn step_operator(text: &[u8]) -> StepOperator
     ensures { result ≡ operators.step_operator text.now }
 {
-    if is(text, b"--") {
-        StepOperator::Decrement
-    } else {
-        StepOperator::Increment
+    step_of(operator_meaning(text))
+}
+
+/// The primitive type that is meant (JLS 4.2). Where none is meant it is `int`.
+fn primitive_of(meaning: Meaning) -> PrimitiveName
+    ensures { result ≡ operators.primitive_of meaning }
+{
+    match meaning {
+        Meaning::Primitive(name) => name,
+        Meaning::Plain => PrimitiveName::Int,
+        Meaning::Step(_) => PrimitiveName::Int,
+        Meaning::Prefix(_) => PrimitiveName::Int,
+        Meaning::Infix(_) => PrimitiveName::Int,
+        Meaning::Sign(_, _) => PrimitiveName::Int,
     }
 }
 
@@ -95,15 +98,5 @@ pub fn step_operator(text: &[u8]) -> StepOperator
 pub fn primitive_name(text: &[u8]) -> PrimitiveName
     ensures { result ≡ operators.primitive_name text.now }
 {
-    if is(text, b"boolean") {
-        PrimitiveName::Boolean
-    } else if is(text, b"byte") {
-        PrimitiveName::Byte
-    } else if is(text, b"char") {
-        PrimitiveName::Char
-    } else if is(text, b"long") {
-        PrimitiveName::Long
-    } else {
-        PrimitiveName::Int
-    }
+    primitive_of(reserved_word_meaning(text))
 }

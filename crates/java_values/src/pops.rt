@@ -33,7 +33,7 @@ fn place_in(value: Value) -> Place
 {
     match value {
         Value::Place(found) => found,
-        _ => unreachable!(),
+        _other => unreachable!(),
     }
 }
 

@@ -1,5 +1,5 @@
 -- Calls: which method runs, what begins with it, and what its end does to obligations.
-use Rattle.std.specs.Prelude.{ℕ, zero, suc, ◌+◌, ◌-◌, Bool, true, false, not, ◌&&◌, Option, Some, None, is_some, List, [], ◌∷◌, ◌++◌, length, map, replicate, nat_lt, unwrap_or, if◌then◌else◌}
+use Rattle.std.specs.Prelude.{ℕ, zero, suc, ◌+◌, ◌-◌, Bool, true, false, not, ◌&&◌, Option, Some, None, is_some, List, [], ◌∷◌, ◌++◌, length, map, replicate, nat_lt, unwrap_or, if◌then◌else◌, ◌||◌}
 use Rattle.std.specs.List.{find, list_any, flat_map, range_with_len}
 use Rattle.program_model.specs.declared.kinds.BodyId.{BodyId}
 use Rattle.program_model.specs.declared.kinds.ClassId.{ClassId}
@@ -53,9 +53,10 @@ position_of made l a (suc i) = operand_of l a (suc i)
 
 -- Which method runs
 
--- the method that an object of the run-time class runs for the named one (JLS 15.12.4.4)
+-- the method that an object of the run-time class runs for the named one (JLS 15.12.4.4). Only a class under that of the named
+-- method overrides it; no other class has the target of a call
 abbrev pub overriding : Program → MethodId → Method → ClassId → MethodId
-overriding p named m c = if m.is_private then named else unwrap_or (method_run p m c) named
+overriding p named m c = if m.is_private || not (is_under p c m.class) then named else unwrap_or (method_run p m c) named
 
 abbrev pub overriding_in : Program → MethodId → Option Method → ClassId → MethodId
 overriding_in p named None c = named

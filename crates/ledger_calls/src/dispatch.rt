@@ -8,12 +8,12 @@ use crate::operands::operand_of;
 use class_overrides::method_run;
 use java_control::{Action, TargetForm, target_form};
 use ledger_state::{Heap, Locals, Value, runtime_class};
-use program_model::{ClassId, Method, MethodId, Program};
+use program_model::{ClassId, Method, MethodId, Program, under};
 
 fn overriding(p: &Program, named: MethodId, m: &Method, class: ClassId) -> MethodId
     ensures { result ≡ overriding p.now named m.now class }
 {
-    if m.is_private {
+    if m.is_private || !under(p, class, m.class) {
         named
     } else {
         match method_run(p, m, class) {

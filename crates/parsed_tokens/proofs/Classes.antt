@@ -9,7 +9,8 @@ use Rattle.java_syntax.specs.declared.tokens.Token.{Token}
 use Rattle.java_syntax.specs.Derives.{Lexeme, lexeme_of, text_of}
 use Rattle.java_lexer.specs.declared.token.TokenKind.{TokenKind}
 use Rattle.java_lexer.specs.declared.token.TokenKind.TheVariants as kind
-use Rattle.java_lexer.specs.Words.{class_of, class_in, reserved_word_classes, separator_classes, operator_classes}
+use Rattle.java_words.specs.Words.{class_in, reserved_word_classes, separator_classes, operator_classes}
+use Rattle.java_lexer.specs.Words.{class_of}
 use Rattle.java_lexer.specs.Cut.{IsTokenOf}
 use Rattle.java_lexer.proofs.ListedLaws.{same_bytes}
 use Rattle.java_values.specs.Operators.{infix_operator}

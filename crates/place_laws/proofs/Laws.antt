@@ -24,7 +24,7 @@ use Rattle.ledger_obligations.specs.Obligations.{holds}
 use Rattle.ledger_operations.specs.Places.{place_value}
 use Rattle.ledger_frames.specs.Choosing.{method_body}
 use Rattle.ledger_frames.specs.Frames.{locals_after, made_place}
-use Rattle.place_laws.specs.Places.{HasPlacesAlone, HasTarget, IsFreshIn, IsWay, SetsLocals, has_source, is_local}
+use Rattle.place_laws.specs.Places.{HasPlacesAlone, HasTarget, IsWay, SetsLocals, has_source, is_local}
 use Rattle.place_laws.proofs.Numbers.{numbered, same_place, single_alone, single_has, single_some, some_held}
 use Rattle.place_laws.proofs.Ranges.{no_other_joins, small_source, stays_alone}
 use Rattle.place_laws.proofs.Rows.{row}
@@ -34,9 +34,9 @@ pub place_is_numbered : (n : ℕ) → n < 242 → (q : Place) × IsSmall q × (n
 place_is_numbered = numbered
 
 pub places_come_from_sources : (p : Program) (b : BodyId) (x : Body) (a : Action) (e : Edge) (held : PlaceSet) (q : Place) → body_at p b ≡ Some x → IsSmallAction p a
-    → IsSmall q → is_local q ≡ true → alias_operand p a ≡ None → IsWay a e → IsFreshIn held a
+    → IsSmall q → is_local q ≡ true → alias_operand p a ≡ None → IsWay a e
     → has (places_after p b a e held) q ≡ has_source held (source p x a e q)
-places_come_from_sources p b x a e held q at fits small local none way fresh = row p b x e held q at small local a fits none way fresh
+places_come_from_sources p b x a e held q at fits small local none way = row p b x e held q at small local a fits none way
 
 pub some_place_is_held : (held : PlaceSet) → HasPlacesAlone held → is_nowhere held ≡ false → (q : Place) × IsSmall q × (has held q ≡ true)
 some_place_is_held = some_held

@@ -22,7 +22,7 @@ use Rattle.java_control.specs.Sources.{emptied, is_null_pointer, is_part, is_pla
 use Rattle.obligation_facts.specs.Facts.{PlaceSet, has, has_temp, with_place, without, without_parts, without_scope, without_temps}
 use Rattle.obligation_facts.specs.SmallActions.{IsSmallAction, IsSmallTemp}
 use Rattle.alias_sets.specs.Aliases.{gives_alias, without_operands, without_reset}
-use Rattle.alias_sets.specs.PlaceRows.{below, copied, dropped, places_after, stored}
+use Rattle.alias_sets.specs.PlaceRows.{below, entered, copied, dropped, places_after, stored}
 use Rattle.place_laws.specs.Places.{HasPlacesAlone, SetsLocals, is_local}
 use Rattle.place_laws.proofs.SetLaws.{IsWithin, alone_with, alone_within, has_with, parts_within, temps_within, variables_within, without_within}
 
@@ -162,7 +162,7 @@ module _ (p : Program) (b : BodyId) (e : Edge) (held : PlaceSet) where
   joins (actions.Plain x v) fits = nothing_joins p b (actions.Plain x v) e held (without_within held x)
   joins (actions.Drop s) fits = nothing_joins p b (actions.Drop s) e held (dropped_within (body_at p b) s held)
   joins (actions.Settle d c) fits = temp_joins p b (actions.Settle d c) e held d fits.0 (below_grows held d (places.Temp d) (has_temp held (completion_temp c)))
-  joins (actions.Enter clause x first d) fits = record { place = places.Var x; small = fits.0; local = λ sets. refl; grows = below_grows held first (places.Var x) (has held (places.Temp d)) }
+  joins (actions.Enter clause x first d) fits = record { place = places.Var x; small = fits.0; local = λ sets. refl; grows = then_less (copied held (places.Var x) (places.Temp d)) (entered held x first d) (copied_grows held (places.Var x) (has held (places.Temp d))) (temps_within (copied held (places.Var x) (places.Temp d)) first (64 - first)) }
   joins (actions.Test d) fits = nothing_joins p b (actions.Test d) e held (without_within held (places.Temp d))
   joins (actions.Op k d n) fits = nothing_joins p b (actions.Op k d n) e held (operands_within held d n (places.Temp d))
   joins (actions.Get f d this) fits = nothing_joins p b (actions.Get f d this) e held (without_within held (places.Temp d))

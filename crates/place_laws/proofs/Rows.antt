@@ -23,8 +23,7 @@ use Rattle.obligation_facts.specs.Facts.{PlaceSet, has, has_temp, with_place, wi
 use Rattle.obligation_facts.specs.SmallActions.{IsSmallAction, IsSmallScope}
 use Rattle.alias_sets.specs.Aliases.{alias_operand, called_places, gives_alias, without_operands, without_reset}
 use Rattle.alias_sets.specs.PlaceRows.{below, cast, copied, dropped, entered, places_after, settled, stored}
-use Rattle.place_laws.specs.Places.{IsFreshIn, IsStoreEdge, IsWay, has_source, is_local}
-use Rattle.place_laws.proofs.Numbers.{same_place}
+use Rattle.place_laws.specs.Places.{IsStoreEdge, IsWay, has_source, is_local}
 use Rattle.place_laws.proofs.SetLaws.{has_copied, has_temps, has_variables, has_with, has_without, parts_aside, variable_aside}
 
 -- ---- sources
@@ -117,23 +116,23 @@ settled_row held first value q fits small =
 
 -- ---- `Enter`
 
-enter_choice : (held : PlaceSet) (d : ℕ) (q : Place) (c f b h : Bool) → (c ≡ true → h ≡ false) → has held (places.Temp d) ≡ b → has held q ≡ h
-    → ((b && c) || (not f && h)) ≡ has_source held (if c then Some (places.Temp d) else emptied f q)
-enter_choice held d q true f b true fresh is held_is = absurd (true≢false (fresh refl))
-enter_choice held d q true true true false fresh is held_is = sym is
-enter_choice held d q true true false false fresh is held_is = sym is
-enter_choice held d q true false true false fresh is held_is = sym is
-enter_choice held d q true false false false fresh is held_is = sym is
-enter_choice held d q false true true h fresh is held_is = refl
-enter_choice held d q false true false h fresh is held_is = refl
-enter_choice held d q false false true h fresh is held_is = sym held_is
-enter_choice held d q false false false h fresh is held_is = sym held_is
+enter_choice : (held : PlaceSet) (d : ℕ) (q : Place) (c f : Bool) → (c ≡ true → f ≡ false)
+    → (not f && (if c then has held (places.Temp d) else has held q)) ≡ has_source held (if c then Some (places.Temp d) else emptied f q)
+enter_choice held d q true true apart = absurd (true≢false (apart refl))
+enter_choice held d q true false apart = refl
+enter_choice held d q false true apart = refl
+enter_choice held d q false false apart = refl
 
-entered_row : (held : PlaceSet) (x first d : ℕ) (q : Place) → x < 160 → first < 64 → IsSmall q → has held (places.Var x) ≡ false
+variable_apart : (x first : ℕ) (q : Place) → is_variable x q ≡ true → is_temp_from first q ≡ false
+variable_apart x first (places.Var y) same = refl
+variable_apart x first q same = absurd (true≢false (sym same))
+
+entered_row : (held : PlaceSet) (x first d : ℕ) (q : Place) → x < 160 → first < 64 → IsSmall q
     → has (entered held x first d) q ≡ has_source held (if is_variable x q then Some (places.Temp d) else emptied (is_temp_from first q) q)
-entered_row held x first d q inside fits small fresh =
-    below_with held first (places.Var x) q (has held (places.Temp d)) fits inside small
-    ∙ enter_choice held d q (is_variable x q) (is_temp_from first q) (has held (places.Temp d)) (has held q) (λ same. sym (ap (has held) (same_place (places.Var x) q same)) ∙ fresh) refl refl
+entered_row held x first d q inside fits small =
+    below_has (copied held (places.Var x) (places.Temp d)) first q fits small
+    ∙ ap (λ c. not (is_temp_from first q) && c) (has_copied held (places.Var x) (places.Temp d) q inside small)
+    ∙ enter_choice held d q (is_variable x q) (is_temp_from first q) (variable_apart x first q)
 
 -- ---- operands
 
@@ -256,20 +255,20 @@ called_row p a d e held q none =
 -- ---- all actions
 
 module _ (p : Program) (b : BodyId) (x : Body) (e : Edge) (held : PlaceSet) (q : Place) (at : body_at p b ≡ Some x) (small : IsSmall q) (local : is_local q ≡ true) where
-  pub row : (a : Action) → IsSmallAction p a → alias_operand p a ≡ None → IsWay a e → IsFreshIn held a → has (places_after p b a e held) q ≡ has_source held (source p x a e q)
-  row actions.Skip fits none way fresh = refl
-  row (actions.Copy to from) fits none way fresh = has_copied held to from q fits.0 small ∙ sym (taken (is_place to q) held from q)
-  row (actions.Move to from) fits none way fresh =
+  pub row : (a : Action) → IsSmallAction p a → alias_operand p a ≡ None → IsWay a e → has (places_after p b a e held) q ≡ has_source held (source p x a e q)
+  row actions.Skip fits none way = refl
+  row (actions.Copy to from) fits none way = has_copied held to from q fits.0 small ∙ sym (taken (is_place to q) held from q)
+  row (actions.Move to from) fits none way =
       has_without (copied held to from) from q fits.1 small ∙ ap (λ c. not (is_place from q) && c) (has_copied held to from q fits.0 small) ∙ moved (is_place from q) (is_place to q) held from q
-  row (actions.Plain to v) fits none way fresh = has_without held to q fits small ∙ sym (emptied_held (is_place to q) held q)
-  row (actions.Drop s) fits none way fresh = ap (λ o. has (dropped o s held) q) at ∙ dropped_row x s held q fits small local ∙ sym (emptied_held (is_dropped x s q) held q)
-  row (actions.Settle first c) fits none way fresh = settled_row held first (completion_temp c) q fits.0 small
-  row (actions.Enter clause y first d) fits none way fresh = entered_row held y first d q fits.0 fits.1 small fresh
-  row (actions.Test d) fits none way fresh = has_without held (places.Temp d) q fits small ∙ sym (emptied_held (is_temp d q) held q)
-  row (actions.Op k d n) fits none way fresh = operand_row held d n q fits.0 fits.1 small
-  row (actions.Get f d through_this) fits none way fresh = has_without held (places.Temp d) q fits small ∙ sym (emptied_held (is_temp d q) held q)
-  row (actions.Put f d through_this) fits none way fresh = stored_row held d e q fits way small
-  row (actions.Cast t d) fits none way fresh = cast_edge e
+  row (actions.Plain to v) fits none way = has_without held to q fits small ∙ sym (emptied_held (is_place to q) held q)
+  row (actions.Drop s) fits none way = ap (λ o. has (dropped o s held) q) at ∙ dropped_row x s held q fits small local ∙ sym (emptied_held (is_dropped x s q) held q)
+  row (actions.Settle first c) fits none way = settled_row held first (completion_temp c) q fits.0 small
+  row (actions.Enter clause y first d) fits none way = entered_row held y first d q fits.0 fits.1 small
+  row (actions.Test d) fits none way = has_without held (places.Temp d) q fits small ∙ sym (emptied_held (is_temp d q) held q)
+  row (actions.Op k d n) fits none way = operand_row held d n q fits.0 fits.1 small
+  row (actions.Get f d through_this) fits none way = has_without held (places.Temp d) q fits small ∙ sym (emptied_held (is_temp d q) held q)
+  row (actions.Put f d through_this) fits none way = stored_row held d e q fits way small
+  row (actions.Cast t d) fits none way = cast_edge e
     where
       cast_edge : (f : Edge) → has (cast held d f) q ≡ has_source held (source p x (actions.Cast t d) f q)
       cast_edge edges.Go = refl
@@ -278,16 +277,16 @@ module _ (p : Program) (b : BodyId) (x : Body) (e : Edge) (held : PlaceSet) (q :
       cast_edge edges.True = refl
       cast_edge edges.False = refl
       cast_edge (edges.Throws c) = cast_row held d (edges.Throws c) q true fits small
-  row (actions.PutOwn f d) fits none way fresh = has_copied held (place_of_field p f) (places.Temp d) q fits.1 small ∙ sym (taken (is_place (place_of_field p f) q) held (places.Temp d) q)
-  row (actions.Call m d n form) fits none way fresh =
+  row (actions.PutOwn f d) fits none way = has_copied held (place_of_field p f) (places.Temp d) q fits.1 small ∙ sym (taken (is_place (place_of_field p f) q) held (places.Temp d) q)
+  row (actions.Call m d n form) fits none way =
       let a : Action = actions.Call m d n form in
       called_row p a d e held q none ∙ operands_gone (without_reset p a held) d d n q fits.0 fits.1 small
       ∙ ap (λ c. not (is_temp d q) && (not (is_temp_among d n q) && c)) (reset_aside held q (is_reset_of_this p a) local small)
       ∙ operand_tests d n q (has held q) ∙ sym (ap (λ c. not c && has held q) (local_no_part q (is_reset_of_this p a) (is_temp_among d (max n 1) q) local))
       ∙ sym (emptied_held (is_temp_among d (max n 1) q || is_reset_of_this p a && is_part q) held q)
-  row (actions.New m d n) fits none way fresh =
+  row (actions.New m d n) fits none way =
       called_row p (actions.New m d n) d e held q none ∙ operands_gone held d (d + 1) n q (omega (arith, fits)) (omega (arith, fits)) small ∙ object_tests d n q (has held q)
       ∙ sym (emptied_held (is_temp_among d (n + 1) q) held q)
-  row (actions.Super m d n) fits none way fresh = called_row p (actions.Super m d n) d e held q none ∙ operand_row held d n q fits.0 fits.1 small
-  row (actions.Raise d c) fits none way fresh = cast_row held d e q (is_null_pointer p e) fits small
-  row (actions.End c) fits none way fresh = refl
+  row (actions.Super m d n) fits none way = called_row p (actions.Super m d n) d e held q none ∙ operand_row held d n q fits.0 fits.1 small
+  row (actions.Raise d c) fits none way = cast_row held d e q (is_null_pointer p e) fits small
+  row (actions.End c) fits none way = refl

@@ -27,11 +27,6 @@ has_source held (Some z) = has held z
 abbrev pub HasPlacesAlone : PlaceSet → Type 0
 HasPlacesAlone held = (n : ℕ) → set.contains held n ≡ true → n < 242
 
--- where a catch clause is entered its variable is not among these places: it is in scope nowhere else (JLS 6.3)
-abbrev pub IsFreshIn : PlaceSet → Action → Type 0
-IsFreshIn held (actions.Enter clause x b d) = has held (places.Var x) ≡ false
-IsFreshIn held a = Unit {0}
-
 -- a store goes on or throws
 abbrev pub IsStoreEdge : Edge → Type 0
 IsStoreEdge edges.Go = Unit {0}

@@ -15,7 +15,7 @@ ghost use Rattle.obligation_facts.specs.Facts.{PlaceSet, has, is_nowhere};
 ghost use Rattle.obligation_facts.specs.SmallActions.{IsSmallAction};
 ghost use Rattle.alias_sets.specs.Aliases.{alias_operand};
 ghost use Rattle.alias_sets.specs.PlaceRows.{places_after};
-ghost use Rattle.place_laws.specs.Places.{HasPlacesAlone, IsFreshIn, IsWay, SetsLocals, has_source, is_local};
+ghost use Rattle.place_laws.specs.Places.{HasPlacesAlone, IsWay, SetsLocals, has_source, is_local};
 
 /// A number of a set of places is that of one place.
 pub fn place_is_numbered()
@@ -26,7 +26,7 @@ pub fn place_is_numbered()
 /// is left out.
 pub fn places_come_from_sources()
     ensures { (p : Program) (b : BodyId) (x : Body) (a : Action) (e : Edge) (held : PlaceSet) (q : Place) → body_at p b ≡ Some x → IsSmallAction p a
-        → IsSmall q → is_local q ≡ true → alias_operand p a ≡ None → IsWay a e → IsFreshIn held a
+        → IsSmall q → is_local q ≡ true → alias_operand p a ≡ None → IsWay a e
         → has (places_after p b a e held) q ≡ has_source held (source p x a e q) }
 {}
 

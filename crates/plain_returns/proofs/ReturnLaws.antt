@@ -2,14 +2,13 @@
 use Rattle.std.proofs.Common.{◌≡◌, ◌∙◌, ap, sym, refl, subst, ℕ, zero, suc, ◌+◌, ◌<◌, ◌≤◌, max, Bool, true, false, not, ◌&&◌, ◌||◌, nat_eq, Option, Some, None, option_map, List, [], ◌∷◌, ◌++◌, length, map, reverse, inl, inr, arith}
 use Rattle.std.proofs.lemmas.Grind.{common_steps}
 use Rattle.std.proofs.lemmas.List.{append-nil}
-use Rattle.std.specs.Prelude.{nat_le, slice_get, if◌then◌else◌}
+use Rattle.std.specs.Prelude.{nat_le, if◌then◌else◌}
 use Rattle.program_model.specs.declared.program.Program.{Program}
 use Rattle.program_model.specs.declared.program.Method.{Method}
 use Rattle.program_model.specs.Lookups.{optional}
 use Rattle.rlc_base.specs.declared.place.Pos.{Pos}
 use Rattle.java_control.specs.declared.action.Action.{Action}
 use Rattle.java_control.specs.declared.action.Action.TheVariants as actions
-use Rattle.ledger_state.specs.declared.entry.Entry.{Entry}
 use Rattle.ledger_state.specs.declared.entry.LeakWord.TheVariants as words
 use Rattle.ledger_state.specs.declared.entry.Owner.{Owner}
 use Rattle.ledger_state.specs.declared.entry.Owner.TheVariants as owners
@@ -23,24 +22,24 @@ use Rattle.ledger_state.specs.Locals.{held}
 use Rattle.ledger_state.specs.Values.{number_of}
 use Rattle.ledger_entries.specs.Entries.{birth_entries, birth_in, birth_line, called_entries, heavy_lines, leak_entries, lines_from, owner_entries, reset_entries}
 use Rattle.ledger_obligations.specs.declared.active_frame.ActiveFrame.{ActiveFrame}
-use Rattle.ledger_obligations.specs.declared.note.Note.{Note}
 use Rattle.ledger_obligations.specs.Obligations.{end_frame, given_up_by_frame, held_at, held_in, holds, is_frame, is_unmet, noted, reached, reset_roots}
 use Rattle.ledger_obligations.proofs.ChangeLaws.{change_as}
 use Rattle.ledger_calls.specs.Calls.{alias_target, is_alias, operand_of, receiver_note, reset_target}
-use Rattle.ledger_calls.specs.Conducts.{owning_in}
+use Rattle.ledger_calls.specs.Conducts.{owning_in, result_in}
 use Rattle.ledger_steps.specs.Effects.{left}
 use Rattle.ledger_steps.specs.Ends.{call_end_entries, call_ended, finished_by_new, frame_end_leaks, frame_ended, frame_gone, object_finished, result_moved, returned, returned_called, returned_heap, returned_reset, returned_roots, self_finished}
 use Rattle.settled_heaps.specs.Settled.{Settled, is_kept, is_settled}
 use Rattle.settled_heaps.proofs.SettledLaws.{changed_same, still_settled}
 use Rattle.settled_heaps.specs.Settled.{drops_any}
 use Rattle.plain_calls.specs.declared.change.Numbered.{Numbered}
-use Rattle.plain_calls.specs.PlainCalls.{NotedBy, PlainNotes, add_made, left_by, made_settled, named, noted_lines, numbered, put_noted}
-use Rattle.plain_calls.proofs.ChangeLaws.{length_changed, no_reset, noted_none, noted_plain, object_more}
+use Rattle.plain_calls.specs.PlainCalls.{add_made, left_by, made_settled, named, noted_lines, put_noted}
+use Rattle.plain_calls.proofs.ChangeLaws.{length_changed, no_reset, noted_none, noted_plain}
 use Rattle.plain_calls.proofs.KeptLaws.{LinksKept, made_is_settled, object_changed, object_or_last, settled_more, settled_noted}
 use Rattle.plain_calls.proofs.LineLaws.{lines_changed, no_birth, no_births, no_leaks, no_names, no_owners, no_resets}
 use Rattle.plain_calls.proofs.PlainLaws.{count_below}
 use Rattle.plain_calls.proofs.PlainLines.{left_heap, left_lines, names_plain}
-use Rattle.plain_returns.specs.PlainReturns.{ChangedBy, Finished, FinishedAs, IsPlainReturn, OwnersBelow, finished_lines, is_below, is_new, object_of, position_in, return_lines, with_position}
+use Rattle.plain_returns.proofs.MoveLaws.{result_stays}
+use Rattle.plain_returns.specs.PlainReturns.{ChangedBy, Finished, FinishedAs, IsPlainReturn, OwnersBelow, finished_lines, is_below, is_new, moves_result, object_of, position_in, return_lines, with_position}
 
 -- Owners
 
@@ -102,7 +101,7 @@ pub owners_left : (h : HeapContents) (n : ℕ) (b : Option Numbered) (made : Opt
 owners_left h n b made below = owners_noted (add_made made h) (with_position made n) b (owners_made h n made below)
 
 -- the frame on top has gone
-settled_under : (h : HeapContents) (top : List Value) (rest : List (List Value)) (n : ℕ) → OwnersBelow h n → n ≤ length rest → Settled h (top ∷ rest) → Settled h rest
+pub settled_under : (h : HeapContents) (top : List Value) (rest : List (List Value)) (n : ℕ) → OwnersBelow h n → n ≤ length rest → Settled h (top ∷ rest) → Settled h rest
 settled_under h top rest n below within before k x found = go (is_unmet x) refl x.owner refl x.link (before k x found)
   where
     in_frame : (j : ℕ) → x.owner ≡ owners.Frame j → holds h (held_at (top ∷ rest) j) k ≡ true → holds h (held_at rest j) k ≡ true
@@ -136,7 +135,7 @@ links_free h c x y found free e j was = go (object_at h e) refl (nat_eq e c) ref
         ap link_of (object_changed (λ _. y) c e h ∙ ap (option_map (only_at c (λ _. y) e)) there)
         ∙ ap (λ b. linked_by (if b then y else w).link) same ∙ ap link_of (sym there) ∙ was
 
-settled_replaced : (h : HeapContents) (held : List (List Value)) (c : ℕ) (x y : Object) → object_at h c ≡ Some x → x.link ≡ None → is_settled (change_one c (λ _. y) h) held c y ≡ true → Settled h held → Settled (change_one c (λ _. y) h) held
+pub settled_replaced : (h : HeapContents) (held : List (List Value)) (c : ℕ) (x y : Object) → object_at h c ≡ Some x → x.link ≡ None → is_settled (change_one c (λ _. y) h) held c y ≡ true → Settled h held → Settled (change_one c (λ _. y) h) held
 settled_replaced h held c x y found free own settled k z there = go (object_at h k) refl (nat_eq k c) refl
   where
     longer : length h.objects ≤ length (changed_from 1 (only_at c (λ _. y)) h.objects)
@@ -153,7 +152,7 @@ settled_replaced h held c x y found free own settled k z there = go (object_at h
         settled_more h (change_one c (λ _. y) h) held k w z (links_free h c x y found free) longer there
         (ap (λ (o : Object). o.owner) now) (ap (λ (o : Object). o.link) now) (λ u. ap is_unmet (sym now) ∙ u) (settled k w e)
 
-put_there : (h : HeapContents) (c : ℕ) (x y : Object) → object_at h c ≡ Some x → object_at (change_one c (λ _. y) h) c ≡ Some y
+pub put_there : (h : HeapContents) (c : ℕ) (x y : Object) → object_at h c ≡ Some x → object_at (change_one c (λ _. y) h) c ≡ Some y
 put_there h c x y found =
     let same : nat_eq c c ≡ true = grind (arith, common_steps) in
     object_changed (λ _. y) c c h ∙ ap (option_map (only_at c (λ _. y) c)) found ∙ ap (λ b. Some (if b then y else x)) same
@@ -174,7 +173,7 @@ settled_finished p i named alias h new rest (Some k) (Some b) place done settled
 
 -- The heap
 
-not_new : (a : Action) (p : Program) (i : ℕ) (named : Option Method) (self alias : Option ℕ) (h : HeapContents) → is_new a ≡ false → finished_by_new p i a named self alias h ≡ h
+pub not_new : (a : Action) (p : Program) (i : ℕ) (named : Option Method) (self alias : Option ℕ) (h : HeapContents) → is_new a ≡ false → finished_by_new p i a named self alias h ≡ h
 not_new actions.Skip p i named self alias h e = refl
 not_new (actions.Copy x y) p i named self alias h e = refl
 not_new (actions.Move x y) p i named self alias h e = refl
@@ -194,7 +193,7 @@ not_new (actions.Raise d s) p i named self alias h e = refl
 not_new (actions.End c) p i named self alias h e = refl
 not_new (actions.New m d n) p i named self alias h e = absurd (cc)
 
-by_new : (a : Action) (p : Program) (i : ℕ) (named : Option Method) (self alias : Option ℕ) (h : HeapContents) → is_new a ≡ true → finished_by_new p i a named self alias h ≡ self_finished p i named self alias h
+pub by_new : (a : Action) (p : Program) (i : ℕ) (named : Option Method) (self alias : Option ℕ) (h : HeapContents) → is_new a ≡ true → finished_by_new p i a named self alias h ≡ self_finished p i named self alias h
 by_new actions.Skip p i named self alias h e = absurd (cc)
 by_new (actions.Copy x y) p i named self alias h e = absurd (cc)
 by_new (actions.Move x y) p i named self alias h e = absurd (cc)
@@ -235,10 +234,10 @@ new_note (actions.Raise d s) l named e = absurd (cc)
 new_note (actions.End c) l named e = absurd (cc)
 new_note (actions.New m d n) l named e = refl
 
-moved_none : (p : Program) (i : ℕ) (runs : Option Method) (v : Value) (h : HeapContents) → (owning_in runs && not (is_alias runs)) ≡ false → result_moved p i runs v None h ≡ h
-moved_none p i runs v h stays = rw stays refl
+pub moved_none : (p : Program) (i : ℕ) (runs : Option Method) (v : Value) (h : HeapContents) → moves_result p h runs v ≡ false → result_moved p i runs v None h ≡ h
+moved_none p i runs v h stays = result_stays (owning_in runs && not (is_alias runs)) p i (result_in runs) v h stays
 
-ended_none : (p : Program) (i n : ℕ) (runs : Option Method) (v : Value) (h : HeapContents) → (owning_in runs && not (is_alias runs)) ≡ false → OwnersBelow h n → n ≤ i → frame_ended p i runs v None h ≡ h
+ended_none : (p : Program) (i n : ℕ) (runs : Option Method) (v : Value) (h : HeapContents) → moves_result p h runs v ≡ false → OwnersBelow h n → n ≤ i → frame_ended p i runs v None h ≡ h
 ended_none p i n runs v h stays below within =
     ap (end_frame (i + 1)) (moved_none p i runs v h stays) ∙ end_none h n (i + 1) below (omega arith)
 
@@ -257,7 +256,7 @@ finished_self p i named alias h new (Some k) (Some b) done = go (object_at h k) 
     go (Some x) e by = sym (change_as (object_finished p i named alias) k h x e) ∙ ap (λ z. put_noted (Some z) h) (sym by.0)
 
 -- what the end of the call leaves of the heap, where the frame has left it as it was
-call_leaves : (w : Bool) (p : Program) (i : ℕ) (self : Value) (l : Locals) (a : Action) (named : Option Method) (h : HeapContents) (new : List Value) (n : Option Numbered) → is_new a ≡ w → reset_target (operand_of l a) named ≡ None → ChangedBy w p i self l a named h new n → call_ended p i self l a named None h ≡ put_noted n h
+pub call_leaves : (w : Bool) (p : Program) (i : ℕ) (self : Value) (l : Locals) (a : Action) (named : Option Method) (h : HeapContents) (new : List Value) (n : Option Numbered) → is_new a ≡ w → reset_target (operand_of l a) named ≡ None → ChangedBy w p i self l a named h new n → call_ended p i self l a named None h ≡ put_noted n h
 call_leaves true p i self l a named h new n e none by =
     let called : returned_called p l a named h ≡ h = ap (λ ns. noted p ns h) (new_note a l named e) ∙ noted_none p h in
     ap (finished_by_new p i a named (number_of self) (alias_target (operand_of l a) named)) (reset_none p l a named h none ∙ called)
@@ -268,7 +267,7 @@ call_leaves false p i self l a named h new n e none by =
     ap (finished_by_new p i a named (number_of self) (alias_target (operand_of l a) named)) (reset_none p l a named h none ∙ called)
     ∙ not_new a p i named (number_of self) (alias_target (operand_of l a) named) (put_noted n h) e
 
-return_leaves : (p : Program) (i : ℕ) (self : Value) (l : Locals) (a : Action) (runs named : Option Method) (v : Value) (h : HeapContents) (new : List Value) (owning : ℕ) (n : Option Numbered) → IsPlainReturn p i self l a runs named h new owning n → OwnersBelow h owning → returned_heap p i self l a runs named v None h ≡ put_noted n h
+return_leaves : (p : Program) (i : ℕ) (self : Value) (l : Locals) (a : Action) (runs named : Option Method) (v : Value) (h : HeapContents) (new : List Value) (owning : ℕ) (n : Option Numbered) → IsPlainReturn p i self l a runs named v h new owning n → OwnersBelow h owning → returned_heap p i self l a runs named v None h ≡ put_noted n h
 return_leaves p i self l a runs named v h new owning n is below =
     ap (call_ended p i self l a named None) (ended_none p i owning runs v h is.stays below is.below)
     ∙ call_leaves (is_new a) p i self l a named h new n refl is.resets is.changes
@@ -295,7 +294,7 @@ births_finished p pos i named alias h new (Some k) (Some b) done = go (object_at
         let there : object_at h b.number ≡ Some x = ap (λ (z : Numbered). object_at h z.number) by.0 ∙ e in
         birth_of_one p pos h b.number x b.object there
 
-call_lines : (w : Bool) (p : Program) (pos : Pos) (i : ℕ) (self : Value) (l : Locals) (a : Action) (named : Option Method) (h : HeapContents) (new : List Value) (n : Option Numbered) → is_new a ≡ w → reset_target (operand_of l a) named ≡ None → ChangedBy w p i self l a named h new n → call_end_entries p pos i self l a named None h ≡ return_lines w p pos h n
+pub call_lines : (w : Bool) (p : Program) (pos : Pos) (i : ℕ) (self : Value) (l : Locals) (a : Action) (named : Option Method) (h : HeapContents) (new : List Value) (n : Option Numbered) → is_new a ≡ w → reset_target (operand_of l a) named ≡ None → ChangedBy w p i self l a named h new n → call_end_entries p pos i self l a named None h ≡ return_lines w p pos h n
 call_lines true p pos i self l a named h new n e none by =
     let called : returned_called p l a named h ≡ h = ap (λ ns. noted p ns h) (new_note a l named e) ∙ noted_none p h in
     let reset = reset_none p l a named h none ∙ called in
@@ -317,14 +316,14 @@ call_lines false p pos i self l a named h new n e none by =
     (λ k. birth_entries p pos (reset k) (ended k)) ∙ no_births p pos (put_noted n h) in
     (λ k. first k ++ second k ++ third k) ∙ append-nil (noted_lines p pos h n ++ []) ∙ append-nil (noted_lines p pos h n)
 
-leaks_none : (p : Program) (pos : Pos) (i n : ℕ) (self : Value) (runs : Option Method) (v : Value) (h : HeapContents) → (owning_in runs && not (is_alias runs)) ≡ false → OwnersBelow h n → n ≤ i → frame_end_leaks p pos i self runs v None h ≡ []
+leaks_none : (p : Program) (pos : Pos) (i n : ℕ) (self : Value) (runs : Option Method) (v : Value) (h : HeapContents) → moves_result p h runs v ≡ false → OwnersBelow h n → n ≤ i → frame_end_leaks p pos i self runs v None h ≡ []
 leaks_none p pos i n self runs v h stays below within =
     let moved = moved_none p i runs v h stays in
     let ended = ended_none p i n runs v h stays below within in
     (λ k. leak_entries p words.Exit pos (moved k) (ended k) ++ leak_entries p words.ConstructorThrow pos (ended k) (ended k))
     ∙ (λ k. no_leaks p words.Exit pos h k ++ no_leaks p words.ConstructorThrow pos h k)
 
-return_writes : (p : Program) (pos : Pos) (i : ℕ) (self : Value) (l : Locals) (a : Action) (runs named : Option Method) (v : Value) (h : HeapContents) (new : List Value) (owning : ℕ) (n : Option Numbered) → IsPlainReturn p i self l a runs named h new owning n → OwnersBelow h owning → call_end_entries p pos i self l a named None (frame_gone p i self runs v None h) ++ owner_entries p pos h (result_moved p i runs v None h) ≡ return_lines (is_new a) p pos h n
+return_writes : (p : Program) (pos : Pos) (i : ℕ) (self : Value) (l : Locals) (a : Action) (runs named : Option Method) (v : Value) (h : HeapContents) (new : List Value) (owning : ℕ) (n : Option Numbered) → IsPlainReturn p i self l a runs named v h new owning n → OwnersBelow h owning → call_end_entries p pos i self l a named None (frame_gone p i self runs v None h) ++ owner_entries p pos h (result_moved p i runs v None h) ≡ return_lines (is_new a) p pos h n
 return_writes p pos i self l a runs named v h new owning n is below =
     let owner : owner_entries p pos h (result_moved p i runs v None h) ≡ [] = ap (owner_entries p pos h) (moved_none p i runs v h is.stays) ∙ no_owners p pos h in
     let lines = ap (call_end_entries p pos i self l a named None) (ended_none p i owning runs v h is.stays below is.below) ∙ call_lines (is_new a) p pos i self l a named h new n refl is.resets is.changes in
@@ -332,23 +331,23 @@ return_writes p pos i self l a runs named v h new owning n is below =
 
 -- What is left to lose
 
-changed_settled : (w : Bool) (p : Program) (i : ℕ) (self : Value) (l : Locals) (a : Action) (named : Option Method) (h : HeapContents) (new : List Value) (rest : List (List Value)) (n : Option Numbered) → i ≡ length rest + 1 → ChangedBy w p i self l a named h new n → Settled h (new ∷ rest) → Settled (put_noted n h) (new ∷ rest)
+pub changed_settled : (w : Bool) (p : Program) (i : ℕ) (self : Value) (l : Locals) (a : Action) (named : Option Method) (h : HeapContents) (new : List Value) (rest : List (List Value)) (n : Option Numbered) → i ≡ length rest + 1 → ChangedBy w p i self l a named h new n → Settled h (new ∷ rest) → Settled (put_noted n h) (new ∷ rest)
 changed_settled true p i self l a named h new rest n place by settled = settled_finished p i named (alias_target (operand_of l a) named) h new rest (number_of self) n place by settled
 changed_settled false p i self l a named h new rest n place by settled = settled_noted h (new ∷ rest) (receiver_note l a named) n by settled
 
-pub return_settled : (p : Program) (i : ℕ) (self : Value) (l : Locals) (a : Action) (runs named : Option Method) (h : HeapContents) (ended new : List Value) (below : List ActiveFrame) (owning : ℕ) (n : Option Numbered) → i ≡ length below + 1 → IsPlainReturn p i self l a runs named h new owning n → OwnersBelow h owning → drops_any h i (held l) new ≡ false → Settled h (ended ∷ held l ∷ map held_in (reverse below)) → Settled (put_noted n h) (new ∷ map held_in (reverse below))
-return_settled p i self l a runs named h ended new below owning n place is own drops settled =
+pub return_settled : (p : Program) (i : ℕ) (self : Value) (l : Locals) (a : Action) (runs named : Option Method) (v : Value) (h : HeapContents) (ended new : List Value) (below : List ActiveFrame) (owning : ℕ) (n : Option Numbered) → i ≡ length below + 1 → IsPlainReturn p i self l a runs named v h new owning n → OwnersBelow h owning → drops_any h i (held l) new ≡ false → Settled h (ended ∷ held l ∷ map held_in (reverse below)) → Settled (put_noted n h) (new ∷ map held_in (reverse below))
+return_settled p i self l a runs named v h ended new below owning n place is own drops settled =
     let count : i ≡ length (map held_in (reverse below)) + 1 = place ∙ ap (λ k. k + 1) (sym (count_below below)) in
     let within : owning ≤ length (held l ∷ map held_in (reverse below)) = omega (arith, is.below, count) in
     let under = settled_under h ended (held l ∷ map held_in (reverse below)) owning own within settled in
     let still = still_settled h (held l) new (map held_in (reverse below)) under (ap (λ k. drops_any h k (held l) new) (sym count) ∙ drops) in
     changed_settled (is_new a) p i self l a named h new (map held_in (reverse below)) n count is.changes still
 
-pub return_heap : (p : Program) (pos at : Pos) (i : ℕ) (self : Value) (l : Locals) (a : Action) (runs named : Option Method) (v : Value) (h : HeapContents) (new : List Value) (below : List ActiveFrame) (owning : ℕ) (n : Option Numbered) → IsPlainReturn p i self l a runs named h new owning n → OwnersBelow h owning → Settled (put_noted n h) (new ∷ map held_in (reverse below)) → (returned p h i self l a runs named v None pos at (new ∷ map held_in (reverse below))).heap ≡ put_noted n h
+pub return_heap : (p : Program) (pos at : Pos) (i : ℕ) (self : Value) (l : Locals) (a : Action) (runs named : Option Method) (v : Value) (h : HeapContents) (new : List Value) (below : List ActiveFrame) (owning : ℕ) (n : Option Numbered) → IsPlainReturn p i self l a runs named v h new owning n → OwnersBelow h owning → Settled (put_noted n h) (new ∷ map held_in (reverse below)) → (returned p h i self l a runs named v None pos at (new ∷ map held_in (reverse below))).heap ≡ put_noted n h
 return_heap p pos at i self l a runs named v h new below owning n is own settled =
     left_heap p at (new ∷ map held_in (reverse below)) [] (returned_heap p i self l a runs named v None h) (put_noted n h) (return_leaves p i self l a runs named v h new owning n is own) settled
 
-pub return_lines_are : (p : Program) (pos at : Pos) (i : ℕ) (self : Value) (l : Locals) (a : Action) (runs named : Option Method) (v : Value) (h : HeapContents) (new : List Value) (below : List ActiveFrame) (owning : ℕ) (n : Option Numbered) → IsPlainReturn p i self l a runs named h new owning n → OwnersBelow h owning → Settled (put_noted n h) (new ∷ map held_in (reverse below)) → (returned p h i self l a runs named v None pos at (new ∷ map held_in (reverse below))).lines ≡ return_lines (is_new a) p at h n
+pub return_lines_are : (p : Program) (pos at : Pos) (i : ℕ) (self : Value) (l : Locals) (a : Action) (runs named : Option Method) (v : Value) (h : HeapContents) (new : List Value) (below : List ActiveFrame) (owning : ℕ) (n : Option Numbered) → IsPlainReturn p i self l a runs named v h new owning n → OwnersBelow h owning → Settled (put_noted n h) (new ∷ map held_in (reverse below)) → (returned p h i self l a runs named v None pos at (new ∷ map held_in (reverse below))).lines ≡ return_lines (is_new a) p at h n
 return_lines_are p pos at i self l a runs named v h new below owning n is own settled =
     let lines = call_end_entries p at i self l a named None (frame_gone p i self runs v None h) ++ owner_entries p at h (result_moved p i runs v None h) in
     ap (λ leaks. (left p at (new ∷ map held_in (reverse below)) lines leaks (returned_heap p i self l a runs named v None h)).lines) (leaks_none p pos i owning self runs v h is.stays own is.below)

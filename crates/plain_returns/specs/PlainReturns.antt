@@ -1,6 +1,7 @@
 -- What a plain return changes: the names called on one object, or an object that its constructor has made.
-use Rattle.std.specs.Prelude.{ℕ, ◌+◌, ◌≡◌, ◌≤◌, Bool, true, false, not, ◌&&◌, max, nat_le, Option, Some, None, List, []}
+use Rattle.std.specs.Prelude.{ℕ, ◌≡◌, ◌≤◌, Bool, true, false, not, ◌&&◌, max, nat_le, Option, Some, None, List, []}
 use Rattle.program_model.specs.declared.program.Program.{Program}
+use Rattle.program_model.specs.declared.kinds.VType.{VType}
 use Rattle.program_model.specs.declared.program.Method.{Method}
 use Rattle.program_model.specs.Lookups.{optional}
 use Rattle.rlc_base.specs.declared.place.Pos.{Pos}
@@ -13,11 +14,12 @@ use Rattle.ledger_state.specs.declared.locals.Locals.{Locals}
 use Rattle.ledger_state.specs.declared.object.Object.{Object}
 use Rattle.ledger_state.specs.declared.value.Value.{Value}
 use Rattle.ledger_state.specs.Contents.{HeapContents}
-use Rattle.ledger_state.specs.Heaps.{object_at}
+use Rattle.ledger_state.specs.Heaps.{object_at, root_of}
 use Rattle.ledger_state.specs.Values.{number_of}
 use Rattle.ledger_entries.specs.Entries.{birth_line, heavy_lines}
 use Rattle.ledger_calls.specs.Calls.{alias_target, is_alias, operand_of, receiver_note, reset_target}
-use Rattle.ledger_calls.specs.Conducts.{owning_in}
+use Rattle.ledger_calls.specs.Conducts.{owning_in, result_in}
+use Rattle.ledger_obligations.specs.Obligations.{may_move_root}
 use Rattle.ledger_steps.specs.Ends.{object_finished}
 use Rattle.plain_calls.specs.declared.change.Numbered.{Numbered}
 use Rattle.plain_calls.specs.PlainCalls.{PlainNotes, made_settled, noted_lines, numbered}
@@ -69,10 +71,19 @@ abbrev pub ChangedBy : Bool → Program → ℕ → Value → Locals → Action 
 ChangedBy true p i self l a named h new n = Finished p i named (alias_target (operand_of l a) named) new h (number_of self) n
 ChangedBy false p i self l a named h new n = PlainNotes h (receiver_note l a named) n
 
--- what makes a return of the method `runs`, called as `named`, a plain one: it ends normally, no result moves, nothing is reset, and no
--- frame above the caller, which is at position `i`, owns an object
-pub record IsPlainReturn (p : Program) (i : ℕ) (self : Value) (l : Locals) (a : Action) (runs named : Option Method) (h : HeapContents) (new : List Value) (owning : ℕ) (n : Option Numbered) : Type 0 where
-  pub stays : (owning_in runs && not (is_alias runs)) ≡ false
+-- the value moves to the caller, where the result has this type
+abbrev pub moves_as : Program → HeapContents → Option VType → Value → Bool
+moves_as p h None v = false
+moves_as p h (Some t) v = may_move_root p h t (root_of h v)
+
+-- the value that the method gives moves to the caller: the result is an owning one and no alias
+abbrev pub moves_result : Program → HeapContents → Option Method → Value → Bool
+moves_result p h runs v = (owning_in runs && not (is_alias runs)) && moves_as p h (result_in runs) v
+
+-- what makes a return of the method `runs`, called as `named`, a plain one: it ends normally, its result `v` does not move, nothing is
+-- reset, and no frame above the caller, which is at position `i`, owns an object
+pub record IsPlainReturn (p : Program) (i : ℕ) (self : Value) (l : Locals) (a : Action) (runs named : Option Method) (v : Value) (h : HeapContents) (new : List Value) (owning : ℕ) (n : Option Numbered) : Type 0 where
+  pub stays : moves_result p h runs v ≡ false
   pub below : owning ≤ i
   pub resets : reset_target (operand_of l a) named ≡ None
   pub changes : ChangedBy (is_new a) p i self l a named h new n

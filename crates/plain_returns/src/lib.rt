@@ -7,5 +7,7 @@ mod objects;
 mod owners;
 mod returns;
 
+pub use lines::return_lines;
+pub use objects::changed_by;
 pub use owners::{highest_owner, owners_after};
-pub use returns::{PlainReturn, plain_return};
+pub use returns::{PlainReturn, alias_by, moves_result, plain_return, receiver_notes, reset_by};

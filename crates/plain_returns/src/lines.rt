@@ -77,7 +77,7 @@ fn is_new(action: Action) -> bool
 }
 
 /// The lines of a plain return.
-pub(crate) fn return_lines(
+pub fn return_lines(
     alloc: Global,
     p: &Program,
     pos: Pos,

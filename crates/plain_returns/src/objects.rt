@@ -113,7 +113,7 @@ fn is_new(action: Action) -> bool
 
 /// What the end of the call changes of one object, where nothing else follows from it: a `new` finishes its object, and every other call
 /// is noted on its receiver.
-pub(crate) fn changed_by(
+pub fn changed_by(
     p: &Program,
     position: u64,
     this: Option<u64>,

@@ -1,13 +1,12 @@
 //! Plain returns.
 
-ghost use Rattle.std.specs.Prelude.{◌≡◌, ◌+◌, ◌&&◌, ◌∷◌, not, length, map, reverse, false, None, Some, IfOk, IfSome};
-ghost use Rattle.ledger_calls.specs.Calls.{alias_target, is_alias, operand_of, receiver_note, reset_target};
-ghost use Rattle.ledger_calls.specs.Conducts.{owning_in};
+ghost use Rattle.std.specs.Prelude.{◌≡◌, ◌+◌, ◌∷◌, length, map, reverse, false, None, Some, IfOk, IfSome};
+ghost use Rattle.ledger_calls.specs.Calls.{alias_target, operand_of, receiver_note, reset_target};
 ghost use Rattle.ledger_obligations.specs.Obligations.{held_in};
 ghost use Rattle.ledger_state.specs.Locals.{held};
 ghost use Rattle.ledger_steps.specs.Ends.{returned};
 ghost use Rattle.plain_calls.specs.PlainCalls.{put_noted};
-ghost use Rattle.plain_returns.specs.PlainReturns.{IsPlainReturn, OwnersBelow, is_new, object_of, return_lines, with_position};
+ghost use Rattle.plain_returns.specs.PlainReturns.{IsPlainReturn, OwnersBelow, is_new, moves_as, moves_result, object_of, return_lines, with_position};
 ghost use Rattle.program_model.specs.Lookups.{method_at};
 ghost use Rattle.settled_heaps.specs.Settled.{Settled, drops_any};
 
@@ -15,12 +14,14 @@ use crate::lines::return_lines;
 use crate::objects::changed_by;
 use crate::owners::owners_after;
 use java_control::Action;
-use ledger_calls::{add_receiver_note, alias_target, has_owning_result, is_alias, reset_target};
-use ledger_obligations::{ActiveFrame, Note};
-use ledger_state::{Entry, Heap, Locals};
+use ledger_calls::{
+    add_receiver_note, alias_target, has_owning_result, is_alias, reset_target, result_of,
+};
+use ledger_obligations::{ActiveFrame, Note, may_move_root};
+use ledger_state::{Entry, Heap, Locals, Value};
 use ledger_steps::FrameEnd;
 use plain_calls::{Numbered, PlainNote};
-use program_model::{MethodId, Program};
+use program_model::{MethodId, Program, VType};
 use rlc_base::{NoMemory, Pos};
 use settled_heaps::drops_any;
 use std::alloc::Global;
@@ -34,7 +35,8 @@ pub struct PlainReturn {
     pub owning: u64,
 }
 
-fn receiver_notes(
+/// The note of the call on its receiver, where it has one.
+pub fn receiver_notes(
     alloc: Global,
     p: &Program,
     locals: &Locals,
@@ -48,26 +50,38 @@ fn receiver_notes(
     Ok(notes)
 }
 
-// The object whose obligation the call creates anew.
+/// The object whose obligation the call creates anew.
 #[tactic(auto, using(ledger_steps::proofs::ParameterLaws::reset_as))]
-fn reset_by(p: &Program, locals: &Locals, action: Action, named: MethodId) -> Option<u64>
+pub fn reset_by(p: &Program, locals: &Locals, action: Action, named: MethodId) -> Option<u64>
     ensures { result ≡ reset_target (operand_of locals.now action) (method_at p.now named) }
 {
     reset_target(p, None, locals, action, named)
 }
 
-// The argument that the object of a `new` is an alias of.
+/// The argument that the object of a `new` is an alias of.
 #[tactic(auto, using(ledger_steps::proofs::ParameterLaws::alias_as))]
-fn alias_by(p: &Program, locals: &Locals, action: Action, named: MethodId) -> Option<u64>
+pub fn alias_by(p: &Program, locals: &Locals, action: Action, named: MethodId) -> Option<u64>
     ensures { result ≡ alias_target (operand_of locals.now action) (method_at p.now named) }
 {
     alias_target(p, None, locals, action, named)
 }
 
-fn moves_result(p: &Program, method: MethodId) -> bool
-    ensures { result ≡ owning_in (method_at p.now method) && not (is_alias (method_at p.now method)) }
+/// Whether the value that the method gives moves to the caller: the result is an owning one and no alias, and the value's root may move.
+pub fn moves_result(p: &Program, heap: &Heap, method: MethodId, value: Value) -> bool
+    ensures { result ≡ moves_result p.now heap.now (method_at p.now method) value }
 {
-    has_owning_result(p, method) && !is_alias(p, method)
+    has_owning_result(p, method)
+        && !is_alias(p, method)
+        && moves_as(p, heap, result_of(p, method), value)
+}
+
+fn moves_as(p: &Program, heap: &Heap, vtype: Option<VType>, value: Value) -> bool
+    ensures { result ≡ moves_as p.now heap.now vtype value }
+{
+    match vtype {
+        None => false,
+        Some(t) => may_move_root(p, heap, t, heap.root_of(value)),
+    }
 }
 
 // What the end of the call changes of one object, where the return is a plain one.
@@ -83,9 +97,9 @@ fn return_change(
     now: &Locals,
     owning: u64,
 ) -> Result<Option<PlainNote>, NoMemory>
-    ensures { IfOk result (λ o. IfSome o (λ r. IsPlainReturn p.now position end.this locals.now action (method_at p.now end.method) (method_at p.now named) heap.now (held now.now) owning r.noted)) }
+    ensures { IfOk result (λ o. IfSome o (λ r. IsPlainReturn p.now position end.this locals.now action (method_at p.now end.method) (method_at p.now named) end.value heap.now (held now.now) owning r.noted)) }
 {
-    if moves_result(p, end.method) {
+    if moves_result(p, heap, end.method, end.value) {
         return Ok(None);
     }
     if owning > position {

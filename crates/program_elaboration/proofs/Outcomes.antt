@@ -11,8 +11,8 @@ use Rattle.method_bodies.specs.MethodBodies.{body_cases}
 use Rattle.java_types.specs.ProgramCases.{program_cases, typed_program}
 use Rattle.java_elaboration.specs.Elaborations.{IsProgramOf}
 use Rattle.java_elaboration.specs.Elaborations as bodies
-use Rattle.elaborated_validity.proofs.BuiltStrings.{elaborated_valid}
-use Rattle.elaborated_validity.proofs.MethodsWithBodies.{has_bodies}
+use Rattle.elaborated_typing.proofs.BuiltStrings.{elaborated_valid}
+use Rattle.elaborated_typing.proofs.MethodsWithBodies.{has_bodies}
 use Rattle.program_elaboration.specs.Elaborations.{IsElaborationStop}
 use Rattle.program_elaboration.specs.Tables.{IsTableOf}
 

@@ -1,5 +1,5 @@
--- The statuses 0 and 1 of `check` come with a program.
-use Rattle.std.proofs.Common.{◌≡◌, ◌∙◌, ap, sym, subst, ℕ, List, Option, Some, None}
+-- The statuses 0 and 1 of `check`, and the status 1 of `run`, come with a program.
+use Rattle.std.proofs.Common.{◌≡◌, ◌∙◌, ap, refl, sym, subst, ℕ, List, Option, Some, None}
 use Rattle.outside.specs.Files.{Contents}
 use Rattle.rlc_base.specs.declared.faults.Stop.{Stop}
 use Rattle.rlc_base.specs.declared.faults.Stop.TheVariants as stops
@@ -15,15 +15,21 @@ use Rattle.command_answers.specs.declared.answers.Outcome.{Outcome}
 use Rattle.command_answers.specs.declared.answers.Outcome.TheVariants as outcomes
 use Rattle.command_answers.specs.declared.statuses.Status.{Status}
 use Rattle.command_answers.specs.declared.statuses.Status.TheVariants as statuses
-use Rattle.command_inputs.specs.Inputs.{FileNames, FileText, FileTexts, IsUnread, stopped, too_many}
-use Rattle.command_programs.specs.Programs.{IsProgramOf}
-use Rattle.command_programs.specs.Refusals.{IsSettingsAnswer, IsStopAnswer}
+use Rattle.command_inputs.specs.Inputs.{AreFileTexts, FileNames, FileText, FileTexts, IsUnread, stopped, too_many}
+use Rattle.check_command.specs.Programs.{IsProgramOf}
+use Rattle.check_command.specs.Refusals.{IsSettingsAnswer, IsStopAnswer}
 use Rattle.check_command.specs.Checks.{IsCheckAnswer, IsChecked, IsUnchecked, accepted, by_limit, by_program, by_settings, leaking, read, unchecked, unread}
 use Rattle.program_model.specs.declared.program.Program.{Program}
 use Rattle.flow_rules.specs.Paths.{Accept}
-use Rattle.program_faults.specs.ProgramReports.{IsFaulty}
+use Rattle.check_command.specs.ProgramReports.{IsFaulty}
+use Rattle.run_command.specs.RunAnswers.{answer_outcome}
+use Rattle.run_inputs.specs.Runs.{IsChoicesAnswer, IsRun, IsRunAnswer, IsRunOf, Run}
+use Rattle.run_inputs.specs.Runs as runs
+use Rattle.stub_conduct.specs.declared.choice.Choices.{Choices}
+use Rattle.safe_run_laws.proofs.Answers.{safe_answer}
+use Rattle.soundness_laws.proofs.Runs.{accepted_is_safe}
 use Rattle.rlc_cli.specs.Answers.{IsAnswer}
-use Rattle.rlc_cli.specs.Headline.{IsAcceptedCheck, IsHeadline, IsLeakingCheck}
+use Rattle.rlc_cli.specs.Headline.{IsAcceptedCheck, IsHeadline, IsLeakingCheck, IsLeakingRun}
 
 -- no program was checked
 abbrev IsHalting : Outcome → Type 0
@@ -97,13 +103,55 @@ check_accepted : (told : Option Contents) (names : FileNames) (c : Counts) (answ
 check_accepted told names c answer (unread why) is = halting_not_accepted answer.outcome (unread_halts told names c answer why) is
 check_accepted told names c answer (read files texts none checked) is =
     let found = checked_accepted files answer checked is in
-    record { files = files; texts = texts; program = found.0; is_program = found.1.0; accepted = found.1.1 }
+    record { files = files; texts = texts; program = found.0; is_program = found.1.0; accepted = found.1.1; safe = accepted_is_safe found.0 found.1.1 }
 
 check_leaking : (told : Option Contents) (names : FileNames) (c : Counts) (answer : Answer) → IsCheckAnswer told names c answer → statuses.Leaks ≡ status_of answer.outcome → IsLeakingCheck told names
 check_leaking told names c answer (unread why) is = halting_not_leaking answer.outcome (unread_halts told names c answer why) is
 check_leaking told names c answer (read files texts none checked) is =
     let found = checked_leaking files answer checked is in
     record { files = files; texts = texts; program = found.0; is_program = found.1.0; fault = found.1.1 }
+
+-- ---- runs
+
+-- the status 1 comes with the outcome that leaks
+leaks_alone : (o : Outcome) → statuses.Leaks ≡ status_of o → o ≡ outcomes.Leaks
+leaks_alone outcomes.Accepted is = absurd (let no : statuses.Leaks ≡ statuses.Accepted = is in cc)
+leaks_alone outcomes.Leaks is = refl
+leaks_alone outcomes.Refused is = absurd (let no : statuses.Leaks ≡ statuses.Refused = is in cc)
+leaks_alone outcomes.Usage is = absurd (let no : statuses.Leaks ≡ statuses.Usage = is in cc)
+leaks_alone outcomes.ReadFault is = absurd (let no : statuses.Leaks ≡ statuses.ReadFault = is in cc)
+leaks_alone outcomes.Limit is = absurd (let no : statuses.Leaks ≡ statuses.Limit = is in cc)
+leaks_alone outcomes.RunCut is = absurd (let no : statuses.Leaks ≡ statuses.RunCut = is in cc)
+leaks_alone outcomes.Stray is = absurd (let no : statuses.Leaks ≡ statuses.Stray = is in cc)
+
+choices_halt : (file : Option FileText) (answer : Answer) → IsChoicesAnswer file answer → IsHalting answer.outcome
+choices_halt None answer is = absurd is
+choices_halt (Some file) answer is = halts_by answer outcomes.Refused tt is.outcome_is
+
+ran_leaking : (told : Option Contents) (names : FileNames) (r : Run) (files : FileTexts) (choices : Choices) (answer : Answer) → AreFileTexts told names files → IsRun r files choices answer
+    → statuses.Leaks ≡ status_of answer.outcome → IsLeakingRun told names
+ran_leaking told names r files choices answer texts ran is =
+    let p = ran.program in
+    let leaks : answer_outcome p r.class choices r.steps ≡ outcomes.Leaks = sym ran.outcome_is ∙ leaks_alone answer.outcome is in
+    record {
+      files = files;
+      texts = texts;
+      program = p;
+      is_program = ran.is_program;
+      unsafe = λ safe. safe_answer p safe r.class choices r.steps leaks;
+      unaccepted = λ first accept. safe_answer p (accepted_is_safe p accept first) r.class choices r.steps leaks;
+    }
+
+run_of_leaking : (told : Option Contents) (names : FileNames) (r : Run) (files : FileTexts) (answer : Answer) → AreFileTexts told names files → IsRunOf r files answer
+    → statuses.Leaks ≡ status_of answer.outcome → IsLeakingRun told names
+run_of_leaking told names r files answer texts (runs.by_settings why) is = halting_not_leaking answer.outcome (settings_halt files.settings answer why) is
+run_of_leaking told names r files answer texts (runs.by_choices s are why) is = halting_not_leaking answer.outcome (choices_halt files.choices answer why) is
+run_of_leaking told names r files answer texts (runs.by_program s choices are chosen why) is = halting_not_leaking answer.outcome (stop_halts _ why.stop answer why.line) is
+run_of_leaking told names r files answer texts (runs.ran choices chosen ran) is = ran_leaking told names r files choices answer texts ran is
+
+run_leaking : (told : Option Contents) (names : FileNames) (r : Run) (c : Counts) (answer : Answer) → IsRunAnswer r told names c answer → statuses.Leaks ≡ status_of answer.outcome → IsLeakingRun told names
+run_leaking told names r c answer (runs.unread why) is = halting_not_leaking answer.outcome (unread_halts told names c answer why) is
+run_leaking told names r c answer (runs.read files texts none ran) is = run_of_leaking told names r files answer texts ran is
 
 pub headline : (told : Option Contents) (c : Counts) (request : Option Request) (room : ℕ) (old new : Option (List ℕ)) (answer : Answer) (status : Status) → IsAnswer told c request answer
     → IsSent answer room old new status → IsHeadline told request status
@@ -114,7 +162,7 @@ headline told c (Some (generate seed methods)) room old new answer statuses.Acce
 headline told c (Some (settings file)) room old new answer statuses.Accepted said sent = tt
 headline told c None room old new answer statuses.Leaks said sent = tt
 headline told c (Some (check input)) room old new answer statuses.Leaks said (is, sent) = check_leaking told _ c answer said is
-headline told c (Some (run main choices steps input)) room old new answer statuses.Leaks said sent = tt
+headline told c (Some (run main choices steps input)) room old new answer statuses.Leaks said (is, sent) = run_leaking told _ _ c answer said is
 headline told c (Some (generate seed methods)) room old new answer statuses.Leaks said sent = tt
 headline told c (Some (settings file)) room old new answer statuses.Leaks said sent = tt
 headline told c request room old new answer statuses.Refused said sent = tt

@@ -1,24 +1,27 @@
--- What it says of a program that `check` accepts it, and that it has leaks.
+-- What it says of a program that `check` accepts it, that it has leaks, and that a run of it leaks.
 use Rattle.std.specs.Prelude.{ℕ, Option, Some, None}
 use Rattle.outside.specs.Files.{Contents}
 use Rattle.command_words.specs.Requests.{Request, check, generate, run, settings}
 use Rattle.command_answers.specs.declared.statuses.Status.{Status}
 use Rattle.command_answers.specs.declared.statuses.Status.TheVariants as statuses
 use Rattle.command_inputs.specs.Inputs.{AreFileTexts, FileNames, FileTexts}
-use Rattle.command_programs.specs.Programs.{IsProgramOf}
+use Rattle.check_command.specs.Programs.{IsProgramOf}
 use Rattle.program_model.specs.declared.program.Program.{Program}
 use Rattle.flow_rules.specs.Paths.{Accept}
-use Rattle.program_faults.specs.ProgramReports.{IsFaulty}
-use Rattle.rlc_cli.specs.Answers.{check_names}
+use Rattle.check_command.specs.ProgramReports.{IsFaulty}
+use Rattle.agreement.specs.FirstForms.{HasFirstForms}
+use Rattle.safety.specs.Safety.{IsSafe}
+use Rattle.rlc_cli.specs.Answers.{check_names, run_names}
 
 -- the files of these names make a program that is accepted: it is well formed, no body of it passes a limit, and no path in a body
--- breaks a rule
+-- breaks a rule. Where it has the forms that the laws of safety speak of, it is safe in every run
 pub record IsAcceptedCheck (told : Option Contents) (names : FileNames) : Type 0 where
   pub files : FileTexts
   pub texts : AreFileTexts told names files
   pub program : Program
   pub is_program : IsProgramOf files program
   pub accepted : Accept program
+  pub safe : HasFirstForms program → IsSafe program
 
 -- the files of these names make a program, which is well formed, and in which the flow rules derive a fault
 pub record IsLeakingCheck (told : Option Contents) (names : FileNames) : Type 0 where
@@ -27,6 +30,16 @@ pub record IsLeakingCheck (told : Option Contents) (names : FileNames) : Type 0 
   pub program : Program
   pub is_program : IsProgramOf files program
   pub fault : IsFaulty program
+
+-- The files of these names make a program with a run that leaks: it is not safe, and so it is not accepted where it has the forms that
+-- the laws of safety speak of.
+pub record IsLeakingRun (told : Option Contents) (names : FileNames) : Type 0 where
+  pub files : FileTexts
+  pub texts : AreFileTexts told names files
+  pub program : Program
+  pub is_program : IsProgramOf files program
+  pub unsafe : IsSafe program → ⊥
+  pub unaccepted : HasFirstForms program → Accept program → ⊥
 
 abbrev pub IsAcceptedRequest : Option Contents → Option Request → Type 0
 IsAcceptedRequest told None = Unit {0}
@@ -38,11 +51,11 @@ IsAcceptedRequest told (Some (settings file)) = Unit {0}
 abbrev pub IsLeakingRequest : Option Contents → Option Request → Type 0
 IsLeakingRequest told None = Unit {0}
 IsLeakingRequest told (Some (check input)) = IsLeakingCheck told (check_names input)
-IsLeakingRequest told (Some (run main choices steps input)) = Unit {0}
+IsLeakingRequest told (Some (run main choices steps input)) = IsLeakingRun told (run_names choices input)
 IsLeakingRequest told (Some (generate seed methods)) = Unit {0}
 IsLeakingRequest told (Some (settings file)) = Unit {0}
 
--- What the statuses 0 and 1 of `check` say. No other status comes with either.
+-- What the statuses 0 and 1 of `check` say, and the status 1 of `run`. No other status comes with either.
 abbrev pub IsHeadline : Option Contents → Option Request → Status → Type 0
 IsHeadline told request statuses.Accepted = IsAcceptedRequest told request
 IsHeadline told request statuses.Leaks = IsLeakingRequest told request

@@ -12,7 +12,7 @@ use Rattle.command_programs.specs.Programs.{IsProgramAnswer, IsProgramOf, IsSett
 use Rattle.command_programs.specs.Refusals.{IsSettingsAnswer}
 use Rattle.java_syntax.specs.declared.settings.Settings.{Settings}
 use Rattle.program_model.specs.declared.program.Program.{Program}
-use Rattle.program_reading.specs.Inputs.{file_names}
+use Rattle.command_programs.specs.Inputs.{file_names}
 use Rattle.run_command.specs.RunAnswers.{answer_outcome, answer_text}
 use Rattle.stub_conduct.specs.declared.choice.Choices.{Choices}
 use Rattle.run_inputs.specs.declared.runs.MainRun.{MainRun}

@@ -44,7 +44,7 @@ use Rattle.ledger_frames.specs.Frames.{frame_after, locals_after, made_place}
 use Rattle.heap_laws.specs.Heaps.{IsUnlinked}
 use Rattle.place_laws.specs.Places.{IsWay, is_local}
 use Rattle.agreement.specs.Agreement.{Stands, Tracks}
-use Rattle.agreement.specs.FirstForms.{HasFirstForms, HasFreshClauses, IsFirstAction, IsPlainSignature}
+use Rattle.agreement.specs.FirstForms.{HasFirstForms, IsFirstAction, IsPlainSignature}
 use Rattle.named_step_laws.specs.Naming.{IsOfItsKind}
 use Rattle.named_step_laws.proofs.Reached.{names_what_is_there}
 use Rattle.conduct_laws.specs.Fitting.{FitsMethod}
@@ -96,7 +96,7 @@ result_birth_is : (p : Program) (d : ℕ) (pos : Pos) (x : Method) (r : ClassId)
     → result_birth p d pos (Some x) ≡ Some (origin_of p kinds.Result pos r x.sig.first, fact_at (places.Temp d) modes.Own no_names false)
 result_birth_is p d pos x r alias result owning = rw (alias, result, owning) refl
 
-module _ (p : Program) (ac : Accept p) (first : HasFirstForms p) (regular : HasFreshClauses p) (h k : HeapContents) (uk : IsUnlinked k)
+module _ (p : Program) (ac : Accept p) (first : HasFirstForms p) (h k : HeapContents) (uk : IsUnlinked k)
     (fr : Frame) (st : Stands p fr) (i : ℕ) (s : Step) (here : slice_get (frame_steps p fr) i ≡ Some s) (way : IsWay s.action s.edge) (n : ℕ) (y : Object) where
   born_tracks : (d : ℕ) (o : Origin) → d < 64 → birth_on p s.action s.edge s.pos ≡ Some (o, fact_at (places.Temp d) modes.Own no_names false)
       → made_place s.action ≡ Some (places.Temp d) → source p st.body s.action s.edge (places.Temp d) ≡ None
@@ -126,14 +126,14 @@ module _ (p : Program) (ac : Accept p) (first : HasFirstForms p) (regular : HasF
   }
     where
       r : Ready p fr.method fr.locals st.number st.body s.action s.edge
-      r = ready p ac first regular fr st i s here way
+      r = ready p ac first fr st i s here way
 
   module _ (e : ClassId) (j at : ℕ) (unmet : is_unmet y ≡ true) (edge : s.edge ≡ edges.Go) (owner : y.owner ≡ owners.Frame j) where
     abbrev IsMade : Option Method → Type 0
     IsMade m = IsMadeAs p s.action m at (conducts.Fresh e) y × FitsMethod p m (conducts.Fresh e)
 
     small_step : IsSmallAction p s.action
-    small_step = (ready p ac first regular fr st i s here way).small
+    small_step = (ready p ac first fr st i s here way).small
 
     must_within : (m : Method) (c : ClassId) → fits p e c ≡ true → y.must ≡ first_set p e m.sig.first → set.is_subset y.must (must_of p c) ≡ true
     must_within m c fit must = ap (λ (t : Names). set.is_subset t (must_of p c)) must ∙ within_trans (first_set p e m.sig.first) (must_of p e) (must_of p c) (first_within p e m.sig.first) fit
@@ -186,7 +186,7 @@ module _ (p : Program) (ac : Accept p) (first : HasFirstForms p) (regular : HasF
             by : (x : Option Method) → method_at p m ≡ x → Tracks p k (frame_after p h fr s (values.Object n)) n y
             by None named = absurd (subst IsMade named (made m (ap called_method is))).1
             by (Some x) named =
-                by_new m d c x is named (plain_alias (method_at p m) x (subst (IsFirstAction p) is (first_step p ac first regular fr st i s here)).signature named)
+                by_new m d c x is named (plain_alias (method_at p m) x (subst (IsFirstAction p) is (first_step p ac first fr st i s here)).signature named)
                 (sym (ap constructs named) ∙ subst (IsOfItsKind p) is (names_what_is_there p ac.well_formed.valid.typed st.number st.body fr.control i (move_of s) st.at st.control (step_there p fr st i s here)).1)
                 (subst IsMade named (made m (ap called_method is)))
         go (actions.Call m d c form) is = by (method_at p m) refl
@@ -195,9 +195,9 @@ module _ (p : Program) (ac : Accept p) (first : HasFirstForms p) (regular : HasF
             by None named = absurd (subst IsMade named (made m (ap called_method is))).1
             by (Some x) named =
                 let one = subst IsMade named (made m (ap called_method is)) in
-                by_call m d c form x is named (plain_alias (method_at p m) x (subst (IsFirstAction p) is (first_step p ac first regular fr st i s here)).0.signature named)
+                by_call m d c form x is named (plain_alias (method_at p m) x (subst (IsFirstAction p) is (first_step p ac first fr st i s here)).0.signature named)
                 (sym (ap constructs named) ∙ subst (IsOfItsKind p) is (names_what_is_there p ac.well_formed.valid.typed st.number st.body fr.control i (move_of s) st.at st.control (step_there p fr st i s here)).1)
                 (frame_is_owning (Some x) (ap (λ (a : Action). result_owner a (Some x) at) (sym is) ∙ sym one.0.2 ∙ owner))
                 one
-        go (actions.Super m d c) is = absurd (subst (IsFirstAction p) is (first_step p ac first regular fr st i s here))
+        go (actions.Super m d c) is = absurd (subst (IsFirstAction p) is (first_step p ac first fr st i s here))
         go a is = absurd (subst IsCallRow is row)

@@ -32,7 +32,7 @@ use Rattle.ledger_frames.specs.Choosing.{method_body}
 use Rattle.ledger_frames.specs.Frames.{locals_after}
 use Rattle.rlc_base.proofs.SetLaws.{within_trans}
 use Rattle.heap_laws.specs.Heaps.{GoesOn, IsUnlinked}
-use Rattle.place_laws.specs.Places.{HasTarget, IsFreshIn, IsWay, SetsLocals, has_source, is_local}
+use Rattle.place_laws.specs.Places.{HasTarget, IsWay, SetsLocals, has_source, is_local}
 use Rattle.agreement.specs.Agreement.{Follows, IsTracked, Tracks}
 use Rattle.heap_laws.proofs.Laws.{roots_of_unlinked-value}
 use Rattle.place_laws.proofs.Laws.{no_other_place_joins, places_come_from_sources, places_stay_in_range, source_is_small, value_comes_from_source}
@@ -53,8 +53,8 @@ HoldIt p h m l o held = (q : Place) → IsSmall q → has held q ≡ true → (i
 
 module _ (p : Program) (h k : HeapContents) (m : MethodId) (l : Locals) (b : BodyId) (body : Body) (a : Action) (e : Edge) (v : Value)
     (r : Ready p m l b body a e) (uh : IsUnlinked h) (uk : IsUnlinked k) where
-  pub places_hold : (o : ℕ) (held : PlaceSet) → IsFreshIn held a → HoldIt p h m l o held → HoldIt p k m (locals_after p h m l a e v) o (places_after p b a e held)
-  places_hold o held fresh before q small is = go (is_local q) refl
+  pub places_hold : (o : ℕ) (held : PlaceSet) → HoldIt p h m l o held → HoldIt p k m (locals_after p h m l a e v) o (places_after p b a e held)
+  places_hold o held before q small is = go (is_local q) refl
     where
       from : is_local q ≡ true → (z : Option Place) → source p body a e q ≡ z → has_source held z ≡ true
           → (is_local q ≡ true) × (root_of k (place_value p k m (locals_after p h m l a e v) q) ≡ Some o)
@@ -67,10 +67,10 @@ module _ (p : Program) (h k : HeapContents) (m : MethodId) (l : Locals) (b : Bod
           )
 
       go : (x : Bool) → is_local q ≡ x → (is_local q ≡ true) × (root_of k (place_value p k m (locals_after p h m l a e v) q) ≡ Some o)
-      go true local = from local (source p body a e q) refl (sym (places_come_from_sources p b body a e held q r.at r.small small local r.no_alias r.way fresh) ∙ is)
+      go true local = from local (source p body a e q) refl (sym (places_come_from_sources p b body a e held q r.at r.small small local r.no_alias r.way) ∙ is)
       go false out = absurd (true≢false (sym (before q small (no_other_place_joins p b a e held q r.small r.locals small out is)).0 ∙ out))
 
-  module _ (o : ℕ) (x y : Object) (origin : Origin) (f : Fact) (fresh : IsFreshIn f.places a) (before : Follows p h m l o x origin f) (goes : GoesOn x y) where
+  module _ (o : ℕ) (x y : Object) (origin : Origin) (f : Fact) (before : Follows p h m l o x origin f) (goes : GoesOn x y) where
     -- the fact at the places after the step, with more names called
     pub carried : (names : Names) → set.is_subset names y.called ≡ true → is_nowhere (places_after p b a e f.places) ≡ false
         → Follows p k m (locals_after p h m l a e v) o y origin (record f { places = places_after p b a e f.places; mode = modes.Own; called = names })
@@ -81,7 +81,7 @@ module _ (p : Program) (h k : HeapContents) (m : MethodId) (l : Locals) (b : Bod
       called = known;
       some = some;
       alone = places_stay_in_range p b a e f.places r.small before.alone;
-      places = places_hold o f.places fresh before.places;
+      places = places_hold o f.places before.places;
     }
 
     known_still : set.is_subset f.called y.called ≡ true
@@ -96,7 +96,7 @@ module _ (p : Program) (h k : HeapContents) (m : MethodId) (l : Locals) (b : Bod
       called = known_still;
       some = before.some;
       alone = before.alone;
-      places = λ q small is. places_hold o f.places fresh before.places q small (stay q is);
+      places = λ q small is. places_hold o f.places before.places q small (stay q is);
     }
 
 -- ---- frames that wait

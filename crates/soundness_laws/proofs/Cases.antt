@@ -38,7 +38,7 @@ use Rattle.ledger_moves.specs.declared.standing.FirstAction.{FirstAction}
 use Rattle.ledger_moves.specs.Moves.{Move, Inner, Start, Library, End, Stray, Rest, by_edge, call, call_of, chosen_of, inner_by, library_as, library_by, library_call, next_move, null_target, operate, take, take_chosen, take_plain}
 use Rattle.place_laws.specs.Places.{IsWay}
 use Rattle.agreement.specs.Agreement.{Stands}
-use Rattle.agreement.specs.FirstForms.{HasFirstForms, HasFreshClauses, IsFirstAction, IsLibraryCall, IsPlainSignature, run_by}
+use Rattle.agreement.specs.FirstForms.{HasFirstForms, IsFirstAction, IsLibraryCall, IsPlainSignature, run_by}
 use Rattle.conduct_laws.specs.Fitting.{FitsMethod}
 use Rattle.conduct_laws.proofs.Conducts.{made_object_fits}
 use Rattle.owned_fact_laws.specs.Outcomes.{IsCallRow, IsPlainRow}
@@ -103,7 +103,7 @@ IsNext p l steps (End pos q) = (i : ℕ) × (s : Step) × (slice_get steps i ≡
 IsNext p l steps (Stray e pos) = Unit {0}
 IsNext p l steps Rest = Unit {0}
 
-module _ (p : Program) (ac : Accept p) (first : HasFirstForms p) (regular : HasFreshClauses p) (h : HeapContents) (arrays : List ArrayObject) (choice : Choice)
+module _ (p : Program) (ac : Accept p) (first : HasFirstForms p) (h : HeapContents) (arrays : List ArrayObject) (choice : Choice)
     (fr : Frame) (st : Stands p fr) where
   abbrev steps : List Step
   steps = frame_steps p fr
@@ -113,7 +113,7 @@ module _ (p : Program) (ac : Accept p) (first : HasFirstForms p) (regular : HasF
 
   module _ (e : Option ClassId) (i : ℕ) (s : Step) (here : slice_get steps i ≡ Some s) (agreeing : agrees p h arrays fr.method fr.locals s ≡ true) where
     form : IsFirstAction p s.action
-    form = first_step p ac first regular fr st i s here
+    form = first_step p ac first fr st i s here
 
     -- the other steps of a call are steps of the call
     one_call : may_call s.action ≡ true → (t : Step) (j : ℕ) → slice_get steps j ≡ Some t → t.action ≡ s.action

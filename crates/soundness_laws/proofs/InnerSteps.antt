@@ -34,7 +34,7 @@ use Rattle.rlc_base.proofs.SetLaws.{within_self}
 use Rattle.heap_laws.specs.Heaps.{GoesOn, IsUnlinked}
 use Rattle.place_laws.specs.Places.{IsWay}
 use Rattle.agreement.specs.Agreement.{Agrees, IsMainAlone, IsTracked, Stands, Tracks, is_answering}
-use Rattle.agreement.specs.FirstForms.{HasFirstForms, HasFreshClauses, IsFirstAction}
+use Rattle.agreement.specs.FirstForms.{HasFirstForms, IsFirstAction}
 use Rattle.owned_fact_laws.specs.Outcomes.{IsCallRow, IsPlainRow}
 use Rattle.soundness_laws.proofs.CallNames.{called_names, first_receiver, known_names, operand_of_fact}
 use Rattle.soundness_laws.proofs.Landing.{landed}
@@ -96,7 +96,7 @@ way_of_call s row = go s.action row
     go (actions.Put f d this) row' = absurd row'
     go a row' = tt
 
-module _ (p : Program) (ac : Accept p) (first : HasFirstForms p) (regular : HasFreshClauses p) (fr : Frame) (frs : List Frame) (h : HeapContents) (es : List Entry)
+module _ (p : Program) (ac : Accept p) (first : HasFirstForms p) (fr : Frame) (frs : List Frame) (h : HeapContents) (es : List Entry)
     (agrees : Agrees p (fr ∷ frs) h es) (i : ℕ) (s : Step) (here : slice_get (frame_steps p fr) i ≡ Some s) (e : Option ClassId) (v : Value) where
   abbrev after : Frame
   after = frame_after p h fr s v
@@ -108,7 +108,7 @@ module _ (p : Program) (ac : Accept p) (first : HasFirstForms p) (regular : HasF
   heap = heap_stored p (method_at p fr.method) fr.locals store (thrown_heap p e h)
 
   is_first : IsFirstStore p store
-  is_first = first_unless p e (store_of fr.locals s.action) (first_store_of p fr.locals s.action (first_step p ac first regular fr agrees.standing.0 i s here))
+  is_first = first_unless p e (store_of fr.locals s.action) (first_store_of p fr.locals s.action (first_step p ac first fr agrees.standing.0 i s here))
 
   -- an object was there before, or is the library's
   was_there : (o : ℕ) (y : Object) → object_at heap o ≡ Some y → (object_at h o ≡ Some y) ⊎ ((o ≡ next_number h) × (y.owner ≡ owners.Library) × (y.link ≡ None))
@@ -124,19 +124,19 @@ module _ (p : Program) (ac : Accept p) (first : HasFirstForms p) (regular : HasF
   null_call o y unmet (row, null, target) t =
       let st = agrees.standing.0 in
       let way = way_of_call s row in
-      let form = first_step p ac first regular fr st i s here in
-      let small = (ready p ac first regular fr st i s here way).small in
-      tracks_call p ac first regular h heap agrees.unlinked unlinked fr st i s here way v o y y (same_goes_on y) unmet t row
+      let form = first_step p ac first fr st i s here in
+      let small = (ready p ac first fr st i s here way).small in
+      tracks_call p ac first h heap agrees.unlinked unlinked fr st i s here way v o y y (same_goes_on y) unmet t row
       (ap (λ (names : Names). set.is_subset names y.called) (called_names p st.number s.action s.edge t.fact form row)
       ∙ known_names p s.action t.fact.places t.fact.called y.called t.follows.called
       (λ n held named. absurd (null_is_no_object h (operand_of fr.locals s.action 0) o null
       (operand_of_fact p h fr.method fr.locals s.action o 0 t.fact.places small (omega arith) t.follows.places (sym (first_receiver p s.action t.fact.places form) ∙ held)))))
       (λ moved. true≢false (sym ((moved_is_given p t.origin s.action s.edge t.fact moved).started target)
-      ∙ is_owing p ac first regular h heap agrees.unlinked unlinked fr st i s here way v o y y (same_goes_on y) unmet t))
+      ∙ is_owing p ac first h heap agrees.unlinked unlinked fr st i s here way v o y y (same_goes_on y) unmet t))
 
   top : (o : ℕ) (y : Object) → is_unmet y ≡ true → IsInnerStep p fr.locals s → Tracks p h fr o y → Tracks p heap after o y
   top o y unmet (inl (row, way, test)) t =
-      tracks_plain p ac first regular h heap agrees.unlinked unlinked fr agrees.standing.0 i s here way v o y y (same_goes_on y) unmet t row test
+      tracks_plain p ac first h heap agrees.unlinked unlinked fr agrees.standing.0 i s here way v o y y (same_goes_on y) unmet t row test
   top o y unmet (inr null) t = null_call o y unmet null t
 
   tracked : IsInnerStep p fr.locals s → (o : ℕ) (y : Object) (j : ℕ) → object_at heap o ≡ Some y → is_unmet y ≡ true → y.owner ≡ owners.Frame j → IsTracked p heap (after ∷ frs) o y j

@@ -42,7 +42,7 @@ use Rattle.ledger_steps.specs.CallSteps.{library_done, library_entries, library_
 use Rattle.heap_laws.specs.Heaps.{GoesOn, IsOlder, IsUnlinked}
 use Rattle.place_laws.specs.Places.{IsWay}
 use Rattle.agreement.specs.Agreement.{Agrees, IsMainAlone, IsTracked, Stands, Tracks, is_answering}
-use Rattle.agreement.specs.FirstForms.{HasFirstForms, HasFreshClauses, IsFirstAction, IsPlainSignature}
+use Rattle.agreement.specs.FirstForms.{HasFirstForms, IsFirstAction, IsPlainSignature}
 use Rattle.conduct_laws.specs.Fitting.{FitsMethod}
 use Rattle.library_call_laws.specs.LibraryCalls.{IsMadeAs}
 use Rattle.owned_fact_laws.specs.Outcomes.{IsCallRow, IsPlainRow}
@@ -154,7 +154,7 @@ pub record IsLibraryStep (p : Program) (h : HeapContents) (s : Step) (named : Me
   pub signature : IsPlainSignature (method_at p named)
   pub made : (e : ClassId) → d ≡ conducts.Fresh e → (s.edge ≡ edges.Go) × FitsMethod p (method_at p named) (conducts.Fresh e) × (v ≡ values.Object (next_number h))
 
-module _ (p : Program) (ac : Accept p) (first : HasFirstForms p) (regular : HasFreshClauses p) (names : HasSmallInterests p) (fr : Frame) (frs : List Frame) (h : HeapContents)
+module _ (p : Program) (ac : Accept p) (first : HasFirstForms p) (names : HasSmallInterests p) (fr : Frame) (frs : List Frame) (h : HeapContents)
     (es : List Entry) (agrees : Agrees p (fr ∷ frs) h es) (i : ℕ) (s : Step) (here : slice_get (frame_steps p fr) i ≡ Some s) (named : MethodId) (d : Conduct) (v : Value)
     (step : IsLibraryStep p h s named d v) where
   abbrev after : Frame
@@ -222,10 +222,10 @@ module _ (p : Program) (ac : Accept p) (first : HasFirstForms p) (regular : HasF
     st = agrees.standing.0
 
     form : IsFirstAction p s.action
-    form = first_step p ac first regular fr st i s here
+    form = first_step p ac first fr st i s here
 
     small : IsSmallAction p s.action
-    small = (ready p ac first regular fr st i s here (way_of_call s row)).small
+    small = (ready p ac first fr st i s here (way_of_call s row)).small
 
     same_callee : callee p s.action ≡ method_at p named
     same_callee = ap (callee_in p) called
@@ -253,7 +253,7 @@ module _ (p : Program) (ac : Accept p) (first : HasFirstForms p) (regular : HasF
         cc
 
     top_call : Tracks p heap after o y
-    top_call = tracks_call p ac first regular h heap agrees.unlinked unlinked fr st i s here (way_of_call s row) v o x y goes unmet t row
+    top_call = tracks_call p ac first h heap agrees.unlinked unlinked fr st i s here (way_of_call s row) v o x y goes unmet t row
         (ap (λ (called_names' : Names). set.is_subset called_names' y.called) (called_names p st.number s.action s.edge t.fact form row)
         ∙ known_names p s.action t.fact.places t.fact.called y.called (within_trans t.fact.called x.called y.called t.follows.called goes.called) noted)
         stays
@@ -262,7 +262,7 @@ module _ (p : Program) (ac : Accept p) (first : HasFirstForms p) (regular : HasF
       → Tracks p h fr o x → Tracks p heap after o y
   top o j x y before now goes unmet mine owner t = elim step.row [
     | inl call ↦ top_call call.0 call.1 o j x y before now goes unmet mine owner t
-    | inr constant ↦ tracks_plain p ac first regular h heap agrees.unlinked unlinked fr agrees.standing.0 i s here (constant_way s.action s.edge constant) v o x y goes unmet t
+    | inr constant ↦ tracks_plain p ac first h heap agrees.unlinked unlinked fr agrees.standing.0 i s here (constant_way s.action s.edge constant) v o x y goes unmet t
         (constant_row s.action constant) (constant_test fr.locals s.action s.edge constant)
   ]
 
@@ -271,7 +271,7 @@ module _ (p : Program) (ac : Accept p) (first : HasFirstForms p) (regular : HasF
       → y.owner ≡ owners.Frame j → IsTracked p heap (after ∷ frs) (next_number h) y j
   made_top e is j y made unmet owner = elim step.row [
     | inl call ↦ at_top (frame_owner s.action (method_at p named) (length frs + 1) j (sym owner ∙ made.2)) (subst (λ (w : Value). Tracks p heap (frame_after p h fr s w) (next_number h) y) (sym (step.made e is).2)
-        (made_tracks p ac first regular h heap unlinked fr agrees.standing.0 i s here (way_of_call s call.0) (next_number h) y e j (length frs + 1) unmet (step.made e is).0 owner call.0
+        (made_tracks p ac first h heap unlinked fr agrees.standing.0 i s here (way_of_call s call.0) (next_number h) y e j (length frs + 1) unmet (step.made e is).0 owner call.0
         (λ m at. subst (λ (z : MethodId). IsMadeAs p s.action (method_at p z) (length frs + 1) (conducts.Fresh e) y × FitsMethod p (method_at p z) (conducts.Fresh e))
         (let same : Some named ≡ Some m = sym call.1 ∙ at in cc) (made, (step.made e is).1))))
     | inr constant ↦ absurd (constant_owner s.action (method_at p named) (length frs + 1) j constant (sym owner ∙ made.2))

@@ -19,7 +19,7 @@ use Rattle.ledger_calls.specs.Configuration.{Frame}
 use Rattle.ledger_frames.specs.Choosing.{body_by, frame_steps, steps_by}
 use Rattle.place_laws.specs.Places.{HasTarget, HasVariable, IsWay, SetsLocals}
 use Rattle.agreement.specs.Agreement.{Stands}
-use Rattle.agreement.specs.FirstForms.{HasFirstForms, HasFreshClauses, IsFirstAction, IsPlainSignature}
+use Rattle.agreement.specs.FirstForms.{HasFirstForms, IsFirstAction, IsPlainSignature}
 use Rattle.named_step_laws.specs.Naming.{HasTargetIn, IsInBody}
 use Rattle.named_step_laws.proofs.Reached.{names_what_is_there}
 use Rattle.soundness_laws.proofs.Carried.{Ready}
@@ -64,7 +64,7 @@ first_no_alias p (actions.New m d n) first = ap (operand_of (actions.New m d n))
 first_no_alias p (actions.Super m d n) first = absurd first
 first_no_alias p a first = refl
 
-module _ (p : Program) (ac : Accept p) (first : HasFirstForms p) (regular : HasFreshClauses p) (fr : Frame) (st : Stands p fr) (i : ℕ) (t : Step)
+module _ (p : Program) (ac : Accept p) (first : HasFirstForms p) (fr : Frame) (st : Stands p fr) (i : ℕ) (t : Step)
     (here : slice_get (frame_steps p fr) i ≡ Some t) where
   pub first_step : IsFirstAction p t.action
   first_step = first.steps st.number i (move_of t) st.control (step_there p fr st i t here)

@@ -29,7 +29,7 @@ use Rattle.ledger_machine.specs.Outcomes.{went, ended, stray}
 use Rattle.ledger_machine.specs.Steps.{end, library_went, main_ended, moved, moved_by, step, top_move, within}
 use Rattle.agreement.specs.Agreement.{Agree, Agrees, IsMainAlone, Stands}
 use Rattle.conduct_laws.specs.Fitting.{FitsMethod}
-use Rattle.agreement.specs.FirstForms.{HasFirstForms, HasFreshClauses}
+use Rattle.agreement.specs.FirstForms.{HasFirstForms}
 use Rattle.soundness_laws.proofs.Cases.{IsLibraryMove, IsNext, next_is}
 use Rattle.soundness_laws.proofs.InnerSteps.{inner_agrees}
 use Rattle.soundness_laws.proofs.LibrarySteps.{IsLibraryStep, library_agrees}
@@ -64,7 +64,7 @@ abbrev pub call_value : Program → Config → Frame → MethodId → Conduct �
 call_value p c fr named x s =
     conduct_value (length (arguments_shared c.arrays fr.locals s.action (method_at p named))) (method_at p named) (positions fr.locals s.action (next_number c.heap) x) (next_number c.heap) x
 
-module _ (p : Program) (ac : Accept p) (first : HasFirstForms p) (regular : HasFreshClauses p) (names : HasSmallInterests p) where
+module _ (p : Program) (ac : Accept p) (first : HasFirstForms p) (names : HasSmallInterests p) where
   end_agrees : (c d : Config) (fr : Frame) (frs : List Frame) (i : ℕ) (s : Step) (pos : Pos) (q : Completion) → Agrees p (fr ∷ frs) c.heap c.entries
       → slice_get (frame_steps p fr) i ≡ Some s → s.action ≡ actions.End q → end p c fr frs pos q ≡ went d → Agree p d
   end_agrees c d fr [] i s pos q agrees here is same =
@@ -90,13 +90,13 @@ module _ (p : Program) (ac : Accept p) (first : HasFirstForms p) (regular : HasF
       let made = made_value p c.heap c.arrays c.statics (next_choice c.choices c.used) fr.locals s.action in
       let v = thrown_value c.heap e made in
       subst (Agree p) (let one : within p c fr frs e s ≡ d = (let both : went (within p c fr frs e s) ≡ went d = same in cc) in one)
-      (inner_agrees p ac first regular fr frs c.heap c.entries agrees next.0 s next.1 e v
+      (inner_agrees p ac first fr frs c.heap c.entries agrees next.0 s next.1 e v
       (stands_on p ac c.heap fr agrees.standing.0 next.0 s v next.1) (alone_on p c.heap fr frs s v agrees.alone) next.2)
   moved_agrees c d fr frs (Start named runs a pos) agrees next same before = absurd next
   moved_agrees c d fr frs (Library named m x s) agrees next same before =
       subst (Agree p) (let one : library_went p c fr frs named m x s ≡ d = (let both : went (library_went p c fr frs named m x s) ≡ went d = same in cc) in one)
       (subst (λ (z : MethodId). Agree p (library_went p c fr frs named z x s)) (sym next.same)
-      (library_agrees p ac first regular names fr frs c.heap c.entries agrees next.index s next.here named x (call_value p c fr named x s) (library_step c fr named m x s next)
+      (library_agrees p ac first names fr frs c.heap c.entries agrees next.index s next.here named x (call_value p c fr named x s) (library_step c fr named m x s next)
       (stands_on p ac c.heap fr agrees.standing.0 next.index s (call_value p c fr named x s) next.here) (alone_on p c.heap fr frs s (call_value p c fr named x s) agrees.alone)))
   moved_agrees c d fr frs (End pos q) agrees next same before = end_agrees c d fr frs next.0 next.1 pos q agrees next.2 next.3 same
   moved_agrees c d fr frs (Stray e pos) agrees next same before = absurd (let never : stray e pos ≡ went d = same in cc)
@@ -106,7 +106,7 @@ module _ (p : Program) (ac : Accept p) (first : HasFirstForms p) (regular : HasF
   by_frames c d [] agrees same before = absurd (let never : ended c.ended ≡ went d = same in cc)
   by_frames c d (fr ∷ frs) agrees same before =
       moved_agrees c d fr frs (top_move p c (fr ∷ frs)) agrees
-      (next_is p ac first regular c.heap c.arrays (next_choice c.choices c.used) fr agrees.standing.0 (standing (slice_get fr.control 0))) same before
+      (next_is p ac first c.heap c.arrays (next_choice c.choices c.used) fr agrees.standing.0 (standing (slice_get fr.control 0))) same before
 
   pub step_agrees : (c d : Config) → Agree p c → step p c ≡ went d → Agree p d
   unfolding step

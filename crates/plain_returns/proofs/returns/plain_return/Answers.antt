@@ -1,4 +1,4 @@
-use Rattle.std.proofs.Common.{◌≡◌, ◌∙◌, ap, sym, refl, subst, ℕ, ◌∷◌, ◌++◌, false, Option, Some, None, Result, Ok, Err, map, reverse}
+use Rattle.std.proofs.Common.{◌≡◌, ◌∙◌, ap, sym, refl, subst, ℕ, ◌∷◌, false, Option, Some, None, Result, Ok, Err, map, reverse}
 use Rattle.std.specs.Prelude.{IfOk, IfSome, is_some}
 use Rattle.ledger_obligations.specs.Obligations.{held_in}
 use Rattle.ledger_state.specs.Contents.{HeapContents}
@@ -37,8 +37,8 @@ returns-in-Some-clause-heap c = go c.leave_return.result c.leave_return.ensures.
         let thrown = none_of c.args.end.thrown (sym c.is_some.ensures ∙ c.if-is_some.false) in
         let case = c.in-Some.is in
         let some : c.in_ok-return_change.field-0 ≡ Some c.in-Some.note = cc in
-        let is = subst (λ (o : Option PlainNote). IfSome o (λ r. IsPlainReturn p c.args.position c.args.end.this l a runs named heap (held c.args.now.now) c.args.owning r.noted)) some c.in_ok-return_change.ensures in
-        let settled = return_settled p c.args.position c.args.end.this l a runs named heap (held c.args.ended.now) (held c.args.now.now) below c.args.owning n c.requires.place is c.requires.owners (sym c.drops_any.ensures ∙ c.if-drops_any.false) c.requires.settled in
+        let is = subst (λ (o : Option PlainNote). IfSome o (λ r. IsPlainReturn p c.args.position c.args.end.this l a runs named c.args.end.value heap (held c.args.now.now) c.args.owning r.noted)) some c.in_ok-return_change.ensures in
+        let settled = return_settled p c.args.position c.args.end.this l a runs named c.args.end.value heap (held c.args.ended.now) (held c.args.now.now) below c.args.owning n c.requires.place is c.requires.owners (sym c.drops_any.ensures ∙ c.if-drops_any.false) c.requires.settled in
         ap (λ e. (returned p heap c.args.position c.args.end.this l a runs named c.args.end.value e c.args.end.pos c.args.at (held c.args.now.now ∷ map held_in (reverse below))).heap) thrown
         ∙ return_heap p c.args.end.pos c.args.at c.args.position c.args.end.this l a runs named c.args.end.value heap (held c.args.now.now) below c.args.owning n is c.requires.owners settled
         ∙ ap (λ m. put_noted m heap) (sym h)
@@ -61,8 +61,8 @@ returns-in-Some-clause-lines c = go c.leave_return.result c.leave_return.ensures
         let thrown = none_of c.args.end.thrown (sym c.is_some.ensures ∙ c.if-is_some.false) in
         let case = c.in-Some.is in
         let some : c.in_ok-return_change.field-0 ≡ Some c.in-Some.note = cc in
-        let is = subst (λ (o : Option PlainNote). IfSome o (λ r. IsPlainReturn p c.args.position c.args.end.this l a runs named heap (held c.args.now.now) c.args.owning r.noted)) some c.in_ok-return_change.ensures in
-        let settled = return_settled p c.args.position c.args.end.this l a runs named heap (held c.args.ended.now) (held c.args.now.now) below c.args.owning n c.requires.place is c.requires.owners (sym c.drops_any.ensures ∙ c.if-drops_any.false) c.requires.settled in
+        let is = subst (λ (o : Option PlainNote). IfSome o (λ r. IsPlainReturn p c.args.position c.args.end.this l a runs named c.args.end.value heap (held c.args.now.now) c.args.owning r.noted)) some c.in_ok-return_change.ensures in
+        let settled = return_settled p c.args.position c.args.end.this l a runs named c.args.end.value heap (held c.args.ended.now) (held c.args.now.now) below c.args.owning n c.requires.place is c.requires.owners (sym c.drops_any.ensures ∙ c.if-drops_any.false) c.requires.settled in
         ap (λ e. (returned p heap c.args.position c.args.end.this l a runs named c.args.end.value e c.args.end.pos c.args.at (held c.args.now.now ∷ map held_in (reverse below))).lines) thrown
         ∙ return_lines_are p c.args.end.pos c.args.at c.args.position c.args.end.this l a runs named c.args.end.value heap (held c.args.now.now) below c.args.owning n is c.requires.owners settled
         ∙ sym h
@@ -85,8 +85,8 @@ returns-in-Some-clause-settled c = go c.leave_return.result c.leave_return.ensur
         let thrown = none_of c.args.end.thrown (sym c.is_some.ensures ∙ c.if-is_some.false) in
         let case = c.in-Some.is in
         let some : c.in_ok-return_change.field-0 ≡ Some c.in-Some.note = cc in
-        let is = subst (λ (o : Option PlainNote). IfSome o (λ r. IsPlainReturn p c.args.position c.args.end.this l a runs named heap (held c.args.now.now) c.args.owning r.noted)) some c.in_ok-return_change.ensures in
-        let settled = return_settled p c.args.position c.args.end.this l a runs named heap (held c.args.ended.now) (held c.args.now.now) below c.args.owning n c.requires.place is c.requires.owners (sym c.drops_any.ensures ∙ c.if-drops_any.false) c.requires.settled in
+        let is = subst (λ (o : Option PlainNote). IfSome o (λ r. IsPlainReturn p c.args.position c.args.end.this l a runs named c.args.end.value heap (held c.args.now.now) c.args.owning r.noted)) some c.in_ok-return_change.ensures in
+        let settled = return_settled p c.args.position c.args.end.this l a runs named c.args.end.value heap (held c.args.ended.now) (held c.args.now.now) below c.args.owning n c.requires.place is c.requires.owners (sym c.drops_any.ensures ∙ c.if-drops_any.false) c.requires.settled in
         subst (λ (m : Option Numbered). Settled (put_noted m heap) (held c.args.now.now ∷ map held_in (reverse below))) (sym h) settled
 
 both : (res : Result (Option PlainReturn) NoMemory) (n : Option Numbered) (k : ℕ) → IfOk res (λ o. IfSome o (λ r. r.noted ≡ n)) → IfOk res (λ o. IfSome o (λ r. r.owning ≡ k)) → (h : HeapContents) → OwnersBelow (put_noted n h) k → IfOk res (λ o. IfSome o (λ r. OwnersBelow (put_noted r.noted h) r.owning))

@@ -1,6 +1,6 @@
 use Rattle.std.proofs.Common.{◌∙◌, ap, ℕ, List}
 use Rattle.command_inputs.specs.Inputs.{texts_of}
-use Rattle.program_reading.specs.Inputs.{file_names}
+use Rattle.command_programs.specs.Inputs.{file_names}
 use Rattle.run_command.specs.RunAnswers.{answer_text}
 use Rattle.run_inputs.proofs.runs.run_program.Goals as goal
 

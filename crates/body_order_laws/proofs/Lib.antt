@@ -1,5 +1,0 @@
-pub mod FieldOrders
-pub mod JumpsInLoops
-pub mod OrderedBodies
-pub mod PlainStatements
-pub mod SuperCallOrders

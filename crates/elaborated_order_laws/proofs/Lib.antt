@@ -1,2 +1,0 @@
-pub mod ElaboratedBodies
-pub mod Risings

@@ -1,0 +1,15 @@
+pub mod BodyTables
+pub mod BodyTyping
+pub mod BuiltStrings
+pub mod ElaboratedLaws
+pub mod ElaboratedValidity
+pub mod FinalString
+pub mod InitializerTyping
+pub mod KeptTypes
+pub mod KeptValidity
+pub mod LaidBodyLaws
+pub mod MethodsWithBodies
+pub mod ParameterTyping
+pub mod SingleBodies
+pub mod SuperCallTyping
+pub mod WrittenTypeLaws

@@ -1,0 +1,6 @@
+pub mod BodiesOfPrograms
+pub mod BodiesOfTables
+pub mod ElaboratedBodies
+pub mod LaidBodies
+pub mod NamedTables
+pub mod StringTables

@@ -1,6 +1,0 @@
--- The law is a lemma over the definitions alone.
-use Rattle.final_string_laws.proofs.FinalString.{bodies_are_not_string}
-use Rattle.final_string_laws.proofs.laws.no_source_body_is_of_string.Goals as goal
-
-pub returns : goal.returns
-returns c = bodies_are_not_string

@@ -1,4 +1,0 @@
-pub mod BodyTyping
-pub mod InitializerTyping
-pub mod ParameterTyping
-pub mod SuperCallTyping

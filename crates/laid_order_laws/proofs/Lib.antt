@@ -1,4 +1,0 @@
-pub mod Heads
-pub mod Initializers
-pub mod Jumps
-pub mod Stands

@@ -1,0 +1,6 @@
+mod Lists
+mod Alike
+mod Signatures
+mod Runs
+mod Pairs
+mod Overriding

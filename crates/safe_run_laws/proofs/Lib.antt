@@ -1,0 +1,2 @@
+pub mod BodilessRuns
+pub mod Answers

@@ -1,2 +1,0 @@
-pub mod SourceBodies
-pub mod MethodNumbers

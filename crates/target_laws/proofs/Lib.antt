@@ -1,0 +1,4 @@
+pub mod Values
+pub mod Begun
+pub mod Moved
+pub mod Laws

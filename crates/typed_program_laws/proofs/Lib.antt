@@ -1,2 +1,0 @@
-pub mod KeptTypes
-pub mod KeptValidity
