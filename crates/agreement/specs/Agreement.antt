@@ -1,6 +1,6 @@
 -- How a run agrees with the facts of the flow rules: the invariant of safety. It is said by families, one for each key: for each
 -- unmet object that a frame owns there is a fact. Roots stand for objects throughout.
-use Rattle.std.specs.Prelude.{◌≡◌, ℕ, ◌+◌, Bool, true, false, Some, None, List, [], ◌∷◌, length, nat_eq, MatchBool}
+use Rattle.std.specs.Prelude.{◌≡◌, ℕ, ◌+◌, ◌<◌, Bool, true, false, Some, None, List, [], ◌∷◌, length, nat_eq, slice_get, MatchBool}
 use Rattle.std.specs.List.{list_any}
 use Rattle.std.specs.FinSet as set
 use Rattle.program_model.specs.declared.kinds.BodyId.{BodyId}
@@ -8,36 +8,46 @@ use Rattle.program_model.specs.declared.kinds.MethodId.{MethodId}
 use Rattle.program_model.specs.declared.program.Program.{Program}
 use Rattle.program_model.specs.declared.tree.Body.{Body}
 use Rattle.program_model.specs.Lookups.{body_at, method_at}
-use Rattle.must_call_sets.specs.MustCallSets.{fits}
+use Rattle.must_call_sets.specs.MustCallSets.{fits, must_of}
+use Rattle.java_control.specs.Calls.{called_method}
+use Rattle.java_control.specs.Control.{Step}
 use Rattle.java_control.specs.PlaceNumbers.{IsSmall}
+use Rattle.java_control.specs.declared.action.Action.{Action}
+use Rattle.java_control.specs.declared.action.Action.TheVariants as actions
 use Rattle.java_control.specs.declared.fact.Fact.{Fact}
 use Rattle.java_control.specs.declared.fact.Mode.TheVariants as modes
 use Rattle.java_control.specs.declared.fact.Origin.{Origin}
 use Rattle.java_control.specs.declared.place.Place.{Place}
 use Rattle.obligation_facts.specs.Facts.{has, is_nowhere, need}
+use Rattle.ownership_rules.specs.MovesAtCalls.{moved_at_call}
 use Rattle.ownership_rules.specs.MovesAtReturns.{result_in}
+use Rattle.ownership_rules.specs.declared.moved.Moved.TheVariants as moves
 use Rattle.flow_rules.specs.Paths.{Comes, Reach, relation_of}
 use Rattle.ledger_state.specs.Contents.{HeapContents}
-use Rattle.ledger_state.specs.Heaps.{object_at, root_of}
+use Rattle.ledger_state.specs.Heaps.{next_number, object_at, root_of}
 use Rattle.ledger_state.specs.declared.entry.Entry.{Entry}
 use Rattle.ledger_state.specs.declared.entry.Owner.{Owner}
 use Rattle.ledger_state.specs.declared.entry.Owner.TheVariants as owners
 use Rattle.ledger_state.specs.declared.locals.Locals.{Locals}
 use Rattle.ledger_state.specs.declared.object.Object.{Object}
+use Rattle.ledger_state.specs.declared.value.Value.{Value}
+use Rattle.ledger_state.specs.declared.value.Value.TheVariants as values
 use Rattle.ledger_obligations.specs.Obligations.{is_unmet}
-use Rattle.ledger_operations.specs.Places.{place_value}
+use Rattle.ledger_operations.specs.Places.{class_of_method, place_value}
 use Rattle.ledger_calls.specs.Configuration.{Config, Frame}
-use Rattle.ledger_frames.specs.Choosing.{body_id}
+use Rattle.ledger_frames.specs.Choosing.{body_id, frame_steps}
 use Rattle.run_command.specs.RunAnswers.{is_leak}
 use Rattle.heap_laws.specs.Heaps.{IsUnlinked}
 use Rattle.place_laws.specs.Places.{HasPlacesAlone, is_local}
+use Rattle.agreement.specs.PlainForms.{MayRun}
 
 -- A fact speaks the truth of object `o`, which is `x`, in a frame of the method `m`: the frame owns the object, all that must be
--- called on it is needed by the fact, all that the fact knows was called, and the places of the fact, of which there is one at
--- least, are variables and temps that hold it.
+-- called on it is needed by the fact and by its class, all that the fact knows was called, and the places of the fact, of which there
+-- is one at least, are variables and temps that hold it.
 pub record Follows (p : Program) (h : HeapContents) (m : MethodId) (l : Locals) (o : ℕ) (x : Object) (origin : Origin) (f : Fact) : Type 0 where
   pub own : f.mode ≡ modes.Own
   pub class : fits p x.class origin.class ≡ true
+  pub bounded : set.is_subset x.must (must_of p x.class) ≡ true
   pub need : set.is_subset x.must (need origin f) ≡ true
   pub called : set.is_subset f.called x.called ≡ true
   pub some : is_nowhere f.places ≡ false
@@ -53,10 +63,20 @@ pub record Tracks (p : Program) (h : HeapContents) (fr : Frame) (o : ℕ) (x : O
   pub reached : Reach p body (relation_of p body) origin fr.control fact
   pub follows : Follows p h fr.method fr.locals o x origin fact
 
--- the frame at position `j` tracks the object. The top one stands first
+-- a frame that waits for the call at which it stands: none of the call's steps moves the object
+pub record Awaits (p : Program) (h : HeapContents) (fr : Frame) (o : ℕ) (x : Object) : Type 0 where
+  pub tracks : Tracks p h fr o x
+  pub stays : (i : ℕ) (s : Step) → slice_get (frame_steps p fr) i ≡ Some s → moved_at_call p tracks.origin s.action s.edge tracks.fact ≡ moves.Moves → ⊥
+
+-- of these frames, which wait, the one at position `j` tracks the object
+abbrev pub IsAwaited : Program → HeapContents → List Frame → ℕ → Object → ℕ → Type 0
+IsAwaited p h [] o x j = ⊥
+IsAwaited p h (fr ∷ frs) o x j = MatchBool (nat_eq (length frs + 1) j) (Awaits p h fr o x) (IsAwaited p h frs o x j)
+
+-- the frame at position `j` tracks the object. The top one stands first, and the others wait
 abbrev pub IsTracked : Program → HeapContents → List Frame → ℕ → Object → ℕ → Type 0
 IsTracked p h [] o x j = ⊥
-IsTracked p h (fr ∷ frs) o x j = MatchBool (nat_eq (length frs + 1) j) (Tracks p h fr o x) (IsTracked p h frs o x j)
+IsTracked p h (fr ∷ frs) o x j = MatchBool (nat_eq (length frs + 1) j) (Tracks p h fr o x) (IsAwaited p h frs o x j)
 
 -- the frame stands at a control that its body reaches, with the variables of that body
 pub record Stands (p : Program) (fr : Frame) : Type 0 where
@@ -81,16 +101,38 @@ is_answering owners.Released = false
 is_answering owners.Lost = false
 is_answering owners.Unowned = false
 
--- no frame waits, and the one that runs gives no result: for now no method of the program is called
-abbrev pub IsMainAlone : Program → List Frame → Type 0
-IsMainAlone p [] = Unit {0}
-IsMainAlone p (fr ∷ []) = result_in (method_at p fr.method) ≡ None
-IsMainAlone p (fr ∷ caller ∷ frs) = ⊥
+-- the value is an object of the class that the constructor makes
+abbrev pub IsMade : Program → HeapContents → MethodId → Value → Type 0
+IsMade p h m v = (k : ℕ) × (v ≡ values.Object k) × (k < next_number h) × ((x : Object) → object_at h k ≡ Some x → class_of_method (method_at p m) ≡ Some x.class)
+
+-- `this` of the frame that a `new` began
+abbrev pub IsMadeBy : Program → HeapContents → Action → Value → Type 0
+IsMadeBy p h (actions.New m d n) v = IsMade p h m v
+IsMadeBy p h a v = Unit {0}
+
+-- the frame waits at a call, of which the other one is the run
+pub record WaitsFor (p : Program) (h : HeapContents) (caller fr : Frame) : Type 0 where
+  pub index : ℕ
+  pub step : Step
+  pub here : slice_get (frame_steps p caller) index ≡ Some step
+  pub named : MethodId
+  pub calls : called_method step.action ≡ Some named
+  pub runs : MayRun p named fr.method
+  pub makes : IsMadeBy p h step.action fr.locals.this
+
+-- each of these frames waits for the one above it, and the last one gives no result
+abbrev pub IsCalledFrom : Program → HeapContents → Frame → List Frame → Type 0
+IsCalledFrom p h fr [] = result_in (method_at p fr.method) ≡ None
+IsCalledFrom p h fr (caller ∷ frs) = WaitsFor p h caller fr × IsCalledFrom p h caller frs
+
+abbrev pub IsStacked : Program → HeapContents → List Frame → Type 0
+IsStacked p h [] = Unit {0}
+IsStacked p h (fr ∷ frs) = IsCalledFrom p h fr frs
 
 -- the frames, the heap and the lines of a run agree with the facts
 pub record Agrees (p : Program) (frs : List Frame) (h : HeapContents) (lines : List Entry) : Type 0 where
   pub standing : AllStand p frs
-  pub alone : IsMainAlone p frs
+  pub stacked : IsStacked p h frs
   pub unlinked : IsUnlinked h
   pub tracked : (o : ℕ) (x : Object) (j : ℕ) → object_at h o ≡ Some x → is_unmet x ≡ true → x.owner ≡ owners.Frame j → IsTracked p h frs o x j
   pub answered : (o : ℕ) (x : Object) → object_at h o ≡ Some x → is_unmet x ≡ true → is_answering x.owner ≡ true

@@ -1,2 +1,2 @@
-pub mod FirstForms
+pub mod PlainForms
 pub mod Agreement

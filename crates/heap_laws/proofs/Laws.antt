@@ -1,10 +1,10 @@
 -- The laws, under their names, for the crates above.
 use Rattle.std.specs.FinSet as set
 use Rattle.std.specs.Option.{option_map}
-use Rattle.heap_laws.specs.Heaps.{Evolves, GoesOn, IsOlder, IsUnlinked}
+use Rattle.heap_laws.specs.Heaps.{Evolves, GoesOn, IsGiven, IsKeptOr, IsMovedFrom, IsOlder, IsUnlinked}
 use Rattle.ledger_calls.specs.Calls.{move_params}
 use Rattle.ledger_entries.specs.Entries.{birth_entries, called_entries, leak_entries, owner_entries, reset_entries}
-use Rattle.ledger_obligations.specs.Obligations.{all_notes, end_frame, has_note, is_frame, is_unmet, lose, may_move, noted, noted_object, owner_holds}
+use Rattle.ledger_obligations.specs.Obligations.{all_notes, end_frame, end_holder, has_note, is_frame, is_held_by, is_unmet, lose, may_move, move, noted, noted_object, owner_holds}
 use Rattle.ledger_obligations.specs.declared.note.Note.{Note}
 use Rattle.ledger_state.specs.Contents.{HeapContents}
 use Rattle.ledger_state.specs.Heaps.{append, change_each, next_number, object_at, root, root_of, unfinished}
@@ -15,15 +15,17 @@ use Rattle.ledger_state.specs.declared.object.Object.{Object}
 use Rattle.ledger_state.specs.declared.value.Value.{Value}
 use Rattle.ledger_steps.specs.Effects.{left}
 use Rattle.program_model.specs.declared.kinds.ClassId.{ClassId}
+use Rattle.program_model.specs.declared.kinds.VType.{VType}
 use Rattle.program_model.specs.declared.program.ParamSig.{ParamSig}
 use Rattle.program_model.specs.declared.program.Program.{Program}
 use Rattle.rlc_base.specs.declared.place.Pos.{Pos}
 use Rattle.run_command.specs.RunAnswers.{is_leak}
 use Rattle.std.specs.List.{list_any}
 use Rattle.std.proofs.Common.{refl}
-use Rattle.std.specs.Prelude.{if◌then◌else◌, List, Some, [], false, nat_eq, slice_get, true, ℕ, ◌+◌, ◌<◌, ◌≡◌}
-use Rattle.heap_laws.proofs.LineLaws.{birth_none, called_none, end_none, leaks_unchanged, owner_none, reset_none, step_none}
-use Rattle.heap_laws.proofs.MoveLaws.{params_count, params_evolve, params_given, params_older}
+use Rattle.std.specs.Prelude.{Option, if◌then◌else◌, List, Some, [], false, nat_eq, slice_get, true, ℕ, ◌+◌, ◌<◌, ◌≡◌, ◌⊎◌}
+use Rattle.heap_laws.proofs.EndLaws.{frame_back, holder_back}
+use Rattle.heap_laws.proofs.LineLaws.{birth_none, called_none, end_none, holder_none, leaks_unchanged, owner_none, reset_none, step_none}
+use Rattle.heap_laws.proofs.MoveLaws.{moved_back, moved_takes, params_caused, params_count, params_evolve, params_given, params_older}
 use Rattle.heap_laws.proofs.NoteLaws.{noted_evolves, noted_goes_on, noted_has}
 use Rattle.heap_laws.proofs.ObjectLaws.{appended_at, appended_count, changed_at, changed_count, evolves_further, evolves_self, in_range, not_lost, root_changed, unchanged, unlinked_root, unlinked_value}
 
@@ -107,3 +109,25 @@ step_leaks_nothing-unchanged = leaks_unchanged
 
 pub end_of_frame_leaks_nothing : (p : Program) (word : LeakWord) (pos : Pos) (j : ℕ) (h : HeapContents) → ((n : ℕ) (x : Object) → object_at h n ≡ Some x → is_frame x.owner j ≡ true → is_unmet x ≡ false) → leak_entries p word pos h (end_frame j h) ≡ []
 end_of_frame_leaks_nothing = end_none
+
+pub moved_arguments_are_given : (p : Program) (o : Owner) (arguments : ℕ → Value) (k : ℕ) (params : List ParamSig) (h : HeapContents) (n : ℕ) (x y : Object) → object_at h n ≡ Some x
+    → object_at (move_params p o arguments k params h) n ≡ Some y → (y.owner ≡ x.owner) ⊎ IsGiven p arguments k params h n x
+moved_arguments_are_given = params_caused
+
+pub moved_value-before : (p : Program) (t : VType) (o : Owner) (v : Value) (h : HeapContents) (n : ℕ) (y : Object) → object_at (move p t o v h) n ≡ Some y
+    → (x : Object) × (object_at h n ≡ Some x) × IsMovedFrom p t o (root_of h v) n x y
+moved_value-before = moved_back
+
+pub moved_value-taken : (p : Program) (t : VType) (o : Owner) (v : Value) (h : HeapContents) (n : ℕ) (x y : Object) → root_of h v ≡ Some n → object_at h n ≡ Some x → may_move p t x ≡ true
+    → object_at (move p t o v h) n ≡ Some y → y.owner ≡ o
+moved_value-taken = moved_takes
+
+pub ended_frame_gives_up : (j : ℕ) (h : HeapContents) (n : ℕ) (y : Object) → object_at (end_frame j h) n ≡ Some y → (x : Object) × (object_at h n ≡ Some x) × IsKeptOr (is_frame x.owner j) x y
+ended_frame_gives_up = frame_back
+
+pub ended_holder_gives_up : (w : ℕ) (h : HeapContents) (n : ℕ) (y : Object) → object_at (end_holder (Some w) h) n ≡ Some y → (x : Object) × (object_at h n ≡ Some x) × IsKeptOr (is_held_by x.owner w) x y
+ended_holder_gives_up w h n y at = holder_back (Some w) h n y at
+
+pub end_of_holder_leaks_nothing : (p : Program) (word : LeakWord) (pos : Pos) (w : Option ℕ) (h : HeapContents) → ((n : ℕ) (x : Object) (k : ℕ) → object_at h n ≡ Some x → is_held_by x.owner k ≡ true → is_unmet x ≡ false)
+    → leak_entries p word pos h (end_holder w h) ≡ []
+end_of_holder_leaks_nothing = holder_none

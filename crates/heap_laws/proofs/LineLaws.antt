@@ -16,7 +16,7 @@ use Rattle.ledger_state.specs.declared.entry.LeakWord.TheVariants as words
 use Rattle.ledger_state.specs.declared.object.Link.{Link}
 use Rattle.ledger_state.specs.declared.object.Object.{Object}
 use Rattle.ledger_state.specs.declared.value.Value.{Value}
-use Rattle.ledger_obligations.specs.Obligations.{end_frame, given_up, given_up_by_frame, is_frame, is_unmet, lose}
+use Rattle.ledger_obligations.specs.Obligations.{end_frame, end_holder, given_up, given_up_by_frame, given_up_by_holder, is_frame, is_held_by, is_unmet, lose}
 use Rattle.ledger_entries.specs.Entries.{birth, birth_entries, birth_in, by_number, called_entries, called_in, called_line, heavy_lines, is_among, is_lost, is_owned, leak_entries, leak_in, leak_line, leaks_of, lines, lines_from, names_in_order, new_names, owner_before, owner_entries, owner_in, reset_entries, reset_in, same_owner, was_finished}
 use Rattle.ledger_steps.specs.Effects.{left}
 use Rattle.run_command.specs.RunAnswers.{is_leak}
@@ -130,3 +130,26 @@ end_none p word pos j h met = objects_empty p (leak_in word pos h) (end_frame j 
     go k y (Some x) before same =
         ap (λ (z : Option Object). optional (leak_line word pos z k y)) before
         ∙ subst (λ (z : Object). optional (leak_line word pos (Some x) k z) ≡ []) (let one : given_up_by_frame j k x ≡ y = cc in one) (kept_or_released word pos j k x (met k x before))
+
+-- an object that a field of an object owns which ends
+kept_or_released_by : (word : LeakWord) (pos : Pos) (w k : ℕ) (x : Object) → (is_held_by x.owner w ≡ true → is_unmet x ≡ false) → optional (leak_line word pos (Some x) k (given_up_by_holder w k x)) ≡ []
+kept_or_released_by word pos w k x met = go (is_held_by x.owner w) refl
+  where
+    go : (b : Bool) → is_held_by x.owner w ≡ b → optional (leak_line word pos (Some x) k (if b then given_up x else x)) ≡ []
+    go true is = rw (met is) refl
+    go false is = ap (λ (b : Bool). optional (if b then Some (entries.Leak k word pos) else None)) (both_ways (is_lost x.owner))
+
+held_none : (p : Program) (word : LeakWord) (pos : Pos) (w : ℕ) (h : HeapContents) → ((n : ℕ) (x : Object) → object_at h n ≡ Some x → is_held_by x.owner w ≡ true → is_unmet x ≡ false)
+    → leak_entries p word pos h (end_holder (Some w) h) ≡ []
+held_none p word pos w h met = objects_empty p (leak_in word pos h) (end_holder (Some w) h) (λ k y at. go k y (object_at h k) refl (sym (changed_at (given_up_by_holder w) h k) ∙ at))
+  where
+    go : (k : ℕ) (y : Object) (x : Option Object) → object_at h k ≡ x → option_map (given_up_by_holder w k) x ≡ Some y → optional (leak_line word pos (object_at h k) k y) ≡ []
+    go k y None before same = absurd (let never : None ≡ Some y = same in cc)
+    go k y (Some x) before same =
+        ap (λ (z : Option Object). optional (leak_line word pos z k y)) before
+        ∙ subst (λ (z : Object). optional (leak_line word pos (Some x) k z) ≡ []) (let one : given_up_by_holder w k x ≡ y = cc in one) (kept_or_released_by word pos w k x (met k x before))
+
+pub holder_none : (p : Program) (word : LeakWord) (pos : Pos) (w : Option ℕ) (h : HeapContents) → ((n : ℕ) (x : Object) (k : ℕ) → object_at h n ≡ Some x → is_held_by x.owner k ≡ true → is_unmet x ≡ false)
+    → leak_entries p word pos h (end_holder w h) ≡ []
+holder_none p word pos None h met = leaks_unchanged p word pos h
+holder_none p word pos (Some w) h met = held_none p word pos w h (λ n x at held. met n x w at held)

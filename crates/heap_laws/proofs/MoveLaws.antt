@@ -1,5 +1,5 @@
 -- Arguments that move at the start of a call.
-use Rattle.std.proofs.Common.{◌≡◌, ◌⊎◌, inl, inr, ℕ, zero, suc, ◌+◌, Bool, true, false, Option, Some, None, List, [], ◌∷◌, slice_get, option_map, nat_eq, refl, sym, ap, ◌∙◌, subst, if◌then◌else◌, arith, eq-eqb}
+use Rattle.std.proofs.Common.{◌≡◌, ◌⊎◌, inl, inr, ℕ, zero, suc, ◌+◌, Bool, true, false, Option, Some, None, List, [], ◌∷◌, slice_get, option_map, nat_eq, refl, sym, ap, ◌∙◌, subst, if◌then◌else◌, arith, eq-eqb, eqb-true, add-one}
 use Rattle.program_model.specs.declared.kinds.VType.{VType}
 use Rattle.program_model.specs.declared.program.ParamSig.{ParamSig}
 use Rattle.program_model.specs.declared.program.Program.{Program}
@@ -10,7 +10,7 @@ use Rattle.ledger_state.specs.declared.object.Object.{Object}
 use Rattle.ledger_state.specs.declared.value.Value.{Value}
 use Rattle.ledger_obligations.specs.Obligations.{may_move, move, moved_to, with_owner}
 use Rattle.ledger_calls.specs.Calls.{move_param, move_params}
-use Rattle.heap_laws.specs.Heaps.{Evolves, GoesOn, IsOlder}
+use Rattle.heap_laws.specs.Heaps.{Evolves, GoesOn, IsGiven, IsMovedFrom, IsOlder}
 use Rattle.heap_laws.proofs.ObjectLaws.{changed_at, changed_count, evolves_further, evolves_self, goes_on_further, goes_on_self, root_of_value_changed}
 
 -- the object as it is after a move
@@ -169,3 +169,84 @@ params_given p o arguments k (suc i) (r ∷ qs) q h n x there owning root at may
       | inl kept ↦ further y there owning value now (movable y goes kept)
       | inr given ↦ stays_owned p o arguments (k + 1) qs (move_param p o (arguments k) r h) n y now given
     ]
+
+-- ---- why an owner changes
+
+module _ (p : Program) (t : VType) (o : Owner) where
+  at_number : (r n : ℕ) (x : Object) → IsMovedFrom p t o (Some r) n x (only_at r (moved_to p t o) n x)
+  at_number r n x = go (nat_eq n r) refl (may_move p t x) refl
+    where
+      go : (b : Bool) → nat_eq n r ≡ b → (c : Bool) → may_move p t x ≡ c → IsMovedFrom p t o (Some r) n x (if b then (if c then with_owner o x else x) else x)
+      go true same true may = ((owner_changes o x).0, inr (refl, ap Some (sym (eqb-true n r same)), may))
+      go true same false may = (goes_on_self x, inl refl)
+      go false other c may = (goes_on_self x, inl refl)
+
+  some_caused : (r : Option ℕ) (h : HeapContents) (n : ℕ) (x : Object) → object_at h n ≡ Some x → (y : Object) × (object_at (change_some r (moved_to p t o) h) n ≡ Some y) × IsMovedFrom p t o r n x y
+  some_caused None h n x at = (x, at, (goes_on_self x, inl refl))
+  some_caused (Some r) h n x at =
+      (only_at r (moved_to p t o) n x, changed_at (only_at r (moved_to p t o)) h n ∙ ap (option_map (only_at r (moved_to p t o) n)) at, at_number r n x)
+
+pub moved_back : (p : Program) (t : VType) (o : Owner) (v : Value) (h : HeapContents) (n : ℕ) (y : Object) → object_at (move p t o v h) n ≡ Some y
+    → (x : Object) × (object_at h n ≡ Some x) × IsMovedFrom p t o (root_of h v) n x y
+moved_back p t o v h n y now =
+    let first = some_back p t o (root_of h v) h n y now in
+    let z = some_caused p t o (root_of h v) h n first.0 first.1 in
+    (first.0, first.1, subst (IsMovedFrom p t o (root_of h v) n first.0) (let same : z.0 ≡ y = (let both : Some z.0 ≡ Some y = sym z.1 ∙ now in cc) in same) z.2)
+
+pub moved_takes : (p : Program) (t : VType) (o : Owner) (v : Value) (h : HeapContents) (n : ℕ) (x y : Object) → root_of h v ≡ Some n → object_at h n ≡ Some x → may_move p t x ≡ true
+    → object_at (move p t o v h) n ≡ Some y → y.owner ≡ o
+moved_takes p t o v h n x y root at may now =
+    let after : object_at (move p t o v h) n ≡ Some (with_owner o x) =
+    rw root (changed_at (only_at n (moved_to p t o)) h n ∙ ap (option_map (only_at n (moved_to p t o) n)) at ∙ rw (eq-eqb n n refl, may) refl) in
+    let same : with_owner o x ≡ y = (let both : Some (with_owner o x) ≡ Some y = sym after ∙ now in cc) in
+    sym (ap (λ (z : Object). z.owner) same)
+
+pub moved_count : (p : Program) (t : VType) (o : Owner) (v : Value) (h : HeapContents) → next_number (move p t o v h) ≡ next_number h
+moved_count p t o v h = some_count p t o (root_of h v) h
+
+-- the argument of one parameter
+one_caused : (p : Program) (o : Owner) (v : Value) (q : ParamSig) (h : HeapContents) (n : ℕ) (x : Object) → object_at h n ≡ Some x
+    → (y : Object) × (object_at (move_param p o v q h) n ≡ Some y) × GoesOn x y
+    × ((y.owner ≡ x.owner) ⊎ ((q.owning ≡ true) × (root_of h v ≡ Some n) × (may_move p q.vtype x ≡ true)))
+one_caused p o v q h n x at = go q.owning refl
+  where
+    go : (b : Bool) → q.owning ≡ b → (y : Object) × (object_at (if b then move p q.vtype o v h else h) n ≡ Some y) × GoesOn x y
+        × ((y.owner ≡ x.owner) ⊎ ((q.owning ≡ true) × (root_of h v ≡ Some n) × (may_move p q.vtype x ≡ true)))
+    go true owning =
+        let y = some_caused p q.vtype o (root_of h v) h n x at in
+        (y.0, y.1, y.2.0, elim y.2.1 [ inl kept ↦ inl kept | inr given ↦ inr (owning, given.1, given.2) ])
+    go false none = (x, at, goes_on_self x, inl refl)
+
+pub params_caused : (p : Program) (o : Owner) (arguments : ℕ → Value) (k : ℕ) (params : List ParamSig) (h : HeapContents) (n : ℕ) (x y : Object) → object_at h n ≡ Some x
+    → object_at (move_params p o arguments k params h) n ≡ Some y → (y.owner ≡ x.owner) ⊎ IsGiven p arguments k params h n x
+params_caused p o arguments k [] h n x y before now = inl (let same : x ≡ y = (let both : Some x ≡ Some y = sym before ∙ now in cc) in sym (ap (λ (z : Object). z.owner) same))
+params_caused p o arguments k (q ∷ qs) h n x y before now =
+    let z = one_caused p o (arguments k) q h n x before in
+    go z (params_caused p o arguments (k + 1) qs (move_param p o (arguments k) q h) n z.0 y z.1 now)
+  where
+    here : (q.owning ≡ true) × (root_of h (arguments k) ≡ Some n) × (may_move p q.vtype x ≡ true) → IsGiven p arguments k (q ∷ qs) h n x
+    here (owning, root, may) = record {
+      index = 0;
+      param = q;
+      at = refl;
+      owning = owning;
+      root = subst (λ (i : ℕ). root_of h (arguments i) ≡ Some n) (omega arith) root;
+      may = may;
+    }
+
+    later : (z : Object) → GoesOn x z → z.owner ≡ x.owner → IsGiven p arguments (k + 1) qs (move_param p o (arguments k) q h) n z → IsGiven p arguments k (q ∷ qs) h n x
+    later z goes kept g = record {
+      index = g.index + 1;
+      param = g.param;
+      at = rw add-one g.at;
+      owning = g.owning;
+      root = subst (λ (i : ℕ). root_of h (arguments i) ≡ Some n) (omega arith) (sym (one_root p o (arguments k) q h (arguments (k + 1 + g.index))) ∙ g.root);
+      may = rw (sym goes.finished, sym kept, sym goes.class) g.may;
+    }
+
+    go : (z : (z : Object) × (object_at (move_param p o (arguments k) q h) n ≡ Some z) × GoesOn x z
+        × ((z.owner ≡ x.owner) ⊎ ((q.owning ≡ true) × (root_of h (arguments k) ≡ Some n) × (may_move p q.vtype x ≡ true))))
+        → (y.owner ≡ z.0.owner) ⊎ IsGiven p arguments (k + 1) qs (move_param p o (arguments k) q h) n z.0 → (y.owner ≡ x.owner) ⊎ IsGiven p arguments k (q ∷ qs) h n x
+    go (z, at, goes, inr given) rest = inr (here given)
+    go (z, at, goes, inl kept) (inl same) = inl (same ∙ kept)
+    go (z, at, goes, inl kept) (inr given) = inr (later z goes kept given)

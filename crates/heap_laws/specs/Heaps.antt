@@ -1,10 +1,15 @@
 -- How the objects of one heap go on in another.
-use Rattle.std.specs.Prelude.{◌≡◌, ◌⊎◌, ℕ, true, None, Some}
+use Rattle.std.specs.Prelude.{◌≡◌, ◌⊎◌, ℕ, ◌+◌, Bool, true, Option, None, Some, List, slice_get}
 use Rattle.std.specs.FinSet as set
+use Rattle.program_model.specs.declared.kinds.VType.{VType}
+use Rattle.program_model.specs.declared.program.ParamSig.{ParamSig}
+use Rattle.program_model.specs.declared.program.Program.{Program}
 use Rattle.ledger_state.specs.Contents.{HeapContents}
-use Rattle.ledger_state.specs.Heaps.{object_at}
+use Rattle.ledger_state.specs.Heaps.{object_at, root_of}
 use Rattle.ledger_state.specs.declared.entry.Owner.{Owner}
 use Rattle.ledger_state.specs.declared.object.Object.{Object}
+use Rattle.ledger_state.specs.declared.value.Value.{Value}
+use Rattle.ledger_obligations.specs.Obligations.{given_up, may_move}
 
 -- no object is linked to another one
 abbrev pub IsUnlinked : HeapContents → Type 0
@@ -28,3 +33,22 @@ pub record IsOlder (h : HeapContents) (n : ℕ) (y : Object) (o : Owner) : Type 
 -- every object of the heap `h` goes on in the heap `k`
 abbrev pub Evolves : HeapContents → HeapContents → Type 0
 Evolves h k = (n : ℕ) (x : Object) → object_at h n ≡ Some x → (y : Object) × (object_at k n ≡ Some y) × GoesOn x y
+
+-- one of the parameters, the first of which is at position `k`, is owning, and object `n`, here `x`, is the root of its argument and
+-- may move to it
+pub record IsGiven (p : Program) (arguments : ℕ → Value) (k : ℕ) (params : List ParamSig) (h : HeapContents) (n : ℕ) (x : Object) : Type 0 where
+  pub index : ℕ
+  pub param : ParamSig
+  pub at : slice_get params index ≡ Some param
+  pub owning : param.owning ≡ true
+  pub root : root_of h (arguments (k + index)) ≡ Some n
+  pub may : may_move p param.vtype x ≡ true
+
+-- the object `x` with number `n` goes on as `y` over a move of the root `r` to a place of the type, whose owner is `o`: it has its owner,
+-- or it is that root, and has the new one
+abbrev pub IsMovedFrom : Program → VType → Owner → Option ℕ → ℕ → Object → Object → Type 0
+IsMovedFrom p t o r n x y = GoesOn x y × ((y.owner ≡ x.owner) ⊎ ((y.owner ≡ o) × (r ≡ Some n) × (may_move p t x ≡ true)))
+
+-- the object is as it was, or it was given up, as the test says
+abbrev pub IsKeptOr : Bool → Object → Object → Type 0
+IsKeptOr test x y = (y ≡ x) ⊎ ((test ≡ true) × (y ≡ given_up x))

@@ -1,6 +1,6 @@
 //! Which lines of the ledger are no leaks. Each law is the contract of a function that does nothing.
 
-ghost use Rattle.std.specs.Prelude.{◌≡◌, ℕ, true, false, Some, List, []};
+ghost use Rattle.std.specs.Prelude.{◌≡◌, ℕ, true, false, Option, Some, List, []};
 ghost use Rattle.std.specs.List.{list_any};
 ghost use Rattle.rlc_base.specs.declared.place.Pos.{Pos};
 ghost use Rattle.program_model.specs.declared.program.Program.{Program};
@@ -10,7 +10,7 @@ ghost use Rattle.ledger_state.specs.declared.entry.Entry.{Entry};
 ghost use Rattle.ledger_state.specs.declared.entry.LeakWord.{LeakWord};
 ghost use Rattle.ledger_state.specs.declared.object.Object.{Object};
 ghost use Rattle.ledger_state.specs.declared.value.Value.{Value};
-ghost use Rattle.ledger_obligations.specs.Obligations.{end_frame, is_frame, is_unmet, lose};
+ghost use Rattle.ledger_obligations.specs.Obligations.{end_frame, end_holder, is_frame, is_held_by, is_unmet, lose};
 ghost use Rattle.ledger_entries.specs.Entries.{birth_entries, called_entries, leak_entries, owner_entries, reset_entries};
 ghost use Rattle.ledger_steps.specs.Effects.{left};
 ghost use Rattle.run_command.specs.RunAnswers.{is_leak};
@@ -47,4 +47,11 @@ pub fn end_of_frame_leaks_nothing()
     ensures { (p : Program) (word : LeakWord) (pos : Pos) (j : ℕ) (h : HeapContents)
         → ((n : ℕ) (x : Object) → object_at h n ≡ Some x → is_frame x.owner j ≡ true → is_unmet x ≡ false)
         → leak_entries p word pos h (end_frame j h) ≡ [] }
+{}
+
+/// An object leaks nothing at its end where no field owns anything unmet.
+pub fn end_of_holder_leaks_nothing()
+    ensures { (p : Program) (word : LeakWord) (pos : Pos) (w : Option ℕ) (h : HeapContents)
+        → ((n : ℕ) (x : Object) (k : ℕ) → object_at h n ≡ Some x → is_held_by x.owner k ≡ true → is_unmet x ≡ false)
+        → leak_entries p word pos h (end_holder w h) ≡ [] }
 {}

@@ -1,5 +1,5 @@
-mod Lists
-mod Alike
+pub mod Lists
+pub mod Alike
 mod Signatures
 mod Runs
 mod Pairs

@@ -9,7 +9,7 @@ use Rattle.check_command.specs.Programs.{IsProgramOf}
 use Rattle.program_model.specs.declared.program.Program.{Program}
 use Rattle.flow_rules.specs.Paths.{Accept}
 use Rattle.check_command.specs.ProgramReports.{IsFaulty}
-use Rattle.agreement.specs.FirstForms.{HasFirstForms}
+use Rattle.agreement.specs.PlainForms.{HasPlainForms}
 use Rattle.safety.specs.Safety.{IsSafe}
 use Rattle.rlc_cli.specs.Answers.{check_names, run_names}
 
@@ -21,7 +21,7 @@ pub record IsAcceptedCheck (told : Option Contents) (names : FileNames) : Type 0
   pub program : Program
   pub is_program : IsProgramOf files program
   pub accepted : Accept program
-  pub safe : HasFirstForms program → IsSafe program
+  pub safe : HasPlainForms program → IsSafe program
 
 -- the files of these names make a program, which is well formed, and in which the flow rules derive a fault
 pub record IsLeakingCheck (told : Option Contents) (names : FileNames) : Type 0 where
@@ -39,7 +39,7 @@ pub record IsLeakingRun (told : Option Contents) (names : FileNames) : Type 0 wh
   pub program : Program
   pub is_program : IsProgramOf files program
   pub unsafe : IsSafe program → ⊥
-  pub unaccepted : HasFirstForms program → Accept program → ⊥
+  pub unaccepted : HasPlainForms program → Accept program → ⊥
 
 abbrev pub IsAcceptedRequest : Option Contents → Option Request → Type 0
 IsAcceptedRequest told None = Unit {0}

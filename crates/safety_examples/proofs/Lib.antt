@@ -6,3 +6,8 @@ pub mod Moments
 pub mod Effects
 pub mod CarelessRun
 pub mod CarefulRun
+pub mod Formed
+pub mod Certified
+pub mod Flows
+pub mod CarefulFaults
+pub mod Accepted

@@ -1,3 +1,4 @@
 pub mod Programs
 pub mod Controls
 pub mod Runs
+pub mod Certificates

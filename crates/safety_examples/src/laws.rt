@@ -2,6 +2,17 @@
 
 ghost use Rattle.std.specs.Prelude.{◌≡◌, true, Some, [], ◌∷◌};
 ghost use Rattle.program_model.specs.Validity.{HasBodies, IsValid};
+ghost use Rattle.program_model.specs.declared.kinds.ClassId.{ClassId};
+ghost use Rattle.rlc_base.specs.declared.place.Pos.{Pos};
+ghost use Rattle.program_model.specs.declared.kinds.BodyId.{BodyId};
+ghost use Rattle.java_control.specs.declared.fact.Origin.{Origin};
+ghost use Rattle.java_control.specs.declared.fact.Rule.{Rule};
+ghost use Rattle.obligation_facts.specs.Facts.{Names};
+ghost use Rattle.flow_rules.specs.Paths.{Accept, Faulty, relation_of};
+ghost use Rattle.annotation_rules.specs.AnnotationCases.{annotation_cases};
+ghost use Rattle.class_overrides.specs.Cases.{class_cases};
+ghost use Rattle.must_call_sets.specs.WellFormed.{IsWellFormed};
+ghost use Rattle.must_call_types.specs.Signed.{IsSigned};
 ghost use Rattle.must_call_sets.specs.MustCallSets.{is_heavy_class};
 ghost use Rattle.ledger_text.specs.declared.how.How.TheVariants as hows;
 ghost use Rattle.ledger_interp.specs.Runs.{run};
@@ -18,6 +29,25 @@ pub fn careless_is_not_safe()
 pub fn careful_is_valid()
     ensures valid { IsValid careful }
     ensures bodies { HasBodies careful }
+{}
+
+/// That program is well formed, what its classes override is as Java asks, its annotations are right, and its sets and signatures are
+/// what they say.
+pub fn careful_is_well_formed()
+    ensures well_formed { IsWellFormed careful }
+    ensures overriding { (c : ClassId) → class_cases careful c ≡ [] }
+    ensures annotations { annotation_cases careful ≡ [] }
+    ensures signatures { IsSigned careful careful }
+{}
+
+/// No path in a body of that program breaks a rule.
+pub fn careful_has_no_fault()
+    ensures { (b : BodyId) (o : Origin) (rule : Rule) (at : Pos) (names : Names) → Faulty careful b (relation_of careful b) o rule at names → ⊥ }
+{}
+
+/// That program is accepted.
+pub fn careful_is_accepted()
+    ensures { Accept careful }
 {}
 
 /// A run of that program: the library makes a socket, which `main` owns and on which `close` must be called; the call of `close`

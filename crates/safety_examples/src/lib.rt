@@ -3,4 +3,7 @@
 
 mod laws;
 
-pub use laws::{careful_is_valid, careful_run_ends, careless_is_not_safe};
+pub use laws::{
+    careful_has_no_fault, careful_is_accepted, careful_is_valid, careful_is_well_formed,
+    careful_run_ends, careless_is_not_safe,
+};

@@ -1,7 +1,8 @@
--- What comes next in a frame: by the cases of the machine, for programs of the first forms.
+-- What comes next in a frame: by the cases of the machine, for programs of the plain forms.
 use Rattle.std.proofs.Common.{◌≡◌, ◌⊎◌, inl, inr, ℕ, ◌+◌, Bool, true, false, cond, Option, Some, None, List, [], ◌∷◌, ◌++◌, slice_get, find, refl, sym, ap, ◌∙◌, subst, true≢false, if◌then◌else◌, add-one, eqb-true}
 use Rattle.program_model.specs.declared.kinds.ClassId.{ClassId}
 use Rattle.program_model.specs.declared.kinds.MethodId.{MethodId}
+use Rattle.program_model.specs.declared.program.Method.{Method}
 use Rattle.program_model.specs.declared.program.Program.{Program}
 use Rattle.program_model.specs.Lookups.{method_at}
 use Rattle.program_model.specs.SuperTests.{is_class, is_ignored, is_under}
@@ -16,7 +17,7 @@ use Rattle.java_control.specs.declared.action.Edge.{Edge}
 use Rattle.java_control.specs.declared.action.Edge.TheVariants as edges
 use Rattle.java_control.specs.declared.action.PlainValue.{PlainValue}
 use Rattle.java_control.specs.declared.action.PlainValue.TheVariants as plain
-use Rattle.java_control.specs.declared.action.TargetForm.TheVariants as forms
+use Rattle.java_control.specs.declared.action.TargetForm.TheVariants as target_form
 use Rattle.java_control.specs.declared.place.Place.{Place}
 use Rattle.obligation_facts.specs.Callees.{may_be_null_target, may_have_null_target}
 use Rattle.flow_rules.specs.Paths.{Accept}
@@ -30,24 +31,29 @@ use Rattle.ledger_state.specs.declared.array.ArrayObject.{ArrayObject}
 use Rattle.ledger_state.specs.declared.locals.Locals.{Locals}
 use Rattle.ledger_obligations.specs.Obligations.{is_library_method}
 use Rattle.ledger_operations.specs.Operations.{thrown_by_operation}
-use Rattle.ledger_calls.specs.Calls.{has_null_target, is_stray_from, leaves_by, operand_of, overriding_by, position_of, running}
-use Rattle.ledger_calls.specs.Conducts.{on_this, settled}
+use Rattle.ledger_calls.specs.Calls.{body_of, has_null_target, is_stray_from, leaves_by, operand_of, overriding_by, position_of, running}
+use Rattle.ledger_calls.specs.Conducts.{library_method, on_this, settled}
 use Rattle.ledger_calls.specs.Configuration.{Frame}
 use Rattle.ledger_frames.specs.Choosing.{agrees, agrees_with, edge_of_class, frame_steps, goes_by, operation_edge, same_edge}
 use Rattle.ledger_moves.specs.declared.standing.FirstAction.{FirstAction}
-use Rattle.ledger_moves.specs.Moves.{Move, Inner, Start, Library, End, Stray, Rest, by_edge, call, call_of, chosen_of, inner_by, library_as, library_by, library_call, next_move, null_target, operate, take, take_chosen, take_plain}
+use Rattle.ledger_moves.specs.Moves.{Move, Inner, Start, Library, End, Stray, Rest, by_edge, call, call_of, chosen_of, has_body, inner_by, library_as, library_by, library_call, next_move, null_target, operate, program_call, take, take_chosen, take_plain}
 use Rattle.place_laws.specs.Places.{IsWay}
 use Rattle.agreement.specs.Agreement.{Stands}
-use Rattle.agreement.specs.FirstForms.{HasFirstForms, IsFirstAction, IsLibraryCall, IsPlainSignature, run_by}
+use Rattle.agreement.specs.PlainForms.{HasPlainForms, IsPlainAction, IsPlainCall, IsPlainSignature, MayRun, RunsFor, by_class, by_name, run_by}
 use Rattle.conduct_laws.specs.Fitting.{FitsMethod}
 use Rattle.conduct_laws.proofs.Conducts.{made_object_fits}
 use Rattle.owned_fact_laws.specs.Outcomes.{IsCallRow, IsPlainRow}
 use Rattle.soundness_laws.proofs.InnerSteps.{IsInnerStep}
 use Rattle.soundness_laws.proofs.LibrarySteps.{IsConstantRead}
+use Rattle.target_laws.specs.Frames.{KeepsTargets}
+use Rattle.target_laws.proofs.Laws.{target_is_there}
+use Rattle.target_step_laws.specs.Targets.{this_operand}
+use Rattle.tracking_laws.proofs.Births.{is_super}
+use Rattle.tracking_laws.proofs.Unmet.{call_may}
 use Rattle.call_step_laws.specs.Calling.{may_call}
 use Rattle.call_step_laws.proofs.Ways.{one_action}
-use Rattle.soundness_laws.proofs.Ready.{first_step, step_here}
-use Rattle.soundness_laws.proofs.Tracking.{IsTrueTest}
+use Rattle.tracking_laws.proofs.Ready.{plain_call, plain_step, step_here}
+use Rattle.tracking_laws.proofs.Tracking.{IsTrueTest}
 
 -- an element that is found stands somewhere and passes the test
 pub found_in : {X : Type 0} (test : X → Bool) (xs : List X) (x : X) → find test xs ≡ Some x → (i : ℕ) × (slice_get xs i ≡ Some x) × (test x ≡ true)
@@ -80,9 +86,27 @@ test_of p h arrays m l (actions.Test d) edges.Null is = is
 test_of p h arrays m l (actions.Test d) e is = tt
 test_of p h arrays m l a e is = tt
 
-go_edge : (e : Edge) → same_edge edges.Go e ≡ true → e ≡ edges.Go
+pub go_edge : (e : Edge) → same_edge edges.Go e ≡ true → e ≡ edges.Go
 go_edge edges.Go is = refl
 go_edge e is = absurd (true≢false (sym is))
+
+-- a super constructor of the library makes no object
+fresh_is_other : (a : Action) (d : Conduct) (c : ClassId) → on_this a d ≡ conducts.Fresh c → is_super a ≡ false
+fresh_is_other actions.Skip d c is = refl
+fresh_is_other (actions.Super m n k) (conducts.Fresh e) c is = absurd (let never : conducts.Nothing ≡ conducts.Fresh c = is in cc)
+fresh_is_other (actions.Super m n k) conducts.Null c is = absurd (let never : conducts.Null ≡ conducts.Fresh c = is in cc)
+fresh_is_other (actions.Super m n k) (conducts.Throws e) c is = absurd (let never : conducts.Throws e ≡ conducts.Fresh c = is in cc)
+fresh_is_other (actions.Super m n k) (conducts.Existing j) c is = absurd (let never : conducts.Existing j ≡ conducts.Fresh c = is in cc)
+fresh_is_other (actions.Super m n k) conducts.Argument c is = absurd (let never : conducts.Argument ≡ conducts.Fresh c = is in cc)
+fresh_is_other (actions.Super m n k) (conducts.Value z) c is = absurd (let never : conducts.Value z ≡ conducts.Fresh c = is in cc)
+fresh_is_other (actions.Super m n k) conducts.Nothing c is = absurd (let never : conducts.Nothing ≡ conducts.Fresh c = is in cc)
+fresh_is_other a d c is = refl
+
+-- what names no method runs none
+pub none_runs : (p : Program) (m r : MethodId) → MayRun p m r → method_at p m ≡ None → method_at p r ≡ None
+unfolding run_by
+none_runs p m _ by_name at = at
+none_runs p m _ (by_class c) at = rw at at
 
 -- ---- what comes next
 
@@ -92,19 +116,37 @@ pub record IsLibraryMove (p : Program) (steps : List Step) (named m : MethodId) 
   pub same : m ≡ named
   pub row : (IsCallRow s.action × (called_method s.action ≡ Some named)) ⊎ IsConstantRead s.action
   pub signature : IsPlainSignature (method_at p named)
+  pub other : (e : ClassId) → d ≡ conducts.Fresh e → is_super s.action ≡ false
   pub edge : (e : ClassId) → d ≡ conducts.Fresh e → s.edge ≡ edges.Go
   pub fits : FitsMethod p (method_at p named) d
 
+-- a call of the program whose target is not null
+pub record IsStartMove (p : Program) (l : Locals) (steps : List Step) (named runs : MethodId) (a : Action) : Type 0 where
+  pub index : ℕ
+  pub step : Step
+  pub here : slice_get steps index ≡ Some step
+  pub same : step.action ≡ a
+  pub row : IsCallRow a
+  pub calls : called_method a ≡ Some named
+  pub may : MayRun p named runs
+  pub plain : IsPlainCall p named
+  pub method : Method
+  pub named_at : method_at p named ≡ Some method
+  pub running : Method
+  pub running_at : method_at p runs ≡ Some running
+  pub body : has_body running.body ≡ true
+  pub fit : RunsFor p method running
+
 abbrev pub IsNext : Program → Locals → List Step → Move → Type 0
 IsNext p l steps (Inner e s) = (i : ℕ) × (slice_get steps i ≡ Some s) × IsInnerStep p l s
-IsNext p l steps (Start named runs a pos) = ⊥
+IsNext p l steps (Start named runs a pos) = IsStartMove p l steps named runs a
 IsNext p l steps (Library named m d s) = IsLibraryMove p steps named m d s
 IsNext p l steps (End pos q) = (i : ℕ) × (s : Step) × (slice_get steps i ≡ Some s) × (s.action ≡ actions.End q)
 IsNext p l steps (Stray e pos) = Unit {0}
 IsNext p l steps Rest = Unit {0}
 
-module _ (p : Program) (ac : Accept p) (first : HasFirstForms p) (h : HeapContents) (arrays : List ArrayObject) (choice : Choice)
-    (fr : Frame) (st : Stands p fr) where
+module _ (p : Program) (ac : Accept p) (forms : HasPlainForms p) (h : HeapContents) (arrays : List ArrayObject) (choice : Choice)
+    (fr : Frame) (st : Stands p fr) (targets : KeepsTargets p fr) where
   abbrev steps : List Step
   steps = frame_steps p fr
 
@@ -112,8 +154,8 @@ module _ (p : Program) (ac : Accept p) (first : HasFirstForms p) (h : HeapConten
   Next mv = IsNext p fr.locals steps mv
 
   module _ (e : Option ClassId) (i : ℕ) (s : Step) (here : slice_get steps i ≡ Some s) (agreeing : agrees p h arrays fr.method fr.locals s ≡ true) where
-    form : IsFirstAction p s.action
-    form = first_step p ac first fr st i s here
+    form : IsPlainAction p s.action
+    form = plain_step p ac forms fr st i s here
 
     -- the other steps of a call are steps of the call
     one_call : may_call s.action ≡ true → (t : Step) (j : ℕ) → slice_get steps j ≡ Some t → t.action ≡ s.action
@@ -122,13 +164,16 @@ module _ (p : Program) (ac : Accept p) (first : HasFirstForms p) (h : HeapConten
     inner_here : IsPlainRow s.action → Next (Inner e s)
     inner_here row = (i, here, inl (row, way_of p h arrays fr.method fr.locals s.action s.edge agreeing, test_of p h arrays fr.method fr.locals s.action s.edge agreeing))
 
+    abbrev IsNoSuper : Conduct → Type 0
+    IsNoSuper d = (c : ClassId) → d ≡ conducts.Fresh c → is_super s.action ≡ false
+
     abbrev IsRow : MethodId → Type 0
     IsRow named = (IsCallRow s.action × (called_method s.action ≡ Some named)) ⊎ IsConstantRead s.action
 
-    library_next : (named : MethodId) → may_call s.action ≡ true → IsRow named → IsPlainSignature (method_at p named) → (d : Conduct) → FitsMethod p (method_at p named) d
+    library_next : (named : MethodId) → may_call s.action ≡ true → IsRow named → IsPlainSignature (method_at p named) → (d : Conduct) → FitsMethod p (method_at p named) d → IsNoSuper d
         → (f : Edge) → ((c : ClassId) → d ≡ conducts.Fresh c → f ≡ edges.Go) → (t : Option Step) → by_edge f steps ≡ t → Next (library_by named named d t)
-    library_next named call' row plain d fits' f go None is = tt
-    library_next named call' row plain d fits' f go (Some t) is =
+    library_next named call' row plain d fits' other f go None is = tt
+    library_next named call' row plain d fits' other f go (Some t) is =
         let found = found_in (goes_by f) steps t is in
         let same = one_call call' t found.0 found.1 in
         record {
@@ -137,59 +182,43 @@ module _ (p : Program) (ac : Accept p) (first : HasFirstForms p) (h : HeapConten
           same = refl;
           row = subst (λ (a : Action). (IsCallRow a × (called_method a ≡ Some named)) ⊎ IsConstantRead a) (sym same) row;
           signature = plain;
+          other = λ c fresh. ap is_super same ∙ other c fresh;
           edge = λ c fresh. go_edge t.edge (ap (λ (g : Edge). same_edge g t.edge) (sym (go c fresh)) ∙ found.2);
           fits = fits';
         }
 
-    library_goes : (named : MethodId) → may_call s.action ≡ true → IsRow named → IsPlainSignature (method_at p named) → (d : Conduct) → FitsMethod p (method_at p named) d
+    library_goes : (named : MethodId) → may_call s.action ≡ true → IsRow named → IsPlainSignature (method_at p named) → (d : Conduct) → FitsMethod p (method_at p named) d → IsNoSuper d
         → Next (library_as p steps s.pos named named d)
     unfolding library_as
-    library_goes named call' row plain (conducts.Throws c) fits' = go (is_stray_from p (method_at p named) c)
+    library_goes named call' row plain (conducts.Throws c) fits' other = go (is_stray_from p (method_at p named) c)
       where
         go : (b : Bool) → Next (if b then Stray c s.pos else library_by named named (conducts.Throws c) (by_edge (edge_of_class (leaves_by p (method_at p named) c)) steps))
         go true = tt
-        go false = library_next named call' row plain (conducts.Throws c) fits' (edge_of_class (leaves_by p (method_at p named) c)) (λ k is. cc) _ refl
-    library_goes named call' row plain d fits' = library_next named call' row plain d fits' edges.Go (λ k is. refl) _ refl
+        go false = library_next named call' row plain (conducts.Throws c) fits' other (edge_of_class (leaves_by p (method_at p named) c)) (λ k is. cc) _ refl
+    library_goes named call' row plain d fits' other = library_next named call' row plain d fits' other edges.Go (λ k is. refl) _ refl
 
     library_called : (named : MethodId) → may_call s.action ≡ true → IsRow named → IsPlainSignature (method_at p named)
         → Next (library_call p h arrays choice fr.locals steps s.action s.pos named named)
     unfolding library_call
     library_called named call' row plain = library_goes named call' row plain (on_this s.action (settled p h arrays named choice (position_of None fr.locals s.action)))
         (made_object_fits p h arrays named choice (position_of None fr.locals s.action) s.action)
+        (λ c fresh. fresh_is_other s.action (settled p h arrays named choice (position_of None fr.locals s.action)) c fresh)
 
-    -- the method that runs is the library's
-    run_by_class : (m : MethodId) → IsLibraryCall p m → (c : Option ClassId) → is_library_method p (method_at p (overriding_by p m c)) ≡ true
+    -- the method that runs may run at a call that names the other
+    may_by_class : (m : MethodId) (c : Option ClassId) → MayRun p m (overriding_by p m c)
     unfolding run_by
-    run_by_class m lib None = lib.named
-    run_by_class m lib (Some c) = lib.overriding c
+    may_by_class m None = by_name
+    may_by_class m (Some c) = by_class c
 
-    runs_library : (a : Action) (named : MethodId) → IsFirstAction p a → IsCallRow a → called_method a ≡ Some named → is_library_method p (method_at p (running p h fr.locals a named)) ≡ true
-    runs_library actions.Skip named form' row is = absurd row
-    runs_library (actions.New m d n) named form' row is =
-        subst (λ (z : MethodId). is_library_method p (method_at p z) ≡ true) (let some : Some m ≡ Some named = is in cc) form'.named
-    runs_library (actions.Call m d n forms.Static) named form' row is =
-        subst (λ (z : MethodId). is_library_method p (method_at p z) ≡ true) (let some : Some m ≡ Some named = is in cc) form'.0.named
-    runs_library (actions.Call m d n forms.Other) named form' row is =
-        subst (λ (z : MethodId). is_library_method p (method_at p (overriding_by p z (runtime_class p h (operand_of fr.locals (actions.Call m d n forms.Other) 0)))) ≡ true)
-        (let some : Some m ≡ Some named = is in cc) (run_by_class m form'.0 (runtime_class p h (operand_of fr.locals (actions.Call m d n forms.Other) 0)))
-    runs_library (actions.Call m d n forms.This) named form' row is = absurd form'.1
-    runs_library (actions.Call m d n forms.Super) named form' row is = absurd form'.1
-    runs_library (actions.Super m d n) named form' row is = absurd form'
-    runs_library a named form' row is = absurd row
-
-    named_library : (a : Action) (named : MethodId) → IsFirstAction p a → IsCallRow a → called_method a ≡ Some named → IsLibraryCall p named
-    named_library actions.Skip named form' row is = absurd row
-    named_library (actions.New m d n) named form' row is = subst (IsLibraryCall p) (let some : Some m ≡ Some named = is in cc) form'
-    named_library (actions.Call m d n f) named form' row is = subst (IsLibraryCall p) (let some : Some m ≡ Some named = is in cc) form'.0
-    named_library (actions.Super m d n) named form' row is = absurd form'
-    named_library a named form' row is = absurd row
-
-    call_may : (a : Action) → IsCallRow a → may_call a ≡ true
-    call_may actions.Skip row = absurd row
-    call_may (actions.Call m d n f) row = refl
-    call_may (actions.New m d n) row = refl
-    call_may (actions.Super m d n) row = refl
-    call_may a row = absurd row
+    may_run : (a : Action) (named : MethodId) → MayRun p named (running p h fr.locals a named)
+    may_run actions.Skip named = by_name
+    may_run (actions.Call m d n target_form.Static) named = by_name
+    may_run (actions.Call m d n target_form.Super) named = by_name
+    may_run (actions.Call m d n target_form.Other) named = may_by_class named (runtime_class p h (operand_of fr.locals (actions.Call m d n target_form.Other) 0))
+    may_run (actions.Call m d n target_form.This) named = may_by_class named (runtime_class p h (operand_of fr.locals (actions.Call m d n target_form.This) 0))
+    may_run (actions.New m d n) named = by_name
+    may_run (actions.Super m d n) named = by_name
+    may_run a named = by_name
 
     -- the exception of a null target leaves by a class that it is under
     null_leaves : (named : MethodId) (c : Option ClassId) → leaves_by p (method_at p named) p.core.null_pointer_exception ≡ c → (d : ClassId) × (c ≡ Some d) × (is_under p p.core.null_pointer_exception d ≡ true)
@@ -211,15 +240,19 @@ module _ (p : Program) (ac : Accept p) (first : HasFirstForms p) (h : HeapConten
             go false same further = further same
     null_leaves named (Some d) is = (d, refl, (found_in (is_under p p.core.null_pointer_exception) (throws_in (method_at p named) ++ unchecked p) d is).2)
 
-    null_operand : (a : Action) → IsFirstAction p a → IsCallRow a → has_null_target fr.locals a ≡ true → (is_null (operand_of fr.locals a 0) ≡ true) × (may_have_null_target a ≡ true)
-    null_operand actions.Skip form' row null = absurd row
-    null_operand (actions.Call m d n forms.Static) form' row null = absurd (true≢false (sym null))
-    null_operand (actions.Call m d n forms.Other) form' row null = (null, refl)
-    null_operand (actions.Call m d n forms.This) form' row null = absurd form'.1
-    null_operand (actions.Call m d n forms.Super) form' row null = absurd form'.1
-    null_operand (actions.New m d n) form' row null = absurd (true≢false (sym null))
-    null_operand (actions.Super m d n) form' row null = absurd form'
-    null_operand a form' row null = absurd row
+    -- `this` is never null
+    this_is_there : (d : ℕ) → this_operand s.action ≡ Some d → has_null_target fr.locals s.action ≡ true → ⊥
+    this_is_there d is null = true≢false (sym null ∙ target_is_there p ac fr targets i s d here is)
+
+    null_operand : (a : Action) → s.action ≡ a → IsCallRow a → has_null_target fr.locals a ≡ true → (is_null (operand_of fr.locals a 0) ≡ true) × (may_have_null_target a ≡ true)
+    null_operand actions.Skip is row null = absurd row
+    null_operand (actions.Call m d n target_form.Static) is row null = absurd (true≢false (sym null))
+    null_operand (actions.Call m d n target_form.Other) is row null = (null, refl)
+    null_operand (actions.Call m d n target_form.This) is row null = absurd (this_is_there d (ap this_operand is) (ap (has_null_target fr.locals) is ∙ null))
+    null_operand (actions.Call m d n target_form.Super) is row null = absurd (this_is_there d (ap this_operand is) (ap (has_null_target fr.locals) is ∙ null))
+    null_operand (actions.New m d n) is row null = absurd (true≢false (sym null))
+    null_operand (actions.Super m d n) is row null = absurd (true≢false (sym null))
+    null_operand a is row null = absurd row
 
     same_class : (c d : ClassId) → is_class c d ≡ true → c ≡ d
     same_class c d is = ap (λ (n : ℕ). (let z : ClassId = record { 0 = n } in z)) (eqb-true c.0 d.0 is)
@@ -237,7 +270,7 @@ module _ (p : Program) (ac : Accept p) (first : HasFirstForms p) (h : HeapConten
         let found = found_in (goes_by (edge_of_class (leaves_by p (method_at p named) p.core.null_pointer_exception))) steps t is in
         let same = one_call (call_may s.action row) t found.0 found.1 in
         let leaves = null_leaves named (leaves_by p (method_at p named) p.core.null_pointer_exception) refl in
-        let operand = null_operand s.action form row null in (
+        let operand = null_operand s.action refl row null in (
           found.0,
           found.1,
           inr (
@@ -257,12 +290,47 @@ module _ (p : Program) (ac : Accept p) (first : HasFirstForms p) (h : HeapConten
         go true is = tt
         go false is = null_next named row null is _ refl
 
+    started : (named runs : MethodId) (pos : Pos) → IsCallRow s.action → called_method s.action ≡ Some named → MayRun p named runs → IsPlainCall p named
+        → is_library_method p (method_at p runs) ≡ false → Next (program_call p s.action pos named runs)
+    started named runs pos row is may form' other = by (method_at p named) refl (method_at p runs) refl
+      where
+        by : (n : Option Method) → method_at p named ≡ n → (x : Option Method) → method_at p runs ≡ x → Next (if has_body (body_of (method_at p runs)) then Start named runs s.action pos else Rest)
+        by n at None there = rw there tt
+        by None at (Some x) there = absurd (let never : None ≡ Some x = sym (none_runs p named runs may at) ∙ there in cc)
+        by (Some n) at (Some x) there = rw there (go (has_body x.body) refl)
+          where
+            go : (b : Bool) → has_body x.body ≡ b → Next (if b then Start named runs s.action pos else Rest)
+            go false no_body = tt
+            go true body = record {
+              index = i;
+              step = s;
+              here = here;
+              same = refl;
+              row = row;
+              calls = is;
+              may = may;
+              plain = form';
+              method = n;
+              named_at = at;
+              running = x;
+              running_at = there;
+              body = body;
+              fit = form'.program runs n x may at there (sym (ap (is_library_method p) there) ∙ other);
+            }
+
+    call_of_by : (named runs : MethodId) → IsCallRow s.action → called_method s.action ≡ Some named → MayRun p named runs → IsPlainCall p named
+        → Next (call_of p h arrays choice fr.locals steps s.action s.pos named runs)
+    unfolding call_of
+    call_of_by named runs row is may form' = go (is_library_method p (method_at p runs)) refl
+      where
+        go : (b : Bool) → is_library_method p (method_at p runs) ≡ b
+            → Next (if b then library_call p h arrays choice fr.locals steps s.action s.pos named (library_method p named runs) else program_call p s.action s.pos named runs)
+        go true lib = rw (form'.library runs may lib) (library_called named (call_may s.action row) (inl (row, is)) form'.signature)
+        go false other = started named runs s.pos row is may form' other
+
     call_of_goes : (named : MethodId) → IsCallRow s.action → called_method s.action ≡ Some named
         → Next (call_of p h arrays choice fr.locals steps s.action s.pos named (running p h fr.locals s.action named))
-    unfolding call_of
-    call_of_goes named row is =
-        let lib = named_library s.action named form row is in
-        rw (runs_library s.action named form row is, lib.named) (library_called named (call_may s.action row) (inl (row, is)) lib.signature)
+    call_of_goes named row is = call_of_by named (running p h fr.locals s.action named) row is (may_run s.action named) (plain_call p s.action named form row is)
 
     call_goes : (named : MethodId) → IsCallRow s.action → called_method s.action ≡ Some named → Next (call p h arrays choice fr.locals steps s.action s.pos named)
     unfolding call
@@ -279,7 +347,7 @@ module _ (p : Program) (ac : Accept p) (first : HasFirstForms p) (h : HeapConten
     constant_goes q (plain.Default t) is = inner_here (subst IsPlainRow (sym is) tt)
     constant_goes q (plain.StaticField f) is = inner_here (subst IsPlainRow (sym is) tt)
     constant_goes q (plain.LibraryConstant m) is =
-        library_called m (ap may_call is) (inr (subst IsConstantRead (sym is) tt)) (subst (IsFirstAction p) is form)
+        library_called m (ap may_call is) (inr (subst IsConstantRead (sym is) tt)) (subst (IsPlainAction p) is form)
 
     other_goes : IsPlainRow s.action → Next (Inner e s)
     other_goes row = inner_here row
@@ -289,9 +357,9 @@ module _ (p : Program) (ac : Accept p) (first : HasFirstForms p) (h : HeapConten
     take_goes actions.Skip is = other_goes (subst IsPlainRow (sym is) tt)
     take_goes (actions.Call m d n f) is = call_goes m (subst IsCallRow (sym is) tt) (ap called_method is)
     take_goes (actions.New m d n) is = call_goes m (subst IsCallRow (sym is) tt) (ap called_method is)
-    take_goes (actions.Super m d n) is = absurd (subst (IsFirstAction p) is form)
+    take_goes (actions.Super m d n) is = call_goes m (subst IsCallRow (sym is) tt) (ap called_method is)
     take_goes (actions.Plain q v) is = constant_goes q v is
-    take_goes (actions.PutOwn f d) is = absurd (subst (IsFirstAction p) is form)
+    take_goes (actions.PutOwn f d) is = absurd (subst (IsPlainAction p) is form)
     take_goes (actions.End q) is = (i, s, here, is)
     take_goes a is = other_goes (subst IsPlainRow (sym is) tt)
 

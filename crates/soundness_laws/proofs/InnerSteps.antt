@@ -33,15 +33,18 @@ use Rattle.must_call_sets.specs.MustCallSets.{Names}
 use Rattle.rlc_base.proofs.SetLaws.{within_self}
 use Rattle.heap_laws.specs.Heaps.{GoesOn, IsUnlinked}
 use Rattle.place_laws.specs.Places.{IsWay}
-use Rattle.agreement.specs.Agreement.{Agrees, IsMainAlone, IsTracked, Stands, Tracks, is_answering}
-use Rattle.agreement.specs.FirstForms.{HasFirstForms, IsFirstAction}
+use Rattle.agreement.specs.Agreement.{Agrees, IsTracked, Stands, Tracks, is_answering}
+use Rattle.agreement.specs.PlainForms.{HasPlainForms, IsPlainAction}
 use Rattle.owned_fact_laws.specs.Outcomes.{IsCallRow, IsPlainRow}
-use Rattle.soundness_laws.proofs.CallNames.{called_names, first_receiver, known_names, operand_of_fact}
-use Rattle.soundness_laws.proofs.Landing.{landed}
+use Rattle.tracking_laws.proofs.CallNames.{called_names, known_names, operand_of_fact, receiver_operand}
+use Rattle.tracking_laws.proofs.Landing.{landed}
+use Rattle.library_call_laws.proofs.Counts.{thrown_count}
 use Rattle.library_call_laws.proofs.Laws.{exceptions_are_the_librarys}
-use Rattle.soundness_laws.proofs.Moving.{moved_is_given}
-use Rattle.soundness_laws.proofs.Ready.{first_step, ready}
-use Rattle.soundness_laws.proofs.Tracking.{IsTrueTest, is_owing, null_is_no_object, stack_tracks, tracks_call, tracks_plain}
+use Rattle.tracking_laws.proofs.Stacks.{KeepsClasses, called_on}
+use Rattle.tracking_laws.proofs.Unmet.{way_of_call}
+use Rattle.tracking_laws.proofs.Moving.{moved_is_given}
+use Rattle.tracking_laws.proofs.Ready.{plain_step, ready}
+use Rattle.tracking_laws.proofs.Tracking.{IsTrueTest, is_owing, null_is_no_object, stack_tracks, tracks_call, tracks_plain}
 
 -- an object as it is goes on
 pub same_goes_on : (x : Object) → GoesOn x x
@@ -49,35 +52,39 @@ same_goes_on x = record { class = refl; link = refl; finished = refl; must = ref
 
 -- ---- the heap
 
-abbrev pub IsFirstStore : Program → Option Store → Type 0
-IsFirstStore p None = Unit {0}
-IsFirstStore p (Some s) = is_owning p s.field ≡ false
+abbrev pub IsPlainStore : Program → Option Store → Type 0
+IsPlainStore p None = Unit {0}
+IsPlainStore p (Some s) = is_owning p s.field ≡ false
 
-first_stored : (p : Program) (m : Option Method) (l : Locals) (s : Option Store) (h : HeapContents) (n : ℕ) → IsFirstStore p s → object_at (heap_stored p m l s h) n ≡ object_at h n
-first_stored p m l None h n first = refl
-first_stored p m l (Some s) h n first = rw first refl
+plain_stored : (p : Program) (m : Option Method) (l : Locals) (s : Option Store) (h : HeapContents) (n : ℕ) → IsPlainStore p s → object_at (heap_stored p m l s h) n ≡ object_at h n
+plain_stored p m l None h n plain = refl
+plain_stored p m l (Some s) h n plain = rw plain refl
 
-first_lines : (p : Program) (pos : Pos) (m : Option Method) (l : Locals) (s : Option Store) (h : HeapContents) → IsFirstStore p s → store_entries p pos m l s h ≡ []
-first_lines p pos m l None h first = refl
-first_lines p pos m l (Some s) h first = rw first refl
+stored_count : (p : Program) (m : Option Method) (l : Locals) (s : Option Store) (h : HeapContents) → IsPlainStore p s → next_number (heap_stored p m l s h) ≡ next_number h
+stored_count p m l None h plain = refl
+stored_count p m l (Some s) h plain = rw plain refl
 
-first_displaced : (p : Program) (pos : Pos) (s : Option Store) (h : HeapContents) → IsFirstStore p s → displaced_entries p pos s h ≡ []
-first_displaced p pos None h first = refl
-first_displaced p pos (Some s) h first = rw first refl
+plain_lines : (p : Program) (pos : Pos) (m : Option Method) (l : Locals) (s : Option Store) (h : HeapContents) → IsPlainStore p s → store_entries p pos m l s h ≡ []
+plain_lines p pos m l None h plain = refl
+plain_lines p pos m l (Some s) h plain = rw plain refl
 
-first_into : (p : Program) (w : Option ℕ) (f : FieldId) (v : Value) → is_owning p f ≡ false → IsFirstStore p (store_into w f v)
-first_into p None f v first = tt
-first_into p (Some w) f v first = first
+plain_displaced : (p : Program) (pos : Pos) (s : Option Store) (h : HeapContents) → IsPlainStore p s → displaced_entries p pos s h ≡ []
+plain_displaced p pos None h plain = refl
+plain_displaced p pos (Some s) h plain = rw plain refl
 
-first_store_of : (p : Program) (l : Locals) (a : Action) → IsFirstAction p a → IsFirstStore p (store_of l a)
-first_store_of p l actions.Skip first = tt
-first_store_of p l (actions.Put f d this) first = first_into p (number_of (temp_value l d)) f (temp_value l (d + 1)) first
-first_store_of p l (actions.PutOwn f d) first = absurd first
-first_store_of p l a first = tt
+plain_into : (p : Program) (w : Option ℕ) (f : FieldId) (v : Value) → is_owning p f ≡ false → IsPlainStore p (store_into w f v)
+plain_into p None f v plain = tt
+plain_into p (Some w) f v plain = plain
 
-first_unless : (p : Program) (e : Option ClassId) (s : Option Store) → IsFirstStore p s → IsFirstStore p (store_unless e s)
-first_unless p None s first = first
-first_unless p (Some e) s first = tt
+plain_store_of : (p : Program) (l : Locals) (a : Action) → IsPlainAction p a → IsPlainStore p (store_of l a)
+plain_store_of p l actions.Skip plain = tt
+plain_store_of p l (actions.Put f d this) plain = plain_into p (number_of (temp_value l d)) f (temp_value l (d + 1)) plain
+plain_store_of p l (actions.PutOwn f d) plain = absurd plain
+plain_store_of p l a plain = tt
+
+plain_unless : (p : Program) (e : Option ClassId) (s : Option Store) → IsPlainStore p s → IsPlainStore p (store_unless e s)
+plain_unless p None s plain = plain
+plain_unless p (Some e) s plain = tt
 
 -- ---- the step
 
@@ -88,15 +95,7 @@ IsNullCall p l s = IsCallRow s.action × (is_null (operand_of l s.action 0) ≡ 
 abbrev pub IsInnerStep : Program → Locals → Step → Type 0
 IsInnerStep p l s = (IsPlainRow s.action × IsWay s.action s.edge × IsTrueTest l s.action s.edge) ⊎ IsNullCall p l s
 
-pub way_of_call : (s : Step) → IsCallRow s.action → IsWay s.action s.edge
-way_of_call s row = go s.action row
-  where
-    go : (a : Action) → IsCallRow a → IsWay a s.edge
-    go actions.Skip row' = tt
-    go (actions.Put f d this) row' = absurd row'
-    go a row' = tt
-
-module _ (p : Program) (ac : Accept p) (first : HasFirstForms p) (fr : Frame) (frs : List Frame) (h : HeapContents) (es : List Entry)
+module _ (p : Program) (ac : Accept p) (forms : HasPlainForms p) (fr : Frame) (frs : List Frame) (h : HeapContents) (es : List Entry)
     (agrees : Agrees p (fr ∷ frs) h es) (i : ℕ) (s : Step) (here : slice_get (frame_steps p fr) i ≡ Some s) (e : Option ClassId) (v : Value) where
   abbrev after : Frame
   after = frame_after p h fr s v
@@ -107,12 +106,12 @@ module _ (p : Program) (ac : Accept p) (first : HasFirstForms p) (fr : Frame) (f
   abbrev heap : HeapContents
   heap = heap_stored p (method_at p fr.method) fr.locals store (thrown_heap p e h)
 
-  is_first : IsFirstStore p store
-  is_first = first_unless p e (store_of fr.locals s.action) (first_store_of p fr.locals s.action (first_step p ac first fr agrees.standing.0 i s here))
+  is_plain : IsPlainStore p store
+  is_plain = plain_unless p e (store_of fr.locals s.action) (plain_store_of p fr.locals s.action (plain_step p ac forms fr agrees.standing.0 i s here))
 
   -- an object was there before, or is the library's
   was_there : (o : ℕ) (y : Object) → object_at heap o ≡ Some y → (object_at h o ≡ Some y) ⊎ ((o ≡ next_number h) × (y.owner ≡ owners.Library) × (y.link ≡ None))
-  was_there o y at = exceptions_are_the_librarys p e h o y (sym (first_stored p (method_at p fr.method) fr.locals store (thrown_heap p e h) o is_first) ∙ at)
+  was_there o y at = exceptions_are_the_librarys p e h o y (sym (plain_stored p (method_at p fr.method) fr.locals store (thrown_heap p e h) o is_plain) ∙ at)
 
   unlinked : IsUnlinked heap
   unlinked o y at = elim (was_there o y at) [ inl old ↦ agrees.unlinked o y old | inr new ↦ new.2 ]
@@ -124,19 +123,19 @@ module _ (p : Program) (ac : Accept p) (first : HasFirstForms p) (fr : Frame) (f
   null_call o y unmet (row, null, target) t =
       let st = agrees.standing.0 in
       let way = way_of_call s row in
-      let form = first_step p ac first fr st i s here in
-      let small = (ready p ac first fr st i s here way).small in
-      tracks_call p ac first h heap agrees.unlinked unlinked fr st i s here way v o y y (same_goes_on y) unmet t row
+      let form = plain_step p ac forms fr st i s here in
+      let small = (ready p ac forms fr st i s here way).small in
+      tracks_call p ac forms h heap agrees.unlinked unlinked fr st i s here way v o y y (same_goes_on y) unmet t row
       (ap (λ (names : Names). set.is_subset names y.called) (called_names p st.number s.action s.edge t.fact form row)
       ∙ known_names p s.action t.fact.places t.fact.called y.called t.follows.called
       (λ n held named. absurd (null_is_no_object h (operand_of fr.locals s.action 0) o null
-      (operand_of_fact p h fr.method fr.locals s.action o 0 t.fact.places small (omega arith) t.follows.places (sym (first_receiver p s.action t.fact.places form) ∙ held)))))
+      (operand_of_fact p h fr.method fr.locals s.action o 0 t.fact.places small (omega arith) t.follows.places (receiver_operand p h fr.method fr.locals o s.action t.fact.places t.follows.places held).1))))
       (λ moved. true≢false (sym ((moved_is_given p t.origin s.action s.edge t.fact moved).started target)
-      ∙ is_owing p ac first h heap agrees.unlinked unlinked fr st i s here way v o y y (same_goes_on y) unmet t))
+      ∙ is_owing p ac forms h heap agrees.unlinked unlinked fr st i s here way v o y y (same_goes_on y) unmet t))
 
   top : (o : ℕ) (y : Object) → is_unmet y ≡ true → IsInnerStep p fr.locals s → Tracks p h fr o y → Tracks p heap after o y
   top o y unmet (inl (row, way, test)) t =
-      tracks_plain p ac first h heap agrees.unlinked unlinked fr agrees.standing.0 i s here way v o y y (same_goes_on y) unmet t row test
+      tracks_plain p ac forms h heap agrees.unlinked unlinked fr agrees.standing.0 i s here way v o y y (same_goes_on y) unmet t row test
   top o y unmet (inr null) t = null_call o y unmet null t
 
   tracked : IsInnerStep p fr.locals s → (o : ℕ) (y : Object) (j : ℕ) → object_at heap o ≡ Some y → is_unmet y ≡ true → y.owner ≡ owners.Frame j → IsTracked p heap (after ∷ frs) o y j
@@ -145,9 +144,18 @@ module _ (p : Program) (ac : Accept p) (first : HasFirstForms p) (fr : Frame) (f
     | inr new ↦ absurd (let never : owners.Frame j ≡ owners.Library = sym owner ∙ new.1 in cc)
   ]
 
-  pub inner_agrees : Stands p after → IsMainAlone p (after ∷ frs) → IsInnerStep p fr.locals s
+  keeps : KeepsClasses h heap
+  keeps = record {
+    count = (let more = thrown_count p e h in let same = stored_count p (method_at p fr.method) fr.locals store (thrown_heap p e h) is_plain in omega (arith, more, same));
+    class = λ o y at small. elim (was_there o y at) [
+      | inl old ↦ (y, old, refl)
+      | inr new ↦ absurd (let number = new.0 in omega (arith, number, small))
+    ];
+  }
+
+  pub inner_agrees : Stands p after → IsInnerStep p fr.locals s
       → Agrees p (after ∷ frs) (inner p h fr.method fr.locals e s.action s.pos (held_by (after ∷ frs))).heap
       (es ++ (inner p h fr.method fr.locals e s.action s.pos (held_by (after ∷ frs))).lines)
-  inner_agrees stands alone kind =
-      let agreed = landed p (after ∷ frs) heap es s.pos [] (stands, agrees.standing.1) alone unlinked (tracked kind) answered agrees.no_leak refl in
-      rw (first_lines p s.pos (method_at p fr.method) fr.locals store (thrown_heap p e h) is_first, first_displaced p s.pos store (thrown_heap p e h) is_first) agreed
+  inner_agrees stands kind =
+      let agreed = landed p (after ∷ frs) heap es s.pos [] (stands, agrees.standing.1) (called_on p h heap keeps fr after frs refl refl agrees.stacked) unlinked (tracked kind) answered agrees.no_leak refl in
+      rw (plain_lines p s.pos (method_at p fr.method) fr.locals store (thrown_heap p e h) is_plain, plain_displaced p s.pos store (thrown_heap p e h) is_plain) agreed

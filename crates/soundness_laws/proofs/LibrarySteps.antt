@@ -41,8 +41,8 @@ use Rattle.ledger_frames.specs.Frames.{frame_after}
 use Rattle.ledger_steps.specs.CallSteps.{library_done, library_entries, library_heap}
 use Rattle.heap_laws.specs.Heaps.{GoesOn, IsOlder, IsUnlinked}
 use Rattle.place_laws.specs.Places.{IsWay}
-use Rattle.agreement.specs.Agreement.{Agrees, IsMainAlone, IsTracked, Stands, Tracks, is_answering}
-use Rattle.agreement.specs.FirstForms.{HasFirstForms, IsFirstAction, IsPlainSignature}
+use Rattle.agreement.specs.Agreement.{Agrees, IsTracked, Stands, Tracks, is_answering}
+use Rattle.agreement.specs.PlainForms.{HasPlainForms, IsPlainAction, IsPlainSignature}
 use Rattle.conduct_laws.specs.Fitting.{FitsMethod}
 use Rattle.library_call_laws.specs.LibraryCalls.{IsMadeAs}
 use Rattle.owned_fact_laws.specs.Outcomes.{IsCallRow, IsPlainRow}
@@ -53,64 +53,22 @@ use Rattle.ownership_rules.specs.declared.moved.Moved.TheVariants as moves
 use Rattle.ledger_state.specs.declared.locals.Locals.{Locals}
 use Rattle.java_control.specs.declared.action.Edge.{Edge}
 use Rattle.java_control.specs.declared.action.PlainValue.TheVariants as plain
-use Rattle.soundness_laws.proofs.Births.{made_tracks}
-use Rattle.soundness_laws.proofs.CallNames.{called_names, first_receiver, known_names, operand_is_near, operand_of_fact}
-use Rattle.soundness_laws.proofs.InnerSteps.{way_of_call}
-use Rattle.soundness_laws.proofs.Landing.{landed}
-use Rattle.heap_laws.proofs.Laws.{roots_of_unlinked-root}
+use Rattle.tracking_laws.proofs.Births.{is_super, made_tracks}
+use Rattle.tracking_laws.proofs.CallNames.{called_names, known_names, noted_receiver, small_name}
+use Rattle.tracking_laws.proofs.Unmet.{unmet_before, way_of_call}
+use Rattle.tracking_laws.proofs.Stacks.{KeepsClasses, called_on}
+use Rattle.tracking_laws.proofs.Given.{given_argument}
+use Rattle.library_call_laws.proofs.Counts.{library_count}
+use Rattle.tracking_laws.proofs.Landing.{landed}
 use Rattle.library_call_laws.proofs.Laws.{given_arguments_stay_given, library_calls_leak_nothing, library_objects_are_older_or_made, receiver_is_called}
-use Rattle.soundness_laws.proofs.Moving.{moved_is_given}
-use Rattle.soundness_laws.proofs.Ready.{first_step, ready}
-use Rattle.soundness_laws.proofs.Tracking.{IsTrueTest, stack_tracks, tracks_call, tracks_plain}
+use Rattle.tracking_laws.proofs.Ready.{plain_step, ready}
+use Rattle.tracking_laws.proofs.Tracking.{IsTrueTest, stack_tracks, tracks_call, tracks_plain}
 
--- an object by its root
-object_of_root : (h : HeapContents) (v : Value) (o : ℕ) → IsUnlinked h → root_of h v ≡ Some o → number_of v ≡ Some o
-object_of_root h (values.Object k) o unlinked is = ap Some (sym (roots_of_unlinked-root h k unlinked)) ∙ is
-object_of_root h values.Nothing o unlinked is = absurd (let never : None ≡ Some o = is in cc)
-object_of_root h v o unlinked is = absurd (let never : None ≡ Some o = is in cc)
-
--- a note is among itself
-same_here : (k : ℕ) (n : NameId) → has_note (note false k n ∷ []) (note false k n) ≡ true
-same_here k n = rw (eq-eqb k k refl, eq-eqb n.0 n.0 refl) refl
-
--- the note of a receiver that is an operand
-noted_receiver : (p : Program) (l : Locals) (a : Action) (held : PlaceSet) (k : ℕ) (n : NameId) (m : Option Method) → IsFirstAction p a → holds_operand a held 0 ≡ true
-    → number_of (operand_of l a 0) ≡ Some k → calls.interest_in m ≡ Some n → has_note (receiver_note l a m) (note false k n) ≡ true
-noted_receiver p l actions.Skip held k n m first is number interest = absurd (true≢false (sym is))
-noted_receiver p l (actions.Call c d e forms.Static) held k n m first is number interest = absurd (true≢false (sym is))
-noted_receiver p l (actions.Call c d e forms.Other) held k n m first is number interest = rw (number, interest) (same_here k n)
-noted_receiver p l (actions.Call c d e forms.This) held k n m first is number interest = absurd first.1
-noted_receiver p l (actions.Call c d e forms.Super) held k n m first is number interest = absurd first.1
-noted_receiver p l (actions.Super c d e) held k n m first is number interest = absurd first
-noted_receiver p l a held k n m first is number interest = absurd (true≢false (sym is))
-
-same_interest : (m : Option Method) → calls.interest_in m ≡ interest_in m
-same_interest None = refl
-same_interest (Some m) = refl
-
-small_name : (p : Program) (a : Action) (n : NameId) → HasSmallInterests p → interest_in (callee p a) ≡ Some n → n.0 < 128
-small_name p a n small is = go (callee p a) refl is
-  where
-    go : (x : Option Method) → callee p a ≡ x → interest_in x ≡ Some n → n.0 < 128
-    go None at named = absurd (let never : None ≡ Some n = named in cc)
-    go (Some x) at named = callee_small p a x n small at named
-
--- an unmet object was unmet before
-unmet_before : (x y : Object) → GoesOn x y → is_unmet y ≡ true → is_unmet x ≡ true
-unmet_before x y goes unmet =
-    let parts = and_parts y.finished (not (set.is_subset y.must y.called)) unmet in
-    and_from x.finished (not (set.is_subset x.must x.called)) (sym goes.finished ∙ parts.0) (ap not (go (set.is_subset x.must x.called) refl (not-true (set.is_subset y.must y.called) parts.1)))
-  where
-    go : (b : Bool) → set.is_subset x.must x.called ≡ b → set.is_subset y.must y.called ≡ false → set.is_subset x.must x.called ≡ false
-    go true is more = absurd (true≢false (
-        sym (ap (λ (s : Names). set.is_subset s y.called) goes.must ∙ within_trans x.must x.called y.called is goes.called) ∙ more))
-    go false is more = is
-
-plain_reset : (m : Option Method) → IsPlainSignature m → reset_position m ≡ None
+pub plain_reset : (m : Option Method) → IsPlainSignature m → reset_position m ≡ None
 plain_reset None plain = refl
 plain_reset (Some m) plain = plain.1
 
-plain_alias : (m : Option Method) → IsPlainSignature m → alias_position m ≡ None
+pub plain_alias : (m : Option Method) → IsPlainSignature m → alias_position m ≡ None
 plain_alias None plain = refl
 plain_alias (Some m) plain = plain.0
 
@@ -152,9 +110,10 @@ frame_owner a m i j same = owning_frame (owning_in m) i j same
 pub record IsLibraryStep (p : Program) (h : HeapContents) (s : Step) (named : MethodId) (d : Conduct) (v : Value) : Type 0 where
   pub row : (IsCallRow s.action × (called_method s.action ≡ Some named)) ⊎ IsConstantRead s.action
   pub signature : IsPlainSignature (method_at p named)
+  pub other : (e : ClassId) → d ≡ conducts.Fresh e → is_super s.action ≡ false
   pub made : (e : ClassId) → d ≡ conducts.Fresh e → (s.edge ≡ edges.Go) × FitsMethod p (method_at p named) (conducts.Fresh e) × (v ≡ values.Object (next_number h))
 
-module _ (p : Program) (ac : Accept p) (first : HasFirstForms p) (names : HasSmallInterests p) (fr : Frame) (frs : List Frame) (h : HeapContents)
+module _ (p : Program) (ac : Accept p) (forms : HasPlainForms p) (names : HasSmallInterests p) (fr : Frame) (frs : List Frame) (h : HeapContents)
     (es : List Entry) (agrees : Agrees p (fr ∷ frs) h es) (i : ℕ) (s : Step) (here : slice_get (frame_steps p fr) i ≡ Some s) (named : MethodId) (d : Conduct) (v : Value)
     (step : IsLibraryStep p h s named d v) where
   abbrev after : Frame
@@ -221,39 +180,32 @@ module _ (p : Program) (ac : Accept p) (first : HasFirstForms p) (names : HasSma
     st : Stands p fr
     st = agrees.standing.0
 
-    form : IsFirstAction p s.action
-    form = first_step p ac first fr st i s here
+    form : IsPlainAction p s.action
+    form = plain_step p ac forms fr st i s here
 
     small : IsSmallAction p s.action
-    small = (ready p ac first fr st i s here (way_of_call s row)).small
+    small = (ready p ac forms fr st i s here (way_of_call s row)).small
 
     same_callee : callee p s.action ≡ method_at p named
     same_callee = ap (callee_in p) called
 
     noted : (n : NameId) → holds_receiver s.action t.fact.places ≡ true → interest_in (callee p s.action) ≡ Some n → set.contains y.called n.0 ≡ true
     noted n held interest =
-        let is : holds_operand s.action t.fact.places 0 ≡ true = sym (first_receiver p s.action t.fact.places form) ∙ held in
-        let root = operand_of_fact p h fr.method fr.locals s.action o 0 t.fact.places small (omega arith) t.follows.places is in
+        let has = noted_receiver p ac h fr.method fr.locals s.action o t.fact.places n agrees.unlinked form small t.follows.places held interest in
         receiver_is_called p fr.locals s.action (method_at p named) (method_at p named) d (length frs + 1) h (note false o n) x y no_reset (plain_alias (method_at p named) step.signature)
-        (noted_receiver p fr.locals s.action t.fact.places o n (method_at p named) form is (object_of_root h (operand_of fr.locals s.action 0) o agrees.unlinked root)
-        (same_interest (method_at p named) ∙ sym (ap interest_in same_callee) ∙ interest))
+        (subst (λ (m : Option Method). has_note (receiver_note fr.locals s.action m) (note false o n) ≡ true) same_callee has)
         (small_name p s.action n names interest) before now
 
     stays : moved_at_call p t.origin s.action s.edge t.fact ≡ moves.Moves → ⊥
     stays moved =
-        let given = moved_is_given p t.origin s.action s.edge t.fact moved in
-        let near = operand_is_near p s.action t.fact.places given.index small given.operand in
-        let root = operand_of_fact p h fr.method fr.locals s.action o (given.index + 1) t.fact.places small (omega (arith, near)) t.follows.places given.operand in
-        let finished : x.finished ≡ true = (and_parts x.finished (not (set.is_subset x.must x.called)) (unmet_before x y goes unmet)).0 in
-        let fits' = within_trans (must_of p x.class) (must_of p t.origin.class) (must_of_type p given.param.vtype) t.follows.class given.fits in
+        let given = given_argument p h fr.method fr.locals s.action s.edge o j x t.origin t.fact small t.follows (unmet_before x y goes unmet) mine moved in
         let given_to = given_arguments_stay_given p fr.locals s.action (method_at p named) (method_at p named) d (length frs + 1) given.index given.param h o x y no_reset (plain_alias (method_at p named) step.signature)
-        (subst (λ (m : Option Method). slice_get (params_in m) given.index ≡ Some given.param) same_callee given.at) given.owning
-        (subst (λ (n : ℕ). root_of h (operand_of fr.locals s.action n) ≡ Some o) (omega arith) root) before (rw (finished, mine, fits') refl) now in
+        (subst (λ (m : Option Method). slice_get (params_in m) given.index ≡ Some given.param) same_callee given.at) given.owning given.root before given.may now in
         let never : owners.Frame j ≡ owners.Library = sym owner ∙ given_to in
         cc
 
     top_call : Tracks p heap after o y
-    top_call = tracks_call p ac first h heap agrees.unlinked unlinked fr st i s here (way_of_call s row) v o x y goes unmet t row
+    top_call = tracks_call p ac forms h heap agrees.unlinked unlinked fr st i s here (way_of_call s row) v o x y goes unmet t row
         (ap (λ (called_names' : Names). set.is_subset called_names' y.called) (called_names p st.number s.action s.edge t.fact form row)
         ∙ known_names p s.action t.fact.places t.fact.called y.called (within_trans t.fact.called x.called y.called t.follows.called goes.called) noted)
         stays
@@ -262,7 +214,7 @@ module _ (p : Program) (ac : Accept p) (first : HasFirstForms p) (names : HasSma
       → Tracks p h fr o x → Tracks p heap after o y
   top o j x y before now goes unmet mine owner t = elim step.row [
     | inl call ↦ top_call call.0 call.1 o j x y before now goes unmet mine owner t
-    | inr constant ↦ tracks_plain p ac first h heap agrees.unlinked unlinked fr agrees.standing.0 i s here (constant_way s.action s.edge constant) v o x y goes unmet t
+    | inr constant ↦ tracks_plain p ac forms h heap agrees.unlinked unlinked fr agrees.standing.0 i s here (constant_way s.action s.edge constant) v o x y goes unmet t
         (constant_row s.action constant) (constant_test fr.locals s.action s.edge constant)
   ]
 
@@ -271,7 +223,7 @@ module _ (p : Program) (ac : Accept p) (first : HasFirstForms p) (names : HasSma
       → y.owner ≡ owners.Frame j → IsTracked p heap (after ∷ frs) (next_number h) y j
   made_top e is j y made unmet owner = elim step.row [
     | inl call ↦ at_top (frame_owner s.action (method_at p named) (length frs + 1) j (sym owner ∙ made.2)) (subst (λ (w : Value). Tracks p heap (frame_after p h fr s w) (next_number h) y) (sym (step.made e is).2)
-        (made_tracks p ac first h heap unlinked fr agrees.standing.0 i s here (way_of_call s call.0) (next_number h) y e j (length frs + 1) unmet (step.made e is).0 owner call.0
+        (made_tracks p ac forms h heap unlinked fr agrees.standing.0 i s here (way_of_call s call.0) (next_number h) y e j (length frs + 1) unmet (step.made e is).0 owner call.0 (step.other e is)
         (λ m at. subst (λ (z : MethodId). IsMadeAs p s.action (method_at p z) (length frs + 1) (conducts.Fresh e) y × FitsMethod p (method_at p z) (conducts.Fresh e))
         (let same : Some named ≡ Some m = sym call.1 ∙ at in cc) (made, (step.made e is).1))))
     | inr constant ↦ absurd (constant_owner s.action (method_at p named) (length frs + 1) j constant (sym owner ∙ made.2))
@@ -307,9 +259,18 @@ module _ (p : Program) (ac : Accept p) (first : HasFirstForms p) (names : HasSma
     | inr new ↦ subst (λ (z : ℕ). IsTracked p heap (after ∷ frs) z y j) (sym new.0) (made_tracked d refl j y new.1 unmet owner)
   ]
 
-  pub library_agrees : Stands p after → IsMainAlone p (after ∷ frs)
+  keeps : KeepsClasses h heap
+  keeps = record {
+    count = library_count p fr.locals s.action (method_at p named) (method_at p named) d (length frs + 1) h;
+    class = λ o y at small. elim (was_there o y at) [
+      | inl old ↦ (old.before, old.at, old.goes_on.class)
+      | inr new ↦ absurd (let number = new.0 in omega (arith, number, small))
+    ];
+  }
+
+  pub library_agrees : Stands p after
       → Agrees p (after ∷ frs) (library_done p h fr.locals s.action (method_at p named) (method_at p named) d (length frs + 1) s.pos (held_by (after ∷ frs))).heap
       (es ++ (library_done p h fr.locals s.action (method_at p named) (method_at p named) d (length frs + 1) s.pos (held_by (after ∷ frs))).lines)
-  library_agrees stands alone = landed p (after ∷ frs) heap es s.pos (library_entries p s.pos fr.locals s.action (method_at p named) (method_at p named) d (length frs + 1) h)
-      (stands, agrees.standing.1) alone unlinked tracked answered agrees.no_leak
+  library_agrees stands = landed p (after ∷ frs) heap es s.pos (library_entries p s.pos fr.locals s.action (method_at p named) (method_at p named) d (length frs + 1) h)
+      (stands, agrees.standing.1) (called_on p h heap keeps fr after frs refl refl agrees.stacked) unlinked tracked answered agrees.no_leak
       (library_calls_leak_nothing p s.pos fr.locals s.action (method_at p named) (method_at p named) d (length frs + 1) h)

@@ -33,11 +33,11 @@ use Rattle.agreement.specs.Agreement.{Agrees, Stands, Tracks}
 use Rattle.owned_fact_laws.specs.Outcomes.{IsFault}
 use Rattle.owned_fact_laws.proofs.Ends.{end_row, result_stays}
 use Rattle.owned_fact_laws.proofs.OwedFacts.{owed}
-use Rattle.soundness_laws.proofs.Following.{breaks_nothing}
-use Rattle.soundness_laws.proofs.Landing.{no_leak_in_both}
+use Rattle.tracking_laws.proofs.Following.{breaks_nothing}
+use Rattle.tracking_laws.proofs.Landing.{no_leak_in_both}
 use Rattle.heap_laws.proofs.Laws.{changed_object_at-object, end_of_frame_leaks_nothing}
-use Rattle.soundness_laws.proofs.Ready.{step_there}
-use Rattle.soundness_laws.proofs.Tracking.{same_body}
+use Rattle.tracking_laws.proofs.Ready.{step_there}
+use Rattle.tracking_laws.proofs.Tracking.{same_body}
 
 owned_by_frame : (w : Owner) (j : ℕ) → is_frame w j ≡ true → w ≡ owners.Frame j
 owned_by_frame (owners.Frame i) j is = ap owners.Frame (eqb-true i j is)
@@ -57,7 +57,7 @@ module _ (p : Program) (ac : Accept p) (fr : Frame) (h : HeapContents) (es : Lis
   st = agrees.standing.0
 
   no_result : result_type p st.number ≡ None
-  no_result = ap (λ (b : Option Body). result_in (method_in p b)) st.at ∙ ap (λ (m : MethodId). result_in (method_at p m)) st.method ∙ agrees.alone
+  no_result = ap (λ (b : Option Body). result_in (method_in p b)) st.at ∙ ap (λ (m : MethodId). result_in (method_at p m)) st.method ∙ agrees.stacked
 
   none_owed : (o : ℕ) (x : Object) → object_at h o ≡ Some x → is_unmet x ≡ true → x.owner ≡ owners.Frame 1 → ⊥
   none_owed o x at unmet owner =
@@ -107,7 +107,7 @@ module _ (p : Program) (ac : Accept p) (fr : Frame) (h : HeapContents) (es : Lis
   pub main_agrees : (pos : Pos) → Agrees p [] (main_gone p h pos).heap (es ++ (main_gone p h pos).lines)
   main_agrees pos = record {
     standing = tt;
-    alone = tt;
+    stacked = tt;
     unlinked = unlinked;
     tracked = λ o y j at unmet owner. no_frame o y j (unmet_was_there o y at unmet) unmet owner;
     answered = λ o y at unmet. agrees.answered o y (unmet_was_there o y at unmet) unmet;

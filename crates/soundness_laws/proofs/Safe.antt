@@ -9,7 +9,7 @@ use Rattle.ledger_obligations.specs.Obligations.{is_unmet, is_unmet_in, owner_in
 use Rattle.ledger_calls.specs.Configuration.{Config, Frame}
 use Rattle.safety.specs.Safety.{IsGiven, IsLive, IsSafeAt, IsUnmet, by_itself, owner_of}
 use Rattle.agreement.specs.Agreement.{Agree, IsTracked, is_answering}
-use Rattle.soundness_laws.proofs.Landing.{tracked_held}
+use Rattle.tracking_laws.proofs.Landing.{tracked_held}
 
 module _ (p : Program) (c : Config) (agrees : Agree p c) where
   -- the object of a number that is unmet

@@ -4,6 +4,8 @@ use Rattle.std.proofs.lemmas.Bool.{and_parts}
 use Rattle.std.proofs.lemmas.List.{length-replicate}
 use Rattle.program_model.specs.declared.kinds.BodyId.{BodyId}
 use Rattle.program_model.specs.declared.kinds.MethodId.{MethodId}
+use Rattle.program_model.specs.declared.kinds.MethodKind.{MethodKind}
+use Rattle.program_model.specs.declared.kinds.MethodKind.TheVariants as methods
 use Rattle.program_model.specs.declared.kinds.VType.{VType}
 use Rattle.program_model.specs.declared.program.Method.{Method}
 use Rattle.program_model.specs.declared.program.ParamSig.{ParamSig}
@@ -50,6 +52,19 @@ main_parts m is =
     let second = and_parts (is_static m.kind && has_no_result m.sig.result) (bytes_eq m.name (codes "main")) first.0 in
     let third = and_parts (is_static m.kind) (has_no_result m.sig.result) second.0 in
     (no_result_of m.sig.result third.1, first.1)
+
+static_kind : (k : MethodKind) → is_static k ≡ true → k ≡ methods.Static
+static_kind methods.Static is = refl
+static_kind methods.Instance is = absurd (true≢false (sym is))
+static_kind methods.Ctor is = absurd (true≢false (sym is))
+static_kind methods.Constant is = absurd (true≢false (sym is))
+
+-- a `main` is static
+pub static_main : (m : Method) → is_main m ≡ true → m.kind ≡ methods.Static
+static_main m is =
+    let first = and_parts (is_static m.kind && has_no_result m.sig.result && bytes_eq m.name (codes "main")) (takes_texts m.sig.params.items) is in
+    let second = and_parts (is_static m.kind && has_no_result m.sig.result) (bytes_eq m.name (codes "main")) first.0 in
+    static_kind m.kind (and_parts (is_static m.kind) (has_no_result m.sig.result) second.0).0
 
 some_variable : (vars : List Var) (params : List ParamSig) → takes_texts params ≡ true → HasParameters vars params → 1 ≤ length vars
 some_variable vars [] is has = absurd (true≢false (sym is))
@@ -106,7 +121,7 @@ module _ (p : Program) (ac : Accept p) (main : MethodId) where
       let begins = main_begins (method_at p main) refl is.0 is.1 in
       record {
         standing = (begins.0, tt);
-        alone = ap (λ (m : MethodId). result_in (method_at p m)) (same_method (body_of (method_at p main))) ∙ begins.1;
+        stacked = ap (λ (m : MethodId). result_in (method_at p m)) (same_method (body_of (method_at p main))) ∙ begins.1;
         unlinked = λ k x at. absurd (nothing_there k x at);
         tracked = λ o x j at unmet owner. absurd (nothing_there o x at);
         answered = λ o x at unmet. absurd (nothing_there o x at);

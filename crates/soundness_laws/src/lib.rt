@@ -1,4 +1,4 @@
-//! What the checker accepts is safe in every run: the first pass, for programs whose calls are calls of the library.
+//! What the checker accepts is safe in every run, for programs of the plain forms: calls of the library and of the program itself.
 #![tactic(auto)]
 
 mod soundness;

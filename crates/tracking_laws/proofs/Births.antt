@@ -1,4 +1,4 @@
--- The object that a call of the library makes for its frame is tracked from its birth on.
+-- The object that a call makes or gives for its frame is tracked from its birth on.
 use Rattle.std.proofs.Common.{◌≡◌, ℕ, ◌+◌, ◌<◌, ◌≤◌, max, Bool, true, false, not, Option, Some, None, ◌++◌, slice_get, nat_lt, nat_le, refl, sym, ap, ◌∙◌, subst, true≢false, if◌then◌else◌, arith, lt-ltb, le-leb}
 use Rattle.std.specs.FinSet as set
 use Rattle.std.proofs.lemmas.Cmp.{nat_cmp_total}
@@ -44,7 +44,7 @@ use Rattle.ledger_frames.specs.Frames.{frame_after, locals_after, made_place}
 use Rattle.heap_laws.specs.Heaps.{IsUnlinked}
 use Rattle.place_laws.specs.Places.{IsWay, is_local}
 use Rattle.agreement.specs.Agreement.{Stands, Tracks}
-use Rattle.agreement.specs.FirstForms.{HasFirstForms, IsFirstAction, IsPlainSignature}
+use Rattle.agreement.specs.PlainForms.{HasPlainForms, IsPlainAction, IsPlainSignature}
 use Rattle.named_step_laws.specs.Naming.{IsOfItsKind}
 use Rattle.named_step_laws.proofs.Reached.{names_what_is_there}
 use Rattle.conduct_laws.specs.Fitting.{FitsMethod}
@@ -54,10 +54,10 @@ use Rattle.java_control.specs.Calls.{called_method}
 use Rattle.ledger_calls.specs.Conducts.{owning_in}
 use Rattle.library_call_laws.specs.LibraryCalls.{IsMadeAs}
 use Rattle.owned_fact_laws.specs.Outcomes.{IsCallRow}
-use Rattle.soundness_laws.proofs.Carried.{Ready}
+use Rattle.tracking_laws.proofs.Carried.{Ready}
 use Rattle.heap_laws.proofs.Laws.{roots_of_unlinked-root}
 use Rattle.place_laws.proofs.Laws.{made_value_stands, single_place-alone, single_place-has, single_place-same, single_place-some}
-use Rattle.soundness_laws.proofs.Ready.{first_step, ready, step_there}
+use Rattle.tracking_laws.proofs.Ready.{plain_step, ready, step_there}
 
 -- the place of a result takes its value from no place
 among : (d n : ℕ) → 0 < n → is_temp_among d n (places.Temp d) ≡ true
@@ -82,8 +82,13 @@ origin_class : (p : Program) (kind : OriginKind) (pos : Pos) (c : ClassId) (firs
 origin_class p kind pos c None = refl
 origin_class p kind pos c (Some s) = refl
 
+-- the action calls a super constructor
+abbrev pub is_super : Action → Bool
+is_super (actions.Super m d n) = true
+is_super a = false
+
 -- an object of which nothing must be called is met
-heavy_by_unmet : (p : Program) (c : ClassId) (y : Object) → is_unmet y ≡ true → set.is_subset y.must (must_of p c) ≡ true → is_heavy_class p c ≡ true
+pub heavy_by_unmet : (p : Program) (c : ClassId) (y : Object) → is_unmet y ≡ true → set.is_subset y.must (must_of p c) ≡ true → is_heavy_class p c ≡ true
 heavy_by_unmet p c y unmet within = go (is_empty (must_of p c)) refl
   where
     go : (b : Bool) → is_empty (must_of p c) ≡ b → not (is_empty (must_of p c)) ≡ true
@@ -96,12 +101,13 @@ result_birth_is : (p : Program) (d : ℕ) (pos : Pos) (x : Method) (r : ClassId)
     → result_birth p d pos (Some x) ≡ Some (origin_of p kinds.Result pos r x.sig.first, fact_at (places.Temp d) modes.Own no_names false)
 result_birth_is p d pos x r alias result owning = rw (alias, result, owning) refl
 
-module _ (p : Program) (ac : Accept p) (first : HasFirstForms p) (h k : HeapContents) (uk : IsUnlinked k)
+module _ (p : Program) (ac : Accept p) (forms : HasPlainForms p) (h k : HeapContents) (uk : IsUnlinked k)
     (fr : Frame) (st : Stands p fr) (i : ℕ) (s : Step) (here : slice_get (frame_steps p fr) i ≡ Some s) (way : IsWay s.action s.edge) (n : ℕ) (y : Object) where
   born_tracks : (d : ℕ) (o : Origin) → d < 64 → birth_on p s.action s.edge s.pos ≡ Some (o, fact_at (places.Temp d) modes.Own no_names false)
       → made_place s.action ≡ Some (places.Temp d) → source p st.body s.action s.edge (places.Temp d) ≡ None
-      → fits p y.class o.class ≡ true → set.is_subset y.must o.first ≡ true → Tracks p k (frame_after p h fr s (values.Object n)) n y
-  born_tracks d o small birth made none class needed = record {
+      → fits p y.class o.class ≡ true → set.is_subset y.must o.first ≡ true → set.is_subset y.must (must_of p y.class) ≡ true
+      → Tracks p k (frame_after p h fr s (values.Object n)) n y
+  born_tracks d o small birth made none class needed bounded = record {
     body = st.number;
     id = st.id;
     origin = o;
@@ -111,6 +117,7 @@ module _ (p : Program) (ac : Accept p) (first : HasFirstForms p) (h k : HeapCont
     follows = record {
       own = refl;
       class = class;
+      bounded = bounded;
       need = needed;
       called = empty_within y.called;
       some = single_place-some (places.Temp d);
@@ -126,45 +133,73 @@ module _ (p : Program) (ac : Accept p) (first : HasFirstForms p) (h k : HeapCont
   }
     where
       r : Ready p fr.method fr.locals st.number st.body s.action s.edge
-      r = ready p ac first fr st i s here way
+      r = ready p ac forms fr st i s here way
 
+  small_step : IsSmallAction p s.action
+  small_step = (ready p ac forms fr st i s here way).small
+
+  -- the object of a `new`
+  pub new_tracks : (m : MethodId) (d c : ℕ) (x : Method) → s.action ≡ actions.New m d c → s.edge ≡ edges.Go → method_at p m ≡ Some x → x.sig.alias ≡ None → is_heavy_class p x.class ≡ true
+      → fits p y.class x.class ≡ true → set.is_subset y.must (origin_of p kinds.New s.pos x.class x.sig.first).first ≡ true → set.is_subset y.must (must_of p y.class) ≡ true
+      → Tracks p k (frame_after p h fr s (values.Object n)) n y
+  new_tracks m d c x is edge named alias heavy class needed bounded =
+      let room : d + c < 64 = subst (IsSmallAction p) is small_step in
+      born_tracks d (origin_of p kinds.New s.pos x.class x.sig.first) (omega arith)
+      (rw (is, edge, named, heavy, alias) refl)
+      (ap made_place is)
+      (ap (λ (a : Action). source p st.body a s.edge (places.Temp d)) is ∙ emptied_true _ (places.Temp d) (among d (c + 1) (omega arith)))
+      (ap (fits p y.class) (origin_class p kinds.New s.pos x.class x.sig.first) ∙ class)
+      needed bounded
+
+  -- an owning result
+  pub result_tracks : (m : MethodId) (d c : ℕ) (form : TargetForm) (x : Method) (r : ClassId) → s.action ≡ actions.Call m d c form → s.edge ≡ edges.Go → method_at p m ≡ Some x
+      → x.sig.alias ≡ None → x.sig.result ≡ Some (types.Obj r) → x.sig.owning_result ≡ true → fits p y.class r ≡ true
+      → set.is_subset y.must (origin_of p kinds.Result s.pos r x.sig.first).first ≡ true → set.is_subset y.must (must_of p y.class) ≡ true
+      → Tracks p k (frame_after p h fr s (values.Object n)) n y
+  result_tracks m d c form x r is edge named alias result owning class needed bounded =
+      let room : (d < 64) × (d + c ≤ 64) = subst (IsSmallAction p) is small_step in
+      born_tracks d (origin_of p kinds.Result s.pos r x.sig.first) room.0
+      (ap (λ (a : Action). birth_on p a s.edge s.pos) is ∙ ap (λ (f : Edge). birth_on p (actions.Call m d c form) f s.pos) edge
+      ∙ ap (result_birth p d s.pos) named ∙ result_birth_is p d s.pos x r alias result owning)
+      (ap made_place is)
+      (ap (λ (a : Action). source p st.body a s.edge (places.Temp d)) is ∙ emptied_true _ (places.Temp d) (or_left _ _ (among d (max c 1) (omega arith))))
+      (ap (fits p y.class) (origin_class p kinds.Result s.pos r x.sig.first) ∙ class)
+      needed bounded
+
+  kind_of : IsOfItsKind p s.action
+  kind_of = (names_what_is_there p ac.well_formed.valid.typed st.number st.body fr.control i (move_of s) st.at st.control (step_there p fr st i s here)).1
+
+  -- the object that a call of the library makes
   module _ (e : ClassId) (j at : ℕ) (unmet : is_unmet y ≡ true) (edge : s.edge ≡ edges.Go) (owner : y.owner ≡ owners.Frame j) where
     abbrev IsMade : Option Method → Type 0
     IsMade m = IsMadeAs p s.action m at (conducts.Fresh e) y × FitsMethod p m (conducts.Fresh e)
 
-    small_step : IsSmallAction p s.action
-    small_step = (ready p ac first fr st i s here way).small
-
     must_within : (m : Method) (c : ClassId) → fits p e c ≡ true → y.must ≡ first_set p e m.sig.first → set.is_subset y.must (must_of p c) ≡ true
     must_within m c fit must = ap (λ (t : Names). set.is_subset t (must_of p c)) must ∙ within_trans (first_set p e m.sig.first) (must_of p e) (must_of p c) (first_within p e m.sig.first) fit
+
+    bounded_by : (m : Method) → y.class ≡ e → y.must ≡ first_set p e m.sig.first → set.is_subset y.must (must_of p y.class) ≡ true
+    bounded_by m class must = ap (λ (c : ClassId). set.is_subset y.must (must_of p c)) class ∙ must_within m e (within_self (must_of p e)) must
 
     by_new : (m : MethodId) (d c : ℕ) (x : Method) → s.action ≡ actions.New m d c → method_at p m ≡ Some x → x.sig.alias ≡ None → is_constructor_kind x.kind ≡ true → IsMade (Some x)
         → Tracks p k (frame_after p h fr s (values.Object n)) n y
     by_new m d c x is named alias kind made =
         let same : x.class ≡ e = subst (λ (b : Bool). MatchBool b (x.class ≡ e) ((r : ClassId) × (x.sig.result ≡ Some (types.Obj r)) × (fits p e r ≡ true))) kind made.1 in
         let fit : fits p e x.class ≡ true = subst (λ (z : ClassId). fits p z x.class ≡ true) same (within_self (must_of p x.class)) in
-        let room : d + c < 64 = subst (IsSmallAction p) is small_step in
         let o = origin_of p kinds.New s.pos x.class x.sig.first in
-        born_tracks d o (omega arith)
-        (rw (is, edge, named, heavy_by_unmet p x.class y unmet (must_within x x.class fit made.0.1), alias) refl)
-        (ap made_place is)
-        (ap (λ (a : Action). source p st.body a s.edge (places.Temp d)) is ∙ emptied_true _ (places.Temp d) (among d (c + 1) (omega arith)))
-        (ap (fits p y.class) (origin_class p kinds.New s.pos x.class x.sig.first) ∙ ap (λ (z : ClassId). fits p z x.class) made.0.0 ∙ fit)
+        new_tracks m d c x is edge named alias (heavy_by_unmet p x.class y unmet (must_within x x.class fit made.0.1))
+        (ap (λ (z : ClassId). fits p z x.class) made.0.0 ∙ fit)
         (ap (λ (t : Names). set.is_subset t o.first) made.0.1 ∙ first_is_needed p kinds.New s.pos x.class e x.sig.first fit)
+        (bounded_by x made.0.0 made.0.1)
 
     by_call : (m : MethodId) (d c : ℕ) (form : TargetForm) (x : Method) → s.action ≡ actions.Call m d c form → method_at p m ≡ Some x → x.sig.alias ≡ None
         → is_constructor_kind x.kind ≡ false → x.sig.owning_result ≡ true → IsMade (Some x) → Tracks p k (frame_after p h fr s (values.Object n)) n y
     by_call m d c form x is named alias kind owning made =
         let result : (r : ClassId) × (x.sig.result ≡ Some (types.Obj r)) × (fits p e r ≡ true) = subst (λ (b : Bool). MatchBool b (x.class ≡ e) ((r : ClassId) × (x.sig.result ≡ Some (types.Obj r)) × (fits p e r ≡ true))) kind made.1 in
-        let room : (d < 64) × (d + c ≤ 64) = subst (IsSmallAction p) is small_step in
         let o = origin_of p kinds.Result s.pos result.0 x.sig.first in
-        born_tracks d o room.0
-        (ap (λ (a : Action). birth_on p a s.edge s.pos) is ∙ ap (λ (f : Edge). birth_on p (actions.Call m d c form) f s.pos) edge
-        ∙ ap (result_birth p d s.pos) named ∙ result_birth_is p d s.pos x result.0 alias result.1 owning)
-        (ap made_place is)
-        (ap (λ (a : Action). source p st.body a s.edge (places.Temp d)) is ∙ emptied_true _ (places.Temp d) (or_left _ _ (among d (max c 1) (omega arith))))
-        (ap (fits p y.class) (origin_class p kinds.Result s.pos result.0 x.sig.first) ∙ ap (λ (z : ClassId). fits p z result.0) made.0.0 ∙ result.2)
+        result_tracks m d c form x result.0 is edge named alias result.1 owning
+        (ap (λ (z : ClassId). fits p z result.0) made.0.0 ∙ result.2)
         (ap (λ (t : Names). set.is_subset t o.first) made.0.1 ∙ first_is_needed p kinds.Result s.pos result.0 e x.sig.first result.2)
+        (bounded_by x made.0.0 made.0.1)
 
     plain_alias : (m : Option Method) (x : Method) → IsPlainSignature m → m ≡ Some x → x.sig.alias ≡ None
     plain_alias m x plain is = (subst IsPlainSignature is plain).0
@@ -176,8 +211,9 @@ module _ (p : Program) (ac : Accept p) (first : HasFirstForms p) (h k : HeapCont
         go true is one = is
         go false is one = absurd (let never : owners.Library ≡ owners.Frame j = one in cc)
 
-    pub made_tracks : IsCallRow s.action → ((m : MethodId) → called_method s.action ≡ Some m → IsMade (method_at p m)) → Tracks p k (frame_after p h fr s (values.Object n)) n y
-    made_tracks row made = go s.action refl
+    pub made_tracks : IsCallRow s.action → is_super s.action ≡ false → ((m : MethodId) → called_method s.action ≡ Some m → IsMade (method_at p m))
+        → Tracks p k (frame_after p h fr s (values.Object n)) n y
+    made_tracks row other made = go s.action refl
       where
         go : (a : Action) → s.action ≡ a → Tracks p k (frame_after p h fr s (values.Object n)) n y
         go actions.Skip is = absurd (subst IsCallRow is row)
@@ -186,8 +222,8 @@ module _ (p : Program) (ac : Accept p) (first : HasFirstForms p) (h k : HeapCont
             by : (x : Option Method) → method_at p m ≡ x → Tracks p k (frame_after p h fr s (values.Object n)) n y
             by None named = absurd (subst IsMade named (made m (ap called_method is))).1
             by (Some x) named =
-                by_new m d c x is named (plain_alias (method_at p m) x (subst (IsFirstAction p) is (first_step p ac first fr st i s here)).signature named)
-                (sym (ap constructs named) ∙ subst (IsOfItsKind p) is (names_what_is_there p ac.well_formed.valid.typed st.number st.body fr.control i (move_of s) st.at st.control (step_there p fr st i s here)).1)
+                by_new m d c x is named (plain_alias (method_at p m) x (subst (IsPlainAction p) is (plain_step p ac forms fr st i s here)).signature named)
+                (sym (ap constructs named) ∙ subst (IsOfItsKind p) is kind_of)
                 (subst IsMade named (made m (ap called_method is)))
         go (actions.Call m d c form) is = by (method_at p m) refl
           where
@@ -195,9 +231,9 @@ module _ (p : Program) (ac : Accept p) (first : HasFirstForms p) (h k : HeapCont
             by None named = absurd (subst IsMade named (made m (ap called_method is))).1
             by (Some x) named =
                 let one = subst IsMade named (made m (ap called_method is)) in
-                by_call m d c form x is named (plain_alias (method_at p m) x (subst (IsFirstAction p) is (first_step p ac first fr st i s here)).0.signature named)
-                (sym (ap constructs named) ∙ subst (IsOfItsKind p) is (names_what_is_there p ac.well_formed.valid.typed st.number st.body fr.control i (move_of s) st.at st.control (step_there p fr st i s here)).1)
+                by_call m d c form x is named (plain_alias (method_at p m) x (subst (IsPlainAction p) is (plain_step p ac forms fr st i s here)).signature named)
+                (sym (ap constructs named) ∙ subst (IsOfItsKind p) is kind_of)
                 (frame_is_owning (Some x) (ap (λ (a : Action). result_owner a (Some x) at) (sym is) ∙ sym one.0.2 ∙ owner))
                 one
-        go (actions.Super m d c) is = absurd (subst (IsFirstAction p) is (first_step p ac first fr st i s here))
+        go (actions.Super m d c) is = absurd (true≢false (sym (ap is_super is) ∙ other))
         go a is = absurd (subst IsCallRow is row)

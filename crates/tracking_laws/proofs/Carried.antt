@@ -3,11 +3,12 @@ use Rattle.std.proofs.Common.{◌≡◌, ℕ, ◌+◌, Bool, true, false, Option
 use Rattle.std.specs.FinSet as set
 use Rattle.std.specs.Prelude.{MatchBool}
 use Rattle.program_model.specs.declared.kinds.BodyId.{BodyId}
+use Rattle.program_model.specs.declared.kinds.ClassId.{ClassId}
 use Rattle.program_model.specs.declared.kinds.MethodId.{MethodId}
 use Rattle.program_model.specs.declared.program.Program.{Program}
 use Rattle.program_model.specs.declared.tree.Body.{Body}
 use Rattle.program_model.specs.Lookups.{body_at}
-use Rattle.must_call_sets.specs.MustCallSets.{Names, fits}
+use Rattle.must_call_sets.specs.MustCallSets.{Names, fits, must_of}
 use Rattle.java_control.specs.PlaceNumbers.{IsSmall}
 use Rattle.java_control.specs.Sources.{source}
 use Rattle.java_control.specs.declared.action.Action.{Action}
@@ -33,7 +34,7 @@ use Rattle.ledger_frames.specs.Frames.{locals_after}
 use Rattle.rlc_base.proofs.SetLaws.{within_trans}
 use Rattle.heap_laws.specs.Heaps.{GoesOn, IsUnlinked}
 use Rattle.place_laws.specs.Places.{HasTarget, IsWay, SetsLocals, has_source, is_local}
-use Rattle.agreement.specs.Agreement.{Follows, IsTracked, Tracks}
+use Rattle.agreement.specs.Agreement.{Awaits, Follows, IsAwaited, Tracks}
 use Rattle.heap_laws.proofs.Laws.{roots_of_unlinked-value}
 use Rattle.place_laws.proofs.Laws.{no_other_place_joins, places_come_from_sources, places_stay_in_range, source_is_small, value_comes_from_source}
 
@@ -46,6 +47,11 @@ pub record Ready (p : Program) (m : MethodId) (l : Locals) (b : BodyId) (body : 
   pub target : HasTarget l a
   pub no_alias : alias_operand p a ≡ None
   pub way : IsWay a e
+
+-- an object that goes on has no more to be called than its class
+pub still_bounded : (p : Program) (x y : Object) → GoesOn x y → set.is_subset x.must (must_of p x.class) ≡ true → set.is_subset y.must (must_of p y.class) ≡ true
+still_bounded p x y goes before =
+    ap (λ (s : Names). set.is_subset s (must_of p y.class)) goes.must ∙ ap (λ (c : ClassId). set.is_subset x.must (must_of p c)) goes.class ∙ before
 
 -- the places hold the object
 abbrev pub HoldIt : Program → HeapContents → MethodId → Locals → ℕ → PlaceSet → Type 0
@@ -77,6 +83,7 @@ module _ (p : Program) (h k : HeapContents) (m : MethodId) (l : Locals) (b : Bod
     carried names known some = record {
       own = refl;
       class = ap (λ c. fits p c origin.class) goes.class ∙ before.class;
+      bounded = still_bounded p x y goes before.bounded;
       need = ap (λ s. set.is_subset s (need origin f)) goes.must ∙ before.need;
       called = known;
       some = some;
@@ -92,6 +99,7 @@ module _ (p : Program) (h k : HeapContents) (m : MethodId) (l : Locals) (b : Bod
     kept stay = record {
       own = before.own;
       class = ap (λ c. fits p c origin.class) goes.class ∙ before.class;
+      bounded = still_bounded p x y goes before.bounded;
       need = ap (λ s. set.is_subset s (need origin f)) goes.must ∙ before.need;
       called = known_still;
       some = before.some;
@@ -109,11 +117,12 @@ local_value p h k m l places.This local = absurd (true≢false (sym local))
 local_value p h k m l (places.Field n) local = absurd (true≢false (sym local))
 local_value p h k m l places.Super local = absurd (true≢false (sym local))
 
-awaits : (p : Program) (h k : HeapContents) (m : MethodId) (l : Locals) (o : ℕ) (x y : Object) (origin : Origin) (f : Fact) → IsUnlinked h → IsUnlinked k → GoesOn x y
+pub awaits : (p : Program) (h k : HeapContents) (m : MethodId) (l : Locals) (o : ℕ) (x y : Object) (origin : Origin) (f : Fact) → IsUnlinked h → IsUnlinked k → GoesOn x y
     → Follows p h m l o x origin f → Follows p k m l o y origin f
 awaits p h k m l o x y origin f uh uk goes before = record {
   own = before.own;
   class = ap (λ c. fits p c origin.class) goes.class ∙ before.class;
+  bounded = still_bounded p x y goes before.bounded;
   need = ap (λ s. set.is_subset s (need origin f)) goes.must ∙ before.need;
   called = within_trans f.called x.called y.called before.called goes.called;
   some = before.some;
@@ -123,19 +132,22 @@ awaits p h k m l o x y origin f uh uk goes before = record {
       (was.0, roots_of_unlinked-value k h (place_value p k m l q) uk uh ∙ ap (root_of h) (local_value p h k m l q was.0) ∙ was.1);
 }
 
-pub still_tracked : (p : Program) (h k : HeapContents) (frs : List Frame) (o : ℕ) (x y : Object) (j : ℕ) → IsUnlinked h → IsUnlinked k → GoesOn x y
-    → IsTracked p h frs o x j → IsTracked p k frs o y j
-still_tracked p h k [] o x y j uh uk goes before = before
-still_tracked p h k (fr ∷ frs) o x y j uh uk goes before = go (still_tracked p h k frs o x y j uh uk goes) (nat_eq (length frs + 1) j) before
+abbrev pub tracks_on : (p : Program) (h k : HeapContents) (fr : Frame) (o : ℕ) (x y : Object) → IsUnlinked h → IsUnlinked k → GoesOn x y → Tracks p h fr o x → Tracks p k fr o y
+tracks_on p h k fr o x y uh uk goes t = record {
+  body = t.body;
+  id = t.id;
+  origin = t.origin;
+  fact = t.fact;
+  reached = t.reached;
+  follows = awaits p h k fr.method fr.locals o x y t.origin t.fact uh uk goes t.follows;
+}
+
+pub still_awaited : (p : Program) (h k : HeapContents) (frs : List Frame) (o : ℕ) (x y : Object) (j : ℕ) → IsUnlinked h → IsUnlinked k → GoesOn x y
+    → IsAwaited p h frs o x j → IsAwaited p k frs o y j
+still_awaited p h k [] o x y j uh uk goes before = before
+still_awaited p h k (fr ∷ frs) o x y j uh uk goes before = go (still_awaited p h k frs o x y j uh uk goes) (nat_eq (length frs + 1) j) before
   where
-    go : (IsTracked p h frs o x j → IsTracked p k frs o y j) → (b : Bool)
-        → MatchBool b (Tracks p h fr o x) (IsTracked p h frs o x j) → MatchBool b (Tracks p k fr o y) (IsTracked p k frs o y j)
-    go further true t = record {
-      body = t.body;
-      id = t.id;
-      origin = t.origin;
-      fact = t.fact;
-      reached = t.reached;
-      follows = awaits p h k fr.method fr.locals o x y t.origin t.fact uh uk goes t.follows;
-    }
+    go : (IsAwaited p h frs o x j → IsAwaited p k frs o y j) → (b : Bool)
+        → MatchBool b (Awaits p h fr o x) (IsAwaited p h frs o x j) → MatchBool b (Awaits p k fr o y) (IsAwaited p k frs o y j)
+    go further true t = record { tracks = tracks_on p h k fr o x y uh uk goes t.tracks; stays = t.stays }
     go further false w = further w

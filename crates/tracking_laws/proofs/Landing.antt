@@ -18,7 +18,7 @@ use Rattle.ledger_calls.specs.Configuration.{Frame, held_by}
 use Rattle.ledger_steps.specs.Effects.{left}
 use Rattle.run_command.specs.RunAnswers.{is_leak}
 use Rattle.heap_laws.specs.Heaps.{IsUnlinked}
-use Rattle.agreement.specs.Agreement.{Agrees, AllStand, IsMainAlone, IsTracked, Tracks, is_answering}
+use Rattle.agreement.specs.Agreement.{Agrees, AllStand, Awaits, IsAwaited, IsStacked, IsTracked, Tracks, is_answering}
 use Rattle.heap_laws.proofs.Laws.{nothing_is_lost, step_leaks_nothing-lines}
 use Rattle.place_laws.proofs.Laws.{held_place_counts, some_place_is_held}
 
@@ -43,16 +43,32 @@ below_top b xs ys is = rw is refl
 same_position : (frs : List Frame) (j : ℕ) → nat_eq (length (held_by frs) + 1) j ≡ nat_eq (length frs + 1) j
 same_position frs j = ap (λ n. nat_eq (n + 1) j) (length_held frs)
 
+top_held : (p : Program) (h : HeapContents) (fr : Frame) (frs : List Frame) (o j : ℕ) → nat_eq (length frs + 1) j ≡ true → holds h (held fr.locals) o ≡ true
+    → holds h (held_at (held_by (fr ∷ frs)) j) o ≡ true
+top_held p h fr frs o j at is =
+    ap (λ (vs : List Value). holds h vs o) (at_top (nat_eq (length (held_by frs) + 1) j) (held fr.locals) (held_at (held_by frs) j) (same_position frs j ∙ at)) ∙ is
+
+rest_held : (p : Program) (h : HeapContents) (fr : Frame) (frs : List Frame) (o j : ℕ) → nat_eq (length frs + 1) j ≡ false → holds h (held_at (held_by frs) j) o ≡ true
+    → holds h (held_at (held_by (fr ∷ frs)) j) o ≡ true
+rest_held p h fr frs o j at is =
+    ap (λ (vs : List Value). holds h vs o) (below_top (nat_eq (length (held_by frs) + 1) j) (held fr.locals) (held_at (held_by frs) j) (same_position frs j ∙ at)) ∙ is
+
+awaited_held : (p : Program) (h : HeapContents) (frs : List Frame) (o : ℕ) (x : Object) (j : ℕ) → IsAwaited p h frs o x j → holds h (held_at (held_by frs) j) o ≡ true
+awaited_held p h [] o x j t = absurd t
+awaited_held p h (fr ∷ frs) o x j t = go (awaited_held p h frs o x j) (nat_eq (length frs + 1) j) refl t
+  where
+    go : (IsAwaited p h frs o x j → holds h (held_at (held_by frs) j) o ≡ true) → (b : Bool) → nat_eq (length frs + 1) j ≡ b
+        → MatchBool b (Awaits p h fr o x) (IsAwaited p h frs o x j) → holds h (held_at (held_by (fr ∷ frs)) j) o ≡ true
+    go further true at w = top_held p h fr frs o j at (tracks_held p h fr o x w.tracks)
+    go further false at w = rest_held p h fr frs o j at (further w)
+
 pub tracked_held : (p : Program) (h : HeapContents) (frs : List Frame) (o : ℕ) (x : Object) (j : ℕ) → IsTracked p h frs o x j → holds h (held_at (held_by frs) j) o ≡ true
 tracked_held p h [] o x j t = absurd t
-tracked_held p h (fr ∷ frs) o x j t = go (tracked_held p h frs o x j) (nat_eq (length frs + 1) j) refl t
+tracked_held p h (fr ∷ frs) o x j t = go (nat_eq (length frs + 1) j) refl t
   where
-    go : (IsTracked p h frs o x j → holds h (held_at (held_by frs) j) o ≡ true) → (b : Bool) → nat_eq (length frs + 1) j ≡ b
-        → MatchBool b (Tracks p h fr o x) (IsTracked p h frs o x j) → holds h (held_at (held_by (fr ∷ frs)) j) o ≡ true
-    go further true at w =
-        ap (λ (vs : List Value). holds h vs o) (at_top (nat_eq (length (held_by frs) + 1) j) (held fr.locals) (held_at (held_by frs) j) (same_position frs j ∙ at)) ∙ tracks_held p h fr o x w
-    go further false at w =
-        ap (λ (vs : List Value). holds h vs o) (below_top (nat_eq (length (held_by frs) + 1) j) (held fr.locals) (held_at (held_by frs) j) (same_position frs j ∙ at)) ∙ further w
+    go : (b : Bool) → nat_eq (length frs + 1) j ≡ b → MatchBool b (Tracks p h fr o x) (IsAwaited p h frs o x j) → holds h (held_at (held_by (fr ∷ frs)) j) o ≡ true
+    go true at w = top_held p h fr frs o j at (tracks_held p h fr o x w)
+    go false at w = rest_held p h fr frs o j at (awaited_held p h frs o x j w)
 
 owner_holds_it : (p : Program) (h : HeapContents) (frs : List Frame) (o : ℕ) (x : Object) (w : Owner)
     → ((j : ℕ) → w ≡ owners.Frame j → IsTracked p h frs o x j) → owner_holds h (held_by frs) w o ≡ true
@@ -72,16 +88,16 @@ no_leak_in_both (x ∷ xs) ys a b = go (is_leak x) a (no_leak_in_both xs ys)
     go false good rest = rest good b
 
 -- a step that ends with this heap
-pub landed : (p : Program) (frs : List Frame) (k : HeapContents) (es : List Entry) (pos : Pos) (lines : List Entry) → AllStand p frs → IsMainAlone p frs → IsUnlinked k
+pub landed : (p : Program) (frs : List Frame) (k : HeapContents) (es : List Entry) (pos : Pos) (lines : List Entry) → AllStand p frs → IsStacked p k frs → IsUnlinked k
     → ((o : ℕ) (x : Object) (j : ℕ) → object_at k o ≡ Some x → is_unmet x ≡ true → x.owner ≡ owners.Frame j → IsTracked p k frs o x j)
     → ((o : ℕ) (x : Object) → object_at k o ≡ Some x → is_unmet x ≡ true → is_answering x.owner ≡ true)
     → list_any is_leak es ≡ false → list_any is_leak lines ≡ false
     → Agrees p frs (left p pos (held_by frs) lines [] k).heap (es ++ (left p pos (held_by frs) lines [] k).lines)
-landed p frs k es pos lines standing alone unlinked tracked answered old new =
+landed p frs k es pos lines standing stacked unlinked tracked answered old new =
     let same : lose (held_by frs) k ≡ k = nothing_is_lost (held_by frs) k (λ o x at unmet. owner_holds_it p k frs o x x.owner (λ j is. tracked o x j at unmet is)) in
     subst (λ (h : HeapContents). Agrees p frs h (es ++ (left p pos (held_by frs) lines [] k).lines)) (sym same) (record {
       standing = standing;
-      alone = alone;
+      stacked = stacked;
       unlinked = unlinked;
       tracked = tracked;
       answered = answered;

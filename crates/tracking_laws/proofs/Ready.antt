@@ -2,11 +2,13 @@
 use Rattle.std.proofs.Common.{◌≡◌, ℕ, ◌<◌, Option, Some, None, length, slice_get, option_map, refl, sym, ap, ◌∙◌, subst}
 use Rattle.std.proofs.lemmas.Option.{slice_get-map}
 use Rattle.program_model.specs.declared.kinds.BodyId.{BodyId}
+use Rattle.program_model.specs.declared.kinds.MethodId.{MethodId}
 use Rattle.program_model.specs.declared.program.Method.{Method}
 use Rattle.program_model.specs.declared.program.Program.{Program}
 use Rattle.program_model.specs.declared.tree.Body.{Body}
 use Rattle.program_model.specs.Lookups.{method_at}
 use Rattle.must_call_sets.specs.Bodies.{alias_in}
+use Rattle.java_control.specs.Calls.{called_method}
 use Rattle.java_control.specs.Control.{Step, next_of}
 use Rattle.java_control.specs.declared.action.Action.{Action}
 use Rattle.java_control.specs.declared.action.Action.TheVariants as actions
@@ -19,10 +21,11 @@ use Rattle.ledger_calls.specs.Configuration.{Frame}
 use Rattle.ledger_frames.specs.Choosing.{body_by, frame_steps, steps_by}
 use Rattle.place_laws.specs.Places.{HasTarget, HasVariable, IsWay, SetsLocals}
 use Rattle.agreement.specs.Agreement.{Stands}
-use Rattle.agreement.specs.FirstForms.{HasFirstForms, IsFirstAction, IsPlainSignature}
+use Rattle.agreement.specs.PlainForms.{HasPlainForms, IsPlainAction, IsPlainCall, IsPlainSignature}
+use Rattle.owned_fact_laws.specs.Outcomes.{IsCallRow}
 use Rattle.named_step_laws.specs.Naming.{HasTargetIn, IsInBody}
 use Rattle.named_step_laws.proofs.Reached.{names_what_is_there}
-use Rattle.soundness_laws.proofs.Carried.{Ready}
+use Rattle.tracking_laws.proofs.Carried.{Ready}
 
 -- the step is one of the control relation
 pub step_here : (p : Program) (fr : Frame) (st : Stands p fr) (i : ℕ) (t : Step) → slice_get (frame_steps p fr) i ≡ Some t → slice_get (next_of p st.number fr.control) i ≡ Some t
@@ -34,12 +37,12 @@ step_there p fr st i t here =
     slice_get-map move_of (next_of p st.number fr.control) i
     ∙ ap (option_map move_of) (ap (λ (b : Option BodyId). slice_get (steps_by p b fr.control) i) (sym st.id) ∙ here)
 
-first_sets_locals : (p : Program) (a : Action) → IsFirstAction p a → SetsLocals a
-first_sets_locals p actions.Skip first = tt
-first_sets_locals p (actions.Copy x y) first = first
-first_sets_locals p (actions.Move x y) first = first
-first_sets_locals p (actions.PutOwn f d) first = absurd first
-first_sets_locals p a first = tt
+plain_sets_locals : (p : Program) (a : Action) → IsPlainAction p a → SetsLocals a
+plain_sets_locals p actions.Skip first = tt
+plain_sets_locals p (actions.Copy x y) first = first
+plain_sets_locals p (actions.Move x y) first = first
+plain_sets_locals p (actions.PutOwn f d) first = absurd first
+plain_sets_locals p a first = tt
 
 has_variable : (l : Locals) (body : Body) (x : Place) → length l.variables ≡ length body.vars.items → IsInBody body x → HasVariable l x
 has_variable l body (places.Var i) same in_body = subst (λ n. i < n) (sym same) in_body
@@ -57,25 +60,33 @@ plain_alias : (m : Option Method) → IsPlainSignature m → alias_in m ≡ None
 plain_alias None plain = refl
 plain_alias (Some m) plain = plain.0
 
-first_no_alias : (p : Program) (a : Action) → IsFirstAction p a → alias_operand p a ≡ None
-first_no_alias p actions.Skip first = refl
-first_no_alias p (actions.Call m d n form) first = ap (operand_of (actions.Call m d n form)) (plain_alias (method_at p m) first.0.signature)
-first_no_alias p (actions.New m d n) first = ap (operand_of (actions.New m d n)) (plain_alias (method_at p m) first.signature)
-first_no_alias p (actions.Super m d n) first = absurd first
-first_no_alias p a first = refl
+plain_no_alias : (p : Program) (a : Action) → IsPlainAction p a → alias_operand p a ≡ None
+plain_no_alias p actions.Skip first = refl
+plain_no_alias p (actions.Call m d n form) first = ap (operand_of (actions.Call m d n form)) (plain_alias (method_at p m) first.signature)
+plain_no_alias p (actions.New m d n) first = ap (operand_of (actions.New m d n)) (plain_alias (method_at p m) first.signature)
+plain_no_alias p (actions.Super m d n) first = ap (operand_of (actions.Super m d n)) (plain_alias (method_at p m) first.0.signature)
+plain_no_alias p a first = refl
 
-module _ (p : Program) (ac : Accept p) (first : HasFirstForms p) (fr : Frame) (st : Stands p fr) (i : ℕ) (t : Step)
+-- the method that a call names
+pub plain_call : (p : Program) (a : Action) (named : MethodId) → IsPlainAction p a → IsCallRow a → called_method a ≡ Some named → IsPlainCall p named
+plain_call p actions.Skip named plain row is = absurd row
+plain_call p (actions.New m d n) named plain row is = subst (IsPlainCall p) (let some : Some m ≡ Some named = is in cc) plain
+plain_call p (actions.Call m d n f) named plain row is = subst (IsPlainCall p) (let some : Some m ≡ Some named = is in cc) plain
+plain_call p (actions.Super m d n) named plain row is = subst (IsPlainCall p) (let some : Some m ≡ Some named = is in cc) plain.0
+plain_call p a named plain row is = absurd row
+
+module _ (p : Program) (ac : Accept p) (forms : HasPlainForms p) (fr : Frame) (st : Stands p fr) (i : ℕ) (t : Step)
     (here : slice_get (frame_steps p fr) i ≡ Some t) where
-  pub first_step : IsFirstAction p t.action
-  first_step = first.steps st.number i (move_of t) st.control (step_there p fr st i t here)
+  pub plain_step : IsPlainAction p t.action
+  plain_step = forms.steps st.number i (move_of t) st.control (step_there p fr st i t here)
 
   pub ready : IsWay t.action t.edge → Ready p fr.method fr.locals st.number st.body t.action t.edge
   ready way = record {
     at = st.at;
     method = ap (body_by p) st.id ∙ st.at;
     small = (ac.fits st.number).steps i (move_of t) st.control (step_there p fr st i t here);
-    locals = first_sets_locals p t.action first_step;
+    locals = plain_sets_locals p t.action plain_step;
     target = has_target fr.locals st.body t.action st.variables (names_what_is_there p ac.well_formed.valid.typed st.number st.body fr.control i (move_of t) st.at st.control (step_there p fr st i t here)).0;
-    no_alias = first_no_alias p t.action first_step;
+    no_alias = plain_no_alias p t.action plain_step;
     way = way;
   }

@@ -34,14 +34,14 @@ use Rattle.ledger_frames.specs.Frames.{frame_after, locals_after}
 use Rattle.rlc_base.proofs.SetLaws.{within_trans}
 use Rattle.heap_laws.specs.Heaps.{GoesOn, IsUnlinked}
 use Rattle.place_laws.specs.Places.{IsWay}
-use Rattle.agreement.specs.Agreement.{Follows, IsTracked, Stands, Tracks}
-use Rattle.agreement.specs.FirstForms.{HasFirstForms}
+use Rattle.agreement.specs.Agreement.{Follows, IsAwaited, IsTracked, Stands, Tracks}
+use Rattle.agreement.specs.PlainForms.{HasPlainForms}
 use Rattle.owned_fact_laws.specs.Outcomes.{After, IsCallRow, IsNotNull, IsPlainRow}
 use Rattle.owned_fact_laws.proofs.OwedFacts.{call_row, owed, plain_row}
-use Rattle.soundness_laws.proofs.Carried.{carried, kept, still_tracked}
-use Rattle.soundness_laws.proofs.CallNames.{first_no_reset}
-use Rattle.soundness_laws.proofs.Following.{followed}
-use Rattle.soundness_laws.proofs.Ready.{first_step, ready, step_there}
+use Rattle.tracking_laws.proofs.Carried.{carried, kept, still_awaited}
+use Rattle.tracking_laws.proofs.CallNames.{plain_no_reset}
+use Rattle.tracking_laws.proofs.Following.{followed}
+use Rattle.tracking_laws.proofs.Ready.{plain_step, ready, step_there}
 
 pub null_is_no_object : (h : HeapContents) (v : Value) (o : ℕ) → is_null v ≡ true → root_of h v ≡ Some o → ⊥
 null_is_no_object h values.Nothing o null is = cc
@@ -67,7 +67,7 @@ not_null p h fr o x origin f a e small follows test = tt
 pub same_body : (b c : BodyId) (x : Option BodyId) → x ≡ Some b → x ≡ Some c → b ≡ c
 same_body b c x one other = let same : Some b ≡ Some c = sym one ∙ other in cc
 
-module _ (p : Program) (ac : Accept p) (first : HasFirstForms p) (h k : HeapContents) (uh : IsUnlinked h) (uk : IsUnlinked k)
+module _ (p : Program) (ac : Accept p) (forms : HasPlainForms p) (h k : HeapContents) (uh : IsUnlinked h) (uk : IsUnlinked k)
     (fr : Frame) (st : Stands p fr) (i : ℕ) (s : Step) (here : slice_get (frame_steps p fr) i ≡ Some s) (way : IsWay s.action s.edge) (v : Value)
     (o : ℕ) (x y : Object) (goes : GoesOn x y) (unmet : is_unmet y ≡ true) (t : Tracks p h fr o x) where
   reached : Reach p st.number (relation_of p st.number) t.origin fr.control t.fact
@@ -92,16 +92,16 @@ module _ (p : Program) (ac : Accept p) (first : HasFirstForms p) (h k : HeapCont
 
   pub tracks_plain : IsPlainRow s.action → IsTrueTest fr.locals s.action s.edge → Tracks p k (frame_after p h fr s v) o y
   tracks_plain row test = goes_on (plain_row Goal p st.number t.origin s.action s.edge t.fact row t.follows.own is_owing
-      (not_null p h fr o x t.origin t.fact s.action s.edge (ready p ac first fr st i s here way).small t.follows test)
-      (λ some. carried p h k fr.method fr.locals st.number st.body s.action s.edge v (ready p ac first fr st i s here way) uh uk o x y t.origin t.fact t.follows goes t.fact.called known some)
-      (λ stay. kept p h k fr.method fr.locals st.number st.body s.action s.edge v (ready p ac first fr st i s here way) uh uk o x y t.origin t.fact t.follows goes stay))
+      (not_null p h fr o x t.origin t.fact s.action s.edge (ready p ac forms fr st i s here way).small t.follows test)
+      (λ some. carried p h k fr.method fr.locals st.number st.body s.action s.edge v (ready p ac forms fr st i s here way) uh uk o x y t.origin t.fact t.follows goes t.fact.called known some)
+      (λ stay. kept p h k fr.method fr.locals st.number st.body s.action s.edge v (ready p ac forms fr st i s here way) uh uk o x y t.origin t.fact t.follows goes stay))
 
   pub tracks_call : IsCallRow s.action → set.is_subset (called_after p st.number s.action s.edge t.fact) y.called ≡ true
       → (moved_at_call p t.origin s.action s.edge t.fact ≡ moves.Moves → ⊥) → Tracks p k (frame_after p h fr s v) o y
-  tracks_call row all stays = goes_on (call_row Goal p st.number t.origin s.action s.edge t.fact row (first_no_reset p s.action (first_step p ac first fr st i s here)) t.follows.own
+  tracks_call row all stays = goes_on (call_row Goal p st.number t.origin s.action s.edge t.fact row (plain_no_reset p s.action (plain_step p ac forms fr st i s here)) t.follows.own
       (owed y t.origin (record t.fact { called = called_after p st.number s.action s.edge t.fact }) unmet needed all)
       stays
-      (λ some. carried p h k fr.method fr.locals st.number st.body s.action s.edge v (ready p ac first fr st i s here way) uh uk o x y t.origin t.fact t.follows goes
+      (λ some. carried p h k fr.method fr.locals st.number st.body s.action s.edge v (ready p ac forms fr st i s here way) uh uk o x y t.origin t.fact t.follows goes
       (called_after p st.number s.action s.edge t.fact) all some))
 
 -- the frames of a stack, of which the top one takes a step
@@ -109,6 +109,6 @@ pub stack_tracks : (p : Program) (h k : HeapContents) (fr after : Frame) (frs : 
     → (Tracks p h fr o x → Tracks p k after o y) → IsTracked p h (fr ∷ frs) o x j → IsTracked p k (after ∷ frs) o y j
 stack_tracks p h k fr after frs o x y j uh uk goes top before = go (nat_eq (length frs + 1) j) before
   where
-    go : (b : Bool) → MatchBool b (Tracks p h fr o x) (IsTracked p h frs o x j) → MatchBool b (Tracks p k after o y) (IsTracked p k frs o y j)
+    go : (b : Bool) → MatchBool b (Tracks p h fr o x) (IsAwaited p h frs o x j) → MatchBool b (Tracks p k after o y) (IsAwaited p k frs o y j)
     go true w = top w
-    go false w = still_tracked p h k frs o x y j uh uk goes w
+    go false w = still_awaited p h k frs o x y j uh uk goes w

@@ -1,0 +1,235 @@
+-- A call of a method of the program begins a frame.
+use Rattle.std.proofs.Common.{◌≡◌, ◌⊎◌, inl, inr, ℕ, ◌+◌, ◌<◌, ◌≤◌, Bool, true, false, not, ◌&&◌, Option, Some, None, List, [], ◌∷◌, ◌++◌, length, slice_get, nat_eq, refl, sym, ap, ◌∙◌, subst, true≢false, if◌then◌else◌, arith, eq-eqb, eqb-true}
+use Rattle.std.specs.FinSet as set
+use Rattle.std.specs.Prelude.{MatchBool}
+use Rattle.std.proofs.lemmas.Bool.{and_parts}
+use Rattle.std.proofs.lemmas.Option.{slice_get_within}
+use Rattle.rlc_base.specs.declared.place.Pos.{Pos}
+use Rattle.rlc_base.proofs.SetLaws.{empty_within, within_trans}
+use Rattle.program_model.specs.declared.kinds.ClassId.{ClassId}
+use Rattle.program_model.specs.declared.kinds.MethodId.{MethodId}
+use Rattle.program_model.specs.declared.kinds.VType.{VType}
+use Rattle.program_model.specs.declared.kinds.VType.TheVariants as types
+use Rattle.program_model.specs.declared.program.Method.{Method}
+use Rattle.program_model.specs.declared.program.ParamSig.{ParamSig}
+use Rattle.program_model.specs.declared.program.Program.{Program}
+use Rattle.program_model.specs.Lookups.{method_at}
+use Rattle.must_call_sets.specs.MustCallSets.{Names, fits, is_empty, must_of, must_of_type, no_names}
+use Rattle.java_control.specs.Calls.{called_method}
+use Rattle.java_control.specs.Control.{Step}
+use Rattle.java_control.specs.declared.action.Action.{Action}
+use Rattle.java_control.specs.declared.action.Action.TheVariants as actions
+use Rattle.obligation_facts.specs.Callees as callees
+use Rattle.obligation_facts.specs.Callees.{callee_in}
+use Rattle.ownership_rules.specs.MovesAtCalls.{moved_at_call}
+use Rattle.ownership_rules.specs.declared.moved.Moved.TheVariants as moves
+use Rattle.flow_rules.specs.Paths.{Accept}
+use Rattle.ledger_state.specs.Contents.{HeapContents}
+use Rattle.ledger_state.specs.Heaps.{next_number, object_at, root_of}
+use Rattle.ledger_state.specs.Locals.{variable_value}
+use Rattle.ledger_state.specs.declared.entry.Entry.{Entry}
+use Rattle.ledger_state.specs.declared.entry.Owner.{Owner}
+use Rattle.ledger_state.specs.declared.entry.Owner.TheVariants as owners
+use Rattle.ledger_state.specs.declared.locals.Locals.{Locals}
+use Rattle.ledger_state.specs.declared.object.Object.{Object}
+use Rattle.ledger_state.specs.declared.value.Value.{Value}
+use Rattle.ledger_state.specs.declared.value.Value.TheVariants as values
+use Rattle.ledger_obligations.specs.Obligations.{is_unmet, may_move}
+use Rattle.ledger_operations.specs.Places.{class_of_method}
+use Rattle.ledger_calls.specs.Calls.{argument_values, operand_of, params_in}
+use Rattle.ledger_calls.specs.Configuration.{Frame, held_by}
+use Rattle.ledger_frames.specs.Choosing.{frame_steps}
+use Rattle.ledger_steps.specs.CallSteps.{began_entries, began_heap, self_begun, started}
+use Rattle.call_step_laws.specs.Calling.{may_call}
+use Rattle.call_step_laws.proofs.Ways.{one_action}
+use Rattle.heap_laws.specs.Heaps.{GoesOn, IsGiven, IsUnlinked}
+use Rattle.heap_laws.proofs.Laws.{numbers_are_in_range, roots_of_unlinked-value}
+use Rattle.program_call_laws.specs.ProgramCalls.{IsNewAtStart, IsOlderAtStart}
+use Rattle.program_call_laws.proofs.Begun.{begun_count, begun_from, begun_given, begun_leaks_nothing, begun_makes}
+use Rattle.agreement.specs.Agreement.{Agrees, Awaits, IsAwaited, IsMade, IsMadeBy, IsTracked, Stands, Tracks, WaitsFor, is_answering}
+use Rattle.agreement.specs.PlainForms.{HasPlainForms, MayRun, RunsFor}
+use Rattle.owned_fact_laws.specs.Outcomes.{IsCallRow}
+use Rattle.place_laws.specs.Places.{IsWay}
+use Rattle.tracking_laws.proofs.Carried.{still_awaited, tracks_on}
+use Rattle.tracking_laws.proofs.Entries.{HasBegun, argument_at, asks_nothing, entered_tracks, like_parameter}
+use Rattle.tracking_laws.proofs.Given.{given_argument}
+use Rattle.tracking_laws.proofs.Landing.{landed}
+use Rattle.tracking_laws.proofs.Ready.{ready, step_here}
+use Rattle.tracking_laws.proofs.Stacks.{KeepsClasses, called_on, tracked_bounded, tracked_within}
+use Rattle.tracking_laws.proofs.Unmet.{call_may, frame_of, may_lies, object_type_of, unmet_before, way_of_call}
+
+-- the frame of a call that the machine begins
+pub record IsStarted (p : Program) (fr callee : Frame) (h : HeapContents) (s : Step) (named runs : MethodId) : Type 0 where
+  pub row : IsCallRow s.action
+  pub calls : called_method s.action ≡ Some named
+  pub method : Method
+  pub named_at : method_at p named ≡ Some method
+  pub running : Method
+  pub may : MayRun p named runs
+  pub fit : RunsFor p method running
+  pub begun : HasBegun p callee runs running (self_begun fr.locals s.action h) (argument_values fr.locals s.action (method_at p named))
+
+module _ (p : Program) (ac : Accept p) (forms : HasPlainForms p) (fr callee : Frame) (frs : List Frame) (h : HeapContents) (es : List Entry) (agrees : Agrees p (fr ∷ frs) h es)
+    (i : ℕ) (s : Step) (here : slice_get (frame_steps p fr) i ≡ Some s) (named runs : MethodId) (start : IsStarted p fr callee h s named runs) where
+  abbrev frames : List Frame
+  frames = callee ∷ fr ∷ frs
+
+  abbrev heap : HeapContents
+  heap = began_heap p fr.locals s.action (method_at p named) (length frames) h
+
+  from : (o : ℕ) (y : Object) → object_at heap o ≡ Some y → IsNewAtStart (method_at p named) h o y ⊎ IsOlderAtStart p fr.locals s.action (method_at p named) (length frames) h o y
+  from o y at = begun_from p fr.locals s.action (method_at p named) (length frames) h agrees.unlinked o y at
+
+  unlinked : IsUnlinked heap
+  unlinked o y at = elim (from o y at) [ inl new ↦ new.link | inr old ↦ old.goes_on.link ∙ agrees.unlinked o old.before old.at ]
+
+  -- what is not finished is not unmet
+  not_unmet : (y : Object) → y.finished ≡ false → is_unmet y ≡ true → ⊥
+  not_unmet y none unmet = true≢false (sym (and_parts y.finished (not (set.is_subset y.must y.called)) unmet).0 ∙ none)
+
+  answered : (o : ℕ) (y : Object) → object_at heap o ≡ Some y → is_unmet y ≡ true → is_answering y.owner ≡ true
+  answered o y at unmet = elim (from o y at) [
+    | inl new ↦ absurd (not_unmet y new.unfinished unmet)
+    | inr old ↦ elim old.owner [
+      | inl same ↦ ap is_answering same ∙ agrees.answered o old.before old.at (unmet_before old.before y old.goes_on unmet)
+      | inr given ↦ ap is_answering given.0
+    ]
+  ]
+
+  keeps : KeepsClasses h heap
+  keeps = record {
+    count = begun_count p fr.locals s.action (method_at p named) (length frames) h agrees.unlinked;
+    class = λ o y at small. elim (from o y at) [
+      | inl new ↦ absurd (let number = new.number in omega (arith, number, small))
+      | inr old ↦ (old.before, old.at, old.goes_on.class)
+    ];
+  }
+
+  same_callee : callees.callee p s.action ≡ method_at p named
+  same_callee = ap (callee_in p) start.calls
+
+  -- the frame that now waits
+  awaits_top : (o j : ℕ) (x y : Object) → object_at h o ≡ Some x → object_at heap o ≡ Some y → GoesOn x y → is_unmet y ≡ true → x.owner ≡ owners.Frame j → y.owner ≡ owners.Frame j → j ≤ length (fr ∷ frs)
+      → Tracks p h fr o x → Awaits p heap fr o y
+  awaits_top o j x y before now goes unmet mine owner within t = record {
+    tracks = tracks_on p h heap fr o x y agrees.unlinked unlinked goes t;
+    stays = λ k u there moved.
+        let one : u.action ≡ s.action = one_action p agrees.standing.0.number fr.control i k s u (step_here p fr agrees.standing.0 i s here) (step_here p fr agrees.standing.0 k u there) (call_may s.action start.row) in
+        let given : IsGiven p (operand_of fr.locals s.action) 1 (params_in (callees.callee p s.action)) h o x =
+        given_argument p h fr.method fr.locals s.action u.edge o j x t.origin t.fact (ready p ac forms fr agrees.standing.0 i s here (way_of_call s start.row)).small t.follows (unmet_before x y goes unmet) mine
+        (subst (λ (a : Action). moved_at_call p t.origin a u.edge t.fact ≡ moves.Moves) one moved) in
+        let owned : y.owner ≡ owners.Frame (length frames) =
+        begun_given p fr.locals s.action (method_at p named) (length frames) h agrees.unlinked given.index given.param o x y
+        (subst (λ (m : Option Method). slice_get (params_in m) given.index ≡ Some given.param) same_callee given.at) given.owning given.root before given.may now in
+        not_both j (length frames) (sym owner ∙ owned) (beyond within);
+  }
+    where
+      beyond : {k : ℕ} → k ≤ length (fr ∷ frs) → k < length frames
+      beyond {k = k} small = omega (arith, small)
+
+      not_both : (j k : ℕ) → owners.Frame j ≡ owners.Frame k → j < k → ⊥
+      not_both j k same less = let one : j ≡ k = cc in omega (arith, one, less)
+
+  older_tracked : (o j : ℕ) (x y : Object) → object_at h o ≡ Some x → object_at heap o ≡ Some y → GoesOn x y → is_unmet y ≡ true → x.owner ≡ owners.Frame j → y.owner ≡ owners.Frame j
+      → IsTracked p h (fr ∷ frs) o x j → IsTracked p heap frames o y j
+  older_tracked o j x y before now goes unmet mine owner t = below (tracked_within p h (fr ∷ frs) o x j t)
+    where
+      waits_below : j ≤ length (fr ∷ frs) → (b : Bool) → MatchBool b (Tracks p h fr o x) (IsAwaited p h frs o x j) → MatchBool b (Awaits p heap fr o y) (IsAwaited p heap frs o y j)
+      waits_below within true w = awaits_top o j x y before now goes unmet mine owner within w
+      waits_below within false w = still_awaited p h heap frs o x y j agrees.unlinked unlinked goes w
+
+      below : j ≤ length (fr ∷ frs) → IsTracked p heap frames o y j
+      below within = go (nat_eq (length (fr ∷ frs) + 1) j) refl
+        where
+          go : (b : Bool) → nat_eq (length (fr ∷ frs) + 1) j ≡ b → MatchBool b (Tracks p heap callee o y) (IsAwaited p heap (fr ∷ frs) o y j)
+          go true at = absurd (let same = eqb-true (length (fr ∷ frs) + 1) j at in omega (arith, same, within))
+          go false at = waits_below within (nat_eq (length frs + 1) j) t
+
+  -- the frame that begins tracks what it is given
+  given_tracks : (o j : ℕ) (x y : Object) → object_at h o ≡ Some x → GoesOn x y → is_unmet y ≡ true → IsTracked p h (fr ∷ frs) o x j → IsGiven p (operand_of fr.locals s.action) 1 (params_in (method_at p named)) h o x
+      → Tracks p heap callee o y
+  given_tracks o j x y before goes unmet t g =
+      let bound : set.is_subset x.must (must_of p x.class) ≡ true = tracked_bounded p h (fr ∷ frs) o x j t in
+      let lies : set.is_subset (must_of p x.class) (must_of_type p g.param.vtype) ≡ true = may_lies p g.param.vtype x g.may in
+      let unmet' = unmet_before x y goes unmet in
+      let type = object_type_of p g.param.vtype x unmet' (within_trans x.must (must_of p x.class) (must_of_type p g.param.vtype) bound lies) in
+      let at : slice_get start.method.sig.params.items g.index ≡ Some g.param = subst (λ (m : Option Method). slice_get (params_in m) g.index ≡ Some g.param) start.named_at g.at in
+      let like = like_parameter start.running.sig.params.items start.method.sig.params.items g.index g.param type.0 start.fit.types start.fit.owning at g.owning type.1 in
+      let q = like.0 in
+      let fit : fits p x.class type.0 ≡ true = ap (λ (u : VType). set.is_subset (must_of p x.class) (must_of_type p u)) (sym type.1) ∙ lies in
+      entered_tracks p ac heap callee runs start.running (self_begun fr.locals s.action h) (argument_values fr.locals s.action (method_at p named)) start.begun
+      g.index q type.0 o y like.1 like.2 like.3 (asks_nothing start.running.sig.params.items g.index q start.fit.asks like.1 like.2)
+      (ap (λ (c : ClassId). fits p c type.0) goes.class ∙ fit)
+      (ap (λ (u : Names). set.is_subset u (must_of p y.class)) goes.must ∙ ap (λ (c : ClassId). set.is_subset x.must (must_of p c)) goes.class ∙ bound)
+      (root_now g.index (count g.index g.param g.at) g.root)
+    where
+      count : (k : ℕ) (q : ParamSig) → slice_get (params_in (method_at p named)) k ≡ Some q → k < length (params_in (method_at p named))
+      count k q at = slice_get_within (params_in (method_at p named)) k q at
+
+      root_now : (k : ℕ) → k < length (params_in (method_at p named)) → root_of h (operand_of fr.locals s.action (1 + k)) ≡ Some o → root_of heap (variable_value callee.locals k) ≡ Some o
+      root_now k small root =
+          ap (root_of heap) (start.begun.variables k (operand_of fr.locals s.action (1 + k)) (argument_at (operand_of fr.locals s.action) (length (params_in (method_at p named))) k small))
+          ∙ roots_of_unlinked-value heap h (operand_of fr.locals s.action (1 + k)) unlinked agrees.unlinked ∙ root
+
+  -- an unmet object that moves was a frame's
+  owned_before : (o : ℕ) (x : Object) (t : VType) → object_at h o ≡ Some x → is_unmet x ≡ true → may_move p t x ≡ true → (j : ℕ) × (x.owner ≡ owners.Frame j)
+  owned_before o x t at unmet may = frame_of p t x may (agrees.answered o x at unmet)
+
+  tracked : (o : ℕ) (y : Object) (j : ℕ) → object_at heap o ≡ Some y → is_unmet y ≡ true → y.owner ≡ owners.Frame j → IsTracked p heap frames o y j
+  tracked o y j at unmet owner = elim (from o y at) [
+    | inl new ↦ absurd (not_unmet y new.unfinished unmet)
+    | inr old ↦ by old old.owner
+  ]
+    where
+      at_top : length frames ≡ j → Tracks p heap callee o y → IsTracked p heap frames o y j
+      at_top same t = rw (eq-eqb (length (fr ∷ frs) + 1) j (omega (arith, same))) t
+
+      by : (old : IsOlderAtStart p fr.locals s.action (method_at p named) (length frames) h o y)
+          → (y.owner ≡ old.before.owner) ⊎ ((y.owner ≡ owners.Frame (length frames)) × IsGiven p (operand_of fr.locals s.action) 1 (params_in (method_at p named)) h o old.before) → IsTracked p heap frames o y j
+      by old (inl same) =
+          let mine : old.before.owner ≡ owners.Frame j = sym same ∙ owner in
+          older_tracked o j old.before y old.at at old.goes_on unmet mine owner (agrees.tracked o old.before j old.at (unmet_before old.before y old.goes_on unmet) mine)
+      by old (inr given) =
+          let unmet' = unmet_before old.before y old.goes_on unmet in
+          let was = owned_before o old.before given.1.param.vtype old.at unmet' given.1.may in
+          at_top (let same : owners.Frame (length frames) ≡ owners.Frame j = sym given.0 ∙ owner in cc)
+          (given_tracks o was.0 old.before y old.at old.goes_on unmet (agrees.tracked o old.before was.0 old.at unmet' was.1) given.1)
+
+  -- the object of a `new` is that of the constructor's class
+  is_made : (k : MethodId) → k ≡ named → next_number h < next_number heap → IsMade p heap k (values.Object (next_number h))
+  is_made k same more = (
+    next_number h,
+    refl,
+    more,
+    λ y at. elim (from (next_number h) y at) [
+      | inl new ↦ ap (λ (m : MethodId). class_of_method (method_at p m)) same ∙ new.class
+      | inr old ↦ absurd (let range = numbers_are_in_range h (next_number h) old.before old.at in let below = range.1 in omega (arith, below))
+    ],
+  )
+
+  made_by : (a : Action) → s.action ≡ a → IsMadeBy p heap a (self_begun fr.locals a h)
+  made_by actions.Skip is = tt
+  made_by (actions.New m d n) is =
+      is_made m (let same : Some m ≡ Some named = ap called_method (sym is) ∙ start.calls in cc)
+      (subst (λ (a : Action). next_number h < next_number (began_heap p fr.locals a (method_at p named) (length frames) h)) (sym is)
+      (subst (λ (x : Option Method). next_number h < next_number (began_heap p fr.locals (actions.New m d n) x (length frames) h)) (sym start.named_at)
+      (begun_makes p fr.locals (actions.New m d n) start.method (length frames) h tt)))
+  made_by a is = tt
+
+  waits : WaitsFor p heap fr callee
+  waits = record {
+    index = i;
+    step = s;
+    here = here;
+    named = named;
+    calls = start.calls;
+    runs = subst (MayRun p named) (sym start.begun.method) start.may;
+    makes = subst (IsMadeBy p heap s.action) (sym start.begun.this) (made_by s.action refl);
+  }
+
+  pub began_agrees : (pos : Pos)
+      → Agrees p frames (started p h fr.locals s.action (method_at p named) (length frames) pos (held_by frames)).heap
+      (es ++ (started p h fr.locals s.action (method_at p named) (length frames) pos (held_by frames)).lines)
+  began_agrees pos = landed p frames heap es pos (began_entries p pos fr.locals s.action (method_at p named) (length frames) h)
+      (start.begun.stands, agrees.standing) (waits, called_on p h heap keeps fr fr frs refl refl agrees.stacked) unlinked tracked answered agrees.no_leak
+      (begun_leaks_nothing p fr.locals s.action (method_at p named) (length frames) h agrees.unlinked pos)

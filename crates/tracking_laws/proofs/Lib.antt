@@ -1,0 +1,14 @@
+pub mod Carried
+pub mod Following
+pub mod Ready
+pub mod NameCounts
+pub mod CallNames
+pub mod Moving
+pub mod Tracking
+pub mod Births
+pub mod Landing
+pub mod Stacks
+pub mod Entries
+pub mod Given
+pub mod Unmet
+pub mod Results
