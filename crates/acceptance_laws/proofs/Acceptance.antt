@@ -6,13 +6,14 @@ use Rattle.class_overrides.specs.Cases.{class_cases}
 use Rattle.source_classes.specs.SourceClasses.{source_classes}
 use Rattle.java_types.specs.ProgramCases.{environment_of, member_cases, typing_cases}
 use Rattle.well_formed_programs.proofs.SignedTwice.{signed_twice}
-use Rattle.flow_rules.specs.Paths.{Accept}
+use Rattle.accepted_programs.specs.Accept.{Accept}
 use Rattle.program_reading.specs.Programs.{Input, IsProgram}
 use Rattle.program_reading.specs.TypedPrograms.{IsTyped}
 use Rattle.program_faults.specs.ProgramReports.{IsFaultCount, IsFaulty}
 use Rattle.program_fault_laws.proofs.Rooms.{counted_fits}
 use Rattle.overriding_laws.proofs.SameCases.{same_cases}
 use Rattle.overriding_laws.proofs.SignedTables.{no_cases, signed_tables}
+use Rattle.distinct_method_laws.proofs.Declared.{read_once}
 
 cons_is_nil : {X : Type 0} (x : X) (xs : List X) → ◌≡◌ {A = List X} (x ∷ xs) [] → ⊥
 cons_is_nil x xs h = cc
@@ -31,6 +32,7 @@ overriding input p is c =
 pub counted_accepted : (input : Input) (p : Program) → IsProgram input p → IsFaultCount p 0 → (IsFaulty p → ⊥) → Accept p
 counted_accepted input p is counted none = record {
   well_formed = is.well_formed;
+  declares_once = read_once input p is;
   overriding = overriding input p is;
   annotations = is.annotated.right;
   signatures = signed_twice is.typed p is.annotated.signed;

@@ -1,12 +1,12 @@
 -- Lists of which each two elements stand in a relation, the earlier one first.
-use Rattle.std.proofs.Common.{◌≡◌, ◌∙◌, inl, inr, ap, refl, sym, subst, true≢false, arith, ℕ, zero, suc, ◌<◌, Bool, true, false, cond, Some, List, [], ◌∷◌, ◌++◌, Contains, map}
+use Rattle.std.proofs.Common.{◌≡◌, ◌∙◌, inl, inr, ap, refl, sym, subst, true≢false, arith, ℕ, zero, suc, ◌<◌, Bool, true, false, cond, Option, None, Some, List, [], ◌∷◌, ◌++◌, Contains, map}
 use Rattle.std.specs.Prelude.{slice_get, if◌then◌else◌}
 use Rattle.std.specs.List.{AllZip, filter, list_any}
 use Rattle.std.proofs.lemmas.Bool.{or_left, or_right}
 use Rattle.std.proofs.lemmas.List.Elements.{Contains-append_left, Contains-push}
+use Rattle.std.proofs.lemmas.Option.{same_Some}
 use Rattle.class_members.proofs.Elements.{contains-cases, contains-first, contains-later, contains-none}
 use Rattle.class_checks.specs.DoubleMembers.{repeats}
-use Rattle.overriding_call_laws.proofs.Lists.{none_is_some, some_is}
 
 abbrev pub Each : {X : Type 0} → (X → Type 0) → List X → Type 0
 Each P [] = Unit {0}
@@ -15,6 +15,9 @@ Each P (x ∷ xs) = P x × Each P xs
 abbrev pub Apart : {X : Type 0} → (X → X → Type 0) → List X → Type 0
 Apart R [] = Unit {0}
 Apart R (x ∷ xs) = Each (R x) xs × Apart R xs
+
+none_is_some : {X : Type 0} (x : X) → ◌≡◌ {A = Option X} None (Some x) → ⊥
+none_is_some x h = cc
 
 -- ---- each
 
@@ -36,7 +39,7 @@ each_mapped P f (x ∷ xs) h = (h.0, each_mapped P f xs h.1)
 
 each_at : {X : Type 0} (P : X → Type 0) (xs : List X) (i : ℕ) (x : X) → Each P xs → slice_get xs i ≡ Some x → P x
 each_at P [] i x h at = absurd (none_is_some x at)
-each_at P (y ∷ ys) zero x h at = subst P (some_is y x at) h.0
+each_at P (y ∷ ys) zero x h at = subst P (same_Some y x at) h.0
 each_at P (y ∷ ys) (suc i) x h at = each_at P ys i x h.1 at
 
 -- ---- each two
@@ -52,7 +55,7 @@ apart_mapped S R f (x ∷ xs) step h = (each_mapped (R (f x)) f xs (each_so (S x
 pub apart_at : {X : Type 0} (R : X → X → Type 0) (xs : List X) (i j : ℕ) (x y : X) → Apart R xs → slice_get xs i ≡ Some x → slice_get xs j ≡ Some y → i < j → R x y
 apart_at R [] i j x y h at_x at_y before = absurd (none_is_some x at_x)
 apart_at R (z ∷ zs) zero zero x y h at_x at_y before = absurd (omega (arith, before))
-apart_at R (z ∷ zs) zero (suc j) x y h at_x at_y before = let P : _ → Type 0 = λ w. R w y in subst P (some_is z x at_x) (each_at (R z) zs j y h.0 at_y)
+apart_at R (z ∷ zs) zero (suc j) x y h at_x at_y before = let P : _ → Type 0 = λ w. R w y in subst P (same_Some z x at_x) (each_at (R z) zs j y h.0 at_y)
 apart_at R (z ∷ zs) (suc i) zero x y h at_x at_y before = absurd (omega (arith, before))
 apart_at R (z ∷ zs) (suc i) (suc j) x y h at_x at_y before = let less : i < j = omega (arith, before) in apart_at R zs i j x y h.1 at_x at_y less
 
@@ -118,5 +121,5 @@ pub zip_before : {A B : Type 0} (R : A → B → Type 0) (xs : List A) (ys : Lis
 zip_before R [] [] i y all at = absurd (none_is_some y at)
 zip_before R [] (z ∷ ys) i y all at = absurd all
 zip_before R (x ∷ xs) [] i y all at = absurd all
-zip_before R (x ∷ xs) (z ∷ ys) zero y all at = (x, refl, subst (R x) (some_is z y at) all.0)
+zip_before R (x ∷ xs) (z ∷ ys) zero y all at = (x, refl, subst (R x) (same_Some z y at) all.0)
 zip_before R (x ∷ xs) (z ∷ ys) (suc i) y all at = zip_before R xs ys i y all.1 at

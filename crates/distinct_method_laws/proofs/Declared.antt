@@ -27,8 +27,8 @@ use Rattle.overriding_laws.proofs.Alike.{alike_same}
 use Rattle.overriding_laws.proofs.SignedTables.{signed_tables}
 use Rattle.program_reading.specs.Programs.{Input, IsProgram}
 use Rattle.program_reading.specs.TypedPrograms.{IsTyped}
-use Rattle.overriding_call_laws.specs.Dispatch.{DeclaresOnce}
-use Rattle.overriding_call_laws.proofs.Alike.{alike_back, alike_parts}
+use Rattle.program_conditions.specs.Conditions.{DeclaresOnce}
+use Rattle.program_conditions.proofs.Alike.{alike_back, alike_parts}
 use Rattle.distinct_method_laws.proofs.Apart.{apart_at, zip_before}
 use Rattle.distinct_method_laws.proofs.Written.{AreDistinct, DiffersFrom, all_apart}
 

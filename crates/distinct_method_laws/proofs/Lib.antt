@@ -1,3 +1,3 @@
 mod Apart
 mod Written
-mod Declared
+pub mod Declared

@@ -9,7 +9,7 @@ use Rattle.class_names.specs.ClassNames.{class_number}
 use Rattle.class_order.specs.Declarations.{Declaration}
 use Rattle.class_declarations.specs.Members.{Written, WrittenMethod, methods_from, methods_of, pos_of, written_in}
 use Rattle.class_checks.specs.DoubleMembers.{double_fields, double_members, double_methods, have_one_signature, invocable, is_invocable, repeats}
-use Rattle.overriding_call_laws.proofs.Lists.{nil_left, nil_right}
+use Rattle.class_table.proofs.KnownLemmas.{none_left, none_right}
 use Rattle.distinct_method_laws.proofs.Apart.{Apart, Each, apart_both, apart_mapped, each_both, each_from, each_mapped, each_so, none_repeated}
 
 -- two that are written in one class are of one declaration, and the later has not the signature of the earlier
@@ -29,7 +29,7 @@ none_mapped f (x ∷ xs) h = absurd (cons_is_nil (f x) (map f xs) h)
 
 in_class : (classes : List ClassName) (c : ClassId) (d : Declaration) → double_members classes d ≡ [] → Apart (DiffersFrom classes) (methods_of classes c d)
 in_class classes c d none =
-    let methods : double_methods classes d ≡ [] = nil_right (double_fields classes d) (double_methods classes d) none in
+    let methods : double_methods classes d ≡ [] = none_right (double_fields classes d) (double_methods classes d) none in
     let once : repeats (have_one_signature classes d.unit) [] (invocable (written_in classes d)) ≡ [] =
     none_mapped (λ w. refused_at refused.DoubleMember (pos_of w)) (repeats (have_one_signature classes d.unit) [] (invocable (written_in classes d))) methods in
     let all : List Written = written_in classes d in
@@ -63,6 +63,6 @@ all_apart classes first (d ∷ ds) none =
     each_mapped (λ w. Each (DiffersFrom classes w) rest) f (written_in classes d) (each_from (λ w. Each (DiffersFrom classes (f w)) rest) (written_in classes d)
     (λ w c. each_so (λ (v : WrittenMethod). first + 1 ≤ v.class'.0) (DiffersFrom classes (f w)) rest (λ v h. other_class classes first (f w) v refl h) (numbered classes (first + 1) ds))) in
     apart_both (DiffersFrom classes) here rest
-    (in_class classes (class_number first) d (nil_left (double_members classes d) (flat_map (double_members classes) ds) none))
-    (all_apart classes (first + 1) ds (nil_right (double_members classes d) (flat_map (double_members classes) ds) none))
+    (in_class classes (class_number first) d (none_left (double_members classes d) (flat_map (double_members classes) ds) none))
+    (all_apart classes (first + 1) ds (none_right (double_members classes d) (flat_map (double_members classes) ds) none))
     cross

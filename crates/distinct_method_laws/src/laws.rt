@@ -7,7 +7,7 @@ ghost use Rattle.class_order.specs.Declarations.{Declaration, class_names};
 ghost use Rattle.class_checks.specs.DoubleMembers.{double_member_cases};
 ghost use Rattle.class_table.specs.Table.{IsTable};
 ghost use Rattle.program_reading.specs.Programs.{Input, IsProgram};
-ghost use Rattle.overriding_call_laws.specs.Dispatch.{DeclaresOnce};
+ghost use Rattle.program_conditions.specs.Conditions.{DeclaresOnce};
 
 /// Where no member of a class is refused as double, no class of the table declares two methods of one signature (JLS 8.4.2).
 pub fn table_declares_once()

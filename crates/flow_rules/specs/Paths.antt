@@ -1,5 +1,4 @@
--- Paths of control and of facts through a body, the faults that some path has, and what it is to accept a program. All but
--- the last speak of any control relation.
+-- Paths of control and of facts through a body, and the faults that some path has. All speak of any control relation.
 use Rattle.std.specs.Prelude.{◌≡◌, ℕ, Option, Some, None, List, [], ◌∷◌, ◌++◌, map, slice_get}
 use Rattle.rlc_base.specs.declared.place.Pos.{Pos}
 use Rattle.program_model.specs.declared.kinds.ClassId.{ClassId}
@@ -14,10 +13,6 @@ use Rattle.java_control.specs.declared.fact.Origin.{Origin}
 use Rattle.java_control.specs.declared.fact.Outcome.TheVariants.{Next, Fault}
 use Rattle.java_control.specs.declared.fact.Rule.{Rule}
 use Rattle.obligation_facts.specs.Facts.{Names}
-use Rattle.class_overrides.specs.Cases.{class_cases}
-use Rattle.annotation_rules.specs.AnnotationCases.{annotation_cases}
-use Rattle.must_call_types.specs.Signed.{IsSigned}
-use Rattle.must_call_sets.specs.WellFormed.{IsWellFormed}
 use Rattle.obligation_facts.specs.SmallActions.{IsSmallAction}
 use Rattle.ownership_rules.specs.Births.{births_at_entry, births_of_step}
 use Rattle.ownership_rules.specs.Room.{HasRoom}
@@ -93,14 +88,3 @@ move_of s = record { action = s.action; edge = s.edge; to = s.to; pos = s.pos }
 
 abbrev pub relation_of : Program → BodyId → Relation (List Todo)
 relation_of p b = record { start = start_of p b; next = λ k. map move_of (next_of p b k) }
-
--- A program is accepted: it is well formed, what its classes override and leave without a body is as Java asks (JLS 8.4.8,
--- 8.1.1.1), its annotations are right, and its sets and signatures are what they say; no body of it passes the limits on places,
--- and no path in a body breaks a rule.
-pub record Accept (p : Program) : Type 0 where
-  pub well_formed : IsWellFormed p
-  pub overriding : (c : ClassId) → class_cases p c ≡ []
-  pub annotations : annotation_cases p ≡ []
-  pub signatures : IsSigned p p
-  pub fits : (b : BodyId) → FitsPlaces p b (relation_of p b)
-  pub no_fault : (b : BodyId) (o : Origin) (rule : Rule) (at : Pos) (names : Names) → Faulty p b (relation_of p b) o rule at names → ⊥

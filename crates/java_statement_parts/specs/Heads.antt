@@ -1,12 +1,14 @@
 -- The expressions of statements: conditions, values, expression statements, and the first part of `for` (JLS 14.8 to 14.14).
-use Rattle.std.specs.Prelude.{ℕ, Bool, true, Option, Some, None, List, [], ◌∷◌, ◌++◌, length, map}
+use Rattle.std.specs.Prelude.{ℕ, Bool, true, false, ◌&&◌, Option, Some, None, List, [], ◌∷◌, ◌++◌, length, map}
 use Rattle.std.specs.List.{flat_map}
 use Rattle.rlc_base.specs.declared.place.Pos.{Pos}
 use Rattle.rlc_base.specs.declared.faults.Refusal.{Refusal}
 use Rattle.program_model.specs.declared.kinds.VType.{VType}
 use Rattle.java_syntax.specs.ExpressionTrees.{ExprTree}
+use Rattle.java_syntax.specs.ExpressionTrees as expr
 use Rattle.java_syntax.specs.StatementTrees.{ForStartTree}
 use Rattle.java_syntax.specs.StatementTrees as syntax
+use Rattle.java_typed_trees.specs.declared.facts.Facts.{Facts}
 use Rattle.java_typed_trees.specs.declared.scope.Local.{Local}
 use Rattle.java_typed_trees.specs.ExpressionTrees as values
 use Rattle.java_typed_trees.specs.StatementTrees.{InitialForm}
@@ -28,9 +30,17 @@ required_cases s e place = value_cases s None e ++ condition_cases place (value_
 abbrev pub plain_tree : Surroundings → ExprTree → List values.ExprTree
 plain_tree s e = tree s None e ∷ []
 
--- the condition has always the value `true`
+abbrev pub is_literal : ExprTree → Bool
+is_literal (expr.Literal text place) = true
+is_literal e = false
+
+-- an expression of these facts is the literal `true`
+abbrev pub is_literal_true : ExprTree → Facts → Bool
+is_literal_true e f = is_literal e && is_always_true f
+
+-- the condition is the literal `true`: one of the same value that is made of operators or names is evaluated in each run, and counts as one that may be false
 abbrev pub is_always : Surroundings → ExprTree → Bool
-is_always s e = is_always_true (value_facts s None e)
+is_always s e = is_literal_true e (value_facts s None e)
 
 -- a `for` without a condition goes on as with `true` (JLS 14.14.1.2)
 abbrev pub goes_on : Surroundings → Option ExprTree → Bool

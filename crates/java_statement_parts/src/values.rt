@@ -5,7 +5,7 @@ ghost use Rattle.java_syntax.specs.ExpressionTrees.{expr_of};
 ghost use Rattle.java_typed_trees.specs.ExpressionTrees.{tree_of};
 ghost use Rattle.java_typed_expressions.specs.Cases.{cases, value_cases};
 ghost use Rattle.java_typed_expressions.specs.Typings.{tree, value_facts};
-ghost use Rattle.java_statement_parts.specs.Heads.{expression_trees, expressions_cases, goes_on, is_always, optional_cases, optional_tree, plain_tree, required_cases, returned, returning_cases, throwing_cases};
+ghost use Rattle.java_statement_parts.specs.Heads.{expression_trees, expressions_cases, goes_on, is_always, is_literal, is_literal_true, optional_cases, optional_tree, plain_tree, required_cases, returned, returning_cases, throwing_cases};
 ghost use Rattle.java_statement_parts.specs.Scopes.{surroundings_at};
 
 use crate::scope::{StatementScope, body_scope};
@@ -77,8 +77,24 @@ pub fn push_expressions(
     Ok(())
 }
 
-/// A condition (JLS 14.9, 14.12, 14.13, 14.14.1), and whether it always has the value `true`. The place is that of its
-/// statement.
+fn is_literal(e: &Expr) -> bool
+    ensures { result ≡ is_literal (expr_of e.now) }
+{
+    match e {
+        Expr::Literal { .. } => true,
+        _ => false,
+    }
+}
+
+// Whether an expression of these facts is the literal `true`.
+fn is_literal_true(e: &Expr, facts: Facts) -> bool
+    ensures { result ≡ is_literal_true (expr_of e.now) facts }
+{
+    is_literal(e) && is_always_true(facts)
+}
+
+/// A condition (JLS 14.9, 14.12, 14.13, 14.14.1), and whether it is the literal `true`. A condition of the same value that is made
+/// of operators or names counts as one that may be false, as in a run. The place is that of its statement.
 pub fn push_condition(
     alloc: Global,
     scope: &StatementScope,
@@ -94,7 +110,7 @@ pub fn push_condition(
 {
     let facts = push_value(alloc, scope, locals, refusals, values, None, e)?;
     count_condition(pos, facts, refusals)?;
-    Ok(is_always_true(facts))
+    Ok(is_literal_true(e, facts))
 }
 
 /// The condition of a `for`, where it has one, and whether it always goes on.

@@ -65,13 +65,18 @@ pub fn deeper(limit: u32, depth: u32, pos: Pos) -> Result<u32, BuildFail>
 fn node(limit: u32, below: u32, tree: Expr, pos: Pos) -> Result<Nested<Expr>, BuildFail>
     ensures { nodes.Gives (nested_of expr_of) result (nodes.node limit below (expr_of tree)) }
 {
-    let depth = deeper(limit, below, pos)?;
-    Ok(Nested { tree, depth })
+    match deeper(limit, below, pos) {
+        Ok(depth) => Ok(Nested { tree, depth }),
+        Err(fail) => {
+            drop(tree);
+            Err(fail)
+        }
+    }
 }
 
 /// The tree in a box.
-fn boxed(alloc: Global, tree: Expr) -> Result<Box<Expr>, NoMemory>
-    ensures { IfOk result (λ part. expr_of part.value ≡ expr_of tree) }
+pub fn boxed<T: Drop>(alloc: Global, tree: T) -> Result<Box<T>, NoMemory>
+    ensures { IfOk result (λ part. part.value ≡ tree) }
 {
     Ok(Box::new(alloc, tree)?)
 }

@@ -1,4 +1,4 @@
-ghost use Rattle.std.specs.Prelude.{◌≡◌, ◌+◌, map, option_map, max, IfOk};
+ghost use Rattle.std.specs.Prelude.{◌≡◌, ◌+◌, map, option_map, max};
 ghost use Rattle.java_syntax.specs.ExpressionTrees.{expr_of};
 ghost use Rattle.java_syntax.specs.StatementTrees as tree;
 ghost use Rattle.java_syntax.specs.StatementTrees.{block_of, catch_of, for_start_of, local_of, resource_of, stmt_of, variable_of};
@@ -7,7 +7,7 @@ ghost use Rattle.java_values.specs.Values.{nested_of, catches_in, exprs_in, modi
 ghost use Rattle.java_values.specs.Nodes.{Gives, node};
 ghost use Rattle.java_values.specs.Parts as parts;
 
-use crate::nodes::{BuildFail, deeper};
+use crate::nodes::{BuildFail, boxed, deeper};
 use crate::values::Nested;
 use java_syntax::{
     Block, Catch, ClassDecl, Expr, ForStart, Import, Local, Modifier, Name, Resource, Stmt, Typ,
@@ -24,15 +24,13 @@ use std::alloc::Global;
 pub fn statement(limit: u32, below: u32, tree: Stmt, pos: Pos) -> Result<Nested<Stmt>, BuildFail>
     ensures { Gives (nested_of stmt_of) result (node limit below (stmt_of tree)) }
 {
-    let depth = deeper(limit, below, pos)?;
-    Ok(Nested { tree, depth })
-}
-
-/// The statement in a box.
-fn boxed(alloc: Global, tree: Stmt) -> Result<Box<Stmt>, NoMemory>
-    ensures { IfOk result (λ part. stmt_of part.value ≡ stmt_of tree) }
-{
-    Ok(Box::new(alloc, tree)?)
+    match deeper(limit, below, pos) {
+        Ok(depth) => Ok(Nested { tree, depth }),
+        Err(fail) => {
+            drop(tree);
+            Err(fail)
+        }
+    }
 }
 
 /// A block (JLS 14.2), which has the levels of its statements.

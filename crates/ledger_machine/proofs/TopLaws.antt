@@ -1,5 +1,5 @@
 -- What the frames of a run hold, the top one first, and what is left to lose.
-use Rattle.std.proofs.Common.{◌≡◌, ◌∙◌, ap, sym, subst, ℕ, ◌+◌, false, true, None, Option, length, List, [], ◌∷◌, ◌++◌, map, reverse}
+use Rattle.std.proofs.Common.{◌≡◌, ◌∙◌, ap, sym, subst, ℕ, Bool, ◌&&◌, refl, ◌+◌, false, true, None, Option, length, List, [], ◌∷◌, ◌++◌, map, reverse}
 use Rattle.std.proofs.lemmas.List.{reverse-append}
 use Rattle.ledger_state.specs.declared.locals.Locals.{Locals}
 use Rattle.ledger_state.specs.declared.value.Value.{Value}
@@ -13,43 +13,40 @@ use Rattle.program_model.specs.declared.program.Program.{Program}
 use Rattle.rlc_base.specs.declared.place.Pos.{Pos}
 use Rattle.java_control.specs.declared.action.Action.{Action}
 use Rattle.ledger_steps.specs.InnerSteps.{inner, store_of}
-use Rattle.program_model.specs.declared.program.Method.{Method}
-use Rattle.plain_calls.specs.PlainCalls.{begun, left_by}
 use Rattle.plain_calls.proofs.PlainLaws.{count_below}
-use Rattle.plain_calls.proofs.StartLaws.{start_settled}
-use Rattle.plain_returns.specs.PlainReturns.{OwnersBelow, object_of, with_position}
-use Rattle.plain_returns.proofs.ReturnLaws.{owners_left}
 use Rattle.plain_calls.proofs.PlainLines.{quiet_heap, quiet_lines}
 use Rattle.settled_heaps.specs.Settled.{Settled, drops_any}
 use Rattle.settled_heaps.proofs.SettledLaws.{still_settled}
 use Rattle.ledger_machine.specs.declared.run_state.RunState.{RunState}
+use Rattle.frame_owners.specs.FrameOwners.{Listed, lists_in}
 use Rattle.ledger_machine.specs.Machines.{HasNothingToLose, NothingToLose}
 
 pub top_held : (xs ys : List ActiveFrame) (y : ActiveFrame) → xs ≡ ys ++ y ∷ [] → map held_in (reverse xs) ≡ held_in y ∷ map held_in (reverse ys)
 top_held xs ys y e = ap (λ zs. map held_in (reverse zs)) e ∙ ap (map held_in) (reverse-append ys (y ∷ []))
 
 -- the top frame stands apart
-pub nothing_apart : (m : RunState) (top : ActiveFrame) (below : List ActiveFrame) → m.frames.items ≡ below ++ top ∷ [] → HasNothingToLose m → m.settled ≡ true → NothingToLose m.heap (held top.locals ∷ map held_in (reverse below)) m.owning
-nothing_apart m top below split nothing so =
-    (subst (λ (held_all : List (List Value)). Settled m.heap held_all) (top_held m.frames.items below top split) (nothing so).0, (nothing so).1)
+pub settled_apart : (m : RunState) (top : ActiveFrame) (below : List ActiveFrame) → m.frames.items ≡ below ++ top ∷ [] → HasNothingToLose m → m.settled ≡ true → Settled m.heap (held top.locals ∷ map held_in (reverse below))
+settled_apart m top below split nothing so = subst (λ (held_all : List (List Value)). Settled m.heap held_all) (top_held m.frames.items below top split) (nothing so).0
 
 -- so does the frame below it
-pub nothing_apart_two : (m : RunState) (top caller : ActiveFrame) (others below : List ActiveFrame) → m.frames.items ≡ others ++ top ∷ [] → others ≡ below ++ caller ∷ [] → HasNothingToLose m → m.settled ≡ true → NothingToLose m.heap (held top.locals ∷ held caller.locals ∷ map held_in (reverse below)) m.owning
+pub nothing_apart_two : (m : RunState) (top caller : ActiveFrame) (others below : List ActiveFrame) → m.frames.items ≡ others ++ top ∷ [] → others ≡ below ++ caller ∷ [] → HasNothingToLose m → m.settled ≡ true → NothingToLose m.heap (held top.locals ∷ held caller.locals ∷ map held_in (reverse below)) (lists_in m.owned.items)
 nothing_apart_two m top caller others below split under nothing so =
     (subst (λ (held_all : List (List Value)). Settled m.heap held_all) (top_held m.frames.items others top split ∙ ap (λ xs. held top.locals ∷ xs) (top_held others below caller under)) (nothing so).0, (nothing so).1)
 
-pub nothing_of : (m : RunState) (frames : List ActiveFrame) → frames ≡ m.frames.items → HasNothingToLose m → m.settled ≡ true → NothingToLose m.heap (map held_in (reverse frames)) m.owning
-nothing_of m frames same nothing so =
-    (subst (λ (frs : List ActiveFrame). Settled m.heap (map held_in (reverse frs))) (sym same) (nothing so).0, (nothing so).1)
+pub settled_of : (m : RunState) (frames : List ActiveFrame) → frames ≡ m.frames.items → HasNothingToLose m → m.settled ≡ true → Settled m.heap (map held_in (reverse frames))
+settled_of m frames same nothing so = subst (λ (frs : List ActiveFrame). Settled m.heap (map held_in (reverse frs))) (sym same) (nothing so).0
 
--- the same heap and the same bound
-pub nothing_as : (g h : HeapContents) (held_all : List (List Value)) (k n : ℕ) → g ≡ h → k ≡ n → NothingToLose h held_all n → NothingToLose g held_all k
-nothing_as g h held_all k n heap bound nothing =
-    (subst (λ (x : HeapContents). Settled x held_all) (sym heap) nothing.0, subst (λ (x : HeapContents). OwnersBelow x k) (sym heap) (subst (λ (j : ℕ). OwnersBelow h j) (sym bound) nothing.1))
+-- the same heap
+pub settled_as : (g h : HeapContents) (held_all : List (List Value)) → g ≡ h → Settled h held_all → Settled g held_all
+settled_as g h held_all heap settled = subst (λ (x : HeapContents). Settled x held_all) (sym heap) settled
 
--- a call that moves no argument begins
-pub start_nothing : (h : HeapContents) (a : Action) (x : Option Method) (new : List Value) (rest : List (List Value)) (n : ℕ) → NothingToLose h rest n → NothingToLose (left_by None (begun a x) h) (new ∷ rest) (with_position (object_of None) (with_position (begun a x) n))
-start_nothing h a x new rest n nothing = (start_settled h a x new rest nothing.0, owners_left h n None (begun a x) nothing.1)
+-- the lists are those of the heap
+pub listed_as : (g h : HeapContents) (lists : List (List ℕ)) → g ≡ h → Listed lists h → Listed lists g
+listed_as g h lists heap listed = subst (λ (x : HeapContents). Listed lists x) (sym heap) listed
+
+-- more in the lists leaves nothing to lose
+pub nothing_listed : (m : RunState) (more : List (List ℕ)) → HasNothingToLose m → (m.settled ≡ true → Listed more m.heap) → m.settled ≡ true → NothingToLose m.heap (map held_in (reverse m.frames.items)) more
+nothing_listed m more nothing listed so = ((nothing so).0, listed so)
 
 -- the top frame stands with the others
 pub settled_with : (g h : HeapContents) (frames below : List ActiveFrame) (y : ActiveFrame) (l : Locals) → g ≡ h → frames ≡ below ++ y ∷ [] → y.locals ≡ l → Settled h (held l ∷ map held_in (reverse below)) → Settled g (map held_in (reverse frames))
@@ -74,7 +71,8 @@ pub quiet_inner_lines : (p : Program) (h : HeapContents) (m : MethodId) (l now :
 quiet_inner_lines p h m l now e a pos below none stores settled =
     ap (λ x. (inner p h m l x a pos (held now ∷ map held_in (reverse below))).lines) none ∙ quiet_lines p h m l a pos (held now ∷ map held_in (reverse below)) stores settled
 
--- the top frame stands with the others
-pub nothing_with : (g h : HeapContents) (frames below : List ActiveFrame) (y : ActiveFrame) (l : Locals) (n : ℕ) → g ≡ h → frames ≡ below ++ y ∷ [] → y.locals ≡ l → NothingToLose h (held l ∷ map held_in (reverse below)) n → NothingToLose g (map held_in (reverse frames)) n
-nothing_with g h frames below y l n heap split locals nothing =
-    (settled_with g h frames below y l heap split locals nothing.0, subst (λ (x : HeapContents). OwnersBelow x n) (sym heap) nothing.1)
+-- both are known
+pub nothing_after : (a b : Bool) (h : HeapContents) (held_all : List (List Value)) (lists : List (List ℕ)) → (a ≡ true → Settled h held_all) → (b ≡ true → Listed lists h) → (a && b) ≡ true → NothingToLose h held_all lists
+nothing_after true true h held_all lists settled listed so = (settled refl, listed refl)
+nothing_after true false h held_all lists settled listed so = absurd (cc)
+nothing_after false b h held_all lists settled listed so = absurd (cc)

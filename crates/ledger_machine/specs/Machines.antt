@@ -1,12 +1,12 @@
 -- The machine as a configuration: its frames stand bottom first, and the control of each is a number in a table of lists.
 use Rattle.std.specs.Prelude.{ℕ, ◌≡◌, true, List, map, reverse}
+use Rattle.frame_owners.specs.FrameOwners.{Listed, lists_in}
 use Rattle.ledger_calls.specs.Configuration.{Config}
 use Rattle.ledger_machine.specs.declared.run_state.RunState.{RunState}
 use Rattle.ledger_moves.specs.Frames.{frames_seen}
 use Rattle.ledger_obligations.specs.Obligations.{held_in}
 use Rattle.ledger_state.specs.declared.value.Value.{Value}
 use Rattle.ledger_state.specs.Contents.{HeapContents}
-use Rattle.plain_returns.specs.PlainReturns.{OwnersBelow}
 use Rattle.settled_heaps.specs.Settled.{Settled}
 
 -- the configuration of a run
@@ -22,10 +22,10 @@ config_of m = record {
   ended = m.ended;
 }
 
--- no object is left to lose, and no frame above position `n` owns one
-abbrev pub NothingToLose : HeapContents → List (List Value) → ℕ → Type 0
-NothingToLose h held n = Settled h held × OwnersBelow h n
+-- no object is left to lose, and the lists have the objects that frames own
+abbrev pub NothingToLose : HeapContents → List (List Value) → List (List ℕ) → Type 0
+NothingToLose h held lists = Settled h held × Listed lists h
 
 -- where the run says so, no object is left to lose
 abbrev pub HasNothingToLose : RunState → Type 0
-HasNothingToLose m = m.settled ≡ true → NothingToLose m.heap (map held_in (reverse m.frames.items)) m.owning
+HasNothingToLose m = m.settled ≡ true → NothingToLose m.heap (map held_in (reverse m.frames.items)) (lists_in m.owned.items)

@@ -1,6 +1,6 @@
 //! Steps that end frames.
 
-ghost use Rattle.std.specs.Prelude.{◌≡◌, ◌+◌, ◌-◌, ◌∷◌, ◌++◌, ◌<◌, ◌≤◌, List, length, map, reverse, take, vec_len, IfOk, IfSome, None, OnErr, OnOk, false, true};
+ghost use Rattle.std.specs.Prelude.{◌≡◌, ◌+◌, ◌-◌, ◌∷◌, ◌++◌, ◌<◌, ◌≤◌, List, length, map, reverse, take, vec_len, ℕ, IfOk, IfSome, OnErr, OnOk, false, true};
 ghost use Rattle.java_control.specs.Changes.{step_in};
 ghost use Rattle.ledger_calls.specs.Configuration.{Frame};
 ghost use Rattle.ledger_frames.specs.Choosing.{frame_steps};
@@ -14,15 +14,16 @@ ghost use Rattle.ledger_obligations.specs.Obligations.{held_in};
 ghost use Rattle.ledger_state.specs.Locals.{held};
 ghost use Rattle.ledger_steps.specs.Ends.{answered, exception_class, result_value, thrown_in};
 ghost use Rattle.ledger_steps.specs.Ends as ends;
-ghost use Rattle.ledger_machine.specs.HeapChanges.{heap_left};
-ghost use Rattle.plain_calls.specs.PlainCalls.{left_by, put_noted};
-ghost use Rattle.plain_returns.specs.PlainReturns.{OwnersBelow};
+ghost use Rattle.frame_owners.specs.FrameOwners.{Listed, lists_in};
+ghost use Rattle.ledger_machine.specs.HeapChanges.{CanReturn, HasChange, heap_returned};
+ghost use Rattle.owned_returns.specs.OwnedReturns.{left_by_frame};
+ghost use Rattle.plain_calls.specs.PlainCalls.{put_noted};
 ghost use Rattle.settled_heaps.specs.Settled.{Settled};
 ghost use Rattle.program_model.specs.Lookups.{method_at};
 
 use crate::inner_run::{append_lines, put_top};
-use crate::run_state::{CallResult, PlainResult, RunState};
-use crate::stepping::{add_lines, plain_end, take_change, whole_end};
+use crate::run_state::{HeapReturn, ReturnResult, RunState};
+use crate::stepping::{add_lines, both};
 use crate::turn::Turn;
 use java_control::{Completion, Triple};
 use ledger_frames::locals_after;
@@ -32,30 +33,13 @@ use ledger_state::{Heap, Locals};
 use ledger_steps::{
     FrameEnd, StepEffect, answered, exception_class, main_effect, result_value, return_effect,
 };
-use plain_calls::PlainChange;
-use plain_returns::{PlainReturn, plain_return};
+use owned_returns::{OwnedReturn, owned_return, return_objects};
 use program_model::{ClassId, MethodId, Program};
 use rlc_base::{NoMemory, Pos};
 use std::alloc::Global;
 
-fn plain_of_return(found: PlainReturn) -> Option<PlainResult>
-    ensures { IfSome result (λ r. (r.change.noted ≡ found.noted) × (r.change.made ≡ None) × (r.lines.items ≡ found.lines.items) × (r.owning ≡ found.owning)) }
-{
-    let PlainReturn {
-        noted,
-        lines,
-        owning,
-    } = found;
-    let change = PlainChange { noted, made: None };
-    Some(PlainResult {
-        change,
-        lines,
-        owning,
-    })
-}
-
-// What a plain return changes, where this is one and the heap is `settled`. `locals` are the values of the caller after it, and `ended`
-// those of the frame that ends.
+// What the end of the top frame and of its call change, where nothing but the frame's own objects and two more change, and the heap is
+// `settled`. `locals` are the values of the caller after it, and `ended` those of the frame that ends.
 fn return_found(
     alloc: Global,
     p: &Program,
@@ -68,19 +52,20 @@ fn return_found(
     t: Triple,
     locals: &Locals,
     settled: bool,
-    owning: u64,
-) -> Result<Option<PlainReturn>, NoMemory>
-    requires { settled ≡ true → NothingToLose heap.now (held ended.now ∷ held caller.now.locals ∷ map held_in (reverse below.now)) owning }
-    ensures heap { IfOk result (λ o. IfSome o (λ r. (ends.returned p.now heap.now (length below.now + 1) end.this caller.now.locals t.action (method_at p.now end.method) (method_at p.now named) end.value end.thrown end.pos t.pos (held locals.now ∷ map held_in (reverse below.now))).heap ≡ put_noted r.noted heap.now)) }
+    lists: &mut Vec<Vec<u64>>,
+) -> Result<Option<OwnedReturn>, NoMemory>
+    requires { settled ≡ true → NothingToLose heap.now (held ended.now ∷ held caller.now.locals ∷ map held_in (reverse below.now)) (lists_in lists.old.items) }
+    ensures heap { IfOk result (λ o. IfSome o (λ r. (ends.returned p.now heap.now (length below.now + 1) end.this caller.now.locals t.action (method_at p.now end.method) (method_at p.now named) end.value end.thrown end.pos t.pos (held locals.now ∷ map held_in (reverse below.now))).heap ≡ put_noted r.change.noted (left_by_frame (length below.now + 1) r.change.moved heap.now))) }
     ensures lines { IfOk result (λ o. IfSome o (λ r. (ends.returned p.now heap.now (length below.now + 1) end.this caller.now.locals t.action (method_at p.now end.method) (method_at p.now named) end.value end.thrown end.pos t.pos (held locals.now ∷ map held_in (reverse below.now))).lines ≡ r.lines.items)) }
-    ensures settled { IfOk result (λ o. IfSome o (λ r. Settled (put_noted r.noted heap.now) (held locals.now ∷ map held_in (reverse below.now)))) }
-    ensures owners { IfOk result (λ o. IfSome o (λ r. OwnersBelow (put_noted r.noted heap.now) r.owning)) }
+    ensures settled { IfOk result (λ o. IfSome o (λ r. Settled (put_noted r.change.noted (left_by_frame (length below.now + 1) r.change.moved heap.now)) (held locals.now ∷ map held_in (reverse below.now)))) }
+    ensures change { IfOk result (λ o. IfSome o (λ r. HasChange (length below.now + 1) (lists_in lists.new.items) heap.now r.change)) }
+    ensures kept { settled ≡ true → Listed (lists_in lists.new.items) heap.now }
 {
     if !settled {
         return Ok(None);
     }
     let position = below.len() as u64 + 1;
-    plain_return(
+    owned_return(
         alloc,
         p,
         t.pos,
@@ -93,37 +78,38 @@ fn return_found(
         ended,
         locals,
         below,
-        owning,
+        lists,
     )
 }
 
-// What a plain return leaves, where this is one and the heap is `settled`. `locals` are the values of the caller after it, and `ended`
-// those of the frame that ends.
-fn return_plain(
-    alloc: Global,
-    p: &Program,
-    heap: &Heap,
-    end: FrameEnd,
-    ended: &Locals,
-    caller: &ActiveFrame,
-    below: &[ActiveFrame],
-    named: MethodId,
-    t: Triple,
-    locals: &Locals,
-    settled: bool,
-    owning: u64,
-) -> Result<Option<PlainResult>, NoMemory>
-    requires { settled ≡ true → NothingToLose heap.now (held ended.now ∷ held caller.now.locals ∷ map held_in (reverse below.now)) owning }
-    ensures heap { IfOk result (λ o. IfSome o (λ r. (ends.returned p.now heap.now (length below.now + 1) end.this caller.now.locals t.action (method_at p.now end.method) (method_at p.now named) end.value end.thrown end.pos t.pos (held locals.now ∷ map held_in (reverse below.now))).heap ≡ left_by r.change.noted r.change.made heap.now)) }
-    ensures lines { IfOk result (λ o. IfSome o (λ r. (ends.returned p.now heap.now (length below.now + 1) end.this caller.now.locals t.action (method_at p.now end.method) (method_at p.now named) end.value end.thrown end.pos t.pos (held locals.now ∷ map held_in (reverse below.now))).lines ≡ r.lines.items)) }
-    ensures nothing { IfOk result (λ o. IfSome o (λ r. NothingToLose (left_by r.change.noted r.change.made heap.now) (held locals.now ∷ map held_in (reverse below.now)) r.owning)) }
+fn owned_end(locals: Locals, found: OwnedReturn) -> ReturnResult
+    ensures locals { result.locals ≡ locals }
+    ensures change { result.change ≡ HeapReturn.Owned found.change }
+    ensures lines { result.lines.items ≡ found.lines.items }
 {
-    let found = return_found(
-        alloc, p, heap, end, ended, caller, below, named, t, locals, settled, owning,
-    )?;
-    match found {
-        None => Ok(None),
-        Some(plain) => Ok(plain_of_return(plain)),
+    let OwnedReturn { change, lines } = found;
+    let change = HeapReturn::Owned(change);
+    ReturnResult {
+        locals,
+        change,
+        lines,
+        settled: true,
+    }
+}
+
+fn changed_end(locals: Locals, effect: StepEffect) -> ReturnResult
+    ensures locals { result.locals ≡ locals }
+    ensures change { result.change ≡ HeapReturn.Whole effect.heap }
+    ensures lines { result.lines.items ≡ effect.lines.items }
+    ensures settled { result.settled ≡ false }
+{
+    let StepEffect { heap: after, lines } = effect;
+    let change = HeapReturn::Whole(after);
+    ReturnResult {
+        locals,
+        change,
+        lines,
+        settled: false,
     }
 }
 
@@ -138,11 +124,12 @@ fn whole_return(
     named: MethodId,
     t: Triple,
     locals: Locals,
-) -> Result<CallResult, NoMemory>
+) -> Result<ReturnResult, NoMemory>
     ensures locals { IfOk result (λ r. r.locals ≡ locals) }
-    ensures heap { IfOk result (λ r. heap_left r.change heap.now ≡ (ends.returned p.now heap.now (length below.now + 1) end.this caller.now.locals t.action (method_at p.now end.method) (method_at p.now named) end.value end.thrown end.pos t.pos (held locals ∷ map held_in (reverse below.now))).heap) }
+    ensures heap { IfOk result (λ r. heap_returned r.change (length below.now + 1) heap.now ≡ (ends.returned p.now heap.now (length below.now + 1) end.this caller.now.locals t.action (method_at p.now end.method) (method_at p.now named) end.value end.thrown end.pos t.pos (held locals ∷ map held_in (reverse below.now))).heap) }
     ensures lines { IfOk result (λ r. r.lines.items ≡ (ends.returned p.now heap.now (length below.now + 1) end.this caller.now.locals t.action (method_at p.now end.method) (method_at p.now named) end.value end.thrown end.pos t.pos (held locals ∷ map held_in (reverse below.now))).lines) }
     ensures settled { IfOk result (λ r. r.settled ≡ false) }
+    ensures change { IfOk result (λ r. (lists : List (List ℕ)) → CanReturn r.change (length below.now + 1) lists heap.now) }
 {
     let position = below.len() as u64 + 1;
     let effect = return_effect(
@@ -158,7 +145,7 @@ fn whole_return(
         &locals,
         below,
     )?;
-    Ok(whole_end(locals, effect))
+    Ok(changed_end(locals, effect))
 }
 
 // What the end of the top frame, which held `ended`, and of its call leave of the caller's frame and of the heap.
@@ -173,13 +160,15 @@ fn return_result(
     named: MethodId,
     t: Triple,
     settled: bool,
-    owning: u64,
-) -> Result<CallResult, NoMemory>
-    requires { settled ≡ true → NothingToLose heap.now (held ended.now ∷ held caller.now.locals ∷ map held_in (reverse below.now)) owning }
+    lists: &mut Vec<Vec<u64>>,
+) -> Result<ReturnResult, NoMemory>
+    requires { settled ≡ true → NothingToLose heap.now (held ended.now ∷ held caller.now.locals ∷ map held_in (reverse below.now)) (lists_in lists.old.items) }
     ensures locals { IfOk result (λ r. r.locals ≡ locals_after p.now heap.now caller.now.method caller.now.locals t.action t.edge (answered end.this t.action end.value end.thrown)) }
-    ensures heap { IfOk result (λ r. heap_left r.change heap.now ≡ (ends.returned p.now heap.now (length below.now + 1) end.this caller.now.locals t.action (method_at p.now end.method) (method_at p.now named) end.value end.thrown end.pos t.pos (held r.locals ∷ map held_in (reverse below.now))).heap) }
+    ensures heap { IfOk result (λ r. heap_returned r.change (length below.now + 1) heap.now ≡ (ends.returned p.now heap.now (length below.now + 1) end.this caller.now.locals t.action (method_at p.now end.method) (method_at p.now named) end.value end.thrown end.pos t.pos (held r.locals ∷ map held_in (reverse below.now))).heap) }
     ensures lines { IfOk result (λ r. r.lines.items ≡ (ends.returned p.now heap.now (length below.now + 1) end.this caller.now.locals t.action (method_at p.now end.method) (method_at p.now named) end.value end.thrown end.pos t.pos (held r.locals ∷ map held_in (reverse below.now))).lines) }
-    ensures nothing { IfOk result (λ r. r.settled ≡ true → NothingToLose (heap_left r.change heap.now) (held r.locals ∷ map held_in (reverse below.now)) r.owning) }
+    ensures settled { IfOk result (λ r. r.settled ≡ true → Settled (heap_returned r.change (length below.now + 1) heap.now) (held r.locals ∷ map held_in (reverse below.now))) }
+    ensures change { IfOk result (λ r. CanReturn r.change (length below.now + 1) (lists_in lists.new.items) heap.now) }
+    ensures kept { settled ≡ true → Listed (lists_in lists.new.items) heap.now }
 {
     let value = answered(end.this, t.action, end.value, end.thrown);
     let locals = locals_after(
@@ -192,12 +181,36 @@ fn return_result(
         t.edge,
         value,
     )?;
-    let found = return_plain(
-        alloc, p, heap, end, ended, caller, below, named, t, &locals, settled, owning,
+    let found = return_found(
+        alloc, p, heap, end, ended, caller, below, named, t, &locals, settled, lists,
     )?;
     match found {
-        Some(result) => Ok(plain_end(locals, result)),
+        Some(result) => Ok(owned_end(locals, result)),
         None => whole_return(alloc, p, heap, end, caller, below, named, t, locals),
+    }
+}
+
+// The heap becomes what a return leaves of it, where the caller stands above these frames. Says whether the lists are those of its frames.
+fn take_return(
+    heap: &mut Heap,
+    lists: &mut Vec<Vec<u64>>,
+    below: &[ActiveFrame],
+    change: HeapReturn,
+) -> bool
+    requires { CanReturn change (length below.now + 1) (lists_in lists.old.items) heap.old }
+    ensures heap { heap.new ≡ heap_returned change (length below.now + 1) heap.old }
+    ensures lists { result ≡ true → Listed (lists_in lists.new.items) heap.new }
+{
+    match change {
+        HeapReturn::Whole(after) => {
+            *heap = after;
+            false
+        }
+        HeapReturn::Owned(found) => {
+            let position = below.len() as u64 + 1;
+            return_objects(heap, lists, position, found.moved, found.noted);
+            true
+        }
     }
 }
 
@@ -251,20 +264,18 @@ fn run_return(
                 named,
                 t,
                 m.settled,
-                m.owning,
+                &mut m.owned,
             )?;
-            let CallResult {
+            let ReturnResult {
                 locals,
                 change,
                 lines,
                 settled,
-                owning,
             } = taken;
             m.entries.reserve(lines.len())?;
-            take_change(&mut m.heap, change)?;
+            let listed = take_return(&mut m.heap, &mut m.owned, below, change);
             add_lines(&mut m.entries, &lines);
-            m.settled = settled;
-            m.owning = owning;
+            m.settled = both(settled, listed);
             drop_top(&mut m.frames);
             put_top(
                 &mut m.frames,

@@ -1,10 +1,12 @@
 //! The steps of the machine.
 
-ghost use Rattle.std.specs.Prelude.{◌≡◌, ◌∷◌, ◌<◌, ◌≤◌, [], length, vec_len, IfOk, OnErr, OnOk};
+ghost use Rattle.std.specs.Prelude.{◌≡◌, ◌∷◌, ◌<◌, ◌≤◌, [], length, map, reverse, true, vec_len, IfOk, OnErr, OnOk};
 ghost use Rattle.ledger_machine.specs.Configurations.{configuration};
 ghost use Rattle.ledger_machine.specs.Machines.{HasNothingToLose, config_of};
 ghost use Rattle.ledger_moves.specs.Frames.{control_left, highest_control, move_seen};
 ghost use Rattle.ledger_machine.specs.Outcomes.{config_after, turn_of};
+ghost use Rattle.ledger_obligations.specs.Obligations.{held_in};
+ghost use Rattle.settled_heaps.specs.Settled.{Settled};
 ghost use Rattle.ledger_machine.specs.Starts.{start_config};
 ghost use Rattle.ledger_machine.specs.Steps.{has_ended, moved_by, step, top_move};
 
@@ -14,11 +16,11 @@ use crate::returning::run_end;
 use crate::run_state::RunState;
 use crate::stepping::{run_library, run_start};
 use crate::turn::Turn;
+use frame_owners::owner_lists;
 use java_control::Lists;
 use ledger_moves::{Advance, begin, frame_move};
 use ledger_operations::next_choice;
 use ledger_state::{Entry, Heap, Value, library_array};
-use plain_returns::highest_owner;
 use program_model::{ClassId, ElementType, MethodId, Program};
 use rlc_base::NoMemory;
 use settled_heaps::is_settled_heap;
@@ -129,8 +131,19 @@ fn over(p: &Program, m: &RunState) -> Turn
     Turn::Ended(m.ended)
 }
 
-// Looks whether an object is left to lose, where that is not known.
-fn settle(m: &mut RunState)
+// Whether no object is left to lose. It walks all objects.
+fn is_settled_run(m: &RunState) -> bool
+    ensures { result ≡ true → Settled m.now.heap (map held_in (reverse m.now.frames.items)) }
+{
+    match m.frames.split_last() {
+        None => false,
+        Some((top, below)) => is_settled_heap(&m.heap, &top.locals, below),
+    }
+}
+
+// Looks whether an object is left to lose, and which objects the frames own, where that is not known. Where memory runs out it stays
+// unknown.
+fn settle(alloc: Global, m: &mut RunState)
     requires bounded { highest_control m.old.frames.items ≤ length m.old.lists.cells.keys }
     requires settled { HasNothingToLose m.old }
     ensures kept { config_of m.new ≡ config_of m.old }
@@ -140,12 +153,16 @@ fn settle(m: &mut RunState)
     if m.settled {
         return;
     }
-    let settled = match m.frames.split_last() {
-        None => false,
-        Some((top, below)) => is_settled_heap(&m.heap, &top.locals, below),
-    };
-    m.owning = highest_owner(&m.heap);
-    m.settled = settled;
+    if !is_settled_run(m) {
+        return;
+    }
+    match owner_lists(alloc, &m.heap, m.frames.len()) {
+        Ok(Some(lists)) => {
+            m.owned = lists;
+            m.settled = true;
+        }
+        Ok(None) | Err(_) => {}
+    }
 }
 
 // The top frame takes a step.
@@ -161,7 +178,7 @@ fn step_on(alloc: Global, p: &Program, m: &mut RunState) -> Result<Turn, NoMemor
 {
     let advance = next_advance(alloc, p, m)?;
     let turn = take_move(alloc, p, m, advance)?;
-    settle(m);
+    settle(alloc, m);
     Ok(turn)
 }
 
@@ -215,7 +232,7 @@ pub fn start_machine(
             used: 0,
             ended: None,
             settled: false,
-            owning: 0,
+            owned: Vec::new(alloc),
         },
     })
 }

@@ -3,6 +3,7 @@
 use java_control::Lists;
 use ledger_obligations::ActiveFrame;
 use ledger_state::{ArrayObject, Entry, Heap, Locals, StoredStatic};
+use owned_returns::ReturnChange;
 use plain_calls::PlainChange;
 use program_model::ClassId;
 use stub_conduct::Choice;
@@ -26,8 +27,8 @@ pub struct RunState {
     pub ended: Option<ClassId>,
     /// Where this is true, no object is left to lose; where it is false, nothing is said.
     pub settled: bool,
-    /// Where `settled` is true, no frame above this position owns an object.
-    pub owning: u64,
+    /// For each frame, that of `main` first, the objects that it may own: where `settled` is true, at least those which it owns.
+    pub owned: Vec<Vec<u64>>,
 }
 
 /// What a step within a frame leaves: the values of the frame, the heap, where it is another one than before, and the lines of the
@@ -49,33 +50,48 @@ pub enum HeapChange {
     Plain(PlainChange),
 }
 
-/// What the start or the end of a call leaves that changes one object at most and makes one at most: no object is left to lose then, and no
-/// frame above `owning` owns one.
+/// What the start or the end of a call leaves that changes one object at most and makes one at most: no object is left to lose then.
 #[derive(Drop)]
 pub struct PlainResult {
     pub change: PlainChange,
     pub lines: Vec<Entry>,
-    pub owning: u64,
 }
 
-/// What the end of a call leaves, of the library or of a method of the program: the values of the caller, the heap, and the lines of the
-/// ledger that the step writes. Where `settled` is true, no object is left to lose, and no frame above `owning` owns one.
+/// What the end of a call of the library leaves: the values of the caller, the heap, and the lines of the ledger that the step writes.
+/// Where `settled` is true, no object is left to lose.
 #[derive(Drop)]
 pub struct CallResult {
     pub locals: Locals,
     pub change: HeapChange,
     pub lines: Vec<Entry>,
     pub settled: bool,
-    pub owning: u64,
 }
 
 /// What the start of a call leaves: the frame that begins, the heap, and the lines of the ledger that the step writes. Where `settled`
-/// is true, no object is left to lose, and no frame above `owning` owns one.
+/// is true, no object is left to lose.
 #[derive(Drop)]
 pub struct StartResult {
     pub frame: ActiveFrame,
     pub change: HeapChange,
     pub lines: Vec<Entry>,
     pub settled: bool,
-    pub owning: u64,
+}
+
+/// What a return leaves of the heap.
+#[derive(Drop)]
+pub enum HeapReturn {
+    /// Another heap.
+    Whole(Heap),
+    /// The same heap, in which the frame gave up what it owned, and which is changed at two objects at most.
+    Owned(ReturnChange),
+}
+
+/// What a return leaves: the values of the caller, the heap, and the lines of the ledger that the step writes. Where `settled` is true,
+/// no object is left to lose.
+#[derive(Drop)]
+pub struct ReturnResult {
+    pub locals: Locals,
+    pub change: HeapReturn,
+    pub lines: Vec<Entry>,
+    pub settled: bool,
 }

@@ -1,13 +1,14 @@
 //! Steps that begin and end calls.
 
-ghost use Rattle.std.specs.Prelude.{◌≡◌, ◌+◌, ◌∷◌, ◌++◌, ◌<◌, ◌≤◌, [], List, length, map, reverse, vec_capacity, vec_len, IfOk, IfSome, None, OnErr, OnOk, false, true};
+ghost use Rattle.std.specs.Prelude.{◌≡◌, ◌&&◌, ◌+◌, ◌∷◌, ◌++◌, ◌<◌, ◌≤◌, [], List, length, map, reverse, vec_capacity, vec_len, IfOk, IfSome, None, OnErr, OnOk, false, true};
 ghost use Rattle.java_control.specs.Changes.{step_in};
 ghost use Rattle.java_control.specs.Tables.{Keeps};
+ghost use Rattle.frame_owners.specs.FrameOwners.{Listed, lists_in};
 ghost use Rattle.ledger_calls.specs.Calls.{argument_values, begun};
 ghost use Rattle.ledger_calls.specs.Conducts.{arguments_shared, arrays_given, conduct_value, positions, result_in};
 ghost use Rattle.ledger_frames.specs.Frames.{locals_after};
 ghost use Rattle.ledger_machine.specs.HeapChanges.{heap_left};
-ghost use Rattle.ledger_machine.specs.Machines.{HasNothingToLose, NothingToLose, config_of};
+ghost use Rattle.ledger_machine.specs.Machines.{HasNothingToLose, config_of};
 ghost use Rattle.ledger_moves.specs.Frames.{frame_seen, highest_control};
 ghost use Rattle.ledger_moves.specs.Moves.{Library, Start};
 ghost use Rattle.ledger_machine.specs.Outcomes.{went};
@@ -18,12 +19,12 @@ ghost use Rattle.ledger_state.specs.Heaps.{next_number};
 ghost use Rattle.ledger_state.specs.Locals.{held};
 ghost use Rattle.ledger_steps.specs.CallSteps.{library_done, self_begun, started};
 ghost use Rattle.plain_calls.specs.PlainCalls.{left_by};
-ghost use Rattle.plain_returns.specs.PlainReturns.{object_of, with_position};
 ghost use Rattle.program_model.specs.Lookups.{method_at, optional};
 ghost use Rattle.settled_heaps.specs.Settled.{Settled};
 
 use crate::inner_run::{add_array, keeps_all, put_top};
 use crate::run_state::{CallResult, HeapChange, PlainResult, RunState, StartResult};
+use frame_owners::add_list;
 use java_control::{Action, Lists, Triple};
 use ledger_calls::{argument_values, conduct_value, result_of, share_arguments};
 use ledger_frames::locals_after;
@@ -32,8 +33,8 @@ use ledger_obligations::ActiveFrame;
 use ledger_operations::one_more_used;
 use ledger_state::{ArrayObject, Entry, Heap, Locals, Object, Value, library_array};
 use ledger_steps::{StepEffect, library_effect, self_begun, start_effect};
+use owned_returns::list_change;
 use plain_calls::{PlainCall, PlainChange, apply_change, begun, plain_call, takes_owning};
-use plain_returns::owners_after;
 use program_model::{MethodId, Program, VType};
 use rlc_base::{NoMemory, Pos};
 use std::alloc::Global;
@@ -52,12 +53,11 @@ fn start_plain(
     pos: Pos,
     locals: &Locals,
     settled: bool,
-    owning: u64,
 ) -> Option<PlainResult>
-    requires { settled ≡ true → NothingToLose heap.now (map held_in (reverse frames.now)) owning }
+    requires { settled ≡ true → Settled heap.now (map held_in (reverse frames.now)) }
     ensures heap { IfSome result (λ r. (started p.now heap.now top.now.locals action (method_at p.now named) (length frames.now + 1) pos (held locals.now ∷ map held_in (reverse frames.now))).heap ≡ left_by r.change.noted r.change.made heap.now) }
     ensures lines { IfSome result (λ r. (started p.now heap.now top.now.locals action (method_at p.now named) (length frames.now + 1) pos (held locals.now ∷ map held_in (reverse frames.now))).lines ≡ r.lines.items) }
-    ensures nothing { IfSome result (λ r. NothingToLose (left_by r.change.noted r.change.made heap.now) (held locals.now ∷ map held_in (reverse frames.now)) r.owning) }
+    ensures settled { IfSome result (λ r. Settled (left_by r.change.noted r.change.made heap.now) (held locals.now ∷ map held_in (reverse frames.now))) }
 {
     if !settled {
         return None;
@@ -66,21 +66,18 @@ fn start_plain(
         return None;
     }
     let made = begun(p, action, named);
-    let highest = owners_after(&None, &made, owning);
-    Some(made_result(alloc, made, highest))
+    Some(made_result(alloc, made))
 }
 
-fn made_result(alloc: Global, made: Option<Object>, owning: u64) -> PlainResult
+fn made_result(alloc: Global, made: Option<Object>) -> PlainResult
     ensures noted { result.change.noted ≡ None }
     ensures made { result.change.made ≡ made }
     ensures lines { result.lines.items ≡ [] }
-    ensures owning { result.owning ≡ owning }
 {
     let change = PlainChange { noted: None, made };
     PlainResult {
         change,
         lines: Vec::new(alloc),
-        owning,
     }
 }
 
@@ -88,20 +85,14 @@ fn plain_start(frame: ActiveFrame, found: PlainResult) -> StartResult
     ensures frame { result.frame ≡ frame }
     ensures change { result.change ≡ HeapChange.Plain found.change }
     ensures lines { result.lines.items ≡ found.lines.items }
-    ensures owning { result.owning ≡ found.owning }
 {
-    let PlainResult {
-        change,
-        lines,
-        owning,
-    } = found;
+    let PlainResult { change, lines } = found;
     let change = HeapChange::Plain(change);
     StartResult {
         frame,
         change,
         lines,
         settled: true,
-        owning,
     }
 }
 
@@ -142,7 +133,6 @@ fn whole_start(
         change,
         lines,
         settled: false,
-        owning: 0,
     })
 }
 
@@ -158,13 +148,12 @@ fn start_change(
     pos: Pos,
     frame: ActiveFrame,
     settled: bool,
-    owning: u64,
 ) -> Result<StartResult, NoMemory>
-    requires { settled ≡ true → NothingToLose heap.now (map held_in (reverse frames.now)) owning }
+    requires { settled ≡ true → Settled heap.now (map held_in (reverse frames.now)) }
     ensures frame { IfOk result (λ r. r.frame ≡ frame) }
     ensures heap { IfOk result (λ r. heap_left r.change heap.now ≡ (started p.now heap.now top.now.locals action (method_at p.now named) (length frames.now + 1) pos (held frame.locals ∷ map held_in (reverse frames.now))).heap) }
     ensures lines { IfOk result (λ r. r.lines.items ≡ (started p.now heap.now top.now.locals action (method_at p.now named) (length frames.now + 1) pos (held frame.locals ∷ map held_in (reverse frames.now))).lines) }
-    ensures nothing { IfOk result (λ r. r.settled ≡ true → NothingToLose (heap_left r.change heap.now) (held frame.locals ∷ map held_in (reverse frames.now)) r.owning) }
+    ensures settled { IfOk result (λ r. r.settled ≡ true → Settled (heap_left r.change heap.now) (held frame.locals ∷ map held_in (reverse frames.now))) }
 {
     match start_plain(
         alloc,
@@ -177,7 +166,6 @@ fn start_change(
         pos,
         &frame.locals,
         settled,
-        owning,
     ) {
         Some(found) => Ok(plain_start(frame, found)),
         None => whole_start(alloc, p, heap, top, frames, named, action, pos, frame),
@@ -218,19 +206,18 @@ fn start_result(
     action: Action,
     pos: Pos,
     settled: bool,
-    owning: u64,
 ) -> Result<StartResult, NoMemory>
-    requires { settled ≡ true → NothingToLose heap.now (map held_in (reverse frames.now)) owning }
+    requires { settled ≡ true → Settled heap.now (map held_in (reverse frames.now)) }
     ensures frame { IfOk result (λ r. frame_seen lists.new.cells.keys r.frame ≡ begun p.now runs (self_begun top.now.locals action heap.now) (argument_values top.now.locals action (method_at p.now named))) }
     ensures heap { IfOk result (λ r. heap_left r.change heap.now ≡ (started p.now heap.now top.now.locals action (method_at p.now named) (length frames.now + 1) pos (held r.frame.locals ∷ map held_in (reverse frames.now))).heap) }
     ensures lines { IfOk result (λ r. r.lines.items ≡ (started p.now heap.now top.now.locals action (method_at p.now named) (length frames.now + 1) pos (held r.frame.locals ∷ map held_in (reverse frames.now))).lines) }
-    ensures nothing { IfOk result (λ r. r.settled ≡ true → NothingToLose (heap_left r.change heap.now) (held r.frame.locals ∷ map held_in (reverse frames.now)) r.owning) }
+    ensures settled { IfOk result (λ r. r.settled ≡ true → Settled (heap_left r.change heap.now) (held r.frame.locals ∷ map held_in (reverse frames.now))) }
     ensures within { IfOk result (λ r. r.frame.control ≤ length lists.new.cells.keys) }
     ensures kept { Keeps lists.old.cells.keys lists.new.cells.keys }
 {
     let frame = start_frame(alloc, p, lists, heap, top, named, runs, action)?;
     start_change(
-        alloc, p, heap, top, frames, named, action, pos, frame, settled, owning,
+        alloc, p, heap, top, frames, named, action, pos, frame, settled,
     )
 }
 
@@ -277,35 +264,29 @@ pub(crate) fn run_start(
             action,
             pos,
             m.settled,
-            m.owning,
         )?;
         let StartResult {
             frame,
             change,
             lines,
             settled,
-            owning,
         } = started;
         m.entries.reserve(lines.len())?;
+        add_list(alloc, &mut m.owned)?;
+        let listed = list_change_of(&mut m.owned, &m.heap, &change, m.settled)?;
         take_change(&mut m.heap, change)?;
         add_lines(&mut m.entries, &lines);
-        m.settled = settled;
-        m.owning = owning;
+        m.settled = both(settled, listed);
         add_frame(&mut m.frames, frame);
     }
     Ok(())
 }
 
-fn plain_of(call: PlainCall, owning: u64) -> Option<PlainResult>
-    ensures { IfSome result (λ r. (r.change ≡ call.change) × (r.lines.items ≡ call.lines.items) × (r.owning ≡ with_position (object_of call.change.noted) (with_position call.change.made owning))) }
+fn plain_of(call: PlainCall) -> Option<PlainResult>
+    ensures { IfSome result (λ r. (r.change ≡ call.change) × (r.lines.items ≡ call.lines.items)) }
 {
     let PlainCall { change, lines } = call;
-    let highest = owners_after(&change.noted, &change.made, owning);
-    Some(PlainResult {
-        change,
-        lines,
-        owning: highest,
-    })
+    Some(PlainResult { change, lines })
 }
 
 // What a plain call of the library changes, where this is one and the heap is `settled`. `locals` are the values of the caller after
@@ -327,7 +308,6 @@ fn library_call(
     ensures heap { IfOk result (λ o. IfSome o (λ c. (library_done p.now heap.now top.now.locals s.action (method_at p.now named) (method_at p.now method) conduct (length below.now + 1) s.pos (held locals.now ∷ map held_in (reverse below.now))).heap ≡ left_by c.change.noted c.change.made heap.now)) }
     ensures lines { IfOk result (λ o. IfSome o (λ c. (library_done p.now heap.now top.now.locals s.action (method_at p.now named) (method_at p.now method) conduct (length below.now + 1) s.pos (held locals.now ∷ map held_in (reverse below.now))).lines ≡ c.lines.items)) }
     ensures settled { IfOk result (λ o. IfSome o (λ c. Settled (left_by c.change.noted c.change.made heap.now) (held locals.now ∷ map held_in (reverse below.now)))) }
-    ensures was { IfOk result (λ o. IfSome o (λ c. settled ≡ true)) }
 {
     if !settled {
         return Ok(None);
@@ -366,19 +346,18 @@ fn library_plain(
     s: Triple,
     locals: &Locals,
     settled: bool,
-    owning: u64,
 ) -> Result<Option<PlainResult>, NoMemory>
-    requires { settled ≡ true → NothingToLose heap.now (held top.now.locals ∷ map held_in (reverse below.now)) owning }
+    requires { settled ≡ true → Settled heap.now (held top.now.locals ∷ map held_in (reverse below.now)) }
     ensures heap { IfOk result (λ o. IfSome o (λ r. (library_done p.now heap.now top.now.locals s.action (method_at p.now named) (method_at p.now method) conduct (length below.now + 1) s.pos (held locals.now ∷ map held_in (reverse below.now))).heap ≡ left_by r.change.noted r.change.made heap.now)) }
     ensures lines { IfOk result (λ o. IfSome o (λ r. (library_done p.now heap.now top.now.locals s.action (method_at p.now named) (method_at p.now method) conduct (length below.now + 1) s.pos (held locals.now ∷ map held_in (reverse below.now))).lines ≡ r.lines.items)) }
-    ensures nothing { IfOk result (λ o. IfSome o (λ r. NothingToLose (left_by r.change.noted r.change.made heap.now) (held locals.now ∷ map held_in (reverse below.now)) r.owning)) }
+    ensures settled { IfOk result (λ o. IfSome o (λ r. Settled (left_by r.change.noted r.change.made heap.now) (held locals.now ∷ map held_in (reverse below.now)))) }
 {
     let found = library_call(
         alloc, p, heap, top, below, named, method, conduct, s, locals, settled,
     )?;
     match found {
         None => Ok(None),
-        Some(call) => Ok(plain_of(call, owning)),
+        Some(call) => Ok(plain_of(call)),
     }
 }
 
@@ -418,30 +397,24 @@ fn whole_result(
     Ok(whole_end(locals, effect))
 }
 
-/// What a call's end leaves that changes one object at most and makes one at most.
-pub(crate) fn plain_end(locals: Locals, found: PlainResult) -> CallResult
+// What a call's end leaves that changes one object at most and makes one at most.
+fn plain_end(locals: Locals, found: PlainResult) -> CallResult
     ensures locals { result.locals ≡ locals }
     ensures change { result.change ≡ HeapChange.Plain found.change }
     ensures lines { result.lines.items ≡ found.lines.items }
-    ensures owning { result.owning ≡ found.owning }
 {
-    let PlainResult {
-        change,
-        lines,
-        owning,
-    } = found;
+    let PlainResult { change, lines } = found;
     let change = HeapChange::Plain(change);
     CallResult {
         locals,
         change,
         lines,
         settled: true,
-        owning,
     }
 }
 
-/// What a call's end leaves, whatever it changes.
-pub(crate) fn whole_end(locals: Locals, effect: StepEffect) -> CallResult
+// What a call's end leaves, whatever it changes.
+fn whole_end(locals: Locals, effect: StepEffect) -> CallResult
     ensures locals { result.locals ≡ locals }
     ensures change { result.change ≡ HeapChange.Whole effect.heap }
     ensures lines { result.lines.items ≡ effect.lines.items }
@@ -454,7 +427,6 @@ pub(crate) fn whole_end(locals: Locals, effect: StepEffect) -> CallResult
         change,
         lines,
         settled: false,
-        owning: 0,
     }
 }
 
@@ -471,13 +443,12 @@ fn library_result(
     conduct: Conduct,
     s: Triple,
     settled: bool,
-    owning: u64,
 ) -> Result<CallResult, NoMemory>
-    requires { settled ≡ true → NothingToLose heap.now (held top.now.locals ∷ map held_in (reverse below.now)) owning }
+    requires { settled ≡ true → Settled heap.now (held top.now.locals ∷ map held_in (reverse below.now)) }
     ensures locals { IfOk result (λ r. r.locals ≡ locals_after p.now heap.now top.now.method top.now.locals s.action s.edge value) }
     ensures heap { IfOk result (λ r. heap_left r.change heap.now ≡ (library_done p.now heap.now top.now.locals s.action (method_at p.now named) (method_at p.now method) conduct (length below.now + 1) s.pos (held r.locals ∷ map held_in (reverse below.now))).heap) }
     ensures lines { IfOk result (λ r. r.lines.items ≡ (library_done p.now heap.now top.now.locals s.action (method_at p.now named) (method_at p.now method) conduct (length below.now + 1) s.pos (held r.locals ∷ map held_in (reverse below.now))).lines) }
-    ensures nothing { IfOk result (λ r. r.settled ≡ true → NothingToLose (heap_left r.change heap.now) (held r.locals ∷ map held_in (reverse below.now)) r.owning) }
+    ensures settled { IfOk result (λ r. r.settled ≡ true → Settled (heap_left r.change heap.now) (held r.locals ∷ map held_in (reverse below.now))) }
 {
     let locals = locals_after(
         alloc,
@@ -490,7 +461,7 @@ fn library_result(
         value,
     )?;
     let found = library_plain(
-        alloc, p, heap, top, below, named, method, conduct, s, &locals, settled, owning,
+        alloc, p, heap, top, below, named, method, conduct, s, &locals, settled,
     )?;
     match found {
         Some(result) => Ok(plain_end(locals, result)),
@@ -500,8 +471,29 @@ fn library_result(
     }
 }
 
-/// The heap becomes what the start or the end of a call leaves of it. Where memory runs out it stays.
-pub(crate) fn take_change(heap: &mut Heap, change: HeapChange) -> Result<(), NoMemory>
+// Puts the objects that a call changes and makes into the lists of their owners, where the lists are those of the heap, as `known` says.
+// Says whether they are those of the heap that the call leaves; they stay those of the heap before it in any case.
+fn list_change_of(
+    lists: &mut Vec<Vec<u64>>,
+    heap: &Heap,
+    change: &HeapChange,
+    known: bool,
+) -> Result<bool, NoMemory>
+    requires { known ≡ true → Listed (lists_in lists.old.items) heap.now }
+    ensures kept { known ≡ true → Listed (lists_in lists.new.items) heap.now }
+    ensures listed { IfOk result (λ b. b ≡ true → Listed (lists_in lists.new.items) (heap_left change.now heap.now)) }
+{
+    if !known {
+        return Ok(false);
+    }
+    match change {
+        HeapChange::Whole(_) => Ok(false),
+        HeapChange::Plain(found) => list_change(lists, heap, found),
+    }
+}
+
+// The heap becomes what the start or the end of a call leaves of it. Where memory runs out it stays.
+fn take_change(heap: &mut Heap, change: HeapChange) -> Result<(), NoMemory>
     ensures ok { OnOk result (heap.new ≡ heap_left change heap.old) }
     ensures err { OnErr result (heap.new ≡ heap.old) }
 {
@@ -512,6 +504,13 @@ pub(crate) fn take_change(heap: &mut Heap, change: HeapChange) -> Result<(), NoM
         }
         HeapChange::Plain(found) => apply_change(heap, found),
     }
+}
+
+/// Whether both are so.
+pub(crate) fn both(first: bool, second: bool) -> bool
+    ensures { result ≡ (first && second) }
+{
+    first && second
 }
 
 /// Appends the lines of a step to the ledger, for which there is room.
@@ -583,16 +582,16 @@ pub(crate) fn run_library(
         let count = m.arrays.len();
         let value = conduct_value(p, count, method, &top.locals, s.action, number, conduct);
         let taken = library_result(
-            alloc, p, &m.heap, value, top, below, named, method, conduct, s, m.settled, m.owning,
+            alloc, p, &m.heap, value, top, below, named, method, conduct, s, m.settled,
         )?;
         let CallResult {
             locals,
             change,
             lines,
             settled,
-            owning,
         } = taken;
         m.entries.reserve(lines.len())?;
+        let listed = list_change_of(&mut m.owned, &m.heap, &change, m.settled)?;
         take_change(&mut m.heap, change)?;
         add_lines(&mut m.entries, &lines);
         give_arrays(
@@ -606,8 +605,7 @@ pub(crate) fn run_library(
             conduct,
         );
         m.used = one_more_used(&m.choices, m.used);
-        m.settled = settled;
-        m.owning = owning;
+        m.settled = both(settled, listed);
         put_top(
             &mut m.frames,
             ActiveFrame {

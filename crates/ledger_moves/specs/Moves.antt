@@ -4,6 +4,8 @@ use Rattle.std.specs.List.{find}
 use Rattle.program_model.specs.declared.kinds.BodyId.{BodyId}
 use Rattle.program_model.specs.declared.kinds.ClassId.{ClassId}
 use Rattle.program_model.specs.declared.kinds.MethodId.{MethodId}
+use Rattle.program_model.specs.declared.kinds.VType.TheVariants as types
+use Rattle.program_model.specs.declared.program.Method.{Method}
 use Rattle.program_model.specs.declared.program.Program.{Program}
 use Rattle.program_model.specs.Lookups.{method_at}
 use Rattle.program_model.specs.SuperTests.{is_ignored}
@@ -14,6 +16,8 @@ use Rattle.java_control.specs.declared.action.Completion.{Completion}
 use Rattle.java_control.specs.declared.action.Edge.{Edge}
 use Rattle.java_control.specs.declared.action.Edge.TheVariants as edges
 use Rattle.java_control.specs.declared.action.PlainValue.{PlainValue}
+use Rattle.java_control.specs.declared.action.TargetForm.{TargetForm}
+use Rattle.java_control.specs.declared.action.TargetForm.TheVariants as forms
 use Rattle.java_control.specs.declared.action.PlainValue.TheVariants as plain
 use Rattle.java_control.specs.Calls.{called_method}
 use Rattle.java_control.specs.Control.{Step}
@@ -23,12 +27,14 @@ use Rattle.stub_conduct.specs.declared.choice.Conduct.{Conduct}
 use Rattle.stub_conduct.specs.declared.choice.Conduct.TheVariants as conducts
 use Rattle.ledger_state.specs.declared.array.ArrayObject.{ArrayObject}
 use Rattle.ledger_state.specs.declared.locals.Locals.{Locals}
+use Rattle.ledger_state.specs.Classes.{is_instance}
 use Rattle.ledger_state.specs.Contents.{HeapContents}
+use Rattle.ledger_state.specs.declared.value.Value.{Value}
 use Rattle.ledger_obligations.specs.Obligations.{is_library_method}
 use Rattle.ledger_operations.specs.Operations.{thrown_by_operation}
-use Rattle.ledger_calls.specs.Calls.{body_of, has_null_target, is_stray_from, leaves_by, position_of, running}
+use Rattle.ledger_calls.specs.Calls.{body_of, form_of, has_null_target, is_stray_from, leaves_by, operand_of, position_of, running}
 use Rattle.ledger_calls.specs.Conducts.{library_method, on_this, settled}
-use Rattle.ledger_frames.specs.Choosing.{agrees, edge_of_class, goes_by}
+use Rattle.ledger_frames.specs.Choosing.{agrees, goes_by}
 use Rattle.ledger_moves.specs.declared.standing.FirstAction.{FirstAction}
 
 -- what the top frame does next
@@ -50,6 +56,11 @@ pub data Move : Type 0 where
 abbrev pub by_edge : Edge → List Step → Option Step
 by_edge e steps = find (goes_by e) steps
 
+-- the step of an exception that leaves by this class; where it leaves by none, no valid program comes there, and there is no step
+abbrev pub by_class : Option ClassId → List Step → Option Step
+by_class None steps = None
+by_class (Some c) steps = by_edge (edges.Throws c) steps
+
 -- Calls. `steps` are the steps of the frame
 
 abbrev pub inner_by : Option ClassId → Option Step → Move
@@ -60,7 +71,7 @@ inner_by e (Some s) = Inner e s
 unfoldable pub null_target : Program → List Step → Pos → MethodId → Move
 null_target p steps pos named =
     if is_ignored p p.core.null_pointer_exception then Stray p.core.null_pointer_exception pos
-    else inner_by (Some p.core.null_pointer_exception) (by_edge (edge_of_class (leaves_by p (method_at p named) p.core.null_pointer_exception)) steps)
+    else inner_by (Some p.core.null_pointer_exception) (by_class (leaves_by p (method_at p named) p.core.null_pointer_exception) steps)
 
 abbrev pub library_by : MethodId → MethodId → Conduct → Option Step → Move
 library_by named m d None = Rest
@@ -70,7 +81,7 @@ library_by named m d (Some s) = Library named m d s
 unfoldable pub library_as : Program → List Step → Pos → MethodId → MethodId → Conduct → Move
 library_as p steps pos named m (conducts.Throws e) =
     if is_stray_from p (method_at p named) e then Stray e pos
-    else library_by named m (conducts.Throws e) (by_edge (edge_of_class (leaves_by p (method_at p named) e)) steps)
+    else library_by named m (conducts.Throws e) (by_class (leaves_by p (method_at p named) e) steps)
 library_as p steps pos named m d = library_by named m d (by_edge edges.Go steps)
 
 -- a call of the library goes by the next choice
@@ -91,10 +102,24 @@ call_of p h arrays choice l steps a pos named runs =
     if is_library_method p (method_at p runs) then library_call p h arrays choice l steps a pos named (library_method p named runs)
     else program_call p a pos named runs
 
+-- the value is of the class that declares the named method, or of one under it (JLS 15.12.3)
+abbrev pub is_target_of : Program → HeapContents → List ArrayObject → Option Method → Value → Bool
+is_target_of p h arrays None v = false
+is_target_of p h arrays (Some m) v = is_instance p h arrays (types.Obj m.class) v
+
+-- the value may be the target of such a call
+abbrev pub fits_target : Program → HeapContents → List ArrayObject → Option Method → TargetForm → Value → Bool
+fits_target p h arrays m forms.Static v = true
+fits_target p h arrays m forms.Super v = true
+fits_target p h arrays m forms.This v = is_target_of p h arrays m v
+fits_target p h arrays m forms.Other v = is_target_of p h arrays m v
+
+-- a target that is of another class has no such method; no valid program comes there
 unfoldable pub call : Program → HeapContents → List ArrayObject → Choice → Locals → List Step → Action → Pos → MethodId → Move
 call p h arrays choice l steps a pos named =
     if has_null_target l a then null_target p steps pos named
-    else call_of p h arrays choice l steps a pos named (running p h l a named)
+    else (if fits_target p h arrays (method_at p named) (form_of a) (operand_of l a 0) then call_of p h arrays choice l steps a pos named (running p h l a named)
+    else Rest)
 
 -- Steps
 
@@ -174,7 +199,7 @@ unfoldable pub back_as : Program → List Step → Pos → MethodId → Option C
 back_as p steps pos named None = back_by None named (by_edge edges.Go steps)
 back_as p steps pos named (Some e) =
     if is_stray_from p (method_at p named) e then StrayBack e pos
-    else back_by (Some e) named (by_edge (edge_of_class (leaves_by p (method_at p named) e)) steps)
+    else back_by (Some e) named (by_class (leaves_by p (method_at p named) e) steps)
 
 unfoldable pub back_to : Program → List Step → Pos → Option ClassId → Option MethodId → Return
 back_to p steps pos e None = NoWay

@@ -1,31 +1,46 @@
 //! How the end of a frame goes on in its caller.
 
-ghost use Rattle.std.specs.Prelude.{◌≡◌, ◌≤◌, List, length, map, slice_get, IfOk};
+ghost use Rattle.std.specs.Prelude.{◌≡◌, ◌≤◌, List, None, Some, length, map, slice_get, IfOk};
+ghost use Rattle.java_control.specs.declared.action.Edge.TheVariants as edges;
 ghost use Rattle.java_control.specs.Changes.{highest_steps, step_in};
 ghost use Rattle.java_control.specs.declared.cell.Cell.{Cell};
 ghost use Rattle.java_control.specs.Tables.{Keeps};
 ghost use Rattle.ledger_frames.specs.Choosing.{frame_steps};
 ghost use Rattle.ledger_moves.specs.Frames.{control_back, frame_seen, return_seen};
-ghost use Rattle.ledger_moves.specs.Moves.{back_as, back_by, back_to, by_edge, return_move};
+ghost use Rattle.ledger_moves.specs.Moves.{back_as, back_by, back_to, by_class, by_edge, return_move};
 
 use crate::advance::CallEnd;
-use crate::calls::by_edge;
+use crate::calls::{by_class, by_edge};
 use crate::frames::frame_steps;
 use java_control::{Edge, Lists, Triple, called_method};
 use ledger_calls::{is_stray_from, leaves_by};
-use ledger_frames::edge_of_class;
 use ledger_obligations::ActiveFrame;
 use program_model::{ClassId, MethodId, Program};
 use rlc_base::{NoMemory, Pos};
 use std::alloc::Global;
 
-fn back_by_edge(thrown: Option<ClassId>, named: MethodId, edge: Edge, steps: &[Triple]) -> CallEnd
-    ensures seen { (cells : List Cell) → return_seen cells result ≡ back_by thrown named (by_edge edge (map (step_in cells) steps.now)) }
+fn back_normally(named: MethodId, steps: &[Triple]) -> CallEnd
+    ensures seen { (cells : List Cell) → return_seen cells result ≡ back_by None named (by_edge edges.Go (map (step_in cells) steps.now)) }
     ensures within { control_back result ≤ highest_steps steps.now }
 {
-    match by_edge(edge, steps) {
+    match by_edge(Edge::Go, steps) {
         None => CallEnd::NoWay,
-        Some(t) => CallEnd::Back(thrown, named, t),
+        Some(t) => CallEnd::Back(None, named, t),
+    }
+}
+
+fn back_by_class(
+    thrown: ClassId,
+    named: MethodId,
+    class: Option<ClassId>,
+    steps: &[Triple],
+) -> CallEnd
+    ensures seen { (cells : List Cell) → return_seen cells result ≡ back_by (Some thrown) named (by_class class (map (step_in cells) steps.now)) }
+    ensures within { control_back result ≤ highest_steps steps.now }
+{
+    match by_class(class, steps) {
+        None => CallEnd::NoWay,
+        Some(t) => CallEnd::Back(Some(thrown), named, t),
     }
 }
 
@@ -42,13 +57,12 @@ fn back_as(
     ensures within { control_back result ≤ highest_steps steps.now }
 {
     match thrown {
-        None => back_by_edge(None, named, Edge::Go, steps),
+        None => back_normally(named, steps),
         Some(class) => {
             if is_stray_from(p, named, class) {
                 return CallEnd::Stray(class, pos);
             }
-            let edge = edge_of_class(leaves_by(p, named, class));
-            back_by_edge(Some(class), named, edge, steps)
+            back_by_class(class, named, leaves_by(p, named, class), steps)
         }
     }
 }

@@ -40,7 +40,8 @@ use Rattle.java_control.specs.declared.action.Scope.TheVariants as scopes
 use Rattle.java_control.specs.declared.action.TargetForm.{TargetForm}
 use Rattle.java_control.specs.declared.action.TargetForm.TheVariants as forms
 use Rattle.java_control.specs.declared.place.Place.TheVariants as places
-use Rattle.operand_type_laws.specs.Operands.{FindsAside, FindsTypes, HasNoObjectAt, MakesNoString, NoObject, OperandsFit, TakesAll, below, below_and_at, evaluated, field_type, first_argument, params_of, put_at, result_of}
+use Rattle.program_conditions.specs.Conditions.{IsNoNewString}
+use Rattle.operand_type_laws.specs.Operands.{FindsAside, FindsTypes, HasNoObjectAt, NoObject, OperandsFit, TakesAll, below, below_and_at, evaluated, field_type, first_argument, params_of, put_at, result_of}
 use Rattle.operand_type_laws.proofs.Items.{Within, all_evaluated, evaluations_find, evaluations_past, finds_more, in_three, past_more, past_three, under_all, under_next}
 use Rattle.operand_type_laws.proofs.Types.{constant_object, element_none, fits_none, instance_type, new_object, postfix_none, primitive_none, static_none, this_object}
 
@@ -69,7 +70,7 @@ deeper d = omega arith
 other : (d : ℕ) → d + 1 ≡ d → ⊥
 other d same = (let never : ⊥ = omega (arith, same) in never)
 
-module _ (p : Program) (typed : IsTypedProgram p) (no_text : MakesNoString p) (b : Body) where
+module _ (p : Program) (typed : IsTypedProgram p) (b : Body) where
   -- ---- what follows
 
   gives : (k : List Todo) (d : ℕ) (P Q : Type 0) (h g : ℕ → Type 0) → (P → Q) → Within (below d h) g → FindsTypes p b k (below_and_at d P h) → FindsTypes p b k (below_and_at d Q g)
@@ -305,9 +306,9 @@ module _ (p : Program) (typed : IsTypedProgram p) (no_text : MakesNoString p) (b
       go None is = absurd is
       go (Some x) is = arguments_taken es x.sig.params.items d h is.2
 
-  new_finds : (n : NewObject) (t : VType) (d : ℕ) (pos : Pos) (k : List Todo) (h : ℕ → Type 0) → typing.IsNewObject p b n t → FindsTypes p b k (below_and_at d (NoObject (Some t)) h) → FindsAside p b k (below d h)
+  new_finds : (n : NewObject) (t : VType) (d : ℕ) (pos : Pos) (k : List Todo) (h : ℕ → Type 0) → IsNoNewString p (expressions.NewObject n) → typing.IsNewObject p b n t → FindsTypes p b k (below_and_at d (NoObject (Some t)) h) → FindsAside p b k (below d h)
       → FindsTypes p b (new_front n d pos ++ k) h
-  new_finds n t d pos k h is finds past =
+  new_finds n t d pos k h no_text is finds past =
       operands_find n.arguments.items (d + 1) (Act (actions.New n.constructor d (length n.arguments.items)) pos ∷ []) k h
       (construction_takes n.constructor n.class n.arguments.items (d + 1) h is.0, finds_more p b k (below_and_at d (NoObject (Some t)) h) (below d all) kept finds, past_in k d h all under past)
       (past_more p b k (below d h) (below (d + 1) h) (λ x low. (let deep : x < d + 1 = omega (arith, low.0) in deep, low.1)) past)
@@ -320,7 +321,7 @@ module _ (p : Program) (typed : IsTypedProgram p) (no_text : MakesNoString p) (b
 
       kept : Within (below_and_at d (NoObject (Some t)) h) (below d all)
       kept x (inl low) = (low.0, under x low)
-      kept x (inr same) = absurd (new_object p no_text b n t is same.1)
+      kept x (inr same) = absurd (new_object p b n t no_text is same.1)
 
   -- ---- operators
 
@@ -358,42 +359,42 @@ module _ (p : Program) (typed : IsTypedProgram p) (no_text : MakesNoString p) (b
   always t k d h finds = gives k d (NoObject t) (Unit {0}) h h (λ none. tt) (λ x under. under.1) finds
 
   -- of a type, or a call of none
-  kind_finds : (j : ExpressionKind) (e : ExprId) (t : Option VType) (d : ℕ) (pos : Pos) (k : List Todo) (h : ℕ → Type 0) → IsOfOptionalType p b j t → FindsTypes p b k (below_and_at d (NoObject t) h) → FindsAside p b k (below d h)
+  kind_finds : (j : ExpressionKind) (e : ExprId) (t : Option VType) (d : ℕ) (pos : Pos) (k : List Todo) (h : ℕ → Type 0) → IsNoNewString p j → IsOfOptionalType p b j t → FindsTypes p b k (below_and_at d (NoObject t) h) → FindsAside p b k (below d h)
       → FindsTypes p b (expression_front j p b e t d pos ++ k) h
-  kind_finds (expressions.Call c) e t d pos k h is finds past = call_finds c.method c.arguments.items c.target t d pos k h (call_of t is) finds past
+  kind_finds (expressions.Call c) e t d pos k h no_text is finds past = call_finds c.method c.arguments.items c.target t d pos k h (call_of t is) finds past
     where
       call_of : (t : Option VType) → IsOfOptionalType p b (expressions.Call c) t → IsCall p b c t
       call_of None is = is
       call_of (Some t) is = is
-  kind_finds (expressions.Literal l) e t d pos k h is finds past = (tt, always t k d h finds, tt)
-  kind_finds j e None d pos k h is finds past = absurd is
-  kind_finds (expressions.This written) e (Some t) d pos k h is finds past = (tt, puts k d (NoObject (Some t)) ⊥ h h (this_object p b t is) (λ x under. under.1) finds, tt)
-  kind_finds (expressions.Local x) e (Some t) d pos k h is finds past =
+  kind_finds (expressions.Literal l) e t d pos k h no_text is finds past = (tt, always t k d h finds, tt)
+  kind_finds j e None d pos k h no_text is finds past = absurd is
+  kind_finds (expressions.This written) e (Some t) d pos k h no_text is finds past = (tt, puts k d (NoObject (Some t)) ⊥ h h (this_object p b t is) (λ x under. under.1) finds, tt)
+  kind_finds (expressions.Local x) e (Some t) d pos k h no_text is finds past =
       (tt, puts k d (NoObject (Some t)) (NoObject (variable_type b x)) h h (λ none. subst NoObject (sym is) none) (λ x under. under.1) finds, tt)
-  kind_finds (expressions.Field x f) e (Some t) d pos k h is finds past = read_finds x f t d pos k h (instance_type p b x f t is) finds past
-  kind_finds (expressions.StaticField f) e (Some t) d pos k h is finds past = (tt, always (Some t) k d h finds, tt)
-  kind_finds (expressions.LibraryConstant m) e (Some t) d pos k h is finds past = (tt, gives k d (NoObject (Some t)) ⊥ h h (constant_object p typed m t is) (λ x under. under.1) finds, tt)
-  kind_finds (expressions.Unary o x) e (Some t) d pos k h is finds past = unary_finds o x e (Some t) d pos k h (always (Some t) k d h finds) past
-  kind_finds (expressions.Binary x) e (Some t) d pos k h is finds past = binary_finds x.operator x e (Some t) d pos k h (always (Some t) k d h finds) past
-  kind_finds (expressions.Conditional c x y) e (Some t) d pos k h is finds past = (
+  kind_finds (expressions.Field x f) e (Some t) d pos k h no_text is finds past = read_finds x f t d pos k h (instance_type p b x f t is) finds past
+  kind_finds (expressions.StaticField f) e (Some t) d pos k h no_text is finds past = (tt, always (Some t) k d h finds, tt)
+  kind_finds (expressions.LibraryConstant m) e (Some t) d pos k h no_text is finds past = (tt, gives k d (NoObject (Some t)) ⊥ h h (constant_object p typed m t is) (λ x under. under.1) finds, tt)
+  kind_finds (expressions.Unary o x) e (Some t) d pos k h no_text is finds past = unary_finds o x e (Some t) d pos k h (always (Some t) k d h finds) past
+  kind_finds (expressions.Binary x) e (Some t) d pos k h no_text is finds past = binary_finds x.operator x e (Some t) d pos k h (always (Some t) k d h finds) past
+  kind_finds (expressions.Conditional c x y) e (Some t) d pos k h no_text is finds past = (
     (gives k d (NoObject (Some t)) (NoObject (type_at b x)) h (below d h) (λ none. fits_none p b x t is.1 none) (λ z under. under) finds, past_in k d h (below d h) (λ z under. under) past),
     (gives k d (NoObject (Some t)) (NoObject (type_at b y)) h (below d h) (λ none. fits_none p b y t is.2 none) (λ z under. under) finds, past_in k d h (below d h) (λ z under. under) past),
     past,
   )
-  kind_finds (expressions.InstanceOf x tested) e (Some t) d pos k h is finds past = computes_find (operators.InstanceOf tested) (x ∷ []) d pos k h tt (always (Some t) k d h finds) past
-  kind_finds (expressions.PrimitiveCast x) e (Some t) d pos k h is finds past =
+  kind_finds (expressions.InstanceOf x tested) e (Some t) d pos k h no_text is finds past = computes_find (operators.InstanceOf tested) (x ∷ []) d pos k h tt (always (Some t) k d h finds) past
+  kind_finds (expressions.PrimitiveCast x) e (Some t) d pos k h no_text is finds past =
       computes_find (operators.Convert t) (x ∷ []) d pos k h (inr (refl, fits_none p b x t is.1 (primitive_none t is.0)), is.0) (always (Some t) k d h finds) past
-  kind_finds (expressions.ReferenceCast x) e (Some t) d pos k h is finds past =
+  kind_finds (expressions.ReferenceCast x) e (Some t) d pos k h no_text is finds past =
       ((tt, gives k d (NoObject (Some t)) (NoObject (Some t)) h (evaluated b x d h) (λ none. none) (under_value b x d h) finds, past_in k d h (evaluated b x d h) (under_value b x d h) past), past)
-  kind_finds (expressions.Assignment x value) e (Some t) d pos k h is finds past = assignment_finds x value t d pos k h is.0 is.1 finds past
-  kind_finds (expressions.OperatorAssignment a) e (Some t) d pos k h is finds past = update_finds a (Some t) t d pos k h is (always (Some t) k d h finds) past
-  kind_finds (expressions.PostfixStep a) e (Some t) d pos k h is finds past = postfix_finds a (Some t) t d pos k h is.2 (postfix_none p b a t is.0 is.2) (always (Some t) k d h finds) past
-  kind_finds (expressions.NewObject n) e (Some t) d pos k h is finds past = new_finds n t d pos k h is finds past
-  kind_finds (expressions.NewArray x) e (Some t) d pos k h is finds past = computes_find (operators.NewArray t) (x ∷ []) d pos k h tt (always (Some t) k d h finds) past
-  kind_finds (expressions.Element a i) e (Some t) d pos k h is finds past = computes_find operators.Element (a ∷ i ∷ []) d pos k h tt (always (Some t) k d h finds) past
-  kind_finds (expressions.Length a) e (Some t) d pos k h is finds past = computes_find operators.Length (a ∷ []) d pos k h tt (always (Some t) k d h finds) past
+  kind_finds (expressions.Assignment x value) e (Some t) d pos k h no_text is finds past = assignment_finds x value t d pos k h is.0 is.1 finds past
+  kind_finds (expressions.OperatorAssignment a) e (Some t) d pos k h no_text is finds past = update_finds a (Some t) t d pos k h is (always (Some t) k d h finds) past
+  kind_finds (expressions.PostfixStep a) e (Some t) d pos k h no_text is finds past = postfix_finds a (Some t) t d pos k h is.2 (postfix_none p b a t is.0 is.2) (always (Some t) k d h finds) past
+  kind_finds (expressions.NewObject n) e (Some t) d pos k h no_text is finds past = new_finds n t d pos k h no_text is finds past
+  kind_finds (expressions.NewArray x) e (Some t) d pos k h no_text is finds past = computes_find (operators.NewArray t) (x ∷ []) d pos k h tt (always (Some t) k d h finds) past
+  kind_finds (expressions.Element a i) e (Some t) d pos k h no_text is finds past = computes_find operators.Element (a ∷ i ∷ []) d pos k h tt (always (Some t) k d h finds) past
+  kind_finds (expressions.Length a) e (Some t) d pos k h no_text is finds past = computes_find operators.Length (a ∷ []) d pos k h tt (always (Some t) k d h finds) past
 
-  pub expression_finds : (j : ExpressionKind) (e : ExprId) (t : Option VType) (d : ℕ) (pos : Pos) (k : List Todo) (h : ℕ → Type 0) → type_at b e ≡ t → IsOfOptionalType p b j t → FindsTypes p b k (evaluated b e d h) → FindsAside p b k (below d h)
+  pub expression_finds : (j : ExpressionKind) (e : ExprId) (t : Option VType) (d : ℕ) (pos : Pos) (k : List Todo) (h : ℕ → Type 0) → type_at b e ≡ t → IsNoNewString p j → IsOfOptionalType p b j t → FindsTypes p b k (evaluated b e d h) → FindsAside p b k (below d h)
       → FindsTypes p b (expression_front j p b e t d pos ++ k) h
-  expression_finds j e t d pos k h same is finds past =
-      kind_finds j e t d pos k h is (subst (λ (u : Option VType). FindsTypes p b k (below_and_at d (NoObject u) h)) same finds) past
+  expression_finds j e t d pos k h same no_text is finds past =
+      kind_finds j e t d pos k h no_text is (subst (λ (u : Option VType). FindsTypes p b k (below_and_at d (NoObject u) h)) same finds) past

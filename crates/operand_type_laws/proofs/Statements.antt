@@ -34,7 +34,7 @@ use Rattle.java_control.specs.declared.item.Closing.{Closing}
 use Rattle.java_control.specs.declared.item.Condition.{Condition}
 use Rattle.java_control.specs.declared.item.Condition.TheVariants as conditions
 use Rattle.java_control.specs.declared.place.Place.TheVariants as places
-use Rattle.operand_type_laws.specs.Operands.{ClosesPlainly, FindsAside, FindsTypes, ItemsFit, MakesNoString, NoObject, TakesAll, below, below_and_at, evaluated, params_of, put_at, result_of}
+use Rattle.operand_type_laws.specs.Operands.{ClosesPlainly, FindsAside, FindsTypes, ItemsFit, NoObject, TakesAll, below, below_and_at, evaluated, params_of, put_at, result_of}
 use Rattle.operand_type_laws.proofs.Items.{Within, all_evaluated, evaluations_find, evaluations_past, finds_more, in_three, past_more, past_three, under_all}
 use Rattle.operand_type_laws.proofs.Fronts.{construction_takes, twice}
 use Rattle.operand_type_laws.proofs.Types.{fits_none}
@@ -43,7 +43,7 @@ use Rattle.operand_type_laws.proofs.Types.{fits_none}
 abbrev pub Serves : Program → Body → ℕ → List Todo → Type 1
 Serves p b d xs = (k : List Todo) (h : ℕ → Type 0) → FindsTypes p b k (below d h) → FindsAside p b k (below d h) → FindsTypes p b (xs ++ k) h × FindsAside p b (xs ++ k) (below d h)
 
-module _ (p : Program) (typed : IsTypedProgram p) (no_text : MakesNoString p) (b : Body) where
+module _ (p : Program) (typed : IsTypedProgram p) (b : Body) where
   pub all_temps : (d : ℕ) (k : List Todo) (h : ℕ → Type 0) → FindsTypes p b k (below d h) → FindsTypes p b k h
   all_temps d k h finds = finds_more p b k (below d h) h (λ x under. under.1) finds
 
@@ -246,7 +246,7 @@ module _ (p : Program) (typed : IsTypedProgram p) (no_text : MakesNoString p) (b
     where
       by_super : (x : Option ClassId) → IsSomeAnd x (λ s. IsConstruction p b s c.constructor c.arguments.items) → TakesAll (params_of (method_at p c.constructor)) d (all_evaluated p b c.arguments.items d h)
       by_super None is = absurd is
-      by_super (Some s) is = construction_takes p typed no_text b c.constructor s c.arguments.items d h is
+      by_super (Some s) is = construction_takes p typed b c.constructor s c.arguments.items d h is
 
       by_class : (x : Option Class) → IsSomeAnd x (λ k. IsSomeAnd k.sup (λ s. IsConstruction p b s c.constructor c.arguments.items)) → TakesAll (params_of (method_at p c.constructor)) d (all_evaluated p b c.arguments.items d h)
       by_class None is = absurd is

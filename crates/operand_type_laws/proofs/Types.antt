@@ -20,13 +20,15 @@ use Rattle.program_model.specs.declared.program.Field.{Field}
 use Rattle.program_model.specs.declared.program.Method.{Method}
 use Rattle.program_model.specs.declared.program.Program.{Program}
 use Rattle.program_model.specs.declared.tree.Body.{Body}
+use Rattle.program_model.specs.declared.tree.ExpressionKind.TheVariants as expressions
 use Rattle.program_model.specs.declared.tree.OperatorAssignment.{OperatorAssignment}
 use Rattle.program_model.specs.Lookups.{field_at, method_at, type_at}
 use Rattle.program_model.specs.Typing.{AreArguments, IsArrayOf, IsAssignable, IsConstant, IsConstruction, IsElement, IsInstanceField, IsNewObject, IsNumeric, IsOperand, IsOperation, IsOperatorAssignment, IsPrimitive, IsStaticField, IsStepOperator, IsStored, IsThisType, binary_result, class_of, element_type, is_array}
 use Rattle.program_model.specs.Typing as typing
 use Rattle.program_model.specs.Validity.{IsOfKind, IsStaticOrNot, IsTypedProgram, is_class_type}
 use Rattle.program_model.specs.declared.tree.NewObject.{NewObject}
-use Rattle.operand_type_laws.specs.Operands.{MakesNoString, NoObject, field_type, type_of_field}
+use Rattle.program_conditions.specs.Conditions.{IsNoNewString}
+use Rattle.operand_type_laws.specs.Operands.{NoObject, field_type, type_of_field}
 
 numeric_none : (t : VType) → IsNumeric t → is_class_type t ≡ false
 numeric_none (types.Primitive k) is = refl
@@ -117,16 +119,12 @@ no_class c is = cc
 same_class : (c d : ClassId) → ◌≡◌ {A = Option ClassId} (Some c) (Some d) → c ≡ d
 same_class c d is = cc
 
-pub new_object : (p : Program) → MakesNoString p → (b : Body) (n : NewObject) (t : VType) → IsNewObject p b n t → is_class_type t ≡ false → ⊥
-new_object p no_text b n t is none = by_type t is.2 is.3 none
+pub new_object : (p : Program) (b : Body) (n : NewObject) (t : VType) → IsNoNewString p (expressions.NewObject n) → IsNewObject p b n t → is_class_type t ≡ false → ⊥
+new_object p b n t no_text is none = by_type t is.2 is.3 none
   where
-    by_method : (x : Option Method) → method_at p n.constructor ≡ x → IsSomeAnd x (λ x. (x.kind ≡ methods.Ctor) × (x.class ≡ n.class) × AreArguments p b n.arguments.items x.sig.params.items) → p.core.string ≡ n.class → ⊥
-    by_method None at is text = is
-    by_method (Some x) at is text = no_text n.constructor x at is.0 (is.1 ∙ sym text)
-
     by_type : (t : VType) → class_of p t ≡ Some n.class → is_array t ≡ false → is_class_type t ≡ false → ⊥
     by_type (types.Primitive k) of array none = no_class n.class of
-    by_type types.Str of array none = by_method (method_at p n.constructor) refl is.0 (same_class p.core.string n.class of)
+    by_type types.Str of array none = no_text (sym (same_class p.core.string n.class of))
     by_type (types.Arr k) of array none = true≢false array
     by_type (types.Obj c) of array none = true≢false none
     by_type types.NullType of array none = no_class n.class of

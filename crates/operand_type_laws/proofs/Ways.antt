@@ -31,7 +31,8 @@ use Rattle.java_control.specs.declared.action.Completion.{Completion}
 use Rattle.java_control.specs.declared.action.Completion.TheVariants as completions
 use Rattle.java_control.specs.declared.action.Scope.{Scope}
 use Rattle.java_control.specs.declared.action.Scope.TheVariants as scopes
-use Rattle.operand_type_laws.specs.Operands.{FindsAside, FindsTypes, Fits, GivesNoneAt, MakesNoString, NoObject, Returns, after, below, below_and_at, evaluated, leaves_names, left_held, nowhere_held, rests, thrown_after, throws_past}
+use Rattle.program_conditions.specs.Conditions.{IsNoNewString, MakesNoString}
+use Rattle.operand_type_laws.specs.Operands.{FindsAside, FindsTypes, Fits, GivesNoneAt, NoObject, Returns, after, below, below_and_at, evaluated, leaves_names, left_held, nowhere_held, rests, thrown_after, throws_past}
 use Rattle.operand_type_laws.proofs.Conditions.{condition_finds}
 use Rattle.operand_type_laws.proofs.Fronts.{expression_finds, twice}
 use Rattle.operand_type_laws.proofs.Items.{finds_more, items_found, past_more, same_within}
@@ -82,7 +83,7 @@ clauses_typed p b (statements.Try t) is = is.1
 clauses_typed p b statements.Empty is = no_clauses p b
 clauses_typed p b j is = no_clauses p b
 
-module _ (p : Program) (typed : IsTypedProgram p) (no_text : MakesNoString p) (b : Body) (n : BodyId) (valid : IsValidBody p n b) (h : ℕ → Type 0) where
+module _ (p : Program) (typed : IsTypedProgram p) (b : Body) (n : BodyId) (valid : IsValidBody p n b) (no_text : (e : ExprId) (x : TExpr) → expression_at b e ≡ Some x → IsNoNewString p x.kind) (h : ℕ → Type 0) where
   -- ---- actions
 
   throwing_each : (a : Action) (pos : Pos) (k : List Todo) (cs : List ClassId) → Fits p b a h → FindsAside p b k (thrown_after a h) → AllLeaveFound p b h (map (throws a pos k) cs)
@@ -113,20 +114,20 @@ module _ (p : Program) (typed : IsTypedProgram p) (no_text : MakesNoString p) (b
 
   in_statement : (s : StmtId) (d : ℕ) (x : Option TStmt) (k : List Todo) → statement_at b s ≡ x → rests (FindsTypes p b k) (FindsAside p b k) d h → AllLeaveFound p b h (statement_ways b s d x k)
   in_statement s d None k at finds = tt
-  in_statement s d (Some x) k at finds = ((tt, (statement_serves p typed no_text b x.kind s d x.pos (valid.statements s x at).typed k h finds.0 finds.1).0), tt)
+  in_statement s d (Some x) k at finds = ((tt, (statement_serves p typed b x.kind s d x.pos (valid.statements s x at).typed k h finds.0 finds.1).0), tt)
 
   in_expression : (e : ExprId) (d : ℕ) (x : Option TExpr) (k : List Todo) → expression_at b e ≡ x → FindsTypes p b k (evaluated b e d h) → FindsAside p b k (below d h) → AllLeaveFound p b h (expression_ways p b e d x k)
   in_expression e d None k at finds past = tt
   in_expression e d (Some x) k at finds past =
-      ((tt, expression_finds p typed no_text b x.kind e x.vtype d x.pos k h (ap type_in at) (valid.expressions e x at).typed finds past), tt)
+      ((tt, expression_finds p typed b x.kind e x.vtype d x.pos k h (ap type_in at) (no_text e x at) (valid.expressions e x at).typed finds past), tt)
 
   in_loop : (w : StmtId) (d : ℕ) (x : Option TStmt) (k : List Todo) → rests (FindsTypes p b k) (FindsAside p b k) d h → AllLeaveFound p b h (loop_ways b w d x k)
   in_loop w d None k finds = tt
-  in_loop w d (Some x) k finds = ((tt, (loop_turn_serves p typed no_text b x.kind w d k h finds.0 finds.1).0), tt)
+  in_loop w d (Some x) k finds = ((tt, (loop_turn_serves p typed b x.kind w d k h finds.0 finds.1).0), tt)
 
   in_for : (w : StmtId) (d : ℕ) (x : Option TStmt) (k : List Todo) → rests (FindsTypes p b k) (FindsAside p b k) d h → AllLeaveFound p b h (for_ways w d x k)
   in_for w d None k finds = tt
-  in_for w d (Some x) k finds = ((tt, (for_turn_serves p typed no_text b x.kind w d x.pos k h finds.0 finds.1).0), tt)
+  in_for w d (Some x) k finds = ((tt, (for_turn_serves p typed b x.kind w d x.pos k h finds.0 finds.1).0), tt)
 
   -- ---- completions
 
@@ -139,7 +140,7 @@ module _ (p : Program) (typed : IsTypedProgram p) (no_text : MakesNoString p) (b
   ending c returns = ((returns, tt), tt)
 
   looping : (c : Completion) (w : StmtId) (d : ℕ) (k : List Todo) → Returns p b c h → rests (FindsTypes p b k) (FindsAside p b k) d h → AllLeaveFound p b h (at_loop c w d k)
-  looping (completions.Break pos) w d k returns finds = ((tt, all_temps p typed no_text b d k h finds.0), tt)
+  looping (completions.Break pos) w d k returns finds = ((tt, all_temps p typed b d k h finds.0), tt)
   looping (completions.Continue pos) w d k returns finds = ((tt, finds), tt)
   looping c w d k returns finds = ((tt, (returns, past_all d k finds.1)), tt)
 
@@ -209,7 +210,7 @@ module _ (p : Program) (typed : IsTypedProgram p) (no_text : MakesNoString p) (b
   going_out c (Close r d ∷ k) returns aside = (
     (
       tt,
-      (close_serves p typed no_text b r (d + 1) aside.0 (Supp (at_depth c d) d r.statement ∷ k) (settled c d k returns aside.1.1) (settled_far c d k returns aside.1.1, settled_past c d k returns aside.1.1)
+      (close_serves p typed b r (d + 1) aside.0 (Supp (at_depth c d) d r.statement ∷ k) (settled c d k returns aside.1.1) (settled_far c d k returns aside.1.1, settled_past c d k returns aside.1.1)
           (settled_past c d k returns aside.1.1)).0,
     ),
     tt,
@@ -237,22 +238,22 @@ module _ (p : Program) (typed : IsTypedProgram p) (no_text : MakesNoString p) (b
   all_ways (LoopEnd w d ∷ k) finds = in_loop w d (statement_at b w) k finds
   all_ways (For w d ∷ k) finds = in_for w d (statement_at b w) k finds
   all_ways (Leave x pos ∷ k) finds = left_by x pos k finds
-  all_ways (Catch s d ∷ k) finds = ((tt, all_temps p typed no_text b d k h finds.0), tt)
+  all_ways (Catch s d ∷ k) finds = ((tt, all_temps p typed b d k h finds.0), tt)
   all_ways (Fin f d ∷ k) finds = ((tt, finds), tt)
-  all_ways (Close r d ∷ k) finds = ((tt, (close_serves p typed no_text b r d finds.0 k h finds.1.0 finds.1.1).0), tt)
+  all_ways (Close r d ∷ k) finds = ((tt, (close_serves p typed b r d finds.0 k h finds.1.0 finds.1.1).0), tt)
   all_ways (Finish c d f ∷ k) finds = ((tt, (finds.0, past_all d k finds.1)), tt)
   all_ways (Supp c d s ∷ k) finds = ((tt, (finds.0, past_all d k finds.1)), tt)
   all_ways (Out c ∷ k) finds = going_out c k finds.0 finds.1
   all_ways (Ended ∷ k) finds = tt
 
-module _ (p : Program) (typed : IsTypedProgram p) (no_text : MakesNoString p) (b : Body) (n : BodyId) (valid : IsValidBody p n b) where
+module _ (p : Program) (typed : IsTypedProgram p) (b : Body) (n : BodyId) (valid : IsValidBody p n b) where
   one_serves : (s : StmtId) → Serves p b 0 (Do s 0 ∷ [])
   one_serves s k h finds past = ((finds, past), past)
 
   first_serves : (j : StatementKind) (s : StmtId) (pos : Pos) → IsTypedStatement p b j → Serves p b 0 (first_items j s pos)
   first_serves (statements.Block ss end) s pos is = one_serves s
-  first_serves (statements.SuperCall c) s pos is = super_serves p typed no_text b c 0 pos is
-  first_serves (statements.FieldInitializer e) s pos is = statement_expression p typed no_text b e 0 pos
+  first_serves (statements.SuperCall c) s pos is = super_serves p typed b c 0 pos is
+  first_serves (statements.FieldInitializer e) s pos is = statement_expression p typed b e 0 pos
   first_serves j s pos is = one_serves s
 
   first_at : (s : StmtId) (x : Option TStmt) → statement_at b s ≡ x → Serves p b 0 (first_items_at s x)
@@ -260,8 +261,8 @@ module _ (p : Program) (typed : IsTypedProgram p) (no_text : MakesNoString p) (b
   first_at s (Some x) at = first_serves x.kind s x.pos (valid.statements s x at).typed
 
   pub start_serves : (ss : List StmtId) → Serves p b 0 (listed_front b ss)
-  start_serves [] = none_serves p typed no_text b 0
-  start_serves (s ∷ ss) = both_serve p typed no_text b 0 (first_items_at s (statement_at b s)) (listed_front b ss) (first_at s (statement_at b s) refl) (start_serves ss)
+  start_serves [] = none_serves p typed b 0
+  start_serves (s ∷ ss) = both_serve p typed b 0 (first_items_at s (statement_at b s)) (listed_front b ss) (first_at s (statement_at b s) refl) (start_serves ss)
 
 -- ---- steps
 
@@ -277,14 +278,14 @@ pub step_finds : (p : Program) → IsTypedProgram p → MakesNoString p → (n :
 unfolding next_of
 step_finds p typed no_text n b k i t h at finds there =
     let w = step_of_way (control_place b k) (ways p b k) i t (ap (λ (y : Option Body). slice_get (steps_in p y k) i) (sym at) ∙ there) in
-    let leaves = way_at p b h (ways p b k) i w.0 (all_ways p typed no_text b n (typed.bodies n b at) h k finds) w.1 in
+    let leaves = way_at p b h (ways p b k) i w.0 (all_ways p typed b n (typed.bodies n b at) (λ e x there. no_text n b e x at there) h k finds) w.1 in
     subst (λ (s : Step). Fits p b s.action h × FindsTypes p b s.to (left_held p b s.action s.edge h)) w.2 leaves
 
 pub start_finds : (p : Program) → IsTypedProgram p → MakesNoString p → (n : BodyId) (b : Body) (h : ℕ → Type 0) → body_at p n ≡ Some b → FindsTypes p b (start_of p n) h
 unfolding start_of
 start_finds p typed no_text n b h at =
     subst (λ (y : Option Body). FindsTypes p b (start_in y) h) (sym at)
-    (subst (λ (k : List Todo). FindsTypes p b k h) (append-nil (listed_front b b.stmts.items)) (start_serves p typed no_text b n (typed.bodies n b at) b.stmts.items [] h tt tt).0)
+    (subst (λ (k : List Todo). FindsTypes p b k h) (append-nil (listed_front b b.stmts.items)) (start_serves p typed b n (typed.bodies n b at) b.stmts.items [] h tt tt).0)
 
 -- ---- the laws
 

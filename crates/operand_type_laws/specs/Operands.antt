@@ -3,8 +3,6 @@
 use Rattle.std.specs.Prelude.{◌≡◌, ◌⊎◌, ℕ, ◌+◌, ◌<◌, true, false, Option, Some, None, List, [], ◌∷◌}
 use Rattle.program_model.specs.declared.kinds.ExprId.{ExprId}
 use Rattle.program_model.specs.declared.kinds.FieldId.{FieldId}
-use Rattle.program_model.specs.declared.kinds.MethodId.{MethodId}
-use Rattle.program_model.specs.declared.kinds.MethodKind.TheVariants as methods
 use Rattle.program_model.specs.declared.kinds.VType.{VType}
 use Rattle.program_model.specs.declared.program.Field.{Field}
 use Rattle.program_model.specs.declared.program.Method.{Method}
@@ -63,10 +61,6 @@ pub record HasNoObjectAt (p : Program) (b : Body) (k : ℕ) : Type 0 where
   pub owning : is_owning p field ≡ true
   pub declared : declares_field p b field ≡ true
   pub kind : NoObject (field_type p field)
-
--- no constructor makes a String (the language has text literals and concatenation)
-abbrev pub MakesNoString : Program → Type 0
-MakesNoString p = (m : MethodId) (x : Method) → method_at p m ≡ Some x → x.kind ≡ methods.Ctor → x.class ≡ p.core.string → ⊥
 
 -- ---- what an action asks of the temps, of which those of the depths `held` hold no object
 

@@ -6,9 +6,10 @@ ghost use Rattle.program_model.specs.declared.program.Program.{Program};
 ghost use Rattle.program_model.specs.declared.tree.Body.{Body};
 ghost use Rattle.program_model.specs.Lookups.{body_at};
 ghost use Rattle.program_model.specs.Validity.{IsTypedProgram};
+ghost use Rattle.program_conditions.specs.Conditions.{MakesNoString};
 ghost use Rattle.java_control.specs.Control.{Step, next_of, start_of};
 ghost use Rattle.java_control.specs.Remaining.{Todo};
-ghost use Rattle.operand_type_laws.specs.Operands.{FindsTypes, Fits, MakesNoString, left_held, nowhere_held};
+ghost use Rattle.operand_type_laws.specs.Operands.{FindsTypes, Fits, left_held, nowhere_held};
 
 /// When a body begins nothing is known of its temps, and each action that is to come finds the values that it asks: no object
 /// where the static type is no class type.

@@ -1,5 +1,4 @@
 pub mod Lists
-pub mod Alike
 mod Signatures
 mod Runs
 mod Pairs

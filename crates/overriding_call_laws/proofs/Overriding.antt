@@ -25,8 +25,9 @@ use Rattle.must_call_sets.specs.ResetCases.{reset_cases_of_method, reset_cases_o
 use Rattle.must_call_sets.specs.Signatures.{is_present}
 use Rattle.must_call_sets.specs.WellFormed.{IsWellFormed}
 use Rattle.ledger_calls.specs.Calls.{overriding_in}
-use Rattle.overriding_call_laws.specs.Dispatch.{DeclaresOnce, HasWholeLibrary, IsOverriding, IsRightOverriding, KeepsSignature}
-use Rattle.overriding_call_laws.proofs.Alike.{alike_at, alike_back, alike_itself, alike_known, alike_parts, is_instance}
+use Rattle.program_conditions.specs.Conditions.{DeclaresOnce, HasWholeLibrary}
+use Rattle.overriding_call_laws.specs.Dispatch.{IsOverriding, IsRightOverriding, KeepsSignature}
+use Rattle.program_conditions.proofs.Alike.{alike_at, alike_back, alike_itself, alike_known, alike_parts, is_instance}
 use Rattle.overriding_call_laws.proofs.Lists.{nil_left, nil_right, none_gathered, not_refused, some_is}
 use Rattle.overriding_call_laws.proofs.Pairs.{declared_pair, joined_pair, pair_alike}
 use Rattle.overriding_call_laws.proofs.Runs.{RunsFrom, class_of_declared, declared_there, declaring_class, dispatched, own_first, running_class, runs_from, same_class}

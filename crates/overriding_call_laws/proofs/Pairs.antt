@@ -20,7 +20,7 @@ use Rattle.program_model.proofs.HierarchyLaws.{is_under_law}
 use Rattle.class_members.proofs.Elements.{contains-cases, contains-first, contains-none, contains-one, filter-among, filter-has, gathered-among, gathered-has}
 use Rattle.must_call_sets.specs.Overridings.{class_ids, overridings}
 use Rattle.overriding_call_laws.specs.Dispatch.{IsOverriding}
-use Rattle.overriding_call_laws.proofs.Alike.{alike_at, alike_known, alike_there}
+use Rattle.program_conditions.proofs.Alike.{alike_at, alike_known, alike_there}
 use Rattle.overriding_call_laws.proofs.Lists.{in_range, mapped}
 use Rattle.overriding_call_laws.proofs.Runs.{declared_there, listed_class, runs_from}
 

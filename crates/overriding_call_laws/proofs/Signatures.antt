@@ -27,7 +27,7 @@ use Rattle.must_call_sets.specs.MustCallSets.{must_of_optional}
 use Rattle.must_call_sets.specs.OverrideCases.{asks_for_more, differ, has_other_owning, keeps, keeps_at, promises_less}
 use Rattle.must_call_sets.specs.Signatures.{is_at, is_present, promised_names}
 use Rattle.overriding_call_laws.specs.Dispatch.{KeepsSignature}
-use Rattle.overriding_call_laws.proofs.Alike.{type_itself, types_themselves}
+use Rattle.program_conditions.proofs.Alike.{type_itself, types_themselves}
 
 same : (b : Bool) → differ b b ≡ false
 same true = refl

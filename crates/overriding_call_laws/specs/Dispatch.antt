@@ -1,27 +1,15 @@
 -- What the rules on overriding give of the method that runs at a call, beside the one that the call names.
-use Rattle.std.specs.Prelude.{◌≡◌, true, false, ◌&&◌, not, Some, Contains}
-use Rattle.program_model.specs.declared.kinds.ClassId.{ClassId}
-use Rattle.program_model.specs.declared.kinds.MethodId.{MethodId}
+use Rattle.std.specs.Prelude.{◌≡◌, true, false, ◌&&◌, not, Contains}
 use Rattle.program_model.specs.declared.kinds.MethodKind.TheVariants as methods
 use Rattle.program_model.specs.declared.program.Method.{Method}
 use Rattle.program_model.specs.declared.program.Program.{Program}
-use Rattle.program_model.specs.Hierarchy.{IsUnder}
-use Rattle.program_model.specs.Lookups.{method_at}
-use Rattle.program_model.specs.Overrides.{Overriding, are_alike, are_types, is_library}
+use Rattle.program_model.specs.Overrides.{Overriding, are_alike, are_types}
 use Rattle.class_members.specs.Results.{is_result_under}
 use Rattle.class_overrides.specs.Cases.{throws_no_more}
 use Rattle.must_call_sets.specs.AliasCases.{is_same_position}
 use Rattle.must_call_sets.specs.OverrideCases.{asks_for_more, has_other_owning, has_other_result, has_wider_result, overrides_first_set, promises_beside_set, promises_less, promises_on_field}
 use Rattle.must_call_sets.specs.Overridings.{overridings}
 use Rattle.must_call_sets.specs.Signatures.{is_present}
-
--- no class declares two methods of one name and one parameter list (JLS 8.4.2)
-abbrev pub DeclaresOnce : Program → Type 0
-DeclaresOnce p = (a b : MethodId) (x y : Method) → method_at p a ≡ Some x → method_at p b ≡ Some y → x.class ≡ y.class → are_alike x y ≡ true → a ≡ b
-
--- all classes above one of the library are the library's
-abbrev pub HasWholeLibrary : Program → Type 0
-HasWholeLibrary p = (c d : ClassId) → IsUnder p c d → is_library p c ≡ true → is_library p d ≡ true
 
 -- `x` overrides `n`: the two stand among the overridings of the program
 abbrev pub IsOverriding : Program → Method → Method → Type 0

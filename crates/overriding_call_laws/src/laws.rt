@@ -12,7 +12,8 @@ ghost use Rattle.program_model.specs.Validity.{IsTypedProgram};
 ghost use Rattle.class_overrides.specs.Cases.{class_cases};
 ghost use Rattle.must_call_sets.specs.WellFormed.{IsWellFormed};
 ghost use Rattle.ledger_calls.specs.Calls.{overriding_in};
-ghost use Rattle.overriding_call_laws.specs.Dispatch.{DeclaresOnce, HasWholeLibrary, IsOverriding, IsRightOverriding, KeepsSignature};
+ghost use Rattle.program_conditions.specs.Conditions.{DeclaresOnce, HasWholeLibrary};
+ghost use Rattle.overriding_call_laws.specs.Dispatch.{IsOverriding, IsRightOverriding, KeepsSignature};
 
 /// The method that an object of a class that is not abstract runs is the named one, or overrides it: the rules on overriding have
 /// compared the two (JLS 8.4.8.1, 15.12.4.4).

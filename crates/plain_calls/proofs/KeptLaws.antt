@@ -39,7 +39,7 @@ root_kept (suc n) (suc m) h g v k links longer ends at =
         root_without_link (suc m) g v (ap (λ z. link_of (object_at g z)) same ∙ ends) ∙ same
     go (Some j) e further = root_by_link m g v j (links v j e) ∙ further j (sym (root_by_link n h v j e) ∙ at)
 
-value_kept : (h g : HeapContents) (v : Value) (k : ℕ) → LinksKept h g → length h.objects ≤ length g.objects → link_of (object_at g k) ≡ None → root_of h v ≡ Some k → root_of g v ≡ Some k
+pub value_kept : (h g : HeapContents) (v : Value) (k : ℕ) → LinksKept h g → length h.objects ≤ length g.objects → link_of (object_at g k) ≡ None → root_of h v ≡ Some k → root_of g v ≡ Some k
 value_kept h g (values.Object e) k links longer ends at =
     let there : root h e ≡ k = cc in
     ap Some (root_kept (length h.objects) (length g.objects) h g e k links longer ends there)
@@ -105,7 +105,7 @@ object_changed f c (suc i) h =
     get_changed (only_at c f) 1 i h.objects ∙ ap (λ m. option_map (only_at c f m) (slice_get h.objects i)) n
 
 -- where one object is changed to another with its link, the links stay
-links_put : (h : HeapContents) (c : ℕ) (x y : Object) → object_at h c ≡ Some x → y.link ≡ x.link → LinksKept h (change_one c (λ _. y) h)
+pub links_put : (h : HeapContents) (c : ℕ) (x y : Object) → object_at h c ≡ Some x → y.link ≡ x.link → LinksKept h (change_one c (λ _. y) h)
 links_put h c x y found link e j was = go (object_at h e) refl (nat_eq e c) refl
   where
     go : (o : Option Object) → object_at h e ≡ o → (b : Bool) → nat_eq e c ≡ b → link_of (object_at (change_one c (λ _. y) h) e) ≡ Some j
@@ -214,7 +214,7 @@ made_is_settled g new rest k z there settled = go (is_unmet z) refl settled
     go false e s = rw e refl
     go true e s = rw e (made_kept g new rest z.owner z.link k (ap link_of there) s)
 
-links_more : (h : HeapContents) (z : Object) → LinksKept h (with_objects h (h.objects ++ z ∷ []))
+pub links_more : (h : HeapContents) (z : Object) → LinksKept h (with_objects h (h.objects ++ z ∷ []))
 links_more h z e j was = go (object_at h e) refl
   where
     go : (o : Option Object) → object_at h e ≡ o → link_of (object_at (with_objects h (h.objects ++ z ∷ [])) e) ≡ Some j
@@ -234,7 +234,7 @@ settled_made h new rest (Some z) own settled k w there =
     longer : length h.objects ≤ length (h.objects ++ z ∷ [])
     longer = omega (arith, length-append h.objects (z ∷ []))
 
-next_noted : (n : Option Numbered) (h : HeapContents) → next_number (put_noted n h) ≡ next_number h
+pub next_noted : (n : Option Numbered) (h : HeapContents) → next_number (put_noted n h) ≡ next_number h
 next_noted None h = refl
 next_noted (Some b) h = ap (λ m. m + 1) (length_changed (only_at b.number (λ _. b.object)) 1 h.objects)
 

@@ -22,7 +22,7 @@ use Rattle.ledger_state.specs.Heaps.{next_number}
 use Rattle.ledger_obligations.specs.declared.active_frame.ActiveFrame.{ActiveFrame}
 use Rattle.ledger_obligations.specs.Obligations.{held_in}
 use Rattle.ledger_calls.specs.Calls.{arguments_moved, kept_promises, move_param, move_params, operand_of, params_in, receiver_note}
-use Rattle.ledger_calls.specs.Conducts.{library_notes, positions, promises_by}
+use Rattle.ledger_calls.specs.Conducts.{library_notes, object_made, positions, promises_by}
 use Rattle.ledger_steps.specs.CallSteps.{library_done, library_entries, library_heap}
 use Rattle.settled_heaps.specs.Settled.{Settled}
 use Rattle.settled_heaps.proofs.Booleans.{or_left, or_right}
@@ -59,18 +59,18 @@ pub count_below : (below : List ActiveFrame) → length (map held_in (reverse be
 count_below below = length-map (reverse below) held_in ∙ length-reverse below
 
 -- what the call leaves of the heap
-plain_heap : (p : Program) (l : Locals) (a : Action) (named m : Option Method) (d : Conduct) (i : ℕ) (h : HeapContents) (new : List Value) (n : Option Numbered) (made : Option Object) → IsPlain p l a named m d i h new n made → library_heap p l a named m d i h ≡ changed n made h
+pub plain_heap : (p : Program) (l : Locals) (a : Action) (named m : Option Method) (d : Conduct) (i : ℕ) (h : HeapContents) (new : List Value) (n : Option Numbered) (made : Option Object) → IsPlain p l a named m d i h new n made → library_heap p l a named m d i h ≡ changed n made h
 plain_heap p l a named m d i h new n made is =
-    heap_plain p l a named m d i h (receiver_note l a named) n is.moves is.resets is.notes is.plain ∙ ap (λ o. changed n o h) (sym is.is_made)
+    heap_plain p l a named m d i h (receiver_note l a named) n is.moves is.rest.resets (notes_alone p (object_made d h) l a named m (next_number h) d is.rest.promises) is.rest.plain ∙ ap (λ o. changed n o h) (sym is.rest.is_made)
 
-order : (p : Program) (l : Locals) (a : Action) (named m : Option Method) (d : Conduct) (i : ℕ) (h : HeapContents) (new : List Value) (n : Option Numbered) (made : Option Object) → IsPlain p l a named m d i h new n made → changed n made h ≡ left_by n made h
-order p l a named m d i h new n made is = changed_order h n made (plain_there h (receiver_note l a named) n is.plain)
+pub order : (p : Program) (l : Locals) (a : Action) (named m : Option Method) (d : Conduct) (i : ℕ) (h : HeapContents) (new : List Value) (n : Option Numbered) (made : Option Object) → IsPlain p l a named m d i h new n made → changed n made h ≡ left_by n made h
+order p l a named m d i h new n made is = changed_order h n made (plain_there h (receiver_note l a named) n is.rest.plain)
 
 -- a plain call leaves nothing to lose
-plain_settled : (p : Program) (l : Locals) (a : Action) (named m : Option Method) (d : Conduct) (i : ℕ) (h : HeapContents) (new : List Value) (below : List ActiveFrame) (n : Option Numbered) (made : Option Object) → i ≡ length below + 1 → Settled h (new ∷ map held_in (reverse below)) → IsPlain p l a named m d i h new n made → Settled (changed n made h) (new ∷ map held_in (reverse below))
+pub plain_settled : (p : Program) (l : Locals) (a : Action) (named m : Option Method) (d : Conduct) (i : ℕ) (h : HeapContents) (new : List Value) (below : List ActiveFrame) (n : Option Numbered) (made : Option Object) → i ≡ length below + 1 → Settled h (new ∷ map held_in (reverse below)) → IsPlain p l a named m d i h new n made → Settled (changed n made h) (new ∷ map held_in (reverse below))
 plain_settled p l a named m d i h new below n made place settled is =
     let count : i ≡ length (map held_in (reverse below)) + 1 = place ∙ ap (λ k. k + 1) (sym (count_below below)) in
-    settled_plain h new (map held_in (reverse below)) (receiver_note l a named) n made is.plain (λ z e. ap (λ k. made_settled k new (next_number h) z) (sym count) ∙ is.keeps z e) settled
+    settled_plain h new (map held_in (reverse below)) (receiver_note l a named) n made is.rest.plain (λ z e. ap (λ k. made_settled k new (next_number h) z) (sym count) ∙ is.rest.keeps z e) settled
 
 plain_done_heap : (p : Program) (pos : Pos) (l : Locals) (a : Action) (named m : Option Method) (d : Conduct) (i : ℕ) (h : HeapContents) (new : List Value) (below : List ActiveFrame) (n : Option Numbered) (made : Option Object) → i ≡ length below + 1 → Settled h (new ∷ map held_in (reverse below)) → IsPlain p l a named m d i h new n made → (library_done p h l a named m d i pos (new ∷ map held_in (reverse below))).heap ≡ changed n made h
 plain_done_heap p pos l a named m d i h new below n made place settled is =
@@ -81,8 +81,8 @@ pub plain_done_lines : (p : Program) (pos : Pos) (l : Locals) (a : Action) (name
 plain_done_lines p pos l a named m d i h new below n made place settled is =
     left_lines p pos (new ∷ map held_in (reverse below)) (library_entries p pos l a named m d i h) (library_heap p l a named m d i h) (changed n made h)
     (plain_heap p l a named m d i h new n made is) (plain_settled p l a named m d i h new below n made place settled is)
-    ∙ entries_plain p pos l a named m d i h (receiver_note l a named) n is.moves is.resets is.notes is.plain
-    ∙ ap (λ o. noted_lines p pos h n ++ made_lines p pos (next_number h) o) (sym is.is_made)
+    ∙ entries_plain p pos l a named m d i h (receiver_note l a named) n is.moves is.rest.resets (notes_alone p (object_made d h) l a named m (next_number h) d is.rest.promises) is.rest.plain
+    ∙ ap (λ o. noted_lines p pos h n ++ made_lines p pos (next_number h) o) (sym is.rest.is_made)
 
 pub plain_left_heap : (p : Program) (pos : Pos) (l : Locals) (a : Action) (named m : Option Method) (d : Conduct) (i : ℕ) (h : HeapContents) (new : List Value) (below : List ActiveFrame) (n : Option Numbered) (made : Option Object) → i ≡ length below + 1 → Settled h (new ∷ map held_in (reverse below)) → IsPlain p l a named m d i h new n made → (library_done p h l a named m d i pos (new ∷ map held_in (reverse below))).heap ≡ left_by n made h
 plain_left_heap p pos l a named m d i h new below n made place settled is =

@@ -30,7 +30,7 @@ begun_heap_by None h m = refl
 begun_heap_by (Some x) h m = refl
 
 -- the object of a `new` stands behind the others
-begun_heap : (a : Action) (x : Option Method) (h : HeapContents) → object_of_new a x h ≡ add_made (begun a x) h
+pub begun_heap : (a : Action) (x : Option Method) (h : HeapContents) → object_of_new a x h ≡ add_made (begun a x) h
 begun_heap actions.Skip w h = refl
 begun_heap (actions.Copy x y) w h = refl
 begun_heap (actions.Move x y) w h = refl

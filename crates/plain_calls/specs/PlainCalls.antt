@@ -120,16 +120,20 @@ takes_owning m = list_any is_owning_parameter (params_in m)
 abbrev pub keeps_none : Option Method → Conduct → Bool
 keeps_none m d = nat_eq (length (promises_by m d)) 0
 
--- what makes a call of the library's method `m`, named as `named`, a plain one: no argument moves, nothing is reset, and the call is
--- noted on its receiver alone; the object that it makes is one that the caller, whose frame is at position `i` and holds these
--- values after it, keeps
-pub record IsPlain (p : Program) (l : Locals) (a : Action) (named m : Option Method) (d : Conduct) (i : ℕ) (h : HeapContents) (new : List Value) (noted : Option Numbered) (made : Option Object) : Type 0 where
-  pub moves : arguments_moved p owners.Library l a named h ≡ h
+-- what makes the rest of a call of the library's method `m`, named as `named`, a plain one when its arguments have moved: nothing is
+-- reset, and the call is noted on its receiver alone; the object that it makes is one that the caller, whose frame is at position `i`
+-- and holds these values after it, keeps
+pub record HasPlainEnd (p : Program) (l : Locals) (a : Action) (named m : Option Method) (d : Conduct) (i : ℕ) (h : HeapContents) (new : List Value) (noted : Option Numbered) (made : Option Object) : Type 0 where
   pub resets : reset_target (positions l a (next_number h) d) named ≡ None
-  pub notes : library_notes p (object_made d h) l a named m (next_number h) d ≡ receiver_note l a named
+  pub promises : keeps_none m d ≡ true
   pub plain : PlainNotes h (receiver_note l a named) noted
   pub is_made : made ≡ made_by p l a m i d
   pub keeps : (x : Object) → made ≡ Some x → made_settled i new (next_number h) x ≡ true
+
+-- what makes the whole call a plain one: no argument moves
+pub record IsPlain (p : Program) (l : Locals) (a : Action) (named m : Option Method) (d : Conduct) (i : ℕ) (h : HeapContents) (new : List Value) (noted : Option Numbered) (made : Option Object) : Type 0 where
+  pub moves : arguments_moved p owners.Library l a named h ≡ h
+  pub rest : HasPlainEnd p l a named m d i h new noted made
 
 -- A call of the program's method that moves no argument
 

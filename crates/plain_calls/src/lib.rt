@@ -13,6 +13,6 @@ mod starts;
 pub use change::{Numbered, PlainCall, PlainChange, apply_change};
 pub use lines::add_noted;
 pub use notes::{PlainNote, plain_note, takes_owning};
-pub use plain::plain_call;
+pub use plain::{add_change_lines, plain_call, plain_rest};
 pub use settling::made_settled;
 pub use starts::begun;

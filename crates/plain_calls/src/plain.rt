@@ -1,11 +1,11 @@
 //! Plain calls.
 
-ghost use Rattle.std.specs.Prelude.{◌≡◌, ◌+◌, ◌∷◌, ◌++◌, length, map, reverse, IfOk, IfSome, Some};
+ghost use Rattle.std.specs.Prelude.{◌≡◌, ◌+◌, ◌∷◌, ◌++◌, length, map, reverse, IfOk, IfSome, OnOk, Some};
 ghost use Rattle.ledger_calls.specs.Calls.{receiver_note};
 ghost use Rattle.ledger_obligations.specs.Obligations.{held_in};
 ghost use Rattle.ledger_state.specs.Locals.{held};
 ghost use Rattle.ledger_steps.specs.CallSteps.{library_done};
-ghost use Rattle.plain_calls.specs.PlainCalls.{IsPlain, left_by, made_lines, noted_lines};
+ghost use Rattle.plain_calls.specs.PlainCalls.{HasPlainEnd, IsPlain, left_by, made_lines, noted_lines};
 ghost use Rattle.program_model.specs.Lookups.{method_at};
 ghost use Rattle.settled_heaps.specs.Settled.{Settled};
 ghost use Rattle.ledger_state.specs.Heaps.{next_number};
@@ -56,8 +56,9 @@ fn call_of(change: PlainChange, lines: Vec<Entry>) -> Option<PlainCall>
     Some(PlainCall { change, lines })
 }
 
-// What the call changes, where it is a plain one. The caller's frame is at this position and holds `now` after it.
-fn plain_change(
+/// What the call changes when its arguments have moved, where that is plain. The caller's frame is at this position and holds `now` after
+/// it.
+pub fn plain_rest(
     alloc: Global,
     p: &Program,
     locals: &Locals,
@@ -69,11 +70,8 @@ fn plain_change(
     heap: &Heap,
     now: &Locals,
 ) -> Result<Option<PlainChange>, NoMemory>
-    ensures { IfOk result (λ o. IfSome o (λ c. IsPlain p.now locals.now action (method_at p.now named) (method_at p.now method) conduct position heap.now (held now.now) c.noted c.made)) }
+    ensures { IfOk result (λ o. IfSome o (λ c. HasPlainEnd p.now locals.now action (method_at p.now named) (method_at p.now method) conduct position heap.now (held now.now) c.noted c.made)) }
 {
-    if takes_owning(p, named) {
-        return Ok(None);
-    }
     if !keeps_none(p, method, conduct) {
         return Ok(None);
     }
@@ -91,6 +89,44 @@ fn plain_change(
     Ok(change_of(note, made))
 }
 
+// What the call changes, where it is a plain one.
+fn plain_change(
+    alloc: Global,
+    p: &Program,
+    locals: &Locals,
+    action: Action,
+    named: MethodId,
+    method: MethodId,
+    conduct: Conduct,
+    position: u64,
+    heap: &Heap,
+    now: &Locals,
+) -> Result<Option<PlainChange>, NoMemory>
+    ensures { IfOk result (λ o. IfSome o (λ c. IsPlain p.now locals.now action (method_at p.now named) (method_at p.now method) conduct position heap.now (held now.now) c.noted c.made)) }
+{
+    if takes_owning(p, named) {
+        return Ok(None);
+    }
+    plain_rest(
+        alloc, p, locals, action, named, method, conduct, position, heap, now,
+    )
+}
+
+/// Puts the lines of what a plain call changes behind `into`.
+pub fn add_change_lines(
+    alloc: Global,
+    p: &Program,
+    pos: Pos,
+    heap: &Heap,
+    change: &PlainChange,
+    into: &mut Vec<Entry>,
+) -> Result<(), NoMemory>
+    ensures { OnOk result (into.new.items ≡ into.old.items ++ (noted_lines p.now pos heap.now change.now.noted ++ made_lines p.now pos (next_number heap.now) change.now.made)) }
+{
+    add_noted(alloc, p, pos, heap, change.noted, into)?;
+    add_made_line(p, pos, heap.next_number(), change.made, into)
+}
+
 fn change_lines(
     alloc: Global,
     p: &Program,
@@ -101,8 +137,7 @@ fn change_lines(
     ensures { IfOk result (λ v. v.items ≡ noted_lines p.now pos heap.now change.now.noted ++ made_lines p.now pos (next_number heap.now) change.now.made) }
 {
     let mut lines = Vec::new(alloc);
-    add_noted(alloc, p, pos, heap, change.noted, &mut lines)?;
-    add_made_line(p, pos, heap.next_number(), change.made, &mut lines)?;
+    add_change_lines(alloc, p, pos, heap, change, &mut lines)?;
     Ok(lines)
 }
 

@@ -1,2 +1,2 @@
 pub mod ReturnLaws
-mod MoveLaws
+pub mod MoveLaws

@@ -39,66 +39,9 @@ use Rattle.plain_calls.proofs.LineLaws.{lines_changed, no_birth, no_births, no_l
 use Rattle.plain_calls.proofs.PlainLaws.{count_below}
 use Rattle.plain_calls.proofs.PlainLines.{left_heap, left_lines, names_plain}
 use Rattle.plain_returns.proofs.MoveLaws.{result_stays}
-use Rattle.plain_returns.specs.PlainReturns.{ChangedBy, Finished, FinishedAs, IsPlainReturn, OwnersBelow, finished_lines, is_below, is_new, moves_result, object_of, position_in, return_lines, with_position}
+use Rattle.plain_returns.specs.PlainReturns.{ChangedBy, Finished, FinishedAs, OwnersBelow, finished_lines, is_below, is_new, moves_result, return_lines}
 
 -- Owners
-
-not_above : (o : Owner) (n j : ℕ) → is_below o n ≡ true → n < j → is_frame o j ≡ false
-not_above (owners.Frame i) n j e h = grind (arith, common_steps, e, h)
-not_above (owners.Field w f) n j e h = refl
-not_above owners.Library n j e h = refl
-not_above owners.Released n j e h = refl
-not_above owners.Lost n j e h = refl
-not_above owners.Unowned n j e h = refl
-
-below_more : (o : Owner) (n m : ℕ) → n ≤ m → is_below o n ≡ true → is_below o m ≡ true
-below_more (owners.Frame i) n m h e = grind (arith, common_steps, e, h)
-below_more (owners.Field w f) n m h e = refl
-below_more owners.Library n m h e = refl
-below_more owners.Released n m h e = refl
-below_more owners.Lost n m h e = refl
-below_more owners.Unowned n m h e = refl
-
-below_itself : (o : Owner) (m : ℕ) → position_in o ≤ m → is_below o m ≡ true
-below_itself (owners.Frame i) m h = grind (arith, common_steps, h)
-below_itself (owners.Field w f) m h = refl
-below_itself owners.Library m h = refl
-below_itself owners.Released m h = refl
-below_itself owners.Lost m h = refl
-below_itself owners.Unowned m h = refl
-
--- a frame that owns nothing gives up nothing
-end_none : (h : HeapContents) (n j : ℕ) → OwnersBelow h n → n < j → end_frame j h ≡ h
-end_none h n j below above =
-    ap (with_objects h) (changed_same (given_up_by_frame j) 1 h.objects (λ i x found. let e : is_frame x.owner j ≡ false = not_above x.owner n j (below (suc i) x found) above in rw e refl))
-
-owners_put : (h : HeapContents) (n m c : ℕ) (y : Object) → OwnersBelow h n → n ≤ m → is_below y.owner m ≡ true → OwnersBelow (change_one c (λ _. y) h) m
-owners_put h n m c y below more own k z there = go (object_at h k) refl (nat_eq k c) refl
-  where
-    go : (o : Option Object) → object_at h k ≡ o → (b : Bool) → nat_eq k c ≡ b → is_below z.owner m ≡ true
-    go None e b same = absurd (let none : None ≡ Some z = sym (object_changed (λ _. y) c k h ∙ ap (option_map (only_at c (λ _. y) k)) e) ∙ there in cc)
-    go (Some w) e true same =
-        let now : z ≡ y = let both : Some z ≡ Some y = sym there ∙ object_changed (λ _. y) c k h ∙ ap (option_map (only_at c (λ _. y) k)) e ∙ ap (λ b. Some (if b then y else w)) same in cc in
-        ap (λ (o : Object). is_below o.owner m) now ∙ own
-    go (Some w) e false same =
-        let now : z ≡ w = let both : Some z ≡ Some w = sym there ∙ object_changed (λ _. y) c k h ∙ ap (option_map (only_at c (λ _. y) k)) e ∙ ap (λ b. Some (if b then y else w)) same in cc in
-        ap (λ (o : Object). is_below o.owner m) now ∙ below_more w.owner n m more (below k w e)
-
-pub owners_noted : (h : HeapContents) (n : ℕ) (b : Option Numbered) → OwnersBelow h n → OwnersBelow (put_noted b h) (with_position (object_of b) n)
-owners_noted h n None below = below
-owners_noted h n (Some b) below =
-    owners_put h n (max n (position_in b.object.owner)) b.number b.object below (omega arith) (below_itself b.object.owner (max n (position_in b.object.owner)) (omega arith))
-
-owners_made : (h : HeapContents) (n : ℕ) (made : Option Object) → OwnersBelow h n → OwnersBelow (add_made made h) (with_position made n)
-owners_made h n None below k w there = below k w there
-owners_made h n (Some z) below k w there =
-    elim (object_or_last h z k w there) [
-      | inl before ↦ below_more w.owner n (max n (position_in z.owner)) (omega arith) (below k w before)
-      | inr last ↦ ap (λ (o : Object). is_below o.owner (max n (position_in z.owner))) last.1 ∙ below_itself z.owner (max n (position_in z.owner)) (omega arith)
-    ]
-
-pub owners_left : (h : HeapContents) (n : ℕ) (b : Option Numbered) (made : Option Object) → OwnersBelow h n → OwnersBelow (left_by b made h) (with_position (object_of b) (with_position made n))
-owners_left h n b made below = owners_noted (add_made made h) (with_position made n) b (owners_made h n made below)
 
 -- the frame on top has gone
 pub settled_under : (h : HeapContents) (top : List Value) (rest : List (List Value)) (n : ℕ) → OwnersBelow h n → n ≤ length rest → Settled h (top ∷ rest) → Settled h rest
@@ -237,10 +180,6 @@ new_note (actions.New m d n) l named e = refl
 pub moved_none : (p : Program) (i : ℕ) (runs : Option Method) (v : Value) (h : HeapContents) → moves_result p h runs v ≡ false → result_moved p i runs v None h ≡ h
 moved_none p i runs v h stays = result_stays (owning_in runs && not (is_alias runs)) p i (result_in runs) v h stays
 
-ended_none : (p : Program) (i n : ℕ) (runs : Option Method) (v : Value) (h : HeapContents) → moves_result p h runs v ≡ false → OwnersBelow h n → n ≤ i → frame_ended p i runs v None h ≡ h
-ended_none p i n runs v h stays below within =
-    ap (end_frame (i + 1)) (moved_none p i runs v h stays) ∙ end_none h n (i + 1) below (omega arith)
-
 reset_none : (p : Program) (l : Locals) (a : Action) (named : Option Method) (h : HeapContents) → reset_target (operand_of l a) named ≡ None → returned_reset p l a named h ≡ returned_called p l a named h
 reset_none p l a named h none =
     ap (λ o. reset_roots p (reached (returned_called p l a named h) o) (returned_called p l a named h)) none ∙ no_reset p (returned_called p l a named h)
@@ -266,11 +205,6 @@ call_leaves false p i self l a named h new n e none by =
     let called : returned_called p l a named h ≡ put_noted n h = noted_plain p h h (receiver_note l a named) n (λ k x found. found) by in
     ap (finished_by_new p i a named (number_of self) (alias_target (operand_of l a) named)) (reset_none p l a named h none ∙ called)
     ∙ not_new a p i named (number_of self) (alias_target (operand_of l a) named) (put_noted n h) e
-
-return_leaves : (p : Program) (i : ℕ) (self : Value) (l : Locals) (a : Action) (runs named : Option Method) (v : Value) (h : HeapContents) (new : List Value) (owning : ℕ) (n : Option Numbered) → IsPlainReturn p i self l a runs named v h new owning n → OwnersBelow h owning → returned_heap p i self l a runs named v None h ≡ put_noted n h
-return_leaves p i self l a runs named v h new owning n is below =
-    ap (call_ended p i self l a named None) (ended_none p i owning runs v h is.stays below is.below)
-    ∙ call_leaves (is_new a) p i self l a named h new n refl is.resets is.changes
 
 -- The lines
 
@@ -316,40 +250,8 @@ call_lines false p pos i self l a named h new n e none by =
     (λ k. birth_entries p pos (reset k) (ended k)) ∙ no_births p pos (put_noted n h) in
     (λ k. first k ++ second k ++ third k) ∙ append-nil (noted_lines p pos h n ++ []) ∙ append-nil (noted_lines p pos h n)
 
-leaks_none : (p : Program) (pos : Pos) (i n : ℕ) (self : Value) (runs : Option Method) (v : Value) (h : HeapContents) → moves_result p h runs v ≡ false → OwnersBelow h n → n ≤ i → frame_end_leaks p pos i self runs v None h ≡ []
-leaks_none p pos i n self runs v h stays below within =
-    let moved = moved_none p i runs v h stays in
-    let ended = ended_none p i n runs v h stays below within in
-    (λ k. leak_entries p words.Exit pos (moved k) (ended k) ++ leak_entries p words.ConstructorThrow pos (ended k) (ended k))
-    ∙ (λ k. no_leaks p words.Exit pos h k ++ no_leaks p words.ConstructorThrow pos h k)
-
-return_writes : (p : Program) (pos : Pos) (i : ℕ) (self : Value) (l : Locals) (a : Action) (runs named : Option Method) (v : Value) (h : HeapContents) (new : List Value) (owning : ℕ) (n : Option Numbered) → IsPlainReturn p i self l a runs named v h new owning n → OwnersBelow h owning → call_end_entries p pos i self l a named None (frame_gone p i self runs v None h) ++ owner_entries p pos h (result_moved p i runs v None h) ≡ return_lines (is_new a) p pos h n
-return_writes p pos i self l a runs named v h new owning n is below =
-    let owner : owner_entries p pos h (result_moved p i runs v None h) ≡ [] = ap (owner_entries p pos h) (moved_none p i runs v h is.stays) ∙ no_owners p pos h in
-    let lines = ap (call_end_entries p pos i self l a named None) (ended_none p i owning runs v h is.stays below is.below) ∙ call_lines (is_new a) p pos i self l a named h new n refl is.resets is.changes in
-    (λ k. lines k ++ owner k) ∙ append-nil (return_lines (is_new a) p pos h n)
-
 -- What is left to lose
 
 pub changed_settled : (w : Bool) (p : Program) (i : ℕ) (self : Value) (l : Locals) (a : Action) (named : Option Method) (h : HeapContents) (new : List Value) (rest : List (List Value)) (n : Option Numbered) → i ≡ length rest + 1 → ChangedBy w p i self l a named h new n → Settled h (new ∷ rest) → Settled (put_noted n h) (new ∷ rest)
 changed_settled true p i self l a named h new rest n place by settled = settled_finished p i named (alias_target (operand_of l a) named) h new rest (number_of self) n place by settled
 changed_settled false p i self l a named h new rest n place by settled = settled_noted h (new ∷ rest) (receiver_note l a named) n by settled
-
-pub return_settled : (p : Program) (i : ℕ) (self : Value) (l : Locals) (a : Action) (runs named : Option Method) (v : Value) (h : HeapContents) (ended new : List Value) (below : List ActiveFrame) (owning : ℕ) (n : Option Numbered) → i ≡ length below + 1 → IsPlainReturn p i self l a runs named v h new owning n → OwnersBelow h owning → drops_any h i (held l) new ≡ false → Settled h (ended ∷ held l ∷ map held_in (reverse below)) → Settled (put_noted n h) (new ∷ map held_in (reverse below))
-return_settled p i self l a runs named v h ended new below owning n place is own drops settled =
-    let count : i ≡ length (map held_in (reverse below)) + 1 = place ∙ ap (λ k. k + 1) (sym (count_below below)) in
-    let within : owning ≤ length (held l ∷ map held_in (reverse below)) = omega (arith, is.below, count) in
-    let under = settled_under h ended (held l ∷ map held_in (reverse below)) owning own within settled in
-    let still = still_settled h (held l) new (map held_in (reverse below)) under (ap (λ k. drops_any h k (held l) new) (sym count) ∙ drops) in
-    changed_settled (is_new a) p i self l a named h new (map held_in (reverse below)) n count is.changes still
-
-pub return_heap : (p : Program) (pos at : Pos) (i : ℕ) (self : Value) (l : Locals) (a : Action) (runs named : Option Method) (v : Value) (h : HeapContents) (new : List Value) (below : List ActiveFrame) (owning : ℕ) (n : Option Numbered) → IsPlainReturn p i self l a runs named v h new owning n → OwnersBelow h owning → Settled (put_noted n h) (new ∷ map held_in (reverse below)) → (returned p h i self l a runs named v None pos at (new ∷ map held_in (reverse below))).heap ≡ put_noted n h
-return_heap p pos at i self l a runs named v h new below owning n is own settled =
-    left_heap p at (new ∷ map held_in (reverse below)) [] (returned_heap p i self l a runs named v None h) (put_noted n h) (return_leaves p i self l a runs named v h new owning n is own) settled
-
-pub return_lines_are : (p : Program) (pos at : Pos) (i : ℕ) (self : Value) (l : Locals) (a : Action) (runs named : Option Method) (v : Value) (h : HeapContents) (new : List Value) (below : List ActiveFrame) (owning : ℕ) (n : Option Numbered) → IsPlainReturn p i self l a runs named v h new owning n → OwnersBelow h owning → Settled (put_noted n h) (new ∷ map held_in (reverse below)) → (returned p h i self l a runs named v None pos at (new ∷ map held_in (reverse below))).lines ≡ return_lines (is_new a) p at h n
-return_lines_are p pos at i self l a runs named v h new below owning n is own settled =
-    let lines = call_end_entries p at i self l a named None (frame_gone p i self runs v None h) ++ owner_entries p at h (result_moved p i runs v None h) in
-    ap (λ leaks. (left p at (new ∷ map held_in (reverse below)) lines leaks (returned_heap p i self l a runs named v None h)).lines) (leaks_none p pos i owning self runs v h is.stays own is.below)
-    ∙ left_lines p at (new ∷ map held_in (reverse below)) lines (returned_heap p i self l a runs named v None h) (put_noted n h) (return_leaves p i self l a runs named v h new owning n is own) settled
-    ∙ return_writes p at i self l a runs named v h new owning n is own

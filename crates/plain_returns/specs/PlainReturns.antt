@@ -1,4 +1,4 @@
--- What a plain return changes: the names called on one object, or an object that its constructor has made.
+-- What the end of a call changes: the names called on one object, or an object that its constructor has made.
 use Rattle.std.specs.Prelude.{ℕ, ◌≡◌, ◌≤◌, Bool, true, false, not, ◌&&◌, max, nat_le, Option, Some, None, List, []}
 use Rattle.program_model.specs.declared.program.Program.{Program}
 use Rattle.program_model.specs.declared.kinds.VType.{VType}
@@ -39,15 +39,6 @@ is_below owners.Unowned n = true
 abbrev pub OwnersBelow : HeapContents → ℕ → Type 0
 OwnersBelow h n = (k : ℕ) (x : Object) → object_at h k ≡ Some x → is_below x.owner n ≡ true
 
--- the position of the frame that owns the object, or 0
-abbrev pub position_in : Owner → ℕ
-position_in (owners.Frame j) = j
-position_in (owners.Field w f) = 0
-position_in owners.Library = 0
-position_in owners.Released = 0
-position_in owners.Lost = 0
-position_in owners.Unowned = 0
-
 -- Returns
 
 abbrev pub is_new : Action → Bool
@@ -80,15 +71,7 @@ moves_as p h (Some t) v = may_move_root p h t (root_of h v)
 abbrev pub moves_result : Program → HeapContents → Option Method → Value → Bool
 moves_result p h runs v = (owning_in runs && not (is_alias runs)) && moves_as p h (result_in runs) v
 
--- what makes a return of the method `runs`, called as `named`, a plain one: it ends normally, its result `v` does not move, nothing is
--- reset, and no frame above the caller, which is at position `i`, owns an object
-pub record IsPlainReturn (p : Program) (i : ℕ) (self : Value) (l : Locals) (a : Action) (runs named : Option Method) (v : Value) (h : HeapContents) (new : List Value) (owning : ℕ) (n : Option Numbered) : Type 0 where
-  pub stays : moves_result p h runs v ≡ false
-  pub below : owning ≤ i
-  pub resets : reset_target (operand_of l a) named ≡ None
-  pub changes : ChangedBy (is_new a) p i self l a named h new n
-
--- The lines of such a return
+-- The lines of a call's end
 
 abbrev pub finished_lines : Program → Pos → HeapContents → Option Numbered → List Entry
 finished_lines p pos h None = []
@@ -97,13 +80,3 @@ finished_lines p pos h (Some b) = heavy_lines p b.object.class (optional (birth_
 abbrev pub return_lines : Bool → Program → Pos → HeapContents → Option Numbered → List Entry
 return_lines true p pos h n = finished_lines p pos h n
 return_lines false p pos h n = noted_lines p pos h n
-
--- Owners afterwards
-
-abbrev pub with_position : Option Object → ℕ → ℕ
-with_position None n = n
-with_position (Some x) n = max n (position_in x.owner)
-
-abbrev pub object_of : Option Numbered → Option Object
-object_of None = None
-object_of (Some b) = Some b.object

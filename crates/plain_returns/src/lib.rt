@@ -1,13 +1,11 @@
-//! Plain returns: a method ends normally, no result moves, nothing is reset, and no frame above the caller owns an object. What such a
-//! return changes is one object: that on which the call is noted, or that of a `new`, which is then finished.
+//! What the end of a call changes where it changes one object at most: that on which the call is noted, or that of a `new`, which is then
+//! finished.
 #![tactic(auto)]
 
 mod lines;
 mod objects;
-mod owners;
 mod returns;
 
 pub use lines::return_lines;
-pub use objects::changed_by;
-pub use owners::{highest_owner, owners_after};
-pub use returns::{PlainReturn, alias_by, moves_result, plain_return, receiver_notes, reset_by};
+pub use objects::{changed_by, is_new};
+pub use returns::{alias_by, moves_result, receiver_notes, reset_by};

@@ -1,10 +1,11 @@
-//! The lines of a plain return.
+//! The lines of a call's end.
 
 ghost use Rattle.std.specs.Prelude.{◌≡◌, ◌++◌, OnOk, IfOk};
 ghost use Rattle.ledger_entries.specs.Entries.{birth, birth_line, heavy_lines, was_finished};
 ghost use Rattle.program_model.specs.Lookups.{optional};
 ghost use Rattle.plain_returns.specs.PlainReturns.{finished_lines, is_new, return_lines};
 
+use crate::objects::is_new;
 use java_control::Action;
 use ledger_state::{Entry, Heap, Object};
 use must_call_sets::is_heavy_class;
@@ -67,16 +68,7 @@ fn add_finished(
     }
 }
 
-fn is_new(action: Action) -> bool
-    ensures { result ≡ is_new action }
-{
-    match action {
-        Action::New(_, _, _) => true,
-        _ => false,
-    }
-}
-
-/// The lines of a plain return.
+/// The lines of a call's end.
 pub fn return_lines(
     alloc: Global,
     p: &Program,

@@ -102,7 +102,8 @@ fn finished_self(
     }
 }
 
-fn is_new(action: Action) -> bool
+/// Whether the call makes an object of a program's class.
+pub fn is_new(action: Action) -> bool
     ensures { result ≡ is_new action }
 {
     match action {

@@ -20,7 +20,7 @@ use Rattle.check_command.specs.Programs.{IsProgramOf}
 use Rattle.check_command.specs.Refusals.{IsSettingsAnswer, IsStopAnswer}
 use Rattle.check_command.specs.Checks.{IsCheckAnswer, IsChecked, IsUnchecked, accepted, by_limit, by_program, by_settings, leaking, read, unchecked, unread}
 use Rattle.program_model.specs.declared.program.Program.{Program}
-use Rattle.flow_rules.specs.Paths.{Accept}
+use Rattle.accepted_programs.specs.Accept.{Accept}
 use Rattle.check_command.specs.ProgramReports.{IsFaulty}
 use Rattle.run_command.specs.RunAnswers.{answer_outcome}
 use Rattle.run_inputs.specs.Runs.{IsChoicesAnswer, IsRun, IsRunAnswer, IsRunOf, Run}

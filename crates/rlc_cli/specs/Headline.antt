@@ -7,7 +7,7 @@ use Rattle.command_answers.specs.declared.statuses.Status.TheVariants as statuse
 use Rattle.command_inputs.specs.Inputs.{AreFileTexts, FileNames, FileTexts}
 use Rattle.check_command.specs.Programs.{IsProgramOf}
 use Rattle.program_model.specs.declared.program.Program.{Program}
-use Rattle.flow_rules.specs.Paths.{Accept}
+use Rattle.accepted_programs.specs.Accept.{Accept}
 use Rattle.check_command.specs.ProgramReports.{IsFaulty}
 use Rattle.agreement.specs.PlainForms.{HasPlainForms}
 use Rattle.safety.specs.Safety.{IsSafe}

@@ -11,11 +11,13 @@ use Rattle.java_control.specs.Remaining.{Todo}
 use Rattle.must_call_sets.specs.Bodies.{has_field_place}
 use Rattle.obligation_facts.specs.SmallActions.{IsSmallAction}
 use Rattle.ownership_rules.specs.Room.{HasRoom}
-use Rattle.flow_rules.specs.Paths.{Accept, Comes, FitsPlaces, Move, relation_of}
+use Rattle.accepted_programs.specs.Accept.{Accept}
+use Rattle.flow_rules.specs.Paths.{Comes, FitsPlaces, Move, relation_of}
 use Rattle.safety_examples.specs.Controls.{controls}
 use Rattle.safety_examples.specs.Programs.{careful}
 use Rattle.safety_examples.proofs.CarefulFaults.{careful_no_fault, certificate, control, facts, no_step, relation}
 use Rattle.safety_examples.proofs.Certified.{comes_listed}
+use Rattle.safety_examples.proofs.Declared.{declares_once}
 use Rattle.safety_examples.proofs.Flows.{body}
 use Rattle.safety_examples.proofs.Formed.{annotations_right, overriding, signed, well_formed}
 use Rattle.safety_examples.proofs.Tests.{all_at, all_of}
@@ -48,6 +50,7 @@ fits b = record { room = room b.0; steps = λ {k} i t comes at. small_step b.0 k
 pub accepted : Accept careful
 accepted = record {
   well_formed = well_formed;
+  declares_once = declares_once;
   overriding = overriding;
   annotations = annotations_right;
   signatures = signed;

@@ -10,4 +10,5 @@ pub mod Formed
 pub mod Certified
 pub mod Flows
 pub mod CarefulFaults
+pub mod Declared
 pub mod Accepted

@@ -26,7 +26,8 @@ use Rattle.obligation_facts.specs.Callees as callees
 use Rattle.obligation_facts.specs.SmallActions.{IsSmallAction}
 use Rattle.called_methods.specs.CalledRows.{holds_receiver, interest_in}
 use Rattle.flow_rules.specs.Flow.{flow}
-use Rattle.flow_rules.specs.Paths.{Accept, Reach, move_of, relation_of}
+use Rattle.accepted_programs.specs.Accept.{Accept}
+use Rattle.flow_rules.specs.Paths.{Reach, move_of, relation_of}
 use Rattle.ownership_rules.specs.MovesAtReturns.{moved_at_return, owning_result_in, result_in}
 use Rattle.ownership_rules.specs.declared.moved.Moved.TheVariants as moves
 use Rattle.program_model.specs.declared.kinds.BodyId.{BodyId}

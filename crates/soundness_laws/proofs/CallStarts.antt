@@ -23,7 +23,7 @@ use Rattle.obligation_facts.specs.Callees as callees
 use Rattle.obligation_facts.specs.Callees.{callee_in}
 use Rattle.ownership_rules.specs.MovesAtCalls.{moved_at_call}
 use Rattle.ownership_rules.specs.declared.moved.Moved.TheVariants as moves
-use Rattle.flow_rules.specs.Paths.{Accept}
+use Rattle.accepted_programs.specs.Accept.{Accept}
 use Rattle.ledger_state.specs.Contents.{HeapContents}
 use Rattle.ledger_state.specs.Heaps.{next_number, object_at, root_of}
 use Rattle.ledger_state.specs.Locals.{variable_value}

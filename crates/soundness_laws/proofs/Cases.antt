@@ -20,7 +20,7 @@ use Rattle.java_control.specs.declared.action.PlainValue.TheVariants as plain
 use Rattle.java_control.specs.declared.action.TargetForm.TheVariants as target_form
 use Rattle.java_control.specs.declared.place.Place.{Place}
 use Rattle.obligation_facts.specs.Callees.{may_be_null_target, may_have_null_target}
-use Rattle.flow_rules.specs.Paths.{Accept}
+use Rattle.accepted_programs.specs.Accept.{Accept}
 use Rattle.stub_conduct.specs.declared.choice.Choice.{Choice}
 use Rattle.stub_conduct.specs.declared.choice.Conduct.{Conduct}
 use Rattle.stub_conduct.specs.declared.choice.Conduct.TheVariants as conducts
@@ -31,12 +31,13 @@ use Rattle.ledger_state.specs.declared.array.ArrayObject.{ArrayObject}
 use Rattle.ledger_state.specs.declared.locals.Locals.{Locals}
 use Rattle.ledger_obligations.specs.Obligations.{is_library_method}
 use Rattle.ledger_operations.specs.Operations.{thrown_by_operation}
-use Rattle.ledger_calls.specs.Calls.{body_of, has_null_target, is_stray_from, leaves_by, operand_of, overriding_by, position_of, running}
+use Rattle.ledger_calls.specs.Calls.{body_of, form_of, has_null_target, is_stray_from, leaves_by, operand_of, overriding_by, position_of, running}
 use Rattle.ledger_calls.specs.Conducts.{library_method, on_this, settled}
 use Rattle.ledger_calls.specs.Configuration.{Frame}
-use Rattle.ledger_frames.specs.Choosing.{agrees, agrees_with, edge_of_class, frame_steps, goes_by, operation_edge, same_edge}
+use Rattle.ledger_frames.specs.Choosing.{agrees, agrees_with, frame_steps, goes_by, operation_edge, same_edge}
 use Rattle.ledger_moves.specs.declared.standing.FirstAction.{FirstAction}
-use Rattle.ledger_moves.specs.Moves.{Move, Inner, Start, Library, End, Stray, Rest, by_edge, call, call_of, chosen_of, has_body, inner_by, library_as, library_by, library_call, next_move, null_target, operate, program_call, take, take_chosen, take_plain}
+use Rattle.ledger_moves.specs.Moves as plain_moves
+use Rattle.ledger_moves.specs.Moves.{Move, Inner, Start, Library, End, Stray, Rest, by_edge, call, call_of, chosen_of, fits_target, has_body, inner_by, library_as, library_by, library_call, next_move, null_target, operate, program_call, take, take_chosen, take_plain}
 use Rattle.place_laws.specs.Places.{IsWay}
 use Rattle.agreement.specs.Agreement.{Stands}
 use Rattle.agreement.specs.PlainForms.{HasPlainForms, IsPlainAction, IsPlainCall, IsPlainSignature, MayRun, RunsFor, by_class, by_name, run_by}
@@ -187,14 +188,19 @@ module _ (p : Program) (ac : Accept p) (forms : HasPlainForms p) (h : HeapConten
           fits = fits';
         }
 
+    class_next : (named : MethodId) → may_call s.action ≡ true → IsRow named → IsPlainSignature (method_at p named) → (c : ClassId) → FitsMethod p (method_at p named) (conducts.Throws c) → IsNoSuper (conducts.Throws c)
+        → (t : Option ClassId) → Next (library_by named named (conducts.Throws c) (plain_moves.by_class t steps))
+    class_next named call' row plain c fits' other None = tt
+    class_next named call' row plain c fits' other (Some t) = library_next named call' row plain (conducts.Throws c) fits' other (edges.Throws t) (λ k is. cc) _ refl
+
     library_goes : (named : MethodId) → may_call s.action ≡ true → IsRow named → IsPlainSignature (method_at p named) → (d : Conduct) → FitsMethod p (method_at p named) d → IsNoSuper d
         → Next (library_as p steps s.pos named named d)
     unfolding library_as
     library_goes named call' row plain (conducts.Throws c) fits' other = go (is_stray_from p (method_at p named) c)
       where
-        go : (b : Bool) → Next (if b then Stray c s.pos else library_by named named (conducts.Throws c) (by_edge (edge_of_class (leaves_by p (method_at p named) c)) steps))
+        go : (b : Bool) → Next (if b then Stray c s.pos else library_by named named (conducts.Throws c) (plain_moves.by_class (leaves_by p (method_at p named) c) steps))
         go true = tt
-        go false = library_next named call' row plain (conducts.Throws c) fits' other (edge_of_class (leaves_by p (method_at p named) c)) (λ k is. cc) _ refl
+        go false = class_next named call' row plain c fits' other (leaves_by p (method_at p named) c)
     library_goes named call' row plain d fits' other = library_next named call' row plain d fits' other edges.Go (λ k is. refl) _ refl
 
     library_called : (named : MethodId) → may_call s.action ≡ true → IsRow named → IsPlainSignature (method_at p named)
@@ -263,13 +269,14 @@ module _ (p : Program) (ac : Accept p) (forms : HasPlainForms p) (h : HeapConten
     null_edge c (edges.Throws d) same under heeded target = rw (target, heeded) (subst (λ (z : ClassId). is_under p p.core.null_pointer_exception z ≡ true) (same_class c d same) under)
     null_edge c f same under heeded target = absurd (true≢false (sym same))
 
-    null_next : (named : MethodId) → IsCallRow s.action → has_null_target fr.locals s.action ≡ true → is_ignored p p.core.null_pointer_exception ≡ false
-        → (t : Option Step) → by_edge (edge_of_class (leaves_by p (method_at p named) p.core.null_pointer_exception)) steps ≡ t → Next (inner_by (Some p.core.null_pointer_exception) t)
-    null_next named row null heeded None is = tt
-    null_next named row null heeded (Some t) is =
-        let found = found_in (goes_by (edge_of_class (leaves_by p (method_at p named) p.core.null_pointer_exception))) steps t is in
+    null_next : (named : MethodId) → IsCallRow s.action → has_null_target fr.locals s.action ≡ true → is_ignored p p.core.null_pointer_exception ≡ false → (x : ClassId)
+        → leaves_by p (method_at p named) p.core.null_pointer_exception ≡ Some x → (t : Option Step) → by_edge (edges.Throws x) steps ≡ t → Next (inner_by (Some p.core.null_pointer_exception) t)
+    null_next named row null heeded x by None is = tt
+    null_next named row null heeded x by (Some t) is =
+        let found = found_in (goes_by (edges.Throws x)) steps t is in
         let same = one_call (call_may s.action row) t found.0 found.1 in
         let leaves = null_leaves named (leaves_by p (method_at p named) p.core.null_pointer_exception) refl in
+        let one : leaves.0 ≡ x = (let both : Some leaves.0 ≡ Some x = sym leaves.1 ∙ by in cc) in
         let operand = null_operand s.action refl row null in (
           found.0,
           found.1,
@@ -277,18 +284,23 @@ module _ (p : Program) (ac : Accept p) (forms : HasPlainForms p) (h : HeapConten
             subst IsCallRow (sym same) row,
             subst (λ (a : Action). is_null (operand_of fr.locals a 0) ≡ true) (sym same) operand.0,
             subst (λ (a : Action). may_be_null_target p a t.edge ≡ true) (sym same)
-                (null_edge leaves.0 t.edge (ap (λ (c : Option ClassId). same_edge (edge_of_class c) t.edge) (sym leaves.1) ∙ found.2) leaves.2 heeded operand.1),
+                (null_edge leaves.0 t.edge (ap (λ (c : ClassId). same_edge (edges.Throws c) t.edge) one ∙ found.2) leaves.2 heeded operand.1),
           ),
         )
+
+    null_by : (named : MethodId) → IsCallRow s.action → has_null_target fr.locals s.action ≡ true → is_ignored p p.core.null_pointer_exception ≡ false → (x : Option ClassId)
+        → leaves_by p (method_at p named) p.core.null_pointer_exception ≡ x → Next (inner_by (Some p.core.null_pointer_exception) (plain_moves.by_class x steps))
+    null_by named row null heeded None by = tt
+    null_by named row null heeded (Some x) by = null_next named row null heeded x by (by_edge (edges.Throws x) steps) refl
 
     null_goes : (named : MethodId) → IsCallRow s.action → has_null_target fr.locals s.action ≡ true → Next (null_target p steps s.pos named)
     unfolding null_target
     null_goes named row null = go (is_ignored p p.core.null_pointer_exception) refl
       where
         go : (b : Bool) → is_ignored p p.core.null_pointer_exception ≡ b
-            → Next (if b then Stray p.core.null_pointer_exception s.pos else inner_by (Some p.core.null_pointer_exception) (by_edge (edge_of_class (leaves_by p (method_at p named) p.core.null_pointer_exception)) steps))
+            → Next (if b then Stray p.core.null_pointer_exception s.pos else inner_by (Some p.core.null_pointer_exception) (plain_moves.by_class (leaves_by p (method_at p named) p.core.null_pointer_exception) steps))
         go true is = tt
-        go false is = null_next named row null is _ refl
+        go false is = null_by named row null is (leaves_by p (method_at p named) p.core.null_pointer_exception) refl
 
     started : (named runs : MethodId) (pos : Pos) → IsCallRow s.action → called_method s.action ≡ Some named → MayRun p named runs → IsPlainCall p named
         → is_library_method p (method_at p runs) ≡ false → Next (program_call p s.action pos named runs)
@@ -336,10 +348,16 @@ module _ (p : Program) (ac : Accept p) (forms : HasPlainForms p) (h : HeapConten
     unfolding call
     call_goes named row is = go (has_null_target fr.locals s.action) refl
       where
+        fitting : (b : Bool) → Next (if b then call_of p h arrays choice fr.locals steps s.action s.pos named (running p h fr.locals s.action named) else Rest)
+        fitting true = call_of_goes named row is
+        fitting false = tt
+
         go : (b : Bool) → has_null_target fr.locals s.action ≡ b
-            → Next (if b then null_target p steps s.pos named else call_of p h arrays choice fr.locals steps s.action s.pos named (running p h fr.locals s.action named))
+            → Next (if b then null_target p steps s.pos named
+            else (if fits_target p h arrays (method_at p named) (form_of s.action) (operand_of fr.locals s.action 0)
+            then call_of p h arrays choice fr.locals steps s.action s.pos named (running p h fr.locals s.action named) else Rest))
         go true null = null_goes named row null
-        go false other = call_of_goes named row is
+        go false other = fitting (fits_target p h arrays (method_at p named) (form_of s.action) (operand_of fr.locals s.action 0))
 
     constant_goes : (q : Place) (v : PlainValue) → s.action ≡ actions.Plain q v → Next (take_plain p h arrays choice fr.locals steps s v)
     unfolding take_plain

@@ -12,7 +12,7 @@ use Rattle.java_control.specs.Owned.{is_owning}
 use Rattle.java_control.specs.declared.action.Action.{Action}
 use Rattle.java_control.specs.declared.action.Action.TheVariants as actions
 use Rattle.obligation_facts.specs.Callees.{may_be_null_target}
-use Rattle.flow_rules.specs.Paths.{Accept}
+use Rattle.accepted_programs.specs.Accept.{Accept}
 use Rattle.ledger_state.specs.Contents.{HeapContents}
 use Rattle.ledger_state.specs.Heaps.{next_number, object_at}
 use Rattle.ledger_state.specs.Values.{is_null, number_of}

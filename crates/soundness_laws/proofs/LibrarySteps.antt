@@ -20,7 +20,7 @@ use Rattle.java_control.specs.declared.action.TargetForm.TheVariants as forms
 use Rattle.obligation_facts.specs.Callees.{callee, callee_in, holds_operand}
 use Rattle.called_methods.specs.CalledRows.{holds_receiver, interest_in}
 use Rattle.called_methods.proofs.CallNames.{callee_small}
-use Rattle.flow_rules.specs.Paths.{Accept}
+use Rattle.accepted_programs.specs.Accept.{Accept}
 use Rattle.stub_conduct.specs.declared.choice.Conduct.{Conduct}
 use Rattle.stub_conduct.specs.declared.choice.Conduct.TheVariants as conducts
 use Rattle.ledger_state.specs.Contents.{HeapContents}

@@ -15,7 +15,8 @@ use Rattle.java_control.specs.declared.action.Action.TheVariants as actions
 use Rattle.java_control.specs.declared.action.Completion.{Completion}
 use Rattle.ownership_rules.specs.MovesAtReturns.{result_in, result_type}
 use Rattle.flow_rules.specs.Flow.{flow}
-use Rattle.flow_rules.specs.Paths.{Accept, Reach, move_of, relation_of}
+use Rattle.accepted_programs.specs.Accept.{Accept}
+use Rattle.flow_rules.specs.Paths.{Reach, move_of, relation_of}
 use Rattle.ledger_state.specs.Contents.{HeapContents}
 use Rattle.ledger_state.specs.Heaps.{object_at}
 use Rattle.ledger_state.specs.declared.entry.Entry.{Entry}

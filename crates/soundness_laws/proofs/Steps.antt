@@ -20,7 +20,8 @@ use Rattle.java_control.specs.declared.action.Completion.{Completion}
 use Rattle.java_control.specs.declared.action.Edge.{Edge}
 use Rattle.java_control.specs.declared.action.Edge.TheVariants as edges
 use Rattle.ownership_rules.specs.Room.{variables_in}
-use Rattle.flow_rules.specs.Paths.{Accept, move_of, on}
+use Rattle.accepted_programs.specs.Accept.{Accept}
+use Rattle.flow_rules.specs.Paths.{move_of, on}
 use Rattle.stub_conduct.specs.declared.choice.Conduct.{Conduct}
 use Rattle.stub_conduct.specs.declared.choice.Conduct.TheVariants as conducts
 use Rattle.ledger_state.specs.Contents.{HeapContents}
@@ -31,12 +32,12 @@ use Rattle.ledger_operations.specs.Operations.{made_value, next_choice}
 use Rattle.ledger_calls.specs.Calls.{alias_position, argument_values, begun, body_of, is_stray_from, leaves_by, operand_of, params_in}
 use Rattle.ledger_calls.specs.Conducts.{arguments_shared, conduct_value, positions}
 use Rattle.ledger_calls.specs.Configuration.{Config, Frame}
-use Rattle.ledger_frames.specs.Choosing.{body_id, edge_of_class, frame_steps, goes_by, same_edge}
+use Rattle.ledger_frames.specs.Choosing.{body_id, frame_steps, goes_by, same_edge}
 use Rattle.ledger_frames.specs.Frames.{frame_after}
 use Rattle.ledger_steps.specs.CallSteps.{self_begun}
 use Rattle.ledger_steps.specs.Ends.{answered, exception_class, result_value, thrown_in}
 use Rattle.ledger_steps.specs.InnerSteps.{thrown_value}
-use Rattle.ledger_moves.specs.Moves.{Move, Inner, Start, Library, End, Stray, Rest, Return, StrayBack, NoWay, back_as, back_by, back_from, back_to, by_edge, return_move, standing}
+use Rattle.ledger_moves.specs.Moves.{Move, Inner, Start, Library, End, Stray, Rest, Return, StrayBack, NoWay, back_as, back_by, back_from, back_to, by_class, by_edge, return_move, standing}
 use Rattle.ledger_machine.specs.Outcomes.{went, ended, stray}
 use Rattle.ledger_machine.specs.Steps.{began, end, library_went, main_ended, moved, moved_by, returned, returned_by, step, top_move, within}
 use Rattle.target_laws.specs.Frames.{HaveTargets}
@@ -163,14 +164,18 @@ module _ (p : Program) (ac : Accept p) (forms : HasPlainForms p) (names : HasSma
         (subst (λ (z : Option ClassId). Agree p (returned p c fr caller frs pos q z named t)) is'
         (back_step named one at.0 t at.1 (λ none. go_edge t.edge (ap (λ (g : Edge). same_edge g t.edge) (sym (normal (sym is' ∙ none))) ∙ at.2))))
 
+    back_leaving : (k : ClassId) → e ≡ Some k → (named : MethodId) → named ≡ w.named → (x : Option ClassId) → IsBack (back_by (Some k) named (by_class x steps))
+    back_leaving k is' named one None same = no_way same
+    back_leaving k is' named one (Some x) same = back_edge (Some k) is' (edges.Throws x) named one (λ none. absurd (let never : Some k ≡ None = none in cc)) _ refl same
+
     back_class : (at : Pos) (x : Option ClassId) → e ≡ x → (named : MethodId) → named ≡ w.named → IsBack (back_as p steps at named x)
     unfolding back_as
     back_class at None is' named one = back_edge None is' edges.Go named one (λ none. refl) (by_edge edges.Go steps) refl
     back_class at (Some k) is' named one = go (is_stray_from p (method_at p named) k)
       where
-        go : (b : Bool) → IsBack (if b then StrayBack k at else back_by (Some k) named (by_edge (edge_of_class (leaves_by p (method_at p named) k)) steps))
+        go : (b : Bool) → IsBack (if b then StrayBack k at else back_by (Some k) named (by_class (leaves_by p (method_at p named) k) steps))
         go true same = absurd (let never : stray k at ≡ went d = same in cc)
-        go false same = back_edge (Some k) is' (edge_of_class (leaves_by p (method_at p named) k)) named one (λ none. absurd (let never : Some k ≡ None = none in cc)) _ refl same
+        go false same = back_leaving k is' named one (leaves_by p (method_at p named) k) same
 
     back_named : (at : Pos) (m : Option MethodId) → m ≡ Some w.named → IsBack (back_to p steps at e m)
     unfolding back_to

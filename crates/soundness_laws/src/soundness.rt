@@ -4,7 +4,7 @@ ghost use Rattle.std.specs.Prelude.{◌≡◌, ◌≢◌, ℕ};
 ghost use Rattle.program_model.specs.declared.kinds.MethodId.{MethodId};
 ghost use Rattle.program_model.specs.declared.program.Program.{Program};
 ghost use Rattle.command_answers.specs.declared.answers.Outcome.TheVariants as outcomes;
-ghost use Rattle.flow_rules.specs.Paths.{Accept};
+ghost use Rattle.accepted_programs.specs.Accept.{Accept};
 ghost use Rattle.stub_conduct.specs.declared.choice.Choices.{Choices};
 ghost use Rattle.ledger_calls.specs.Configuration.{Config};
 ghost use Rattle.ledger_interp.specs.Runs.{run};

@@ -8,7 +8,7 @@ use Rattle.class_order.specs.Core.{AreCore}
 use Rattle.class_order.specs.Declarations.{Declaration}
 use Rattle.class_headers.proofs.KnownLemmas.{found_within}
 use Rattle.class_headers.specs.SuperTypes.{IsUnder}
-use Rattle.super_checks.specs.SuperCases.{HasExceptions, HasStringClass, IsCoreLibrary, is_final_at}
+use Rattle.super_checks.specs.SuperCases.{HasExceptions, HasStringClass, IsCoreLibrary, is_final_at, is_library_at}
 
 -- the class of strings is a class of the program
 pub string_within : (classes : List ClassName) (k : CoreClasses) (count : ℕ) → length classes ≡ count → AreCore classes k → k.string.0 < count
@@ -30,18 +30,22 @@ string_told order direct core false exception is under = (
   (λ h. absurd (true≢false (sym (is ∙ h.final)))),
 )
 
--- the core library by the tests of its exceptions and its class of strings
-pub library_told : (order : List Declaration) (direct : List (List ClassId)) (core : CoreClasses) (exceptions string : Bool) → IsTrue exceptions ↔ HasExceptions direct core → IsTrue string ↔ HasStringClass order direct core
-    → IsTrue (exceptions && string) ↔ IsCoreLibrary order direct core
-library_told order direct core true true e s = (
-  (λ yes. record { exceptions = e.0 refl; string = s.0 refl }),
+-- the core library by the tests of its exceptions, its root and its class of strings
+pub library_told : (order : List Declaration) (direct : List (List ClassId)) (core : CoreClasses) (exceptions object string : Bool) → IsTrue exceptions ↔ HasExceptions direct core → object ≡ is_library_at (slice_get order core.object.0)
+    → IsTrue string ↔ HasStringClass order direct core → IsTrue (exceptions && (object && string)) ↔ IsCoreLibrary order direct core
+library_told order direct core true true true e o s = (
+  (λ yes. record { exceptions = e.0 refl; object = sym o; string = s.0 refl }),
   (λ h. refl),
 )
-library_told order direct core true false e s = (
+library_told order direct core true true false e o s = (
   (λ never. absurd (true≢false (sym never))),
   (λ h. s.1 h.string),
 )
-library_told order direct core false string e s = (
+library_told order direct core true false string e o s = (
+  (λ never. absurd (true≢false (sym never))),
+  (λ h. absurd (true≢false (sym (o ∙ h.object)))),
+)
+library_told order direct core false object string e o s = (
   (λ never. absurd (true≢false (sym never))),
   (λ h. e.1 h.exceptions),
 )

@@ -78,6 +78,11 @@ abbrev pub is_final_at : Option Declaration → Bool
 is_final_at None = false
 is_final_at (Some d) = is_final_in_library d
 
+-- a class of the library
+abbrev pub is_library_at : Option Declaration → Bool
+is_library_at None = false
+is_library_at (Some d) = d.unit.library
+
 -- String is a final class of the library (JLS 4.3.3, 8.1.1.2), and no class of exceptions (JLS 11.1.1)
 pub record HasStringClass (order : List Declaration) (direct : List (List ClassId)) (core : CoreClasses) : Type 0 where
   pub final : is_final_at (slice_get order core.string.0) ≡ true
@@ -86,6 +91,8 @@ pub record HasStringClass (order : List Declaration) (direct : List (List ClassI
 -- the classes of the core library are as the language says
 pub record IsCoreLibrary (order : List Declaration) (direct : List (List ClassId)) (core : CoreClasses) : Type 0 where
   pub exceptions : HasExceptions direct core
+  -- Object, which stands above all classes, is one of the library (JLS 4.3.2)
+  pub object : is_library_at (slice_get order core.object.0) ≡ true
   pub string : HasStringClass order direct core
 
 -- the refusal of another core library: it has no place in its file

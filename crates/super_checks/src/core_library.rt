@@ -6,7 +6,7 @@ ghost use Rattle.class_order.specs.Cases.{IsLeast};
 ghost use Rattle.class_order.specs.Core.{AreCore};
 ghost use Rattle.class_order.specs.Declarations.{declaration_of};
 ghost use Rattle.class_headers.specs.SuperTypes.{AreKnown, IsUnder};
-ghost use Rattle.super_checks.specs.SuperCases.{HasStringClass, IsCoreLibrary, core_misplaced, is_final_at, is_final_in_library};
+ghost use Rattle.super_checks.specs.SuperCases.{HasStringClass, IsCoreLibrary, core_misplaced, is_final_at, is_final_in_library, is_library_at};
 
 use crate::exceptions::{both, has_exceptions};
 use class_headers::{clear_marks, is_final, is_under};
@@ -31,6 +31,16 @@ fn is_final_at(order: &[Declared], class: ClassId) -> bool
     match order.get(class.0 as usize) {
         None => false,
         Some(declared) => is_final_in_library(declared),
+    }
+}
+
+// Whether the class with this number is one of the library.
+fn is_library_at(order: &[Declared], class: ClassId) -> bool
+    ensures { result ≡ is_library_at (slice_get (map declaration_of order.now) class.0) }
+{
+    match order.get(class.0 as usize) {
+        None => false,
+        Some(declared) => declared.scope.library,
     }
 }
 
@@ -84,13 +94,15 @@ fn is_core_library(
     ensures { IfOk result (λ b. IsTrue b ↔ IsCoreLibrary (map declaration_of order.now) (rows_in direct.now) core) }
 {
     let exceptions = has_exceptions(alloc, names, direct, core)?;
+    let object = is_library_at(order, core.object);
     let string = has_string_class(alloc, order, names, direct, core)?;
-    Ok(both(exceptions, string))
+    let named_classes = both(object, string);
+    Ok(both(exceptions, named_classes))
 }
 
 /// The refusal of a core library that is not as the language says: its exceptions don't stand under each other so (JLS 11.1.1,
-/// 15.6), or `String` is no final class of the library or is one of exceptions (JLS 4.3.3, 8.1.1.2). It is code 34, with no place
-/// in its file.
+/// 15.6), `Object` is no class of the library (JLS 4.3.2), or `String` is no final class of the library or is one of exceptions
+/// (JLS 4.3.3, 8.1.1.2). It is code 34, with no place in its file.
 pub fn core_refusal(
     alloc: Global,
     order: &[Declared],

@@ -10,7 +10,7 @@ use Rattle.java_control.specs.Control.{Step}
 use Rattle.java_control.specs.declared.action.Action.{Action}
 use Rattle.java_control.specs.declared.action.Completion.{Completion}
 use Rattle.obligation_facts.specs.SmallActions.{IsSmallAction}
-use Rattle.flow_rules.specs.Paths.{Accept}
+use Rattle.accepted_programs.specs.Accept.{Accept}
 use Rattle.stub_conduct.specs.declared.choice.Choices.{Choices}
 use Rattle.ledger_state.specs.Heaps.{next_number}
 use Rattle.ledger_state.specs.Locals.{temp_value}

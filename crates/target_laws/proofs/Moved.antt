@@ -22,11 +22,11 @@ use Rattle.ledger_state.specs.declared.array.ArrayObject.{ArrayObject}
 use Rattle.ledger_state.specs.declared.locals.Locals.{Locals}
 use Rattle.ledger_obligations.specs.Obligations.{is_library_method}
 use Rattle.ledger_operations.specs.Operations.{thrown_by_operation}
-use Rattle.ledger_calls.specs.Calls.{body_of, has_null_target, is_stray_from, leaves_by, position_of, running}
+use Rattle.ledger_calls.specs.Calls.{body_of, form_of, has_null_target, is_stray_from, leaves_by, operand_of, position_of, running}
 use Rattle.ledger_calls.specs.Conducts.{library_method, on_this, settled}
-use Rattle.ledger_frames.specs.Choosing.{agrees, edge_of_class, goes_by}
+use Rattle.ledger_frames.specs.Choosing.{agrees, goes_by}
 use Rattle.ledger_moves.specs.declared.standing.FirstAction.{FirstAction}
-use Rattle.ledger_moves.specs.Moves.{Move, Inner, Start, Library, End, Stray, Rest, by_edge, call, call_of, chosen_of, has_body, inner_by, library_as, library_by, library_call, next_move, null_target, operate, program_call, take, take_chosen, take_plain}
+use Rattle.ledger_moves.specs.Moves.{Move, Inner, Start, Library, End, Stray, Rest, by_class, by_edge, call, call_of, chosen_of, fits_target, has_body, inner_by, library_as, library_by, library_call, next_move, null_target, operate, program_call, take, take_chosen, take_plain}
 use Rattle.ledger_moves.specs.Moves.{Return, Back, StrayBack, NoWay, back_as, back_by, back_from, back_to, return_move}
 
 -- an element that is found stands somewhere
@@ -72,13 +72,21 @@ module _ (p : Program) (h : HeapContents) (arrays : List ArrayObject) (choice : 
   library_next named k d f None is = tt
   library_next named k d f (Some t) is = found_in (goes_by f) steps t is
 
+  class_inner : (e c : Option ClassId) → Next (inner_by e (by_class c steps))
+  class_inner e None = tt
+  class_inner e (Some c) = inner_next e (edges.Throws c) _ refl
+
+  class_library : (named k : MethodId) (d : Conduct) (c : Option ClassId) → Next (library_by named k d (by_class c steps))
+  class_library named k d None = tt
+  class_library named k d (Some c) = library_next named k d (edges.Throws c) _ refl
+
   library_goes : (pos : Pos) (named k : MethodId) (d : Conduct) → Next (library_as p steps pos named k d)
   unfolding library_as
   library_goes pos named k (conducts.Throws c) = go (is_stray_from p (method_at p named) c)
     where
-      go : (b : Bool) → Next (if b then Stray c pos else library_by named k (conducts.Throws c) (by_edge (edge_of_class (leaves_by p (method_at p named) c)) steps))
+      go : (b : Bool) → Next (if b then Stray c pos else library_by named k (conducts.Throws c) (by_class (leaves_by p (method_at p named) c) steps))
       go true = tt
-      go false = library_next named k (conducts.Throws c) (edge_of_class (leaves_by p (method_at p named) c)) _ refl
+      go false = class_library named k (conducts.Throws c) (leaves_by p (method_at p named) c)
   library_goes pos named k d = library_next named k d edges.Go _ refl
 
   library_called : (a : Action) (pos : Pos) (named k : MethodId) → Next (library_call p h arrays choice l steps a pos named k)
@@ -90,9 +98,9 @@ module _ (p : Program) (h : HeapContents) (arrays : List ArrayObject) (choice : 
   null_goes pos named = go (is_ignored p p.core.null_pointer_exception)
     where
       go : (b : Bool)
-          → Next (if b then Stray p.core.null_pointer_exception pos else inner_by (Some p.core.null_pointer_exception) (by_edge (edge_of_class (leaves_by p (method_at p named) p.core.null_pointer_exception)) steps))
+          → Next (if b then Stray p.core.null_pointer_exception pos else inner_by (Some p.core.null_pointer_exception) (by_class (leaves_by p (method_at p named) p.core.null_pointer_exception) steps))
       go true = tt
-      go false = inner_next (Some p.core.null_pointer_exception) (edge_of_class (leaves_by p (method_at p named) p.core.null_pointer_exception)) _ refl
+      go false = class_inner (Some p.core.null_pointer_exception) (leaves_by p (method_at p named) p.core.null_pointer_exception)
 
   module _ (i : ℕ) (s : Step) (here : slice_get steps i ≡ Some s) where
     program_goes : (named runs : MethodId) → called_method s.action ≡ Some named → has_null_target l s.action ≡ false → runs ≡ running p h l s.action named
@@ -116,10 +124,15 @@ module _ (p : Program) (h : HeapContents) (arrays : List ArrayObject) (choice : 
     unfolding call
     call_goes named called = go (has_null_target l s.action) refl
       where
+        fitting : (b : Bool) → has_null_target l s.action ≡ false → Next (if b then call_of p h arrays choice l steps s.action s.pos named (running p h l s.action named) else Rest)
+        fitting true target = call_of_goes named (running p h l s.action named) called target refl
+        fitting false target = tt
+
         go : (b : Bool) → has_null_target l s.action ≡ b
-            → Next (if b then null_target p steps s.pos named else call_of p h arrays choice l steps s.action s.pos named (running p h l s.action named))
+            → Next (if b then null_target p steps s.pos named
+            else (if fits_target p h arrays (method_at p named) (form_of s.action) (operand_of l s.action 0) then call_of p h arrays choice l steps s.action s.pos named (running p h l s.action named) else Rest))
         go true null = null_goes s.pos named
-        go false target = call_of_goes named (running p h l s.action named) called target refl
+        go false target = fitting (fits_target p h arrays (method_at p named) (form_of s.action) (operand_of l s.action 0)) target
 
     plain_goes : (v : PlainValue) → Next (take_plain p h arrays choice l steps s v)
     unfolding take_plain
@@ -168,14 +181,18 @@ module _ (p : Program) (steps : List Step) where
   by_goes e named f None is = tt
   by_goes e named f (Some t) is = found_in (goes_by f) steps t is
 
+  by_class_goes : (e : Option ClassId) (named : MethodId) (c : Option ClassId) → IsBack steps (back_by e named (by_class c steps))
+  by_class_goes e named None = tt
+  by_class_goes e named (Some c) = by_goes e named (edges.Throws c) _ refl
+
   as_goes : (pos : Pos) (named : MethodId) (e : Option ClassId) → IsBack steps (back_as p steps pos named e)
   unfolding back_as
   as_goes pos named None = by_goes None named edges.Go _ refl
   as_goes pos named (Some e) = go (is_stray_from p (method_at p named) e)
     where
-      go : (b : Bool) → IsBack steps (if b then StrayBack e pos else back_by (Some e) named (by_edge (edge_of_class (leaves_by p (method_at p named) e)) steps))
+      go : (b : Bool) → IsBack steps (if b then StrayBack e pos else back_by (Some e) named (by_class (leaves_by p (method_at p named) e) steps))
       go true = tt
-      go false = by_goes (Some e) named (edge_of_class (leaves_by p (method_at p named) e)) _ refl
+      go false = by_class_goes (Some e) named (leaves_by p (method_at p named) e)
 
   to_goes : (pos : Pos) (e : Option ClassId) (named : Option MethodId) → IsBack steps (back_to p steps pos e named)
   unfolding back_to

@@ -7,7 +7,7 @@ ghost use Rattle.program_model.specs.declared.program.Method.{Method};
 ghost use Rattle.program_model.specs.declared.program.Program.{Program};
 ghost use Rattle.program_model.specs.Lookups.{method_at};
 ghost use Rattle.java_control.specs.Control.{Step};
-ghost use Rattle.flow_rules.specs.Paths.{Accept};
+ghost use Rattle.accepted_programs.specs.Accept.{Accept};
 ghost use Rattle.stub_conduct.specs.declared.choice.Choices.{Choices};
 ghost use Rattle.ledger_state.specs.Locals.{temp_value};
 ghost use Rattle.ledger_state.specs.Values.{is_null};

@@ -29,7 +29,8 @@ use Rattle.java_control.specs.declared.fact.OriginKind.TheVariants as kinds
 use Rattle.java_control.specs.declared.place.Place.{Place}
 use Rattle.java_control.specs.declared.place.Place.TheVariants as places
 use Rattle.ownership_rules.specs.Births.{birth_on, fact_at, origin_of, reset_births, result_birth}
-use Rattle.flow_rules.specs.Paths.{Accept, born, move_of}
+use Rattle.accepted_programs.specs.Accept.{Accept}
+use Rattle.flow_rules.specs.Paths.{born, move_of}
 use Rattle.ledger_state.specs.Contents.{HeapContents}
 use Rattle.ledger_state.specs.Heaps.{root_of}
 use Rattle.ledger_state.specs.declared.entry.Owner.TheVariants as owners

@@ -28,7 +28,7 @@ use Rattle.obligation_facts.specs.SmallActions.{IsSmallAction, IsSmallTemp}
 use Rattle.obligation_facts.proofs.SmallOperands.{no_operand, operand_has_room}
 use Rattle.called_methods.specs.CalledRows.{called_after, called_at_call, called_by, holds_receiver, interest_in, promised_at, promises_at, with_name}
 use Rattle.called_methods.proofs.CallNames.{callee_small}
-use Rattle.flow_rules.specs.Paths.{Accept}
+use Rattle.accepted_programs.specs.Accept.{Accept}
 use Rattle.ledger_state.specs.Contents.{HeapContents}
 use Rattle.ledger_state.specs.Heaps.{root, root_of}
 use Rattle.ledger_state.specs.Locals.{temp_in}

@@ -35,7 +35,8 @@ use Rattle.java_control.specs.declared.place.Place.TheVariants as places
 use Rattle.java_control.specs.Remaining.{Todo}
 use Rattle.ownership_rules.specs.Births.{birth_on, births_at_entry, entry_births_in, entry_births_of, fact_at, held_births, origin_of, parameter_birth, parameter_births, this_birth}
 use Rattle.ownership_rules.specs.Room.{variables_in}
-use Rattle.flow_rules.specs.Paths.{Accept, Reach, entered, relation_of, start}
+use Rattle.accepted_programs.specs.Accept.{Accept}
+use Rattle.flow_rules.specs.Paths.{Reach, entered, relation_of, start}
 use Rattle.ledger_state.specs.Contents.{HeapContents}
 use Rattle.ledger_state.specs.Heaps.{root_of}
 use Rattle.ledger_state.specs.Locals.{variable_value}

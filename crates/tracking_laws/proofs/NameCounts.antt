@@ -7,7 +7,7 @@ use Rattle.program_model.specs.declared.program.RawAnno.{RawAnno}
 use Rattle.must_call_sets.specs.WellFormed.{HasSmallInterests}
 use Rattle.must_call_sets.proofs.InterestLaws.{small_interests}
 use Rattle.must_call_types.specs.NameTable.{IsNameTable, past_limit, with_names}
-use Rattle.flow_rules.specs.Paths.{Accept}
+use Rattle.accepted_programs.specs.Accept.{Accept}
 
 one_more : (pos : Pos) (past : Bool) (rest : Option Pos) → (if past then Some pos else rest) ≡ None → (past ≡ false) × (rest ≡ None)
 one_more pos true rest h = absurd (let never : Some pos ≡ None = h in cc)

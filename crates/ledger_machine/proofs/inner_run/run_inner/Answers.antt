@@ -2,13 +2,12 @@ use Rattle.std.proofs.Common.{◌≡◌, ◌∙◌, sym, ap, refl, subst, ◌≤
 use Rattle.ledger_machine.proofs.FrameLaws.{put_bounded}
 use Rattle.ledger_machine.proofs.MoveLaws.{inner_went, top_put}
 use Rattle.ledger_machine.proofs.StepLaws.{frame_with}
-use Rattle.ledger_machine.proofs.TopLaws.{nothing_apart, settled_with}
+use Rattle.ledger_machine.proofs.TopLaws.{listed_as, settled_apart, settled_with}
 use Rattle.ledger_machine.specs.Steps.{if_thrown}
 use Rattle.ledger_moves.specs.Frames.{highest_control}
 use Rattle.ledger_operations.specs.Operations.{made_value, next_choice, used_after}
 use Rattle.std.specs.Prelude.{unwrap_or}
-use Rattle.ledger_state.specs.Contents.{HeapContents}
-use Rattle.plain_returns.specs.PlainReturns.{OwnersBelow}
+use Rattle.frame_owners.specs.FrameOwners.{lists_in}
 use Rattle.ledger_machine.proofs.inner_run.run_inner.Goals as goal
 
 pub returns-in_ok-store_results-clause-went : goal.returns-in_ok-store_results-clause-went
@@ -40,7 +39,7 @@ pub inner_result-requires : goal.inner_result-requires
 inner_result-requires c =
     let m = c.args.m.now in
     let split : m.frames.items ≡ c.in-Some.below.now ++ c.in-Some.top.now ∷ [] = sym c.deref.ensures.value ∙ c.in-Some.ensures.cases.0 in
-    λ so. (nothing_apart m c.in-Some.top.now c.in-Some.below.now split c.requires.settled so).0
+    settled_apart m c.in-Some.top.now c.in-Some.below.now split c.requires.settled
 
 pub returns-in_ok-store_results-clause-settled : goal.returns-in_ok-store_results-clause-settled
 returns-in_ok-store_results-clause-settled c =
@@ -53,5 +52,5 @@ returns-in_ok-store_results-clause-settled c =
     let put = top_put c.put_top.new.frames.items m.frames.items below top new m.frames.len split (sym c.deref.ensures.len ∙ ap length c.deref.ensures.value) c.put_top.ensures in
     λ so. (
       settled_with c.take_heap.new.heap (unwrap_or taken.heap m.heap) c.put_top.new.frames.items below new taken.locals c.take_heap.ensures put refl (c.in_ok-taken.ensures.settled so),
-      subst (λ (h : HeapContents). OwnersBelow h m.owning) (sym (c.take_heap.ensures ∙ ap (λ o. unwrap_or o m.heap) (c.in_ok-taken.ensures.same so))) (c.requires.settled (c.in_ok-taken.ensures.was so)).1,
+      listed_as c.take_heap.new.heap m.heap (lists_in m.owned.items) (c.take_heap.ensures ∙ ap (λ o. unwrap_or o m.heap) (c.in_ok-taken.ensures.same so)) (c.requires.settled (c.in_ok-taken.ensures.was so)).1,
     )

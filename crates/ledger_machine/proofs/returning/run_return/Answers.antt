@@ -1,9 +1,11 @@
-use Rattle.std.proofs.Common.{◌≡◌, ◌∙◌, sym, ap, refl, subst, arith, ◌≤◌, [], ◌∷◌, ◌++◌, length}
+use Rattle.std.proofs.Common.{◌≡◌, ◌∙◌, sym, ap, refl, subst, arith, ◌≤◌, [], ◌∷◌, ◌++◌, ◌+◌, length, map, reverse}
 use Rattle.ledger_machine.proofs.FrameLaws.{put_bounded, rest_bounded}
 use Rattle.ledger_machine.proofs.MoveLaws.{return_went, top_dropped, top_put}
 use Rattle.ledger_machine.proofs.StepLaws.{frame_with}
-use Rattle.ledger_machine.proofs.TopLaws.{nothing_apart_two, nothing_with}
-use Rattle.ledger_machine.specs.HeapChanges.{heap_left}
+use Rattle.ledger_machine.proofs.TopLaws.{nothing_after, nothing_apart_two, settled_with}
+use Rattle.ledger_machine.specs.HeapChanges.{heap_returned}
+use Rattle.frame_owners.specs.FrameOwners.{lists_in}
+use Rattle.ledger_obligations.specs.Obligations.{held_in}
 use Rattle.ledger_moves.specs.Frames.{highest_control}
 use Rattle.ledger_machine.proofs.returning.run_return.Goals as goal
 
@@ -13,8 +15,8 @@ put_top-requires c =
     let running = c.requires.running in
     omega (arith, count, running)
 
-pub returns-in_ok-take_change-clause-went : goal.returns-in_ok-take_change-clause-went
-returns-in_ok-take_change-clause-went c =
+pub returns-in_ok-reserve-clause-went : goal.returns-in_ok-reserve-clause-went
+returns-in_ok-reserve-clause-went c =
     let m = c.args.m.now in
     let t = c.args.t in
     let top = c.in-Some.top.now in
@@ -27,11 +29,11 @@ returns-in_ok-take_change-clause-went c =
     let left : c.drop_top.new.frames.items ≡ others = c.drop_top.ensures.items ∙ top_dropped m.frames.items others top m.frames.len split (sym c.deref.ensures.len ∙ ap length c.deref.ensures.value) in
     let put = top_put c.put_top.new.frames.items c.drop_top.new.frames.items below caller (frame_with caller.method t.to taken.locals) c.drop_top.new.frames.len (left ∙ under) c.drop_top.new.frames.ok.0 c.put_top.ensures in
     let entries = c.add_lines.ensures ∙ (λ i. c.reserve.ensures.items i ++ (c.deref-in-Some-split_last.ensures.value ∙ c.in_ok-taken.ensures.lines) i) in
-    λ fr from frs h. return_went c.args.p.now m top caller below others fr from frs c.args.pos c.args.completion c.args.thrown c.args.named t c.result_value-value.result taken.locals c.put_top.new.frames.items c.take_change.new.heap c.add_lines.new.entries.items
-    split under h put c.result_value-value.ensures c.in_ok-taken.ensures.locals (c.in_ok-take_change.ensures.ok ∙ c.in_ok-taken.ensures.heap) entries
+    λ fr from frs h. return_went c.args.p.now m top caller below others fr from frs c.args.pos c.args.completion c.args.thrown c.args.named t c.result_value-value.result taken.locals c.put_top.new.frames.items c.take_return-listed.new.heap c.add_lines.new.entries.items
+    split under h put c.result_value-value.ensures c.in_ok-taken.ensures.locals (c.take_return-listed.ensures.heap ∙ c.in_ok-taken.ensures.heap) entries
 
-pub returns-in_ok-take_change-clause-bounded : goal.returns-in_ok-take_change-clause-bounded
-returns-in_ok-take_change-clause-bounded c =
+pub returns-in_ok-reserve-clause-bounded : goal.returns-in_ok-reserve-clause-bounded
+returns-in_ok-reserve-clause-bounded c =
     let m = c.args.m.now in
     let n = length c.args.m.now.lists.cells.keys in
     let top = c.in-Some.top.now in
@@ -52,8 +54,8 @@ return_result-requires c =
     let under : c.in-Some.others.now ≡ c.in-Some-split_last.below.now ++ c.in-Some-split_last.caller.now ∷ [] = c.in-Some-split_last.ensures.cases.0 in
     nothing_apart_two m c.in-Some.top.now c.in-Some-split_last.caller.now c.in-Some.others.now c.in-Some-split_last.below.now split under c.requires.settled
 
-pub returns-in_ok-take_change-clause-settled : goal.returns-in_ok-take_change-clause-settled
-returns-in_ok-take_change-clause-settled c =
+pub returns-in_ok-reserve-clause-settled : goal.returns-in_ok-reserve-clause-settled
+returns-in_ok-reserve-clause-settled c =
     let m = c.args.m.now in
     let top = c.in-Some.top.now in
     let others = c.in-Some.others.now in
@@ -65,4 +67,8 @@ returns-in_ok-take_change-clause-settled c =
     let under : others ≡ below ++ caller ∷ [] = c.in-Some-split_last.ensures.cases.0 in
     let left : c.drop_top.new.frames.items ≡ others = c.drop_top.ensures.items ∙ top_dropped m.frames.items others top m.frames.len split (sym c.deref.ensures.len ∙ ap length c.deref.ensures.value) in
     let put = top_put c.put_top.new.frames.items c.drop_top.new.frames.items below caller new c.drop_top.new.frames.len (left ∙ under) c.drop_top.new.frames.ok.0 c.put_top.ensures in
-    λ so. nothing_with c.take_change.new.heap (heap_left taken.change m.heap) c.put_top.new.frames.items below new taken.locals taken.owning c.in_ok-take_change.ensures.ok put refl (c.in_ok-taken.ensures.nothing so)
+    let back = heap_returned taken.change (length below + 1) m.heap in
+    λ both. nothing_after taken.settled c.take_return-listed.result c.take_return-listed.new.heap (map held_in (reverse c.put_top.new.frames.items)) (lists_in c.take_return-listed.new.lists.items)
+    (λ so. settled_with c.take_return-listed.new.heap back c.put_top.new.frames.items below new taken.locals c.take_return-listed.ensures.heap put refl (c.in_ok-taken.ensures.settled so))
+    (λ so. c.take_return-listed.ensures.lists so)
+    (sym c.both-m.ensures ∙ both)

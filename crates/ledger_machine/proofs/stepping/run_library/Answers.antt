@@ -1,11 +1,13 @@
-use Rattle.std.proofs.Common.{◌≡◌, ◌∙◌, sym, ap, refl, subst, ◌≤◌, [], ◌∷◌, ◌++◌, length}
+use Rattle.std.proofs.Common.{◌≡◌, ◌∙◌, sym, ap, refl, subst, ◌≤◌, [], ◌∷◌, ◌++◌, length, map, reverse}
 use Rattle.program_model.specs.Lookups.{method_at}
 use Rattle.ledger_calls.specs.Conducts.{arguments_shared, arrays_given, conduct_value, positions, result_in}
 use Rattle.ledger_machine.proofs.FrameLaws.{put_bounded}
 use Rattle.ledger_machine.proofs.MoveLaws.{library_call_went, top_put}
 use Rattle.ledger_machine.proofs.StepLaws.{frame_with}
-use Rattle.ledger_machine.proofs.TopLaws.{nothing_apart, nothing_with}
+use Rattle.ledger_machine.proofs.TopLaws.{listed_as, nothing_after, settled_apart, settled_as, settled_with}
 use Rattle.ledger_machine.specs.HeapChanges.{heap_left}
+use Rattle.frame_owners.specs.FrameOwners.{lists_in}
+use Rattle.ledger_obligations.specs.Obligations.{held_in}
 use Rattle.ledger_moves.specs.Frames.{highest_control}
 use Rattle.ledger_operations.specs.Operations.{one_more_used}
 use Rattle.ledger_machine.proofs.stepping.run_library.Goals as goal
@@ -42,7 +44,7 @@ pub library_result-requires : goal.library_result-requires
 library_result-requires c =
     let m = c.args.m.now in
     let split : m.frames.items ≡ c.in-Some.below.now ++ c.in-Some.top.now ∷ [] = sym c.deref.ensures.value ∙ c.in-Some.ensures.cases.0 in
-    nothing_apart m c.in-Some.top.now c.in-Some.below.now split c.requires.settled
+    settled_apart m c.in-Some.top.now c.in-Some.below.now split c.requires.settled
 
 pub returns-in_ok-take_change-clause-settled : goal.returns-in_ok-take_change-clause-settled
 returns-in_ok-take_change-clause-settled c =
@@ -53,4 +55,17 @@ returns-in_ok-take_change-clause-settled c =
     let new = frame_with top.method c.args.s.to taken.locals in
     let split : m.frames.items ≡ below ++ top ∷ [] = sym c.deref.ensures.value ∙ c.in-Some.ensures.cases.0 in
     let put = top_put c.put_top.new.frames.items m.frames.items below top new m.frames.len split (sym c.deref.ensures.len ∙ ap length c.deref.ensures.value) c.put_top.ensures in
-    λ so. nothing_with c.take_change.new.heap (heap_left taken.change m.heap) c.put_top.new.frames.items below new taken.locals taken.owning c.in_ok-take_change.ensures.ok put refl (c.in_ok-taken.ensures.nothing so)
+    let left = heap_left taken.change m.heap in
+    λ both. nothing_after taken.settled c.in_ok-listed.listed c.take_change.new.heap (map held_in (reverse c.put_top.new.frames.items)) (lists_in c.list_change_of.new.lists.items)
+    (λ so. settled_with c.take_change.new.heap left c.put_top.new.frames.items below new taken.locals c.in_ok-take_change.ensures.ok put refl (c.in_ok-taken.ensures.settled so))
+    (λ so. listed_as c.take_change.new.heap left (lists_in c.list_change_of.new.lists.items) c.in_ok-take_change.ensures.ok (c.in_ok-listed.ensures.listed so))
+    (sym c.both-m.ensures ∙ both)
+
+pub returns-in_err-listed-clause-settled : goal.returns-in_err-listed-clause-settled
+returns-in_err-listed-clause-settled c = λ so. ((c.requires.settled so).0, c.list_change_of.ensures.kept so)
+
+pub returns-in_err-take_change-clause-settled : goal.returns-in_err-take_change-clause-settled
+returns-in_err-take_change-clause-settled c =
+    let m = c.args.m.now in
+    let same = c.in_err-take_change.ensures.err in
+    λ so. (settled_as c.take_change.new.heap m.heap (map held_in (reverse m.frames.items)) same (c.requires.settled so).0, listed_as c.take_change.new.heap m.heap (lists_in c.list_change_of.new.lists.items) same (c.list_change_of.ensures.kept so))

@@ -1,9 +1,11 @@
-use Rattle.std.proofs.Common.{◌≡◌, ◌∙◌, ap, sym, refl, subst, [], ◌∷◌, ◌++◌, List, length, map, reverse}
+use Rattle.std.proofs.Common.{◌≡◌, ◌∙◌, ap, sym, refl, subst, [], ◌∷◌, ◌++◌, List, ℕ, length, map, reverse}
 use Rattle.ledger_machine.proofs.FrameLaws.{frames_kept}
 use Rattle.ledger_machine.proofs.MoveLaws.{added_bounded, all_kept, all_kept_heap, more_bounded, on_error, start_went}
-use Rattle.ledger_machine.proofs.TopLaws.{nothing_of, nothing_with}
+use Rattle.ledger_machine.proofs.TopLaws.{listed_as, nothing_after, settled_as, settled_of, settled_with}
 use Rattle.ledger_machine.specs.HeapChanges.{heap_left}
-use Rattle.ledger_machine.specs.Machines.{NothingToLose}
+use Rattle.frame_owners.specs.FrameOwners.{Listed, lists_in}
+use Rattle.frame_owners.proofs.OwnerLaws.{listed_begun}
+use Rattle.settled_heaps.specs.Settled.{Settled}
 use Rattle.ledger_obligations.specs.declared.active_frame.ActiveFrame.{ActiveFrame}
 use Rattle.ledger_obligations.specs.Obligations.{held_in}
 use Rattle.ledger_state.specs.Locals.{held}
@@ -11,7 +13,7 @@ use Rattle.ledger_machine.proofs.stepping.run_start.Goals as goal
 
 pub start_result-requires : goal.start_result-requires
 start_result-requires c =
-    nothing_of c.args.m.now c.deref-in-Some.result.now (c.deref-in-Some.ensures.value ∙ c.reserve.ensures.items) c.requires.settled
+    settled_of c.args.m.now c.deref-in-Some.result.now (c.deref-in-Some.ensures.value ∙ c.reserve.ensures.items) c.requires.settled
 
 pub returns-in_ok-take_change-clause-went : goal.returns-in_ok-take_change-clause-went
 returns-in_ok-take_change-clause-went c =
@@ -34,14 +36,45 @@ returns-in_ok-take_change-clause-bounded c =
     let frame = c.in_ok-started.started.frame in
     added_bounded (length m.lists.cells.keys) (length new) c.add_frame.new.frames.items m.frames.items frame (c.add_frame.ensures ∙ ap (λ xs. xs ++ frame ∷ []) c.reserve.ensures.items) c.requires.bounded c.start_result.ensures.kept.grows c.in_ok-started.ensures.within
 
+pub list_change_of-requires : goal.list_change_of-requires
+list_change_of-requires c =
+    let m = c.args.m.now in
+    λ so. subst (λ (ls : List (List ℕ)). Listed ls m.heap) (sym c.in_ok-add_list.ensures.lists) (listed_begun (lists_in m.owned.items) m.heap (c.requires.settled so).1)
+
 pub returns-in_ok-take_change-clause-settled : goal.returns-in_ok-take_change-clause-settled
 returns-in_ok-take_change-clause-settled c =
     let m = c.args.m.now in
     let started = c.in_ok-started.started in
     let frames = c.add_frame.ensures ∙ ap (λ xs. xs ++ started.frame ∷ []) c.reserve.ensures.items in
     let all = c.deref-in-Some.ensures.value ∙ c.reserve.ensures.items in
-    λ so. nothing_with c.take_change.new.heap (heap_left started.change m.heap) c.add_frame.new.frames.items m.frames.items started.frame started.frame.locals started.owning c.in_ok-take_change.ensures.ok frames refl
-    (subst (λ (frs : List ActiveFrame). NothingToLose (heap_left started.change m.heap) (held started.frame.locals ∷ map held_in (reverse frs)) started.owning) all (c.in_ok-started.ensures.nothing so))
+    let left = heap_left started.change m.heap in
+    λ both. nothing_after started.settled c.in_ok-listed.listed c.take_change.new.heap (map held_in (reverse c.add_frame.new.frames.items)) (lists_in c.list_change_of.new.lists.items)
+    (λ so. settled_with c.take_change.new.heap left c.add_frame.new.frames.items m.frames.items started.frame started.frame.locals c.in_ok-take_change.ensures.ok frames refl
+    (subst (λ (frs : List ActiveFrame). Settled left (held started.frame.locals ∷ map held_in (reverse frs))) all (c.in_ok-started.ensures.settled so)))
+    (λ so. listed_as c.take_change.new.heap left (lists_in c.list_change_of.new.lists.items) c.in_ok-take_change.ensures.ok (c.in_ok-listed.ensures.listed so))
+    (sym c.both-m.ensures ∙ both)
+
+pub returns-in_err-listed-clause-kept : goal.returns-in_err-listed-clause-kept
+returns-in_err-listed-clause-kept c =
+    on_error c.from_residual-in_err-listed.result (all_kept c.args.m.now c.start_result.new.lists.cells.keys c.reserve.new.self.items c.reserve-in-Some.new.self.items c.start_result.ensures.kept c.requires.bounded c.reserve.ensures.items c.reserve-in-Some.ensures.items)
+
+pub returns-in_err-listed-clause-bounded : goal.returns-in_err-listed-clause-bounded
+returns-in_err-listed-clause-bounded c =
+    let m = c.args.m.now in
+    more_bounded (length m.lists.cells.keys) (length c.start_result.new.lists.cells.keys) c.reserve.new.self.items m.frames.items c.reserve.ensures.items c.requires.bounded c.start_result.ensures.kept.grows
+
+pub returns-in_err-listed-clause-settled : goal.returns-in_err-listed-clause-settled
+returns-in_err-listed-clause-settled c =
+    λ so. (settled_of c.args.m.now c.reserve.new.self.items c.reserve.ensures.items c.requires.settled so, c.list_change_of.ensures.kept so)
+
+pub returns-in_err-add_list-clause-kept : goal.returns-in_err-add_list-clause-kept
+returns-in_err-add_list-clause-kept c =
+    on_error c.from_residual-in_err-add_list.result (all_kept c.args.m.now c.start_result.new.lists.cells.keys c.reserve.new.self.items c.reserve-in-Some.new.self.items c.start_result.ensures.kept c.requires.bounded c.reserve.ensures.items c.reserve-in-Some.ensures.items)
+
+pub returns-in_err-add_list-clause-bounded : goal.returns-in_err-add_list-clause-bounded
+returns-in_err-add_list-clause-bounded c =
+    let m = c.args.m.now in
+    more_bounded (length m.lists.cells.keys) (length c.start_result.new.lists.cells.keys) c.reserve.new.self.items m.frames.items c.reserve.ensures.items c.requires.bounded c.start_result.ensures.kept.grows
 
 pub returns-in_err-started-clause-kept : goal.returns-in_err-started-clause-kept
 returns-in_err-started-clause-kept c =
@@ -69,3 +102,9 @@ pub returns-in_err-take_change-clause-bounded : goal.returns-in_err-take_change-
 returns-in_err-take_change-clause-bounded c =
     let m = c.args.m.now in
     more_bounded (length m.lists.cells.keys) (length c.start_result.new.lists.cells.keys) c.reserve.new.self.items m.frames.items c.reserve.ensures.items c.requires.bounded c.start_result.ensures.kept.grows
+
+pub returns-in_err-take_change-clause-settled : goal.returns-in_err-take_change-clause-settled
+returns-in_err-take_change-clause-settled c =
+    let m = c.args.m.now in
+    let same = c.in_err-take_change.ensures.err in
+    λ so. (settled_as c.take_change.new.heap m.heap (map held_in (reverse c.reserve.new.self.items)) same (settled_of m c.reserve.new.self.items c.reserve.ensures.items c.requires.settled so), listed_as c.take_change.new.heap m.heap (lists_in c.list_change_of.new.lists.items) same (c.list_change_of.ensures.kept so))

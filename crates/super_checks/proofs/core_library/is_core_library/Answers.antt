@@ -1,5 +1,5 @@
--- The two parts.
-use Rattle.std.proofs.Common.{◌↔◌, sym, subst, map, Bool, IsTrue}
+-- The three parts.
+use Rattle.std.proofs.Common.{◌↔◌, ◌&&◌, sym, subst, map, Bool, IsTrue}
 use Rattle.class_names.specs.ClassNames.{rows_in}
 use Rattle.class_order.specs.Declarations.{declaration_of}
 use Rattle.super_checks.specs.SuperCases.{IsCoreLibrary}
@@ -12,4 +12,8 @@ returns c =
     let direct = rows_in c.args.direct.now in
     let core = c.args.core in
     let B : Bool → Type 0 = λ b. IsTrue b ↔ IsCoreLibrary order direct core in
-    subst B (sym c.both.ensures) (library_told order direct core c.in_ok-exceptions.exceptions c.in_ok-string.string c.in_ok-exceptions.ensures c.in_ok-string.ensures)
+    let e = c.in_ok-exceptions.exceptions in
+    let s = c.in_ok-string.string in
+    let o = c.is_library_at-object.result in
+    let Q : Bool → Type 0 = λ b. IsTrue (e && b) ↔ IsCoreLibrary order direct core in
+    subst B (sym c.both.ensures) (subst Q (sym c.both-named_classes.ensures) (library_told order direct core e o s c.in_ok-exceptions.ensures c.is_library_at-object.ensures c.in_ok-string.ensures))

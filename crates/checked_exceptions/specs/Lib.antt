@@ -1,0 +1,4 @@
+pub mod Completions
+pub mod Coverage
+pub mod Exceptions
+pub mod TreeOrder

@@ -1,0 +1,15 @@
+pub mod Conditions
+pub mod Exits
+pub mod ExpressionFronts
+pub mod Finishes
+pub mod Handlers
+pub mod LeavingCalls
+pub mod Lists
+pub mod Outcomes
+pub mod Reached
+pub mod Starts
+pub mod StatementFronts
+pub mod StatementOutcomes
+pub mod Steps
+pub mod ThrownClasses
+pub mod Unchecked

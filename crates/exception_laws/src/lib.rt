@@ -1,0 +1,9 @@
+//! By which classes exceptions end frames and leave calls, in programs whose checked exceptions are caught or declared (JLS 11.2).
+#![tactic(auto)]
+
+mod laws;
+
+pub use laws::{
+    body_ends_by_covered_exception, covered_exception_leaves_call, overriding_method_covers,
+    program_exception_leaves_call,
+};
