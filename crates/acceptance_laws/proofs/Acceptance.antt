@@ -7,9 +7,9 @@ use Rattle.source_classes.specs.SourceClasses.{source_classes}
 use Rattle.java_types.specs.ProgramCases.{environment_of, member_cases, typing_cases}
 use Rattle.well_formed_programs.proofs.SignedTwice.{signed_twice}
 use Rattle.accepted_programs.specs.Accept.{Accept}
-use Rattle.program_reading.specs.Programs.{Input, IsProgram}
-use Rattle.program_reading.specs.TypedPrograms.{IsTyped}
-use Rattle.program_faults.specs.ProgramReports.{IsFaultCount, IsFaulty}
+use Rattle.distinct_method_laws.specs.Programs.{Input, IsProgram}
+use Rattle.distinct_method_laws.specs.TypedPrograms.{IsTyped}
+use Rattle.program_fault_laws.specs.ProgramReports.{IsFaultCount, IsFaulty}
 use Rattle.program_fault_laws.proofs.Rooms.{counted_fits}
 use Rattle.overriding_laws.proofs.SameCases.{same_cases}
 use Rattle.overriding_laws.proofs.SignedTables.{no_cases, signed_tables}

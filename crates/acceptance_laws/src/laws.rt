@@ -2,8 +2,8 @@
 
 ghost use Rattle.program_model.specs.declared.program.Program.{Program};
 ghost use Rattle.accepted_programs.specs.Accept.{Accept};
-ghost use Rattle.program_reading.specs.Programs.{Input, IsProgram};
-ghost use Rattle.program_faults.specs.ProgramReports.{IsFaultCount, IsFaulty};
+ghost use Rattle.distinct_method_laws.specs.Programs.{Input, IsProgram};
+ghost use Rattle.program_fault_laws.specs.ProgramReports.{IsFaultCount, IsFaulty};
 
 /// The program of files is accepted where its faults are counted, and there is none: it is well formed, no class declares two methods of
 /// one signature, what its classes override and leave without a body is as Java asks, its annotations are right, no body passes a limit on

@@ -1,1 +1,2 @@
 pub mod Accept
+pub use Rattle.flow_rules.specs.Paths

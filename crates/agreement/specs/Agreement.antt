@@ -1,5 +1,5 @@
--- How a run agrees with the facts of the flow rules: the invariant of safety. It is said by families, one for each key: for each
--- unmet object that a frame owns there is a fact. Roots stand for objects throughout.
+-- How a run agrees with the facts of the flow rules: the invariant of safety. It is said object by object: for each unmet object that
+-- a frame owns there is a fact. Roots stand for objects throughout.
 use Rattle.std.specs.Prelude.{◌≡◌, ℕ, ◌+◌, ◌<◌, Bool, true, false, Some, None, List, [], ◌∷◌, length, nat_eq, slice_get, MatchBool}
 use Rattle.std.specs.List.{list_any}
 use Rattle.std.specs.FinSet as set
@@ -8,6 +8,7 @@ use Rattle.program_model.specs.declared.kinds.MethodId.{MethodId}
 use Rattle.program_model.specs.declared.program.Program.{Program}
 use Rattle.program_model.specs.declared.tree.Body.{Body}
 use Rattle.program_model.specs.Lookups.{body_at, method_at}
+use Rattle.must_call_sets.specs.Bodies.{constructs}
 use Rattle.must_call_sets.specs.MustCallSets.{fits, must_of}
 use Rattle.java_control.specs.Calls.{called_method}
 use Rattle.java_control.specs.Control.{Step}
@@ -36,9 +37,10 @@ use Rattle.ledger_obligations.specs.Obligations.{is_unmet}
 use Rattle.ledger_operations.specs.Places.{class_of_method, place_value}
 use Rattle.ledger_calls.specs.Configuration.{Config, Frame}
 use Rattle.ledger_frames.specs.Choosing.{body_id, frame_steps}
-use Rattle.run_command.specs.RunAnswers.{is_leak}
-use Rattle.heap_laws.specs.Heaps.{IsUnlinked}
+use Rattle.ledger_state.specs.Leaks.{is_leak}
+use Rattle.heap_laws.specs.Heaps.{HasLibraryLinks}
 use Rattle.place_laws.specs.Places.{HasPlacesAlone, is_local}
+use Rattle.agreement.specs.Chains.{HaveEnds}
 use Rattle.agreement.specs.PlainForms.{MayRun}
 
 -- A fact speaks the truth of object `o`, which is `x`, in a frame of the method `m`: the frame owns the object, all that must be
@@ -92,23 +94,34 @@ abbrev pub AllStand : Program → List Frame → Type 0
 AllStand p [] = Unit {0}
 AllStand p (fr ∷ frs) = Stands p fr × AllStand p frs
 
--- a frame or the library
+-- a frame, the library or an owning field. (What is to be known of a field that owns an object stands beside the agreement.)
 abbrev pub is_answering : Owner → Bool
 is_answering (owners.Frame j) = true
 is_answering owners.Library = true
-is_answering (owners.Field w f) = false
+is_answering (owners.Field w f) = true
 is_answering owners.Released = false
 is_answering owners.Lost = false
 is_answering owners.Unowned = false
 
 -- the value is an object of the class that the constructor makes
 abbrev pub IsMade : Program → HeapContents → MethodId → Value → Type 0
-IsMade p h m v = (k : ℕ) × (v ≡ values.Object k) × (k < next_number h) × ((x : Object) → object_at h k ≡ Some x → class_of_method (method_at p m) ≡ Some x.class)
+IsMade p h m v = (k : ℕ) × (v ≡ values.Object k) × (k < next_number h) × ((x : Object) → object_at h k ≡ Some x → class_of_method (method_at p m) ≡ Some x.class) × (0 < k)
 
 -- `this` of the frame that a `new` began
 abbrev pub IsMadeBy : Program → HeapContents → Action → Value → Type 0
 IsMadeBy p h (actions.New m d n) v = IsMade p h m v
 IsMadeBy p h a v = Unit {0}
+
+-- a constructor is the one that the call names
+abbrev pub RunsItself : Action → MethodId → MethodId → Type 0
+RunsItself (actions.New m d n) named runs = runs ≡ named
+RunsItself (actions.Super m d n) named runs = runs ≡ named
+RunsItself a named runs = Unit {0}
+
+-- a super constructor runs on the same object
+abbrev pub RunsOnSame : Action → Value → Value → Type 0
+RunsOnSame (actions.Super m d n) this v = v ≡ this
+RunsOnSame a this v = Unit {0}
 
 -- the frame waits at a call, of which the other one is the run
 pub record WaitsFor (p : Program) (h : HeapContents) (caller fr : Frame) : Type 0 where
@@ -118,11 +131,14 @@ pub record WaitsFor (p : Program) (h : HeapContents) (caller fr : Frame) : Type 
   pub named : MethodId
   pub calls : called_method step.action ≡ Some named
   pub runs : MayRun p named fr.method
+  pub itself : RunsItself step.action named fr.method
+  pub kind : constructs (method_at p fr.method) ≡ constructs (method_at p named)
+  pub on_same : RunsOnSame step.action caller.locals.this fr.locals.this
   pub makes : IsMadeBy p h step.action fr.locals.this
 
--- each of these frames waits for the one above it, and the last one gives no result
+-- each of these frames waits for the one above it, and the last one gives no result and makes no object
 abbrev pub IsCalledFrom : Program → HeapContents → Frame → List Frame → Type 0
-IsCalledFrom p h fr [] = result_in (method_at p fr.method) ≡ None
+IsCalledFrom p h fr [] = (result_in (method_at p fr.method) ≡ None) × (constructs (method_at p fr.method) ≡ false)
 IsCalledFrom p h fr (caller ∷ frs) = WaitsFor p h caller fr × IsCalledFrom p h caller frs
 
 abbrev pub IsStacked : Program → HeapContents → List Frame → Type 0
@@ -133,9 +149,10 @@ IsStacked p h (fr ∷ frs) = IsCalledFrom p h fr frs
 pub record Agrees (p : Program) (frs : List Frame) (h : HeapContents) (lines : List Entry) : Type 0 where
   pub standing : AllStand p frs
   pub stacked : IsStacked p h frs
-  pub unlinked : IsUnlinked h
+  pub links : HasLibraryLinks h
+  pub ends : HaveEnds h
   pub tracked : (o : ℕ) (x : Object) (j : ℕ) → object_at h o ≡ Some x → is_unmet x ≡ true → x.owner ≡ owners.Frame j → IsTracked p h frs o x j
-  pub answered : (o : ℕ) (x : Object) → object_at h o ≡ Some x → is_unmet x ≡ true → is_answering x.owner ≡ true
+  pub answered : (o : ℕ) (x : Object) → object_at h o ≡ Some x → x.link ≡ None → is_unmet x ≡ true → is_answering x.owner ≡ true
   pub no_leak : list_any is_leak lines ≡ false
 
 -- the configuration agrees with the facts

@@ -1,18 +1,29 @@
--- Which programs the laws on safety speak of: none of owning fields, resource aliases, calls that create obligations anew, and
--- promises.
-use Rattle.std.specs.Prelude.{◌≡◌, ℕ, Bool, true, false, not, ◌&&◌, Option, Some, None, List, [], slice_get}
-use Rattle.std.specs.List.{list_any}
+-- The forms of steps and calls that the laws on safety speak of: no constructor of the program has a resource alias, no method of the program
+-- promises anything on a parameter that is neither owning nor lent, and no call creates obligations anew.
+use Rattle.std.specs.Prelude.{◌≡◌, ℕ, Bool, true, false, not, ◌&&◌, ◌⊎◌, Option, Some, None, List, [], slice_get, zero, suc}
+use Rattle.std.specs.List.{All, list_any}
+use Rattle.std.specs.FinSet as set
+use Rattle.rlc_base.specs.declared.name_id.NameId.{NameId}
 use Rattle.program_model.specs.declared.kinds.BodyId.{BodyId}
 use Rattle.program_model.specs.declared.kinds.ClassId.{ClassId}
+use Rattle.program_model.specs.declared.kinds.FieldId.{FieldId}
 use Rattle.program_model.specs.declared.kinds.MethodId.{MethodId}
+use Rattle.program_model.specs.declared.kinds.VType.{VType}
+use Rattle.program_model.specs.declared.program.Field.{Field}
 use Rattle.program_model.specs.declared.program.Method.{Method}
 use Rattle.program_model.specs.declared.program.ParamSig.{ParamSig}
 use Rattle.program_model.specs.declared.program.Program.{Program}
-use Rattle.program_model.specs.Lookups.{method_at}
+use Rattle.program_model.specs.declared.program.Promise.{Promise}
+use Rattle.program_model.specs.declared.kinds.Target.{Target}
+use Rattle.program_model.specs.declared.kinds.Target.TheVariants as promised
+use Rattle.program_model.specs.Lookups.{field_at, method_at}
 use Rattle.program_model.specs.Overrides.{are_types, is_library}
-use Rattle.must_call_sets.specs.Bodies.{constructs}
-use Rattle.must_call_sets.specs.MustCallSets.{is_empty}
+use Rattle.program_model.specs.SuperTests.{is_under}
+use Rattle.program_model.specs.Validity.{is_class_type}
+use Rattle.must_call_sets.specs.Bodies.{alias_in, constructs, has_field_place, is_class_of, is_constructor, is_constructor_kind}
+use Rattle.must_call_sets.specs.MustCallSets.{is_empty, must_of, is_heavy_class, must_of_type}
 use Rattle.must_call_sets.specs.OverrideCases.{has_other_owning, has_other_result, has_wider_result}
+use Rattle.java_control.specs.Calls.{called_method}
 use Rattle.java_control.specs.Owned.{is_owning}
 use Rattle.java_control.specs.Remaining.{Todo}
 use Rattle.java_control.specs.declared.action.Action.{Action}
@@ -26,16 +37,43 @@ use Rattle.place_laws.specs.Places.{SetsLocals}
 
 -- ---- calls
 
--- the signature has no aliased argument, creates no obligation anew, and promises nothing
-abbrev pub IsPlainSignature : Option Method → Type 0
-IsPlainSignature None = Unit {0}
-IsPlainSignature (Some m) = (m.sig.alias ≡ None) × (m.sig.reset ≡ None) × (m.sig.promises.items ≡ []) × (m.sig.on_throw.items ≡ [])
+-- the promise is on a field of `this`
+abbrev pub IsOnField : Target → Type 0
+IsOnField (promised.OfField f) = Unit {0}
+IsOnField (promised.At k) = ⊥
+
+-- the parameter is lent: it is not owning, it asks for no calls on its argument before, and its type has an obligation
+abbrev pub is_lent_parameter : Program → Option ParamSig → Bool
+is_lent_parameter p None = false
+is_lent_parameter p (Some x) = (not x.owning && is_empty x.before) && not (is_empty (must_of_type p x.vtype))
+
+-- a method of the program promises on `this` where its class has an obligation, on parameters that are owning or lent, and on owning fields of
+-- `this`
+abbrev pub IsPromisedPlainly : Program → Method → Target → Type 0
+IsPromisedPlainly p m (promised.OfField f) = Unit {0}
+IsPromisedPlainly p m (promised.At zero) = is_heavy_class p m.class ≡ true
+IsPromisedPlainly p m (promised.At (suc k)) = (x : ParamSig) → slice_get m.sig.params.items k ≡ Some x → (x.owning ≡ true) ⊎ (is_lent_parameter p (Some x) ≡ true)
+
+pub record PromisesPlainly (p : Program) (m : Method) : Type 0 where
+  pub returning : All (λ (q : Promise). IsPromisedPlainly p m q.target) m.sig.promises.items
+  pub throwing : All (λ (q : Promise). IsPromisedPlainly p m q.target) m.sig.on_throw.items
+
+-- an aliased argument is one of the library's, or of a method of the program, which returns it
+abbrev pub AliasesPlainly : Program → Method → Type 0
+AliasesPlainly p m = (m.sig.alias ≡ None) ⊎ ((is_library p m.class ≡ true) ⊎ (is_constructor_kind m.kind ≡ false))
+
+-- no constructor of the program has an aliased argument, each method of the program promises plainly, and the signature creates no obligation
+-- anew
+abbrev pub IsPlainSignature : Program → Option Method → Type 0
+IsPlainSignature p None = Unit {0}
+IsPlainSignature p (Some m) = AliasesPlainly p m × (m.sig.reset ≡ None) × (is_library p m.class ≡ false → PromisesPlainly p m)
 
 -- the method that an object of the class runs at a call that names this method
 unfoldable pub run_by : Program → MethodId → ClassId → MethodId
 run_by p m c = overriding_in p m (method_at p m) c
 
--- the other method may run at a call that names this one
+-- the other method may run at a call that names this one: it is that method, or an object of some class, abstract ones among them, would
+-- run it
 pub data MayRun (p : Program) (m : MethodId) : MethodId → Type 0 where
   by_name : MayRun p m m
   by_class : (c : ClassId) → MayRun p m (run_by p m c)
@@ -44,28 +82,38 @@ pub data MayRun (p : Program) (m : MethodId) : MethodId → Type 0 where
 abbrev pub asks_on_owned : ParamSig → Bool
 asks_on_owned x = x.owning && not (is_empty x.before)
 
--- What callers are told of ownership by the signature that a call names holds of the method of the program that runs. (The rules on
--- overriding ask this of each method for those that it overrides.)
+-- What callers are told of ownership by the signature that a call names holds of the method of the program that runs, and a result of
+-- no class type is of the named type (JLS 8.4.5). (The rules on overriding ask this of each method for those that it overrides.)
 pub record RunsFor (p : Program) (named runs : Method) : Type 0 where
   pub types : are_types runs.sig.params.items named.sig.params.items ≡ true
   pub owning : has_other_owning runs.sig.params.items named.sig.params.items ≡ false
   pub asks : list_any asks_on_owned runs.sig.params.items ≡ false
   pub result : has_other_result runs.sig named.sig ≡ false
   pub wider : has_wider_result p runs.sig named.sig ≡ false
+  pub kind : (t : VType) → named.sig.result ≡ Some t → is_class_type t ≡ false → runs.sig.result ≡ Some t
+  pub makes : is_constructor_kind runs.kind ≡ is_constructor_kind named.kind
   pub first : named.sig.first ≡ None
-  pub alias : runs.sig.alias ≡ None
+  pub alias : runs.sig.alias ≡ named.sig.alias
 
--- A call that names this method has a plain signature. A method of the library runs only where the named one is the library's, and a
--- method of the program is as the named signature says.
+-- the method promises nothing, however it ends
+pub record PromisesNothing (m : Method) : Type 0 where
+  pub returning : m.sig.promises.items ≡ []
+  pub throwing : m.sig.on_throw.items ≡ []
+
+-- A call that names this method has a plain signature. A method of the library runs only where the named one is the library's, and has its
+-- aliased argument; a method of the program is as the named signature says; and where one runs for a method that promises something, it is
+-- that method itself.
 pub record IsPlainCall (p : Program) (m : MethodId) : Type 0 where
-  pub signature : IsPlainSignature (method_at p m)
+  pub signature : IsPlainSignature p (method_at p m)
   pub library : (r : MethodId) → MayRun p m r → is_library_method p (method_at p r) ≡ true → is_library_method p (method_at p m) ≡ true
+  pub aliased : (r : MethodId) (n x : Method) → MayRun p m r → method_at p m ≡ Some n → method_at p r ≡ Some x → is_library p x.class ≡ true → x.sig.alias ≡ n.sig.alias
   pub program : (r : MethodId) (n x : Method) → MayRun p m r → method_at p m ≡ Some n → method_at p r ≡ Some x → is_library p x.class ≡ false → RunsFor p n x
+  pub keeps : (r : MethodId) (n x : Method) → MayRun p m r → method_at p m ≡ Some n → method_at p r ≡ Some x → is_library p x.class ≡ false → PromisesNothing n ⊎ (r ≡ m)
 
 -- ---- actions
 
 abbrev pub IsPlainRead : Program → PlainValue → Type 0
-IsPlainRead p (plain.LibraryConstant m) = IsPlainSignature (method_at p m)
+IsPlainRead p (plain.LibraryConstant m) = IsPlainSignature p (method_at p m) × (is_library_method p (method_at p m) ≡ true)
 IsPlainRead p v = Unit {0}
 
 abbrev pub IsPlainAction : Program → Action → Type 0
@@ -73,13 +121,37 @@ IsPlainAction p (actions.Copy x y) = SetsLocals (actions.Copy x y)
 IsPlainAction p (actions.Move x y) = SetsLocals (actions.Move x y)
 IsPlainAction p (actions.Plain x v) = IsPlainRead p v
 IsPlainAction p (actions.Put f d this) = is_owning p f ≡ false
-IsPlainAction p (actions.PutOwn f d) = ⊥
+IsPlainAction p (actions.PutOwn f d) = Unit {0}
 IsPlainAction p (actions.Call m d n form) = IsPlainCall p m
 IsPlainAction p (actions.New m d n) = IsPlainCall p m
-IsPlainAction p (actions.Super m d n) = IsPlainCall p m × (constructs (method_at p m) ≡ true)
+IsPlainAction p (actions.Super m d n) = IsPlainCall p m × (constructs (method_at p m) ≡ true) × (alias_in (method_at p m) ≡ None)
 IsPlainAction p a = Unit {0}
 
--- each step that a control of a body can reach has one of the plain forms
+-- a super constructor is called
+abbrev pub calls_constructor : Program → Action → Bool
+calls_constructor p (actions.Super m d n) = constructs (method_at p m)
+calls_constructor p a = false
+
+-- the must-call method that a class with owning fields declares is the one that its objects run, whichever method of this name a call
+-- names
+abbrev pub RunsOwnMethods : Program → Type 0
+RunsOwnMethods p = (named m : MethodId) (n d : Method) (f : FieldId) (x : Field) (i : NameId) → method_at p named ≡ Some n → method_at p m ≡ Some d
+    → field_at p f ≡ Some x → x.owning ≡ true → x.class ≡ d.class → n.sig.interest ≡ Some i → d.sig.interest ≡ Some i
+    → set.contains (must_of p d.class) i.0 ≡ true → is_under p d.class n.class ≡ true → run_by p named d.class ≡ m
+
+-- Each step that a control of a body can reach has one of the plain forms; owning fields are stored in constructors of the class that
+-- declares them, which call no super constructor; no class with owning fields is the one whose constructor is called so; and objects with
+-- owning fields run their own must-call methods.
 pub record HasPlainForms (p : Program) : Type 0 where
   pub steps : (b : BodyId) {k : List Todo} (i : ℕ) (t : Move (List Todo)) → Comes (relation_of p b) k
       → slice_get ((relation_of p b).next k) i ≡ Some t → IsPlainAction p t.action
+  pub supers : (b : BodyId) {k : List Todo} (i : ℕ) (t : Move (List Todo)) (f : FieldId) → Comes (relation_of p b) k
+      → slice_get ((relation_of p b).next k) i ≡ Some t → calls_constructor p t.action ≡ true → has_field_place p b f ≡ false
+  pub super_calls : (b : BodyId) {k : List Todo} (i : ℕ) (t : Move (List Todo)) → Comes (relation_of p b) k
+      → slice_get ((relation_of p b).next k) i ≡ Some t → calls_constructor p t.action ≡ true → is_constructor p b ≡ true
+  pub stores : (b : BodyId) {k : List Todo} (i : ℕ) (t : Move (List Todo)) (f : FieldId) (d : ℕ) → Comes (relation_of p b) k
+      → slice_get ((relation_of p b).next k) i ≡ Some t → t.action ≡ actions.PutOwn f d → (is_constructor p b ≡ true) × (has_field_place p b f ≡ true)
+  pub parents : (b : BodyId) {k : List Todo} (i : ℕ) (t : Move (List Todo)) (m : MethodId) (f : FieldId) (x : Field) → Comes (relation_of p b) k
+      → slice_get ((relation_of p b).next k) i ≡ Some t → calls_constructor p t.action ≡ true → called_method t.action ≡ Some m → field_at p f ≡ Some x → x.owning ≡ true
+      → is_class_of x.class (method_at p m) ≡ false
+  pub own : RunsOwnMethods p

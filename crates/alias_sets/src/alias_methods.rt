@@ -3,11 +3,14 @@
 
 ghost use Rattle.std.specs.Prelude.{◌≡◌, flat_map, Some};
 ghost use Rattle.program_model.specs.Lookups.{method_at, statement_at};
+ghost use Rattle.program_model.specs.SuperTests.{has_class};
 ghost use Rattle.refusal_order.specs.Refusals.{least, least_of_all};
-ghost use Rattle.must_call_sets.specs.AliasCases.{alias_cases_of_method, are_one_name, calls_alias, calls_alias_at, calls_alias_by, calls_alias_in, has_owning_alias, has_unequal_sets, is_bad_alias_method, is_half_marked, is_marked, is_single, marks, names_alias_constructor, result_set};
+ghost use Rattle.must_call_sets.specs.AliasCases.{alias_cases_of_method, are_one_name, calls_alias, calls_alias_at, calls_alias_by, calls_alias_in, gives_exception, has_bad_alias_form, has_exception_under, has_owning_alias, has_unequal_sets, is_bad_alias_method, is_exception_under, is_half_marked, is_marked, is_single, marks, names_alias_constructor, result_set};
 
 use must_call_sets::{is_constructor_kind, is_owning_at, must, must_of_optional, type_at};
-use program_model::{Body, Method, MethodId, Program, RawAnno, Sig, StatementKind, StmtId};
+use program_model::{
+    Body, Class, ClassId, Method, MethodId, Program, RawAnno, Sig, StatementKind, StmtId, VType,
+};
 use refusal_order::{lesser_of, where_true};
 use rlc_base::{Code, NameId, NameSet, Refusal};
 
@@ -143,13 +146,51 @@ fn calls_alias(p: &Program, method: &Method) -> bool
     }
 }
 
-fn is_bad_alias_method(p: &Program, method: &Method) -> bool
-    ensures { result ≡ is_bad_alias_method p.now method.now }
+fn lists(classes: &[ClassId], class: ClassId) -> bool
+    ensures { result ≡ has_class classes.now class }
+{
+    classes.iter().any(|listed| *listed == class)
+}
+
+// The class is the named one or under it, and one of exceptions.
+fn is_exception_under(p: &Program, named: ClassId, class: &Class) -> bool
+    ensures { result ≡ is_exception_under p.now named class.now }
+{
+    lists(&class.above, named) && lists(&class.above, p.core.throwable)
+}
+
+fn has_exception_under(p: &Program, named: ClassId) -> bool
+    ensures { result ≡ has_exception_under p.now named }
+{
+    p.classes
+        .iter()
+        .any(|class| is_exception_under(p, named, class))
+}
+
+// The alias may be an exception.
+fn gives_exception(p: &Program, method: &Method) -> bool
+    ensures { result ≡ gives_exception p.now method.now }
+{
+    match method.sig.result {
+        Some(VType::Obj(class)) if method.sig.alias.is_some() => has_exception_under(p, class),
+        _ => false,
+    }
+}
+
+// The annotations, the sets or the super call do not go with an alias.
+fn has_bad_alias_form(p: &Program, method: &Method) -> bool
+    ensures { result ≡ has_bad_alias_form p.now method.now }
 {
     is_half_marked(method)
         || has_unequal_sets(p, method, method.sig.alias)
         || has_owning_alias(method, method.sig.alias)
         || calls_alias(p, method)
+}
+
+fn is_bad_alias_method(p: &Program, method: &Method) -> bool
+    ensures { result ≡ is_bad_alias_method p.now method.now }
+{
+    has_bad_alias_form(p, method) || gives_exception(p, method)
 }
 
 fn method_case(p: &Program, method: &Method) -> Option<Refusal>

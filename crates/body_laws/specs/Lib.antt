@@ -1,0 +1,1 @@
+pub use Rattle.java_statement_laws.specs.CatchParameters

@@ -1,2 +1,3 @@
 pub mod BornOrigins
 pub mod OriginLaws
+pub use Rattle.flow_rules.proofs.NumberingLaws

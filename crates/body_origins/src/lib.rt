@@ -6,4 +6,5 @@ mod births;
 mod origins;
 
 pub use births::{all_entry_births, all_step_births};
+pub use flow_rules::flow;
 pub use origins::{MAX_PAIRS, body_origins};

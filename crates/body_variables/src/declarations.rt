@@ -5,13 +5,12 @@ ghost use Rattle.std.specs.List.{flat_map};
 ghost use Rattle.java_syntax.specs.AnnotationTrees.{modifier_of};
 ghost use Rattle.java_annotations.specs.Annotations.{annotation_in};
 ghost use Rattle.java_syntax.specs.StatementTrees.{for_start_of, local_of, resource_of, variable_of};
-ghost use Rattle.java_expression_rules.specs.Surroundings.{surroundings_of};
+ghost use Rattle.java_statement_rules.specs.Surroundings.{surroundings_of};
 ghost use Rattle.body_variables.specs.BodyVariables.{catch_variable, local_variables, parameter_variables, resource_variables, start_variables};
 ghost use Rattle.body_variables.specs.Declarations.{annotations_among, declared, variable_in, variable_with};
 
 use java_annotations::raw_annotations;
-use java_expression_rules::{BodyScope, cast_type};
-use java_statement_rules::{class_type, parameter_type};
+use java_statement_rules::{BodyScope, cast_type, class_type, parameter_type};
 use java_syntax::{ForStart, Local, Modifier, Name, Param, Resource, Variable};
 use program_model::{ParamSig, RawAnno, VType, Var};
 use rlc_base::NoMemory;

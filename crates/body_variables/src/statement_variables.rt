@@ -2,12 +2,12 @@
 
 ghost use Rattle.std.specs.Prelude.{◌≡◌, ◌++◌, OnOk, map};
 ghost use Rattle.java_syntax.specs.StatementTrees.{block_of, catch_of, catches, statements, stmt_of};
-ghost use Rattle.java_expression_rules.specs.Surroundings.{surroundings_of};
+ghost use Rattle.java_statement_rules.specs.Surroundings.{surroundings_of};
 ghost use Rattle.body_variables.specs.BodyVariables.{all_variables, block_variables, catch_variables, variables_of};
 ghost use Rattle.body_variables.specs.Declarations.{variable_in};
 
 use crate::declarations::{push_catch, push_local, push_resources, push_start};
-use java_expression_rules::BodyScope;
+use java_statement_rules::BodyScope;
 use java_syntax::{Block, Catch, Stmt};
 use program_model::Var;
 use rlc_base::NoMemory;

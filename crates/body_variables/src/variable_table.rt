@@ -2,13 +2,13 @@
 
 ghost use Rattle.std.specs.Prelude.{◌≡◌, IfOk, map};
 ghost use Rattle.java_syntax.specs.StatementTrees.{statements, stmt_of};
-ghost use Rattle.java_expression_rules.specs.Surroundings.{surroundings_of};
+ghost use Rattle.java_statement_rules.specs.Surroundings.{surroundings_of};
 ghost use Rattle.body_variables.specs.BodyVariables.{body_variables};
 ghost use Rattle.body_variables.specs.Declarations.{variable_in};
 
 use crate::declarations::push_parameters;
 use crate::statement_variables::push_statements;
-use java_expression_rules::BodyScope;
+use java_statement_rules::BodyScope;
 use java_syntax::{Param, Stmt};
 use program_model::{ParamSig, Var};
 use rlc_base::NoMemory;

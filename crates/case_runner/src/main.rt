@@ -1,116 +1,88 @@
-// Runs the cases of the files that its arguments name, each through the top call over files and a sink in memory. Prints each
-// case whose answer is another than the case wants, and how many cases passed and failed.
+// Runs the cases of the files that its arguments name: rows of tokens and trees from the folder `trees`, graphs of methods from the
+// folder `graphs`, whole commands from elsewhere. Prints each case whose answer is another than the case wants, and how many cases
+// of each kind passed and failed.
 #![tactic(auto)]
 
-mod answer;
-mod comparison;
-mod count;
-mod reports;
+mod commands;
 mod trial;
 
-use crate::answer::Answer;
-use crate::comparison::agrees;
-use crate::count::Count;
-use crate::trial::trial_of;
-use case_files::{Case, FormFail, read_cases};
+use case_files::{Count, Cut};
 use outside::HostFiles;
-use std::alloc::Global;
 use std::process::ExitCode;
 use std::{env, io};
 
-// Why the run was cut short.
-#[derive(Debug, Drop)]
-enum Cut {
-    Form(FormFail),
-    Output(io::Error),
+// What the cases of a file are.
+#[derive(Clone, Copy, Debug, PartialEq, Eq)]
+enum Kind {
+    Commands,
+    Trees,
+    Graphs,
 }
 
-impl From<FormFail> for Cut {
-    fn from(fail: FormFail) -> Cut {
-        Cut::Form(fail)
+// What the cases of the file of this name are.
+fn kind_of(file: &str) -> Kind {
+    match file.split_once('/') {
+        Some(("trees", _)) => Kind::Trees,
+        Some(("graphs", _)) => Kind::Graphs,
+        _ => Kind::Commands,
     }
 }
 
-impl From<io::Error> for Cut {
-    fn from(error: io::Error) -> Cut {
-        Cut::Output(error)
+fn name_of(kind: Kind) -> &'static str {
+    match kind {
+        Kind::Commands => "commands",
+        Kind::Trees => "trees",
+        Kind::Graphs => "graphs",
     }
 }
 
-fn print_answer(rt: &impl Print, head: &str, answer: &Answer) -> io::Result<()> {
-    println!(rt; "--- {head}")?;
-    println!(rt; "{}", answer.status)?;
-    print!(rt;
-        "{}",
-        str::from_utf8(&answer.text).unwrap_or("bytes that are no text\n")
-    )
-}
-
-// Runs one case, and prints it where it fails.
-fn run_case(rt: &impl Print, alloc: Global, file: &str, case: &Case) -> Result<bool, Cut> {
-    let trial = trial_of(alloc, case)?;
-    let (comparison, wanted, given) = trial.run(alloc)?;
-    if agrees(alloc, comparison, &wanted, &given)? {
-        return Ok(true);
-    }
-    println!(rt; "=== {file}: {}", case.name)?;
-    print_answer(rt, "wanted", &wanted)?;
-    print_answer(rt, "given", &given)?;
-    Ok(false)
-}
-
-// Runs one case, and counts it. A case that is malformed is named with its fault, and counts as one that failed.
-fn count_case(
-    rt: &impl Print,
-    alloc: Global,
-    file: &str,
-    case: &Case,
-    count: &mut Count,
-) -> io::Result<()> {
-    match run_case(rt, alloc, file, case) {
-        Ok(has_passed) => count.add(has_passed),
-        Err(Cut::Output(error)) => return Err(error),
-        Err(Cut::Form(fail)) => {
-            count.add(false);
-            println!(rt; "=== {file}: {}: {fail}", case.name)?;
-        }
-    }
-    Ok(())
-}
-
-// Runs the cases of one file. A file that is no file of cases counts as a case that failed.
-fn run_file(rt: &HostRuntime, file: &str, count: &mut Count) -> io::Result<()> {
+// Runs the cases of one file.
+fn run_file(rt: &HostRuntime, kind: Kind, file: &str, count: &mut Count) -> Result<(), Cut> {
     let mut files = HostFiles::new(rt);
-    match read_cases(rt.alloc(), &mut files, file) {
-        Ok(cases) => {
-            for case in &cases {
-                count_case(rt, rt.alloc(), file, case, count)?;
-            }
-        }
-        Err(fail) => {
-            count.add(false);
-            println!(rt; "=== {file}: {fail}")?;
-        }
+    match kind {
+        Kind::Commands => commands::run_file(rt, rt.alloc(), &mut files, file, count),
+        Kind::Trees => tree_cases::run_file(rt, rt.alloc(), &mut files, file, count),
+        Kind::Graphs => graph_cases::run_file(rt, rt.alloc(), &mut files, file, count),
     }
-    Ok(())
 }
 
-// Runs the cases of all files, and prints how many passed and failed.
-fn run_all(rt: &HostRuntime) -> io::Result<Count> {
+// Runs all files of a kind, and prints how many cases passed and failed. A file that cannot be run to its end counts as a case that
+// failed.
+fn run_kind(rt: &HostRuntime, kind: Kind) -> io::Result<Count> {
     let mut count = Count {
         passed: 0,
         failed: 0,
     };
-    for file in env::args(rt)?.skip(1) {
-        run_file(rt, &file, &mut count)?;
+    for file in env::args(rt)?.skip(1).filter(|file| kind_of(file) == kind) {
+        match run_file(rt, kind, &file, &mut count) {
+            Ok(()) => {}
+            Err(Cut::Output(error)) => return Err(error),
+            Err(Cut::Form(fail)) => {
+                println!(rt; "{file}: {fail}")?;
+                count.add(false);
+            }
+        }
     }
-    println!(rt; "{} passed, {} failed", count.passed, count.failed)?;
+    println!(rt;
+        "{}: {} passed, {} failed",
+        name_of(kind),
+        count.passed,
+        count.failed
+    )?;
     Ok(count)
+}
+
+// Runs the files of all kinds, and answers whether a case failed.
+fn run_all(rt: &HostRuntime) -> io::Result<bool> {
+    let commands = run_kind(rt, Kind::Commands)?;
+    let trees = run_kind(rt, Kind::Trees)?;
+    let graphs = run_kind(rt, Kind::Graphs)?;
+    Ok(commands.has_failed() || trees.has_failed() || graphs.has_failed())
 }
 
 fn main(rt: HostRuntime) -> ExitCode {
     match run_all(&rt) {
-        Ok(count) if !count.has_failed() => ExitCode::SUCCESS,
+        Ok(false) => ExitCode::SUCCESS,
         _ => ExitCode::FAILURE,
     }
 }

@@ -1,8 +1,6 @@
 // What a case asks for, as its sections say.
 
-use crate::answer::Answer;
-use crate::comparison::Comparison;
-use case_files::{Case, FormFail, Section};
+use case_files::{Answer, Case, Comparison, FormFail, Section};
 use outside::{MemFiles, MemSink};
 use rlc_cli::rlc;
 use std::alloc::Global;

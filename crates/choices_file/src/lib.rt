@@ -4,8 +4,6 @@
 mod line;
 mod numbers;
 mod reading;
-#[cfg(test)]
-mod tests;
 
 pub use reading::read_choices;
 pub use stub_conduct::{Choice, Choices};

@@ -30,8 +30,8 @@ use Rattle.class_order.specs.Declarations.{Declaration, compilation_unit, declar
 use Rattle.class_order.specs.Modifiers.{has_abstract, has_static}
 use Rattle.class_declarations.specs.Members.{Written, MethodOf, ConstructorOf, ImpliedConstructor, is_abstract_in, is_constructor, kind_of, written_in}
 use Rattle.method_bodies.specs.MethodBodies.{body_cases, class_cases, is_abstract, is_misfit, member_case}
-use Rattle.class_table.specs.Passes.{classes_of}
-use Rattle.class_table.specs.Table.{IsTable}
+use Rattle.table_laws.specs.Passes.{classes_of}
+use Rattle.table_laws.specs.Table.{IsTable}
 use Rattle.source_classes.specs.SourceClasses.{SourceClass, declarations, library_classes, numbered_from, source_classes}
 use Rattle.java_bodies.specs.Bodies.{body_of, constructor_body, method_body}
 use Rattle.elaborated_orders.specs.SourceBodies.{source_declaration, table_declaration}

@@ -26,16 +26,16 @@ use Rattle.program_bodies.specs.ProgramBodies.{HasBodies, methods_from}
 use Rattle.class_order.specs.Declarations.{Declaration}
 use Rattle.class_declarations.specs.Members.{fields_of}
 use Rattle.class_members.specs.Members.{fields_in}
-use Rattle.class_table.specs.Passes.{IsBuilt, classes_of}
-use Rattle.class_table.proofs.Owners.{tied_at}
+use Rattle.table_laws.specs.Passes.{IsBuilt, classes_of}
+use Rattle.table_laws.proofs.Owners.{tied_at}
 use Rattle.java_laying.specs.Bodies.{IsLaid}
 use Rattle.source_classes.specs.Members.{Environment}
 use Rattle.source_classes.specs.SourceClasses.{SourceClass, source_classes}
 use Rattle.body_variables.specs.Declarations.{variable_in}
 use Rattle.java_bodies.specs.Bodies.{SourceBody, all_bodies, body_cases, body_variables_in}
 use Rattle.java_bodies.specs.SuperCalls.{SuperCall, is_other}
-use Rattle.java_types.specs.ProgramCases.{bodies_cases, environment_of, field_cases, member_cases, program_cases, typed_program, typing_cases}
-use Rattle.java_types.specs.TypedBodies.{TypedBody, typed_bodies, typed_body}
+use Rattle.java_elaboration.specs.ProgramCases.{bodies_cases, environment_of, field_cases, member_cases, program_cases, typed_program, typing_cases}
+use Rattle.java_elaboration.specs.TypedBodies.{TypedBody, typed_bodies, typed_body}
 use Rattle.java_elaboration.specs.Elaborations.{IsBodyOf, IsProgramOf}
 use Rattle.elaborated_orders.proofs.Heads.{begins_so, headless_parts, heads_first, one_super_call}
 use Rattle.elaborated_orders.proofs.Initializers.{initialized_so}

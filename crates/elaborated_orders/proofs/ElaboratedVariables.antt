@@ -17,7 +17,7 @@ use Rattle.java_syntax.specs.declared.declaration_trees.Unit as tree
 use Rattle.java_syntax.specs.declared.settings.Settings.{Settings}
 use Rattle.java_syntax.specs.StatementTrees.{StmtTrees}
 use Rattle.class_order.specs.Declarations.{Declaration}
-use Rattle.class_table.specs.Passes.{IsBuilt, classes_of}
+use Rattle.table_laws.specs.Passes.{IsBuilt, classes_of}
 use Rattle.java_typed_trees.specs.StatementTrees.{StatementForm, StmtTree, Statement, statements}
 use Rattle.java_typed_trees.specs.StatementTrees as typed
 use Rattle.java_typed_expressions.proofs.Goodness.{nil_left, nil_right, nil_second}
@@ -34,7 +34,7 @@ use Rattle.source_classes.specs.Parameters.{parameters_cases, parameters_from}
 use Rattle.field_initializers.specs.FieldInitializers.{initializer_statements, initializers_cases}
 use Rattle.java_bodies.specs.Bodies.{SourceBody, argument_surroundings, body_cases, body_context, body_variables_in, declared_exceptions, head_cases, head_statements, locals_in}
 use Rattle.java_bodies.specs.SuperCalls.{SuperCall, is_made, super_call_cases, super_call_statements}
-use Rattle.java_types.specs.ProgramCases.{environment_of, program_cases, typed_program}
+use Rattle.java_elaboration.specs.ProgramCases.{environment_of, program_cases, typed_program}
 use Rattle.java_elaboration.specs.Elaborations.{IsProgramOf}
 use Rattle.elaborated_orders.specs.SourceBodies.{source_declaration}
 use Rattle.elaborated_orders.specs.BodyOrders.{body_statements}

@@ -21,3 +21,7 @@ pub mod Stands
 pub mod SuperCallOrders
 pub mod TableMethods
 pub mod VariableNumbers
+pub use Rattle.table_laws.proofs.LibraryString
+pub use Rattle.table_laws.proofs.StringClass
+pub use Rattle.table_laws.proofs.TableNames
+pub use Rattle.java_statement_laws.proofs.LeastClasses

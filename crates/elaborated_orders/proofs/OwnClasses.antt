@@ -19,8 +19,8 @@ use Rattle.class_headers.specs.Headers.{Header, declared_headers, header_of}
 use Rattle.class_headers.specs.SuperTypes.{SuperTypes}
 use Rattle.class_headers.proofs.KnownLemmas.{length-supers_from}
 use Rattle.super_checks.specs.SuperCases.{supers_in}
-use Rattle.class_table.specs.Passes.{classes_of}
-use Rattle.class_table.specs.Table.{IsTable}
+use Rattle.table_laws.specs.Passes.{classes_of}
+use Rattle.table_laws.specs.Table.{IsTable}
 use Rattle.source_classes.specs.SourceClasses.{SourceClass, declarations, library_classes, numbered_from, source_classes}
 use Rattle.elaborated_orders.specs.SourceBodies.{source_declaration, table_declaration}
 use Rattle.elaborated_orders.proofs.SourceMethods.{IsLinked, IsSame, library_count, same_units}

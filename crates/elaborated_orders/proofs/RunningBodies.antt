@@ -17,8 +17,8 @@ use Rattle.program_model.specs.Overrides.{methods_in, methods_of}
 use Rattle.program_model.specs.Validity.{IsTypedProgram, RunsBody, is_constant}
 use Rattle.class_declarations.specs.Members.{Written, written_in}
 use Rattle.method_bodies.specs.MethodBodies.{body_cases}
-use Rattle.class_table.specs.Passes.{classes_of}
-use Rattle.class_table.specs.Table.{IsTable}
+use Rattle.table_laws.specs.Passes.{classes_of}
+use Rattle.table_laws.specs.Table.{IsTable}
 use Rattle.source_classes.specs.Members.{Environment, numbered_methods}
 use Rattle.source_classes.specs.SourceClasses.{SourceClass, source_classes}
 use Rattle.java_bodies.specs.Bodies.{SourceBody, WrittenBody, all_bodies, bodies_in, body_of, source_body}

@@ -18,8 +18,8 @@ use Rattle.program_model.specs.Lookups.{method_at}
 use Rattle.class_order.specs.Declarations.{Declaration}
 use Rattle.class_order.specs.Modifiers.{has_static}
 use Rattle.class_declarations.specs.Members.{Written, MethodOf, ConstructorOf, ImpliedConstructor, ConstantOf, kind_of, parameters_of}
-use Rattle.class_table.specs.Passes.{classes_of}
-use Rattle.class_table.specs.Table.{IsTable}
+use Rattle.table_laws.specs.Passes.{classes_of}
+use Rattle.table_laws.specs.Table.{IsTable}
 use Rattle.source_classes.specs.Members.{Environment, numbered_methods}
 use Rattle.source_classes.specs.SourceClasses.{SourceClass, source_classes}
 use Rattle.java_bodies.specs.Bodies.{SourceBody, WrittenBody, all_bodies, bodies_in, body_of, constructor_body, method_body, source_body}

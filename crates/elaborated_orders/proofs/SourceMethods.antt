@@ -23,8 +23,8 @@ use Rattle.class_order.specs.Declarations as order
 use Rattle.class_order.specs.Modifiers.{has_abstract}
 use Rattle.class_declarations.specs.Members.{Written, MethodOf, ConstructorOf, ImpliedConstructor, ConstantOf, constants_among, implied_constructor, is_abstract_in, is_constant, is_constructor, kind_of, parameters_of, written_by, written_by_all, written_in}
 use Rattle.table_members.specs.Methods.{IsMethod, IsParameter}
-use Rattle.class_table.specs.Passes.{classes_of}
-use Rattle.class_table.specs.Table.{IsTable}
+use Rattle.table_laws.specs.Passes.{classes_of}
+use Rattle.table_laws.specs.Table.{IsTable}
 use Rattle.source_classes.specs.SourceClasses.{SourceClass, declarations, library_classes, numbered_from, source_classes}
 use Rattle.table_laws.proofs.TableNames.{library_names_are}
 use Rattle.elaborated_orders.specs.SourceBodies.{source_declaration, table_declaration}

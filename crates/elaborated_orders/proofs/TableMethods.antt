@@ -13,7 +13,7 @@ use Rattle.class_names.specs.ClassNames.{class_number}
 use Rattle.class_order.specs.Declarations.{Declaration}
 use Rattle.class_declarations.specs.Members.{Written, WrittenMethod, methods_from, methods_of, methods_written, written_in}
 use Rattle.table_members.specs.Methods.{IsMethod}
-use Rattle.class_table.specs.Numbers.{numbers_where}
+use Rattle.table_laws.specs.Numbers.{numbers_where}
 
 -- ---- the methods of one class among all
 

@@ -4,3 +4,4 @@ pub mod ElaboratedOrders
 pub mod MethodNumbers
 pub mod OrderedTrees
 pub mod SourceBodies
+pub use Rattle.java_elaboration.specs.Elaborations

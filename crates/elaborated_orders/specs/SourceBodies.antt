@@ -7,7 +7,7 @@ use Rattle.program_model.specs.declared.program.Program.{Program}
 use Rattle.program_model.specs.Heads.{is_constructor}
 use Rattle.program_model.specs.Lookups.{method_at}
 use Rattle.class_order.specs.Declarations.{Declaration}
-use Rattle.class_table.specs.Passes.{classes_of}
+use Rattle.table_laws.specs.Passes.{classes_of}
 use Rattle.source_classes.specs.SourceClasses.{declarations, library_classes}
 use Rattle.java_bodies.specs.Bodies.{SourceBody}
 

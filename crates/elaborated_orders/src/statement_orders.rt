@@ -4,8 +4,8 @@ ghost use Rattle.std.specs.Prelude.{◌≡◌, List, []};
 ghost use Rattle.java_syntax.specs.declared.declaration_trees.Unit as tree;
 ghost use Rattle.java_syntax.specs.declared.settings.Settings.{Settings};
 ghost use Rattle.program_model.specs.declared.program.Program.{Program};
-ghost use Rattle.class_table.specs.Passes.{IsBuilt, classes_of};
-ghost use Rattle.java_types.specs.ProgramCases.{program_cases, typed_program};
+ghost use Rattle.table_laws.specs.Passes.{IsBuilt, classes_of};
+ghost use Rattle.java_elaboration.specs.ProgramCases.{program_cases, typed_program};
 ghost use Rattle.java_elaboration.specs.Elaborations.{IsProgramOf};
 ghost use Rattle.elaborated_orders.specs.ElaboratedOrders.{AreOrderedBodies};
 

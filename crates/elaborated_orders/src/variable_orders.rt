@@ -9,10 +9,10 @@ ghost use Rattle.program_model.specs.declared.tree.Body.{Body};
 ghost use Rattle.program_model.specs.Lookups.{body_at};
 ghost use Rattle.program_model.specs.TextOrder.{declared_variables};
 ghost use Rattle.program_model.specs.Validity.{IsOrderedBody};
-ghost use Rattle.class_table.specs.Passes.{IsBuilt, classes_of};
+ghost use Rattle.table_laws.specs.Passes.{IsBuilt, classes_of};
 ghost use Rattle.java_typed_trees.specs.StatementTrees.{StmtTrees};
 ghost use Rattle.java_laying.specs.Bodies.{IsLaid};
-ghost use Rattle.java_types.specs.ProgramCases.{program_cases, typed_program};
+ghost use Rattle.java_elaboration.specs.ProgramCases.{program_cases, typed_program};
 ghost use Rattle.java_elaboration.specs.Elaborations.{IsProgramOf};
 ghost use Rattle.elaborated_orders.specs.DeclaredVariables.{variables_declared};
 

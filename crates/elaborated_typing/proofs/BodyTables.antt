@@ -17,7 +17,7 @@ use Rattle.class_table.specs.Passes.{IsBuilt, classes_of}
 use Rattle.java_statement_typing.specs.Scopes.{HasDeclarableTypes}
 use Rattle.source_classes.specs.Members.{Environment}
 use Rattle.source_classes.specs.SourceClasses.{all_names, source_classes}
-use Rattle.java_bodies.specs.Bodies.{SourceBody, all_bodies}
+use Rattle.java_types.specs.Bodies.{SourceBody, all_bodies}
 use Rattle.java_types.specs.ProgramCases.{environment_of}
 use Rattle.elaborated_typing.proofs.WrittenTypeLaws.{declarable_types}
 use Rattle.elaborated_orders.specs.SourceBodies.{IsSourceBody, source_declaration}

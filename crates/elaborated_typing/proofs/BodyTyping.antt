@@ -24,8 +24,8 @@ use Rattle.java_statement_typing.proofs.VariableLaws.{statements_declare}
 use Rattle.source_classes.specs.Members.{Environment, surroundings_in}
 use Rattle.source_classes.specs.Parameters.{parameters_cases}
 use Rattle.field_initializers.specs.FieldInitializers.{initializer_statements, initializer_surroundings, initializers_cases}
-use Rattle.java_bodies.specs.Bodies.{SourceBody, argument_surroundings, body_cases, body_context, body_trees, body_variables_in, declared_exceptions, has_this, head_cases, head_statements, initialized_in, locals_in}
-use Rattle.java_bodies.specs.SuperCalls.{SuperCall, super_call_cases, super_call_statements}
+use Rattle.java_types.specs.Bodies.{SourceBody, argument_surroundings, body_cases, body_context, body_trees, body_variables_in, declared_exceptions, has_this, head_cases, head_statements, initialized_in, locals_in}
+use Rattle.java_types.specs.SuperCalls.{SuperCall, super_call_cases, super_call_statements}
 use Rattle.elaborated_typing.specs.BodiesOfTables.{HasTypedTable, owner_of, typing_context}
 use Rattle.elaborated_typing.proofs.InitializerTyping.{numbered_typed}
 use Rattle.elaborated_typing.proofs.ParameterTyping.{AreParameters, all_declarable, has_parameters, have_their_types, numbered_declarable, parameters_counted, parameters_declarable, parameters_in_scope}

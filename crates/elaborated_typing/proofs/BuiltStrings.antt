@@ -7,8 +7,8 @@ use Rattle.program_model.specs.Validity.{IsValid}
 use Rattle.method_bodies.specs.MethodBodies.{body_cases}
 use Rattle.class_table.specs.Passes.{IsBuilt, classes_of}
 use Rattle.java_types.specs.ProgramCases.{environment_of, program_cases, typed_program}
-use Rattle.java_elaboration.specs.Elaborations.{IsProgramOf}
-use Rattle.table_laws.proofs.TableNames.{table_names_are}
+use Rattle.elaborated_orders.specs.Elaborations.{IsProgramOf}
+use Rattle.elaborated_orders.proofs.TableNames.{table_names_are}
 use Rattle.elaborated_typing.proofs.FinalString.{bodies_are_not_string, final_string}
 use Rattle.elaborated_typing.specs.StringTables.{IsStringTable}
 use Rattle.elaborated_typing.proofs.ElaboratedValidity.{valid_where_strings}

@@ -14,10 +14,10 @@ use Rattle.java_typed_expressions.proofs.Goodness.{nil_left, nil_right}
 use Rattle.java_typing_laws.proofs.Conversions.{none_is_some, same_in}
 use Rattle.source_classes.specs.Members.{Environment}
 use Rattle.source_classes.specs.SourceClasses.{SourceClass, source_classes}
-use Rattle.java_bodies.specs.Bodies.{SourceBody, all_bodies, body_cases}
+use Rattle.java_types.specs.Bodies.{SourceBody, all_bodies, body_cases}
 use Rattle.java_types.specs.ProgramCases.{bodies_cases, environment_of, field_cases, member_cases, program_cases, typed_program, typing_cases}
 use Rattle.java_types.specs.TypedBodies.{TypedBody, typed_body}
-use Rattle.java_elaboration.specs.Elaborations.{IsBodyOf, IsProgramOf}
+use Rattle.elaborated_orders.specs.Elaborations.{IsBodyOf, IsProgramOf}
 use Rattle.elaborated_typing.specs.BodiesOfPrograms.{AreTypedBodies, IsTypedBody}
 use Rattle.elaborated_typing.proofs.KeptValidity.{with_bodies_typed}
 use Rattle.elaborated_typing.specs.LaidBodies.{IsLaidFrom}

@@ -14,10 +14,10 @@ use Rattle.method_bodies.specs.MethodBodies.{body_cases}
 use Rattle.class_table.specs.Passes.{IsBuilt, classes_of}
 use Rattle.source_classes.specs.Members.{Environment}
 use Rattle.source_classes.specs.SourceClasses.{source_classes}
-use Rattle.java_bodies.specs.Bodies.{SourceBody, all_bodies}
+use Rattle.java_types.specs.Bodies.{SourceBody, all_bodies}
 use Rattle.java_types.specs.ProgramCases.{environment_of, program_cases, typed_program}
 use Rattle.java_types.specs.TypedBodies.{TypedBody}
-use Rattle.java_elaboration.specs.Elaborations.{IsBodyOf, IsProgramOf}
+use Rattle.elaborated_orders.specs.Elaborations.{IsBodyOf, IsProgramOf}
 use Rattle.elaborated_typing.specs.LaidBodies.{HasHeadsInTrees}
 use Rattle.elaborated_orders.specs.MethodNumbers.{AreDistinct}
 use Rattle.elaborated_orders.proofs.DistinctBodies.{bodies_distinct}

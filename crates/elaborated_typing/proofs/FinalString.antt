@@ -12,10 +12,10 @@ use Rattle.class_declarations.specs.Members.{Written}
 use Rattle.class_table.specs.Passes.{IsBuilt, classes_of}
 use Rattle.source_classes.specs.Members.{Environment, numbered_methods}
 use Rattle.source_classes.specs.SourceClasses.{SourceClass, source_classes}
-use Rattle.java_bodies.specs.Bodies.{SourceBody, WrittenBody, all_bodies, bodies_among, bodies_in, body_of, source_body}
+use Rattle.java_types.specs.Bodies.{SourceBody, WrittenBody, all_bodies, bodies_among, bodies_in, body_of, source_body}
 use Rattle.java_statement_typing.specs.Tables.{HasFinalString}
-use Rattle.table_laws.proofs.LibraryString.{sources_are_not_string}
-use Rattle.table_laws.proofs.StringClass.{only_string, string_is_no_exception}
+use Rattle.elaborated_orders.proofs.LibraryString.{sources_are_not_string}
+use Rattle.elaborated_orders.proofs.StringClass.{only_string, string_is_no_exception}
 
 pub final_string : (units stubs : List tree.Unit) (settings : Settings) (p : Program) → IsBuilt (classes_of units stubs settings) settings p → HasFinalString p
 final_string units stubs settings p built = record {

@@ -16,7 +16,7 @@ use Rattle.java_typing_laws.proofs.Conversions.{none_is_some, same_in}
 use Rattle.java_typing_laws.proofs.OperatorRules.{has}
 use Rattle.java_statement_typing.proofs.LaidStatements.{body_is_typed}
 use Rattle.source_classes.specs.Members.{Environment}
-use Rattle.java_bodies.specs.Bodies.{SourceBody, body_cases, body_trees, has_this}
+use Rattle.java_types.specs.Bodies.{SourceBody, body_cases, body_trees, has_this}
 use Rattle.elaborated_typing.specs.BodiesOfTables.{HasTypedTable, owner_of, typing_context}
 use Rattle.elaborated_typing.proofs.BodyTyping.{body_has_parameters, body_typed, body_variables_declarable}
 use Rattle.elaborated_typing.specs.BodiesOfPrograms.{IsTypedBody}

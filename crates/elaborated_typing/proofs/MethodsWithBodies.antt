@@ -16,9 +16,9 @@ use Rattle.method_bodies.specs.MethodBodies.{body_cases}
 use Rattle.class_table.specs.Passes.{IsBuilt, classes_of}
 use Rattle.source_classes.specs.Members.{Environment}
 use Rattle.source_classes.specs.SourceClasses.{source_classes}
-use Rattle.java_bodies.specs.Bodies.{SourceBody, all_bodies}
+use Rattle.java_types.specs.Bodies.{SourceBody, all_bodies}
 use Rattle.java_types.specs.ProgramCases.{environment_of, typed_program}
-use Rattle.java_elaboration.specs.Elaborations.{IsProgramOf}
+use Rattle.elaborated_orders.specs.Elaborations.{IsProgramOf}
 use Rattle.elaborated_orders.specs.MethodNumbers.{method_numbers}
 use Rattle.elaborated_orders.proofs.RunningBodies.{methods_have_bodies}
 use Rattle.elaborated_typing.proofs.SingleBodies.{body_methods, has_number, methods_are}

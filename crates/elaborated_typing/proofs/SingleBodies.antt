@@ -13,9 +13,9 @@ use Rattle.program_model.specs.declared.kinds.MethodId.{MethodId}
 use Rattle.program_model.specs.declared.tree.Body.{Body}
 use Rattle.program_bodies.specs.ProgramBodies.{body_id, body_number}
 use Rattle.source_classes.specs.Members.{Environment}
-use Rattle.java_bodies.specs.Bodies.{SourceBody}
+use Rattle.java_types.specs.Bodies.{SourceBody}
 use Rattle.java_types.specs.TypedBodies.{typed_body}
-use Rattle.java_elaboration.specs.Elaborations.{IsBodyOf}
+use Rattle.elaborated_orders.specs.Elaborations.{IsBodyOf}
 use Rattle.elaborated_orders.specs.MethodNumbers.{AreDistinct, method_numbers}
 
 -- ---- the methods of bodies

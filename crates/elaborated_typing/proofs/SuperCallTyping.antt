@@ -32,7 +32,7 @@ use Rattle.java_typing_laws.proofs.TypedExpressions.{passed_to_method}
 use Rattle.java_statement_typing.specs.TypedForms.{IsSuperCall}
 use Rattle.java_statement_typing.specs.TypedStatements.{AreTypedStatementTrees}
 use Rattle.java_statement_typing.proofs.Values.{IsHere, context_of}
-use Rattle.java_bodies.specs.SuperCalls.{SuperCall, is_made, statement_of_call, super_call_by, super_call_of, super_call_statements}
+use Rattle.java_types.specs.SuperCalls.{SuperCall, is_made, statement_of_call, super_call_by, super_call_of, super_call_statements}
 
 module _ (variables : List Var) (owner : Option ClassId) (m : Method) (s : Surroundings) (h : IsHere variables owner m s) (constructor : m.kind ≡ methods.Ctor) (own : m.class ≡ s.context.class') where
   abbrev scope : TypingContext

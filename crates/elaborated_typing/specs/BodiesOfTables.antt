@@ -9,8 +9,8 @@ use Rattle.program_model.specs.Validity.{IsTypedProgram}
 use Rattle.java_typing_laws.specs.TypingContexts.{TypingContext}
 use Rattle.java_statement_typing.specs.Scopes.{HasDeclarableTypes}
 use Rattle.source_classes.specs.Members.{Environment}
-use Rattle.java_bodies.specs.Bodies.{SourceBody, has_this}
-use Rattle.java_bodies.specs.SuperCalls.{SuperCall}
+use Rattle.java_types.specs.Bodies.{SourceBody, has_this}
+use Rattle.java_types.specs.SuperCalls.{SuperCall}
 
 -- the body is written for its method in the table: one of its class, which is not String, with as many parameters; only a
 -- constructor begins with a super call

@@ -7,7 +7,7 @@ use Rattle.program_model.specs.Lookups.{body_at}
 use Rattle.program_model.specs.Validity.{RunsBody}
 use Rattle.program_bodies.specs.ProgramBodies.{body_number}
 use Rattle.source_classes.specs.Members.{Environment}
-use Rattle.java_bodies.specs.Bodies.{SourceBody}
+use Rattle.java_types.specs.Bodies.{SourceBody}
 use Rattle.elaborated_typing.specs.BodiesOfTables.{HasTypedTable}
 use Rattle.elaborated_typing.specs.LaidBodies.{HasHeadsInTrees}
 

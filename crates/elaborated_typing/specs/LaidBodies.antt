@@ -10,7 +10,7 @@ use Rattle.java_typed_trees.specs.StatementTrees.{statements}
 use Rattle.java_laying.specs.Bodies.{IsLaid}
 use Rattle.body_variables.specs.Declarations.{variable_in}
 use Rattle.source_classes.specs.Members.{Environment}
-use Rattle.java_bodies.specs.Bodies.{SourceBody, body_trees, body_variables_in}
+use Rattle.java_types.specs.Bodies.{SourceBody, body_trees, body_variables_in}
 
 -- it has the method and the variables of the body, and its tables are the body's typed statements
 pub record IsLaidFrom (e : Environment) (b : SourceBody) (x : Body) : Type 0 where

@@ -4,7 +4,7 @@ use Rattle.java_syntax.specs.declared.declaration_trees.Unit as tree
 use Rattle.program_model.specs.declared.program.Program.{Program}
 use Rattle.java_statement_typing.specs.Tables.{HasFinalString}
 use Rattle.source_classes.specs.SourceClasses.{all_names, source_classes}
-use Rattle.java_bodies.specs.Bodies.{SourceBody, all_bodies}
+use Rattle.java_types.specs.Bodies.{SourceBody, all_bodies}
 use Rattle.java_types.specs.ProgramCases.{environment_of}
 use Rattle.elaborated_typing.specs.NamedTables.{AreNamesOf}
 

@@ -7,7 +7,7 @@ ghost use Rattle.program_model.specs.Validity.{HasParameters};
 ghost use Rattle.java_typed_trees.specs.StatementTrees.{statements};
 ghost use Rattle.body_variables.specs.Declarations.{variable_in};
 ghost use Rattle.source_classes.specs.Members.{Environment};
-ghost use Rattle.java_bodies.specs.Bodies.{SourceBody, body_cases, body_trees, body_variables_in};
+ghost use Rattle.java_types.specs.Bodies.{SourceBody, body_cases, body_trees, body_variables_in};
 ghost use Rattle.java_statement_typing.specs.TypedStatements.{AreTypedStatementTrees};
 ghost use Rattle.elaborated_typing.specs.BodiesOfTables.{HasTypedTable, typing_context};
 

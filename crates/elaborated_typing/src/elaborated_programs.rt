@@ -6,9 +6,9 @@ ghost use Rattle.java_syntax.specs.declared.declaration_trees.Unit as tree;
 ghost use Rattle.program_model.specs.declared.program.Program.{Program};
 ghost use Rattle.program_model.specs.Validity.{IsTypedProgram};
 ghost use Rattle.source_classes.specs.SourceClasses.{source_classes};
-ghost use Rattle.java_bodies.specs.Bodies.{all_bodies};
+ghost use Rattle.java_types.specs.Bodies.{all_bodies};
 ghost use Rattle.java_types.specs.ProgramCases.{environment_of, program_cases, typed_program};
-ghost use Rattle.java_elaboration.specs.Elaborations.{IsProgramOf};
+ghost use Rattle.elaborated_orders.specs.Elaborations.{IsProgramOf};
 ghost use Rattle.elaborated_typing.specs.ElaboratedBodies.{HasSingleTrees, IsBodyInTable};
 
 /// The program of a valid table and of the bodies of its source files, in which nothing is refused, is typed: its tables belong

@@ -4,7 +4,7 @@ ghost use Rattle.std.specs.Prelude.{◌≡◌, []};
 ghost use Rattle.program_model.specs.declared.tree.Body.{Body};
 ghost use Rattle.program_model.specs.Validity.{RunsBody};
 ghost use Rattle.source_classes.specs.Members.{Environment};
-ghost use Rattle.java_bodies.specs.Bodies.{SourceBody, body_cases};
+ghost use Rattle.java_types.specs.Bodies.{SourceBody, body_cases};
 ghost use Rattle.elaborated_typing.specs.BodiesOfTables.{HasTypedTable};
 ghost use Rattle.elaborated_typing.specs.BodiesOfPrograms.{IsTypedBody};
 ghost use Rattle.elaborated_typing.specs.LaidBodies.{HasHeadsInTrees, IsLaidFrom};

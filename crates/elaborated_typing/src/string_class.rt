@@ -8,7 +8,7 @@ ghost use Rattle.program_model.specs.declared.program.Program.{Program};
 ghost use Rattle.class_table.specs.Passes.{IsBuilt, classes_of};
 ghost use Rattle.source_classes.specs.Members.{Environment};
 ghost use Rattle.source_classes.specs.SourceClasses.{source_classes};
-ghost use Rattle.java_bodies.specs.Bodies.{SourceBody, all_bodies};
+ghost use Rattle.java_types.specs.Bodies.{SourceBody, all_bodies};
 ghost use Rattle.java_statement_typing.specs.Tables.{HasFinalString};
 
 /// In a table that is built no class is under that of strings but itself, and it is no class of exceptions (JLS 4.3.3, 8.1.1.2,

@@ -9,7 +9,7 @@ ghost use Rattle.program_model.specs.Validity.{HasBodies, IsValid};
 ghost use Rattle.method_bodies.specs.MethodBodies.{body_cases};
 ghost use Rattle.class_table.specs.Passes.{IsBuilt, classes_of};
 ghost use Rattle.java_types.specs.ProgramCases.{program_cases, typed_program};
-ghost use Rattle.java_elaboration.specs.Elaborations.{IsProgramOf};
+ghost use Rattle.elaborated_orders.specs.Elaborations.{IsProgramOf};
 
 /// The program of a built table and of the bodies of its source files, in which nothing is refused, is valid: its tables belong
 /// together, its bodies are typed trees, and their parts stand where they should (JLS 8, 14, 15).

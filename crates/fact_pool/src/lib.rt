@@ -4,8 +4,6 @@
 
 mod handle;
 mod pool;
-#[cfg(test)]
-mod tests;
 
 pub use handle::{Handle, Region};
 pub use pool::Pool;

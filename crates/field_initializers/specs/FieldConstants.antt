@@ -13,7 +13,7 @@ use Rattle.java_syntax.specs.ExpressionTrees.{ExprTree}
 use Rattle.class_names.specs.declared.class_name.ClassName.{ClassName}
 use Rattle.class_declarations.specs.Members.{WrittenField}
 use Rattle.java_typed_expressions.specs.Typings.{value_facts}
-use Rattle.java_statement_rules.specs.DeclaredVariables.{constant_value}
+use Rattle.source_classes.specs.DeclaredVariables.{constant_value}
 use Rattle.field_initializers.specs.FieldInitializers.{initializer_of, initializer_surroundings}
 use Rattle.source_classes.specs.Members.{Environment, numbered_fields}
 use Rattle.source_classes.specs.SourceClasses.{SourceClass}

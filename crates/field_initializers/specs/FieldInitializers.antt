@@ -20,10 +20,10 @@ use Rattle.java_typed_trees.specs.StatementTrees.{Statement, StmtTree, no_statem
 use Rattle.java_typed_trees.specs.StatementTrees as forms
 use Rattle.java_member_rules.specs.Assignments.{assignment_by}
 use Rattle.java_member_rules.specs.Names.{implied_this}
-use Rattle.java_expression_rules.specs.Surroundings.{Surroundings}
+use Rattle.java_typed_expressions.specs.Surroundings.{Surroundings}
 use Rattle.java_typed_expressions.specs.Cases.{value_cases}
 use Rattle.java_typed_expressions.specs.Typings.{tree, value_facts}
-use Rattle.java_statement_rules.specs.StatementCases.{unless}
+use Rattle.source_classes.specs.StatementCases.{unless}
 use Rattle.source_classes.specs.Members.{Environment, numbered_fields, surroundings_in}
 use Rattle.source_classes.specs.SourceClasses.{SourceClass}
 

@@ -8,13 +8,11 @@ ghost use Rattle.field_initializers.specs.FieldInitializers.{initializer_of};
 ghost use Rattle.field_initializers.specs.FieldConstants.{field_constants, greatest_height, height, initial_constant, initialized_constant, literal_constant, static_constant, up_to_height, with_class, with_field_of, with_height};
 
 use class_names::ClassNames;
-use java_expression_rules::operand;
-use java_statement_rules::constant_value;
-use java_typed_expressions::value;
+use java_typed_expressions::{operand, value};
 use program_model::{Field, FieldId, Literal, Program};
 use rlc_base::NoMemory;
 use source_classes::{
-    DeclaredClass, NumberedField, ProgramScope, numbered_fields, surroundings_in,
+    DeclaredClass, NumberedField, ProgramScope, constant_value, numbered_fields, surroundings_in,
 };
 use std::alloc::Global;
 

@@ -3,15 +3,14 @@
 ghost use Rattle.std.specs.Prelude.{◌≡◌, ◌++◌, IfOk, OnOk, flat_map, map};
 ghost use Rattle.java_syntax.specs.ExpressionTrees.{expr_of};
 ghost use Rattle.java_typed_trees.specs.StatementTrees.{statement_of};
-ghost use Rattle.java_expression_rules.specs.Surroundings.{surroundings_of};
+ghost use Rattle.java_typed_expressions.specs.Surroundings.{surroundings_of};
 ghost use Rattle.source_classes.specs.Members.{environment_in, numbered_field_of};
 ghost use Rattle.source_classes.specs.SourceClasses.{source_class_of};
 ghost use Rattle.field_initializers.specs.FieldInitializers.{cases_of_field, initializer_statements, initializers_cases, initializing_cases, initializing_statement, statements_of_field};
 
-use java_expression_rules::{BodyScope, one, operand, settle_in, two};
 use java_member_rules::{assignment_by, implied_this};
 use java_syntax::Expr;
-use java_typed_expressions::value;
+use java_typed_expressions::{BodyScope, one, operand, settle_in, two, value};
 use java_typed_trees::{StatementShape, StatementTree, TargetShape, statement_tree, value_at};
 use program_model::{ClassId, Field, FieldId};
 use rlc_base::{NoMemory, Refusal};

@@ -5,10 +5,9 @@ ghost use Rattle.source_classes.specs.Members.{environment_in, numbered_field_of
 ghost use Rattle.source_classes.specs.SourceClasses.{source_class_of};
 ghost use Rattle.field_initializers.specs.FieldInitializers.{static_cases, static_cases_of_field};
 
-use java_statement_rules::count_unless;
 use program_model::Program;
 use rlc_base::{NoMemory, Refusal};
-use source_classes::{DeclaredClass, NumberedField, ProgramScope, numbered_fields};
+use source_classes::{DeclaredClass, NumberedField, ProgramScope, count_unless, numbered_fields};
 use std::alloc::Global;
 
 // Counts the refusal of a static field with an initialiser, of which the table has no value.

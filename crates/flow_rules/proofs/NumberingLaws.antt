@@ -52,7 +52,7 @@ left-numbered n p b o c f = simp (choice-numbered, promise-numbered) refl
 
 return-numbered : (n : ℕ) (p : Program) (b : BodyId) (o : Origin) (c : Completion) (f : Fact) (m : Moved) → after_return p b o c (numbered n f) m ≡ numbered_outcome n (after_return p b o c f m)
 return-numbered n p b o c f Stays = left-numbered n p b o c f
-return-numbered n p b o c f Moves = refl
+return-numbered n p b o c f Moves = simp (choice-numbered, promise-numbered) refl
 return-numbered n p b o c f (Bad rule) = refl
 
 moved-numbered : (n : ℕ) (p : Program) (b : BodyId) (o : Origin) (c : Completion) (f : Fact) → moved_at_return p b o (actions.End c) (numbered n f) ≡ moved_at_return p b o (actions.End c) f

@@ -11,7 +11,7 @@ use Rattle.java_control.specs.declared.fact.Outcome.{Outcome}
 use Rattle.java_control.specs.declared.fact.Outcome.TheVariants.{Gone, Fault}
 use Rattle.java_control.specs.declared.fact.Rule.{Rule}
 use Rattle.java_control.specs.declared.fact.Rule.TheVariants as rules
-use Rattle.obligation_facts.specs.Facts.{Names, has_field, is_held, is_met, is_origin_at, missing, owes}
+use Rattle.obligation_facts.specs.Facts.{Names, has_field, is_alias, is_held, is_met, is_origin_at, missing, owes}
 use Rattle.must_call_sets.specs.MustCallSets.{must_of, beyond_type, is_heavy_class}
 use Rattle.must_call_sets.specs.Bodies.{is_constructor, alias_position}
 use Rattle.called_methods.specs.Promises.{broken_promise}
@@ -54,9 +54,14 @@ abbrev pub missing_at_return : Program → BodyId → Origin → Rule → Names
 missing_at_return p b o rules.Narrow = beyond_type p o.class (result_type p b)
 missing_at_return p b o rule = must_of p o.class
 
+-- The result has moved. Where it is an alias, the caller still has what it is an alias of, and believes what the method
+-- promises of that.
+abbrev pub moved_away : Program → BodyId → Origin → Completion → Fact → Outcome
+moved_away p b o c f = if is_alias f.mode then promise_at_end (broken_promise p b o (actions.End c) f) else Gone
+
 abbrev pub after_return : Program → BodyId → Origin → Completion → Fact → Moved → Outcome
 after_return p b o c f Stays = left_at_end p b o c f
-after_return p b o c f Moves = Gone
+after_return p b o c f Moves = moved_away p b o c f
 after_return p b o c f (Bad rule) = Fault rule (missing_at_return p b o rule)
 
 -- the end of a body: first the result moves

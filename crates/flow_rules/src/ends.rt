@@ -1,7 +1,7 @@
 //! What the end of a body makes of a fact.
 
 ghost use Rattle.std.specs.Prelude.{◌≡◌};
-ghost use Rattle.flow_rules.specs.Ends.{after_return, alias_never_returned, constructor_throws, ended, exit_rule, is_throw, left_at_end, missing_at_return, promise_at_end};
+ghost use Rattle.flow_rules.specs.Ends.{after_return, alias_never_returned, constructor_throws, ended, exit_rule, is_throw, left_at_end, missing_at_return, moved_away, promise_at_end};
 ghost use Rattle.java_control.specs.declared.action.Action.TheVariants as actions;
 ghost use Rattle.obligation_facts.specs.SmallActions.{IsSmallAction};
 ghost use Rattle.ownership_rules.specs.Room.{HasRoom};
@@ -9,7 +9,7 @@ ghost use Rattle.ownership_rules.specs.Room.{HasRoom};
 use called_methods::ensures_at;
 use java_control::{Action, Completion, Fact, Origin, Outcome, Rule};
 use must_call_sets::{alias_position, beyond_type, is_constructor, is_heavy_class, must};
-use obligation_facts::{has_field, is_held, is_met, is_origin_at, missing, owes};
+use obligation_facts::{has_field, is_alias, is_held, is_met, is_origin_at, missing, owes};
 use ownership_rules::{Moved, move_at_return, result_type};
 use program_model::{BodyId, Program};
 use rlc_base::NameSet;
@@ -107,6 +107,24 @@ fn missing_at_return(p: &Program, b: BodyId, origin: &Origin, rule: Rule) -> Nam
     }
 }
 
+// The result has moved. Where it is an alias, the caller believes what the method promises of what it is an alias of.
+fn moved_away(
+    p: &Program,
+    b: BodyId,
+    origin: &Origin,
+    completion: Completion,
+    fact: &Fact,
+) -> Outcome
+    requires { HasRoom p.now b }
+    ensures { result ≡ moved_away p.now b origin.now completion fact.now }
+{
+    if is_alias(fact.mode) {
+        promise_at_end(ensures_at(p, b, origin, Action::End(completion), fact))
+    } else {
+        Outcome::Gone
+    }
+}
+
 fn after_return(
     p: &Program,
     b: BodyId,
@@ -120,7 +138,7 @@ fn after_return(
 {
     match moved {
         Moved::Stays => left_at_end(p, b, origin, completion, fact),
-        Moved::Moves => Outcome::Gone,
+        Moved::Moves => moved_away(p, b, origin, completion, fact),
         Moved::Bad(rule) => Outcome::Fault(rule, missing_at_return(p, b, origin, rule)),
     }
 }

@@ -1,3 +1,2 @@
 -- What the contracts of cases of graphs speak of.
 pub mod Answers
-pub mod Counts

@@ -1,6 +1,6 @@
 // What is given for the method that a section names.
 
-ghost use Rattle.std.specs.Prelude.{◌≡◌, ◌↔◌, IfErr, IfOk, IsTrue};
+ghost use Rattle.std.specs.Prelude.{IfErr, IfOk};
 ghost use Rattle.graph_cases.specs.Answers.{IsGiveFault, IsGiven, IsStopLine};
 
 use case_files::FormFail;
@@ -43,11 +43,4 @@ pub fn given(
         None => Err(FormFail::Section),
         Some(number) => Ok(graph_answer(alloc, p, number, with_arcs)?),
     }
-}
-
-/// Whether the text that is given is the one that is wanted.
-pub fn agrees(given: &Text, wanted: &str) -> bool
-    ensures { IsTrue result ↔ given.now ≡ wanted.now }
-{
-    given.bytes() == wanted.as_bytes()
 }

@@ -1,35 +1,12 @@
 //! The cases of a file, run one after the other.
 
-use crate::answers::{agrees, given};
-use crate::count::Count;
+use crate::answers::given;
 use crate::programs::program_of;
-use case_files::{Case, FormFail, Section, read_cases};
+use case_files::{Case, Count, Cut, FormFail, Section, read_cases, same_text};
 use outside::Files;
 use program_model::Program;
 use rlc_base::Stop;
 use std::alloc::Global;
-use std::io;
-
-/// Why the run of a file was cut short.
-#[derive(Debug, Drop)]
-pub enum Cut {
-    /// The file or one of its cases is malformed.
-    Form(FormFail),
-    /// What was to be printed was not.
-    Output(io::Error),
-}
-
-impl From<FormFail> for Cut {
-    fn from(fail: FormFail) -> Cut {
-        Cut::Form(fail)
-    }
-}
-
-impl From<io::Error> for Cut {
-    fn from(error: io::Error) -> Cut {
-        Cut::Output(error)
-    }
-}
 
 // Whether a method has the graph that its section wants; prints the section where it has another. The arcs are compared where more
 // than one line is wanted.
@@ -42,7 +19,7 @@ fn run_section(
 ) -> Result<bool, Cut> {
     let with_arcs = 1 < section.body.lines().count();
     let text = given(alloc, program, name.as_bytes(), with_arcs)?;
-    if agrees(&text, &section.body) {
+    if same_text(text.bytes(), section.body.as_bytes()) {
         return Ok(true);
     }
     let words = str::from_utf8(text.bytes()).unwrap_or("bytes that are no text\n");

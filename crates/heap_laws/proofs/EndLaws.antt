@@ -1,5 +1,5 @@
 -- What a frame or an object gives up at its end.
-use Rattle.std.proofs.Common.{◌≡◌, ◌⊎◌, inl, inr, ℕ, Bool, true, false, Option, Some, None, option_map, refl, sym, ap, ◌∙◌, subst, if◌then◌else◌}
+use Rattle.std.proofs.Common.{◌≡◌, inl, inr, ℕ, Bool, true, false, Option, Some, None, option_map, refl, sym, ◌∙◌, subst, if◌then◌else◌}
 use Rattle.ledger_state.specs.Contents.{HeapContents}
 use Rattle.ledger_state.specs.Heaps.{change_each, next_number, object_at}
 use Rattle.ledger_state.specs.declared.object.Object.{Object}

@@ -1,12 +1,17 @@
 -- The laws, under their names, for the crates above.
 use Rattle.std.specs.FinSet as set
 use Rattle.std.specs.Option.{option_map}
-use Rattle.heap_laws.specs.Heaps.{Evolves, GoesOn, IsGiven, IsKeptOr, IsMovedFrom, IsOlder, IsUnlinked}
-use Rattle.ledger_calls.specs.Calls.{move_params}
+use Rattle.heap_laws.specs.Heaps.{Evolves, GoesOn, HasLibraryLinks, HasSmallName, IsGiven, IsKeptOr, IsMovedFrom, IsOlder, KeepsLinks}
+use Rattle.ledger_steps.specs.Calls.{move_params}
 use Rattle.ledger_entries.specs.Entries.{birth_entries, called_entries, leak_entries, owner_entries, reset_entries}
-use Rattle.ledger_obligations.specs.Obligations.{all_notes, end_frame, end_holder, has_note, is_frame, is_held_by, is_unmet, lose, may_move, move, noted, noted_object, owner_holds}
+use Rattle.ledger_obligations.specs.Obligations.{all_notes, end_frame, end_holder, follows, has_note, is_frame, is_held_by, is_unmet, lose, may_move, move, name_of, note, noted, noted_object, own_promises, owner_holds}
 use Rattle.ledger_obligations.specs.declared.note.Note.{Note}
 use Rattle.ledger_state.specs.Contents.{HeapContents}
+use Rattle.ledger_state.specs.Fields.{field_value}
+use Rattle.ledger_state.specs.declared.object.Link.{Link}
+use Rattle.must_call_sets.specs.Signatures.{is_of_field, promised_names}
+use Rattle.program_model.specs.declared.kinds.FieldId.{FieldId}
+use Rattle.rlc_base.specs.declared.name_id.NameId.{NameId}
 use Rattle.ledger_state.specs.Heaps.{append, change_each, next_number, object_at, root, root_of, unfinished}
 use Rattle.ledger_state.specs.declared.entry.Entry.{Entry}
 use Rattle.ledger_state.specs.declared.entry.LeakWord.{LeakWord}
@@ -19,15 +24,18 @@ use Rattle.program_model.specs.declared.kinds.VType.{VType}
 use Rattle.program_model.specs.declared.program.ParamSig.{ParamSig}
 use Rattle.program_model.specs.declared.program.Program.{Program}
 use Rattle.rlc_base.specs.declared.place.Pos.{Pos}
-use Rattle.run_command.specs.RunAnswers.{is_leak}
-use Rattle.std.specs.List.{list_any}
+use Rattle.ledger_state.specs.Leaks.{is_leak}
+use Rattle.std.specs.List.{All, list_any}
 use Rattle.std.proofs.Common.{refl}
-use Rattle.std.specs.Prelude.{Option, if◌then◌else◌, List, Some, [], false, nat_eq, slice_get, true, ℕ, ◌+◌, ◌<◌, ◌≡◌, ◌⊎◌}
+use Rattle.std.specs.Prelude.{Option, if◌then◌else◌, List, Some, [], false, nat_eq, None, slice_get, true, ℕ, ◌+◌, ◌<◌, ◌≡◌, ◌⊎◌}
+use Rattle.heap_laws.proofs.LinkLaws.{appended_evolves, appended_links, frame_evolves, frame_links, holder_evolves, holder_links, lost_evolves, lost_links, moved_links, noted_links, value_evolves, value_links}
 use Rattle.heap_laws.proofs.EndLaws.{frame_back, holder_back}
 use Rattle.heap_laws.proofs.LineLaws.{birth_none, called_none, end_none, holder_none, leaks_unchanged, owner_none, reset_none, step_none}
 use Rattle.heap_laws.proofs.MoveLaws.{moved_back, moved_takes, params_caused, params_count, params_evolve, params_given, params_older}
 use Rattle.heap_laws.proofs.NoteLaws.{noted_evolves, noted_goes_on, noted_has}
-use Rattle.heap_laws.proofs.ObjectLaws.{appended_at, appended_count, changed_at, changed_count, evolves_further, evolves_self, in_range, not_lost, root_changed, unchanged, unlinked_root, unlinked_value}
+use Rattle.heap_laws.proofs.ObjectLaws.{appended_at, appended_count, changed_at, changed_count, evolves_further, evolves_self, in_range, not_lost, root_changed, unchanged}
+use Rattle.heap_laws.proofs.FollowLaws.{all_closed, content_noted, names_noted, root_noted}
+use Rattle.heap_laws.proofs.RootLaws.{evolves_links, library_links_go_on, root_absent, root_goes_on, root_is_not_linked, root_itself, root_linked, root_of_goes_on, root_there}
 
 pub changed_object_at-object : (change : ℕ → Object → Object) (h : HeapContents) (k : ℕ) → object_at (change_each change h) k ≡ option_map (change k) (object_at h k)
 changed_object_at-object = changed_at
@@ -56,11 +64,34 @@ evolving_heaps-same = evolves_self
 pub evolving_heaps-further : (h k j : HeapContents) → Evolves h k → Evolves k j → Evolves h j
 evolving_heaps-further = evolves_further
 
-pub roots_of_unlinked-root : (h : HeapContents) (k : ℕ) → IsUnlinked h → root h k ≡ k
-roots_of_unlinked-root = unlinked_root
+pub evolving_heaps-links : (h k : HeapContents) → Evolves h k → KeepsLinks h k
+evolving_heaps-links = evolves_links
 
-pub roots_of_unlinked-value : (h k : HeapContents) (v : Value) → IsUnlinked h → IsUnlinked k → root_of h v ≡ root_of k v
-roots_of_unlinked-value = unlinked_value
+pub roots_of_links-itself : (h : HeapContents) (k : ℕ) (x : Object) → object_at h k ≡ Some x → x.link ≡ None → root h k ≡ k
+roots_of_links-itself = root_itself
+
+pub roots_of_links-there : (h : HeapContents) (k : ℕ) (x : Object) → HasLibraryLinks h → object_at h k ≡ Some x → (y : Object) × (object_at h (root h k) ≡ Some y) × (y.link ≡ None)
+roots_of_links-there = root_there
+
+pub roots_of_links-linked : (h : HeapContents) (k : ℕ) (x : Object) (l : Link) → HasLibraryLinks h → object_at h k ≡ Some x → x.link ≡ Some l → root h k ≡ root h l.to
+roots_of_links-linked = root_linked
+
+pub roots_of_links-absent : (h : HeapContents) (k : ℕ) → object_at h k ≡ None → root h k ≡ k
+roots_of_links-absent = root_absent
+
+pub roots_go_on-number : (h k : HeapContents) (n : ℕ) (x : Object) → HasLibraryLinks h → KeepsLinks h k → object_at h n ≡ Some x → root k n ≡ root h n
+roots_go_on-number = root_goes_on
+
+pub roots_go_on-value : (h k : HeapContents) (v : Value) (o : ℕ) (x : Object) → HasLibraryLinks h → KeepsLinks h k → root_of h v ≡ Some o → object_at h o ≡ Some x → root_of k v ≡ Some o
+roots_go_on-value = root_of_goes_on
+
+pub roots_go_on-root : (h : HeapContents) (v : Value) (o : ℕ) (x : Object) → HasLibraryLinks h → root_of h v ≡ Some o → object_at h o ≡ Some x → x.link ≡ None
+roots_go_on-root = root_is_not_linked
+
+pub links_go_on : (h k : HeapContents) → HasLibraryLinks h
+    → ((n : ℕ) (y : Object) (l : Link) → object_at k n ≡ Some y → y.link ≡ Some l → (x : Object) × (object_at h n ≡ Some x) × (x.link ≡ Some l) × (y.owner ≡ x.owner) × (y.finished ≡ x.finished))
+    → HasLibraryLinks k
+links_go_on = library_links_go_on
 
 pub root_of_changed : (change : ℕ → Object → Object) (h : HeapContents) (k : ℕ) → ((n : ℕ) (x : Object) → (change n x).link ≡ x.link) → root (change_each change h) k ≡ root h k
 root_of_changed = root_changed
@@ -88,6 +119,23 @@ notes_add_names-heap = noted_evolves
 
 pub noted_names_stand : (p : Program) (notes : List Note) (h : HeapContents) (a : Note) (x : Object) → has_note notes a ≡ true → a.name.0 < 128 → set.contains (noted_object (all_notes p h notes) a.object x).called a.name.0 ≡ true
 noted_names_stand = noted_has
+
+pub following_notes_stand : (p : Program) (notes : List Note) (h : HeapContents) (a b : Note) → All HasSmallName notes → has_note (all_notes p h notes) a ≡ true → has_note (follows p h a) b ≡ true → has_note (all_notes p h notes) b ≡ true
+following_notes_stand p notes h a b small = all_closed p h notes small a b
+
+pub called_names_are_noted : (p : Program) (notes : List Note) (h : HeapContents) (k i : ℕ) (x : Object) → set.contains (noted_object (all_notes p h notes) k x).called i ≡ true
+    → (set.contains x.called i ≡ true) ⊎ ((has_note notes (note false k (name_of i)) ≡ true) ⊎ (has_note (all_notes p h notes) (note true k (name_of i)) ≡ true))
+called_names_are_noted p notes h k i x = names_noted p h notes k i x
+
+pub noted_names_reach_roots : (p : Program) (notes : List Note) (h : HeapContents) (a : Note) (x y : Object) → HasLibraryLinks h → has_note notes a ≡ true → a.name.0 < 128 → object_at h a.object ≡ Some x
+    → object_at (noted p notes h) (root h a.object) ≡ Some y → set.contains y.called a.name.0 ≡ true
+noted_names_reach_roots p notes h a x y links = root_noted p h links notes a x y
+
+pub kept_names_reach_contents : (p : Program) (notes : List Note) (h : HeapContents) (w o i : ℕ) (n : NameId) (x y : Object) (f : FieldId) → HasLibraryLinks h → All HasSmallName notes
+    → has_note (all_notes p h notes) (note true w n) ≡ true → object_at h w ≡ Some x
+    → set.contains (promised_names (λ t. is_of_field t f) (own_promises p x.class n)) i ≡ true → i < 128
+    → root_of h (field_value p h w f) ≡ Some o → object_at (noted p notes h) o ≡ Some y → set.contains y.called i ≡ true
+kept_names_reach_contents p notes h w o i n x y f links = content_noted p h links notes w o i n x y f
 
 pub owner_lines_leak_nothing : (p : Program) (pos : Pos) (h k : HeapContents) → list_any is_leak (owner_entries p pos h k) ≡ false
 owner_lines_leak_nothing = owner_none
@@ -131,3 +179,39 @@ ended_holder_gives_up w h n y at = holder_back (Some w) h n y at
 pub end_of_holder_leaks_nothing : (p : Program) (word : LeakWord) (pos : Pos) (w : Option ℕ) (h : HeapContents) → ((n : ℕ) (x : Object) (k : ℕ) → object_at h n ≡ Some x → is_held_by x.owner k ≡ true → is_unmet x ≡ false)
     → leak_entries p word pos h (end_holder w h) ≡ []
 end_of_holder_leaks_nothing = holder_none
+
+pub links_stay-moved : (p : Program) (o : Owner) (arguments : ℕ → Value) (k : ℕ) (params : List ParamSig) (h : HeapContents) → HasLibraryLinks h → HasLibraryLinks (move_params p o arguments k params h)
+links_stay-moved = moved_links
+
+pub links_stay-value : (p : Program) (t : VType) (o : Owner) (v : Value) (h : HeapContents) → HasLibraryLinks h → HasLibraryLinks (move p t o v h)
+links_stay-value = value_links
+
+pub links_stay-made : (h : HeapContents) (c : ClassId) → HasLibraryLinks h → HasLibraryLinks (append h c)
+links_stay-made = appended_links
+
+pub links_stay-noted : (p : Program) (notes : List Note) (h : HeapContents) → HasLibraryLinks h → HasLibraryLinks (noted p notes h)
+links_stay-noted = noted_links
+
+pub links_stay-frame : (j : ℕ) (h : HeapContents) → HasLibraryLinks h → HasLibraryLinks (end_frame j h)
+links_stay-frame = frame_links
+
+pub links_stay-holder : (w : Option ℕ) (h : HeapContents) → HasLibraryLinks h → HasLibraryLinks (end_holder w h)
+links_stay-holder = holder_links
+
+pub links_stay-lost : (held : List (List Value)) (h : HeapContents) → HasLibraryLinks h → HasLibraryLinks (lose held h)
+links_stay-lost = lost_links
+
+pub objects_go_on-value : (p : Program) (t : VType) (o : Owner) (v : Value) (h : HeapContents) → Evolves h (move p t o v h)
+objects_go_on-value = value_evolves
+
+pub objects_go_on-made : (h : HeapContents) (c : ClassId) → Evolves h (append h c)
+objects_go_on-made = appended_evolves
+
+pub objects_go_on-frame : (j : ℕ) (h : HeapContents) → Evolves h (end_frame j h)
+objects_go_on-frame = frame_evolves
+
+pub objects_go_on-holder : (w : Option ℕ) (h : HeapContents) → Evolves h (end_holder w h)
+objects_go_on-holder = holder_evolves
+
+pub objects_go_on-lost : (held : List (List Value)) (h : HeapContents) → Evolves h (lose held h)
+objects_go_on-lost = lost_evolves

@@ -1,6 +1,11 @@
 pub mod ObjectLaws
+pub mod RootLaws
 pub mod NoteLaws
+pub mod NoteLists
+pub mod NoteCounts
+pub mod FollowLaws
 pub mod MoveLaws
 pub mod LineLaws
 pub mod EndLaws
 pub mod Laws
+pub mod LinkLaws

@@ -47,7 +47,7 @@ same_parts a b is =
     let second = and_parts (nat_eq a.object b.object) (nat_eq a.name.0 b.name.0) first.0 in
     (eqb-true a.object b.object second.0, eqb-true a.name.0 b.name.0 second.1, equal_bools a.kept b.kept first.1)
 
-one_note : (a b : Note) → same_note a b ≡ true → a ≡ b
+pub one_note : (a b : Note) → same_note a b ≡ true → a ≡ b
 one_note a b is =
     let parts = same_parts a b is in
     ap (λ (k : ℕ). (let z : Note = record a { object = k } in z)) parts.0
@@ -55,7 +55,7 @@ one_note a b is =
     ∙ ap (λ (c : Bool). (let z : Note = record b { kept = c } in z)) parts.2
 
 -- the name of a note is there
-name_stands : (ns : List Note) (s : Names) (a : Note) → has_note ns a ≡ true → a.name.0 < 128 → set.contains (with_names s (filter (is_of a.object) ns)) a.name.0 ≡ true
+pub name_stands : (ns : List Note) (s : Names) (a : Note) → has_note ns a ≡ true → a.name.0 < 128 → set.contains (with_names s (filter (is_of a.object) ns)) a.name.0 ≡ true
 name_stands [] s a has small = absurd (true≢false (sym has))
 name_stands (b ∷ bs) s a has small = go (same_note a b) refl (nat_eq b.object a.object) refl has (λ t more. name_stands bs t a more small)
   where
@@ -83,7 +83,7 @@ has_last : (ms : List Note) (a b : Note) → same_note a b ≡ true → has_note
 has_last [] a b same = or_left (same_note a b) false same
 has_last (m ∷ ms) a b same = or_right (same_note a m) (has_note (ms ++ b ∷ []) a) (has_last ms a b same)
 
-joined_keep : (ms ns : List Note) (a : Note) → has_note ms a ≡ true → has_note (joined ms ns) a ≡ true
+pub joined_keep : (ms ns : List Note) (a : Note) → has_note ms a ≡ true → has_note (joined ms ns) a ≡ true
 joined_keep ms [] a has = has
 joined_keep ms (b ∷ bs) a has = go (has_note ms b) (joined_keep ms bs a has) (joined_keep (ms ++ b ∷ []) bs a (has_left ms (b ∷ []) a has))
   where
@@ -91,7 +91,7 @@ joined_keep ms (b ∷ bs) a has = go (has_note ms b) (joined_keep ms bs a has) (
     go true old new = old
     go false old new = new
 
-joined_add : (ms ns : List Note) (a : Note) → has_note ns a ≡ true → has_note (joined ms ns) a ≡ true
+pub joined_add : (ms ns : List Note) (a : Note) → has_note ns a ≡ true → has_note (joined ms ns) a ≡ true
 joined_add ms [] a has = absurd (true≢false (sym has))
 joined_add ms (b ∷ bs) a has = go (has_note ms b) refl (same_note a b) refl has (joined_add ms bs a) (joined_add (ms ++ b ∷ []) bs a)
   where
@@ -103,7 +103,7 @@ joined_add ms (b ∷ bs) a has = go (has_note ms b) refl (same_note a b) refl ha
     go false fresh true same one old new = joined_keep (ms ++ b ∷ []) bs a (has_last ms a b same)
     go false fresh false other one old new = new one
 
-spread_keep : (n : ℕ) (p : Program) (h : HeapContents) (ns : List Note) (a : Note) → has_note ns a ≡ true → has_note (spread n p h ns) a ≡ true
+pub spread_keep : (n : ℕ) (p : Program) (h : HeapContents) (ns : List Note) (a : Note) → has_note ns a ≡ true → has_note (spread n p h ns) a ≡ true
 spread_keep zero p h ns a has = has
 spread_keep (suc n) p h ns a has = spread_keep n p h (joined ns (flat_map (follows p h) ns)) a (joined_keep ns (flat_map (follows p h) ns) a has)
 
@@ -111,3 +111,8 @@ pub noted_has : (p : Program) (notes : List Note) (h : HeapContents) (a : Note) 
     → set.contains (noted_object (all_notes p h notes) a.object x).called a.name.0 ≡ true
 noted_has p notes h a x has small =
     name_stands (all_notes p h notes) x.called a (spread_keep (256 * length h.objects) p h (joined [] notes) a (joined_add [] notes a has)) small
+
+-- what stands among all notes was called
+pub stands_noted : (p : Program) (notes : List Note) (h : HeapContents) (a : Note) (x : Object) → has_note (all_notes p h notes) a ≡ true → a.name.0 < 128
+    → set.contains (noted_object (all_notes p h notes) a.object x).called a.name.0 ≡ true
+stands_noted p notes h a x has small = name_stands (all_notes p h notes) x.called a has small

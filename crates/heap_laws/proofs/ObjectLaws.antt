@@ -1,5 +1,5 @@
 -- Objects by their numbers, through changes of a heap.
-use Rattle.std.proofs.Common.{◌≡◌, ℕ, zero, suc, ◌+◌, ◌<◌, Bool, true, false, Option, Some, None, List, [], ◌∷◌, ◌++◌, length, slice_get, option_map, nat_eq, refl, sym, ap, ◌∙◌, subst, if◌then◌else◌, arith}
+use Rattle.std.proofs.Common.{◌≡◌, ℕ, zero, suc, ◌+◌, ◌<◌, Bool, true, false, Option, Some, None, List, [], ◌∷◌, ◌++◌, length, slice_get, option_map, nat_eq, refl, ap, ◌∙◌, subst, if◌then◌else◌, arith}
 use Rattle.std.proofs.lemmas.Grind.{common_steps}
 use Rattle.std.proofs.lemmas.Option.{slice_get_within}
 use Rattle.program_model.specs.declared.kinds.ClassId.{ClassId}
@@ -10,7 +10,7 @@ use Rattle.ledger_state.specs.declared.object.Object.{Object}
 use Rattle.ledger_state.specs.declared.value.Value.{Value}
 use Rattle.ledger_state.specs.declared.value.Value.TheVariants as values
 use Rattle.ledger_obligations.specs.Obligations.{is_unmet, lose, lost_object, owner_holds}
-use Rattle.heap_laws.specs.Heaps.{Evolves, GoesOn, IsUnlinked}
+use Rattle.heap_laws.specs.Heaps.{Evolves, GoesOn}
 
 changed_get : (f : ℕ → Object → Object) (j i n : ℕ) (xs : List Object) → n ≡ j + i → slice_get (changed_from j f xs) i ≡ option_map (f n) (slice_get xs i)
 changed_get f j zero n [] same = refl
@@ -107,19 +107,3 @@ pub root_of_value_changed : (change : ℕ → Object → Object) (h : HeapConten
 root_of_value_changed f h values.Nothing keeps = refl
 root_of_value_changed f h (values.Object k) keeps = ap Some (root_changed f h k keeps)
 root_of_value_changed f h v keeps = refl
-
-no_link : (h : HeapContents) (k : ℕ) → IsUnlinked h → (x : Option Object) → object_at h k ≡ x → link_of x ≡ None
-no_link h k unlinked None at = refl
-no_link h k unlinked (Some x) at = ap linked_by (unlinked k x at)
-
-unlinked_within : (n : ℕ) (h : HeapContents) (k : ℕ) → IsUnlinked h → root_within n h k ≡ k
-unlinked_within zero h k unlinked = refl
-unlinked_within (suc n) h k unlinked = ap (λ (l : Option ℕ). follow (root_within n h) k l) (no_link h k unlinked (object_at h k) refl)
-
-pub unlinked_root : (h : HeapContents) (k : ℕ) → IsUnlinked h → root h k ≡ k
-unlinked_root h k unlinked = unlinked_within (length h.objects) h k unlinked
-
-pub unlinked_value : (h k : HeapContents) (v : Value) → IsUnlinked h → IsUnlinked k → root_of h v ≡ root_of k v
-unlinked_value h k values.Nothing uh uk = refl
-unlinked_value h k (values.Object n) uh uk = ap Some (unlinked_root h n uh ∙ sym (unlinked_root k n uk))
-unlinked_value h k v uh uk = refl

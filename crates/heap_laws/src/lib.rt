@@ -18,9 +18,14 @@ pub use moves::{
     given_arguments_are_owned, moved_arguments_are_given, moved_arguments_are_older, moved_value,
     moves_make_nothing,
 };
-pub use notes::{noted_names_stand, notes_add_names};
+pub use notes::{
+    called_names_are_noted, following_notes_stand, kept_names_reach_contents,
+    noted_names_reach_roots, noted_names_stand, notes_add_names,
+};
 pub use objects::{
     appended_object_at, changed_object_at, evolving_heaps, nothing_is_changed, nothing_is_lost,
     numbers_are_in_range,
 };
-pub use roots::{root_of_changed, roots_of_unlinked};
+pub use roots::{
+    links_go_on, links_stay, objects_go_on, root_of_changed, roots_go_on, roots_of_links,
+};

@@ -13,7 +13,7 @@ ghost use Rattle.ledger_state.specs.declared.value.Value.{Value};
 ghost use Rattle.ledger_obligations.specs.Obligations.{end_frame, end_holder, is_frame, is_held_by, is_unmet, lose};
 ghost use Rattle.ledger_entries.specs.Entries.{birth_entries, called_entries, leak_entries, owner_entries, reset_entries};
 ghost use Rattle.ledger_steps.specs.Effects.{left};
-ghost use Rattle.run_command.specs.RunAnswers.{is_leak};
+ghost use Rattle.ledger_state.specs.Leaks.{is_leak};
 
 /// A line of an owner is no leak.
 pub fn owner_lines_leak_nothing()

@@ -1,13 +1,19 @@
 //! Notes of calls. Each law is the contract of a function that does nothing.
 
-ghost use Rattle.std.specs.Prelude.{◌≡◌, ℕ, ◌<◌, true, List};
+ghost use Rattle.std.specs.Prelude.{◌≡◌, ◌⊎◌, ℕ, ◌<◌, true, false, Some, List};
+ghost use Rattle.std.specs.List.{All};
 ghost use Rattle.std.specs.FinSet as set;
+ghost use Rattle.rlc_base.specs.declared.name_id.NameId.{NameId};
+ghost use Rattle.program_model.specs.declared.kinds.FieldId.{FieldId};
 ghost use Rattle.program_model.specs.declared.program.Program.{Program};
+ghost use Rattle.must_call_sets.specs.Signatures.{is_of_field, promised_names};
 ghost use Rattle.ledger_state.specs.Contents.{HeapContents};
+ghost use Rattle.ledger_state.specs.Fields.{field_value};
+ghost use Rattle.ledger_state.specs.Heaps.{object_at, root, root_of};
 ghost use Rattle.ledger_state.specs.declared.object.Object.{Object};
 ghost use Rattle.ledger_obligations.specs.declared.note.Note.{Note};
-ghost use Rattle.ledger_obligations.specs.Obligations.{all_notes, has_note, noted, noted_object};
-ghost use Rattle.heap_laws.specs.Heaps.{Evolves, GoesOn};
+ghost use Rattle.ledger_obligations.specs.Obligations.{all_notes, follows, has_note, name_of, note, noted, noted_object, own_promises};
+ghost use Rattle.heap_laws.specs.Heaps.{Evolves, GoesOn, HasLibraryLinks, HasSmallName};
 
 /// Notes add names to what was called on an object, and change nothing else.
 pub fn notes_add_names()
@@ -20,4 +26,31 @@ pub fn notes_add_names()
 pub fn noted_names_stand()
     ensures { (p : Program) (notes : List Note) (h : HeapContents) (a : Note) (x : Object) → has_note notes a ≡ true → a.name.0 < 128
         → set.contains (noted_object (all_notes p h notes) a.object x).called a.name.0 ≡ true }
+{}
+
+/// What follows from a note that stands stands too: the turns are as many as there are notes.
+pub fn following_notes_stand()
+    ensures { (p : Program) (notes : List Note) (h : HeapContents) (a b : Note) → All HasSmallName notes → has_note (all_notes p h notes) a ≡ true → has_note (follows p h a) b ≡ true
+        → has_note (all_notes p h notes) b ≡ true }
+{}
+
+/// A name that was called on an object after the notes was called before, or is noted: it is one of the first notes, or it is kept.
+pub fn called_names_are_noted()
+    ensures { (p : Program) (notes : List Note) (h : HeapContents) (k i : ℕ) (x : Object) → set.contains (noted_object (all_notes p h notes) k x).called i ≡ true
+        → (set.contains x.called i ≡ true) ⊎ ((has_note notes (note false k (name_of i)) ≡ true) ⊎ (has_note (all_notes p h notes) (note true k (name_of i)) ≡ true)) }
+{}
+
+/// A name that is noted on an object was called on its root.
+pub fn noted_names_reach_roots()
+    ensures { (p : Program) (notes : List Note) (h : HeapContents) (a : Note) (x y : Object) → HasLibraryLinks h → has_note notes a ≡ true → a.name.0 < 128 → object_at h a.object ≡ Some x
+        → object_at (noted p notes h) (root h a.object) ≡ Some y → set.contains y.called a.name.0 ≡ true }
+{}
+
+/// Where a name is kept on an object, all that the object's own method of that name promises on a field was called on the root of what
+/// the field holds.
+pub fn kept_names_reach_contents()
+    ensures { (p : Program) (notes : List Note) (h : HeapContents) (w o i : ℕ) (n : NameId) (x y : Object) (f : FieldId) → HasLibraryLinks h → All HasSmallName notes
+        → has_note (all_notes p h notes) (note true w n) ≡ true → object_at h w ≡ Some x
+        → set.contains (promised_names (λ t. is_of_field t f) (own_promises p x.class n)) i ≡ true → i < 128
+        → root_of h (field_value p h w f) ≡ Some o → object_at (noted p notes h) o ≡ Some y → set.contains y.called i ≡ true }
 {}

@@ -8,7 +8,7 @@ ghost use Rattle.ledger_state.specs.Heaps.{append, change_each, next_number, obj
 ghost use Rattle.ledger_state.specs.declared.object.Object.{Object};
 ghost use Rattle.ledger_state.specs.declared.value.Value.{Value};
 ghost use Rattle.ledger_obligations.specs.Obligations.{is_unmet, lose, owner_holds};
-ghost use Rattle.heap_laws.specs.Heaps.{Evolves};
+ghost use Rattle.heap_laws.specs.Heaps.{Evolves, KeepsLinks};
 
 /// An object that is changed by its number.
 pub fn changed_object_at()
@@ -38,8 +38,9 @@ pub fn nothing_is_lost()
         → lose held h ≡ h }
 {}
 
-/// Heaps evolve from themselves, and step by step.
+/// Heaps evolve from themselves, and step by step, and links stay.
 pub fn evolving_heaps()
     ensures same { (h : HeapContents) → Evolves h h }
     ensures further { (h k j : HeapContents) → Evolves h k → Evolves k j → Evolves h j }
+    ensures links { (h k : HeapContents) → Evolves h k → KeepsLinks h k }
 {}

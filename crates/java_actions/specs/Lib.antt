@@ -3,3 +3,4 @@ pub mod ExpressionActions
 pub mod AnnotationActions
 pub mod StatementActions
 pub mod DeclarationActions
+pub mod Leaves

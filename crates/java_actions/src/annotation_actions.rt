@@ -5,6 +5,7 @@ ghost use Rattle.java_values.specs.Nodes.{Gives, IsNoMisfit};
 ghost use Rattle.java_actions.specs.AnnotationActions.{takes_annotation, perform_annotation};
 ghost use Rattle.java_syntax.specs.declared.actions.AnnotationAction.TheVariants as action;
 
+use crate::leaves::{leave_annotation_value, leave_modifier};
 use java_syntax::{AnnotationAction, Modifier};
 use java_values::{
     BuildFail, Place, Value, added, annotation, annotation_as_value, argument, expression_value,
@@ -67,8 +68,8 @@ fn expression_value_action(limit: u32, stack: &mut Vec<Value>) -> Result<(), Bui
     ensures { Gives (λ _. values_of stack.new.items) result (perform_annotation limit action.ExpressionValue (values_of stack.old.items)) }
 {
     let e = pop_expression(stack);
-    let made = expression_value(limit, e)?;
-    leave(stack, Value::AnnotationValue(made))
+    let made = expression_value(limit, e);
+    leave_annotation_value(stack, made)
 }
 
 /// An annotation as a value.
@@ -78,8 +79,8 @@ fn annotation_value_action(limit: u32, stack: &mut Vec<Value>) -> Result<(), Bui
     ensures { Gives (λ _. values_of stack.new.items) result (perform_annotation limit action.AnnotationValue (values_of stack.old.items)) }
 {
     let a = pop_annotation(stack);
-    let made = annotation_as_value(limit, a)?;
-    leave(stack, Value::AnnotationValue(made))
+    let made = annotation_as_value(limit, a);
+    leave_annotation_value(stack, made)
 }
 
 /// No value in braces yet.
@@ -110,8 +111,8 @@ fn list_value_action(limit: u32, stack: &mut Vec<Value>) -> Result<(), BuildFail
 {
     let all = pop_annotation_values(stack);
     let opened = pop_place(stack);
-    let made = values_as_value(limit, all, opened.pos)?;
-    leave(stack, Value::AnnotationValue(made))
+    let made = values_as_value(limit, all, opened.pos);
+    leave_annotation_value(stack, made)
 }
 
 /// A further annotation.
@@ -142,8 +143,7 @@ fn annotation_modifier_action(stack: &mut Vec<Value>) -> Result<(), BuildFail>
 {
     let one = pop_annotation(stack);
     let all = pop_modifiers(stack);
-    let made = added(all, modifier(one))?;
-    leave(stack, Value::Modifiers(made))
+    leave_modifier(stack, all, modifier(one))
 }
 
 /// The annotation with which a local variable's declaration begins.
@@ -166,8 +166,7 @@ fn public_action(stack: &mut Vec<Value>) -> Result<(), BuildFail>
     ensures { (limit : ℕ) → Gives (λ _. values_of stack.new.items) result (perform_annotation limit action.Public (values_of stack.old.items)) }
 {
     let all = pop_modifiers(stack);
-    let made = added(all, word(Modifier::Public))?;
-    leave(stack, Value::Modifiers(made))
+    leave_modifier(stack, all, word(Modifier::Public))
 }
 
 /// The modifier `protected`.
@@ -177,8 +176,7 @@ fn protected_action(stack: &mut Vec<Value>) -> Result<(), BuildFail>
     ensures { (limit : ℕ) → Gives (λ _. values_of stack.new.items) result (perform_annotation limit action.Protected (values_of stack.old.items)) }
 {
     let all = pop_modifiers(stack);
-    let made = added(all, word(Modifier::Protected))?;
-    leave(stack, Value::Modifiers(made))
+    leave_modifier(stack, all, word(Modifier::Protected))
 }
 
 /// The modifier `private`.
@@ -188,8 +186,7 @@ fn private_action(stack: &mut Vec<Value>) -> Result<(), BuildFail>
     ensures { (limit : ℕ) → Gives (λ _. values_of stack.new.items) result (perform_annotation limit action.Private (values_of stack.old.items)) }
 {
     let all = pop_modifiers(stack);
-    let made = added(all, word(Modifier::Private))?;
-    leave(stack, Value::Modifiers(made))
+    leave_modifier(stack, all, word(Modifier::Private))
 }
 
 /// The modifier `static`.
@@ -199,8 +196,7 @@ fn static_action(stack: &mut Vec<Value>) -> Result<(), BuildFail>
     ensures { (limit : ℕ) → Gives (λ _. values_of stack.new.items) result (perform_annotation limit action.Static (values_of stack.old.items)) }
 {
     let all = pop_modifiers(stack);
-    let made = added(all, word(Modifier::Static))?;
-    leave(stack, Value::Modifiers(made))
+    leave_modifier(stack, all, word(Modifier::Static))
 }
 
 /// The modifier `final`.
@@ -210,8 +206,7 @@ fn final_action(stack: &mut Vec<Value>) -> Result<(), BuildFail>
     ensures { (limit : ℕ) → Gives (λ _. values_of stack.new.items) result (perform_annotation limit action.Final (values_of stack.old.items)) }
 {
     let all = pop_modifiers(stack);
-    let made = added(all, word(Modifier::Final))?;
-    leave(stack, Value::Modifiers(made))
+    leave_modifier(stack, all, word(Modifier::Final))
 }
 
 /// The modifier `abstract`.
@@ -221,8 +216,7 @@ fn abstract_action(stack: &mut Vec<Value>) -> Result<(), BuildFail>
     ensures { (limit : ℕ) → Gives (λ _. values_of stack.new.items) result (perform_annotation limit action.Abstract (values_of stack.old.items)) }
 {
     let all = pop_modifiers(stack);
-    let made = added(all, word(Modifier::Abstract))?;
-    leave(stack, Value::Modifiers(made))
+    leave_modifier(stack, all, word(Modifier::Abstract))
 }
 
 fn dispatch_annotation(

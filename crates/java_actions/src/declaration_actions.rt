@@ -5,6 +5,7 @@ ghost use Rattle.java_values.specs.Nodes.{Gives, IsNoMisfit};
 ghost use Rattle.java_actions.specs.DeclarationActions.{takes_declaration, perform_declaration};
 ghost use Rattle.java_syntax.specs.declared.actions.DeclarationAction.TheVariants as action;
 
+use crate::leaves::leave_member;
 use java_syntax::{
     ClassDecl, ConstructorDecl, DeclarationAction, FieldDecl, Import, Member, MethodDecl, Param,
     SuperCall,
@@ -221,7 +222,7 @@ fn field_action(stack: &mut Vec<Value>) -> Result<(), BuildFail>
         typ,
         variables: variables.tree,
     };
-    leave(stack, Value::Members(appended(all, Member::Field(field))?))
+    leave_member(stack, all, Member::Field(field))
 }
 
 /// No parameter yet.
@@ -311,10 +312,7 @@ fn method_body_action(stack: &mut Vec<Value>) -> Result<(), BuildFail>
         throws,
         body: Some(body.tree),
     };
-    leave(
-        stack,
-        Value::Members(appended(all, Member::Method(method))?),
-    )
+    leave_member(stack, all, Member::Method(method))
 }
 
 /// A method without a body (JLS 8.4, 9.4).
@@ -338,10 +336,7 @@ fn method_head_action(stack: &mut Vec<Value>) -> Result<(), BuildFail>
         throws,
         body: None,
     };
-    leave(
-        stack,
-        Value::Members(appended(all, Member::Method(method))?),
-    )
+    leave_member(stack, all, Member::Method(method))
 }
 
 /// A constructor with its body (JLS 8.8).
@@ -364,10 +359,7 @@ fn constructor_action(stack: &mut Vec<Value>) -> Result<(), BuildFail>
         throws,
         body: Some(body),
     };
-    leave(
-        stack,
-        Value::Members(appended(all, Member::Constructor(constructor))?),
-    )
+    leave_member(stack, all, Member::Constructor(constructor))
 }
 
 /// A constructor without a body, in a stub file.
@@ -389,10 +381,7 @@ fn constructor_head_action(stack: &mut Vec<Value>) -> Result<(), BuildFail>
         throws,
         body: None,
     };
-    leave(
-        stack,
-        Value::Members(appended(all, Member::Constructor(constructor))?),
-    )
+    leave_member(stack, all, Member::Constructor(constructor))
 }
 
 /// A constructor begins with no call of a constructor of the super class.

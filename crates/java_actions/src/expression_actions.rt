@@ -5,6 +5,7 @@ ghost use Rattle.java_values.specs.Nodes.{Gives, IsNoMisfit};
 ghost use Rattle.java_actions.specs.ExpressionActions.{takes_expression, perform_expression};
 ghost use Rattle.java_syntax.specs.declared.actions.ExpressionAction.TheVariants as action;
 
+use crate::leaves::leave_expression;
 use java_syntax::{ExpressionAction, Typ};
 use java_values::{
     BuildFail, Identifiers, LOOSEST, Parenthesized, Value, added, assignment, cast,
@@ -62,8 +63,8 @@ fn head_action(limit: u32, stack: &mut Vec<Value>) -> Result<(), BuildFail>
 {
     let call = pop_call(stack);
     let name = pop_name(stack);
-    let made = head(limit, name, call)?;
-    leave(stack, Value::Expression(made))
+    let made = head(limit, name, call);
+    leave_expression(stack, made)
 }
 
 /// A field access (JLS 15.11), or a call of a method of an expression (JLS 15.12).
@@ -75,8 +76,8 @@ fn selector_action(alloc: Global, limit: u32, stack: &mut Vec<Value>) -> Result<
     let call = pop_call(stack);
     let name = pop_name(stack);
     let target = pop_expression(stack);
-    let made = selector(alloc, limit, target, name, call)?;
-    leave(stack, Value::Expression(made))
+    let made = selector(alloc, limit, target, name, call);
+    leave_expression(stack, made)
 }
 
 /// `super`, `.`, a name and arguments (JLS 15.12).
@@ -87,8 +88,8 @@ fn super_method_call_action(limit: u32, stack: &mut Vec<Value>) -> Result<(), Bu
 {
     let arguments = pop_expressions(stack);
     let name = pop_name(stack);
-    let made = super_call(limit, name.text, arguments, name.pos)?;
-    leave(stack, Value::Expression(made))
+    let made = super_call(limit, name.text, arguments, name.pos);
+    leave_expression(stack, made)
 }
 
 /// Identifiers and arguments: a call whose method the last identifier names.
@@ -99,8 +100,8 @@ fn named_call_action(alloc: Global, limit: u32, stack: &mut Vec<Value>) -> Resul
 {
     let arguments = pop_expressions(stack);
     let names = pop_identifiers(stack);
-    let made = named_call(alloc, limit, names, arguments)?;
-    leave(stack, Value::Expression(made))
+    let made = named_call(alloc, limit, names, arguments);
+    leave_expression(stack, made)
 }
 
 /// Identifiers are an expression (JLS 6.5): a variable and fields.
@@ -114,8 +115,8 @@ fn name_expression_action(
     ensures { Gives (λ _. values_of stack.new.items) result (perform_expression limit action.NameExpression (values_of stack.old.items)) }
 {
     let names = pop_identifiers(stack);
-    let made = name_expression(alloc, limit, names)?;
-    leave(stack, Value::Expression(made))
+    let made = name_expression(alloc, limit, names);
+    leave_expression(stack, made)
 }
 
 /// An element of an array (JLS 15.10.3).
@@ -127,8 +128,8 @@ fn index_action(alloc: Global, limit: u32, stack: &mut Vec<Value>) -> Result<(),
     let position = pop_expression(stack);
     let opened = pop_place(stack);
     let array = pop_expression(stack);
-    let made = index(alloc, limit, array, position, opened.pos)?;
-    leave(stack, Value::Expression(made))
+    let made = index(alloc, limit, array, position, opened.pos);
+    leave_expression(stack, made)
 }
 
 /// An element of the array that identifiers name.
@@ -141,8 +142,8 @@ fn named_index_action(alloc: Global, limit: u32, stack: &mut Vec<Value>) -> Resu
     let opened = pop_place(stack);
     let names = pop_identifiers(stack);
     let array = name_expression(alloc, limit, names)?;
-    let made = index(alloc, limit, array, position, opened.pos)?;
-    leave(stack, Value::Expression(made))
+    let made = index(alloc, limit, array, position, opened.pos);
+    leave_expression(stack, made)
 }
 
 /// A new object (JLS 15.9).
@@ -154,8 +155,8 @@ fn new_object_action(limit: u32, stack: &mut Vec<Value>) -> Result<(), BuildFail
     let arguments = pop_expressions(stack);
     let class = pop_name(stack);
     let word = pop_place(stack);
-    let made = new_object(limit, class, arguments, word.pos)?;
-    leave(stack, Value::Expression(made))
+    let made = new_object(limit, class, arguments, word.pos);
+    leave_expression(stack, made)
 }
 
 /// A new array (JLS 15.10.1).
@@ -167,8 +168,8 @@ fn new_array_action(alloc: Global, limit: u32, stack: &mut Vec<Value>) -> Result
     let length = pop_expression(stack);
     let element = pop_typ(stack);
     let word = pop_place(stack);
-    let made = new_array(alloc, limit, element, length, word.pos)?;
-    leave(stack, Value::Expression(made))
+    let made = new_array(alloc, limit, element, length, word.pos);
+    leave_expression(stack, made)
 }
 
 /// A name is a type (JLS 4.3).
@@ -240,8 +241,8 @@ fn prefix_action(alloc: Global, limit: u32, stack: &mut Vec<Value>) -> Result<()
         prefix_operator(sign.text.bytes()),
         operand,
         sign.pos,
-    )?;
-    leave(stack, Value::Expression(made))
+    );
+    leave_expression(stack, made)
 }
 
 /// `++` or `--` before its operand (JLS 15.15.1).
@@ -262,8 +263,8 @@ fn prefix_increment_action(
         step_operator(sign.text.bytes()),
         operand,
         sign.pos,
-    )?;
-    leave(stack, Value::Expression(made))
+    );
+    leave_expression(stack, made)
 }
 
 /// A cast (JLS 15.16).
@@ -275,8 +276,8 @@ fn cast_action(alloc: Global, limit: u32, stack: &mut Vec<Value>) -> Result<(), 
     let operand = pop_expression(stack);
     let typ = pop_typ(stack);
     let opened = pop_place(stack);
-    let made = cast(alloc, limit, typ, operand, opened.pos)?;
-    leave(stack, Value::Expression(made))
+    let made = cast(alloc, limit, typ, operand, opened.pos);
+    leave_expression(stack, made)
 }
 
 /// An expression in parentheses (JLS 15.8.5).
@@ -286,8 +287,8 @@ fn parentheses_action(limit: u32, stack: &mut Vec<Value>) -> Result<(), BuildFai
     ensures { Gives (λ _. values_of stack.new.items) result (perform_expression limit action.Parentheses (values_of stack.old.items)) }
 {
     let e = pop_expression(stack);
-    let made = parenthesized(limit, e)?;
-    leave(stack, Value::Expression(made))
+    let made = parenthesized(limit, e);
+    leave_expression(stack, made)
 }
 
 /// Parentheses hold identifiers.
@@ -354,8 +355,8 @@ fn parenthesized_expression_action(
         Parenthesized::Array(_) => unreachable!(),
         Parenthesized::Expression(e) => e,
     };
-    let whole = parenthesized(limit, e)?;
-    leave(stack, Value::Expression(whole))
+    let whole = parenthesized(limit, e);
+    leave_expression(stack, whole)
 }
 
 /// An operand, which operators may follow.
@@ -390,8 +391,8 @@ fn instance_of_action(alloc: Global, limit: u32, stack: &mut Vec<Value>) -> Resu
     let typ = pop_typ(stack);
     let word = pop_place(stack);
     let operand = pop_expression(stack);
-    let made = instance(alloc, limit, operand, typ, word.pos)?;
-    leave(stack, Value::Expression(made))
+    let made = instance(alloc, limit, operand, typ, word.pos);
+    leave_expression(stack, made)
 }
 
 /// A condition, `?` and the two alternatives (JLS 15.25).
@@ -404,8 +405,8 @@ fn conditional_action(alloc: Global, limit: u32, stack: &mut Vec<Value>) -> Resu
     let when_true = pop_expression(stack);
     let question = pop_place(stack);
     let condition = pop_expression(stack);
-    let made = conditional(alloc, limit, condition, when_true, when_false, question.pos)?;
-    leave(stack, Value::Expression(made))
+    let made = conditional(alloc, limit, condition, when_true, when_false, question.pos);
+    leave_expression(stack, made)
 }
 
 /// An assignment (JLS 15.26.1).
@@ -417,8 +418,8 @@ fn assignment_action(alloc: Global, limit: u32, stack: &mut Vec<Value>) -> Resul
     let right = pop_expression(stack);
     let word = pop_place(stack);
     let left = pop_expression(stack);
-    let made = assignment(alloc, limit, left, right, word.pos)?;
-    leave(stack, Value::Expression(made))
+    let made = assignment(alloc, limit, left, right, word.pos);
+    leave_expression(stack, made)
 }
 
 /// A compound assignment (JLS 15.26.2).
@@ -441,8 +442,8 @@ fn compound_assignment_action(
         left,
         right,
         word.pos,
-    )?;
-    leave(stack, Value::Expression(made))
+    );
+    leave_expression(stack, made)
 }
 
 /// The place where the expression begins is not needed.

@@ -4,6 +4,7 @@
 mod annotation_actions;
 mod declaration_actions;
 mod expression_actions;
+mod leaves;
 mod statement_actions;
 mod token_actions;
 

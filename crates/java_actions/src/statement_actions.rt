@@ -5,6 +5,7 @@ ghost use Rattle.java_values.specs.Nodes.{Gives, IsNoMisfit};
 ghost use Rattle.java_actions.specs.StatementActions.{takes_statement, perform_statement};
 ghost use Rattle.java_syntax.specs.declared.actions.StatementAction.TheVariants as action;
 
+use crate::leaves::leave_statement;
 use java_syntax::{ForStart, StatementAction, Stmt};
 use java_values::{
     BuildFail, Nested, Value, added, appended, block_statement, catch_clause, do_statement,
@@ -91,8 +92,8 @@ fn local_statement_action(limit: u32, stack: &mut Vec<Value>) -> Result<(), Buil
             pos: start.pos,
         },
         start.pos,
-    )?;
-    leave(stack, Value::Statement(made))
+    );
+    leave_statement(stack, made)
 }
 
 /// An expression as a statement (JLS 14.8).
@@ -111,8 +112,8 @@ fn expression_statement_action(limit: u32, stack: &mut Vec<Value>) -> Result<(),
             pos: start.pos,
         },
         start.pos,
-    )?;
-    leave(stack, Value::Statement(made))
+    );
+    leave_statement(stack, made)
 }
 
 /// No statement of a block yet.
@@ -142,8 +143,8 @@ fn block_statement_action(limit: u32, stack: &mut Vec<Value>) -> Result<(), Buil
     ensures { Gives (λ _. values_of stack.new.items) result (perform_statement limit action.BlockStatement (values_of stack.old.items)) }
 {
     let block = pop_block(stack);
-    let made = block_statement(limit, block)?;
-    leave(stack, Value::Statement(made))
+    let made = block_statement(limit, block);
+    leave_statement(stack, made)
 }
 
 /// An `if` without `else` (JLS 14.9).
@@ -155,8 +156,8 @@ fn if_action(alloc: Global, limit: u32, stack: &mut Vec<Value>) -> Result<(), Bu
     let body = pop_statement(stack);
     let condition = pop_expression(stack);
     let word = pop_place(stack);
-    let made = if_statement(alloc, limit, condition, body, word.pos)?;
-    leave(stack, Value::Statement(made))
+    let made = if_statement(alloc, limit, condition, body, word.pos);
+    leave_statement(stack, made)
 }
 
 /// An `if` with `else` (JLS 14.9).
@@ -169,8 +170,8 @@ fn if_else_action(alloc: Global, limit: u32, stack: &mut Vec<Value>) -> Result<(
     let body = pop_statement(stack);
     let condition = pop_expression(stack);
     let word = pop_place(stack);
-    let made = if_else_statement(alloc, limit, condition, body, otherwise, word.pos)?;
-    leave(stack, Value::Statement(made))
+    let made = if_else_statement(alloc, limit, condition, body, otherwise, word.pos);
+    leave_statement(stack, made)
 }
 
 /// A `while` (JLS 14.12).
@@ -182,8 +183,8 @@ fn while_action(alloc: Global, limit: u32, stack: &mut Vec<Value>) -> Result<(),
     let body = pop_statement(stack);
     let condition = pop_expression(stack);
     let word = pop_place(stack);
-    let made = while_statement(alloc, limit, condition, body, word.pos)?;
-    leave(stack, Value::Statement(made))
+    let made = while_statement(alloc, limit, condition, body, word.pos);
+    leave_statement(stack, made)
 }
 
 /// A `do` (JLS 14.13).
@@ -195,8 +196,8 @@ fn do_action(alloc: Global, limit: u32, stack: &mut Vec<Value>) -> Result<(), Bu
     let condition = pop_expression(stack);
     let body = pop_statement(stack);
     let word = pop_place(stack);
-    let made = do_statement(alloc, limit, body, condition, word.pos)?;
-    leave(stack, Value::Statement(made))
+    let made = do_statement(alloc, limit, body, condition, word.pos);
+    leave_statement(stack, made)
 }
 
 /// A `for` (JLS 14.14.1).
@@ -210,8 +211,8 @@ fn for_action(alloc: Global, limit: u32, stack: &mut Vec<Value>) -> Result<(), B
     let condition = pop_optional_expression(stack);
     let start = pop_for_start(stack);
     let word = pop_place(stack);
-    let made = for_statement(alloc, limit, start, condition, updates, body, word.pos)?;
-    leave(stack, Value::Statement(made))
+    let made = for_statement(alloc, limit, start, condition, updates, body, word.pos);
+    leave_statement(stack, made)
 }
 
 /// A `for` begins with a declaration.
@@ -345,8 +346,8 @@ fn try_action(limit: u32, stack: &mut Vec<Value>) -> Result<(), BuildFail>
     let block = pop_block(stack);
     let resources = pop_resources(stack);
     let word = pop_place(stack);
-    let made = try_statement(limit, resources, block, all, word.pos)?;
-    leave(stack, Value::Statement(made))
+    let made = try_statement(limit, resources, block, all, word.pos);
+    leave_statement(stack, made)
 }
 
 /// A `try` with `finally` (JLS 14.20.2).
@@ -360,8 +361,8 @@ fn try_finally_action(limit: u32, stack: &mut Vec<Value>) -> Result<(), BuildFai
     let block = pop_block(stack);
     let resources = pop_resources(stack);
     let word = pop_place(stack);
-    let made = try_finally_statement(limit, resources, block, all, last, word.pos)?;
-    leave(stack, Value::Statement(made))
+    let made = try_finally_statement(limit, resources, block, all, last, word.pos);
+    leave_statement(stack, made)
 }
 
 /// A `return` (JLS 14.17).
@@ -380,8 +381,8 @@ fn return_action(limit: u32, stack: &mut Vec<Value>) -> Result<(), BuildFail>
             pos: word.pos,
         },
         word.pos,
-    )?;
-    leave(stack, Value::Statement(made))
+    );
+    leave_statement(stack, made)
 }
 
 /// A `throw` (JLS 14.18).
@@ -400,8 +401,8 @@ fn throw_action(limit: u32, stack: &mut Vec<Value>) -> Result<(), BuildFail>
             pos: word.pos,
         },
         word.pos,
-    )?;
-    leave(stack, Value::Statement(made))
+    );
+    leave_statement(stack, made)
 }
 
 /// No name of a list yet.

@@ -5,6 +5,7 @@ ghost use Rattle.java_values.specs.Nodes.{Gives, IsNoMisfit};
 ghost use Rattle.java_actions.specs.TokenActions.{takes_token, perform_token};
 ghost use Rattle.java_syntax.specs.declared.actions.TokenAction.TheVariants as action;
 
+use crate::leaves::{leave_expression, leave_statement};
 use java_syntax::{ConstructorBody, Stmt, TokenAction};
 use java_values::{
     BuildFail, COMPARISON, Identifiers, Lexeme, Place, Value, block, close_operations, extended,
@@ -91,8 +92,8 @@ fn primitive_type_action(token: Lexeme, stack: &mut Vec<Value>) -> Result<(), Bu
 fn literal_action(limit: u32, token: Lexeme, stack: &mut Vec<Value>) -> Result<(), BuildFail>
     ensures { Gives (λ _. values_of stack.new.items) result (perform_token limit (lexeme_in token) action.Literal (values_of stack.old.items)) }
 {
-    let made = literal(limit, token.text, token.pos)?;
-    leave(stack, Value::Expression(made))
+    let made = literal(limit, token.text, token.pos);
+    leave_expression(stack, made)
 }
 
 /// `this` (JLS 15.8.3).
@@ -100,8 +101,8 @@ fn literal_action(limit: u32, token: Lexeme, stack: &mut Vec<Value>) -> Result<(
 fn this_action(limit: u32, token: Lexeme, stack: &mut Vec<Value>) -> Result<(), BuildFail>
     ensures { Gives (λ _. values_of stack.new.items) result (perform_token limit (lexeme_in token) action.This (values_of stack.old.items)) }
 {
-    let made = this(limit, token.pos)?;
-    leave(stack, Value::Expression(made))
+    let made = this(limit, token.pos);
+    leave_expression(stack, made)
 }
 
 /// `++` or `--` behind its operand (JLS 15.14).
@@ -122,8 +123,8 @@ fn increment_action(
         step_operator(token.text.bytes()),
         operand,
         token.pos,
-    )?;
-    leave(stack, Value::Expression(made))
+    );
+    leave_expression(stack, made)
 }
 
 /// An operator between two operands (JLS 15.17 to 15.24): those before it that bind at least as tight have their right operands now.
@@ -173,8 +174,8 @@ fn empty_statement_action(
 ) -> Result<(), BuildFail>
     ensures { Gives (λ _. values_of stack.new.items) result (perform_token limit (lexeme_in token) action.EmptyStatement (values_of stack.old.items)) }
 {
-    let made = statement(limit, 0, Stmt::Empty { pos: token.pos }, token.pos)?;
-    leave(stack, Value::Statement(made))
+    let made = statement(limit, 0, Stmt::Empty { pos: token.pos }, token.pos);
+    leave_statement(stack, made)
 }
 
 /// `break` (JLS 14.15).
@@ -182,8 +183,8 @@ fn empty_statement_action(
 fn break_action(limit: u32, token: Lexeme, stack: &mut Vec<Value>) -> Result<(), BuildFail>
     ensures { Gives (λ _. values_of stack.new.items) result (perform_token limit (lexeme_in token) action.Break (values_of stack.old.items)) }
 {
-    let made = statement(limit, 0, Stmt::Break { pos: token.pos }, token.pos)?;
-    leave(stack, Value::Statement(made))
+    let made = statement(limit, 0, Stmt::Break { pos: token.pos }, token.pos);
+    leave_statement(stack, made)
 }
 
 /// `continue` (JLS 14.16).
@@ -191,8 +192,8 @@ fn break_action(limit: u32, token: Lexeme, stack: &mut Vec<Value>) -> Result<(),
 fn continue_action(limit: u32, token: Lexeme, stack: &mut Vec<Value>) -> Result<(), BuildFail>
     ensures { Gives (λ _. values_of stack.new.items) result (perform_token limit (lexeme_in token) action.Continue (values_of stack.old.items)) }
 {
-    let made = statement(limit, 0, Stmt::Continue { pos: token.pos }, token.pos)?;
-    leave(stack, Value::Statement(made))
+    let made = statement(limit, 0, Stmt::Continue { pos: token.pos }, token.pos);
+    leave_statement(stack, made)
 }
 
 /// A block (JLS 14.2) at its `}`.

@@ -18,14 +18,14 @@ use Rattle.class_declarations.specs.Members.{Written, MethodOf, ConstructorOf, I
 use Rattle.java_typed_trees.specs.declared.scope.Local.{Local}
 use Rattle.java_typed_trees.specs.StatementTrees.{StmtTree}
 use Rattle.java_expression_rules.specs.Surroundings.{Surroundings}
-use Rattle.java_statement_rules.specs.Contexts.{StatementContext}
+use Rattle.body_variables.specs.Contexts.{StatementContext}
 use Rattle.java_typed_statements.specs.StatementCases.{statements_cases}
 use Rattle.java_typed_statements.specs.StatementTrees.{statement_trees}
 use Rattle.body_variables.specs.BodyVariables.{body_variables}
 use Rattle.body_variables.specs.Declarations.{BodyVariable}
-use Rattle.source_classes.specs.Members.{Environment, numbered_methods, surroundings_in}
-use Rattle.source_classes.specs.Parameters.{parameters, parameters_cases}
-use Rattle.source_classes.specs.SourceClasses.{SourceClass, source_class_of}
+use Rattle.field_initializers.specs.Members.{Environment, numbered_methods, surroundings_in}
+use Rattle.field_initializers.specs.Parameters.{parameters, parameters_cases}
+use Rattle.field_initializers.specs.SourceClasses.{SourceClass, source_class_of}
 use Rattle.field_initializers.specs.FieldInitializers.{initializer_statements, initializers_cases}
 use Rattle.java_bodies.specs.declared.body_trees.BodyTree.{BodyTree}
 use Rattle.java_bodies.specs.declared.declared_bodies.DeclaredBody.{DeclaredBody}

@@ -2,14 +2,14 @@
 
 ghost use Rattle.std.specs.Prelude.{◌≡◌, ◌++◌, IfOk, OnOk, map};
 ghost use Rattle.std.specs.Option.{option_copied, option_map};
-ghost use Rattle.source_classes.specs.Members.{environment_in, numbered_method_of};
-ghost use Rattle.source_classes.specs.SourceClasses.{source_class_of};
+ghost use Rattle.field_initializers.specs.Members.{environment_in, numbered_method_of};
+ghost use Rattle.field_initializers.specs.SourceClasses.{source_class_of};
 ghost use Rattle.java_bodies.specs.Bodies.{all_bodies, bodies_among, bodies_in, source_body, source_body_of, written_body_of};
 
 use crate::body_trees::{BodyTree, body_of};
+use field_initializers::{DeclaredClass, NumberedMethod, ProgramScope, numbered_methods};
 use program_model::{Method, MethodId};
 use rlc_base::NoMemory;
-use source_classes::{DeclaredClass, NumberedMethod, ProgramScope, numbered_methods};
 use std::alloc::Global;
 
 /// A body, with the method or constructor that it is of.

@@ -3,16 +3,15 @@
 ghost use Rattle.std.specs.Prelude.{◌≡◌, ◌++◌, OnOk, map};
 ghost use Rattle.java_expression_rules.specs.Surroundings.{surroundings_of};
 ghost use Rattle.java_typed_trees.specs.StatementTrees.{statement_of};
-ghost use Rattle.source_classes.specs.Members.{environment_in};
+ghost use Rattle.field_initializers.specs.Members.{environment_in};
 ghost use Rattle.java_bodies.specs.Bodies.{argument_surroundings, head_cases, head_statements, locals_in, source_body_of};
 
 use crate::declared_bodies::DeclaredBody;
 use crate::super_calls::push_super_call;
-use field_initializers::push_initializers;
+use field_initializers::{ProgramScope, push_initializers, surroundings_in};
 use java_expression_rules::BodyScope;
 use java_typed_trees::{Local, StatementTree};
 use rlc_base::{NoMemory, Refusal};
-use source_classes::{ProgramScope, surroundings_in};
 use std::alloc::Global;
 
 // Where the arguments of the super call stand: there is no `this` (JLS 8.8.7.1).

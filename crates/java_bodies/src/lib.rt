@@ -10,5 +10,6 @@ mod typed_statements;
 
 pub use body_trees::BodyTree;
 pub use declared_bodies::{DeclaredBody, all_bodies};
+pub use field_initializers::{count_static_initializers, field_constants};
 pub use super_calls::ConstructorCall;
 pub use typed_statements::{body_statements, variable_table};

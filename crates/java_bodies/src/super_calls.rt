@@ -10,9 +10,9 @@ ghost use Rattle.java_expression_rules.specs.TypedParts.{typing_of};
 ghost use Rattle.java_bodies.specs.SuperCalls.{is_made, is_other, statement_of_call, super_call_by, super_call_cases, super_call_in, super_call_of, super_call_statements, typed_call_cases};
 
 use class_members::{constructors_of, super_of};
+use field_initializers::arguments;
 use java_expression_rules::{BodyScope, ExpressionTyping, MethodResolution, resolution, trees_for};
 use java_syntax::Expr;
-use java_typed_expressions::arguments;
 use java_typed_trees::{
     Answer, Shape, StatementShape, StatementTree, settle, statement_tree, value_at,
 };

@@ -2,20 +2,19 @@
 
 ghost use Rattle.std.specs.Prelude.{◌≡◌, ◌++◌, IfOk, OnOk, length, map};
 ghost use Rattle.java_typed_trees.specs.StatementTrees.{statement_of};
-ghost use Rattle.java_statement_parts.specs.Scopes.{context_at};
+ghost use Rattle.java_typed_statements.specs.Scopes.{context_at};
 ghost use Rattle.body_variables.specs.Declarations.{variable_in};
-ghost use Rattle.source_classes.specs.Members.{environment_in};
+ghost use Rattle.field_initializers.specs.Members.{environment_in};
 ghost use Rattle.java_bodies.specs.Bodies.{body_cases, body_context, body_trees, body_variables_in, has_this, initialized_in, locals_in, source_body_of};
 
 use crate::declared_bodies::DeclaredBody;
 use crate::heads::push_head;
 use body_variables::variables_of_body;
-use java_statement_parts::StatementScope;
-use java_typed_statements::statements;
+use field_initializers::{ProgramScope, parameters, surroundings_in};
+use java_typed_statements::{StatementScope, statements};
 use java_typed_trees::{Local, StatementTree};
 use program_model::{ClassId, MethodKind, Var};
 use rlc_base::{NoMemory, Refusal};
-use source_classes::{ProgramScope, parameters, surroundings_in};
 use std::alloc::Global;
 
 fn has_this(kind: MethodKind) -> bool

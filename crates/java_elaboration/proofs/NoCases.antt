@@ -7,7 +7,7 @@ use Rattle.program_model.specs.declared.program.Program.{Program}
 use Rattle.refusal_order.specs.Refusals.{least, lesser_of}
 use Rattle.source_classes.specs.Members.{Environment}
 use Rattle.source_classes.specs.SourceClasses.{source_classes}
-use Rattle.java_bodies.specs.Bodies.{SourceBody, all_bodies, body_cases}
+use Rattle.java_types.specs.Bodies.{SourceBody, all_bodies, body_cases}
 use Rattle.java_types.specs.ProgramCases.{bodies_cases, environment_of, field_cases, member_cases, program_cases, typed_program, typing_cases}
 use Rattle.java_types.specs.TypedBodies.{TypedBody, typed_bodies, typed_body}
 use Rattle.java_elaboration.specs.Elaborations.{AreWellFormedUnlessRefused, HasWellFormedStatements, IsWellFormedUnlessRefused}

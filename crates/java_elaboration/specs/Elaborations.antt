@@ -14,7 +14,7 @@ use Rattle.body_variables.specs.Declarations.{variable_in}
 use Rattle.program_bodies.specs.ProgramBodies.{HasBodies}
 use Rattle.source_classes.specs.SourceClasses.{source_classes}
 use Rattle.source_classes.specs.Members.{Environment}
-use Rattle.java_bodies.specs.Bodies.{SourceBody, all_bodies, body_cases}
+use Rattle.java_types.specs.Bodies.{SourceBody, all_bodies, body_cases}
 use Rattle.java_types.specs.ProgramCases.{environment_of, program_cases}
 use Rattle.java_types.specs.TypedBodies.{TypedBody, typed_body}
 

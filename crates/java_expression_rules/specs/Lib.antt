@@ -6,3 +6,7 @@ pub mod Names
 pub mod Operators
 pub mod Surroundings
 pub mod TypedParts
+pub use Rattle.java_operator_rules.specs.Arrays
+pub use Rattle.java_operator_rules.specs.Casts
+pub use Rattle.java_operator_rules.specs.Conditionals
+pub use Rattle.java_operator_rules.specs.Literals

@@ -1,4 +1,5 @@
 -- The operators of expressions, as the typed program names them.
+pub use Rattle.java_operator_rules.specs.Operators.{binary_by, unary_by}
 use Rattle.java_syntax.specs.declared.operators.InfixOperator.{InfixOperator}
 use Rattle.java_syntax.specs.declared.operators.InfixOperator.TheVariants as infixes
 use Rattle.java_syntax.specs.declared.operators.PrefixOperator.{PrefixOperator}

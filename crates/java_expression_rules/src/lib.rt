@@ -20,6 +20,11 @@ mod written_types;
 pub use assignments::{assignment, compound_assignment, postfix_step, prefix_step};
 pub use call_parts::trees_for;
 pub use fields::{class_field, identifier, object_field};
+pub use java_member_rules::object_call_by;
+pub use java_operator_rules::{
+    binary_by, cast_by, conditional_by, element_by, instance_of_by, literal_by,
+    literal_under_minus_by, new_array_by, unary_by,
+};
 pub use names::{class_meant, class_of_name};
 pub use operators::{operator_of, step_operator_of, unary_operator_of};
 pub use overloads::{MethodResolution, resolution};

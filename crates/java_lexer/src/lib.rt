@@ -8,8 +8,6 @@ mod lexer;
 mod literals;
 mod places;
 mod sources;
-#[cfg(test)]
-mod tests;
 mod token;
 
 pub use lexer::lex;

@@ -6,7 +6,7 @@ use Rattle.program_model.specs.declared.kinds.ClassId.{ClassId}
 use Rattle.program_model.specs.declared.program.Program.{Program}
 use Rattle.java_syntax.specs.declared.names.Name.{Name}
 use Rattle.java_syntax.specs.StatementTrees.{CatchTrees, no_catch, and_catch}
-use Rattle.java_expression_rules.specs.Surroundings.{Surroundings}
+use Rattle.java_statement_rules.specs.Surroundings.{Surroundings}
 use Rattle.java_statement_rules.specs.CatchClauses.{alternatives_cases, caught_by}
 use Rattle.java_statement_rules.specs.Contexts.{StatementContext, locals_of}
 use Rattle.java_statement_rules.specs.DeclaredVariables.{double_cases}

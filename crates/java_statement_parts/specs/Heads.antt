@@ -13,7 +13,7 @@ use Rattle.java_typed_trees.specs.declared.scope.Local.{Local}
 use Rattle.java_typed_trees.specs.ExpressionTrees as values
 use Rattle.java_typed_trees.specs.StatementTrees.{InitialForm}
 use Rattle.java_typed_trees.specs.StatementTrees as typed
-use Rattle.java_expression_rules.specs.Surroundings.{Surroundings}
+use Rattle.java_statement_rules.specs.Surroundings.{Surroundings}
 use Rattle.java_typed_expressions.specs.Cases.{cases, value_cases}
 use Rattle.java_typed_expressions.specs.Typings.{tree, value_facts}
 use Rattle.java_statement_rules.specs.Completions.{is_always_true}

@@ -2,7 +2,7 @@
 use Rattle.std.specs.Prelude.{ℕ, List}
 use Rattle.class_names.specs.Meanings.{unit_of}
 use Rattle.java_typed_trees.specs.declared.scope.Local.{Local}
-use Rattle.java_expression_rules.specs.Surroundings.{Surroundings}
+use Rattle.java_statement_rules.specs.Surroundings.{Surroundings}
 use Rattle.java_statement_rules.specs.Contexts.{StatementContext}
 use Rattle.java_statement_parts.specs.declared.scope.StatementScope.{StatementScope}
 

@@ -10,9 +10,9 @@ ghost use Rattle.java_statement_parts.specs.Scopes.{context_at, surroundings_at}
 
 use crate::scope::{StatementScope, body_scope, take_number};
 use crate::values::push_value;
-use java_expression_rules::{cast_type, count_unknown};
 use java_statement_rules::{
-    constant_value, count_double, count_storing, has_final, local_variable,
+    cast_type, constant_value, count_double, count_storing, count_unknown, has_final,
+    local_variable,
 };
 use java_syntax::{Expr, Local as LocalDecl, Variable as VariableDecl};
 use java_typed_trees::{DeclaratorShape, ExpressionTree, Local};

@@ -1,11 +1,11 @@
 //! Where a statement stands.
 
 ghost use Rattle.std.specs.Prelude.{◌≡◌, ◌+◌, IfOk, OnOk};
-ghost use Rattle.java_expression_rules.specs.Surroundings.{surroundings_of};
+ghost use Rattle.java_statement_rules.specs.Surroundings.{surroundings_of};
 ghost use Rattle.java_statement_parts.specs.Scopes.{surroundings_at};
 
 use class_names::{ClassNames, Scope as UnitScope};
-use java_expression_rules::BodyScope;
+use java_statement_rules::BodyScope;
 use java_typed_trees::{Local, Scope};
 use program_model::{ClassId, Program, VType};
 use rlc_base::NoMemory;

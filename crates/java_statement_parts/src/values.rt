@@ -9,9 +9,8 @@ ghost use Rattle.java_statement_parts.specs.Heads.{expression_trees, expressions
 ghost use Rattle.java_statement_parts.specs.Scopes.{surroundings_at};
 
 use crate::scope::{StatementScope, body_scope};
-use java_expression_rules::operand;
 use java_statement_rules::{
-    count_condition, count_plain_return, count_return, count_throw, is_always_true,
+    count_condition, count_plain_return, count_return, count_throw, is_always_true, operand,
 };
 use java_syntax::Expr;
 use java_typed_expressions::{expression, value};

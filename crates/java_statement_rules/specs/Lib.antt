@@ -4,3 +4,6 @@ pub mod Contexts
 pub mod DeclaredVariables
 pub mod Resources
 pub mod StatementCases
+pub use Rattle.java_expression_rules.specs.Surroundings
+pub use Rattle.java_expression_rules.specs.Calls
+pub use Rattle.java_expression_rules.specs.Names

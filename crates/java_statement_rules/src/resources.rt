@@ -9,8 +9,9 @@ ghost use Rattle.java_statement_rules.specs.Resources.{class_type, close_name, c
 use crate::statements::count_unless;
 use class_members::methods_named;
 use java_conversions::{class_of, type_of_class};
-use java_expression_rules::{BodyScope, MethodResolution, class_of_name, resolution};
-use java_member_rules::object_call_by;
+use java_expression_rules::{
+    BodyScope, MethodResolution, class_of_name, object_call_by, resolution,
+};
 use java_syntax::Name;
 use java_typed_trees::{Answer, value_at};
 use program_model::{ClassId, MethodId, Program, VType, under};

@@ -17,12 +17,12 @@ use Rattle.java_typed_trees.specs.Answers.{type_of}
 use Rattle.java_typed_trees.specs.ExpressionTrees.{ExprTree, ExprTrees, Node, and_expression, expressions, no_expression}
 use Rattle.java_typed_trees.specs.Settling.{own_cases}
 use Rattle.java_typed_trees.specs.WellFormed.{AreWellFormed, IsWellFormed, Takes, count}
-use Rattle.java_operator_rules.specs.Arrays.{element_by, new_array_by}
-use Rattle.java_operator_rules.specs.Casts.{cast_by, instance_of_by}
-use Rattle.java_operator_rules.specs.Conditionals.{conditional_by}
-use Rattle.java_operator_rules.specs.Literals.{literal_as, literal_by, literal_under_minus_by, type_of_literal}
-use Rattle.java_operator_rules.specs.Operators.{binary_by, unary_by}
-use Rattle.java_operator_rules.proofs.RuleLaws as laws
+use Rattle.java_expression_rules.specs.Arrays.{element_by, new_array_by}
+use Rattle.java_expression_rules.specs.Casts.{cast_by, instance_of_by}
+use Rattle.java_expression_rules.specs.Conditionals.{conditional_by}
+use Rattle.java_expression_rules.specs.Literals.{literal_as, literal_by, literal_under_minus_by, type_of_literal}
+use Rattle.java_expression_rules.specs.Operators.{binary_by, unary_by}
+use Rattle.java_expression_rules.proofs.RuleLaws as laws
 use Rattle.java_member_rules.specs.Assignments.{assignment_by}
 use Rattle.java_member_rules.specs.Names.{this_by}
 use Rattle.java_expression_rules.specs.Assignments.{assigned_target, assignment_typing, compound_by, implied_one, may_update, postfix_by, prefix_by}

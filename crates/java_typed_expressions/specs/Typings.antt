@@ -12,11 +12,11 @@ use Rattle.java_typed_trees.specs.declared.facts.Answer.{Answer}
 use Rattle.java_typed_trees.specs.declared.facts.Facts.{Facts}
 use Rattle.java_typed_trees.specs.Answers.{type_of}
 use Rattle.java_typed_trees.specs.ExpressionTrees.{ExprTree, no_expression}
-use Rattle.java_operator_rules.specs.Arrays.{element_by, new_array_by}
-use Rattle.java_operator_rules.specs.Casts.{cast_by, instance_of_by}
-use Rattle.java_operator_rules.specs.Conditionals.{conditional_by}
-use Rattle.java_operator_rules.specs.Literals.{literal_by, literal_under_minus_by}
-use Rattle.java_operator_rules.specs.Operators.{binary_by, unary_by}
+use Rattle.java_expression_rules.specs.Arrays.{element_by, new_array_by}
+use Rattle.java_expression_rules.specs.Casts.{cast_by, instance_of_by}
+use Rattle.java_expression_rules.specs.Conditionals.{conditional_by}
+use Rattle.java_expression_rules.specs.Literals.{literal_by, literal_under_minus_by}
+use Rattle.java_expression_rules.specs.Operators.{binary_by, unary_by}
 use Rattle.java_member_rules.specs.Names.{this_by}
 use Rattle.java_expression_rules.specs.Assignments.{assignment_typing, compound_typing, postfix_step_typing, prefix_step_typing}
 use Rattle.java_expression_rules.specs.Calls.{is_written_this, new_typing, super_call_typing, unqualified_call_typing}

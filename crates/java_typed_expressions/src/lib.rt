@@ -7,4 +7,5 @@ mod operators;
 mod targets;
 
 pub use expressions::{arguments, expression, value};
+pub use java_expression_rules::{BodyScope, one, operand, settle_in, two};
 pub use laws::{accepted_is_well_formed, accepted_value_has_type};

@@ -6,13 +6,13 @@ ghost use Rattle.java_typed_expressions.specs.Typings.{answer_under, answer_unde
 ghost use Rattle.java_expression_rules.specs.Surroundings.{surroundings_of};
 ghost use Rattle.java_expression_rules.specs.TypedParts.{own_refusals, typing_of};
 
-use java_expression_rules::{BodyScope, ExpressionTyping, one, operand, settle_in, three, two};
+use java_expression_rules::{
+    BodyScope, ExpressionTyping, binary_by, cast_by, conditional_by, element_by, instance_of_by,
+    literal_by, literal_under_minus_by, new_array_by, one, operand, settle_in, three, two,
+    unary_by,
+};
 use java_literals::literal_value;
 use java_member_rules::this_by;
-use java_operator_rules::{
-    binary_by, cast_by, conditional_by, element_by, instance_of_by, literal_by,
-    literal_under_minus_by, new_array_by, unary_by,
-};
 use java_syntax::{Expr, PrefixOperator};
 use java_typed_trees::Answer;
 use program_model::{BinaryOperator, UnaryOperator, VType};

@@ -3,3 +3,4 @@ pub mod StatementCompletions
 pub mod StatementContexts
 pub mod StatementTrees
 pub mod VariableCounts
+pub use Rattle.java_statement_parts.specs.Scopes

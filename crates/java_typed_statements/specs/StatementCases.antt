@@ -5,7 +5,7 @@ use Rattle.rlc_base.specs.declared.place.Pos.{Pos}
 use Rattle.rlc_base.specs.declared.faults.Refusal.{Refusal}
 use Rattle.java_syntax.specs.StatementTrees.{BlockTree, Braces, CatchTrees, MaybeBlock, MaybeStmt, StmtTree, StmtTrees, no_catch, and_catch, no_else, some_else, no_finally, some_finally, no_statement, and_statement}
 use Rattle.java_syntax.specs.StatementTrees as syntax
-use Rattle.java_typed_expressions.specs.Cases.{cases}
+use Rattle.java_statement_parts.specs.Cases.{cases}
 use Rattle.std.specs.Prelude.{None}
 use Rattle.java_statement_rules.specs.declared.completion.Completion.{Completion}
 use Rattle.java_statement_rules.specs.Contexts.{StatementContext, in_a_loop}

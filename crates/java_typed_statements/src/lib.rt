@@ -6,4 +6,5 @@ mod counts;
 mod simple_statements;
 mod statement_typing;
 
+pub use java_statement_parts::StatementScope;
 pub use statement_typing::{statement, statements};

@@ -9,7 +9,7 @@ ghost use Rattle.java_syntax.specs.StatementTrees as syntax;
 ghost use Rattle.java_typed_trees.specs.ExpressionTrees.{expressions, no_expression};
 ghost use Rattle.java_typed_trees.specs.StatementTrees.{Statement, form_of, no_statement, statement_of};
 ghost use Rattle.java_typed_trees.specs.StatementTrees as forms;
-ghost use Rattle.java_typed_expressions.specs.Cases.{cases};
+ghost use Rattle.java_statement_parts.specs.Cases.{cases};
 ghost use Rattle.java_statement_rules.specs.Completions.{abrupt, breaking, continuing, normal};
 ghost use Rattle.java_statement_rules.specs.StatementCases.{unless};
 ghost use Rattle.java_statement_parts.specs.Declarations.{locals_declared};

@@ -3,7 +3,7 @@ use Rattle.std.proofs.Common.{◌≡◌, ◌∙◌, sym, ap, ℤ, Option, List, 
 use Rattle.java_syntax.specs.declared.declaration_trees.Unit.{Unit}
 use Rattle.program_model.specs.declared.program.Program.{Program}
 use Rattle.class_names.specs.declared.class_name.ClassName.{ClassName}
-use Rattle.field_initializers.specs.FieldConstants.{field_constants}
+use Rattle.java_bodies.specs.FieldConstants.{field_constants}
 use Rattle.java_bodies.specs.Bodies.{all_bodies}
 use Rattle.source_classes.specs.Members.{Environment}
 use Rattle.source_classes.specs.SourceClasses.{SourceClass, all_names, source_classes}

@@ -9,8 +9,8 @@ use Rattle.class_names.specs.ClassNames.{class_number}
 use Rattle.class_overrides.specs.Cases.{class_cases}
 use Rattle.source_classes.specs.Members.{Environment}
 use Rattle.source_classes.specs.SourceClasses.{SourceClass, all_names, source_classes}
-use Rattle.field_initializers.specs.FieldConstants.{field_constants}
-use Rattle.field_initializers.specs.FieldInitializers.{static_cases}
+use Rattle.java_bodies.specs.FieldConstants.{field_constants}
+use Rattle.java_bodies.specs.FieldInitializers.{static_cases}
 use Rattle.java_bodies.specs.Bodies.{SourceBody, all_bodies, body_cases}
 use Rattle.java_types.specs.TypedBodies.{TypedBody, typed_bodies}
 

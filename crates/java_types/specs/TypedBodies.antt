@@ -3,7 +3,7 @@ use Rattle.std.specs.Prelude.{List, map}
 use Rattle.rlc_base.specs.declared.place.Pos.{Pos}
 use Rattle.program_model.specs.declared.kinds.MethodId.{MethodId}
 use Rattle.java_typed_trees.specs.StatementTrees.{StmtTrees, statement_of, statements}
-use Rattle.body_variables.specs.Declarations.{BodyVariable, variable_in}
+use Rattle.java_bodies.specs.Declarations.{BodyVariable, variable_in}
 use Rattle.source_classes.specs.Members.{Environment}
 use Rattle.java_bodies.specs.Bodies.{SourceBody, body_trees, body_variables_in}
 use Rattle.java_types.specs.declared.body_typings.BodyTyping.{BodyTyping}

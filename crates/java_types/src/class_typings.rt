@@ -10,8 +10,7 @@ ghost use Rattle.java_types.specs.TypedBodies.{typed_bodies, typed_body_of};
 
 use crate::body_typings::{BodyTyping, body_typings};
 use crate::member_cases::count_members;
-use field_initializers::{count_static_initializers, field_constants};
-use java_bodies::all_bodies;
+use java_bodies::{all_bodies, count_static_initializers, field_constants};
 use java_syntax::Unit;
 use program_model::Program;
 use rlc_base::{NoMemory, Refusal};

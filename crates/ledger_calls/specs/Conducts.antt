@@ -11,7 +11,7 @@ use Rattle.program_model.specs.declared.program.Program.{Program}
 use Rattle.program_model.specs.declared.program.Method.{Method}
 use Rattle.program_model.specs.declared.program.Promise.{Promise}
 use Rattle.program_model.specs.Lookups.{method_at}
-use Rattle.must_call_sets.specs.Bodies.{promises_in, throwing_promises_in}
+use Rattle.ledger_obligations.specs.Bodies.{promises_in, throwing_promises_in}
 use Rattle.java_control.specs.declared.action.Action.{Action}
 use Rattle.java_control.specs.declared.action.Action.TheVariants as actions
 use Rattle.stub_conduct.specs.declared.choice.Choice.{Choice}

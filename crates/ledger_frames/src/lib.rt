@@ -7,4 +7,9 @@ mod places;
 
 pub use choosing::{chosen, method_body, step_by};
 pub use edges::{edge_of_class, operation_edge};
+pub use ledger_calls::{
+    has_null_target, is_stray_from, leaves_by, library_method, on_this, operand_of, running,
+    settled,
+};
+pub use ledger_operations::thrown_by_operation;
 pub use places::locals_after;

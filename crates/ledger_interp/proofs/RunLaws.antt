@@ -5,10 +5,11 @@ use Rattle.program_model.specs.declared.program.Program.{Program}
 use Rattle.rlc_base.specs.declared.place.Pos.{Pos}
 use Rattle.ledger_calls.specs.Configuration.{Config, Frame}
 use Rattle.ledger_machine.specs.declared.turn.Turn.TheVariants as turns
-use Rattle.ledger_machine.specs.Outcomes.{Outcome, went, ended, stray, config_after, turn_of}
-use Rattle.ledger_machine.specs.Steps.{has_ended, step}
+use Rattle.ledger_runs.specs.Outcomes.{Outcome, went, ended, stray, config_after}
+use Rattle.ledger_machine.specs.Turns.{turn_of}
+use Rattle.ledger_runs.specs.Steps.{has_ended, step}
 use Rattle.ledger_text.specs.declared.how.How.TheVariants as hows
-use Rattle.ledger_interp.specs.Runs.{Run, come_to, go_on, how_spent, run_from}
+use Rattle.ledger_runs.specs.Runs.{Run, come_to, go_on, how_spent, run_from}
 
 pub how_over : (c : Config) (frs : List Frame) → has_ended frs ≡ true → hows.Ended c.ended ≡ how_spent c frs
 how_over c [] h = refl

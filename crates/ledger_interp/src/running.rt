@@ -2,7 +2,7 @@
 
 ghost use Rattle.std.specs.Prelude.{◌≡◌, ◌++◌, IfOk, OnErr, OnOk};
 ghost use Rattle.ledger_machine.specs.Configurations.{configuration};
-ghost use Rattle.ledger_interp.specs.Runs.{come_to, how_spent, run, run_from};
+ghost use Rattle.ledger_runs.specs.Runs.{come_to, how_spent, run, run_from};
 ghost use Rattle.ledger_text.specs.Ledger.{ledger_text};
 
 use ledger_machine::{Machine, Turn, start_machine};
@@ -59,7 +59,7 @@ fn run_on(alloc: Global, p: &Program, machine: Machine, n: u32) -> Result<RunEnd
 
 /// The first `n` steps of the run that begins in `main`, or fewer where no frame is left or the next step is stray, and how
 /// the run came to its end.
-#[tactic(auto, unfolding(crate::specs::Runs::run))]
+#[tactic(auto, unfolding(ledger_runs::specs::Runs::run))]
 pub fn run(
     alloc: Global,
     p: &Program,

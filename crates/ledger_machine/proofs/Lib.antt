@@ -1,5 +1,2 @@
-mod FrameLaws
 mod MoveLaws
 mod OneStep
-mod StepLaws
-pub mod TopLaws

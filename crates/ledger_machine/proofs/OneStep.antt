@@ -3,8 +3,8 @@ use Rattle.std.proofs.Common.{◌≡◌, length}
 use Rattle.program_model.specs.declared.program.Program.{Program}
 use Rattle.ledger_calls.specs.Configuration.{Config}
 use Rattle.ledger_machine.proofs.MoveLaws.{over_moved}
-use Rattle.ledger_machine.specs.Outcomes.{ended}
-use Rattle.ledger_machine.specs.Steps.{moved_by, step, top_move}
+use Rattle.ledger_runs.specs.Outcomes.{ended}
+use Rattle.ledger_runs.specs.Steps.{moved_by, step, top_move}
 use Rattle.ledger_moves.specs.Moves.{Move}
 
 -- no frame is left

@@ -1,7 +1,7 @@
 -- What contracts see of the machine.
 use Rattle.ledger_calls.specs.Configuration.{Config}
 use Rattle.ledger_machine.specs.declared.machine.Machine.{Machine}
-use Rattle.ledger_machine.specs.Machines.{config_of}
+use Rattle.machine_state.specs.RunStates.{config_of}
 
 -- the configuration of the machine
 abbrev pub configuration : Machine → Config

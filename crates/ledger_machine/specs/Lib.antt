@@ -1,6 +1,2 @@
-pub mod Machines
-pub mod Outcomes
-pub mod Steps
-pub mod Starts
 pub mod Configurations
-pub mod HeapChanges
+pub mod Turns

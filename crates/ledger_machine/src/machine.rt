@@ -2,9 +2,9 @@
 
 ghost use Rattle.std.specs.Prelude.{◌≡◌, ◌≤◌, length, true};
 ghost use Rattle.ledger_moves.specs.Frames.{highest_control};
-ghost use Rattle.ledger_machine.specs.Machines.{HasNothingToLose};
+ghost use Rattle.machine_state.specs.RunStates.{HasNothingToLose};
 
-use crate::run_state::RunState;
+use machine_state::RunState;
 
 /// One run of a program at one moment: its frames, its heap with the ledger of each object, its arrays and static fields, the
 /// lines of the ledger so far, and the choices of the library. Contracts see it as a configuration.

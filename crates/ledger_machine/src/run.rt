@@ -2,25 +2,26 @@
 
 ghost use Rattle.std.specs.Prelude.{◌≡◌, ◌∷◌, ◌<◌, ◌≤◌, [], length, map, reverse, true, vec_len, IfOk, OnErr, OnOk};
 ghost use Rattle.ledger_machine.specs.Configurations.{configuration};
-ghost use Rattle.ledger_machine.specs.Machines.{HasNothingToLose, config_of};
+ghost use Rattle.machine_state.specs.RunStates.{HasNothingToLose, config_of};
 ghost use Rattle.ledger_moves.specs.Frames.{control_left, highest_control, move_seen};
-ghost use Rattle.ledger_machine.specs.Outcomes.{config_after, turn_of};
+ghost use Rattle.ledger_runs.specs.Outcomes.{config_after};
+ghost use Rattle.ledger_machine.specs.Turns.{turn_of};
 ghost use Rattle.ledger_obligations.specs.Obligations.{held_in};
 ghost use Rattle.settled_heaps.specs.Settled.{Settled};
-ghost use Rattle.ledger_machine.specs.Starts.{start_config};
-ghost use Rattle.ledger_machine.specs.Steps.{has_ended, moved_by, step, top_move};
+ghost use Rattle.ledger_runs.specs.Starts.{start_config};
+ghost use Rattle.ledger_runs.specs.Steps.{has_ended, moved_by, step, top_move};
 
-use crate::inner_run::run_inner;
+use crate::ending::run_end;
 use crate::machine::Machine;
-use crate::returning::run_end;
-use crate::run_state::RunState;
-use crate::stepping::{run_library, run_start};
 use crate::turn::Turn;
 use frame_owners::owner_lists;
 use java_control::Lists;
 use ledger_moves::{Advance, begin, frame_move};
 use ledger_operations::next_choice;
 use ledger_state::{Entry, Heap, Value, library_array};
+use machine_calls::{run_library, run_start};
+use machine_state::RunState;
+use machine_steps::run_inner;
 use program_model::{ClassId, ElementType, MethodId, Program};
 use rlc_base::NoMemory;
 use settled_heaps::is_settled_heap;
@@ -36,7 +37,7 @@ impl Machine {
     }
 
     /// Whether no frame is left. It takes no memory.
-    #[tactic(auto, using(crate::proofs::FrameLaws::ended_seen))]
+    #[tactic(auto, using(machine_state::proofs::FrameLaws::ended_seen))]
     pub fn is_over(&self) -> bool
         ensures { result ≡ has_ended (configuration self.now).frames }
     {
@@ -203,7 +204,7 @@ fn take_step(alloc: Global, p: &Program, m: &mut RunState) -> Result<Turn, NoMem
 
 /// The machine at the start of a run: one frame, of `main`, whose argument is an array of texts that the library chooses; no
 /// object, no line of the ledger, and no choice used.
-#[tactic(auto, unfolding(crate::specs::Starts::start_config))]
+#[tactic(auto, unfolding(ledger_runs::specs::Starts::start_config))]
 pub fn start_machine(
     alloc: Global,
     p: &Program,

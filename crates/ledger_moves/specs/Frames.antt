@@ -1,4 +1,5 @@
 -- Frames and what they do next over a table of lists: what is left to run is a number in the table. Frames stand bottom first.
+pub use Rattle.ledger_frames.specs.Frames.{frame_after}
 use Rattle.std.specs.Prelude.{ℕ, max, Option, Some, None, List, [], ◌∷◌, map, reverse}
 use Rattle.program_model.specs.declared.kinds.BodyId.{BodyId}
 use Rattle.program_model.specs.declared.program.Program.{Program}
@@ -8,7 +9,7 @@ use Rattle.java_control.specs.Control.{start_of}
 use Rattle.java_control.specs.Remaining.{Todo, todos}
 use Rattle.java_control.specs.Tables.{list_at}
 use Rattle.ledger_obligations.specs.declared.active_frame.ActiveFrame.{ActiveFrame}
-use Rattle.ledger_calls.specs.Configuration.{Frame}
+use Rattle.ledger_frames.specs.Configuration.{Frame}
 use Rattle.ledger_moves.specs.declared.advance.Advance.{Advance}
 use Rattle.ledger_moves.specs.declared.advance.Advance.TheVariants as advances
 use Rattle.ledger_moves.specs.declared.advance.CallEnd.{CallEnd}

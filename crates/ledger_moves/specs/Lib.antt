@@ -1,2 +1,3 @@
 pub mod Moves
 pub mod Frames
+pub use Rattle.ledger_frames.specs.Choosing

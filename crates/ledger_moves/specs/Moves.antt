@@ -31,9 +31,9 @@ use Rattle.ledger_state.specs.Classes.{is_instance}
 use Rattle.ledger_state.specs.Contents.{HeapContents}
 use Rattle.ledger_state.specs.declared.value.Value.{Value}
 use Rattle.ledger_obligations.specs.Obligations.{is_library_method}
-use Rattle.ledger_operations.specs.Operations.{thrown_by_operation}
-use Rattle.ledger_calls.specs.Calls.{body_of, form_of, has_null_target, is_stray_from, leaves_by, operand_of, position_of, running}
-use Rattle.ledger_calls.specs.Conducts.{library_method, on_this, settled}
+use Rattle.ledger_frames.specs.Operations.{thrown_by_operation}
+use Rattle.ledger_frames.specs.Calls.{body_of, form_of, has_null_target, is_stray_from, leaves_by, operand_of, position_of, running}
+use Rattle.ledger_frames.specs.Conducts.{library_method, on_this, settled}
 use Rattle.ledger_frames.specs.Choosing.{agrees, goes_by}
 use Rattle.ledger_moves.specs.declared.standing.FirstAction.{FirstAction}
 
@@ -49,14 +49,14 @@ pub data Move : Type 0 where
   End : (pos : Pos) (q : Completion) → Move
   -- the step throws an ignored exception of this class, at this place
   Stray : (e : ClassId) (pos : Pos) → Move
-  -- the values choose no step; no valid program comes there
+  -- the values choose no step
   Rest : Move
 
 -- the step that goes by this edge
 abbrev pub by_edge : Edge → List Step → Option Step
 by_edge e steps = find (goes_by e) steps
 
--- the step of an exception that leaves by this class; where it leaves by none, no valid program comes there, and there is no step
+-- the step of an exception that leaves by this class; where it leaves by none there is no step
 abbrev pub by_class : Option ClassId → List Step → Option Step
 by_class None steps = None
 by_class (Some c) steps = by_edge (edges.Throws c) steps
@@ -114,7 +114,7 @@ fits_target p h arrays m forms.Super v = true
 fits_target p h arrays m forms.This v = is_target_of p h arrays m v
 fits_target p h arrays m forms.Other v = is_target_of p h arrays m v
 
--- a target that is of another class has no such method; no valid program comes there
+-- a target that is of another class has no such method, and there is no step
 unfoldable pub call : Program → HeapContents → List ArrayObject → Choice → Locals → List Step → Action → Pos → MethodId → Move
 call p h arrays choice l steps a pos named =
     if has_null_target l a then null_target p steps pos named
@@ -187,7 +187,7 @@ pub data Return : Type 0 where
   Back : (e : Option ClassId) (named : MethodId) (t : Step) → Return
   -- the exception is ignored, and leaves the call at this place
   StrayBack : (e : ClassId) (pos : Pos) → Return
-  -- the caller stands at no call; no run comes there
+  -- the caller stands at no call
   NoWay : Return
 
 abbrev pub back_by : Option ClassId → MethodId → Option Step → Return

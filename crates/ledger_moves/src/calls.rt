@@ -5,18 +5,17 @@ ghost use Rattle.std.specs.Option.{option_map};
 ghost use Rattle.java_control.specs.Changes.{highest_steps, step_in};
 ghost use Rattle.java_control.specs.declared.action.Edge.TheVariants as edges;
 ghost use Rattle.java_control.specs.declared.cell.Cell.{Cell};
-ghost use Rattle.ledger_calls.specs.Calls.{body_of, form_of, operand_of};
+ghost use Rattle.ledger_frames.specs.Calls.{body_of, form_of, operand_of};
 ghost use Rattle.ledger_moves.specs.Frames.{control_left, move_seen};
 ghost use Rattle.ledger_moves.specs.Moves.{by_class, by_edge, call, call_of, fits_target, has_body, inner_by, is_target_of, library_as, library_by, library_call, null_target, program_call};
 ghost use Rattle.program_model.specs.Lookups.{method_at};
 
 use crate::advance::Advance;
 use java_control::{Action, Edge, TargetForm, Triple, target_form};
-use ledger_calls::{
+use ledger_frames::{
     has_null_target, is_stray_from, leaves_by, library_method, on_this, operand_of, running,
-    settled,
+    settled, step_by,
 };
-use ledger_frames::step_by;
 use ledger_obligations::is_library_method;
 use ledger_state::{ArrayObject, Heap, Locals, Value, is_instance};
 use program_model::{ClassId, MethodId, Program, VType, is_ignored};

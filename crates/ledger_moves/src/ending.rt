@@ -13,7 +13,7 @@ use crate::advance::CallEnd;
 use crate::calls::{by_class, by_edge};
 use crate::frames::frame_steps;
 use java_control::{Edge, Lists, Triple, called_method};
-use ledger_calls::{is_stray_from, leaves_by};
+use ledger_frames::{is_stray_from, leaves_by};
 use ledger_obligations::ActiveFrame;
 use program_model::{ClassId, MethodId, Program};
 use rlc_base::{NoMemory, Pos};

@@ -4,3 +4,4 @@ pub mod Heaps
 pub mod Fields
 pub mod Locals
 pub mod Classes
+pub mod Leaks

@@ -1,3 +1,5 @@
 pub mod Traces
+pub mod Links
+pub mod Promises
 pub mod Laws
 pub mod Counts

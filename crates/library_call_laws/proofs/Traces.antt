@@ -1,7 +1,6 @@
 -- Where an object after a call of the library comes from: it was there when the arguments had moved, and notes were added; or the
 -- call made it.
-use Rattle.std.proofs.Common.{◌≡◌, ◌⊎◌, inl, inr, ℕ, ◌+◌, ◌<◌, Bool, true, false, Option, Some, None, List, [], ◌++◌, slice_get, option_map, nat_eq, refl, sym, ap, ◌∙◌, subst, true≢false, if◌then◌else◌, arith, eqb-true, eq-eqb}
-use Rattle.std.specs.FinSet as set
+use Rattle.std.proofs.Common.{◌≡◌, ◌⊎◌, inl, inr, ℕ, ◌+◌, Bool, true, false, Option, Some, None, List, [], ◌++◌, slice_get, option_map, nat_eq, refl, sym, ap, ◌∙◌, subst, true≢false, if◌then◌else◌, arith, eqb-true, eq-eqb}
 use Rattle.std.specs.List.{list_any}
 use Rattle.rlc_base.specs.declared.place.Pos.{Pos}
 use Rattle.program_model.specs.declared.kinds.ClassId.{ClassId}
@@ -18,19 +17,19 @@ use Rattle.ledger_state.specs.declared.entry.Owner.TheVariants as owners
 use Rattle.ledger_state.specs.declared.locals.Locals.{Locals}
 use Rattle.ledger_state.specs.declared.object.Object.{Object}
 use Rattle.ledger_obligations.specs.declared.note.Note.{Note}
-use Rattle.ledger_obligations.specs.Obligations.{all_notes, finished, first_set, has_note, may_move, noted_object, reset_in}
-use Rattle.ledger_calls.specs.Calls.{alias_position, arguments_moved, operand_of, params_in, position_of, receiver_note, reset_position}
+use Rattle.ledger_obligations.specs.Obligations.{alias_born, all_notes, finished, first_set, may_move, noted_object, reset_in}
+use Rattle.ledger_calls.specs.Calls.{alias_position, arguments_moved, operand_of, params_in, position_object, position_of, reset_position}
 use Rattle.ledger_calls.specs.Conducts.{fresh_born, library_notes}
 use Rattle.ledger_steps.specs.CallSteps.{library_called, library_entries, library_heap, library_made, library_reset, library_roots}
 use Rattle.ledger_steps.specs.InnerSteps.{thrown_heap}
 use Rattle.ledger_entries.specs.Entries.{birth_entries, called_entries, owner_entries, reset_entries}
-use Rattle.run_command.specs.RunAnswers.{is_leak}
+use Rattle.ledger_state.specs.Leaks.{is_leak}
 use Rattle.heap_laws.specs.Heaps.{GoesOn, IsOlder}
 use Rattle.heap_laws.proofs.LineLaws.{any_in_both, birth_none, called_none, owner_none, reset_none}
 use Rattle.heap_laws.proofs.MoveLaws.{params_count, params_given, params_older}
-use Rattle.heap_laws.proofs.NoteLaws.{has_left, noted_goes_on, noted_has}
+use Rattle.heap_laws.proofs.NoteLaws.{noted_goes_on}
 use Rattle.heap_laws.proofs.ObjectLaws.{appended_at, changed_at, goes_on_further, in_range, unchanged}
-use Rattle.library_call_laws.specs.LibraryCalls.{IsMadeAs}
+use Rattle.library_call_laws.specs.LibraryCalls.{IsAliasMadeAs, IsAliasOf, IsMadeAs}
 
 mapped_back : (f : ℕ → Object → Object) (h : HeapContents) (n : ℕ) (y : Object) → object_at (change_each f h) n ≡ Some y → (x : Object) × (object_at h n ≡ Some x) × (f n x ≡ y)
 mapped_back f h n y at = go (object_at h n) refl (sym (changed_at f h n) ∙ at)
@@ -64,7 +63,7 @@ module _ (p : Program) (l : Locals) (a : Action) (named m : Option Method) (d : 
   count = params_count p owners.Library (operand_of l a) 1 (params_in named) h
 
   -- no root is reset
-  no_reset : reset_position named ≡ None → library_reset p l a named m d h ≡ library_called p l a named m d h
+  pub no_reset : reset_position named ≡ None → library_reset p l a named m d h ≡ library_called p l a named m d h
   no_reset none = rw none (unchanged (reset_in p (library_called p l a named m d h) []) (library_called p l a named m d h) (λ k x at. refl))
 
   abbrev IsOld : ℕ → Object → Type 0
@@ -89,7 +88,7 @@ module _ (p : Program) (l : Locals) (a : Action) (named m : Option Method) (d : 
   -- the call makes an object of the class, which is born by `f`
   making_trace : (P : Object → Type 0) (f : Object → Object) (e : ClassId) (n : ℕ) (y : Object) → library_made p l a named d h ≡ append moved e
       → library_heap p l a named m d i h ≡ change_one (next_number h) f (library_reset p l a named m d h) → reset_position named ≡ None
-      → ((x : Object) → x.class ≡ e → x.link ≡ None → P (f x))
+      → ((x : Object) → x.class ≡ e → x.link ≡ None → x.owner ≡ owners.Unowned → P (f x))
       → object_at (library_heap p l a named m d i h) n ≡ Some y → IsOld n y ⊎ ((n ≡ next_number h) × P y)
   making_trace P f e n y made heap none born at =
       let x = one_back (next_number h) f (library_reset p l a named m d h) n y (subst (λ (g : HeapContents). object_at g n ≡ Some y) heap at) in
@@ -100,37 +99,62 @@ module _ (p : Program) (l : Locals) (a : Action) (named m : Option Method) (d : 
       go : (x z : Object) → noted_object all n z ≡ x → ((n ≡ next_number h) × (z ≡ unfinished e)) ⊎ (((n ≡ next_number h) → ⊥) × (object_at moved n ≡ Some z))
           → ((n ≡ next_number h) × (f x ≡ y)) ⊎ (((n ≡ next_number h) → ⊥) × (x ≡ y)) → IsOld n y ⊎ ((n ≡ next_number h) × P y)
       go x z same (inl (here, new)) (inl (is, last)) =
-          inr (here, subst P last (born x (sym (ap (λ (u : Object). u.class) same) ∙ ap (λ (u : Object). u.class) new) (sym (ap (λ (u : Object). u.link) same) ∙ ap (λ (u : Object). u.link) new)))
+          inr (here, subst P last (born x (sym (ap (λ (u : Object). u.class) same) ∙ ap (λ (u : Object). u.class) new) (sym (ap (λ (u : Object). u.link) same) ∙ ap (λ (u : Object). u.link) new) (sym (ap (λ (u : Object). u.owner) same) ∙ ap (λ (u : Object). u.owner) new)))
       go x z same (inl (here, new)) (inr (other, last)) = absurd (other here)
       go x z same (inr (other, old)) (inl (is, last)) = absurd (other is)
       go x z same (inr (other, old)) (inr (out, last)) = inl (z, old, same ∙ last)
 
-abbrev pub IsTraced : Program → Locals → Action → Option Method → Option Method → Conduct → ℕ → HeapContents → ℕ → Object → Type 0
-IsTraced p l a named m d i h n y =
+-- what the call makes, where the aliased argument is at this position, or there is none
+abbrev pub IsBornAs : Program → Locals → Action → Option Method → ℕ → Conduct → Object → Option ℕ → Type 0
+IsBornAs p l a m i d y None = IsMadeAs p a m i d y
+IsBornAs p l a m i d y (Some k) = IsAliasMadeAs l a k d y
+
+abbrev pub IsTraced : Program → Locals → Action → Option Method → Option Method → Conduct → ℕ → HeapContents → ℕ → Object → Option ℕ → Type 0
+IsTraced p l a named m d i h n y alias =
     ((x : Object) × (object_at (arguments_moved p owners.Library l a named h) n ≡ Some x)
     × (noted_object (all_notes p (library_made p l a named d h) (library_notes p (library_made p l a named d h) l a named m (next_number h) d)) n x ≡ y))
-    ⊎ ((n ≡ next_number h) × IsMadeAs p a m i d y)
+    ⊎ ((n ≡ next_number h) × IsBornAs p l a m i d y alias)
 
-pub trace : (p : Program) (l : Locals) (a : Action) (named m : Option Method) (d : Conduct) (i : ℕ) (h : HeapContents) (n : ℕ) (y : Object) → reset_position named ≡ None → alias_position m ≡ None
-    → object_at (library_heap p l a named m d i h) n ≡ Some y → IsTraced p l a named m d i h n y
-trace p l a named m (conducts.Throws e) i h n y none plain at =
-    making_trace p l a named m (conducts.Throws e) i h (IsMadeAs p a m i (conducts.Throws e)) (finished (first_set p e None) owners.Library) e n y refl refl none
-    (λ x class link. (refl, link)) at
-trace p l a named m (conducts.Fresh e) i h n y none plain at =
-    making_trace p l a named m (conducts.Fresh e) i h (IsMadeAs p a m i (conducts.Fresh e)) (fresh_born p e m a i (position_of None l a)) e n y refl refl none
-    (λ x class link. rw plain (class, refl, refl, link)) at
-trace p l a named m conducts.Null i h n y none plain at = inl (plain_trace p l a named m conducts.Null i h n y refl refl none at)
-trace p l a named m (conducts.Existing k) i h n y none plain at = inl (plain_trace p l a named m (conducts.Existing k) i h n y refl refl none at)
-trace p l a named m conducts.Argument i h n y none plain at = inl (plain_trace p l a named m conducts.Argument i h n y refl refl none at)
-trace p l a named m (conducts.Value z) i h n y none plain at = inl (plain_trace p l a named m (conducts.Value z) i h n y refl refl none at)
-trace p l a named m conducts.Nothing i h n y none plain at = inl (plain_trace p l a named m conducts.Nothing i h n y refl refl none at)
-
-pub older_or_made : (p : Program) (l : Locals) (a : Action) (named m : Option Method) (d : Conduct) (i : ℕ) (h : HeapContents) (n : ℕ) (y : Object)
-    → reset_position named ≡ None → alias_position m ≡ None → object_at (library_heap p l a named m d i h) n ≡ Some y
-    → IsOlder h n y owners.Library ⊎ ((n ≡ next_number h) × IsMadeAs p a m i d y)
-older_or_made p l a named m d i h n y none plain at = go (trace p l a named m d i h n y none plain at)
+-- a fresh result is born so
+fresh_is_born : (p : Program) (l : Locals) (a : Action) (m : Option Method) (i : ℕ) (e : ClassId) (alias : Option ℕ) → alias_position m ≡ alias → (x : Object) → x.class ≡ e → x.link ≡ None
+    → x.owner ≡ owners.Unowned → IsBornAs p l a m i (conducts.Fresh e) (fresh_born p e m a i (position_of None l a) x) alias
+fresh_is_born p l a m i e None is x class link owner = rw is (class, refl, refl, link)
+fresh_is_born p l a m i e (Some k) is x class link owner =
+    subst (λ (y : Object). IsBornAs p l a m i (conducts.Fresh e) y (Some k)) (sym born) (by_target (position_object (position_of None l a) k))
   where
-    go : IsTraced p l a named m d i h n y → IsOlder h n y owners.Library ⊎ ((n ≡ next_number h) × IsMadeAs p a m i d y)
+    born : fresh_born p e m a i (position_of None l a) x ≡ alias_born p true (position_object (position_of None l a) k) x
+    born = rw is refl
+
+    by_target : (t : Option ℕ) → ((alias_born p true t x).class ≡ e) × ((alias_born p true t x).finished ≡ true) × IsAliasOf t (alias_born p true t x)
+    by_target None = (class, refl, (refl, refl, link))
+    by_target (Some w) = (class, refl, (owner, refl))
+
+-- an exception is born so
+thrown_is_born : (p : Program) (l : Locals) (a : Action) (m : Option Method) (i : ℕ) (e : ClassId) (alias : Option ℕ) (x : Object) → x.link ≡ None
+    → IsBornAs p l a m i (conducts.Throws e) (finished (first_set p e None) owners.Library x) alias
+thrown_is_born p l a m i e None x link = (refl, link)
+thrown_is_born p l a m i e (Some k) x link = (refl, link)
+
+pub trace : (p : Program) (l : Locals) (a : Action) (named m : Option Method) (d : Conduct) (i : ℕ) (h : HeapContents) (n : ℕ) (y : Object) (alias : Option ℕ) → reset_position named ≡ None
+    → alias_position m ≡ alias → object_at (library_heap p l a named m d i h) n ≡ Some y → IsTraced p l a named m d i h n y alias
+trace p l a named m (conducts.Throws e) i h n y alias none is at =
+    making_trace p l a named m (conducts.Throws e) i h (λ (z : Object). IsBornAs p l a m i (conducts.Throws e) z alias) (finished (first_set p e None) owners.Library) e n y refl refl none
+    (λ x class link owner. thrown_is_born p l a m i e alias x link) at
+trace p l a named m (conducts.Fresh e) i h n y alias none is at =
+    making_trace p l a named m (conducts.Fresh e) i h (λ (z : Object). IsBornAs p l a m i (conducts.Fresh e) z alias) (fresh_born p e m a i (position_of None l a)) e n y refl refl none
+    (fresh_is_born p l a m i e alias is) at
+trace p l a named m conducts.Null i h n y alias none is at = inl (plain_trace p l a named m conducts.Null i h n y refl refl none at)
+trace p l a named m (conducts.Existing k) i h n y alias none is at = inl (plain_trace p l a named m (conducts.Existing k) i h n y refl refl none at)
+trace p l a named m conducts.Argument i h n y alias none is at = inl (plain_trace p l a named m conducts.Argument i h n y refl refl none at)
+trace p l a named m (conducts.Value z) i h n y alias none is at = inl (plain_trace p l a named m (conducts.Value z) i h n y refl refl none at)
+trace p l a named m conducts.Nothing i h n y alias none is at = inl (plain_trace p l a named m conducts.Nothing i h n y refl refl none at)
+
+older_or_born : (p : Program) (l : Locals) (a : Action) (named m : Option Method) (d : Conduct) (i : ℕ) (h : HeapContents) (n : ℕ) (y : Object) (alias : Option ℕ)
+    → reset_position named ≡ None → alias_position m ≡ alias → object_at (library_heap p l a named m d i h) n ≡ Some y
+    → IsOlder h n y owners.Library ⊎ ((n ≡ next_number h) × IsBornAs p l a m i d y alias)
+older_or_born p l a named m d i h n y alias none is at = go (trace p l a named m d i h n y alias none is at)
+  where
+    go : IsTraced p l a named m d i h n y alias → IsOlder h n y owners.Library ⊎ ((n ≡ next_number h) × IsBornAs p l a m i d y alias)
     go (inr made) = inr made
     go (inl (x, before, same)) =
         let old = params_older p owners.Library (operand_of l a) 1 (params_in named) h n x before in
@@ -142,37 +166,37 @@ older_or_made p l a named m d i h n y none plain at = go (trace p l a named m d 
           owner = subst (λ (z : Object). (z.owner ≡ old.before.owner) ⊎ (z.owner ≡ owners.Library)) same old.owner;
         })
 
+pub older_or_made : (p : Program) (l : Locals) (a : Action) (named m : Option Method) (d : Conduct) (i : ℕ) (h : HeapContents) (n : ℕ) (y : Object)
+    → reset_position named ≡ None → alias_position m ≡ None → object_at (library_heap p l a named m d i h) n ≡ Some y
+    → IsOlder h n y owners.Library ⊎ ((n ≡ next_number h) × IsMadeAs p a m i d y)
+older_or_made p l a named m d i h n y none plain at = older_or_born p l a named m d i h n y None none plain at
+
+pub older_or_alias : (p : Program) (l : Locals) (a : Action) (named m : Option Method) (d : Conduct) (i : ℕ) (h : HeapContents) (n k : ℕ) (y : Object)
+    → reset_position named ≡ None → alias_position m ≡ Some k → object_at (library_heap p l a named m d i h) n ≡ Some y
+    → IsOlder h n y owners.Library ⊎ ((n ≡ next_number h) × IsAliasMadeAs l a k d y)
+older_or_alias p l a named m d i h n k y none alias at = older_or_born p l a named m d i h n y (Some k) none alias at
+
 -- an object that was there before the call is traced to the arguments that moved
-traced : (p : Program) (l : Locals) (a : Action) (named m : Option Method) (d : Conduct) (i : ℕ) (h : HeapContents) (n : ℕ) (x y : Object) → reset_position named ≡ None → alias_position m ≡ None
+traced : (p : Program) (l : Locals) (a : Action) (named m : Option Method) (d : Conduct) (i : ℕ) (h : HeapContents) (n : ℕ) (x y : Object) → reset_position named ≡ None
     → object_at h n ≡ Some x → object_at (library_heap p l a named m d i h) n ≡ Some y
     → (z : Object) × (object_at (arguments_moved p owners.Library l a named h) n ≡ Some z)
     × (noted_object (all_notes p (library_made p l a named d h) (library_notes p (library_made p l a named d h) l a named m (next_number h) d)) n z ≡ y)
-traced p l a named m d i h n x y none plain before at = go (trace p l a named m d i h n y none plain at)
+traced p l a named m d i h n x y none before at = go (trace p l a named m d i h n y (alias_position m) none refl at)
   where
-    go : IsTraced p l a named m d i h n y
+    go : IsTraced p l a named m d i h n y (alias_position m)
         → (z : Object) × (object_at (arguments_moved p owners.Library l a named h) n ≡ Some z)
         × (noted_object (all_notes p (library_made p l a named d h) (library_notes p (library_made p l a named d h) l a named m (next_number h) d)) n z ≡ y)
     go (inl old) = old
     go (inr (here, made)) = absurd (let range = in_range h n x before in omega (arith, range.1, here))
 
 pub given_stays : (p : Program) (l : Locals) (a : Action) (named m : Option Method) (d : Conduct) (i j : ℕ) (q : ParamSig) (h : HeapContents) (n : ℕ) (x y : Object)
-    → reset_position named ≡ None → alias_position m ≡ None → slice_get (params_in named) j ≡ Some q → q.owning ≡ true → root_of h (operand_of l a (1 + j)) ≡ Some n
+    → reset_position named ≡ None → slice_get (params_in named) j ≡ Some q → q.owning ≡ true → root_of h (operand_of l a (1 + j)) ≡ Some n
     → object_at h n ≡ Some x → may_move p q.vtype x ≡ true → object_at (library_heap p l a named m d i h) n ≡ Some y → y.owner ≡ owners.Library
-given_stays p l a named m d i j q h n x y none plain there owning root before may at =
-    let z = traced p l a named m d i h n x y none plain before at in
+given_stays p l a named m d i j q h n x y none there owning root before may at =
+    let z = traced p l a named m d i h n x y none before at in
     let w = params_given p owners.Library (operand_of l a) 1 j (params_in named) q h n x there owning root before may in
     let same : w.0 ≡ z.0 = (let both : Some w.0 ≡ Some z.0 = sym w.1 ∙ z.1 in cc) in
     sym (ap (λ (u : Object). u.owner) z.2) ∙ sym (ap (λ (u : Object). u.owner) same) ∙ w.2
-
-pub called_on_receiver : (p : Program) (l : Locals) (a : Action) (named m : Option Method) (d : Conduct) (i : ℕ) (h : HeapContents) (note : Note) (x y : Object)
-    → reset_position named ≡ None → alias_position m ≡ None → has_note (receiver_note l a named) note ≡ true → note.name.0 < 128
-    → object_at h note.object ≡ Some x → object_at (library_heap p l a named m d i h) note.object ≡ Some y → set.contains y.called note.name.0 ≡ true
-called_on_receiver p l a named m d i h note x y none plain has small before at =
-    let z = traced p l a named m d i h note.object x y none plain before at in
-    let made = library_made p l a named d h in
-    let notes = library_notes p made l a named m (next_number h) d in
-    ap (λ (u : Object). set.contains u.called note.name.0) (sym z.2)
-    ∙ noted_has p notes made note z.0 (has_left (receiver_note l a named) _ note has) small
 
 pub leaks_nothing : (p : Program) (pos : Pos) (l : Locals) (a : Action) (named m : Option Method) (d : Conduct) (i : ℕ) (h : HeapContents)
     → list_any is_leak (library_entries p pos l a named m d i h) ≡ false

@@ -1,13 +1,16 @@
 -- What a call of the library makes.
-use Rattle.std.specs.Prelude.{◌≡◌, ℕ, Option, None}
+use Rattle.std.specs.Prelude.{◌≡◌, ℕ, true, Option, None, Some}
+use Rattle.std.specs.FinSet as set
 use Rattle.program_model.specs.declared.program.Method.{Method}
 use Rattle.program_model.specs.declared.program.Program.{Program}
 use Rattle.java_control.specs.declared.action.Action.{Action}
 use Rattle.stub_conduct.specs.declared.choice.Conduct.{Conduct}
 use Rattle.stub_conduct.specs.declared.choice.Conduct.TheVariants as conducts
 use Rattle.ledger_state.specs.declared.entry.Owner.TheVariants as owners
+use Rattle.ledger_state.specs.declared.locals.Locals.{Locals}
 use Rattle.ledger_state.specs.declared.object.Object.{Object}
 use Rattle.ledger_obligations.specs.Obligations.{first_set}
+use Rattle.ledger_calls.specs.Calls.{position_object, position_of}
 use Rattle.ledger_calls.specs.Conducts.{first_in, result_owner}
 
 -- The call makes this object: an exception is the library's, and a result has the set and the owner that the signature gives. `i` is
@@ -20,3 +23,20 @@ IsMadeAs p a m i (conducts.Existing k) y = ⊥
 IsMadeAs p a m i conducts.Argument y = ⊥
 IsMadeAs p a m i (conducts.Value z) y = ⊥
 IsMadeAs p a m i conducts.Nothing y = ⊥
+
+-- It is an alias of this object: it is linked to it, and nobody owns it, since that object has the obligation. An alias of null is the library's, and
+-- nothing must be called on it.
+abbrev pub IsAliasOf : Option ℕ → Object → Type 0
+IsAliasOf None y = (y.must ≡ set.empty) × (y.owner ≡ owners.Library) × (y.link ≡ None)
+IsAliasOf (Some w) y = (y.owner ≡ owners.Unowned) × (y.link ≡ Some (record { to = w; by_library = true }))
+
+-- The call makes this object, where the argument at position `k` is the aliased one: an exception is the library's, and a result is an alias of
+-- the argument.
+abbrev pub IsAliasMadeAs : Locals → Action → ℕ → Conduct → Object → Type 0
+IsAliasMadeAs l a k (conducts.Throws e) y = (y.owner ≡ owners.Library) × (y.link ≡ None)
+IsAliasMadeAs l a k (conducts.Fresh e) y = (y.class ≡ e) × (y.finished ≡ true) × IsAliasOf (position_object (position_of None l a) k) y
+IsAliasMadeAs l a k conducts.Null y = ⊥
+IsAliasMadeAs l a k (conducts.Existing j) y = ⊥
+IsAliasMadeAs l a k conducts.Argument y = ⊥
+IsAliasMadeAs l a k (conducts.Value z) y = ⊥
+IsAliasMadeAs l a k conducts.Nothing y = ⊥

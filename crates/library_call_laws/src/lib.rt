@@ -4,6 +4,8 @@
 mod calls;
 
 pub use calls::{
-    exceptions_are_the_librarys, given_arguments_stay_given, library_calls_leak_nothing,
-    library_objects_are_older_or_made, receiver_is_called,
+    exceptions_are_the_librarys, exceptions_keep_links, given_arguments_stay_given,
+    library_aliases_are_older_or_made, library_calls_leak_nothing, library_links_stay,
+    library_objects_are_older_or_made, library_objects_go_on, promised_names_are_called,
+    receiver_is_called,
 };

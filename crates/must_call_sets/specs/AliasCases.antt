@@ -8,6 +8,8 @@ use Rattle.rlc_base.specs.declared.faults.Refusal.{Refusal}
 use Rattle.rlc_base.specs.declared.place.Pos.{Pos}
 use Rattle.program_model.specs.declared.kinds.ClassId.{ClassId}
 use Rattle.program_model.specs.declared.kinds.FieldId.{FieldId}
+use Rattle.program_model.specs.declared.kinds.VType.{VType}
+use Rattle.program_model.specs.declared.kinds.VType.TheVariants as types
 use Rattle.program_model.specs.declared.program.Program.{Program}
 use Rattle.program_model.specs.declared.program.Class.{Class}
 use Rattle.program_model.specs.declared.program.Method.{Method}
@@ -21,7 +23,7 @@ use Rattle.program_model.specs.declared.tree.StatementKind.{StatementKind}
 use Rattle.program_model.specs.declared.tree.StatementKind.TheVariants as statements
 use Rattle.program_model.specs.declared.kinds.BodyId.{BodyId}
 use Rattle.program_model.specs.Lookups.{class_at, method_at, field_at, body_at, statement_at}
-use Rattle.program_model.specs.SuperTests.{is_under}
+use Rattle.program_model.specs.SuperTests.{has_class, is_under}
 use Rattle.program_model.specs.Overrides.{Overriding}
 use Rattle.rlc_base.specs.NameSet.{is_same}
 use Rattle.must_call_sets.specs.MustCallSets.{Names, no_names, must_of, must_of_optional, is_heavy_class}
@@ -91,12 +93,32 @@ optional_body p (Some b) = body_at p b
 abbrev pub calls_alias : Program → Method → Bool
 calls_alias p m = calls_alias_in p (optional_body p m.body)
 
-abbrev pub is_bad_alias_method : Program → Method → Bool
-is_bad_alias_method p m =
+-- the class is the named one or under it, and one of exceptions (JLS 11.1.1)
+abbrev pub is_exception_under : Program → ClassId → Class → Bool
+is_exception_under p c k = has_class k.above.items c && has_class k.above.items p.core.throwable
+
+-- there is such a class
+abbrev pub has_exception_under : Program → ClassId → Bool
+has_exception_under p c = list_any (is_exception_under p c) p.classes.items
+
+abbrev pub may_be_exception : Program → Option VType → Bool
+may_be_exception p (Some (types.Obj c)) = has_exception_under p c
+may_be_exception p _ = false
+
+-- The alias may be an exception. No rule follows a resource through a `throw`, so such an alias would leave their sight.
+abbrev pub gives_exception : Program → Method → Bool
+gives_exception p m = is_present m.sig.alias && may_be_exception p m.sig.result
+
+-- the annotations, the sets or the super call do not go with an alias
+abbrev pub has_bad_alias_form : Program → Method → Bool
+has_bad_alias_form p m =
     is_half_marked m
     || has_unequal_sets p m m.sig.alias
     || has_owning_alias m m.sig.alias
     || calls_alias p m
+
+abbrev pub is_bad_alias_method : Program → Method → Bool
+is_bad_alias_method p m = has_bad_alias_form p m || gives_exception p m
 
 abbrev pub alias_cases_of_method : Program → Method → List Refusal
 alias_cases_of_method p m = bad_alias (is_bad_alias_method p m) m.pos

@@ -15,7 +15,7 @@ use Rattle.body_origins.specs.Nodes.{relation_in}
 use Rattle.body_origins.specs.Origins.{origins_of}
 use Rattle.body_origins.specs.Pairs.{IsReachedPair, Pair, ReachesMorePairs, most_pairs}
 use Rattle.reached_facts.specs.Reading.{AreReachedPairs}
-use Rattle.path_faults.proofs.ListedLaws.{reach_listed}
+use Rattle.body_faults.proofs.ListedLaws.{reach_listed}
 use Rattle.obligation_paths.proofs.BirthLaws.{fact_same, reach_unnumbered}
 
 module _ (p : Program) (b : BodyId) (rows : List (List Arc)) (origins : List Origin) (facts : List Fact) (pairs : List (ℕ × Handle))

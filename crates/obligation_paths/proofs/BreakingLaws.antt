@@ -27,7 +27,7 @@ use Rattle.body_origins.specs.Nodes.{arcs_at, move_of, relation_in}
 use Rattle.reached_facts.specs.Steps.{Begins, Leads}
 use Rattle.shortest_paths.specs.Telling.{IsShortestPath, IsToldStep, step_from, told}
 use Rattle.shortest_paths.proofs.TellingLaws.{length_push}
-use Rattle.path_faults.proofs.FirstLaws.{first_least}
+use Rattle.body_faults.proofs.FirstLaws.{first_least}
 use Rattle.body_faults.specs.Breaches.{IsFirstBreach}
 use Rattle.body_faults.specs.declared.breach.Breach.{Breach}
 use Rattle.body_faults.specs.declared.breach.Breached.{Breached}

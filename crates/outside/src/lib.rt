@@ -9,8 +9,6 @@ mod host_sink;
 mod memory_files;
 mod memory_sink;
 mod sink;
-#[cfg(test)]
-mod tests;
 
 pub use files::{Files, MAX_FILE, ReadFail};
 pub use host_files::HostFiles;

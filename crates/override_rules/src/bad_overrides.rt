@@ -4,7 +4,7 @@ ghost use Rattle.std.specs.Prelude.{◌≡◌};
 ghost use Rattle.std.specs.List.{list_all};
 ghost use Rattle.must_call_sets.specs.OverrideCases.{asks_for_more, differ, has_other_owning, has_other_result, has_wider_result, is_bad_override, is_field_target, is_one_of, keeps, keeps_at, overrides_first_set, promises_beside_set, promises_less, promises_on_field};
 
-use class_members::is_library;
+use class_overrides::is_library;
 use must_call_sets::{must, must_of_optional, names_promised_at};
 use program_model::{Method, ParamSig, Program, Promise, Sig, Target};
 use rlc_base::{NameSet, Text};

@@ -1,5 +1,5 @@
 pub mod Lists
 mod Signatures
-mod Runs
+pub mod Runs
 mod Pairs
 mod Overriding

@@ -1,16 +1,13 @@
 -- The heap that a frame leaves.
-use Rattle.std.proofs.Common.{◌≡◌, ◌∙◌, ap, sym, refl, subst, ℕ, zero, suc, ◌+◌, ◌<◌, ◌≤◌, Bool, true, false, not, ◌&&◌, ◌||◌, nat_eq, Option, Some, None, option_map, List, [], ◌∷◌, length, arith}
+use Rattle.std.proofs.Common.{◌≡◌, ◌∙◌, ap, sym, refl, ℕ, zero, suc, ◌+◌, ◌≤◌, Bool, true, false, not, ◌&&◌, ◌||◌, nat_eq, Option, Some, None, option_map, List, [], ◌∷◌, length, arith}
 use Rattle.std.proofs.lemmas.Grind.{common_steps}
-use Rattle.std.specs.Prelude.{nat_le, if◌then◌else◌}
-use Rattle.std.specs.List.{list_any}
 use Rattle.ledger_state.specs.declared.entry.Owner.{Owner}
 use Rattle.ledger_state.specs.declared.entry.Owner.TheVariants as owners
-use Rattle.ledger_state.specs.declared.object.Link.{Link}
 use Rattle.ledger_state.specs.declared.object.Object.{Object}
 use Rattle.ledger_state.specs.declared.value.Value.{Value}
 use Rattle.ledger_state.specs.declared.value.Value.TheVariants as values
 use Rattle.ledger_state.specs.Contents.{HeapContents}
-use Rattle.ledger_state.specs.Heaps.{change_each, change_one, changed_from, follow, link_of, linked_by, object_at, only_at, root, root_of, root_within, same_root, with_objects}
+use Rattle.ledger_state.specs.Heaps.{change_one, changed_from, follow, link_of, linked_by, object_at, only_at, root, root_of, root_within, same_root, with_objects}
 use Rattle.ledger_obligations.specs.Obligations.{end_frame, given_up, given_up_by_frame, holds, is_frame, is_unmet}
 use Rattle.settled_heaps.specs.Settled.{Settled, drops, drops_any, drops_object, drops_root, is_kept, is_settled}
 use Rattle.plain_calls.proofs.ChangeLaws.{length_changed}

@@ -1,12 +1,11 @@
 -- Returns by which a frame gives up what it owns, and what they leave.
-use Rattle.std.proofs.Common.{◌≡◌, ◌∙◌, ap, sym, refl, subst, ℕ, zero, suc, ◌+◌, ◌<◌, ◌≤◌, Bool, true, false, not, ◌&&◌, ◌||◌, nat_eq, Option, Some, None, option_map, List, [], ◌∷◌, length, map, reverse, arith}
+use Rattle.std.proofs.Common.{◌≡◌, ◌∙◌, ap, sym, refl, subst, ℕ, ◌+◌, ◌≤◌, Bool, true, false, not, ◌&&◌, nat_eq, Option, Some, None, option_map, List, [], ◌∷◌, length, map, reverse, arith}
 use Rattle.std.proofs.lemmas.Grind.{common_steps}
-use Rattle.std.specs.Prelude.{if◌then◌else◌}
+use Rattle.std.specs.Prelude.{if◌then◌else◌, is_some, IfSome}
 use Rattle.program_model.specs.declared.kinds.VType.{VType}
 use Rattle.program_model.specs.declared.program.Program.{Program}
 use Rattle.program_model.specs.declared.program.Method.{Method}
 use Rattle.java_control.specs.declared.action.Action.{Action}
-use Rattle.ledger_state.specs.declared.entry.Owner.{Owner}
 use Rattle.ledger_state.specs.declared.entry.Owner.TheVariants as owners
 use Rattle.ledger_state.specs.declared.locals.Locals.{Locals}
 use Rattle.ledger_state.specs.declared.object.Object.{Object}
@@ -17,22 +16,24 @@ use Rattle.ledger_state.specs.Locals.{held}
 use Rattle.ledger_state.specs.Values.{number_of}
 use Rattle.ledger_obligations.specs.declared.active_frame.ActiveFrame.{ActiveFrame}
 use Rattle.ledger_obligations.specs.declared.note.Note.{Note}
-use Rattle.ledger_obligations.specs.Obligations.{end_frame, given_up_by_frame, held_in, is_frame, may_move, may_move_in, may_move_root, move, moved_to, with_owner}
+use Rattle.ledger_obligations.specs.Obligations.{end_frame, given_up_by_frame, held_in, may_move_in, may_move_root, moved_to, with_owner}
 use Rattle.ledger_obligations.proofs.ChangeLaws.{change_as}
-use Rattle.ledger_calls.specs.Calls.{alias_target, is_alias, operand_of, receiver_note}
+use Rattle.ledger_calls.specs.Calls.{alias_target, is_alias, operand_of, receiver_note, reset_target}
 use Rattle.ledger_calls.specs.Conducts.{owning_in, result_in}
-use Rattle.ledger_steps.specs.Ends.{call_ended, frame_ended, frame_gone, moved_as, object_finished, result_moved, returned_heap}
+use Rattle.ledger_steps.specs.Ends.{call_ended, frame_ended, moved_as, result_moved, returned_heap}
 use Rattle.settled_heaps.specs.Settled.{Settled, drops_any}
 use Rattle.settled_heaps.proofs.SettledLaws.{still_settled}
 use Rattle.plain_calls.specs.declared.change.Numbered.{Numbered}
-use Rattle.plain_calls.specs.PlainCalls.{NotedBy, PlainNotes, made_settled, numbered, put_noted}
+use Rattle.plain_calls.specs.declared.notes.PlainNote.{PlainNote}
+use Rattle.plain_calls.specs.PlainCalls.{NotedBy, PlainNotes, made_settled, put_noted}
 use Rattle.plain_calls.proofs.KeptLaws.{made_is_settled}
 use Rattle.plain_calls.proofs.PlainLaws.{count_below}
 use Rattle.plain_returns.specs.PlainReturns.{ChangedBy, Finished, FinishedAs, is_new, moves_as, moves_result}
 use Rattle.plain_returns.proofs.ReturnLaws.{call_leaves, changed_settled, moved_none, put_there, settled_replaced, settled_under}
 use Rattle.frame_owners.specs.FrameOwners.{Listed}
 use Rattle.frame_owners.proofs.ReleaseLaws.{object_each}
-use Rattle.owned_returns.specs.OwnedReturns.{IsOwnedReturn, MovedAs, MovedBy, MovedRoot, SameThere, left_by_frame}
+use Rattle.owned_returns.specs.declared.returns.ReturnChange.{ReturnChange}
+use Rattle.owned_returns.specs.OwnedReturns.{IsOwnedReturn, LosesOne, MovedAs, MovedBy, MovedRoot, OwnsMetBut, SameThere, left_by_frame}
 use Rattle.owned_returns.proofs.LeftLaws.{ended_below, ended_drops, ended_put, ended_settled, left_link}
 
 -- The result
@@ -65,12 +66,12 @@ result_moves true p i runs new h v moved e by = owning_moves (owning_in runs && 
 
 -- The heap
 
-pub frame_leaves : (p : Program) (i : ℕ) (self : Value) (l : Locals) (a : Action) (runs named : Option Method) (v : Value) (h : HeapContents) (new : List Value) (moved n : Option Numbered) → IsOwnedReturn p i self l a runs named v h new moved n → frame_ended p i runs v None h ≡ left_by_frame i moved h
-frame_leaves p i self l a runs named v h new moved n is = ap (end_frame (i + 1)) (result_moves (moves_result p h runs v) p i runs new h v moved refl is.moves)
+pub frame_leaves : (p : Program) (i : ℕ) (self : Value) (l : Locals) (a : Action) (runs named : Option Method) (v : Value) (h : HeapContents) (new : List Value) (moved lost n : Option Numbered) → IsOwnedReturn p i self l a runs named v h new moved lost n → frame_ended p i runs v None h ≡ left_by_frame i moved h
+frame_leaves p i self l a runs named v h new moved lost n is = ap (end_frame (i + 1)) (result_moves (moves_result p h runs v) p i runs new h v moved refl is.moves)
 
-pub owned_leaves : (p : Program) (i : ℕ) (self : Value) (l : Locals) (a : Action) (runs named : Option Method) (v : Value) (h : HeapContents) (new : List Value) (moved n : Option Numbered) → IsOwnedReturn p i self l a runs named v h new moved n → returned_heap p i self l a runs named v None h ≡ put_noted n (left_by_frame i moved h)
-owned_leaves p i self l a runs named v h new moved n is =
-    ap (call_ended p i self l a named None) (frame_leaves p i self l a runs named v h new moved n is)
+pub owned_leaves : (p : Program) (i : ℕ) (self : Value) (l : Locals) (a : Action) (runs named : Option Method) (v : Value) (h : HeapContents) (new : List Value) (moved lost n : Option Numbered) → IsOwnedReturn p i self l a runs named v h new moved lost n → returned_heap p i self l a runs named v None h ≡ put_noted n (left_by_frame i moved h)
+owned_leaves p i self l a runs named v h new moved lost n is =
+    ap (call_ended p i self l a named None) (frame_leaves p i self l a runs named v h new moved lost n is)
     ∙ call_leaves (is_new a) p i self l a named (left_by_frame i moved h) new n refl is.resets is.changes
 
 -- What is left to lose
@@ -100,8 +101,8 @@ result_settled true i new rest h v moved place by settled = root_settled i new r
 result_settled false i new rest h v None place by settled = settled
 result_settled false i new rest h v (Some b) place by settled = absurd by
 
-pub owned_settled : (p : Program) (i : ℕ) (self : Value) (l : Locals) (a : Action) (runs named : Option Method) (v : Value) (h : HeapContents) (ended new : List Value) (below : List ActiveFrame) (lists : List (List ℕ)) (moved n : Option Numbered) → i ≡ length below + 1 → length lists ≡ i + 1 → IsOwnedReturn p i self l a runs named v h new moved n → Listed lists h → drops_any h i (held l) new ≡ false → Settled h (ended ∷ held l ∷ map held_in (reverse below)) → Settled (put_noted n (left_by_frame i moved h)) (new ∷ map held_in (reverse below))
-owned_settled p i self l a runs named v h ended new below lists moved n place count is listed drops settled =
+pub owned_settled : (p : Program) (i : ℕ) (self : Value) (l : Locals) (a : Action) (runs named : Option Method) (v : Value) (h : HeapContents) (ended new : List Value) (below : List ActiveFrame) (lists : List (List ℕ)) (moved lost n : Option Numbered) → i ≡ length below + 1 → length lists ≡ i + 1 → IsOwnedReturn p i self l a runs named v h new moved lost n → Listed lists h → drops_any h i (held l) new ≡ false → Settled h (ended ∷ held l ∷ map held_in (reverse below)) → Settled (put_noted n (left_by_frame i moved h)) (new ∷ map held_in (reverse below))
+owned_settled p i self l a runs named v h ended new below lists moved lost n place count is listed drops settled =
     let rest = map held_in (reverse below) in
     let g = end_frame (i + 1) h in
     let at : i ≡ length rest + 1 = place ∙ ap (λ k. k + 1) (sym (count_below below)) in
@@ -144,3 +145,21 @@ notes_there h g (a ∷ c ∷ ns) n same by = by
 pub changed_there : (w : Bool) (p : Program) (i : ℕ) (self : Value) (l : Locals) (a : Action) (named : Option Method) (h g : HeapContents) (new : List Value) (n : Option Numbered) → SameThere h g n → ChangedBy w p i self l a named h new n → ChangedBy w p i self l a named g new n
 changed_there true p i self l a named h g new n same by = self_there p i named (alias_target (operand_of l a) named) new h g (number_of self) n same by
 changed_there false p i self l a named h g new n same by = notes_there h g (receiver_note l a named) n same by
+
+-- What the return changes, from what each part finds
+
+pub change_is : (p : Program) (i : ℕ) (self : Value) (l : Locals) (a : Action) (runs named : Option Method) (v : Value) (h : HeapContents) (new : List Value) (moved lost : Option Numbered) (found : Option PlainNote) (res : Option ReturnChange) → MovedBy (moves_result p h runs v) i new h v moved → OwnsMetBut (i + 1) lost (put_noted moved h) → LosesOne (i + 1) moved h lost → IfSome found (λ r. (reset_target (operand_of l a) named ≡ None) × ChangedBy (is_new a) p i self l a named h new r.noted) → IfSome res (λ c. c.moved ≡ moved) → IfSome res (λ c. c.lost ≡ lost) → IfSome res (λ c. IfSome found (λ r. r.noted ≡ c.noted)) → IfSome res (λ c. is_some found ≡ true) → IfSome res (λ c. SameThere h (left_by_frame i c.moved h) c.noted) → IfSome res (λ c. IsOwnedReturn p i self l a runs named v h new c.moved c.lost c.noted)
+change_is p i self l a runs named v h new moved lost found None moves met one note of_move of_loss of_note some same = tt
+change_is p i self l a runs named v h new moved lost None (Some c) moves met one note of_move of_loss of_note some same = absurd (cc)
+change_is p i self l a runs named v h new moved lost (Some r) (Some c) moves met one note of_move of_loss of_note some same =
+    let there : SameThere h (left_by_frame i moved h) c.noted = subst (λ (m : Option Numbered). SameThere h (left_by_frame i m h) c.noted) of_move same in
+    let by : ChangedBy (is_new a) p i self l a named h new c.noted = subst (λ (n : Option Numbered). ChangedBy (is_new a) p i self l a named h new n) of_note note.1 in
+    let whole : IsOwnedReturn p i self l a runs named v h new moved lost c.noted = record {
+      moves = moves;
+      met = met;
+      one = one;
+      resets = note.0;
+      changes = changed_there (is_new a) p i self l a named h (left_by_frame i moved h) new c.noted there by;
+    } in
+    subst (λ (m : Option Numbered). IsOwnedReturn p i self l a runs named v h new m c.lost c.noted) (sym of_move)
+    (subst (λ (k : Option Numbered). IsOwnedReturn p i self l a runs named v h new moved k c.noted) (sym of_loss) whole)

@@ -1,21 +1,20 @@
 -- Objects that a return leaves as they are, and those that it finds met.
-use Rattle.std.proofs.Common.{◌≡◌, ◌∙◌, ap, sym, refl, subst, ℕ, suc, ◌+◌, Bool, true, false, not, ◌&&◌, ◌||◌, nat_eq, Option, Some, None, option_map, List, [], ◌∷◌, length, take, arith}
+use Rattle.std.proofs.Common.{◌≡◌, ◌∙◌, ap, sym, refl, subst, ℕ, ◌+◌, Bool, true, false, not, ◌&&◌, ◌||◌, nat_eq, Option, Some, None, option_map, List, [], ◌∷◌, length, take, arith}
 use Rattle.std.proofs.lemmas.Grind.{common_steps}
-use Rattle.std.specs.Prelude.{if◌then◌else◌}
 use Rattle.std.specs.List.{list_any}
 use Rattle.ledger_state.specs.declared.entry.Owner.TheVariants as owners
 use Rattle.ledger_state.specs.declared.object.Object.{Object}
 use Rattle.ledger_state.specs.declared.value.Value.{Value}
 use Rattle.ledger_state.specs.Contents.{HeapContents}
-use Rattle.ledger_state.specs.Heaps.{change_one, has_number, next_number, object_at, only_at, root_of}
-use Rattle.ledger_obligations.specs.Obligations.{given_up_by_frame, is_frame, is_unmet, owner_in, with_owner}
+use Rattle.ledger_state.specs.Heaps.{has_number, next_number, object_at, only_at, root_of}
+use Rattle.ledger_obligations.specs.Obligations.{given_up_by_frame, is_frame, is_unmet, owner_in}
 use Rattle.plain_calls.specs.declared.change.Numbered.{Numbered}
 use Rattle.plain_calls.specs.PlainCalls.{add_made, left_by, put_noted}
 use Rattle.frame_owners.specs.FrameOwners.{HasAll, Listed, is_listed, list_at, owns_unmet, released}
 use Rattle.frame_owners.proofs.ListLaws.{listed_more}
 use Rattle.frame_owners.proofs.OwnerLaws.{all_listed, listed_ended, listed_made, listed_put}
 use Rattle.frame_owners.proofs.ReleaseLaws.{before_each, in_list, list_ends, object_each}
-use Rattle.owned_returns.specs.OwnedReturns.{IsFree, IsListed, MovedAs, MovedBy, MovedRoot, OwnsMet, SameThere, is_moved, leaves_unmet, left_by_frame}
+use Rattle.owned_returns.specs.OwnedReturns.{IsFree, IsListed, MovedAs, MovedBy, MovedRoot, OwnsMetBut, is_left_unmet, is_moved, leaves_unmet, left_by_frame}
 use Rattle.owned_returns.proofs.LeftLaws.{ended_listed, none_owned}
 
 -- no number of the list passes the test
@@ -48,20 +47,20 @@ other_frame i = grind (arith, common_steps)
 
 -- What the frame owns is met
 
-met_here : (i : ℕ) (moved : Option Numbered) (lists : List (List ℕ)) (h : HeapContents) (k : ℕ) (x : Object) → Listed lists h → leaves_unmet (i + 1) moved (list_at lists (i + 1)) h ≡ false → is_moved moved k ≡ false → object_at h k ≡ Some x → is_frame x.owner (i + 1) ≡ true → is_unmet x ≡ false
-met_here i moved lists h k x listed none other found own =
+met_here : (i : ℕ) (moved lost : Option Numbered) (lists : List (List ℕ)) (h : HeapContents) (k : ℕ) (x : Object) → Listed lists h → leaves_unmet (i + 1) moved lost (list_at lists (i + 1)) h ≡ false → is_moved moved k ≡ false → is_moved lost k ≡ false → object_at h k ≡ Some x → is_frame x.owner (i + 1) ≡ true → is_unmet x ≡ false
+met_here i moved lost lists h k x listed none other apart found own =
     let there = in_list lists x.owner (i + 1) k (listed k x found) own in
-    let test = none_such (λ m. not (is_moved moved m) && owns_unmet (i + 1) (object_at h m)) (list_at lists (i + 1)) k none there in
-    let here : owns_unmet (i + 1) (Some x) ≡ false = ap (owns_unmet (i + 1)) (sym found) ∙ (rw other at test) in
+    let test = none_such (λ m. not (is_moved lost m) && is_left_unmet (i + 1) moved h m) (list_at lists (i + 1)) k none there in
+    let here : owns_unmet (i + 1) (Some x) ≡ false = ap (owns_unmet (i + 1)) (sym found) ∙ (rw other at (rw apart at test)) in
     go (is_unmet x) refl (rw own at here)
   where
     go : (b : Bool) → is_unmet x ≡ b → (b && true) ≡ false → is_unmet x ≡ false
     go true e met = absurd (cc)
     go false e met = e
 
-pub owns_met : (w : Bool) (i : ℕ) (new : List Value) (v : Value) (moved : Option Numbered) (lists : List (List ℕ)) (h : HeapContents) → MovedBy w i new h v moved → Listed lists h → leaves_unmet (i + 1) moved (list_at lists (i + 1)) h ≡ false → OwnsMet (i + 1) (put_noted moved h)
-owns_met w i new v None lists h by listed none k x found own = met_here i None lists h k x listed none refl found own
-owns_met w i new v (Some b) lists h by listed none k x found own =
+pub owns_met : (w : Bool) (i : ℕ) (new : List Value) (v : Value) (moved lost : Option Numbered) (lists : List (List ℕ)) (h : HeapContents) → MovedBy w i new h v moved → Listed lists h → leaves_unmet (i + 1) moved lost (list_at lists (i + 1)) h ≡ false → OwnsMetBut (i + 1) lost (put_noted moved h)
+owns_met w i new v None lost lists h by listed none k x found own apart = met_here i None lost lists h k x listed none refl apart found own
+owns_met w i new v (Some b) lost lists h by listed none k x found own apart =
     go (before_each (only_at b.number (λ _. b.object)) h k x found) (nat_eq k b.number) refl
   where
     go : (y : Object) × (object_at h k ≡ Some y) × (only_at b.number (λ _. b.object) k y ≡ x) → (t : Bool) → nat_eq k b.number ≡ t → is_unmet x ≡ false
@@ -72,7 +71,7 @@ owns_met w i new v (Some b) lists h by listed none k x found own =
     go was false e =
         let is : was.0 ≡ x = rw e at was.2 in
         let turned : nat_eq b.number k ≡ false = grind (arith, common_steps, e) in
-        met_here i (Some b) lists h k x listed none turned (was.1 ∙ ap Some is) own
+        met_here i (Some b) lost lists h k x listed none turned apart (was.1 ∙ ap Some is) own
 
 -- An object that stays
 

@@ -1,5 +1,5 @@
 -- Frames that end by an exception.
-use Rattle.std.proofs.Common.{◌≡◌, ◌∙◌, ap, sym, refl, ℕ, ◌+◌, Bool, true, false, not, ◌&&◌, Option, Some, None, List, [], ◌++◌}
+use Rattle.std.proofs.Common.{◌≡◌, ap, sym, refl, ℕ, ◌+◌, Bool, true, false, not, ◌&&◌, Option, Some, None, List, ◌++◌}
 use Rattle.std.specs.Prelude.{if◌then◌else◌}
 use Rattle.must_call_sets.specs.Bodies.{constructs}
 use Rattle.program_model.specs.declared.kinds.ClassId.{ClassId}
@@ -19,7 +19,7 @@ use Rattle.ledger_calls.specs.Calls.{alias_target, is_alias, operand_of}
 use Rattle.ledger_calls.specs.Conducts.{owning_in, result_in}
 use Rattle.ledger_obligations.specs.Obligations.{end_frame}
 use Rattle.ledger_steps.specs.Effects.{left}
-use Rattle.ledger_steps.specs.Ends.{call_ended, frame_gone, moved_as, program_birth, result_moved, returned, returned_called, returned_reset, returned_roots}
+use Rattle.ledger_steps.specs.Ends.{call_ended, frame_gone, moved_as, result_moved, returned, returned_called, returned_reset, returned_roots}
 use Rattle.plain_returns.specs.PlainReturns.{is_new}
 use Rattle.plain_returns.proofs.ReturnLaws.{not_new}
 

@@ -1,5 +1,5 @@
 -- What a return changes by which the frame gives up what it owns, and by which its result may move to the caller.
-use Rattle.std.specs.Prelude.{ℕ, ◌+◌, ◌≡◌, Bool, true, false, not, ◌&&◌, nat_eq, Option, Some, None, List, []}
+use Rattle.std.specs.Prelude.{ℕ, ◌+◌, ◌≡◌, Bool, true, false, not, ◌&&◌, nat_eq, Option, Some, None, List, [], IfSome}
 use Rattle.std.specs.List.{list_any}
 use Rattle.program_model.specs.declared.program.Program.{Program}
 use Rattle.program_model.specs.declared.program.Method.{Method}
@@ -44,26 +44,41 @@ MovedBy false i new h v (Some b) = ⊥
 abbrev pub left_by_frame : ℕ → Option Numbered → HeapContents → HeapContents
 left_by_frame i moved h = end_frame (i + 1) (put_noted moved h)
 
--- each object that the frame at position `j` owns is met
-abbrev pub OwnsMet : ℕ → HeapContents → Type 0
-OwnsMet j h = (k : ℕ) (x : Object) → object_at h k ≡ Some x → is_frame x.owner j ≡ true → is_unmet x ≡ false
-
--- what makes a return of the method `runs`, called as `named`, one of this kind: it ends normally, nothing is reset, what the frame
--- above the caller's, which is at position `i`, gives up is met, and the call's end changes one object more at most
-pub record IsOwnedReturn (p : Program) (i : ℕ) (self : Value) (l : Locals) (a : Action) (runs named : Option Method) (v : Value) (h : HeapContents) (new : List Value) (moved n : Option Numbered) : Type 0 where
-  pub moves : MovedBy (moves_result p h runs v) i new h v moved
-  pub met : OwnsMet (i + 1) (put_noted moved h)
-  pub resets : reset_target (operand_of l a) named ≡ None
-  pub changes : ChangedBy (is_new a) p i self l a named (left_by_frame i moved h) new n
-
--- the move changes the object with this number
+-- the change is that of the object with this number
 abbrev pub is_moved : Option Numbered → ℕ → Bool
 is_moved None k = false
 is_moved (Some b) k = nat_eq b.number k
 
--- but for the object that moves, the frame at position `j` owns one of these that is unmet
-abbrev pub leaves_unmet : ℕ → Option Numbered → List ℕ → HeapContents → Bool
-leaves_unmet j moved ks h = list_any (λ k. not (is_moved moved k) && owns_unmet j (object_at h k)) ks
+-- but for the object that is lost, each that the frame at position `j` owns is met
+abbrev pub OwnsMetBut : ℕ → Option Numbered → HeapContents → Type 0
+OwnsMetBut j lost h = (k : ℕ) (x : Object) → object_at h k ≡ Some x → is_frame x.owner j ≡ true → is_moved lost k ≡ false → is_unmet x ≡ false
+
+-- the frame at position `j` owns an object that is unmet: `b` is what it becomes, which is lost
+abbrev pub LostAs : ℕ → Numbered → Option Object → Type 0
+LostAs j b None = ⊥
+LostAs j b (Some x) = (b.object ≡ with_owner owners.Lost x) × (is_unmet x ≡ true) × (is_frame x.owner j ≡ true)
+
+-- the frame loses one object at most, which is not the one that moves
+abbrev pub LosesOne : ℕ → Option Numbered → HeapContents → Option Numbered → Type 0
+LosesOne j moved h lost = IfSome lost (λ b. (is_moved moved b.number ≡ false) × LostAs j b (object_at h b.number))
+
+-- what makes a return of the method `runs`, called as `named`, one of this kind: it ends normally, nothing is reset, what the frame
+-- above the caller's, which is at position `i`, gives up is met but for one object at most, and the call's end changes one object more at
+-- most
+pub record IsOwnedReturn (p : Program) (i : ℕ) (self : Value) (l : Locals) (a : Action) (runs named : Option Method) (v : Value) (h : HeapContents) (new : List Value) (moved lost n : Option Numbered) : Type 0 where
+  pub moves : MovedBy (moves_result p h runs v) i new h v moved
+  pub met : OwnsMetBut (i + 1) lost (put_noted moved h)
+  pub one : LosesOne (i + 1) moved h lost
+  pub resets : reset_target (operand_of l a) named ≡ None
+  pub changes : ChangedBy (is_new a) p i self l a named (left_by_frame i moved h) new n
+
+-- the object does not move, is unmet, and the frame at position `j` owns it
+abbrev pub is_left_unmet : ℕ → Option Numbered → HeapContents → ℕ → Bool
+is_left_unmet j moved h k = not (is_moved moved k) && owns_unmet j (object_at h k)
+
+-- so is one of these, but for the one that is lost
+abbrev pub leaves_unmet : ℕ → Option Numbered → Option Numbered → List ℕ → HeapContents → Bool
+leaves_unmet j moved lost ks h = list_any (λ k. not (is_moved lost k) && is_left_unmet j moved h k) ks
 
 -- the object of the change is in both heaps the same
 abbrev pub SameThere : HeapContents → HeapContents → Option Numbered → Type 0

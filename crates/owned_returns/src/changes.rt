@@ -1,14 +1,14 @@
 //! What a return changes, and the lists of the frames' objects afterwards.
 
 ghost use Rattle.std.specs.Prelude.{◌≡◌, ◌+◌, ◌<◌, false, length, true, vec_len, IfOk, Some};
-ghost use Rattle.frame_owners.specs.FrameOwners.{HasAll, Listed, is_listed, list_at, lists_in, owns_unmet};
+ghost use Rattle.frame_owners.specs.FrameOwners.{HasAll, Listed, is_listed, list_at, lists_in};
 ghost use Rattle.ledger_obligations.specs.Obligations.{is_frame, owner_in};
 ghost use Rattle.ledger_state.specs.declared.object.Object.{Object};
 ghost use Rattle.ledger_state.specs.Heaps.{next_number, object_at};
-ghost use Rattle.owned_returns.specs.OwnedReturns.{IsFree, IsListed, SameThere, is_moved, leaves_unmet, left_by_frame};
+ghost use Rattle.owned_returns.specs.OwnedReturns.{IsFree, IsListed, SameThere, is_moved, left_by_frame};
 ghost use Rattle.plain_calls.specs.PlainCalls.{left_by, put_noted};
 
-use frame_owners::{add_owned, drop_list, is_of_frame, owns_unmet, release};
+use frame_owners::{add_owned, drop_list, is_of_frame, release};
 use ledger_obligations::owner_of;
 use ledger_state::{Heap, Object, Owner};
 use plain_calls::{Numbered, PlainChange};
@@ -22,18 +22,6 @@ pub fn is_moved(moved: &Option<Numbered>, number: u64) -> bool
         None => false,
         Some(found) => found.number == number,
     }
-}
-
-/// Whether the frame at the position owns one of these objects that is unmet, but for the one that moves.
-pub(crate) fn leaves_unmet(
-    heap: &Heap,
-    position: u64,
-    moved: &Option<Numbered>,
-    numbers: &[u64],
-) -> bool
-    ensures { result ≡ leaves_unmet position moved.now numbers.now heap.now }
-{
-    numbers.iter().any(|number| !is_moved(moved, *number) && owns_unmet(heap, position, *number))
 }
 
 fn stays_there(heap: &Heap, top: u64, moved: &Option<Numbered>, found: &Numbered) -> bool

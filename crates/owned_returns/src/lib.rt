@@ -4,6 +4,7 @@
 
 mod changes;
 mod lines;
+mod losing;
 mod moves;
 mod returns;
 mod thrown;

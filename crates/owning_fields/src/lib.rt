@@ -5,6 +5,7 @@ mod assigned;
 mod finalized;
 mod owning_rule_cases;
 mod stores;
+mod unseen_resets;
 
 pub use owning_rule_cases::owning_rule;
 pub use stores::field_step;

@@ -8,6 +8,7 @@ ghost use Rattle.refusal_order.specs.Refusals.{least, verdict_of};
 
 use crate::assigned::is_assigned_from_outside;
 use crate::finalized::finalized;
+use crate::unseen_resets::may_hold_unseen_reset;
 use must_call_sets::{is_extended, must_of_type};
 use program_model::{Field, FieldId, Program, VType};
 use refusal_order::{lesser_of, verdict_of, where_true};
@@ -39,6 +40,7 @@ fn is_misshapen(p: &Program, f: FieldId, field: &Field) -> bool
         || !is_class_type(field.vtype)
         || is_assigned_from_outside(p, f, field)
         || is_extended(p, field.class)
+        || may_hold_unseen_reset(p, field.vtype)
 }
 
 #[tactic(auto, using(crate::proofs::OwningLaws::case_laws))]
@@ -78,8 +80,9 @@ fn least_refusal(p: &Program) -> Option<Refusal>
 }
 
 /// Refuses an owning field that no must-call method of its class finalizes, and one that is static, not private, not of a
-/// class type, assigned other than through `this` in its class, or of a class that another class extends (Checker Framework
-/// manual, Resource Leak Checker, "Owning fields"). The refusal is that at the least place, and there that with the least
+/// class type, assigned other than through `this` in its class, of a class that another class extends, or of a type that
+/// may hold an object of a class that asks for no call and whose obligation some method may create anew (Checker Framework
+/// manual, Resource Leak Checker, "Owning fields"; the last is this checker's own). The refusal is that at the least place, and there that with the least
 /// code. The tables of the program are no longer than numbers reach.
 pub fn owning_rule(p: &Program) -> Result<(), Refusal>
     requires { IsNumbered p.now }

@@ -25,9 +25,9 @@ use Rattle.reached_pairs.specs.declared.visit.Source.{Source as Step}
 use Rattle.reached_pairs.specs.declared.visit.Visit.{Visit}
 use Rattle.body_origins.specs.Nodes.{arcs_at, move_of, relation_in}
 use Rattle.body_origins.specs.Origins.{origins_of}
-use Rattle.reached_facts.specs.Steps.{Begins, Leads}
-use Rattle.reached_facts.proofs.PathLaws.{walk_known}
-use Rattle.reached_facts.proofs.ReachedLaws.{reach_walk}
+use Rattle.shortest_paths.specs.Steps.{Begins, Leads}
+use Rattle.shortest_paths.proofs.PathLaws.{walk_known}
+use Rattle.shortest_paths.proofs.ReachedLaws.{reach_walk}
 use Rattle.path_faults.specs.Broken.{IsBroken}
 use Rattle.path_faults.proofs.ListedLaws.{reach_listed}
 

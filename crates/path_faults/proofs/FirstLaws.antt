@@ -23,7 +23,7 @@ use Rattle.reached_pairs.specs.Visited.{found_in, known_in, sources_in}
 use Rattle.reached_pairs.specs.declared.visit.Source.{Source as Step}
 use Rattle.reached_pairs.specs.declared.visit.Visit.{Visit}
 use Rattle.body_origins.specs.Nodes.{arcs_at, move_of, relation_in}
-use Rattle.reached_facts.specs.Steps.{Begins, Leads}
+use Rattle.shortest_paths.specs.Steps.{Begins, Leads}
 use Rattle.shortest_paths.proofs.TellingLaws.{path_walk}
 use Rattle.path_faults.specs.Broken.{IsBroken}
 

@@ -14,8 +14,8 @@ use Rattle.ownership_rules.specs.Births.{Birth, births_at_entry, births_of_step}
 use Rattle.flow_rules.specs.Paths.{Move, Reach, entered, born, flowed}
 use Rattle.body_origins.specs.Nodes.{arcs_at, move_of, relation_in, row_in}
 use Rattle.body_origins.specs.Origins.{arc_births, births_in, origins_in, origins_of, row_births, same_origin}
-use Rattle.reached_facts.proofs.FactLaws.{exact_origin}
-use Rattle.reached_facts.proofs.ListPoints.{stands_flat}
+use Rattle.shortest_paths.proofs.FactLaws.{exact_origin}
+use Rattle.shortest_paths.proofs.ListPoints.{stands_flat}
 
 module _ {X : Type 0} (test : X → Bool) where
   any_by : (x : X) (xs : List X) (r : Bool) → test x ≡ r → (r || list_any test xs) ≡ true → (list_any test xs ≡ true → (k : ℕ) × ((y : X) × (IsAt xs k y × (test y ≡ true))))

@@ -1,5 +1,5 @@
 -- The laws, each under its name.
-use Rattle.std.proofs.Common.{◌≡◌, ℕ, ◌<◌, ◌≤◌, true, false, Some, None, length}
+use Rattle.std.proofs.Common.{◌≡◌, ℕ, ◌<◌, ◌≤◌, true, false, ◌||◌, Some, None, length}
 use Rattle.std.specs.FinSet as set
 use Rattle.program_model.specs.declared.kinds.BodyId.{BodyId}
 use Rattle.program_model.specs.declared.kinds.MethodId.{MethodId}
@@ -13,7 +13,6 @@ use Rattle.java_control.specs.PlaceNumbers.{IsSmall, number_of}
 use Rattle.java_control.specs.Sources.{is_place, source}
 use Rattle.obligation_facts.specs.Facts.{PlaceSet, has, is_nowhere}
 use Rattle.obligation_facts.specs.SmallActions.{IsSmallAction}
-use Rattle.alias_sets.specs.Aliases.{alias_operand}
 use Rattle.alias_sets.specs.PlaceRows.{places_after}
 use Rattle.ledger_state.specs.Contents.{HeapContents}
 use Rattle.ledger_state.specs.Heaps.{root_of}
@@ -24,19 +23,20 @@ use Rattle.ledger_obligations.specs.Obligations.{holds}
 use Rattle.ledger_operations.specs.Places.{place_value}
 use Rattle.ledger_frames.specs.Choosing.{method_body}
 use Rattle.ledger_frames.specs.Frames.{locals_after, made_place}
-use Rattle.place_laws.specs.Places.{HasPlacesAlone, HasTarget, IsWay, SetsLocals, has_source, is_local}
+use Rattle.place_laws.specs.Places.{HasPlacesAlone, HasTarget, IsWay, SetsLocals, has_source, is_local, takes_alias}
 use Rattle.place_laws.proofs.Numbers.{numbered, same_place, single_alone, single_has, single_some, some_held}
 use Rattle.place_laws.proofs.Ranges.{no_other_joins, small_source, stays_alone}
 use Rattle.place_laws.proofs.Rows.{row}
+use Rattle.place_laws.proofs.AliasValues.{alias_value}
 use Rattle.place_laws.proofs.FrameValues.{made_value, place_counts, same_variables, source_value}
 
 pub place_is_numbered : (n : ℕ) → n < 242 → (q : Place) × IsSmall q × (number_of q ≡ n)
 place_is_numbered = numbered
 
 pub places_come_from_sources : (p : Program) (b : BodyId) (x : Body) (a : Action) (e : Edge) (held : PlaceSet) (q : Place) → body_at p b ≡ Some x → IsSmallAction p a
-    → IsSmall q → is_local q ≡ true → alias_operand p a ≡ None → IsWay a e
-    → has (places_after p b a e held) q ≡ has_source held (source p x a e q)
-places_come_from_sources p b x a e held q at fits small local none way = row p b x e held q at small local a fits none way
+    → IsSmall q → is_local q ≡ true → IsWay a e
+    → has (places_after p b a e held) q ≡ (takes_alias p a e held q || has_source held (source p x a e q))
+places_come_from_sources p b x a e held q at fits small local way = row p b x e held q at small local a fits way
 
 pub some_place_is_held : (held : PlaceSet) → HasPlacesAlone held → is_nowhere held ≡ false → (q : Place) × IsSmall q × (has held q ≡ true)
 some_place_is_held = some_held
@@ -72,6 +72,11 @@ pub made_value_stands : (p : Program) (h k : HeapContents) (m : MethodId) (x : B
     → method_body p m ≡ Some x → IsSmall q → is_local q ≡ true → HasTarget l a → made_place a ≡ Some q → source p x a e q ≡ None
     → place_value p k m (locals_after p h m l a e v) q ≡ v
 made_value_stands = made_value
+
+pub alias_stands : (p : Program) (h k : HeapContents) (m : MethodId) (x : Body) (l : Locals) (a : Action) (e : Edge) (v : Value) (held : PlaceSet) (q : Place)
+    → method_body p m ≡ Some x → IsSmall q → HasTarget l a → takes_alias p a e held q ≡ true
+    → place_value p k m (locals_after p h m l a e v) q ≡ v
+alias_stands = alias_value
 
 pub variables_stay : (p : Program) (h : HeapContents) (m : MethodId) (l : Locals) (a : Action) (e : Edge) (v : Value) → length l.variables ≤ 160
     → length (locals_after p h m l a e v).variables ≡ length l.variables

@@ -4,3 +4,4 @@ pub mod Rows
 pub mod Ranges
 pub mod FrameValues
 pub mod Laws
+pub mod AliasValues

@@ -23,7 +23,8 @@ use Rattle.obligation_facts.specs.Facts.{PlaceSet, has, has_temp, with_place, wi
 use Rattle.obligation_facts.specs.SmallActions.{IsSmallAction, IsSmallScope}
 use Rattle.alias_sets.specs.Aliases.{alias_operand, called_places, gives_alias, without_operands, without_reset}
 use Rattle.alias_sets.specs.PlaceRows.{below, cast, copied, dropped, entered, places_after, settled, stored}
-use Rattle.place_laws.specs.Places.{IsStoreEdge, IsWay, has_source, is_local}
+use Rattle.ledger_frames.specs.Frames.{is_made, made_place}
+use Rattle.place_laws.specs.Places.{IsStoreEdge, IsWay, has_source, is_local, takes_alias}
 use Rattle.place_laws.proofs.SetLaws.{has_copied, has_temps, has_variables, has_with, has_without, parts_aside, variable_aside}
 
 -- ---- sources
@@ -223,7 +224,7 @@ cast_row held d e q false fits small = refl
 
 -- ---- calls
 
-no_alias : (p : Program) (a : Action) (e : Edge) (held : PlaceSet) → alias_operand p a ≡ None → gives_alias p a e held ≡ false
+pub no_alias : (p : Program) (a : Action) (e : Edge) (held : PlaceSet) → alias_operand p a ≡ None → gives_alias p a e held ≡ false
 no_alias p a edges.Go held none = ap (has_temp held) none
 no_alias p a edges.Null held none = refl
 no_alias p a edges.NonNull held none = refl
@@ -248,27 +249,42 @@ local_no_part places.This resets among local = absurd (true≢false (sym local))
 local_no_part (places.Field k) resets among local = absurd (true≢false (sym local))
 local_no_part places.Super resets among local = absurd (true≢false (sym local))
 
-called_row : (p : Program) (a : Action) (d : ℕ) (e : Edge) (held : PlaceSet) (q : Place) → alias_operand p a ≡ None → has (called_places p a d e held) q ≡ has (without_operands a (without_reset p a held)) q
-called_row p a d e held q none =
-    ap (λ b. has (if b then with_place (without_operands a (without_reset p a held)) (places.Temp d) else without_operands a (without_reset p a held)) q) (no_alias p a e held none)
+called_row : (p : Program) (a : Action) (d : ℕ) (e : Edge) (held : PlaceSet) (q : Place) → d < 64 → IsSmall q
+    → has (called_places p a d e held) q ≡ ((gives_alias p a e held && is_temp d q) || has (without_operands a (without_reset p a held)) q)
+called_row p a d e held q fits small = go (gives_alias p a e held)
+  where
+    go : (c : Bool) → has (if c then with_place (without_operands a (without_reset p a held)) (places.Temp d) else without_operands a (without_reset p a held)) q
+        ≡ ((c && is_temp d q) || has (without_operands a (without_reset p a held)) q)
+    go true = has_with (without_operands a (without_reset p a held)) (places.Temp d) q fits small
+    go false = refl
 
 -- ---- all actions
 
 module _ (p : Program) (b : BodyId) (x : Body) (e : Edge) (held : PlaceSet) (q : Place) (at : body_at p b ≡ Some x) (small : IsSmall q) (local : is_local q ≡ true) where
-  pub row : (a : Action) → IsSmallAction p a → alias_operand p a ≡ None → IsWay a e → has (places_after p b a e held) q ≡ has_source held (source p x a e q)
-  row actions.Skip fits none way = refl
-  row (actions.Copy to from) fits none way = has_copied held to from q fits.0 small ∙ sym (taken (is_place to q) held from q)
-  row (actions.Move to from) fits none way =
-      has_without (copied held to from) from q fits.1 small ∙ ap (λ c. not (is_place from q) && c) (has_copied held to from q fits.0 small) ∙ moved (is_place from q) (is_place to q) held from q
-  row (actions.Plain to v) fits none way = has_without held to q fits small ∙ sym (emptied_held (is_place to q) held q)
-  row (actions.Drop s) fits none way = ap (λ o. has (dropped o s held) q) at ∙ dropped_row x s held q fits small local ∙ sym (emptied_held (is_dropped x s q) held q)
-  row (actions.Settle first c) fits none way = settled_row held first (completion_temp c) q fits.0 small
-  row (actions.Enter clause y first d) fits none way = entered_row held y first d q fits.0 fits.1 small
-  row (actions.Test d) fits none way = has_without held (places.Temp d) q fits small ∙ sym (emptied_held (is_temp d q) held q)
-  row (actions.Op k d n) fits none way = operand_row held d n q fits.0 fits.1 small
-  row (actions.Get f d through_this) fits none way = has_without held (places.Temp d) q fits small ∙ sym (emptied_held (is_temp d q) held q)
-  row (actions.Put f d through_this) fits none way = stored_row held d e q fits way small
-  row (actions.Cast t d) fits none way = cast_edge e
+  -- what calls nothing gives no alias
+  aside : (a : Action) → alias_operand p a ≡ None → has (places_after p b a e held) q ≡ has_source held (source p x a e q)
+      → has (places_after p b a e held) q ≡ (takes_alias p a e held q || has_source held (source p x a e q))
+  aside a none is = is ∙ sym (ap (λ (c : Bool). (c && is_made (made_place a) q) || has_source held (source p x a e q)) (no_alias p a e held none))
+
+  -- a call leaves what its source leaves, and may give an alias
+  beside : (a : Action) (d : ℕ) → d < 64 → has (without_operands a (without_reset p a held)) q ≡ has_source held (source p x a e q)
+      → has (called_places p a d e held) q ≡ ((gives_alias p a e held && is_temp d q) || has_source held (source p x a e q))
+  beside a d fits is = called_row p a d e held q fits small ∙ ap (λ (c : Bool). (gives_alias p a e held && is_temp d q) || c) is
+
+  pub row : (a : Action) → IsSmallAction p a → IsWay a e → has (places_after p b a e held) q ≡ (takes_alias p a e held q || has_source held (source p x a e q))
+  row actions.Skip fits way = aside actions.Skip refl refl
+  row (actions.Copy to from) fits way = aside (actions.Copy to from) refl (has_copied held to from q fits.0 small ∙ sym (taken (is_place to q) held from q))
+  row (actions.Move to from) fits way = aside (actions.Move to from) refl (
+      has_without (copied held to from) from q fits.1 small ∙ ap (λ c. not (is_place from q) && c) (has_copied held to from q fits.0 small) ∙ moved (is_place from q) (is_place to q) held from q)
+  row (actions.Plain to v) fits way = aside (actions.Plain to v) refl (has_without held to q fits small ∙ sym (emptied_held (is_place to q) held q))
+  row (actions.Drop s) fits way = aside (actions.Drop s) refl (ap (λ o. has (dropped o s held) q) at ∙ dropped_row x s held q fits small local ∙ sym (emptied_held (is_dropped x s q) held q))
+  row (actions.Settle first c) fits way = aside (actions.Settle first c) refl (settled_row held first (completion_temp c) q fits.0 small)
+  row (actions.Enter clause y first d) fits way = aside (actions.Enter clause y first d) refl (entered_row held y first d q fits.0 fits.1 small)
+  row (actions.Test d) fits way = aside (actions.Test d) refl (has_without held (places.Temp d) q fits small ∙ sym (emptied_held (is_temp d q) held q))
+  row (actions.Op k d n) fits way = aside (actions.Op k d n) refl (operand_row held d n q fits.0 fits.1 small)
+  row (actions.Get f d through_this) fits way = aside (actions.Get f d through_this) refl (has_without held (places.Temp d) q fits small ∙ sym (emptied_held (is_temp d q) held q))
+  row (actions.Put f d through_this) fits way = aside (actions.Put f d through_this) refl (stored_row held d e q fits way small)
+  row (actions.Cast t d) fits way = aside (actions.Cast t d) refl (cast_edge e)
     where
       cast_edge : (f : Edge) → has (cast held d f) q ≡ has_source held (source p x (actions.Cast t d) f q)
       cast_edge edges.Go = refl
@@ -277,16 +293,16 @@ module _ (p : Program) (b : BodyId) (x : Body) (e : Edge) (held : PlaceSet) (q :
       cast_edge edges.True = refl
       cast_edge edges.False = refl
       cast_edge (edges.Throws c) = cast_row held d (edges.Throws c) q true fits small
-  row (actions.PutOwn f d) fits none way = has_copied held (place_of_field p f) (places.Temp d) q fits.1 small ∙ sym (taken (is_place (place_of_field p f) q) held (places.Temp d) q)
-  row (actions.Call m d n form) fits none way =
+  row (actions.PutOwn f d) fits way = aside (actions.PutOwn f d) refl (has_copied held (place_of_field p f) (places.Temp d) q fits.1 small ∙ sym (taken (is_place (place_of_field p f) q) held (places.Temp d) q))
+  row (actions.Call m d n form) fits way =
       let a : Action = actions.Call m d n form in
-      called_row p a d e held q none ∙ operands_gone (without_reset p a held) d d n q fits.0 fits.1 small
+      beside a d fits.0 (operands_gone (without_reset p a held) d d n q fits.0 fits.1 small
       ∙ ap (λ c. not (is_temp d q) && (not (is_temp_among d n q) && c)) (reset_aside held q (is_reset_of_this p a) local small)
       ∙ operand_tests d n q (has held q) ∙ sym (ap (λ c. not c && has held q) (local_no_part q (is_reset_of_this p a) (is_temp_among d (max n 1) q) local))
-      ∙ sym (emptied_held (is_temp_among d (max n 1) q || is_reset_of_this p a && is_part q) held q)
-  row (actions.New m d n) fits none way =
-      called_row p (actions.New m d n) d e held q none ∙ operands_gone held d (d + 1) n q (omega (arith, fits)) (omega (arith, fits)) small ∙ object_tests d n q (has held q)
-      ∙ sym (emptied_held (is_temp_among d (n + 1) q) held q)
-  row (actions.Super m d n) fits none way = called_row p (actions.Super m d n) d e held q none ∙ operand_row held d n q fits.0 fits.1 small
-  row (actions.Raise d c) fits none way = cast_row held d e q (is_null_pointer p e) fits small
-  row (actions.End c) fits none way = refl
+      ∙ sym (emptied_held (is_temp_among d (max n 1) q || is_reset_of_this p a && is_part q) held q))
+  row (actions.New m d n) fits way =
+      beside (actions.New m d n) d (omega (arith, fits)) (operands_gone held d (d + 1) n q (omega (arith, fits)) (omega (arith, fits)) small ∙ object_tests d n q (has held q)
+      ∙ sym (emptied_held (is_temp_among d (n + 1) q) held q))
+  row (actions.Super m d n) fits way = beside (actions.Super m d n) d fits.0 (operand_row held d n q fits.0 fits.1 small)
+  row (actions.Raise d c) fits way = aside (actions.Raise d c) refl (cast_row held d e q (is_null_pointer p e) fits small)
+  row (actions.End c) fits way = aside (actions.End c) refl refl

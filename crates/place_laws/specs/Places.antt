@@ -1,6 +1,7 @@
 -- Words for the laws on places: which are a frame's own, where a place of a fact comes from, and what a step sets.
-use Rattle.std.specs.Prelude.{◌≡◌, ℕ, ◌<◌, Bool, true, false, Option, Some, None, length}
+use Rattle.std.specs.Prelude.{◌≡◌, ℕ, ◌<◌, Bool, true, false, ◌&&◌, Option, Some, None, length}
 use Rattle.std.specs.FinSet as set
+use Rattle.program_model.specs.declared.program.Program.{Program}
 use Rattle.java_control.specs.declared.action.Action.{Action}
 use Rattle.java_control.specs.declared.action.Action.TheVariants as actions
 use Rattle.java_control.specs.declared.action.Edge.{Edge}
@@ -8,7 +9,9 @@ use Rattle.java_control.specs.declared.action.Edge.TheVariants as edges
 use Rattle.java_control.specs.declared.place.Place.{Place}
 use Rattle.java_control.specs.declared.place.Place.TheVariants as places
 use Rattle.obligation_facts.specs.Facts.{PlaceSet, has}
+use Rattle.alias_sets.specs.Aliases.{gives_alias}
 use Rattle.ledger_state.specs.declared.locals.Locals.{Locals}
+use Rattle.ledger_frames.specs.Frames.{is_made, made_place}
 
 -- a variable or a temp
 abbrev pub is_local : Place → Bool
@@ -22,6 +25,10 @@ is_local places.Super = false
 abbrev pub has_source : PlaceSet → Option Place → Bool
 has_source held None = false
 has_source held (Some z) = has held z
+
+-- a call that ends normally puts an alias of the resource of an operand, which is among these places, into the place
+abbrev pub takes_alias : Program → Action → Edge → PlaceSet → Place → Bool
+takes_alias p a e held q = gives_alias p a e held && is_made (made_place a) q
 
 -- each number of the set is that of a place
 abbrev pub HasPlacesAlone : PlaceSet → Type 0

@@ -1,6 +1,6 @@
 //! The places of facts. Each law is the contract of a function that does nothing.
 
-ghost use Rattle.std.specs.Prelude.{◌≡◌, ℕ, ◌<◌, true, false, Some, None};
+ghost use Rattle.std.specs.Prelude.{◌≡◌, ℕ, ◌<◌, true, false, ◌||◌, Some, None};
 ghost use Rattle.std.specs.FinSet as set;
 ghost use Rattle.program_model.specs.declared.kinds.BodyId.{BodyId};
 ghost use Rattle.program_model.specs.declared.program.Program.{Program};
@@ -13,21 +13,20 @@ ghost use Rattle.java_control.specs.PlaceNumbers.{IsSmall, number_of};
 ghost use Rattle.java_control.specs.Sources.{is_place, source};
 ghost use Rattle.obligation_facts.specs.Facts.{PlaceSet, has, is_nowhere};
 ghost use Rattle.obligation_facts.specs.SmallActions.{IsSmallAction};
-ghost use Rattle.alias_sets.specs.Aliases.{alias_operand};
 ghost use Rattle.alias_sets.specs.PlaceRows.{places_after};
-ghost use Rattle.place_laws.specs.Places.{HasPlacesAlone, IsWay, SetsLocals, has_source, is_local};
+ghost use Rattle.place_laws.specs.Places.{HasPlacesAlone, IsWay, SetsLocals, has_source, is_local, takes_alias};
 
 /// A number of a set of places is that of one place.
 pub fn place_is_numbered()
     ensures { (n : ℕ) → n < 242 → (q : Place) × IsSmall q × (number_of q ≡ n) }
 {}
 
-/// A variable or temp is among the places after a step exactly where its source was among them before. A call that gives an alias
-/// is left out.
+/// A variable or temp is among the places after a step exactly where its source was among them before, or a call gives it an alias of
+/// the resource of an operand that was among them.
 pub fn places_come_from_sources()
     ensures { (p : Program) (b : BodyId) (x : Body) (a : Action) (e : Edge) (held : PlaceSet) (q : Place) → body_at p b ≡ Some x → IsSmallAction p a
-        → IsSmall q → is_local q ≡ true → alias_operand p a ≡ None → IsWay a e
-        → has (places_after p b a e held) q ≡ has_source held (source p x a e q) }
+        → IsSmall q → is_local q ≡ true → IsWay a e
+        → has (places_after p b a e held) q ≡ (takes_alias p a e held q || has_source held (source p x a e q)) }
 {}
 
 /// A step that sets of places have room for leaves none but numbers of places.

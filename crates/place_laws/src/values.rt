@@ -9,6 +9,7 @@ ghost use Rattle.java_control.specs.declared.action.Edge.{Edge};
 ghost use Rattle.java_control.specs.declared.place.Place.{Place};
 ghost use Rattle.java_control.specs.PlaceNumbers.{IsSmall};
 ghost use Rattle.java_control.specs.Sources.{source};
+ghost use Rattle.obligation_facts.specs.Facts.{PlaceSet};
 ghost use Rattle.ledger_state.specs.Contents.{HeapContents};
 ghost use Rattle.ledger_state.specs.Heaps.{root_of};
 ghost use Rattle.ledger_state.specs.Locals.{held};
@@ -18,7 +19,7 @@ ghost use Rattle.ledger_obligations.specs.Obligations.{holds};
 ghost use Rattle.ledger_operations.specs.Places.{place_value};
 ghost use Rattle.ledger_frames.specs.Choosing.{method_body};
 ghost use Rattle.ledger_frames.specs.Frames.{locals_after, made_place};
-ghost use Rattle.place_laws.specs.Places.{HasTarget, is_local};
+ghost use Rattle.place_laws.specs.Places.{HasTarget, is_local, takes_alias};
 
 /// A variable or temp has after a step what its source had before, where that is an object. `h` is the heap before the step, and
 /// the places of the frame are read in any heap `k` after it.
@@ -32,6 +33,13 @@ pub fn value_comes_from_source()
 pub fn made_value_stands()
     ensures { (p : Program) (h k : HeapContents) (m : MethodId) (x : Body) (l : Locals) (a : Action) (e : Edge) (v : Value) (q : Place)
         → method_body p m ≡ Some x → IsSmall q → is_local q ≡ true → HasTarget l a → made_place a ≡ Some q → source p x a e q ≡ None
+        → place_value p k m (locals_after p h m l a e v) q ≡ v }
+{}
+
+/// Where a call puts an alias, what it gives stands.
+pub fn alias_stands()
+    ensures { (p : Program) (h k : HeapContents) (m : MethodId) (x : Body) (l : Locals) (a : Action) (e : Edge) (v : Value) (held : PlaceSet) (q : Place)
+        → method_body p m ≡ Some x → IsSmall q → HasTarget l a → takes_alias p a e held q ≡ true
         → place_value p k m (locals_after p h m l a e v) q ≡ v }
 {}
 

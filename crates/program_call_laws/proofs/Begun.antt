@@ -1,5 +1,5 @@
 -- Where an object comes from when a call of the program has begun.
-use Rattle.std.proofs.Common.{◌≡◌, ◌⊎◌, inl, inr, ℕ, ◌+◌, ◌<◌, ◌≤◌, Bool, true, false, Option, Some, None, List, slice_get, nat_eq, refl, sym, ap, ◌∙◌, subst, true≢false, if◌then◌else◌, arith, eqb-true, eq-eqb}
+use Rattle.std.proofs.Common.{◌≡◌, ◌⊎◌, inl, inr, ℕ, ◌+◌, ◌<◌, ◌≤◌, Bool, true, false, Option, Some, None, slice_get, nat_eq, refl, sym, ap, ◌∙◌, if◌then◌else◌, arith, eqb-true}
 use Rattle.std.specs.List.{list_any}
 use Rattle.rlc_base.specs.declared.place.Pos.{Pos}
 use Rattle.program_model.specs.declared.kinds.ClassId.{ClassId}
@@ -9,21 +9,22 @@ use Rattle.program_model.specs.declared.program.Program.{Program}
 use Rattle.java_control.specs.declared.action.Action.{Action}
 use Rattle.java_control.specs.declared.action.Action.TheVariants as actions
 use Rattle.ledger_state.specs.Contents.{HeapContents}
-use Rattle.ledger_state.specs.Heaps.{append, next_number, object_at, root_of, unfinished}
-use Rattle.ledger_state.specs.declared.entry.Owner.{Owner}
+use Rattle.ledger_state.specs.Heaps.{append, next_number, object_at, root, root_of, unfinished}
 use Rattle.ledger_state.specs.declared.entry.Owner.TheVariants as owners
 use Rattle.ledger_state.specs.declared.locals.Locals.{Locals}
 use Rattle.ledger_state.specs.declared.object.Object.{Object}
 use Rattle.ledger_state.specs.declared.value.Value.{Value}
+use Rattle.ledger_state.specs.declared.value.Value.TheVariants as values
 use Rattle.ledger_obligations.specs.Obligations.{may_move}
 use Rattle.ledger_operations.specs.Places.{class_of_method}
 use Rattle.ledger_calls.specs.Calls.{operand_of, params_in}
 use Rattle.ledger_steps.specs.CallSteps.{began_entries, began_heap, object_begun, object_of_new}
-use Rattle.run_command.specs.RunAnswers.{is_leak}
-use Rattle.heap_laws.specs.Heaps.{GoesOn, IsGiven, IsUnlinked}
+use Rattle.ledger_state.specs.Leaks.{is_leak}
+use Rattle.heap_laws.specs.Heaps.{Evolves, HasLibraryLinks, IsGiven}
 use Rattle.heap_laws.proofs.LineLaws.{owner_none}
 use Rattle.heap_laws.proofs.MoveLaws.{params_caused, params_count, params_given, params_older}
-use Rattle.heap_laws.proofs.ObjectLaws.{appended_at, appended_count, in_range, unlinked_value}
+use Rattle.heap_laws.proofs.ObjectLaws.{appended_at, appended_count, in_range}
+use Rattle.heap_laws.proofs.Laws.{evolving_heaps-further, evolving_heaps-same, links_stay-made, links_stay-moved, moved_arguments_are_older-evolves, objects_go_on-made, roots_go_on-number, roots_go_on-value, roots_of_links-absent, roots_of_links-itself}
 use Rattle.program_call_laws.specs.ProgramCalls.{IsNewAtStart, IsOlderAtStart}
 
 -- ---- one object more
@@ -70,20 +71,37 @@ no_fewer (actions.New m d c) None h = omega arith
 no_fewer (actions.New m d c) (Some k) h = let more = appended_count h k.class in omega (arith, more)
 no_fewer a named h = omega arith
 
-module _ (p : Program) (l : Locals) (a : Action) (named : Option Method) (j : ℕ) (h : HeapContents) (unlinked : IsUnlinked h) where
-  made_unlinked : IsUnlinked (object_of_new a named h)
-  made_unlinked n x at = elim (there a named h n x at) [ inl new ↦ new.2 | inr old ↦ unlinked n x old ]
+module _ (p : Program) (l : Locals) (a : Action) (named : Option Method) (j : ℕ) (h : HeapContents) (links : HasLibraryLinks h) where
+  -- an object that was there has the root that it had, and the new one is its own
+  root_before : (k n : ℕ) (x : Object) → object_at h n ≡ Some x → root (object_of_new a named h) k ≡ n → root h k ≡ n
+  root_before k n x at is = go (object_at h k) refl
+    where
+      itself : object_at h k ≡ None → root (object_of_new a named h) k ≡ k
+      itself none = by_made (object_at (object_of_new a named h) k) refl
+        where
+          by_made : (y : Option Object) → object_at (object_of_new a named h) k ≡ y → root (object_of_new a named h) k ≡ k
+          by_made None absent = roots_of_links-absent (object_of_new a named h) k absent
+          by_made (Some y) here = elim (there a named h k y here) [
+            | inl new ↦ roots_of_links-itself (object_of_new a named h) k y here new.2
+            | inr old ↦ absurd (let never : None ≡ Some y = sym none ∙ old in cc)
+          ]
 
-  same_value : (v : Value) → root_of (object_of_new a named h) v ≡ root_of h v
-  same_value v = unlinked_value (object_of_new a named h) h v made_unlinked unlinked
+      go : (y : Option Object) → object_at h k ≡ y → root h k ≡ n
+      go None none = absurd (let same : k ≡ n = sym (itself none) ∙ is in let never : None ≡ Some x = sym none ∙ ap (object_at h) same ∙ at in cc)
+      go (Some y) here = sym (roots_go_on-number h (object_of_new a named h) k y links (λ m z before. (z, stays_there a named h m z before, refl)) here) ∙ is
 
-  given_before : (n : ℕ) (x : Object) → IsGiven p (operand_of l a) 1 (params_in named) (object_of_new a named h) n x → IsGiven p (operand_of l a) 1 (params_in named) h n x
-  given_before n x g = record {
+  value_before : (v : Value) (n : ℕ) (x : Object) → object_at h n ≡ Some x → root_of (object_of_new a named h) v ≡ Some n → root_of h v ≡ Some n
+  value_before values.Nothing n x at is = is
+  value_before (values.Object k) n x at is = ap Some (root_before k n x at (let both : Some (root (object_of_new a named h) k) ≡ Some n = is in (let one : root (object_of_new a named h) k ≡ n = cc in one)))
+  value_before v n x at is = is
+
+  given_before : (n : ℕ) (x : Object) → object_at h n ≡ Some x → IsGiven p (operand_of l a) 1 (params_in named) (object_of_new a named h) n x → IsGiven p (operand_of l a) 1 (params_in named) h n x
+  given_before n x at g = record {
     index = g.index;
     param = g.param;
     at = g.at;
     owning = g.owning;
-    root = sym (same_value (operand_of l a (1 + g.index))) ∙ g.root;
+    root = value_before (operand_of l a (1 + g.index)) n x at g.root;
     may = g.may;
   }
 
@@ -104,7 +122,7 @@ module _ (p : Program) (l : Locals) (a : Action) (named : Option Method) (j : �
           goes_on = old.goes_on;
           owner = elim cause [
             | inl kept ↦ inl kept
-            | inr given ↦ elim old.owner [ inl kept ↦ inl kept | inr callee ↦ inr (callee, given_before n old.before given) ]
+            | inr given ↦ elim old.owner [ inl kept ↦ inl kept | inr callee ↦ inr (callee, given_before n old.before before given) ]
           ];
         })
       ]
@@ -113,7 +131,7 @@ module _ (p : Program) (l : Locals) (a : Action) (named : Option Method) (j : �
   pub begun_given : (i : ℕ) (q : ParamSig) (n : ℕ) (x y : Object) → slice_get (params_in named) i ≡ Some q → q.owning ≡ true → root_of h (operand_of l a (1 + i)) ≡ Some n
       → object_at h n ≡ Some x → may_move p q.vtype x ≡ true → object_at (began_heap p l a named j h) n ≡ Some y → y.owner ≡ owners.Frame j
   begun_given i q n x y at owning root before may now =
-      let w = params_given p (owners.Frame j) (operand_of l a) 1 i (params_in named) q (object_of_new a named h) n x at owning (same_value (operand_of l a (1 + i)) ∙ root) (stays_there a named h n x before) may in
+      let w = params_given p (owners.Frame j) (operand_of l a) 1 i (params_in named) q (object_of_new a named h) n x at owning (roots_go_on-value h (object_of_new a named h) (operand_of l a (1 + i)) n x links (λ m z before'. (z, stays_there a named h m z before', refl)) root before) (stays_there a named h n x before) may in
       let same : w.0 ≡ y = (let both : Some w.0 ≡ Some y = sym w.1 ∙ now in cc) in
       sym (ap (λ (z : Object). z.owner) same) ∙ w.2
 
@@ -122,6 +140,19 @@ module _ (p : Program) (l : Locals) (a : Action) (named : Option Method) (j : �
       let same = params_count p (owners.Frame j) (operand_of l a) 1 (params_in named) (object_of_new a named h) in
       let more = no_fewer a named h in
       omega (arith, same, more)
+
+  -- the links stay the library's
+  pub begun_links : HasLibraryLinks (began_heap p l a named j h)
+  begun_links = links_stay-moved p (owners.Frame j) (operand_of l a) 1 (params_in named) (object_of_new a named h) (by_action a)
+    where
+      of_method : (k : Option Method) → HasLibraryLinks (object_begun k h)
+      of_method None = links
+      of_method (Some k) = links_stay-made h k.class links
+
+      by_action : (b : Action) → HasLibraryLinks (object_of_new b named h)
+      by_action actions.Skip = links
+      by_action (actions.New m d c) = of_method named
+      by_action b = links
 
   pub begun_leaks_nothing : (pos : Pos) → list_any is_leak (began_entries p pos l a named j h) ≡ false
   begun_leaks_nothing pos = owner_none p pos (object_of_new a named h) (began_heap p l a named j h)
@@ -138,3 +169,17 @@ begun_makes p l (actions.New m d c) k j h new =
     let more = appended_count h k.class in
     omega (arith, same, more)
 begun_makes p l a k j h new = absurd new
+
+-- each object goes on
+pub begun_evolves : (p : Program) (l : Locals) (a : Action) (named : Option Method) (j : ℕ) (h : HeapContents) → Evolves h (began_heap p l a named j h)
+begun_evolves p l a named j h = evolving_heaps-further h (object_of_new a named h) (began_heap p l a named j h) (by_action a)
+    (moved_arguments_are_older-evolves p (owners.Frame j) (operand_of l a) 1 (params_in named) (object_of_new a named h))
+  where
+    of_method : (k : Option Method) → Evolves h (object_begun k h)
+    of_method None = evolving_heaps-same h
+    of_method (Some k) = objects_go_on-made h k.class
+
+    by_action : (b : Action) → Evolves h (object_of_new b named h)
+    by_action actions.Skip = evolving_heaps-same h
+    by_action (actions.New m d c) = of_method named
+    by_action b = evolving_heaps-same h

@@ -1,7 +1,7 @@
 -- Where an object comes from when a frame has ended and its call has.
 use Rattle.std.proofs.Common.{◌≡◌, ◌⊎◌, inl, inr, ℕ, ◌+◌, Bool, true, false, not, ◌&&◌, Option, Some, None, List, [], ◌++◌, nat_eq, refl, sym, ap, ◌∙◌, subst, true≢false, if◌then◌else◌, eqb-true}
 use Rattle.std.specs.List.{list_any}
-use Rattle.std.proofs.lemmas.Bool.{and_parts}
+use Rattle.std.proofs.lemmas.Bool.{and_parts, not-true}
 use Rattle.rlc_base.specs.declared.place.Pos.{Pos}
 use Rattle.program_model.specs.declared.kinds.ClassId.{ClassId}
 use Rattle.program_model.specs.declared.kinds.VType.{VType}
@@ -11,7 +11,7 @@ use Rattle.must_call_sets.specs.Bodies.{constructs}
 use Rattle.java_control.specs.declared.action.Action.{Action}
 use Rattle.java_control.specs.declared.action.Action.TheVariants as actions
 use Rattle.ledger_state.specs.Contents.{HeapContents}
-use Rattle.ledger_state.specs.Heaps.{change_one, next_number, object_at, only_at, root_of}
+use Rattle.ledger_state.specs.Heaps.{next_number, object_at, only_at, root_of}
 use Rattle.ledger_state.specs.Values.{number_of}
 use Rattle.ledger_state.specs.declared.entry.Entry.{Entry}
 use Rattle.ledger_state.specs.declared.entry.LeakWord.TheVariants as words
@@ -19,18 +19,18 @@ use Rattle.ledger_state.specs.declared.entry.Owner.TheVariants as owners
 use Rattle.ledger_state.specs.declared.locals.Locals.{Locals}
 use Rattle.ledger_state.specs.declared.object.Object.{Object}
 use Rattle.ledger_state.specs.declared.value.Value.{Value}
-use Rattle.ledger_obligations.specs.Obligations.{all_notes, end_frame, end_holder, is_frame, is_held_by, is_unmet, may_move, noted_object, reset_in}
+use Rattle.ledger_obligations.specs.Obligations.{all_notes, end_holder, is_frame, is_held_by, is_unmet, may_move, noted_object, reset_in}
 use Rattle.ledger_calls.specs.Calls.{alias_position, alias_target, is_alias, operand_of, receiver_note, reset_position}
 use Rattle.ledger_calls.specs.Conducts.{owning_in, result_in}
 use Rattle.ledger_entries.specs.Entries.{birth_entries, called_entries, leak_entries, owner_entries, reset_entries}
-use Rattle.ledger_steps.specs.Ends.{call_end_entries, call_ended, constructor_ended, finished_by_new, frame_end_leaks, frame_ended, frame_gone, moved_as, object_finished, program_birth, result_moved, returned_called, returned_heap, returned_reset, returned_roots, self_finished}
-use Rattle.run_command.specs.RunAnswers.{is_leak}
+use Rattle.ledger_steps.specs.Ends.{call_end_entries, call_ended, constructor_ended, finished_by_new, frame_end_leaks, frame_ended, frame_gone, moved_as, object_finished, program_birth, result_moved, returned_called, returned_reset, returned_roots, self_finished}
+use Rattle.ledger_state.specs.Leaks.{is_leak}
 use Rattle.heap_laws.specs.Heaps.{GoesOn, IsKeptOr}
 use Rattle.heap_laws.proofs.EndLaws.{changed_back, frame_back, frame_count, holder_back, holder_count, is_held, kept_goes_on}
 use Rattle.heap_laws.proofs.LineLaws.{any_in_both, birth_none, called_none, end_none, holder_none, leaks_unchanged, owner_none, reset_none}
 use Rattle.heap_laws.proofs.MoveLaws.{moved_back, moved_count, moved_takes}
 use Rattle.heap_laws.proofs.ObjectLaws.{changed_count, goes_on_further, goes_on_self, unchanged}
-use Rattle.program_call_laws.specs.ProgramCalls.{IsFinished, IsOlderAtResult, IsReturned, is_new}
+use Rattle.program_call_laws.specs.ProgramCalls.{IsFinished, IsOlderAtResult, is_new}
 
 not_true : (b : Bool) → (b ≡ true → ⊥) → b ≡ false
 not_true true never = absurd (never refl)
@@ -42,9 +42,9 @@ module _ (p : Program) (i : ℕ) (runs : Option Method) (v : Value) (h : HeapCon
   as_before : (e : Option ClassId) (n : ℕ) (y : Object) → object_at h n ≡ Some y → IsOlderAtResult p i runs v e h n y
   as_before e n y at = record { before = y; at = at; goes_on = goes_on_self y; owner = inl refl }
 
-  by_type : (n : ℕ) (y : Object) → owning_in runs ≡ true → (t : Option VType) → result_in runs ≡ t → object_at (moved_as p i t v h) n ≡ Some y → IsOlderAtResult p i runs v None h n y
-  by_type n y owning None is at = as_before None n y at
-  by_type n y owning (Some t) is at =
+  by_type : (n : ℕ) (y : Object) → owning_in runs ≡ true → is_alias runs ≡ false → (t : Option VType) → result_in runs ≡ t → object_at (moved_as p i t v h) n ≡ Some y → IsOlderAtResult p i runs v None h n y
+  by_type n y owning own None is at = as_before None n y at
+  by_type n y owning own (Some t) is at =
       let x = moved_back p t (owners.Frame i) v h n y at in
       record {
         before = x.0;
@@ -52,7 +52,7 @@ module _ (p : Program) (i : ℕ) (runs : Option Method) (v : Value) (h : HeapCon
         goes_on = x.2.0;
         owner = elim x.2.1 [
           | inl kept ↦ inl kept
-          | inr given ↦ inr (record { normal = refl; owning = owning; type = t; result = is; root = given.1; may = given.2; owner = given.0 })
+          | inr given ↦ inr (record { normal = refl; owning = owning; own = own; type = t; result = is; root = given.1; may = given.2; owner = given.0 })
         ];
       }
 
@@ -61,7 +61,7 @@ module _ (p : Program) (i : ℕ) (runs : Option Method) (v : Value) (h : HeapCon
   result_back None n y at = go (owning_in runs && not (is_alias runs)) refl at
     where
       go : (b : Bool) → (owning_in runs && not (is_alias runs)) ≡ b → object_at (if b then moved_as p i (result_in runs) v h else h) n ≡ Some y → IsOlderAtResult p i runs v None h n y
-      go true is at' = by_type n y (and_parts (owning_in runs) (not (is_alias runs)) is).0 (result_in runs) refl at'
+      go true is at' = let parts = and_parts (owning_in runs) (not (is_alias runs)) is in by_type n y parts.0 (not-true (is_alias runs) parts.1) (result_in runs) refl at'
       go false is at' = as_before None n y at'
 
   -- the result is the caller's
@@ -162,17 +162,18 @@ module _ (p : Program) (i : ℕ) (self : Value) (l : Locals) (a : Action) (named
   abbrev pub AllNotes : HeapContents → ℕ → Object → Object → Type 0
   AllNotes k n x y = noted_object (all_notes p k (receiver_note l a named)) n x ≡ y
 
-  reset_nothing : returned_reset p l a named g ≡ returned_called p l a named g
+  pub reset_nothing : returned_reset p l a named g ≡ returned_called p l a named g
   reset_nothing = rw no_reset (unchanged (reset_in p (returned_called p l a named g) []) (returned_called p l a named g) (λ k x at. refl))
 
   -- an object before the one that is made is finished
   abbrev pub IsNoted : ℕ → Object → Type 0
   IsNoted n y = (x : Object) × (object_at g n ≡ Some x) × AllNotes g n x y
 
-  noted_back : (n : ℕ) (y : Object) → object_at (returned_reset p l a named g) n ≡ Some y → IsNoted n y
+  pub noted_back : (n : ℕ) (y : Object) → object_at (returned_reset p l a named g) n ≡ Some y → IsNoted n y
   noted_back n y at = changed_back (noted_object (all_notes p g (receiver_note l a named))) g n y (subst (λ (k : HeapContents). object_at k n ≡ Some y) reset_nothing at)
 
-  module _ (no_alias : alias_position named ≡ None) where
+  -- the constructor of a `new` has no aliased argument
+  module _ (no_alias : is_new a ≡ true → alias_position named ≡ None) where
     abbrev alias : Option ℕ
     alias = alias_target (operand_of l a) named
 
@@ -181,7 +182,7 @@ module _ (p : Program) (i : ℕ) (self : Value) (l : Locals) (a : Action) (named
     finish n x y new is z same = (z.0, z.1, subst (IsFinished p i self a None n z.0) same (subst (λ (w : Object). IsFinished p i self a None n z.0 (object_finished p i named alias w)) z.2 (done z.0)))
       where
         done : (z : Object) → IsFinished p i self a None n z (object_finished p i named alias (noted_object (all_notes p g (receiver_note l a named)) n z))
-        done z = rw no_alias (record { normal = refl; new = new; self = is; class = refl; link = refl; must = refl; owner = refl })
+        done z = rw (no_alias new) (record { normal = refl; new = new; self = is; class = refl; link = refl; must = refl; owner = refl })
 
     abbrev pub IsFrom : Option ClassId → ℕ → Object → Type 0
     IsFrom e n y = ((z : Object) × (object_at g n ≡ Some z) × IsFinished p i self a e n z y) ⊎ IsNoted n y

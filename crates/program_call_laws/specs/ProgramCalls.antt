@@ -16,7 +16,7 @@ use Rattle.ledger_state.specs.declared.object.Object.{Object}
 use Rattle.ledger_state.specs.declared.value.Value.{Value}
 use Rattle.ledger_obligations.specs.Obligations.{may_move}
 use Rattle.ledger_operations.specs.Places.{class_of_method}
-use Rattle.ledger_calls.specs.Calls.{operand_of, params_in}
+use Rattle.ledger_calls.specs.Calls.{is_alias, operand_of, params_in}
 use Rattle.ledger_calls.specs.Conducts.{owning_in, result_in}
 use Rattle.heap_laws.specs.Heaps.{GoesOn, IsGiven}
 
@@ -39,10 +39,11 @@ pub record IsNewAtStart (named : Option Method) (h : HeapContents) (n : ℕ) (y 
 
 -- ---- the end
 
--- the result of the method that ran moves to the caller's frame, at position `i`
+-- the result of the method that ran, which is no alias of its argument, moves to the caller's frame, at position `i`
 pub record IsReturned (p : Program) (i : ℕ) (runs : Option Method) (v : Value) (e : Option ClassId) (h : HeapContents) (n : ℕ) (x y : Object) : Type 0 where
   pub normal : e ≡ None
   pub owning : owning_in runs ≡ true
+  pub own : is_alias runs ≡ false
   pub type : VType
   pub result : result_in runs ≡ Some type
   pub root : root_of h v ≡ Some n

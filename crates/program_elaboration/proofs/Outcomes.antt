@@ -8,7 +8,7 @@ use Rattle.program_model.specs.declared.program.Program.{Program}
 use Rattle.program_model.specs.Validity.{HasBodies, IsValid}
 use Rattle.refusal_order.specs.Refusals.{least, lesser_of}
 use Rattle.method_bodies.specs.MethodBodies.{body_cases}
-use Rattle.java_types.specs.ProgramCases.{program_cases, typed_program}
+use Rattle.elaborated_typing.specs.ProgramCases.{program_cases, typed_program}
 use Rattle.java_elaboration.specs.Elaborations.{IsProgramOf}
 use Rattle.java_elaboration.specs.Elaborations as bodies
 use Rattle.elaborated_typing.proofs.BuiltStrings.{elaborated_valid}

@@ -13,7 +13,7 @@ use Rattle.java_control.specs.declared.fact.Origin.{Origin}
 use Rattle.java_control.specs.declared.fact.Rule.{Rule}
 use Rattle.fault_order.specs.declared.fault.FaultAt.{FaultAt}
 use Rattle.flow_rules.specs.Paths.{Relation, relation_of}
-use Rattle.obligation_flow.specs.Faults.{AreFaultsOf}
+use Rattle.program_faults.specs.Faults.{AreFaultsOf}
 use Rattle.program_faults.specs.ProgramReports.{HaveFaults, IsFaultCount, body_id, total_count}
 
 -- what tells a fault from the others of its body

@@ -14,7 +14,7 @@ use Rattle.fault_order.specs.declared.fault.FaultAt.{FaultAt}
 use Rattle.flow_rules.specs.declared.path_step.PathStep.{PathStep}
 use Rattle.leak_report.specs.Reports.{report_text}
 use Rattle.leak_report.specs.declared.report.Report.{Report}
-use Rattle.obligation_paths.specs.Paths.{IsTold, IsToldPathTo}
+use Rattle.obligation_flow.specs.Paths.{IsTold, IsToldPathTo}
 use Rattle.program_faults.specs.BodyReports.{AppendsReports, HasFaults, IsReportOf, IsShownAs, PrintReports, ShowShortestPath, most_faults, reports_text}
 
 pub zip_push : {A B : Type 0} (R : A → B → Type 0) (xs : List A) (ys : List B) (x : A) (y : B) → AllZip R xs ys → R x y → AllZip R (xs ++ x ∷ []) (ys ++ y ∷ [])

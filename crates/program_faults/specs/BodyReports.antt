@@ -13,7 +13,7 @@ use Rattle.flow_rules.specs.Paths.{Taken, relation_of}
 use Rattle.flow_rules.specs.declared.path_step.PathStep.{PathStep}
 use Rattle.body_origins.specs.Pairs.{ReachesMorePairs, most_pairs}
 use Rattle.fault_order.specs.declared.fault.FaultAt.{FaultAt}
-use Rattle.obligation_paths.specs.Paths.{IsShortestPathTo}
+use Rattle.obligation_flow.specs.Paths.{IsShortestPathTo}
 use Rattle.obligation_flow.specs.Faults.{AreFaultsOf}
 use Rattle.leak_report.specs.Reports.{report_text}
 use Rattle.leak_report.specs.declared.report.Report.{Report}

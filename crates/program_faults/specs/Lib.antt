@@ -1,2 +1,3 @@
 pub mod BodyReports
 pub mod ProgramReports
+pub use Rattle.obligation_flow.specs.Faults

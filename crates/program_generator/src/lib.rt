@@ -2,7 +2,5 @@
 #![tactic(auto)]
 
 mod generation;
-#[cfg(test)]
-mod tests;
 
 pub use generation::generate;

@@ -11,7 +11,7 @@ use Rattle.table_members.specs.Methods.{HasFewParameters}
 use Rattle.method_bodies.specs.MethodBodies.{body_cases}
 use Rattle.class_table.specs.Passes.{IsBuilt, classes_of}
 use Rattle.java_types.specs.ProgramCases.{program_cases, typed_program}
-use Rattle.java_elaboration.specs.Elaborations.{IsProgramOf}
+use Rattle.program_elaboration.specs.Elaborations.{IsProgramOf}
 use Rattle.program_reading.specs.TypedPrograms.{IsTyped}
 
 few_from : (bodies : List Body) (first : ℕ) (ms : List Method) → All HasFewParameters ms → All HasFewParameters (methods_from bodies first ms)

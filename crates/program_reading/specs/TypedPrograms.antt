@@ -7,7 +7,7 @@ use Rattle.program_model.specs.declared.program.Program.{Program}
 use Rattle.class_table.specs.Passes.{IsBuilt, IsTableStop, classes_of}
 use Rattle.method_bodies.specs.MethodBodies.{body_cases}
 use Rattle.java_types.specs.ProgramCases.{program_cases, typed_program}
-use Rattle.java_elaboration.specs.Elaborations.{IsProgramOf}
+use Rattle.program_elaboration.specs.Elaborations.{IsProgramOf}
 use Rattle.program_elaboration.specs.Elaborations.{IsElaborationStop}
 
 -- the table of the classes with the bodies of the sources: no class is refused, methods have bodies exactly where they are not abstract,

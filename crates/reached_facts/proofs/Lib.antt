@@ -3,3 +3,4 @@ pub mod ListPoints
 pub mod PathLaws
 pub mod PointLaws
 pub mod ReachedLaws
+pub use Rattle.body_origins.proofs.OriginLaws

@@ -14,10 +14,10 @@ use Rattle.java_control.specs.declared.fact.Fact.{Fact}
 use Rattle.java_control.specs.declared.fact.Origin.{Origin}
 use Rattle.java_control.specs.declared.fact.Outcome.{Outcome}
 use Rattle.java_control.specs.declared.fact.Outcome.TheVariants.{Next, Gone, Fault}
-use Rattle.flow_rules.specs.Flow.{flow}
-use Rattle.flow_rules.specs.Numbering.{numbered, numbered_outcome}
-use Rattle.flow_rules.specs.Paths.{Comes, Reach, start, on, entered, born, flowed}
-use Rattle.flow_rules.proofs.NumberingLaws.{flow-numbered}
+use Rattle.body_origins.specs.Flow.{flow}
+use Rattle.body_origins.specs.Numbering.{numbered, numbered_outcome}
+use Rattle.body_origins.specs.Paths.{Comes, Reach, start, on, entered, born, flowed}
+use Rattle.body_origins.proofs.NumberingLaws.{flow-numbered}
 use Rattle.body_origins.specs.Nodes.{AreNodes, arcs_at, move_of, relation_in}
 use Rattle.body_origins.specs.Pairs.{IsPairsCause, IsReachedPair, Pair, ReachesMorePairs, most_pairs}
 use Rattle.reached_facts.specs.Steps.{Begins, Leads}

@@ -13,8 +13,8 @@ use Rattle.java_control.specs.declared.fact.Outcome.{Outcome}
 use Rattle.java_control.specs.declared.fact.Outcome.TheVariants.{Next, Gone, Fault}
 use Rattle.java_control.specs.contracts.fact.OriginEq.TheImpl.Laws as origin_laws
 use Rattle.ownership_rules.specs.Births.{Birth, births_at_entry}
-use Rattle.flow_rules.specs.Flow.{flow}
-use Rattle.flow_rules.specs.Numbering.{numbered}
+use Rattle.body_origins.specs.Flow.{flow}
+use Rattle.body_origins.specs.Numbering.{numbered}
 use Rattle.reached_pairs.specs.Additions.{point_of, points_in}
 use Rattle.reached_pairs.specs.Visited.{source_of}
 use Rattle.reached_pairs.specs.declared.visit.Point.{Point}

@@ -14,10 +14,10 @@ use Rattle.java_control.specs.declared.fact.Fact.{Fact}
 use Rattle.java_control.specs.declared.fact.Origin.{Origin}
 use Rattle.java_control.specs.declared.fact.Outcome.TheVariants.{Next}
 use Rattle.ownership_rules.specs.Births.{births_of_step}
-use Rattle.flow_rules.specs.Flow.{flow}
-use Rattle.flow_rules.specs.Numbering.{numbered, numbered_outcome}
-use Rattle.flow_rules.specs.Paths.{Comes, Move, Reach, start, on, entered, born, flowed}
-use Rattle.flow_rules.proofs.NumberingLaws.{flow-numbered}
+use Rattle.body_origins.specs.Flow.{flow}
+use Rattle.body_origins.specs.Numbering.{numbered, numbered_outcome}
+use Rattle.body_origins.specs.Paths.{Comes, Move, Reach, start, on, entered, born, flowed}
+use Rattle.body_origins.proofs.NumberingLaws.{flow-numbered}
 use Rattle.reached_pairs.specs.Visited.{fact_in, facts_in, known_in, pair_of, pair_with, pairs_in, with_fact}
 use Rattle.reached_pairs.proofs.Reading.{facts_stand, pairs_once}
 use Rattle.reached_pairs.specs.declared.visit.Source.{Source as Step}

@@ -1,3 +1,4 @@
 pub mod Steps
 pub mod Points
 pub mod Reading
+pub use Rattle.body_origins.specs.Nodes

@@ -9,8 +9,8 @@ use Rattle.java_control.specs.declared.fact.Origin.{Origin}
 use Rattle.java_control.specs.declared.fact.Outcome.{Outcome}
 use Rattle.java_control.specs.declared.fact.Outcome.TheVariants.{Next, Gone, Fault}
 use Rattle.ownership_rules.specs.Births.{Birth, births_at_entry}
-use Rattle.flow_rules.specs.Flow.{flow}
-use Rattle.flow_rules.specs.Numbering.{numbered}
+use Rattle.body_origins.specs.Flow.{flow}
+use Rattle.body_origins.specs.Numbering.{numbered}
 use Rattle.reached_pairs.specs.declared.visit.Point.{Point}
 use Rattle.reached_pairs.specs.declared.visit.Source.{Source as Step}
 use Rattle.body_origins.specs.Origins.{arc_births, same_origin}

@@ -6,8 +6,8 @@ use Rattle.breadth_first.specs.Searches.{AreOnce, IsAt, Stands}
 use Rattle.fact_pool.specs.declared.handle.Handle.{Handle}
 use Rattle.java_control.specs.declared.fact.Fact.{Fact}
 use Rattle.java_control.specs.declared.fact.Origin.{Origin}
-use Rattle.flow_rules.specs.Numbering.{numbered}
-use Rattle.flow_rules.specs.Paths.{Reach, Relation}
+use Rattle.body_origins.specs.Numbering.{numbered}
+use Rattle.body_origins.specs.Paths.{Reach, Relation}
 
 -- a path reaches the node with the fact, but for the number of its origin in the list
 abbrev pub IsReachedFact : Program → BodyId → Relation ℕ → List Origin → ℕ → Fact → Type 0

@@ -11,8 +11,8 @@ use Rattle.java_control.specs.declared.fact.Outcome.TheVariants.{Next, Fault}
 use Rattle.java_control.specs.declared.fact.Rule.{Rule}
 use Rattle.ownership_rules.specs.Births.{Birth, births_at_entry}
 use Rattle.obligation_facts.specs.Facts.{Names}
-use Rattle.flow_rules.specs.Flow.{flow}
-use Rattle.flow_rules.specs.Numbering.{numbered}
+use Rattle.body_origins.specs.Flow.{flow}
+use Rattle.body_origins.specs.Numbering.{numbered}
 use Rattle.java_control.specs.Remaining.{Todo}
 use Rattle.body_origins.specs.Nodes.{AreNodes, FitsRows, arcs_at}
 use Rattle.body_origins.specs.Origins.{arc_births}

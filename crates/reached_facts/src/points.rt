@@ -10,8 +10,7 @@ ghost use Rattle.ownership_rules.specs.Room.{HasRoom};
 ghost use Rattle.body_origins.specs.Origins.{arc_births, same_origin};
 ghost use Rattle.reached_facts.specs.Points.{bare_points, birth_point, birth_points, entry_points, fact_points, flat_from};
 
-use body_origins::{all_entry_births, all_step_births};
-use flow_rules::flow;
+use body_origins::{all_entry_births, all_step_births, flow};
 use indexmap::IndexSet;
 use java_cfg::Arc;
 use java_control::{Fact, Origin, Outcome};

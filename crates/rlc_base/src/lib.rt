@@ -8,8 +8,6 @@ mod name_id;
 mod name_set;
 mod name_table;
 mod place;
-#[cfg(test)]
-mod tests;
 
 pub use byte_text::Text;
 pub use code::Code;

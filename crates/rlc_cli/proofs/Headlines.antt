@@ -22,12 +22,12 @@ use Rattle.check_command.specs.Checks.{IsCheckAnswer, IsChecked, IsUnchecked, ac
 use Rattle.program_model.specs.declared.program.Program.{Program}
 use Rattle.accepted_programs.specs.Accept.{Accept}
 use Rattle.check_command.specs.ProgramReports.{IsFaulty}
-use Rattle.run_command.specs.RunAnswers.{answer_outcome}
+use Rattle.run_inputs.specs.RunAnswers.{answer_outcome}
 use Rattle.run_inputs.specs.Runs.{IsChoicesAnswer, IsRun, IsRunAnswer, IsRunOf, Run}
 use Rattle.run_inputs.specs.Runs as runs
 use Rattle.stub_conduct.specs.declared.choice.Choices.{Choices}
 use Rattle.safe_run_laws.proofs.Answers.{safe_answer}
-use Rattle.soundness_laws.proofs.Runs.{accepted_is_safe}
+use Rattle.safe_run_laws.proofs.Runs.{accepted_is_safe}
 use Rattle.rlc_cli.specs.Answers.{IsAnswer}
 use Rattle.rlc_cli.specs.Headline.{IsAcceptedCheck, IsHeadline, IsLeakingCheck, IsLeakingRun}
 

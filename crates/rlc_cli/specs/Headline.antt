@@ -9,19 +9,19 @@ use Rattle.check_command.specs.Programs.{IsProgramOf}
 use Rattle.program_model.specs.declared.program.Program.{Program}
 use Rattle.accepted_programs.specs.Accept.{Accept}
 use Rattle.check_command.specs.ProgramReports.{IsFaulty}
-use Rattle.agreement.specs.PlainForms.{HasPlainForms}
 use Rattle.safety.specs.Safety.{IsSafe}
+use Rattle.safe_run_laws.specs.Plain.{IsPlain}
 use Rattle.rlc_cli.specs.Answers.{check_names, run_names}
 
 -- the files of these names make a program that is accepted: it is well formed, no body of it passes a limit, and no path in a body
--- breaks a rule. Where it has the forms that the laws of safety speak of, it is safe in every run
+-- breaks a rule. Where it is one of the plain programs that the laws of safety speak of, it is safe in every run
 pub record IsAcceptedCheck (told : Option Contents) (names : FileNames) : Type 0 where
   pub files : FileTexts
   pub texts : AreFileTexts told names files
   pub program : Program
   pub is_program : IsProgramOf files program
   pub accepted : Accept program
-  pub safe : HasPlainForms program → IsSafe program
+  pub safe : IsPlain program → IsSafe program
 
 -- the files of these names make a program, which is well formed, and in which the flow rules derive a fault
 pub record IsLeakingCheck (told : Option Contents) (names : FileNames) : Type 0 where
@@ -31,15 +31,15 @@ pub record IsLeakingCheck (told : Option Contents) (names : FileNames) : Type 0 
   pub is_program : IsProgramOf files program
   pub fault : IsFaulty program
 
--- The files of these names make a program with a run that leaks: it is not safe, and so it is not accepted where it has the forms that
--- the laws of safety speak of.
+-- The files of these names make a program with a run that leaks: it is not safe, and so it is not accepted where it is one of the plain
+-- programs that the laws of safety speak of.
 pub record IsLeakingRun (told : Option Contents) (names : FileNames) : Type 0 where
   pub files : FileTexts
   pub texts : AreFileTexts told names files
   pub program : Program
   pub is_program : IsProgramOf files program
   pub unsafe : IsSafe program → ⊥
-  pub unaccepted : HasPlainForms program → Accept program → ⊥
+  pub unaccepted : IsPlain program → Accept program → ⊥
 
 abbrev pub IsAcceptedRequest : Option Contents → Option Request → Type 0
 IsAcceptedRequest told None = Unit {0}

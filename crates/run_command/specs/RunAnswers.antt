@@ -4,26 +4,16 @@ use Rattle.std.specs.List.{list_any}
 use Rattle.command_answers.specs.Texts.{placeless_text}
 use Rattle.command_answers.specs.declared.answers.Outcome.{Outcome}
 use Rattle.command_answers.specs.declared.answers.Outcome.TheVariants as outcomes
-use Rattle.ledger_interp.specs.Runs.{Run, run}
-use Rattle.ledger_state.specs.declared.entry.Entry.{Entry}
-use Rattle.ledger_state.specs.declared.entry.Entry.TheVariants as lines
+use Rattle.ledger_runs.specs.Runs.{Run, run}
+use Rattle.ledger_state.specs.Leaks.{is_leak}
 use Rattle.ledger_text.specs.Ledger.{ledger_text}
 use Rattle.ledger_text.specs.declared.how.How.{How}
 use Rattle.ledger_text.specs.declared.how.How.TheVariants as hows
 use Rattle.program_model.specs.declared.kinds.MethodId.{MethodId}
 use Rattle.program_model.specs.declared.program.Program.{Program}
 use Rattle.rlc_base.specs.declared.code.Code.TheVariants as refused
-use Rattle.run_command.specs.Mains.{main_of}
+use Rattle.ledger_runs.specs.Mains.{main_of}
 use Rattle.stub_conduct.specs.declared.choice.Choices.{Choices}
-
--- an object was lost before its obligation was met
-abbrev pub is_leak : Entry → Bool
-is_leak (lines.Leak k word pos) = true
-is_leak (lines.Born k c o pos) = false
-is_leak (lines.Linked k c j pos) = false
-is_leak (lines.Called k n pos) = false
-is_leak (lines.Owner k o pos) = false
-is_leak (lines.Reset k pos) = false
 
 -- what a run came to, by whether its ledger has a leak and by how it ended
 abbrev pub outcome_of : Bool → How → Outcome

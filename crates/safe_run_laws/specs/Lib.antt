@@ -1,0 +1,1 @@
+pub use Rattle.soundness_laws.specs.Plain

@@ -3,4 +3,4 @@
 
 mod laws;
 
-pub use laws::safe_answer_leaks_nothing;
+pub use laws::{accepted_run_leaks_nothing, safe_answer_leaks_nothing, safe_run_leaks_nothing};

@@ -19,9 +19,9 @@ use Rattle.ledger_calls.specs.Calls.{body_of}
 use Rattle.ledger_calls.specs.Configuration.{Config, Frame, held_by}
 use Rattle.ledger_frames.specs.Choosing.{is_number}
 use Rattle.ledger_moves.specs.Moves.{has_body}
-use Rattle.ledger_interp.specs.Runs.{run}
-use Rattle.run_command.specs.Mains.{is_main_in}
-use Rattle.run_command.specs.RunAnswers.{is_leak}
+use Rattle.ledger_runs.specs.Runs.{run}
+use Rattle.ledger_runs.specs.Mains.{is_main_in}
+use Rattle.ledger_state.specs.Leaks.{is_leak}
 
 -- An object that is linked to another one has no obligation and no owner but those of the end of its links, its root.
 

@@ -1,6 +1,2 @@
-//! What it is for a program to be safe.
+//! What it is for a program to be safe: definitions alone, over the runs of the program.
 #![tactic(auto)]
-
-mod laws;
-
-pub use laws::safe_run_leaks_nothing;

@@ -9,10 +9,10 @@ use Rattle.ledger_state.specs.declared.value.Value.TheVariants as values
 use Rattle.ledger_text.specs.declared.how.How.TheVariants as hows
 use Rattle.ledger_calls.specs.Configuration.{Config}
 use Rattle.ledger_moves.specs.Moves.{call, call_of, library_as, library_call, next_move, null_target, operate, take, take_plain}
-use Rattle.ledger_machine.specs.Outcomes.{went}
-use Rattle.ledger_machine.specs.Starts.{start_config}
-use Rattle.ledger_machine.specs.Steps.{step}
-use Rattle.ledger_interp.specs.Runs.{come_to, go_on, run, run_from}
+use Rattle.ledger_runs.specs.Outcomes.{went}
+use Rattle.ledger_runs.specs.Starts.{start_config}
+use Rattle.ledger_runs.specs.Steps.{step}
+use Rattle.ledger_runs.specs.Runs.{come_to, go_on, run, run_from}
 use Rattle.safety_examples.specs.Controls.{closes, drops, keeps, makes, reads, second, thrown}
 use Rattle.safety_examples.specs.Programs.{careful, close_alone, expression_number, io_exception, main_method, no_names}
 use Rattle.safety_examples.specs.Runs.{birth, close, then_throws}

@@ -7,11 +7,11 @@ use Rattle.ledger_state.specs.declared.entry.Owner.TheVariants as owners
 use Rattle.ledger_state.specs.declared.value.Value.TheVariants as values
 use Rattle.ledger_calls.specs.Configuration.{Config}
 use Rattle.ledger_moves.specs.Moves.{call, call_of, library_as, library_call, next_move, null_target, operate, take, take_plain}
-use Rattle.ledger_machine.specs.Outcomes.{went}
-use Rattle.ledger_machine.specs.Starts.{start_config}
-use Rattle.ledger_machine.specs.Steps.{step}
-use Rattle.ledger_interp.specs.Runs.{go_on, run, run_from}
-use Rattle.run_command.specs.RunAnswers.{is_leak}
+use Rattle.ledger_runs.specs.Outcomes.{went}
+use Rattle.ledger_runs.specs.Starts.{start_config}
+use Rattle.ledger_runs.specs.Steps.{step}
+use Rattle.ledger_runs.specs.Runs.{go_on, run, run_from}
+use Rattle.ledger_state.specs.Leaks.{is_leak}
 use Rattle.safety.specs.Safety.{IsSafe}
 use Rattle.safety_examples.specs.Controls.{keeps, makes}
 use Rattle.safety_examples.specs.Programs.{careless, main_method, no_names}

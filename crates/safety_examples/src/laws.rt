@@ -16,7 +16,7 @@ ghost use Rattle.must_call_sets.specs.WellFormed.{IsWellFormed};
 ghost use Rattle.must_call_types.specs.Signed.{IsSigned};
 ghost use Rattle.must_call_sets.specs.MustCallSets.{is_heavy_class};
 ghost use Rattle.ledger_text.specs.declared.how.How.TheVariants as hows;
-ghost use Rattle.ledger_interp.specs.Runs.{run};
+ghost use Rattle.ledger_runs.specs.Runs.{run};
 ghost use Rattle.safety.specs.Safety.{IsSafe};
 ghost use Rattle.safety_examples.specs.Programs.{careful, careless, io_exception, main_method, socket};
 ghost use Rattle.safety_examples.specs.Runs.{birth, close, then_throws};

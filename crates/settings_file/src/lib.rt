@@ -4,8 +4,6 @@
 mod document;
 mod printing;
 mod reading;
-#[cfg(test)]
-mod tests;
 mod values;
 
 pub use java_syntax::Settings;

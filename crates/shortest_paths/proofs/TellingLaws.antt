@@ -26,8 +26,8 @@ use Rattle.reached_pairs.specs.Visited.{fact_in, found_in, known_in, source_of, 
 use Rattle.reached_pairs.proofs.Reading.{AreRead, found_once}
 use Rattle.reached_pairs.specs.declared.visit.Source.{Source as Step}
 use Rattle.reached_pairs.specs.declared.visit.Visit.{Visit}
-use Rattle.body_origins.specs.Nodes.{arcs_at, move_of, relation_in}
-use Rattle.body_origins.proofs.OriginLaws.{take_next, take_whole}
+use Rattle.reached_facts.specs.Nodes.{arcs_at, move_of, relation_in}
+use Rattle.reached_facts.proofs.OriginLaws.{take_next, take_whole}
 use Rattle.reached_facts.specs.Steps.{Becomes, Begins, Leads}
 use Rattle.shortest_paths.specs.Telling.{AreToldBack, IsShortestPath, IsToldStep, Tells, step_from, told, told_fact}
 

@@ -13,7 +13,7 @@ use Rattle.flow_rules.specs.declared.path_step.PathStep.{PathStep}
 use Rattle.reached_pairs.specs.Visited.{fact_in}
 use Rattle.reached_pairs.specs.declared.visit.Source.{Source as Step}
 use Rattle.reached_pairs.specs.declared.visit.Visit.{Visit}
-use Rattle.body_origins.specs.Nodes.{arcs_at}
+use Rattle.reached_facts.specs.Nodes.{arcs_at}
 
 abbrev pub told_fact : ℕ → Option Fact → Option Fact
 told_fact m None = None

@@ -11,7 +11,7 @@ ghost use Rattle.java_control.specs.declared.fact.Fact.{Fact as DeclaredFact};
 ghost use Rattle.reached_pairs.specs.Visited.{fact_in};
 ghost use Rattle.reached_pairs.specs.declared.visit.Source.{Source as DeclaredSource};
 ghost use Rattle.reached_pairs.specs.declared.visit.Visit.{Visit as DeclaredVisit};
-ghost use Rattle.body_origins.specs.Nodes.{arcs_at, relation_in};
+ghost use Rattle.reached_facts.specs.Nodes.{arcs_at, relation_in};
 ghost use Rattle.reached_facts.specs.Steps.{Begins, IsReady, Leads};
 ghost use Rattle.shortest_paths.specs.Telling.{AreToldBack, IsShortestPath, IsToldStep};
 

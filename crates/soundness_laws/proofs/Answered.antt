@@ -1,7 +1,6 @@
 -- What a call of the program gives to the frame that waits for it: the object of its `new`, or its owning result.
-use Rattle.std.proofs.Common.{◌≡◌, ℕ, ◌+◌, Bool, true, false, not, ◌&&◌, Option, Some, None, slice_get, refl, sym, ap, ◌∙◌, subst, true≢false}
+use Rattle.std.proofs.Common.{◌≡◌, ℕ, Bool, true, false, not, ◌&&◌, Option, Some, None, is_some, slice_get, refl, sym, ap, ◌∙◌, subst, true≢false}
 use Rattle.std.specs.FinSet as set
-use Rattle.std.proofs.lemmas.Bool.{not-true}
 use Rattle.rlc_base.proofs.SetLaws.{within_self, within_trans}
 use Rattle.program_model.specs.declared.kinds.ClassId.{ClassId}
 use Rattle.program_model.specs.declared.kinds.MethodId.{MethodId}
@@ -16,7 +15,7 @@ use Rattle.program_model.specs.Lookups.{method_at}
 use Rattle.program_model.specs.Validity.{IsOfKind}
 use Rattle.must_call_sets.specs.Bodies.{constructs, is_constructor_kind}
 use Rattle.must_call_sets.specs.MustCallSets.{Names, fits, must_of, must_of_optional, must_of_type}
-use Rattle.must_call_sets.specs.OverrideCases.{differ, has_other_result, has_wider_result}
+use Rattle.must_call_sets.specs.OverrideCases.{differ}
 use Rattle.must_call_sets.specs.Signatures.{is_present}
 use Rattle.java_control.specs.Calls.{called_method}
 use Rattle.java_control.specs.Control.{Step}
@@ -30,31 +29,31 @@ use Rattle.ownership_rules.specs.Births.{origin_of}
 use Rattle.accepted_programs.specs.Accept.{Accept}
 use Rattle.flow_rules.specs.Paths.{move_of}
 use Rattle.ledger_state.specs.Contents.{HeapContents}
-use Rattle.ledger_state.specs.Heaps.{next_number, object_at, root_of}
+use Rattle.ledger_state.specs.Heaps.{object_at, root_of}
 use Rattle.ledger_state.specs.Values.{number_of}
 use Rattle.ledger_state.specs.declared.object.Object.{Object}
 use Rattle.ledger_state.specs.declared.value.Value.{Value}
 use Rattle.ledger_state.specs.declared.value.Value.TheVariants as values
 use Rattle.ledger_obligations.specs.Obligations.{is_unmet}
 use Rattle.ledger_operations.specs.Places.{class_of_method}
-use Rattle.ledger_calls.specs.Calls.{alias_position, reset_position}
+use Rattle.ledger_calls.specs.Calls.{alias_position, is_alias, reset_position}
 use Rattle.ledger_calls.specs.Conducts as conducts
 use Rattle.ledger_calls.specs.Configuration.{Frame}
 use Rattle.ledger_frames.specs.Choosing.{frame_steps}
 use Rattle.ledger_frames.specs.Frames.{frame_after}
 use Rattle.ledger_steps.specs.Ends.{answered, exception_class, result_value, thrown_in}
-use Rattle.heap_laws.specs.Heaps.{GoesOn, IsUnlinked}
+use Rattle.heap_laws.specs.Heaps.{GoesOn}
 use Rattle.program_call_laws.specs.ProgramCalls.{IsFinished, IsReturned, is_new}
 use Rattle.named_step_laws.specs.Naming.{IsOfItsKind}
 use Rattle.named_step_laws.proofs.Reached.{names_what_is_there}
 use Rattle.agreement.specs.Agreement.{IsMade, IsMadeBy, Stands, Tracks}
 use Rattle.agreement.specs.PlainForms.{HasPlainForms, IsPlainAction, RunsFor}
 use Rattle.owned_fact_laws.specs.Outcomes.{IsCallRow}
-use Rattle.tracking_laws.proofs.Births.{heavy_by_unmet, new_tracks, result_tracks}
-use Rattle.tracking_laws.proofs.CallNames.{object_of_root}
-use Rattle.tracking_laws.proofs.Carried.{still_bounded}
-use Rattle.tracking_laws.proofs.Ready.{plain_step, step_there}
-use Rattle.tracking_laws.proofs.Unmet.{may_lies, nothing_to_call, object_type_of, unmet_before, way_of_call}
+use Rattle.covering_laws.specs.Steps.{RootsStay}
+use Rattle.covering_laws.proofs.Births.{heavy_by_unmet, new_tracks, result_tracks}
+use Rattle.covering_laws.proofs.Carried.{still_bounded}
+use Rattle.covering_laws.proofs.Ready.{plain_step, step_there}
+use Rattle.covering_laws.proofs.Unmet.{may_lies, nothing_to_call, object_type_of, unmet_before, way_of_call}
 
 -- the caller's step of the call, when the frame ends
 pub record IsAnswered (p : Program) (h : HeapContents) (fr caller : Frame) (q : Completion) (t : Step) (named : MethodId) : Type 0 where
@@ -66,9 +65,9 @@ pub record IsAnswered (p : Program) (h : HeapContents) (fr caller : Frame) (q : 
   pub running_at : method_at p fr.method ≡ Some running
   pub fit : RunsFor p method running
   pub no_reset : reset_position (method_at p named) ≡ None
-  pub no_alias : alias_position (method_at p named) ≡ None
-  pub alias : alias_position (method_at p fr.method) ≡ None
+  pub no_alias : is_new t.action ≡ true → alias_position (method_at p named) ≡ None
   pub normal : exception_class p h (thrown_in fr.locals q) ≡ None → t.edge ≡ edges.Go
+  pub thrown : (c : ClassId) → exception_class p h (thrown_in fr.locals q) ≡ Some c → (k : ClassId) × (t.edge ≡ edges.Throws k)
   pub makes : IsMadeBy p h t.action fr.locals.this
 
 and_false : (a b : Bool) → (a && b) ≡ false → a ≡ true → b ≡ false
@@ -82,6 +81,10 @@ not_back false is = absurd (true≢false is)
 differ_true : (b : Bool) → differ true b ≡ false → b ≡ true
 differ_true b same = not_back b same
 
+none_there : (x : Option ℕ) → is_some x ≡ false → x ≡ None
+none_there None is = refl
+none_there (Some k) is = absurd (true≢false is)
+
 -- a constructor has no result
 no_result : (k : MethodKind) (s : Sig) → IsOfKind k s → is_constructor_kind k ≡ true → s.result ≡ None
 no_result methods.Ctor s valid is = valid
@@ -89,7 +92,7 @@ no_result methods.Instance s valid is = absurd (true≢false (sym is))
 no_result methods.Static s valid is = absurd (true≢false (sym is))
 no_result methods.Constant s valid is = absurd (true≢false (sym is))
 
-module _ (p : Program) (ac : Accept p) (forms : HasPlainForms p) (h k : HeapContents) (uh : IsUnlinked h) (uk : IsUnlinked k) (fr caller : Frame) (below : Stands p caller) (j : ℕ) (t : Step)
+module _ (p : Program) (ac : Accept p) (forms : HasPlainForms p) (h k : HeapContents) (fr caller : Frame) (below : Stands p caller) (j : ℕ) (t : Step)
     (there : slice_get (frame_steps p caller) j ≡ Some t) (q : Completion) (named : MethodId) (answer : IsAnswered p h fr caller q t named) (at n : ℕ) where
   abbrev e : Option ClassId
   e = exception_class p h (thrown_in fr.locals q)
@@ -106,12 +109,10 @@ module _ (p : Program) (ac : Accept p) (forms : HasPlainForms p) (h k : HeapCont
   at_named : (m : MethodId) → called_method t.action ≡ Some m → method_at p m ≡ Some answer.method
   at_named m is = ap (method_at p) (same_named m is) ∙ answer.named_at
 
-  no_alias_in : answer.method.sig.alias ≡ None
-  no_alias_in = sym (ap alias_position answer.named_at) ∙ answer.no_alias
-
   -- ---- the object of a `new`
 
-  module _ (z x y : Object) (before : object_at h n ≡ Some z) (goes : GoesOn z x) (unmet : is_unmet y ≡ true) (made : IsFinished p at fr.locals.this t.action e n x y) where
+  module _ (z x y : Object) (before : object_at h n ≡ Some z) (goes : GoesOn z x) (unmet : is_unmet y ≡ true) (made : IsFinished p at fr.locals.this t.action e n x y)
+      (itself : root_of k (values.Object n) ≡ Some n) where
     by_new : (m : MethodId) (d c : ℕ) → t.action ≡ actions.New m d c → IsMade p h m fr.locals.this → Tracks p k (frame_after p h caller t given) n y
     by_new m d c is object =
         let number : object.0 ≡ n = (let same : Some object.0 ≡ Some n = sym (ap number_of object.1) ∙ made.self in cc) in
@@ -123,7 +124,8 @@ module _ (p : Program) (ac : Accept p) (forms : HasPlainForms p) (h k : HeapCont
         let value : given ≡ values.Object n =
         ap (λ (a : Action). answered fr.locals.this a v e) is ∙ ap (answered fr.locals.this (actions.New m d c) v) made.normal ∙ object.1 ∙ ap values.Object number in
         subst (λ (w : Value). Tracks p k (frame_after p h caller t w) n y) (sym value)
-        (new_tracks p ac forms h k uk caller below j t there (way_of_call t answer.row) n y m d c answer.method is (answer.normal made.normal) (at_named m (ap called_method is)) no_alias_in
+        (new_tracks p ac forms h k caller below j t there (way_of_call t answer.row) n y (values.Object n) itself m d c answer.method is (answer.normal made.normal) (at_named m (ap called_method is))
+        (sym (ap alias_position answer.named_at) ∙ answer.no_alias (ap is_new is))
         (heavy_by_unmet p answer.method.class y unmet within)
         (ap (λ (u : ClassId). fits p u answer.method.class) now ∙ within_self (must_of p answer.method.class))
         (ap (λ (f : Option Names). set.is_subset y.must (origin_of p kinds.New t.pos answer.method.class f).first) answer.fit.first ∙ within)
@@ -140,12 +142,16 @@ module _ (p : Program) (ac : Accept p) (forms : HasPlainForms p) (h k : HeapCont
   -- ---- an owning result
 
   module _ (x y : Object) (before : object_at h n ≡ Some x) (goes : GoesOn x y) (unmet : is_unmet y ≡ true) (bound : set.is_subset x.must (must_of p x.class) ≡ true)
-      (back : IsReturned p at (method_at p fr.method) v e h n x y) where
+      (back : IsReturned p at (method_at p fr.method) v e h n x y) (stays : RootsStay h k n) where
     owning : answer.running.sig.owning_result ≡ true
     owning = subst (λ (m : Option Method). conducts.owning_in m ≡ true) answer.running_at back.owning
 
     result : answer.running.sig.result ≡ Some back.type
     result = subst (λ (m : Option Method). conducts.result_in m ≡ Some back.type) answer.running_at back.result
+
+    -- a result that moves is no alias
+    own_result : answer.method.sig.alias ≡ None
+    own_result = sym answer.fit.alias ∙ none_there answer.running.sig.alias (subst (λ (m : Option Method). is_alias m ≡ false) answer.running_at back.own)
 
     -- the result that the call names is owning, and its type asks for no less
     named_owning : answer.method.sig.owning_result ≡ true
@@ -176,10 +182,9 @@ module _ (p : Program) (ac : Accept p) (forms : HasPlainForms p) (h k : HeapCont
         let fit : fits p x.class r ≡ true = subst (λ (w : Option VType). set.is_subset (must_of p x.class) (must_of_optional p w) ≡ true) type lies in
         let now : fits p y.class r ≡ true = ap (λ (u : ClassId). fits p u r) goes.class ∙ fit in
         let bounded = still_bounded p x y goes bound in
-        let value : given ≡ values.Object n =
-        ap (λ (a : Action). answered fr.locals.this a v e) is ∙ ap (answered fr.locals.this (actions.Call m d c form) v) back.normal ∙ object_of_root h v n uh back.root in
+        let value : given ≡ v = ap (λ (a : Action). answered fr.locals.this a v e) is ∙ ap (answered fr.locals.this (actions.Call m d c form) v) back.normal in
         subst (λ (w : Value). Tracks p k (frame_after p h caller t w) n y) (sym value)
-        (result_tracks p ac forms h k uk caller below j t there (way_of_call t answer.row) n y m d c form answer.method r is (answer.normal back.normal) (at_named m (ap called_method is)) no_alias_in type named_owning
+        (result_tracks p ac forms h k caller below j t there (way_of_call t answer.row) n y v (stays v back.root) m d c form answer.method r is (answer.normal back.normal) (at_named m (ap called_method is)) own_result type named_owning
         now
         (ap (λ (f : Option Names). set.is_subset y.must (origin_of p kinds.Result t.pos r f).first) answer.fit.first ∙ within_trans y.must (must_of p y.class) (must_of p r) bounded now)
         bounded)

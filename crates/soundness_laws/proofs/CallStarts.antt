@@ -1,21 +1,22 @@
 -- A call of a method of the program begins a frame.
-use Rattle.std.proofs.Common.{◌≡◌, ◌⊎◌, inl, inr, ℕ, ◌+◌, ◌<◌, ◌≤◌, Bool, true, false, not, ◌&&◌, Option, Some, None, List, [], ◌∷◌, ◌++◌, length, slice_get, nat_eq, refl, sym, ap, ◌∙◌, subst, true≢false, if◌then◌else◌, arith, eq-eqb, eqb-true}
+use Rattle.std.proofs.Common.{◌≡◌, ◌⊎◌, inl, inr, ℕ, ◌+◌, ◌<◌, ◌≤◌, Bool, true, false, not, ◌&&◌, Option, Some, None, List, ◌∷◌, ◌++◌, length, slice_get, nat_eq, nat_le, nat_lt, refl, sym, ap, ◌∙◌, subst, true≢false, if◌then◌else◌, arith, eq-eqb, eqb-true}
 use Rattle.std.specs.FinSet as set
 use Rattle.std.specs.Prelude.{MatchBool}
+use Rattle.std.proofs.lemmas.Bool.Decides.{nat_tests}
 use Rattle.std.proofs.lemmas.Bool.{and_parts}
 use Rattle.std.proofs.lemmas.Option.{slice_get_within}
 use Rattle.rlc_base.specs.declared.place.Pos.{Pos}
-use Rattle.rlc_base.proofs.SetLaws.{empty_within, within_trans}
+use Rattle.rlc_base.proofs.SetLaws.{within_trans}
 use Rattle.program_model.specs.declared.kinds.ClassId.{ClassId}
 use Rattle.program_model.specs.declared.kinds.MethodId.{MethodId}
 use Rattle.program_model.specs.declared.kinds.VType.{VType}
-use Rattle.program_model.specs.declared.kinds.VType.TheVariants as types
 use Rattle.program_model.specs.declared.program.Method.{Method}
 use Rattle.program_model.specs.declared.program.ParamSig.{ParamSig}
 use Rattle.program_model.specs.declared.program.Program.{Program}
 use Rattle.program_model.specs.Lookups.{method_at}
-use Rattle.must_call_sets.specs.MustCallSets.{Names, fits, is_empty, must_of, must_of_type, no_names}
-use Rattle.java_control.specs.Calls.{called_method}
+use Rattle.must_call_sets.specs.Bodies.{constructs}
+use Rattle.must_call_sets.specs.MustCallSets.{Names, fits, must_of, must_of_type}
+use Rattle.java_control.specs.Calls.{called_method, temp_at}
 use Rattle.java_control.specs.Control.{Step}
 use Rattle.java_control.specs.declared.action.Action.{Action}
 use Rattle.java_control.specs.declared.action.Action.TheVariants as actions
@@ -25,38 +26,42 @@ use Rattle.ownership_rules.specs.MovesAtCalls.{moved_at_call}
 use Rattle.ownership_rules.specs.declared.moved.Moved.TheVariants as moves
 use Rattle.accepted_programs.specs.Accept.{Accept}
 use Rattle.ledger_state.specs.Contents.{HeapContents}
-use Rattle.ledger_state.specs.Heaps.{next_number, object_at, root_of}
-use Rattle.ledger_state.specs.Locals.{variable_value}
+use Rattle.ledger_state.specs.Heaps.{next_number, object_at, root_of, unfinished}
+use Rattle.ledger_state.specs.Locals.{temp_in, temp_value, variable_value}
 use Rattle.ledger_state.specs.declared.entry.Entry.{Entry}
-use Rattle.ledger_state.specs.declared.entry.Owner.{Owner}
 use Rattle.ledger_state.specs.declared.entry.Owner.TheVariants as owners
 use Rattle.ledger_state.specs.declared.locals.Locals.{Locals}
 use Rattle.ledger_state.specs.declared.object.Object.{Object}
-use Rattle.ledger_state.specs.declared.value.Value.{Value}
 use Rattle.ledger_state.specs.declared.value.Value.TheVariants as values
 use Rattle.ledger_obligations.specs.Obligations.{is_unmet, may_move}
 use Rattle.ledger_operations.specs.Places.{class_of_method}
 use Rattle.ledger_calls.specs.Calls.{argument_values, operand_of, params_in}
 use Rattle.ledger_calls.specs.Configuration.{Frame, held_by}
 use Rattle.ledger_frames.specs.Choosing.{frame_steps}
-use Rattle.ledger_steps.specs.CallSteps.{began_entries, began_heap, self_begun, started}
-use Rattle.call_step_laws.specs.Calling.{may_call}
+use Rattle.ledger_steps.specs.CallSteps.{began_entries, began_heap, object_of_new, self_begun, started}
 use Rattle.call_step_laws.proofs.Ways.{one_action}
-use Rattle.heap_laws.specs.Heaps.{GoesOn, IsGiven, IsUnlinked}
-use Rattle.heap_laws.proofs.Laws.{numbers_are_in_range, roots_of_unlinked-value}
+use Rattle.heap_laws.specs.Heaps.{GoesOn, HasLibraryLinks, IsGiven, KeepsLinks}
+use Rattle.heap_laws.proofs.Laws.{appended_object_at-object, moved_arguments_are_older-older, evolving_heaps-links, numbers_are_in_range, roots_go_on-root, roots_go_on-value}
 use Rattle.program_call_laws.specs.ProgramCalls.{IsNewAtStart, IsOlderAtStart}
-use Rattle.program_call_laws.proofs.Begun.{begun_count, begun_from, begun_given, begun_leaks_nothing, begun_makes}
-use Rattle.agreement.specs.Agreement.{Agrees, Awaits, IsAwaited, IsMade, IsMadeBy, IsTracked, Stands, Tracks, WaitsFor, is_answering}
+use Rattle.program_call_laws.proofs.Begun.{begun_count, begun_evolves, begun_from, begun_given, begun_leaks_nothing, begun_links, begun_makes}
+use Rattle.agreement.specs.Chains.{HaveEnds, IsLast}
+use Rattle.agreement.specs.Agreement.{Agrees, Awaits, IsAwaited, IsMade, IsMadeBy, IsTracked, RunsItself, RunsOnSame, Tracks, WaitsFor, is_answering}
 use Rattle.agreement.specs.PlainForms.{HasPlainForms, MayRun, RunsFor}
 use Rattle.owned_fact_laws.specs.Outcomes.{IsCallRow}
-use Rattle.place_laws.specs.Places.{IsWay}
-use Rattle.tracking_laws.proofs.Carried.{still_awaited, tracks_on}
-use Rattle.tracking_laws.proofs.Entries.{HasBegun, argument_at, asks_nothing, entered_tracks, like_parameter}
-use Rattle.tracking_laws.proofs.Given.{given_argument}
-use Rattle.tracking_laws.proofs.Landing.{landed}
-use Rattle.tracking_laws.proofs.Ready.{ready, step_here}
-use Rattle.tracking_laws.proofs.Stacks.{KeepsClasses, called_on, tracked_bounded, tracked_within}
-use Rattle.tracking_laws.proofs.Unmet.{call_may, frame_of, may_lies, object_type_of, unmet_before, way_of_call}
+use Rattle.soundness_laws.specs.Supports.{Supports}
+use Rattle.target_step_laws.specs.Targets.{FindsIt}
+use Rattle.target_laws.specs.Frames.{KeepsTargets, holds_this}
+use Rattle.target_laws.proofs.Begun.{finds}
+use Rattle.obligation_facts.specs.SmallActions.{IsSmallAction}
+use Rattle.covering_laws.specs.Steps.{RootsStay}
+use Rattle.covering_laws.proofs.Carried.{still_awaited, tracks_on}
+use Rattle.covering_laws.proofs.Entries.{HasBegun, argument_at, asks_nothing, entered_tracks, like_parameter}
+use Rattle.covering_laws.proofs.Given.{given_argument}
+use Rattle.covering_laws.proofs.Chains.{IsOwnedAs, ends_on}
+use Rattle.covering_laws.proofs.Landing.{landed}
+use Rattle.covering_laws.proofs.Ready.{ready, step_here}
+use Rattle.covering_laws.proofs.Stacks.{KeepsClasses, called_on, tracked_bounded, tracked_within}
+use Rattle.covering_laws.proofs.Unmet.{call_may, owner_of, may_lies, object_type_of, unmet_before, way_of_call}
 
 -- the frame of a call that the machine begins
 pub record IsStarted (p : Program) (fr callee : Frame) (h : HeapContents) (s : Step) (named runs : MethodId) : Type 0 where
@@ -66,11 +71,20 @@ pub record IsStarted (p : Program) (fr callee : Frame) (h : HeapContents) (s : S
   pub named_at : method_at p named ≡ Some method
   pub running : Method
   pub may : MayRun p named runs
+  pub itself : RunsItself s.action named runs
   pub fit : RunsFor p method running
   pub begun : HasBegun p callee runs running (self_begun fr.locals s.action h) (argument_values fr.locals s.action (method_at p named))
 
+-- the first operand of a call of a super constructor
+is_there : (d n : ℕ) → 0 < n → d < 64 → (nat_lt 0 n && nat_le (d + 0) 4294967295) ≡ true
+is_there d n some small = grind (arith, nat_tests)
+
+first_value : (l : Locals) (d n : ℕ) → 0 < n → d < 64 → temp_in l (temp_at d n 0) ≡ temp_value l d
+first_value l d n some small =
+    ap (λ (t : Bool). temp_in l (if t then Some (d + 0) else None)) (is_there d n some small) ∙ ap (temp_value l) (let same : d + 0 ≡ d = omega arith in same)
+
 module _ (p : Program) (ac : Accept p) (forms : HasPlainForms p) (fr callee : Frame) (frs : List Frame) (h : HeapContents) (es : List Entry) (agrees : Agrees p (fr ∷ frs) h es)
-    (i : ℕ) (s : Step) (here : slice_get (frame_steps p fr) i ≡ Some s) (named runs : MethodId) (start : IsStarted p fr callee h s named runs) where
+    (i : ℕ) (s : Step) (here : slice_get (frame_steps p fr) i ≡ Some s) (named runs : MethodId) (start : IsStarted p fr callee h s named runs) (sup : Supports p h fr) (targets : KeepsTargets p fr) where
   abbrev frames : List Frame
   frames = callee ∷ fr ∷ frs
 
@@ -78,27 +92,33 @@ module _ (p : Program) (ac : Accept p) (forms : HasPlainForms p) (fr callee : Fr
   heap = began_heap p fr.locals s.action (method_at p named) (length frames) h
 
   from : (o : ℕ) (y : Object) → object_at heap o ≡ Some y → IsNewAtStart (method_at p named) h o y ⊎ IsOlderAtStart p fr.locals s.action (method_at p named) (length frames) h o y
-  from o y at = begun_from p fr.locals s.action (method_at p named) (length frames) h agrees.unlinked o y at
+  from o y at = begun_from p fr.locals s.action (method_at p named) (length frames) h agrees.links o y at
 
-  unlinked : IsUnlinked heap
-  unlinked o y at = elim (from o y at) [ inl new ↦ new.link | inr old ↦ old.goes_on.link ∙ agrees.unlinked o old.before old.at ]
+  links : HasLibraryLinks heap
+  links = begun_links p fr.locals s.action (method_at p named) (length frames) h agrees.links
+
+  keeps_links : KeepsLinks h heap
+  keeps_links = evolving_heaps-links h heap (begun_evolves p fr.locals s.action (method_at p named) (length frames) h)
+
+  stays : (o : ℕ) (x : Object) → object_at h o ≡ Some x → RootsStay h heap o
+  stays o x before u root = roots_go_on-value h heap u o x agrees.links keeps_links root before
 
   -- what is not finished is not unmet
   not_unmet : (y : Object) → y.finished ≡ false → is_unmet y ≡ true → ⊥
   not_unmet y none unmet = true≢false (sym (and_parts y.finished (not (set.is_subset y.must y.called)) unmet).0 ∙ none)
 
-  answered : (o : ℕ) (y : Object) → object_at heap o ≡ Some y → is_unmet y ≡ true → is_answering y.owner ≡ true
-  answered o y at unmet = elim (from o y at) [
+  answered : (o : ℕ) (y : Object) → object_at heap o ≡ Some y → y.link ≡ None → is_unmet y ≡ true → is_answering y.owner ≡ true
+  answered o y at free unmet = elim (from o y at) [
     | inl new ↦ absurd (not_unmet y new.unfinished unmet)
     | inr old ↦ elim old.owner [
-      | inl same ↦ ap is_answering same ∙ agrees.answered o old.before old.at (unmet_before old.before y old.goes_on unmet)
+      | inl same ↦ ap is_answering same ∙ agrees.answered o old.before old.at (sym old.goes_on.link ∙ free) (unmet_before old.before y old.goes_on unmet)
       | inr given ↦ ap is_answering given.0
     ]
   ]
 
   keeps : KeepsClasses h heap
   keeps = record {
-    count = begun_count p fr.locals s.action (method_at p named) (length frames) h agrees.unlinked;
+    count = begun_count p fr.locals s.action (method_at p named) (length frames) h agrees.links;
     class = λ o y at small. elim (from o y at) [
       | inl new ↦ absurd (let number = new.number in omega (arith, number, small))
       | inr old ↦ (old.before, old.at, old.goes_on.class)
@@ -112,14 +132,14 @@ module _ (p : Program) (ac : Accept p) (forms : HasPlainForms p) (fr callee : Fr
   awaits_top : (o j : ℕ) (x y : Object) → object_at h o ≡ Some x → object_at heap o ≡ Some y → GoesOn x y → is_unmet y ≡ true → x.owner ≡ owners.Frame j → y.owner ≡ owners.Frame j → j ≤ length (fr ∷ frs)
       → Tracks p h fr o x → Awaits p heap fr o y
   awaits_top o j x y before now goes unmet mine owner within t = record {
-    tracks = tracks_on p h heap fr o x y agrees.unlinked unlinked goes t;
+    tracks = tracks_on p h heap fr o x y (stays o x before) goes t;
     stays = λ k u there moved.
         let one : u.action ≡ s.action = one_action p agrees.standing.0.number fr.control i k s u (step_here p fr agrees.standing.0 i s here) (step_here p fr agrees.standing.0 k u there) (call_may s.action start.row) in
         let given : IsGiven p (operand_of fr.locals s.action) 1 (params_in (callees.callee p s.action)) h o x =
         given_argument p h fr.method fr.locals s.action u.edge o j x t.origin t.fact (ready p ac forms fr agrees.standing.0 i s here (way_of_call s start.row)).small t.follows (unmet_before x y goes unmet) mine
         (subst (λ (a : Action). moved_at_call p t.origin a u.edge t.fact ≡ moves.Moves) one moved) in
         let owned : y.owner ≡ owners.Frame (length frames) =
-        begun_given p fr.locals s.action (method_at p named) (length frames) h agrees.unlinked given.index given.param o x y
+        begun_given p fr.locals s.action (method_at p named) (length frames) h agrees.links given.index given.param o x y
         (subst (λ (m : Option Method). slice_get (params_in m) given.index ≡ Some given.param) same_callee given.at) given.owning given.root before given.may now in
         not_both j (length frames) (sym owner ∙ owned) (beyond within);
   }
@@ -136,7 +156,7 @@ module _ (p : Program) (ac : Accept p) (forms : HasPlainForms p) (fr callee : Fr
     where
       waits_below : j ≤ length (fr ∷ frs) → (b : Bool) → MatchBool b (Tracks p h fr o x) (IsAwaited p h frs o x j) → MatchBool b (Awaits p heap fr o y) (IsAwaited p heap frs o y j)
       waits_below within true w = awaits_top o j x y before now goes unmet mine owner within w
-      waits_below within false w = still_awaited p h heap frs o x y j agrees.unlinked unlinked goes w
+      waits_below within false w = still_awaited p h heap frs o x y j (stays o x before) goes w
 
       below : j ≤ length (fr ∷ frs) → IsTracked p heap frames o y j
       below within = go (nat_eq (length (fr ∷ frs) + 1) j) refl
@@ -146,10 +166,9 @@ module _ (p : Program) (ac : Accept p) (forms : HasPlainForms p) (fr callee : Fr
           go false at = waits_below within (nat_eq (length frs + 1) j) t
 
   -- the frame that begins tracks what it is given
-  given_tracks : (o j : ℕ) (x y : Object) → object_at h o ≡ Some x → GoesOn x y → is_unmet y ≡ true → IsTracked p h (fr ∷ frs) o x j → IsGiven p (operand_of fr.locals s.action) 1 (params_in (method_at p named)) h o x
+  given_tracks : (o : ℕ) (x y : Object) → object_at h o ≡ Some x → GoesOn x y → is_unmet y ≡ true → set.is_subset x.must (must_of p x.class) ≡ true → IsGiven p (operand_of fr.locals s.action) 1 (params_in (method_at p named)) h o x
       → Tracks p heap callee o y
-  given_tracks o j x y before goes unmet t g =
-      let bound : set.is_subset x.must (must_of p x.class) ≡ true = tracked_bounded p h (fr ∷ frs) o x j t in
+  given_tracks o x y before goes unmet bound g =
       let lies : set.is_subset (must_of p x.class) (must_of_type p g.param.vtype) ≡ true = may_lies p g.param.vtype x g.may in
       let unmet' = unmet_before x y goes unmet in
       let type = object_type_of p g.param.vtype x unmet' (within_trans x.must (must_of p x.class) (must_of_type p g.param.vtype) bound lies) in
@@ -169,11 +188,14 @@ module _ (p : Program) (ac : Accept p) (forms : HasPlainForms p) (fr callee : Fr
       root_now : (k : ℕ) → k < length (params_in (method_at p named)) → root_of h (operand_of fr.locals s.action (1 + k)) ≡ Some o → root_of heap (variable_value callee.locals k) ≡ Some o
       root_now k small root =
           ap (root_of heap) (start.begun.variables k (operand_of fr.locals s.action (1 + k)) (argument_at (operand_of fr.locals s.action) (length (params_in (method_at p named))) k small))
-          ∙ roots_of_unlinked-value heap h (operand_of fr.locals s.action (1 + k)) unlinked agrees.unlinked ∙ root
+          ∙ stays o x before (operand_of fr.locals s.action (1 + k)) root
 
-  -- an unmet object that moves was a frame's
-  owned_before : (o : ℕ) (x : Object) (t : VType) → object_at h o ≡ Some x → is_unmet x ≡ true → may_move p t x ≡ true → (j : ℕ) × (x.owner ≡ owners.Frame j)
-  owned_before o x t at unmet may = frame_of p t x may (agrees.answered o x at unmet)
+  -- an unmet object that moves has no more to be called than its class
+  bounded_before : (o : ℕ) (x : Object) (t : VType) → object_at h o ≡ Some x → x.link ≡ None → is_unmet x ≡ true → may_move p t x ≡ true → set.is_subset x.must (must_of p x.class) ≡ true
+  bounded_before o x t at free unmet may = elim (owner_of p t x may (agrees.answered o x at free unmet)) [
+    | inl frame ↦ tracked_bounded p h (fr ∷ frs) o x frame.0 (agrees.tracked o x frame.0 at unmet frame.1)
+    | inr field ↦ sup.bounded o x field.0 field.1 at unmet field.2
+  ]
 
   tracked : (o : ℕ) (y : Object) (j : ℕ) → object_at heap o ≡ Some y → is_unmet y ≡ true → y.owner ≡ owners.Frame j → IsTracked p heap frames o y j
   tracked o y j at unmet owner = elim (from o y at) [
@@ -191,9 +213,8 @@ module _ (p : Program) (ac : Accept p) (forms : HasPlainForms p) (fr callee : Fr
           older_tracked o j old.before y old.at at old.goes_on unmet mine owner (agrees.tracked o old.before j old.at (unmet_before old.before y old.goes_on unmet) mine)
       by old (inr given) =
           let unmet' = unmet_before old.before y old.goes_on unmet in
-          let was = owned_before o old.before given.1.param.vtype old.at unmet' given.1.may in
           at_top (let same : owners.Frame (length frames) ≡ owners.Frame j = sym given.0 ∙ owner in cc)
-          (given_tracks o was.0 old.before y old.at old.goes_on unmet (agrees.tracked o old.before was.0 old.at unmet' was.1) given.1)
+          (given_tracks o old.before y old.at old.goes_on unmet (bounded_before o old.before given.1.param.vtype old.at (roots_go_on-root h (operand_of fr.locals s.action (1 + given.1.index)) o old.before agrees.links given.1.root old.at) unmet' given.1.may) given.1)
 
   -- the object of a `new` is that of the constructor's class
   is_made : (k : MethodId) → k ≡ named → next_number h < next_number heap → IsMade p heap k (values.Object (next_number h))
@@ -205,6 +226,7 @@ module _ (p : Program) (ac : Accept p) (forms : HasPlainForms p) (fr callee : Fr
       | inl new ↦ ap (λ (m : MethodId). class_of_method (method_at p m)) same ∙ new.class
       | inr old ↦ absurd (let range = numbers_are_in_range h (next_number h) old.before old.at in let below = range.1 in omega (arith, below))
     ],
+    omega arith,
   )
 
   made_by : (a : Action) → s.action ≡ a → IsMadeBy p heap a (self_begun fr.locals a h)
@@ -216,6 +238,15 @@ module _ (p : Program) (ac : Accept p) (forms : HasPlainForms p) (fr callee : Fr
       (begun_makes p fr.locals (actions.New m d n) start.method (length frames) h tt)))
   made_by a is = tt
 
+  -- a super constructor runs on `this`
+  same_this : (a : Action) → s.action ≡ a → RunsOnSame a fr.locals.this (self_begun fr.locals a h)
+  same_this actions.Skip is = tt
+  same_this (actions.Super m d n) is =
+      let it : FindsIt p targets.body (actions.Super m d n) (holds_this fr.locals) = subst (λ (a : Action). FindsIt p targets.body a (holds_this fr.locals)) is (finds p ac fr targets i s here) in
+      let few : IsSmallAction p (actions.Super m d n) = subst (IsSmallAction p) is (ready p ac forms fr agrees.standing.0 i s here (way_of_call s start.row)).small in
+      first_value fr.locals d n it.2 few.0 ∙ it.0 few.0
+  same_this a is = tt
+
   waits : WaitsFor p heap fr callee
   waits = record {
     index = i;
@@ -224,12 +255,43 @@ module _ (p : Program) (ac : Accept p) (forms : HasPlainForms p) (fr callee : Fr
     named = named;
     calls = start.calls;
     runs = subst (MayRun p named) (sym start.begun.method) start.may;
+    itself = subst (RunsItself s.action named) (sym start.begun.method) start.itself;
+    kind = ap (λ (m : MethodId). constructs (method_at p m)) start.begun.method ∙ ap constructs start.begun.named ∙ start.fit.makes ∙ sym (ap constructs start.named_at);
+    on_same = subst (RunsOnSame s.action fr.locals.this) (sym start.begun.this) (same_this s.action refl);
     makes = subst (IsMadeBy p heap s.action) (sym start.begun.this) (made_by s.action refl);
   }
+
+  -- what the call makes is owned by no field
+  made_last : (a : Action) (o : ℕ) (x : Object) → object_at (object_of_new a (method_at p named) h) o ≡ Some x → IsLast x.owner ⊎ (object_at h o ≡ Some x)
+  made_last actions.Skip o x at = inr at
+  made_last (actions.New m d n) o x at = go (method_at p named) at
+    where
+      appended : (c : ClassId) (b : Bool) → nat_eq o (next_number h) ≡ b → (if b then Some (unfinished c) else object_at h o) ≡ Some x → IsLast x.owner ⊎ (object_at h o ≡ Some x)
+      appended c true here same = inl (subst (λ (z : Object). IsLast z.owner) (let one : unfinished c ≡ x = cc in one) tt)
+      appended c false here same = inr same
+
+      go : (k : Option Method) → object_at (object_of_new (actions.New m d n) k h) o ≡ Some x → IsLast x.owner ⊎ (object_at h o ≡ Some x)
+      go None at' = inr at'
+      go (Some k) at' = appended k.class (nat_eq o (next_number h)) refl (sym (appended_object_at-object h k.class o) ∙ at')
+  made_last a o x at = inr at
+
+  owned : (o : ℕ) (y : Object) → object_at heap o ≡ Some y → IsOwnedAs h heap o y
+  owned o y at =
+      let old = moved_arguments_are_older-older p (owners.Frame (length frames)) (operand_of fr.locals s.action) 1 (params_in (method_at p named)) (object_of_new s.action (method_at p named) h) o y at in
+      elim old.owner [
+        | inl same ↦ elim (made_last s.action o old.before old.at) [
+          | inl new ↦ inl (subst IsLast (sym same) new)
+          | inr was ↦ inr (inl (old.before, was, (same, old.goes_on.finished)))
+        ]
+        | inr given ↦ inl (subst IsLast (sym given) tt)
+      ]
+
+  ends : HaveEnds heap
+  ends = ends_on h heap agrees.ends keeps.count owned
 
   pub began_agrees : (pos : Pos)
       → Agrees p frames (started p h fr.locals s.action (method_at p named) (length frames) pos (held_by frames)).heap
       (es ++ (started p h fr.locals s.action (method_at p named) (length frames) pos (held_by frames)).lines)
   began_agrees pos = landed p frames heap es pos (began_entries p pos fr.locals s.action (method_at p named) (length frames) h)
-      (start.begun.stands, agrees.standing) (waits, called_on p h heap keeps fr fr frs refl refl agrees.stacked) unlinked tracked answered agrees.no_leak
-      (begun_leaks_nothing p fr.locals s.action (method_at p named) (length frames) h agrees.unlinked pos)
+      (start.begun.stands, agrees.standing) (waits, called_on p h heap keeps fr fr frs refl refl agrees.stacked) links ends tracked answered agrees.no_leak
+      (begun_leaks_nothing p fr.locals s.action (method_at p named) (length frames) h agrees.links pos)

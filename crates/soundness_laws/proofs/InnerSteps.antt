@@ -1,6 +1,5 @@
 -- A step within a frame: an operation, a store into a field that is not owning, or an exception.
-use Rattle.std.proofs.Common.{◌≡◌, ◌⊎◌, inl, inr, ℕ, ◌+◌, true, false, Option, Some, None, List, [], ◌∷◌, ◌++◌, slice_get, refl, sym, ap, ◌∙◌, true≢false, arith}
-use Rattle.std.specs.FinSet as set
+use Rattle.std.proofs.Common.{◌≡◌, ◌⊎◌, inl, inr, ℕ, ◌+◌, true, false, Option, Some, None, List, [], ◌∷◌, ◌++◌, slice_get, refl, sym, ap, ◌∙◌, subst, true≢false, arith}
 use Rattle.program_model.specs.declared.kinds.ClassId.{ClassId}
 use Rattle.program_model.specs.declared.kinds.FieldId.{FieldId}
 use Rattle.program_model.specs.declared.program.Method.{Method}
@@ -11,12 +10,17 @@ use Rattle.java_control.specs.Control.{Step}
 use Rattle.java_control.specs.Owned.{is_owning}
 use Rattle.java_control.specs.declared.action.Action.{Action}
 use Rattle.java_control.specs.declared.action.Action.TheVariants as actions
+use Rattle.java_control.specs.declared.action.Edge.{Edge}
+use Rattle.java_control.specs.declared.action.Edge.TheVariants as edges
 use Rattle.obligation_facts.specs.Callees.{may_be_null_target}
+use Rattle.obligation_facts.specs.Facts.{PlaceSet}
+use Rattle.alias_sets.specs.Aliases.{gives_alias}
 use Rattle.accepted_programs.specs.Accept.{Accept}
 use Rattle.ledger_state.specs.Contents.{HeapContents}
 use Rattle.ledger_state.specs.Heaps.{next_number, object_at}
-use Rattle.ledger_state.specs.Values.{is_null, number_of}
+use Rattle.ledger_state.specs.Values.{number_of}
 use Rattle.ledger_state.specs.Locals.{temp_value}
+use Rattle.ledger_state.specs.declared.array.ArrayObject.{ArrayObject}
 use Rattle.ledger_state.specs.declared.entry.Entry.{Entry}
 use Rattle.ledger_state.specs.declared.entry.Owner.TheVariants as owners
 use Rattle.ledger_state.specs.declared.locals.Locals.{Locals}
@@ -29,22 +33,28 @@ use Rattle.ledger_frames.specs.Choosing.{frame_steps}
 use Rattle.ledger_frames.specs.Frames.{frame_after}
 use Rattle.ledger_steps.specs.declared.store.Store.{Store}
 use Rattle.ledger_steps.specs.InnerSteps.{displaced_entries, heap_stored, inner, store_entries, store_into, store_of, store_unless, thrown_heap}
-use Rattle.must_call_sets.specs.MustCallSets.{Names}
 use Rattle.rlc_base.proofs.SetLaws.{within_self}
-use Rattle.heap_laws.specs.Heaps.{GoesOn, IsUnlinked}
-use Rattle.place_laws.specs.Places.{IsWay}
+use Rattle.heap_laws.specs.Heaps.{GoesOn, HasLibraryLinks, KeepsLinks}
+use Rattle.agreement.specs.Chains.{HaveEnds, IsLast}
 use Rattle.agreement.specs.Agreement.{Agrees, IsTracked, Stands, Tracks, is_answering}
 use Rattle.agreement.specs.PlainForms.{HasPlainForms, IsPlainAction}
 use Rattle.owned_fact_laws.specs.Outcomes.{IsCallRow, IsPlainRow}
-use Rattle.tracking_laws.proofs.CallNames.{called_names, known_names, operand_of_fact, receiver_operand}
-use Rattle.tracking_laws.proofs.Landing.{landed}
+use Rattle.content_laws.specs.Nexts.{IsNullCall, IsPlainStep}
+use Rattle.covering_laws.specs.Steps.{RootsStay}
+use Rattle.covering_laws.proofs.CallNames.{operand_of_fact, receiver_operand}
+use Rattle.covering_laws.proofs.KnownNames.{known_after_call}
+use Rattle.covering_laws.proofs.LocalSteps.{resets_nothing}
+use Rattle.soundness_laws.proofs.KeptPromises.{null_target_promises}
+use Rattle.covering_laws.proofs.Chains.{ends_on}
+use Rattle.covering_laws.proofs.Landing.{landed}
 use Rattle.library_call_laws.proofs.Counts.{thrown_count}
-use Rattle.library_call_laws.proofs.Laws.{exceptions_are_the_librarys}
-use Rattle.tracking_laws.proofs.Stacks.{KeepsClasses, called_on}
-use Rattle.tracking_laws.proofs.Unmet.{way_of_call}
-use Rattle.tracking_laws.proofs.Moving.{moved_is_given}
-use Rattle.tracking_laws.proofs.Ready.{plain_step, ready}
-use Rattle.tracking_laws.proofs.Tracking.{IsTrueTest, is_owing, null_is_no_object, stack_tracks, tracks_call, tracks_plain}
+use Rattle.heap_laws.proofs.Laws.{roots_go_on-value}
+use Rattle.library_call_laws.proofs.Laws.{exceptions_are_the_librarys, exceptions_keep_links-evolves}
+use Rattle.covering_laws.proofs.Stacks.{KeepsClasses, called_on}
+use Rattle.covering_laws.proofs.Unmet.{way_of_call}
+use Rattle.covering_laws.proofs.Moving.{moved_is_given}
+use Rattle.covering_laws.proofs.Ready.{plain_step, ready}
+use Rattle.covering_laws.proofs.Tracking.{is_owing, null_is_no_object, stack_tracks, tracks_call, tracks_plain}
 
 -- an object as it is goes on
 pub same_goes_on : (x : Object) → GoesOn x x
@@ -76,27 +86,32 @@ plain_into : (p : Program) (w : Option ℕ) (f : FieldId) (v : Value) → is_own
 plain_into p None f v plain = tt
 plain_into p (Some w) f v plain = plain
 
-plain_store_of : (p : Program) (l : Locals) (a : Action) → IsPlainAction p a → IsPlainStore p (store_of l a)
-plain_store_of p l actions.Skip plain = tt
-plain_store_of p l (actions.Put f d this) plain = plain_into p (number_of (temp_value l d)) f (temp_value l (d + 1)) plain
-plain_store_of p l (actions.PutOwn f d) plain = absurd plain
-plain_store_of p l a plain = tt
+plain_store_of : (p : Program) (l : Locals) (a : Action) → IsPlainAction p a → IsPlainRow a → IsPlainStore p (store_of l a)
+plain_store_of p l actions.Skip plain row = tt
+plain_store_of p l (actions.Put f d this) plain row = plain_into p (number_of (temp_value l d)) f (temp_value l (d + 1)) plain
+plain_store_of p l (actions.PutOwn f d) plain row = absurd row
+plain_store_of p l a plain row = tt
+
+call_store_of : (p : Program) (l : Locals) (a : Action) → IsCallRow a → IsPlainStore p (store_of l a)
+call_store_of p l actions.Skip row = tt
+call_store_of p l (actions.Put f d this) row = absurd row
+call_store_of p l (actions.PutOwn f d) row = absurd row
+call_store_of p l a row = tt
 
 plain_unless : (p : Program) (e : Option ClassId) (s : Option Store) → IsPlainStore p s → IsPlainStore p (store_unless e s)
 plain_unless p None s plain = plain
 plain_unless p (Some e) s plain = tt
 
+-- a call whose target is null gives no alias
+null_gives_none : (p : Program) (a : Action) (e : Edge) (held : PlaceSet) → may_be_null_target p a e ≡ true → gives_alias p a e held ≡ true → ⊥
+null_gives_none p a (edges.Throws c) held target gives = true≢false (sym gives)
+null_gives_none p a e held target gives = true≢false (sym target)
+
 -- ---- the step
 
--- a step that calls nothing, or a call whose target is null
-abbrev pub IsNullCall : Program → Locals → Step → Type 0
-IsNullCall p l s = IsCallRow s.action × (is_null (operand_of l s.action 0) ≡ true) × (may_be_null_target p s.action s.edge ≡ true)
-
-abbrev pub IsInnerStep : Program → Locals → Step → Type 0
-IsInnerStep p l s = (IsPlainRow s.action × IsWay s.action s.edge × IsTrueTest l s.action s.edge) ⊎ IsNullCall p l s
-
 module _ (p : Program) (ac : Accept p) (forms : HasPlainForms p) (fr : Frame) (frs : List Frame) (h : HeapContents) (es : List Entry)
-    (agrees : Agrees p (fr ∷ frs) h es) (i : ℕ) (s : Step) (here : slice_get (frame_steps p fr) i ≡ Some s) (e : Option ClassId) (v : Value) where
+    (agrees : Agrees p (fr ∷ frs) h es) (i : ℕ) (s : Step) (here : slice_get (frame_steps p fr) i ≡ Some s) (e : Option ClassId) (v : Value) (arrays : List ArrayObject)
+    (kind : IsPlainStep p h arrays fr.method fr.locals e s ⊎ IsNullCall p fr.locals e s) where
   abbrev after : Frame
   after = frame_after p h fr s v
 
@@ -107,40 +122,55 @@ module _ (p : Program) (ac : Accept p) (forms : HasPlainForms p) (fr : Frame) (f
   heap = heap_stored p (method_at p fr.method) fr.locals store (thrown_heap p e h)
 
   is_plain : IsPlainStore p store
-  is_plain = plain_unless p e (store_of fr.locals s.action) (plain_store_of p fr.locals s.action (plain_step p ac forms fr agrees.standing.0 i s here))
+  is_plain = plain_unless p e (store_of fr.locals s.action) (elim kind [
+    | inl step ↦ plain_store_of p fr.locals s.action (plain_step p ac forms fr agrees.standing.0 i s here) step.row
+    | inr null ↦ call_store_of p fr.locals s.action null.row
+  ])
 
   -- an object was there before, or is the library's
   was_there : (o : ℕ) (y : Object) → object_at heap o ≡ Some y → (object_at h o ≡ Some y) ⊎ ((o ≡ next_number h) × (y.owner ≡ owners.Library) × (y.link ≡ None))
   was_there o y at = exceptions_are_the_librarys p e h o y (sym (plain_stored p (method_at p fr.method) fr.locals store (thrown_heap p e h) o is_plain) ∙ at)
 
-  unlinked : IsUnlinked heap
-  unlinked o y at = elim (was_there o y at) [ inl old ↦ agrees.unlinked o y old | inr new ↦ new.2 ]
+  links : HasLibraryLinks heap
+  links o y l at link = elim (was_there o y at) [
+    | inl old ↦ agrees.links o y l old link
+    | inr new ↦ absurd (let never : None ≡ Some l = sym new.2 ∙ link in cc)
+  ]
 
-  answered : (o : ℕ) (y : Object) → object_at heap o ≡ Some y → is_unmet y ≡ true → is_answering y.owner ≡ true
-  answered o y at unmet = elim (was_there o y at) [ inl old ↦ agrees.answered o y old unmet | inr new ↦ ap is_answering new.1 ]
+  keeps_links : KeepsLinks h heap
+  keeps_links o x before = let y = exceptions_keep_links-evolves p e h o x before in (y.0, plain_stored p (method_at p fr.method) fr.locals store (thrown_heap p e h) o is_plain ∙ y.1, y.2.link)
 
-  null_call : (o : ℕ) (y : Object) → is_unmet y ≡ true → IsNullCall p fr.locals s → Tracks p h fr o y → Tracks p heap after o y
-  null_call o y unmet (row, null, target) t =
+  stays : (o : ℕ) (x : Object) → object_at h o ≡ Some x → RootsStay h heap o
+  stays o x before u root = roots_go_on-value h heap u o x agrees.links keeps_links root before
+
+  answered : (o : ℕ) (y : Object) → object_at heap o ≡ Some y → y.link ≡ None → is_unmet y ≡ true → is_answering y.owner ≡ true
+  answered o y at free unmet = elim (was_there o y at) [ inl old ↦ agrees.answered o y old free unmet | inr new ↦ ap is_answering new.1 ]
+
+  null_call : (o : ℕ) (y : Object) → object_at h o ≡ Some y → is_unmet y ≡ true → IsNullCall p fr.locals e s → Tracks p h fr o y → Tracks p heap after o y
+  null_call o y before unmet call t =
+      let row = call.row in
       let st = agrees.standing.0 in
       let way = way_of_call s row in
       let form = plain_step p ac forms fr st i s here in
       let small = (ready p ac forms fr st i s here way).small in
-      tracks_call p ac forms h heap agrees.unlinked unlinked fr st i s here way v o y y (same_goes_on y) unmet t row
-      (ap (λ (names : Names). set.is_subset names y.called) (called_names p st.number s.action s.edge t.fact form row)
-      ∙ known_names p s.action t.fact.places t.fact.called y.called t.follows.called
-      (λ n held named. absurd (null_is_no_object h (operand_of fr.locals s.action 0) o null
-      (operand_of_fact p h fr.method fr.locals s.action o 0 t.fact.places small (omega arith) t.follows.places (receiver_operand p h fr.method fr.locals o s.action t.fact.places t.follows.places held).1))))
-      (λ moved. true≢false (sym ((moved_is_given p t.origin s.action s.edge t.fact moved).started target)
-      ∙ is_owing p ac forms h heap agrees.unlinked unlinked fr st i s here way v o y y (same_goes_on y) unmet t))
+      tracks_call p ac forms h heap fr st i s here way v o y y (stays o y before) (same_goes_on y) unmet t row
+      (known_after_call p st.number s.action s.edge t.fact y.called row (resets_nothing p s.action form) t.follows.called
+      (λ n held named. absurd (null_is_no_object h (operand_of fr.locals s.action 0) o call.null
+      (operand_of_fact p h fr.method fr.locals s.action o 0 t.fact.places small (omega arith) t.follows.places (receiver_operand p h fr.method fr.locals o s.action t.fact.places t.follows.places held).1)))
+      (null_target_promises p st.number s.action s.edge t.fact.places y.called call.target))
+      (λ gives. absurd (null_gives_none p s.action s.edge t.fact.places call.target gives))
+      (λ moved. true≢false (sym ((moved_is_given p t.origin s.action s.edge t.fact moved).started call.target)
+      ∙ is_owing p ac forms h heap fr st i s here way v o y y (stays o y before) (same_goes_on y) unmet t))
 
-  top : (o : ℕ) (y : Object) → is_unmet y ≡ true → IsInnerStep p fr.locals s → Tracks p h fr o y → Tracks p heap after o y
-  top o y unmet (inl (row, way, test)) t =
-      tracks_plain p ac forms h heap agrees.unlinked unlinked fr agrees.standing.0 i s here way v o y y (same_goes_on y) unmet t row test
-  top o y unmet (inr null) t = null_call o y unmet null t
+  top : (o : ℕ) (y : Object) → object_at h o ≡ Some y → is_unmet y ≡ true → Tracks p h fr o y → Tracks p heap after o y
+  top o y before unmet t = elim kind [
+    | inl step ↦ tracks_plain p ac forms h heap fr agrees.standing.0 i s here step.way v o y y (stays o y before) (same_goes_on y) unmet t step.row step.test
+    | inr null ↦ null_call o y before unmet null t
+  ]
 
-  tracked : IsInnerStep p fr.locals s → (o : ℕ) (y : Object) (j : ℕ) → object_at heap o ≡ Some y → is_unmet y ≡ true → y.owner ≡ owners.Frame j → IsTracked p heap (after ∷ frs) o y j
-  tracked kind o y j at unmet owner = elim (was_there o y at) [
-    | inl old ↦ stack_tracks p h heap fr after frs o y y j agrees.unlinked unlinked (same_goes_on y) (top o y unmet kind) (agrees.tracked o y j old unmet owner)
+  tracked : (o : ℕ) (y : Object) (j : ℕ) → object_at heap o ≡ Some y → is_unmet y ≡ true → y.owner ≡ owners.Frame j → IsTracked p heap (after ∷ frs) o y j
+  tracked o y j at unmet owner = elim (was_there o y at) [
+    | inl old ↦ stack_tracks p h heap fr after frs o y y j (stays o y old) (same_goes_on y) (top o y old unmet) (agrees.tracked o y j old unmet owner)
     | inr new ↦ absurd (let never : owners.Frame j ≡ owners.Library = sym owner ∙ new.1 in cc)
   ]
 
@@ -153,9 +183,12 @@ module _ (p : Program) (ac : Accept p) (forms : HasPlainForms p) (fr : Frame) (f
     ];
   }
 
-  pub inner_agrees : Stands p after → IsInnerStep p fr.locals s
+  ends : HaveEnds heap
+  ends = ends_on h heap agrees.ends keeps.count (λ o y at. elim (was_there o y at) [ inl old ↦ inr (inl (y, old, (refl, refl))) | inr new ↦ inl (subst IsLast (sym new.1) tt) ])
+
+  pub inner_agrees : Stands p after
       → Agrees p (after ∷ frs) (inner p h fr.method fr.locals e s.action s.pos (held_by (after ∷ frs))).heap
       (es ++ (inner p h fr.method fr.locals e s.action s.pos (held_by (after ∷ frs))).lines)
-  inner_agrees stands kind =
-      let agreed = landed p (after ∷ frs) heap es s.pos [] (stands, agrees.standing.1) (called_on p h heap keeps fr after frs refl refl agrees.stacked) unlinked (tracked kind) answered agrees.no_leak refl in
+  inner_agrees stands =
+      let agreed = landed p (after ∷ frs) heap es s.pos [] (stands, agrees.standing.1) (called_on p h heap keeps fr after frs refl refl agrees.stacked) links ends tracked answered agrees.no_leak refl in
       rw (plain_lines p s.pos (method_at p fr.method) fr.locals store (thrown_heap p e h) is_plain, plain_displaced p s.pos store (thrown_heap p e h) is_plain) agreed

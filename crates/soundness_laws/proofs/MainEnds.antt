@@ -1,5 +1,5 @@
 -- The end of `main`: its frame owns nothing that is unmet.
-use Rattle.std.proofs.Common.{◌≡◌, ◌⊎◌, inl, inr, ℕ, Bool, true, false, Option, Some, None, List, [], ◌∷◌, ◌++◌, slice_get, option_map, nat_eq, refl, sym, ap, ◌∙◌, subst, true≢false, if◌then◌else◌, eqb-true}
+use Rattle.std.proofs.Common.{◌≡◌, ◌⊎◌, inl, inr, ℕ, Bool, true, false, Option, Some, None, List, [], ◌∷◌, ◌++◌, slice_get, option_map, nat_eq, refl, sym, ap, ◌∙◌, subst, true≢false, if◌then◌else◌, arith, eqb-true}
 use Rattle.std.specs.List.{list_any}
 use Rattle.std.specs.Prelude.{MatchBool}
 use Rattle.program_model.specs.declared.kinds.BodyId.{BodyId}
@@ -28,17 +28,19 @@ use Rattle.ledger_obligations.specs.Obligations.{end_frame, given_up, given_up_b
 use Rattle.ledger_calls.specs.Configuration.{Frame}
 use Rattle.ledger_frames.specs.Choosing.{body_id, frame_steps}
 use Rattle.ledger_steps.specs.Ends.{main_gone}
-use Rattle.run_command.specs.RunAnswers.{is_leak}
-use Rattle.heap_laws.specs.Heaps.{IsUnlinked}
+use Rattle.ledger_state.specs.Leaks.{is_leak}
+use Rattle.heap_laws.specs.Heaps.{HasLibraryLinks}
+use Rattle.agreement.specs.Chains.{HaveEnds, IsLast}
 use Rattle.agreement.specs.Agreement.{Agrees, Stands, Tracks}
 use Rattle.owned_fact_laws.specs.Outcomes.{IsFault}
 use Rattle.owned_fact_laws.proofs.Ends.{end_row, result_stays}
 use Rattle.owned_fact_laws.proofs.OwedFacts.{owed}
-use Rattle.tracking_laws.proofs.Following.{breaks_nothing}
-use Rattle.tracking_laws.proofs.Landing.{no_leak_in_both}
-use Rattle.heap_laws.proofs.Laws.{changed_object_at-object, end_of_frame_leaks_nothing}
-use Rattle.tracking_laws.proofs.Ready.{step_there}
-use Rattle.tracking_laws.proofs.Tracking.{same_body}
+use Rattle.covering_laws.proofs.Following.{breaks_nothing}
+use Rattle.covering_laws.proofs.Chains.{IsOwnedAs, ends_on, given_up_last}
+use Rattle.covering_laws.proofs.Landing.{no_leak_in_both}
+use Rattle.heap_laws.proofs.Laws.{changed_object_at-count, changed_object_at-object, end_of_frame_leaks_nothing, links_stay-frame}
+use Rattle.covering_laws.proofs.Ready.{step_there}
+use Rattle.covering_laws.proofs.Tracking.{same_body}
 
 owned_by_frame : (w : Owner) (j : ℕ) → is_frame w j ≡ true → w ≡ owners.Frame j
 owned_by_frame (owners.Frame i) j is = ap owners.Frame (eqb-true i j is)
@@ -58,7 +60,7 @@ module _ (p : Program) (ac : Accept p) (fr : Frame) (h : HeapContents) (es : Lis
   st = agrees.standing.0
 
   no_result : result_type p st.number ≡ None
-  no_result = ap (λ (b : Option Body). result_in (method_in p b)) st.at ∙ ap (λ (m : MethodId). result_in (method_at p m)) st.method ∙ agrees.stacked
+  no_result = ap (λ (b : Option Body). result_in (method_in p b)) st.at ∙ ap (λ (m : MethodId). result_in (method_at p m)) st.method ∙ agrees.stacked.0
 
   none_owed : (o : ℕ) (x : Object) → object_at h o ≡ Some x → is_unmet x ≡ true → x.owner ≡ owners.Frame 1 → ⊥
   none_owed o x at unmet owner =
@@ -93,10 +95,8 @@ module _ (p : Program) (ac : Accept p) (fr : Frame) (h : HeapContents) (es : Lis
         | inr same ↦ was.1 ∙ ap Some (sym same)
       ]
 
-  unlinked : IsUnlinked heap
-  unlinked o y at =
-      let was = was_there o y at in
-      elim was.2 [ inl gone ↦ ap (λ (z : Object). z.link) gone.1 ∙ agrees.unlinked o was.0 was.1 | inr same ↦ ap (λ (z : Object). z.link) same ∙ agrees.unlinked o was.0 was.1 ]
+  links : HasLibraryLinks heap
+  links = links_stay-frame 1 h agrees.links
 
   no_frame : (o : ℕ) (y : Object) (j : ℕ) → object_at h o ≡ Some y → is_unmet y ≡ true → y.owner ≡ owners.Frame j → ⊥
   no_frame o y j at unmet owner = go (nat_eq 1 j) refl (agrees.tracked o y j at unmet owner)
@@ -105,13 +105,21 @@ module _ (p : Program) (ac : Accept p) (fr : Frame) (h : HeapContents) (es : Lis
       go true same w = none_owed o y at unmet (owner ∙ ap owners.Frame (sym (eqb-true 1 j same)))
       go false other w = w
 
+  ends : HaveEnds heap
+  ends = ends_on h heap agrees.ends (let same = changed_object_at-count (given_up_by_frame 1) h in omega (arith, same)) (λ o y at. owned o y (was_there o y at))
+    where
+      owned : (o : ℕ) (y : Object) → (x : Object) × (object_at h o ≡ Some x) × (((is_frame x.owner 1 ≡ true) × (y ≡ given_up x)) ⊎ (y ≡ x)) → IsOwnedAs h heap o y
+      owned o y (x, before, inl gone) = inl (subst (λ (z : Object). IsLast z.owner) (sym gone.1) (given_up_last x))
+      owned o y (x, before, inr same) = inr (inl (x, before, (ap (λ (z : Object). z.owner) same, ap (λ (z : Object). z.finished) same)))
+
   pub main_agrees : (pos : Pos) → Agrees p [] (main_gone p h pos).heap (es ++ (main_gone p h pos).lines)
   main_agrees pos = record {
     standing = tt;
     stacked = tt;
-    unlinked = unlinked;
+    links = links;
+    ends = ends;
     tracked = λ o y j at unmet owner. no_frame o y j (unmet_was_there o y at unmet) unmet owner;
-    answered = λ o y at unmet. agrees.answered o y (unmet_was_there o y at unmet) unmet;
+    answered = λ o y at free unmet. agrees.answered o y (unmet_was_there o y at unmet) free unmet;
     no_leak = no_leak_in_both es (main_gone p h pos).lines agrees.no_leak
         (ap (list_any is_leak) (end_of_frame_leaks_nothing p words.Exit pos 1 h (λ n x at frame. not_true (is_unmet x) (λ unmet. none_owed n x at unmet (owned_by_frame x.owner 1 frame)))));
   }

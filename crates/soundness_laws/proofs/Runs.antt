@@ -1,60 +1,162 @@
--- What is accepted is safe: each configuration of a run agrees with the facts.
-use Rattle.std.proofs.Common.{◌≡◌, ◌≢◌, ℕ, zero, suc, true, Option, Some, None, refl, sym, true≢false}
-use Rattle.command_answers.specs.declared.answers.Outcome.TheVariants as outcomes
+-- What is accepted is safe: in each configuration of a run all invariants hold.
+use Rattle.std.proofs.Common.{◌≡◌, ℕ, zero, suc, true, Option, Some, None, List, [], ◌∷◌, refl, sym, ap, ◌∙◌, subst, true≢false}
+use Rattle.std.specs.List.{All}
+use Rattle.std.proofs.lemmas.List.Elements.{All-head}
+use Rattle.program_model.specs.declared.kinds.ClassId.{ClassId}
 use Rattle.program_model.specs.declared.kinds.MethodId.{MethodId}
+use Rattle.program_model.specs.declared.program.Method.{Method}
 use Rattle.program_model.specs.declared.program.Program.{Program}
+use Rattle.program_model.specs.Lookups.{method_at}
+use Rattle.program_conditions.specs.Conditions.{MakesNoString}
+use Rattle.must_call_sets.specs.Bodies.{is_constructor_kind}
 use Rattle.accepted_programs.specs.Accept.{Accept}
 use Rattle.stub_conduct.specs.declared.choice.Choices.{Choices}
-use Rattle.ledger_calls.specs.Configuration.{Config}
-use Rattle.ledger_interp.specs.Runs.{go_on, run, run_from}
-use Rattle.ledger_machine.specs.Outcomes.{Outcome, went, ended, stray}
-use Rattle.ledger_machine.specs.Starts.{start_config}
-use Rattle.ledger_machine.specs.Steps.{step}
-use Rattle.run_command.specs.RunAnswers.{run_outcome}
-use Rattle.program_model.specs.declared.program.Method.{Method}
-use Rattle.program_model.specs.Lookups.{method_at}
+use Rattle.ledger_state.specs.Contents.{HeapContents}
+use Rattle.ledger_state.specs.Heaps.{object_at, unfinished}
+use Rattle.ledger_state.specs.Locals.{temp_value}
+use Rattle.ledger_state.specs.Values.{number_of}
+use Rattle.ledger_state.specs.declared.entry.Entry.{Entry}
 use Rattle.ledger_calls.specs.Calls.{body_of}
+use Rattle.ledger_calls.specs.Configuration.{Config, Frame}
+use Rattle.ledger_runs.specs.Runs.{go_on, run, run_from}
+use Rattle.ledger_runs.specs.Outcomes.{Outcome, went, ended, stray}
+use Rattle.ledger_runs.specs.Starts.{start_config}
+use Rattle.ledger_runs.specs.Steps.{step}
 use Rattle.ledger_moves.specs.Moves.{has_body}
-use Rattle.run_command.specs.Mains.{is_main_in}
+use Rattle.ledger_runs.specs.Mains.{is_main_in}
 use Rattle.target_laws.specs.Frames.{HaveTargets}
 use Rattle.target_laws.proofs.Laws.{targets_at_start, targets_step}
 use Rattle.safety.specs.Safety.{IsMain, IsSafe}
-use Rattle.safety.proofs.Runs.{leaks_nothing}
-use Rattle.agreement.specs.Agreement.{Agree}
+use Rattle.agreement.specs.Agreement.{Agree, Agrees, AllStand}
 use Rattle.agreement.specs.PlainForms.{HasPlainForms}
-use Rattle.tracking_laws.proofs.NameCounts.{accepted_names}
+use Rattle.place_facts.specs.FieldContents.{AreUnfinished, HaveContents, IsBeingMade}
+use Rattle.place_facts.specs.PlaceFacts.{AreCovered}
+use Rattle.place_facts.specs.Ranges.{AreInRange, LocalsInRange}
+use Rattle.covering_laws.specs.Making.{AreBeingMade}
+use Rattle.covering_laws.specs.Throws.{TopEndsByException}
+use Rattle.covering_laws.specs.Types.{TopHoldsWhatIsThere}
+use Rattle.covering_laws.proofs.Laws.{types_at_start, types_step}
+use Rattle.covering_laws.proofs.Laws.{ranges_at_start, ranges_step}
+use Rattle.content_laws.proofs.Runs.{fields_hold_at_start, fields_hold_step}
+use Rattle.covering_laws.proofs.Laws.{being_made_at_start, being_made_step, covered_at_start, covered_step, unlinked_exceptions_at_start, unlinked_exceptions_step}
+use Rattle.covering_laws.proofs.Chains.{object_there}
+use Rattle.covering_laws.proofs.NameCounts.{accepted_names}
+use Rattle.soundness_laws.specs.Holding.{Holds}
+use Rattle.soundness_laws.specs.Plain.{IsPlain}
+use Rattle.soundness_laws.specs.Supports.{IsSupported}
+use Rattle.soundness_laws.proofs.PlainPrograms.{plain_forms}
 use Rattle.soundness_laws.proofs.Safe.{safe_at}
 use Rattle.soundness_laws.proofs.Starts.{start_agrees, static_main}
+use Rattle.covering_laws.specs.Arguments.{HaveArguments}
+use Rattle.covering_laws.proofs.Laws.{arguments_at_start, arguments_step}
+use Rattle.exception_value_laws.specs.Exceptions.{HasPlainExceptions}
+use Rattle.exception_value_laws.proofs.Laws.{exceptions_at_start, exceptions_step}
+use Rattle.thrown_value_laws.specs.Thrown.{HaveThrown}
+use Rattle.thrown_value_laws.proofs.Laws.{ends_by_exception, thrown_at_start, thrown_step, top_throws_no_number}
+use Rattle.soundness_laws.proofs.KeptPromises.{TopShowsOperands}
+use Rattle.soundness_laws.proofs.PromisedOperands.{operands_shown}
 use Rattle.soundness_laws.proofs.Steps.{step_agrees}
+use Rattle.soundness_laws.proofs.Supporting.{supported}
 
 pub agree_at_start : (p : Program) → Accept p → (main : MethodId) (choices : Choices) → IsMain p main → Agree p (start_config p main choices)
 agree_at_start p ac main choices is = start_agrees p ac main choices is
 
-pub agree_step : (p : Program) → Accept p → HasPlainForms p → (c d : Config) → Agree p c → HaveTargets p c.frames → step p c ≡ went d → Agree p d
-agree_step p ac forms c d agrees targets is = step_agrees p ac forms (accepted_names p ac) c d agrees targets is
+top_supported : (p : Program) (ac : Accept p) (forms : HasPlainForms p) (h : HeapContents) (es : List Entry) (frs : List Frame) → Agrees p frs h es → HaveContents p frs h → AreCovered p h frs
+    → AreUnfinished p h frs → IsSupported p h frs
+top_supported p ac forms h es [] agrees contents covered unmade = tt
+top_supported p ac forms h es (fr ∷ frs) agrees contents covered unmade =
+    supported p ac forms h fr frs agrees.standing.0 agrees.standing.1 agrees.stacked contents covered.0 unmade
 
-start_targets : (p : Program) (ac : Accept p) (main : MethodId) (choices : Choices) → IsMain p main → HaveTargets p (start_config p main choices).frames
-start_targets p ac main choices is = go (method_at p main) refl is.0 is.1
-  where
-    go : (x : Option Method) → method_at p main ≡ x → is_main_in x ≡ true → has_body (body_of x) ≡ true → HaveTargets p (start_config p main choices).frames
-    go None at main' body = absurd (true≢false (sym main'))
-    go (Some m) at main' body = targets_at_start p ac main m choices at (static_main m main') body
+-- what the end of the top frame shows of what the one below has lent
+top_shows : (p : Program) (ac : Accept p) (forms : HasPlainForms p) (h : HeapContents) (es : List Entry) (frs : List Frame) → Agrees p frs h es → AreCovered p h frs → HaveArguments p frs
+    → TopEndsByException p h frs → TopShowsOperands p h frs
+top_shows p ac forms h es [] agrees covered given exits = tt
+top_shows p ac forms h es (fr ∷ []) agrees covered given exits = tt
+top_shows p ac forms h es (fr ∷ caller ∷ frs) agrees covered given exits =
+    λ below i j s t q o x y w here is there row normal thrown before unmet goes stays.
+    operands_shown p ac forms h fr caller agrees.standing.0 agrees.stacked.0 covered.0 given.0 exits below i j s t q here is there row normal thrown o x y w before unmet goes stays
 
-module _ (p : Program) (ac : Accept p) (forms : HasPlainForms p) where
-  run_agrees : (n : ℕ) (c : Config) → Agree p c → HaveTargets p c.frames → Agree p (run_from n p c).config
-  run_agrees zero c agrees targets = agrees
-  run_agrees (suc n) c agrees targets = go (run_agrees n) (step p c) refl
+pub agree_step : (p : Program) → Accept p → HasPlainForms p → (c d : Config) → Agree p c → HaveTargets p c.frames → HaveContents p c.frames c.heap → AreCovered p c.heap c.frames
+    → AreUnfinished p c.heap c.frames → AreInRange c → AreBeingMade p c.heap c.frames → HaveArguments p c.frames → TopEndsByException p c.heap c.frames → step p c ≡ went d → Agree p d
+agree_step p ac forms c d agrees targets contents covered unmade ranges making given exits is =
+    step_agrees p ac forms (accepted_names p ac) c d agrees targets (top_supported p ac forms c.heap c.entries c.frames agrees contents covered unmade) ranges making
+    (top_shows p ac forms c.heap c.entries c.frames agrees covered given exits) is
+
+-- an exception by which the top frame ends has a class
+top_exits : (p : Program) (ac : Accept p) (h : HeapContents) (frs : List Frame) → AllStand p frs → All (λ (fr : Frame). LocalsInRange h fr.locals) frs → HaveThrown p frs → TopEndsByException p h frs
+top_exits p ac h [] standing ranges thrown = tt
+top_exits p ac h (fr ∷ frs) standing ranges thrown =
+    λ i s d t pos here is no_class. ends_by_exception p ac h fr standing.0 (All-head (λ (x : Frame). LocalsInRange h x.locals) fr frs ranges) thrown.0 i s d t pos here is no_class
+
+no_object : {X : Type 0} (x : X) → None ≡ Some x → ⊥
+no_object x never = cc
+
+-- what a temp of the top frame holds is there
+frame_there : (h : HeapContents) (fr : Frame) → LocalsInRange h fr.locals → (d k : ℕ) → number_of (temp_value fr.locals d) ≡ Some k → object_at h k ≡ None → ⊥
+frame_there h fr range d k is none =
+    let inside = range.temps d k is in
+    let class : ClassId = record { 0 = 0 } in
+    let x = object_there h k (unfinished class) inside.0 inside.1 in
+    no_object x.0 (sym none ∙ x.1)
+
+top_there : (h : HeapContents) (frs : List Frame) → All (λ (fr : Frame). LocalsInRange h fr.locals) frs → TopHoldsWhatIsThere h frs
+top_there h [] all = tt
+top_there h (fr ∷ frs) all = frame_there h fr (All-head (λ (f : Frame). LocalsInRange h f.locals) fr frs all)
+
+-- what the frame above the one that waits makes is not finished
+top_making : (p : Program) (h : HeapContents) (frs : List Frame) (fr caller : Frame) (rest : List Frame) → frs ≡ fr ∷ caller ∷ rest → AreBeingMade p h frs → IsBeingMade p h fr caller
+top_making p h frs fr caller rest is making = (subst (AreBeingMade p h) is making).0
+
+pub holds_step : (p : Program) → Accept p → IsPlain p → (c d : Config) → Holds p c → step p c ≡ went d → Holds p d
+holds_step p ac plain c d holds is =
+    let forms = plain_forms p ac plain in
+    let exits = top_exits p ac c.heap c.frames holds.agree.standing holds.ranges.frames holds.thrown in record {
+      agree = agree_step p ac forms c d holds.agree holds.targets holds.fields.contents holds.covered holds.fields.unfinished holds.ranges holds.making holds.arguments exits is;
+      targets = targets_step p ac c d holds.targets is;
+      types = types_step p ac forms plain.texts c d (top_there c.heap c.frames holds.ranges.frames) holds.types is;
+      ranges = ranges_step p ac forms c d holds.agree holds.targets holds.ranges is;
+      covered = covered_step p ac forms plain.raises plain.runs (accepted_names p ac) plain.texts c d holds.agree holds.targets holds.types holds.ranges holds.fields holds.making holds.exceptions holds.covered holds.arguments exits is;
+      making = being_made_step p ac forms plain.raises plain.runs (accepted_names p ac) plain.texts c d holds.agree holds.targets holds.types holds.ranges holds.fields holds.making holds.exceptions holds.covered holds.arguments exits is;
+      exceptions = unlinked_exceptions_step p ac forms plain.raises plain.runs (accepted_names p ac) plain.texts c d holds.agree holds.targets holds.types holds.ranges holds.fields holds.making holds.exceptions holds.covered holds.arguments exits is;
+      fields = fields_hold_step p ac forms c d holds.agree holds.targets holds.ranges holds.covered holds.fields
+          (λ fr caller rest frames. top_making p c.heap c.frames fr caller rest frames holds.making) is;
+      arguments = arguments_step p ac forms c d holds.agree.standing holds.targets holds.arguments is;
+      values = exceptions_step p ac forms plain.exceptions c d holds.agree holds.targets (top_throws_no_number p ac c holds.agree holds.thrown) holds.values is;
+      thrown = thrown_step p ac forms plain.exceptions c d holds.agree holds.targets holds.values holds.thrown is;
+    }
+
+module _ (p : Program) (ac : Accept p) (texts : MakesNoString p) (exceptions : HasPlainExceptions p) (main : MethodId) (choices : Choices) (is : IsMain p main) where
+  pub holds_at_start : Holds p (start_config p main choices)
+  holds_at_start = go (method_at p main) refl is.0 is.1
     where
-      go : ((d : Config) → Agree p d → HaveTargets p d.frames → Agree p (run_from n p d).config) → (o : Outcome) → step p c ≡ o → Agree p (go_on (run_from n p) c o).config
-      go further (went d) is = further d (agree_step p ac forms c d agrees targets is) (targets_step p ac c d targets is)
-      go further (ended e) is = agrees
-      go further (stray e pos) is = agrees
+      go : (x : Option Method) → method_at p main ≡ x → is_main_in x ≡ true → has_body (body_of x) ≡ true → Holds p (start_config p main choices)
+      go None at main' body = absurd (true≢false (sym main'))
+      go (Some m) at main' body = record {
+        agree = agree_at_start p ac main choices is;
+        targets = targets_at_start p ac main m choices at (static_main m main') body;
+        types = types_at_start p ac texts main m choices at body;
+        ranges = ranges_at_start p main choices;
+        covered = covered_at_start p ac main m choices at body;
+        making = being_made_at_start p main choices;
+        exceptions = unlinked_exceptions_at_start p main choices;
+        fields = fields_hold_at_start p main m choices at (ap is_constructor_kind (static_main m main'));
+        arguments = arguments_at_start p main choices;
+        values = exceptions_at_start p ac exceptions main m choices at body;
+        thrown = thrown_at_start p main choices;
+      }
 
-pub accepted_is_safe : (p : Program) → Accept p → HasPlainForms p → IsSafe p
+module _ (p : Program) (ac : Accept p) (plain : IsPlain p) where
+  run_holds : (n : ℕ) (c : Config) → Holds p c → Holds p (run_from n p c).config
+  run_holds zero c holds = holds
+  run_holds (suc n) c holds = go (run_holds n) (step p c) refl
+    where
+      go : ((d : Config) → Holds p d → Holds p (run_from n p d).config) → (o : Outcome) → step p c ≡ o → Holds p (go_on (run_from n p) c o).config
+      go further (went d) is = further d (holds_step p ac plain c d holds is)
+      go further (ended e) is = holds
+      go further (stray e pos) is = holds
+
+pub accepted_is_safe : (p : Program) → Accept p → IsPlain p → IsSafe p
 unfolding run
-accepted_is_safe p ac forms main choices n is =
-    safe_at p (run p main choices n).config (run_agrees p ac forms n (start_config p main choices) (agree_at_start p ac main choices is) (start_targets p ac main choices is))
-
-pub accepted_run_leaks_nothing : (p : Program) → Accept p → HasPlainForms p → (main : MethodId) (choices : Choices) (n : ℕ) → IsMain p main
-    → run_outcome (run p main choices n) ≢ outcomes.Leaks
-accepted_run_leaks_nothing p ac forms main choices n is = leaks_nothing p (accepted_is_safe p ac forms) main choices n is
+accepted_is_safe p ac plain main choices n is =
+    let holds = run_holds p ac plain n (start_config p main choices) (holds_at_start p ac plain.texts plain.exceptions main choices is) in
+    safe_at p ac (run p main choices n).config holds.agree holds.fields.contents

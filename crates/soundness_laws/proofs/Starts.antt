@@ -1,5 +1,5 @@
 -- The first configuration of a run agrees with the facts.
-use Rattle.std.proofs.Common.{◌≡◌, ℕ, zero, suc, ◌-◌, ◌≤◌, true, ◌&&◌, Option, Some, None, List, [], ◌∷◌, ◌++◌, IsSomeAnd, length, replicate, refl, sym, ap, ◌∙◌, subst, true≢false, arith, bytes_eq, codes}
+use Rattle.std.proofs.Common.{◌≡◌, ℕ, zero, suc, ◌-◌, ◌≤◌, true, false, ◌&&◌, Option, Some, None, List, [], ◌∷◌, ◌++◌, IsSomeAnd, length, replicate, refl, sym, ap, ◌∙◌, subst, true≢false, arith, bytes_eq, codes}
 use Rattle.std.proofs.lemmas.Bool.{and_parts}
 use Rattle.std.proofs.lemmas.List.{length-replicate}
 use Rattle.program_model.specs.declared.kinds.BodyId.{BodyId}
@@ -15,6 +15,7 @@ use Rattle.program_model.specs.declared.tree.Var.{Var}
 use Rattle.program_model.specs.Lookups.{body_at, method_at}
 use Rattle.program_model.specs.Validity.{HasParameters, IsBodyOf, OwnsBody}
 use Rattle.ownership_rules.specs.MovesAtReturns.{result_in}
+use Rattle.must_call_sets.specs.Bodies.{constructs, is_constructor_kind}
 use Rattle.accepted_programs.specs.Accept.{Accept}
 use Rattle.flow_rules.specs.Paths.{start}
 use Rattle.stub_conduct.specs.declared.choice.Choices.{Choices}
@@ -23,9 +24,9 @@ use Rattle.ledger_state.specs.declared.object.Object.{Object}
 use Rattle.ledger_state.specs.declared.value.Value.TheVariants as values
 use Rattle.ledger_calls.specs.Calls.{begun, body_of, control_in, variable_count, variables_in}
 use Rattle.ledger_calls.specs.Configuration.{Frame}
-use Rattle.ledger_machine.specs.Starts.{start_config}
+use Rattle.ledger_runs.specs.Starts.{start_config}
 use Rattle.ledger_moves.specs.Moves.{has_body}
-use Rattle.run_command.specs.Mains.{has_no_result, is_main, is_main_in, is_static, takes_texts}
+use Rattle.ledger_runs.specs.Mains.{has_no_result, is_main, is_main_in, is_static, takes_texts}
 use Rattle.safety.specs.Safety.{IsMain}
 use Rattle.agreement.specs.Agreement.{Agree, Stands}
 
@@ -103,10 +104,10 @@ module _ (p : Program) (ac : Accept p) (main : MethodId) where
   stands_by (Some b) m at own is has = main_stands m b at own is
 
   main_begins : (x : Option Method) → method_at p main ≡ x → is_main_in x ≡ true → has_body (body_of x) ≡ true
-      → Stands p (begun p main values.Nothing (values.Array 0 ∷ [])) × (result_in x ≡ None)
+      → Stands p (begun p main values.Nothing (values.Array 0 ∷ [])) × (result_in x ≡ None) × (constructs x ≡ false)
   main_begins None at is has = absurd (true≢false (sym is))
   main_begins (Some m) at is has =
-      (subst (λ (y : Option BodyId). Stands p (main_frame p main y)) (sym (ap body_of at)) (stands_by m.body m at refl is has), (main_parts m is).0)
+      (subst (λ (y : Option BodyId). Stands p (main_frame p main y)) (sym (ap body_of at)) (stands_by m.body m at refl is has), (main_parts m is).0, ap is_constructor_kind (static_main m is))
 
   same_method : (x : Option BodyId) → (main_frame p main x).method ≡ main
   same_method None = refl
@@ -122,9 +123,13 @@ module _ (p : Program) (ac : Accept p) (main : MethodId) where
       let begins = main_begins (method_at p main) refl is.0 is.1 in
       record {
         standing = (begins.0, tt);
-        stacked = ap (λ (m : MethodId). result_in (method_at p m)) (same_method (body_of (method_at p main))) ∙ begins.1;
-        unlinked = λ k x at. absurd (nothing_there k x at);
+        stacked = (
+          ap (λ (m : MethodId). result_in (method_at p m)) (same_method (body_of (method_at p main))) ∙ begins.1,
+          ap (λ (m : MethodId). constructs (method_at p m)) (same_method (body_of (method_at p main))) ∙ begins.2,
+        );
+        links = λ k x l at link. absurd (nothing_there k x at);
+        ends = record { ends = λ k x at. absurd (nothing_there k x at); unfinished = λ k x at. absurd (nothing_there k x at) };
         tracked = λ o x j at unmet owner. absurd (nothing_there o x at);
-        answered = λ o x at unmet. absurd (nothing_there o x at);
+        answered = λ o x at free unmet. absurd (nothing_there o x at);
         no_leak = refl;
       }

@@ -1,23 +1,21 @@
 -- Each step of the machine keeps the agreement, where it is not stray.
-use Rattle.std.proofs.Common.{◌≡◌, ℕ, ◌+◌, ◌≤◌, Bool, true, false, Option, Some, None, IsSomeAnd, List, [], ◌∷◌, length, slice_get, refl, sym, ap, ◌∙◌, subst, if◌then◌else◌, arith}
+use Rattle.std.proofs.Common.{◌≡◌, inl, inr, ℕ, ◌≤◌, Option, Some, None, List, [], ◌∷◌, ◌++◌, length, slice_get, refl, sym, ap, ◌∙◌, subst, arith}
+use Rattle.std.specs.List.{All}
+use Rattle.std.proofs.lemmas.List.Elements.{All-head}
 use Rattle.std.proofs.lemmas.List.FromFn.{length-map-range_with_len}
 use Rattle.rlc_base.specs.declared.place.Pos.{Pos}
-use Rattle.program_model.specs.declared.kinds.BodyId.{BodyId}
 use Rattle.program_model.specs.declared.kinds.ClassId.{ClassId}
 use Rattle.program_model.specs.declared.kinds.MethodId.{MethodId}
-use Rattle.program_model.specs.declared.program.Class.{Class}
 use Rattle.program_model.specs.declared.program.Method.{Method}
 use Rattle.program_model.specs.declared.program.Program.{Program}
-use Rattle.program_model.specs.Lookups.{class_at, method_at}
-use Rattle.program_model.specs.Overrides.{is_library, is_library_in}
-use Rattle.program_model.specs.Validity.{MayHaveBody}
+use Rattle.program_model.specs.Lookups.{method_at}
+use Rattle.must_call_sets.specs.Bodies.{alias_in}
 use Rattle.must_call_sets.specs.WellFormed.{HasSmallInterests}
 use Rattle.java_control.specs.Calls.{called_method}
 use Rattle.java_control.specs.Control.{Step}
 use Rattle.java_control.specs.declared.action.Action.{Action}
 use Rattle.java_control.specs.declared.action.Action.TheVariants as actions
 use Rattle.java_control.specs.declared.action.Completion.{Completion}
-use Rattle.java_control.specs.declared.action.Edge.{Edge}
 use Rattle.java_control.specs.declared.action.Edge.TheVariants as edges
 use Rattle.ownership_rules.specs.Room.{variables_in}
 use Rattle.accepted_programs.specs.Accept.{Accept}
@@ -26,37 +24,49 @@ use Rattle.stub_conduct.specs.declared.choice.Conduct.{Conduct}
 use Rattle.stub_conduct.specs.declared.choice.Conduct.TheVariants as conducts
 use Rattle.ledger_state.specs.Contents.{HeapContents}
 use Rattle.ledger_state.specs.Heaps.{next_number}
+use Rattle.ledger_state.specs.declared.locals.Locals.{Locals}
 use Rattle.ledger_state.specs.declared.value.Value.{Value}
 use Rattle.ledger_state.specs.declared.value.Value.TheVariants as values
 use Rattle.ledger_operations.specs.Operations.{made_value, next_choice}
-use Rattle.ledger_calls.specs.Calls.{alias_position, argument_values, begun, body_of, is_stray_from, leaves_by, operand_of, params_in}
+use Rattle.ledger_calls.specs.Calls.{alias_position, argument_values, begun, body_of, operand_of, params_in, running}
 use Rattle.ledger_calls.specs.Conducts.{arguments_shared, conduct_value, positions}
-use Rattle.ledger_calls.specs.Configuration.{Config, Frame}
-use Rattle.ledger_frames.specs.Choosing.{body_id, frame_steps, goes_by, same_edge}
+use Rattle.ledger_calls.specs.Configuration.{Config, Frame, held_by}
+use Rattle.ledger_frames.specs.Choosing.{frame_steps}
 use Rattle.ledger_frames.specs.Frames.{frame_after}
 use Rattle.ledger_steps.specs.CallSteps.{self_begun}
 use Rattle.ledger_steps.specs.Ends.{answered, exception_class, result_value, thrown_in}
-use Rattle.ledger_steps.specs.InnerSteps.{thrown_value}
-use Rattle.ledger_moves.specs.Moves.{Move, Inner, Start, Library, End, Stray, Rest, Return, StrayBack, NoWay, back_as, back_by, back_from, back_to, by_class, by_edge, return_move, standing}
-use Rattle.ledger_machine.specs.Outcomes.{went, ended, stray}
-use Rattle.ledger_machine.specs.Steps.{began, end, library_went, main_ended, moved, moved_by, returned, returned_by, step, top_move, within}
-use Rattle.target_laws.specs.Frames.{HaveTargets}
-use Rattle.agreement.specs.Agreement.{Agree, Agrees, IsMadeBy, Stands, WaitsFor}
+use Rattle.ledger_steps.specs.InnerSteps.{inner, thrown_value}
+use Rattle.ledger_moves.specs.Moves.{Move, Inner, Start, Library, End, Stray, Rest, Return, Back, StrayBack, NoWay, return_move}
+use Rattle.ledger_runs.specs.Outcomes.{Outcome, went, ended, stray}
+use Rattle.ledger_runs.specs.Steps.{began, end, library_went, main_ended, moved, moved_by, returned, returned_by, step, top_move, within}
+use Rattle.target_laws.specs.Frames.{HaveTargets, KeepsTargets}
+use Rattle.program_call_laws.specs.ProgramCalls.{is_new}
+use Rattle.agreement.specs.Agreement.{Agree, Agrees, IsMadeBy, RunsItself, Stands, WaitsFor}
 use Rattle.agreement.specs.PlainForms.{HasPlainForms, IsPlainCall}
 use Rattle.conduct_laws.specs.Fitting.{FitsMethod}
 use Rattle.call_step_laws.proofs.Ways.{one_action}
 use Rattle.owned_fact_laws.specs.Outcomes.{IsCallRow}
 use Rattle.place_laws.proofs.Laws.{variables_stay}
-use Rattle.tracking_laws.proofs.Entries.{has_begun, same_count}
-use Rattle.tracking_laws.proofs.Ready.{plain_call, plain_step, step_here, step_there}
-use Rattle.tracking_laws.proofs.Unmet.{call_may, row_of}
+use Rattle.covering_laws.proofs.Entries.{has_begun, same_count}
+use Rattle.covering_laws.proofs.Ready.{plain_call, plain_step, step_here, step_there}
+use Rattle.covering_laws.proofs.Unmet.{call_may, row_of}
 use Rattle.soundness_laws.proofs.Answered.{IsAnswered}
 use Rattle.soundness_laws.proofs.CallEnds.{returned_agrees}
 use Rattle.soundness_laws.proofs.CallStarts.{IsStarted, began_agrees}
-use Rattle.soundness_laws.proofs.Cases.{IsLibraryMove, IsNext, IsStartMove, found_in, go_edge, next_is, none_runs}
+use Rattle.place_facts.specs.FieldContents.{IsBeingMade}
+use Rattle.place_facts.specs.Ranges.{AreInRange, LocalsInRange}
+use Rattle.covering_laws.specs.Making.{AreBeingMade}
+use Rattle.content_laws.specs.Nexts.{IsBack, IsBackStep, IsInnerStep, IsLibraryMove, IsNext, IsStartMove}
+use Rattle.content_laws.proofs.Cases.{next_is, none_runs}
+use Rattle.content_laws.proofs.Returns.{back_is}
+use Rattle.soundness_laws.specs.Supports.{IsSupported, Supports}
 use Rattle.soundness_laws.proofs.InnerSteps.{inner_agrees}
-use Rattle.soundness_laws.proofs.LibrarySteps.{IsLibraryStep, library_agrees, plain_alias, plain_reset}
+use Rattle.soundness_laws.proofs.KeptPromises.{ShowsOperands, TopShowsOperands}
+use Rattle.soundness_laws.proofs.LibrarySteps.{IsLibraryStep, library_agrees, plain_reset}
 use Rattle.soundness_laws.proofs.MainEnds.{main_agrees}
+use Rattle.soundness_laws.proofs.Makers.{constructor_no_alias, new_constructs}
+use Rattle.soundness_laws.proofs.Programs.{is_programs}
+use Rattle.soundness_laws.proofs.StoreSteps.{store_agrees}
 
 stands_on : (p : Program) (ac : Accept p) (h : HeapContents) (fr : Frame) (st : Stands p fr) (i : ℕ) (s : Step) (v : Value) → slice_get (frame_steps p fr) i ≡ Some s
     → Stands p (frame_after p h fr s v)
@@ -81,20 +91,13 @@ abbrev pub call_value : Program → Config → Frame → MethodId → Conduct �
 call_value p c fr named x s =
     conduct_value (length (arguments_shared c.arrays fr.locals s.action (method_at p named))) (method_at p named) (positions fr.locals s.action (next_number c.heap) x) (next_number c.heap) x
 
-not_library : (k : Option Class) → IsSomeAnd k (λ x. x.library ≡ false) → is_library_in k ≡ false
-not_library None is = absurd is
-not_library (Some k) is = is
-
 module _ (p : Program) (ac : Accept p) (forms : HasPlainForms p) (names : HasSmallInterests p) where
   -- ---- the end of a frame
 
-  -- a method that has a body is the program's
-  is_programs : (m : MethodId) (x : Method) (b : BodyId) → method_at p m ≡ Some x → body_id p m ≡ Some b → is_library p x.class ≡ false
-  is_programs m x b at id = not_library (class_at p x.class) (subst (MayHaveBody p x) (sym (ap body_of at) ∙ id) (ac.well_formed.valid.typed.methods m x at).bodiless).2
-
   answer : (h : HeapContents) (fr caller : Frame) (q : Completion) (st : Stands p fr) (below : Stands p caller) (w : WaitsFor p h caller fr) (t : Step)
-      → t.action ≡ w.step.action → (exception_class p h (thrown_in fr.locals q) ≡ None → t.edge ≡ edges.Go) → IsAnswered p h fr caller q t w.named
-  answer h fr caller q st below w t same normal = by (method_at p fr.method) refl (method_at p w.named) refl
+      → t.action ≡ w.step.action → (exception_class p h (thrown_in fr.locals q) ≡ None → t.edge ≡ edges.Go)
+      → ((c : ClassId) → exception_class p h (thrown_in fr.locals q) ≡ Some c → (k : ClassId) × (t.edge ≡ edges.Throws k)) → IsAnswered p h fr caller q t w.named
+  answer h fr caller q st below w t same normal thrown = by (method_at p fr.method) refl (method_at p w.named) refl
     where
       row : IsCallRow w.step.action
       row = row_of w.step.action w.named w.calls
@@ -106,7 +109,8 @@ module _ (p : Program) (ac : Accept p) (forms : HasPlainForms p) (names : HasSma
       by None at n named_at = absurd (let never : None ≡ Some st.number = sym (ap body_of at) ∙ st.id in cc)
       by (Some x) at None named_at = absurd (let never : None ≡ Some x = sym (none_runs p w.named fr.method w.runs named_at) ∙ at in cc)
       by (Some x) at (Some n) named_at =
-          let fit = plain.program fr.method n x w.runs named_at at (is_programs fr.method x st.number at st.id) in
+          let program = is_programs p ac fr.method x st.number at st.id in
+          let fit = plain.program fr.method n x w.runs named_at at program in
           record {
             row = subst IsCallRow (sym same) row;
             calls = ap called_method same ∙ w.calls;
@@ -115,15 +119,17 @@ module _ (p : Program) (ac : Accept p) (forms : HasPlainForms p) (names : HasSma
             running = x;
             running_at = at;
             fit = fit;
-            no_reset = plain_reset (method_at p w.named) plain.signature;
-            no_alias = plain_alias (method_at p w.named) plain.signature;
-            alias = ap alias_position at ∙ fit.alias;
+            no_reset = plain_reset p (method_at p w.named) plain.signature;
+            no_alias = λ new.
+                let made = new_constructs p ac forms h fr caller below w (ap is_new (sym same) ∙ new) in
+                ap alias_position named_at ∙ sym fit.alias ∙ sym (ap alias_in at) ∙ constructor_no_alias p ac forms h fr caller st below w made;
             normal = normal;
+            thrown = thrown;
             makes = subst (λ (a : Action). IsMadeBy p h a fr.locals.this) (sym same) w.makes;
           }
 
   module _ (c d : Config) (fr caller : Frame) (frs : List Frame) (i : ℕ) (s : Step) (pos : Pos) (q : Completion) (agrees : Agrees p (fr ∷ caller ∷ frs) c.heap c.entries)
-      (here : slice_get (frame_steps p fr) i ≡ Some s) (is : s.action ≡ actions.End q) (before : Agree p c) where
+      (here : slice_get (frame_steps p fr) i ≡ Some s) (is : s.action ≡ actions.End q) (before : Agree p c) (sup : Supports p c.heap fr) (making : IsBeingMade p c.heap fr caller) (keeps : ShowsOperands p c.heap fr caller) where
     abbrev e : Option ClassId
     e = exception_class p c.heap (thrown_in fr.locals q)
 
@@ -142,68 +148,47 @@ module _ (p : Program) (ac : Accept p) (forms : HasPlainForms p) (names : HasSma
         one_action p below.number caller.control w.index j w.step t (step_here p caller below w.index w.step w.here) (step_here p caller below j t there)
         (call_may w.step.action (row_of w.step.action w.named w.calls))
 
-    -- a return that takes a step of the caller, or none
-    abbrev IsBack : Return → Type 0
-    IsBack r = returned_by p c fr caller frs pos q r ≡ went d → Agree p d
+    no_way : (o : Outcome) → o ≡ went c → o ≡ went d → Agree p d
+    no_way o stays same = subst (Agree p) (let one : c ≡ d = (let both : went c ≡ went d = sym stays ∙ same in cc) in one) before
 
-    no_way : IsBack NoWay
-    no_way same = subst (Agree p) (let one : c ≡ d = (let both : went c ≡ went d = same in cc) in one) before
+    back_step : (t : Step) → IsBackStep p steps e w.named t → Agree p (returned p c fr caller frs pos q e w.named t)
+    back_step t back =
+        returned_agrees p ac forms names fr caller frs c.heap c.entries agrees i s here q is back.index t back.here w.named
+        (answer c.heap fr caller q agrees.standing.0 below w t (one_call back.index t back.here) back.normal (λ x thrown. (let way = back.thrown x thrown in (way.0, way.2)))) sup making keeps
+        (stands_on p ac c.heap caller below back.index t (answered fr.locals.this t.action (result_value fr.locals (method_at p fr.method) q) e) back.here) pos
 
-    back_step : (named : MethodId) → named ≡ w.named → (j : ℕ) (t : Step) → slice_get steps j ≡ Some t → (e ≡ None → t.edge ≡ edges.Go) → Agree p (returned p c fr caller frs pos q e named t)
-    back_step named one j t there normal =
-        subst (λ (m : MethodId). Agree p (returned p c fr caller frs pos q e m t)) (sym one)
-        (returned_agrees p ac forms names fr caller frs c.heap c.entries agrees i s here q is j t there w.named
-        (answer c.heap fr caller q agrees.standing.0 below w t (one_call j t there) normal)
-        (stands_on p ac c.heap caller below j t (answered fr.locals.this t.action (result_value fr.locals (method_at p fr.method) q) e) there) pos)
-
-    back_edge : (x : Option ClassId) → e ≡ x → (f : Edge) (named : MethodId) → named ≡ w.named → (x ≡ None → f ≡ edges.Go) → (t : Option Step) → by_edge f steps ≡ t → IsBack (back_by x named t)
-    back_edge x is' f named one normal None found same = no_way same
-    back_edge x is' f named one normal (Some t) found same =
-        let at = found_in (goes_by f) steps t found in
-        subst (Agree p) (let one' : returned p c fr caller frs pos q x named t ≡ d = (let both : went (returned p c fr caller frs pos q x named t) ≡ went d = same in cc) in one')
-        (subst (λ (z : Option ClassId). Agree p (returned p c fr caller frs pos q z named t)) is'
-        (back_step named one at.0 t at.1 (λ none. go_edge t.edge (ap (λ (g : Edge). same_edge g t.edge) (sym (normal (sym is' ∙ none))) ∙ at.2))))
-
-    back_leaving : (k : ClassId) → e ≡ Some k → (named : MethodId) → named ≡ w.named → (x : Option ClassId) → IsBack (back_by (Some k) named (by_class x steps))
-    back_leaving k is' named one None same = no_way same
-    back_leaving k is' named one (Some x) same = back_edge (Some k) is' (edges.Throws x) named one (λ none. absurd (let never : Some k ≡ None = none in cc)) _ refl same
-
-    back_class : (at : Pos) (x : Option ClassId) → e ≡ x → (named : MethodId) → named ≡ w.named → IsBack (back_as p steps at named x)
-    unfolding back_as
-    back_class at None is' named one = back_edge None is' edges.Go named one (λ none. refl) (by_edge edges.Go steps) refl
-    back_class at (Some k) is' named one = go (is_stray_from p (method_at p named) k)
-      where
-        go : (b : Bool) → IsBack (if b then StrayBack k at else back_by (Some k) named (by_class (leaves_by p (method_at p named) k) steps))
-        go true same = absurd (let never : stray k at ≡ went d = same in cc)
-        go false same = back_leaving k is' named one (leaves_by p (method_at p named) k) same
-
-    back_named : (at : Pos) (m : Option MethodId) → m ≡ Some w.named → IsBack (back_to p steps at e m)
-    unfolding back_to
-    back_named at None one same = no_way same
-    back_named at (Some named) one same = back_class at e refl named (let both : named ≡ w.named = (let some : Some named ≡ Some w.named = one in cc) in both) same
-
-    back_first : (x : Option Step) → slice_get steps 0 ≡ x → IsBack (back_from p steps e x)
-    back_first None first same = no_way same
-    back_first (Some t) first same = back_named t.pos (called_method t.action) (ap called_method (one_call 0 t first) ∙ w.calls) same
+    back_agrees : (r : Return) → IsBack p steps e w.named r → returned_by p c fr caller frs pos q r ≡ went d → Agree p d
+    back_agrees (Back x m t) (thrown, named, back) same =
+        subst (Agree p) (let one : returned p c fr caller frs pos q x m t ≡ d = (let both : went (returned p c fr caller frs pos q x m t) ≡ went d = same in cc) in one)
+        (subst (λ (z : Option ClassId). Agree p (returned p c fr caller frs pos q z m t)) (sym thrown)
+        (subst (λ (k : MethodId). Agree p (returned p c fr caller frs pos q e k t)) (sym named) (back_step t back)))
+    back_agrees (StrayBack x at) back same = absurd (let never : stray x at ≡ went d = same in cc)
+    back_agrees NoWay back same = no_way (went c) refl same
 
     ends_below : end p c fr (caller ∷ frs) pos q ≡ went d → Agree p d
-    unfolding return_move
-    ends_below same = back_first (slice_get steps 0) refl same
+    ends_below same = back_agrees (return_move p steps e) (back_is p caller below w.named w.index w.step w.here w.calls e) same
 
   end_agrees : (c d : Config) (fr : Frame) (frs : List Frame) (i : ℕ) (s : Step) (pos : Pos) (q : Completion) → Agrees p (fr ∷ frs) c.heap c.entries
-      → slice_get (frame_steps p fr) i ≡ Some s → s.action ≡ actions.End q → Agree p c → end p c fr frs pos q ≡ went d → Agree p d
-  end_agrees c d fr [] i s pos q agrees here is before same =
+      → slice_get (frame_steps p fr) i ≡ Some s → s.action ≡ actions.End q → Agree p c → Supports p c.heap fr → AreBeingMade p c.heap (fr ∷ frs) → TopShowsOperands p c.heap (fr ∷ frs) → end p c fr frs pos q ≡ went d → Agree p d
+  end_agrees c d fr [] i s pos q agrees here is before sup making keeps same =
       subst (Agree p) (let one : main_ended p c fr pos q ≡ d = (let both : went (main_ended p c fr pos q) ≡ went d = same in cc) in one)
       (main_agrees p ac fr c.heap c.entries agrees i s here q is pos)
-  end_agrees c d fr (caller ∷ frs) i s pos q agrees here is before same = ends_below c d fr caller frs i s pos q agrees here is before same
+  end_agrees c d fr (caller ∷ frs) i s pos q agrees here is before sup making keeps same = ends_below c d fr caller frs i s pos q agrees here is before sup making.0 keeps same
 
   -- ---- the start of a call
 
+  -- a constructor is the one that is named
+  itself : (h : HeapContents) (l : Locals) (a : Action) (named runs : MethodId) → runs ≡ running p h l a named → RunsItself a named runs
+  itself h l actions.Skip named runs is = tt
+  itself h l (actions.New m d n) named runs is = is
+  itself h l (actions.Super m d n) named runs is = is
+  itself h l a named runs is = tt
+
   begin_agrees : (c : Config) (fr : Frame) (frs : List Frame) (named runs : MethodId) (a : Action) (pos : Pos) → Agrees p (fr ∷ frs) c.heap c.entries
-      → IsStartMove p fr.locals (frame_steps p fr) named runs a → Agree p (began p c fr frs named runs a pos)
-  begin_agrees c fr frs named runs a pos agrees next =
+      → IsStartMove p c.heap c.arrays fr.locals (frame_steps p fr) named runs a → Supports p c.heap fr → KeepsTargets p fr → Agree p (began p c fr frs named runs a pos)
+  begin_agrees c fr frs named runs a pos agrees next sup targets =
       subst (λ (b : Action). Agree p (began p c fr frs named runs b pos)) next.same
-      (began_agrees p ac forms fr (callee next.step.action) frs c.heap c.entries agrees next.index next.step next.here named runs start pos)
+      (began_agrees p ac forms fr (callee next.step.action) frs c.heap c.entries agrees next.index next.step next.here named runs start sup targets pos)
     where
       callee : Action → Frame
       callee b = begun p runs (self_begun fr.locals b c.heap) (argument_values fr.locals b (method_at p named))
@@ -223,15 +208,21 @@ module _ (p : Program) (ac : Accept p) (forms : HasPlainForms p) (names : HasSma
         named_at = next.named_at;
         running = next.running;
         may = next.may;
+        itself = itself c.heap fr.locals next.step.action named runs (next.selected ∙ ap (λ (b : Action). running p c.heap fr.locals b named) (sym next.same));
         fit = next.fit;
         begun = has_begun p ac runs (self_begun fr.locals next.step.action c.heap) (argument_values fr.locals next.step.action (method_at p named)) next.running next.running_at few next.body;
       }
 
   -- ---- all moves
 
-  library_step : (c : Config) (fr : Frame) (named m : MethodId) (x : Conduct) (s : Step) → IsLibraryMove p (frame_steps p fr) named m x s
-      → IsLibraryStep p c.heap s named x (call_value p c fr named x s)
+  library_step : (c : Config) (fr : Frame) (named m : MethodId) (x : Conduct) (s : Step) → IsLibraryMove p c.heap c.arrays fr.locals (frame_steps p fr) named m x s
+      → IsLibraryStep p c.heap c.arrays fr.locals s named x (call_value p c fr named x s)
   library_step c fr named m x s next = record {
+    thrown = λ e is. (let to = next.thrown e is in (to.0, to.2));
+    normal = next.normal;
+    by = next.by;
+    count = length (arguments_shared c.arrays fr.locals s.action (method_at p named));
+    value = refl;
     row = next.row;
     signature = next.signature;
     other = next.other;
@@ -242,31 +233,46 @@ module _ (p : Program) (ac : Accept p) (forms : HasPlainForms p) (names : HasSma
     );
   }
 
-  moved_agrees : (c d : Config) (fr : Frame) (frs : List Frame) (mv : Move) → Agrees p (fr ∷ frs) c.heap c.entries → IsNext p fr.locals (frame_steps p fr) mv → moved p c fr frs mv ≡ went d
-      → Agree p c → Agree p d
-  moved_agrees c d fr frs (Inner e s) agrees next same before =
+  -- a step within the frame
+  inner_step : (c : Config) (fr : Frame) (frs : List Frame) (e : Option ClassId) (s : Step) (v : Value) → Agrees p (fr ∷ frs) c.heap c.entries → (i : ℕ) → slice_get (frame_steps p fr) i ≡ Some s
+      → IsInnerStep p c.heap c.arrays fr.method fr.locals e s → Supports p c.heap fr
+      → Agrees p (frame_after p c.heap fr s v ∷ frs) (inner p c.heap fr.method fr.locals e s.action s.pos (held_by (frame_after p c.heap fr s v ∷ frs))).heap
+      (c.entries ++ (inner p c.heap fr.method fr.locals e s.action s.pos (held_by (frame_after p c.heap fr s v ∷ frs))).lines)
+  inner_step c fr frs e s v agrees i here (inl plain) sup =
+      inner_agrees p ac forms fr frs c.heap c.entries agrees i s here e v c.arrays (inl plain) (stands_on p ac c.heap fr agrees.standing.0 i s v here)
+  inner_step c fr frs e s v agrees i here (inr (inl null)) sup =
+      inner_agrees p ac forms fr frs c.heap c.entries agrees i s here e v c.arrays (inr null) (stands_on p ac c.heap fr agrees.standing.0 i s v here)
+  inner_step c fr frs e s v agrees i here (inr (inr store)) sup =
+      store_agrees p ac fr frs c.heap c.entries agrees i s here store.field store.temp store.action v (sup.stores i s store.field store.temp here store.action) e store.normal
+      (stands_on p ac c.heap fr agrees.standing.0 i s v here)
+
+  moved_agrees : (c d : Config) (fr : Frame) (frs : List Frame) (mv : Move) → Agrees p (fr ∷ frs) c.heap c.entries → IsNext p c.heap c.arrays fr.method fr.locals (frame_steps p fr) mv → moved p c fr frs mv ≡ went d
+      → Agree p c → Supports p c.heap fr → KeepsTargets p fr → LocalsInRange c.heap fr.locals → AreBeingMade p c.heap (fr ∷ frs) → TopShowsOperands p c.heap (fr ∷ frs) → Agree p d
+  moved_agrees c d fr frs (Inner e s) agrees next same before sup targets ranges making keeps =
       let made = made_value p c.heap c.arrays c.statics (next_choice c.choices c.used) fr.locals s.action in
       let v = thrown_value c.heap e made in
       subst (Agree p) (let one : within p c fr frs e s ≡ d = (let both : went (within p c fr frs e s) ≡ went d = same in cc) in one)
-      (inner_agrees p ac forms fr frs c.heap c.entries agrees next.0 s next.1 e v (stands_on p ac c.heap fr agrees.standing.0 next.0 s v next.1) next.2)
-  moved_agrees c d fr frs (Start named runs a pos) agrees next same before =
+      (inner_step c fr frs e s v agrees next.0 next.1 next.2 sup)
+  moved_agrees c d fr frs (Start named runs a pos) agrees next same before sup targets ranges making keeps =
       subst (Agree p) (let one : began p c fr frs named runs a pos ≡ d = (let both : went (began p c fr frs named runs a pos) ≡ went d = same in cc) in one)
-      (begin_agrees c fr frs named runs a pos agrees next)
-  moved_agrees c d fr frs (Library named m x s) agrees next same before =
+      (begin_agrees c fr frs named runs a pos agrees next sup targets)
+  moved_agrees c d fr frs (Library named m x s) agrees next same before sup targets ranges making keeps =
       subst (Agree p) (let one : library_went p c fr frs named m x s ≡ d = (let both : went (library_went p c fr frs named m x s) ≡ went d = same in cc) in one)
       (subst (λ (z : MethodId). Agree p (library_went p c fr frs named z x s)) (sym next.same)
-      (library_agrees p ac forms names fr frs c.heap c.entries agrees next.index s next.here named x (call_value p c fr named x s) (library_step c fr named m x s next)
+      (library_agrees p ac forms names fr frs c.heap c.entries agrees next.index s next.here named x (call_value p c fr named x s) c.arrays (library_step c fr named m x s next) ranges
       (stands_on p ac c.heap fr agrees.standing.0 next.index s (call_value p c fr named x s) next.here)))
-  moved_agrees c d fr frs (End pos q) agrees next same before = end_agrees c d fr frs next.0 next.1 pos q agrees next.2 next.3 before same
-  moved_agrees c d fr frs (Stray e pos) agrees next same before = absurd (let never : stray e pos ≡ went d = same in cc)
-  moved_agrees c d fr frs Rest agrees next same before = subst (Agree p) (let one : c ≡ d = (let both : went c ≡ went d = same in cc) in one) before
+  moved_agrees c d fr frs (End pos q) agrees next same before sup targets ranges making keeps = end_agrees c d fr frs next.0 next.1 pos q agrees next.2 next.3 before sup making keeps same
+  moved_agrees c d fr frs (Stray e pos) agrees next same before sup targets ranges making keeps = absurd (let never : stray e pos ≡ went d = same in cc)
+  moved_agrees c d fr frs Rest agrees next same before sup targets ranges making keeps = subst (Agree p) (let one : c ≡ d = (let both : went c ≡ went d = same in cc) in one) before
 
-  by_frames : (c d : Config) (frs : List Frame) → Agrees p frs c.heap c.entries → HaveTargets p frs → moved_by p c frs (top_move p c frs) ≡ went d → Agree p c → Agree p d
-  by_frames c d [] agrees targets same before = absurd (let never : ended c.ended ≡ went d = same in cc)
-  by_frames c d (fr ∷ frs) agrees targets same before =
+  by_frames : (c d : Config) (frs : List Frame) → Agrees p frs c.heap c.entries → HaveTargets p frs → IsSupported p c.heap frs → All (λ (fr : Frame). LocalsInRange c.heap fr.locals) frs → AreBeingMade p c.heap frs → TopShowsOperands p c.heap frs
+      → moved_by p c frs (top_move p c frs) ≡ went d → Agree p c → Agree p d
+  by_frames c d [] agrees targets sup ranges making keeps same before = absurd (let never : ended c.ended ≡ went d = same in cc)
+  by_frames c d (fr ∷ frs) agrees targets sup ranges making keeps same before =
       moved_agrees c d fr frs (top_move p c (fr ∷ frs)) agrees
-      (next_is p ac forms c.heap c.arrays (next_choice c.choices c.used) fr agrees.standing.0 targets.0 (standing (slice_get fr.control 0))) same before
+      (next_is p ac forms c.heap c.arrays (next_choice c.choices c.used) fr agrees.standing.0 targets.0) same before sup targets.0 (All-head (λ (x : Frame). LocalsInRange c.heap x.locals) fr frs ranges) making keeps
 
-  pub step_agrees : (c d : Config) → Agree p c → HaveTargets p c.frames → step p c ≡ went d → Agree p d
+  pub step_agrees : (c d : Config) → Agree p c → HaveTargets p c.frames → IsSupported p c.heap c.frames → AreInRange c → AreBeingMade p c.heap c.frames
+      → TopShowsOperands p c.heap c.frames → step p c ≡ went d → Agree p d
   unfolding step
-  step_agrees c d agrees targets same = by_frames c d c.frames agrees targets same agrees
+  step_agrees c d agrees targets sup ranges making keeps same = by_frames c d c.frames agrees targets sup ranges.frames making keeps same agrees

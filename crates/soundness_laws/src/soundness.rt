@@ -1,44 +1,57 @@
 //! The laws of soundness. Each is the contract of a function that does nothing.
 
-ghost use Rattle.std.specs.Prelude.{◌≡◌, ◌≢◌, ℕ};
+ghost use Rattle.std.specs.Prelude.{◌≡◌};
 ghost use Rattle.program_model.specs.declared.kinds.MethodId.{MethodId};
 ghost use Rattle.program_model.specs.declared.program.Program.{Program};
-ghost use Rattle.command_answers.specs.declared.answers.Outcome.TheVariants as outcomes;
 ghost use Rattle.accepted_programs.specs.Accept.{Accept};
 ghost use Rattle.stub_conduct.specs.declared.choice.Choices.{Choices};
 ghost use Rattle.ledger_calls.specs.Configuration.{Config};
-ghost use Rattle.ledger_interp.specs.Runs.{run};
-ghost use Rattle.ledger_machine.specs.Outcomes.{went};
-ghost use Rattle.ledger_machine.specs.Starts.{start_config};
-ghost use Rattle.ledger_machine.specs.Steps.{step};
-ghost use Rattle.run_command.specs.RunAnswers.{run_outcome};
+ghost use Rattle.ledger_runs.specs.Outcomes.{went};
+ghost use Rattle.ledger_runs.specs.Starts.{start_config};
+ghost use Rattle.ledger_runs.specs.Steps.{step};
 ghost use Rattle.safety.specs.Safety.{IsMain, IsSafe, IsSafeAt};
 ghost use Rattle.target_laws.specs.Frames.{HaveTargets};
 ghost use Rattle.agreement.specs.Agreement.{Agree};
 ghost use Rattle.agreement.specs.PlainForms.{HasPlainForms};
+ghost use Rattle.place_facts.specs.FieldContents.{AreUnfinished, HaveContents};
+ghost use Rattle.place_facts.specs.PlaceFacts.{AreCovered};
+ghost use Rattle.place_facts.specs.Ranges.{AreInRange};
+ghost use Rattle.covering_laws.specs.Arguments.{HaveArguments};
+ghost use Rattle.covering_laws.specs.Making.{AreBeingMade};
+ghost use Rattle.covering_laws.specs.Throws.{TopEndsByException};
+ghost use Rattle.program_conditions.specs.Conditions.{MakesNoString};
+ghost use Rattle.exception_value_laws.specs.Exceptions.{HasPlainExceptions};
+ghost use Rattle.soundness_laws.specs.Holding.{Holds};
+ghost use Rattle.soundness_laws.specs.Plain.{IsPlain};
 
-/// A run begins in agreement with the facts of the flow rules.
-pub fn agree_at_start()
-    ensures { (p : Program) → Accept p → (main : MethodId) (choices : Choices) → IsMain p main → Agree p (start_config p main choices) }
+/// In an accepted plain program the bodies have the plain forms: an object with owning fields runs the must-call method that its own
+/// class declares (JLS 8.4.8.1, 15.12.4.4).
+pub fn plain_program_has_plain_forms()
+    ensures { (p : Program) → Accept p → IsPlain p → HasPlainForms p }
 {}
 
-/// Each step that is not stray keeps the agreement, in an accepted program of the plain forms.
+/// All invariants hold as a run of an accepted program begins.
+pub fn holds_at_start()
+    ensures { (p : Program) → Accept p → MakesNoString p → HasPlainExceptions p → (main : MethodId) (choices : Choices) → IsMain p main → Holds p (start_config p main choices) }
+{}
+
+/// Each step that is not stray keeps the agreement with the facts, in an accepted program of the plain forms, by what else holds.
 pub fn agree_step()
-    ensures { (p : Program) → Accept p → HasPlainForms p → (c d : Config) → Agree p c → HaveTargets p c.frames → step p c ≡ went d → Agree p d }
+    ensures { (p : Program) → Accept p → HasPlainForms p → (c d : Config) → Agree p c → HaveTargets p c.frames → HaveContents p c.frames c.heap → AreCovered p c.heap c.frames
+        → AreUnfinished p c.heap c.frames → AreInRange c → AreBeingMade p c.heap c.frames → HaveArguments p c.frames → TopEndsByException p c.heap c.frames → step p c ≡ went d → Agree p d }
 {}
 
-/// A moment that agrees with the facts is safe.
+/// Each step that is not stray keeps all invariants, in an accepted plain program.
+pub fn holds_step()
+    ensures { (p : Program) → Accept p → IsPlain p → (c d : Config) → Holds p c → step p c ≡ went d → Holds p d }
+{}
+
+/// A moment that agrees with the facts, and where fields hold what they own, is safe.
 pub fn agree_is_safe()
-    ensures { (p : Program) (c : Config) → Agree p c → IsSafeAt p c }
+    ensures { (p : Program) → Accept p → (c : Config) → Agree p c → HaveContents p c.frames c.heap → IsSafeAt p c }
 {}
 
-/// What is accepted is safe in every run, whatever an honest library chooses, up to the first stray exception.
+/// A plain program that is accepted is safe in every run, whatever an honest library chooses, up to the first stray exception.
 pub fn accepted_is_safe()
-    ensures { (p : Program) → Accept p → HasPlainForms p → IsSafe p }
-{}
-
-/// No run of what is accepted answers that it leaks.
-pub fn accepted_run_leaks_nothing()
-    ensures { (p : Program) → Accept p → HasPlainForms p → (main : MethodId) (choices : Choices) (n : ℕ) → IsMain p main
-        → run_outcome (run p main choices n) ≢ outcomes.Leaks }
+    ensures { (p : Program) → Accept p → IsPlain p → IsSafe p }
 {}

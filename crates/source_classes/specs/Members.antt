@@ -12,7 +12,7 @@ use Rattle.class_declarations.specs.Members.{Written, WrittenField, fields_of, w
 use Rattle.class_declarations.specs.declared.fields.DeclaredField.{DeclaredField}
 use Rattle.class_declarations.specs.declared.method_tree.MethodTree.{MethodTree}
 use Rattle.java_typed_trees.specs.declared.scope.Local.{Local}
-use Rattle.java_expression_rules.specs.Surroundings.{Surroundings}
+use Rattle.java_statement_rules.specs.Surroundings.{Surroundings}
 use Rattle.source_classes.specs.declared.members.NumberedField.{NumberedField}
 use Rattle.source_classes.specs.declared.members.NumberedMethod.{NumberedMethod}
 use Rattle.source_classes.specs.declared.scope.ProgramScope.{ProgramScope}

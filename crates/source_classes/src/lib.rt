@@ -10,6 +10,7 @@ mod scope;
 
 pub use classes::{DeclaredClass, source_classes};
 pub use declared_parameters::parameters;
+pub use java_statement_rules::{constant_value, count_unless};
 pub use members::{NumberedField, NumberedMethod, numbered_fields, numbered_methods};
 pub use names::index_names;
 pub use scope::{ProgramScope, surroundings_in};

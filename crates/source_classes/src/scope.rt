@@ -1,13 +1,13 @@
 //! What the typing of all bodies reads, and where an expression of a class stands.
 
 ghost use Rattle.std.specs.Prelude.{◌≡◌};
-ghost use Rattle.java_expression_rules.specs.Surroundings.{surroundings_of};
+ghost use Rattle.java_statement_rules.specs.Surroundings.{surroundings_of};
 ghost use Rattle.source_classes.specs.Members.{environment_in, surroundings_in};
 ghost use Rattle.source_classes.specs.SourceClasses.{source_class_of};
 
 use crate::classes::DeclaredClass;
 use class_names::ClassNames;
-use java_expression_rules::BodyScope;
+use java_statement_rules::BodyScope;
 use java_typed_trees::{Local, Scope};
 use program_model::{ClassId, Program};
 

@@ -3,8 +3,6 @@
 
 mod reading;
 mod stops;
-#[cfg(test)]
-mod tests;
 
 pub use reading::{MAX_TEXT, read_all};
 pub use stops::ReadingStop;

@@ -3,8 +3,6 @@
 
 mod core_stub;
 mod stub;
-#[cfg(test)]
-mod tests;
 
 pub use core_stub::{CORE_NAME, core_text};
 pub use settings_file::{Settings, default_settings, print_settings, read_settings};

@@ -18,7 +18,7 @@ use Rattle.java_control.specs.declared.action.Action.TheVariants as actions
 use Rattle.java_control.specs.declared.action.TargetForm.TheVariants as forms
 use Rattle.obligation_facts.specs.SmallActions.{IsSmallAction}
 use Rattle.accepted_programs.specs.Accept.{Accept}
-use Rattle.flow_rules.specs.Paths.{move_of, on, relation_of, start}
+use Rattle.accepted_programs.specs.Paths.{move_of, on, relation_of, start}
 use Rattle.ledger_state.specs.Contents.{HeapContents}
 use Rattle.ledger_state.specs.Locals.{temp_in, temp_value}
 use Rattle.ledger_state.specs.Values.{is_null}

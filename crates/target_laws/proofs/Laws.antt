@@ -26,9 +26,9 @@ use Rattle.ledger_steps.specs.Ends.{answered, exception_class, result_value, thr
 use Rattle.ledger_steps.specs.InnerSteps.{thrown_value}
 use Rattle.ledger_moves.specs.Moves.{Move, Inner, Start, Library, End, Stray, Rest, has_body, standing}
 use Rattle.ledger_moves.specs.Moves.{Return, Back, StrayBack, NoWay, return_move}
-use Rattle.ledger_machine.specs.Outcomes.{went, ended, stray}
-use Rattle.ledger_machine.specs.Starts.{start_config}
-use Rattle.ledger_machine.specs.Steps.{began, end, library_went, main_ended, moved, moved_by, returned, returned_by, step, top_move, within}
+use Rattle.ledger_runs.specs.Outcomes.{went, ended, stray}
+use Rattle.ledger_runs.specs.Starts.{start_config}
+use Rattle.ledger_runs.specs.Steps.{began, end, library_went, main_ended, moved, moved_by, returned, returned_by, step, top_move, within}
 use Rattle.target_step_laws.specs.Targets.{FindsIt, HasThis, this_operand}
 use Rattle.target_laws.specs.Frames.{HaveTargets, KeepsTargets, holds_this}
 use Rattle.target_laws.proofs.Begun.{begun_keeps, finds, found, frame_keeps, self_there, small, target_there}

@@ -12,7 +12,7 @@ use Rattle.program_model.specs.declared.kinds.VType.TheVariants as types
 use Rattle.program_model.specs.declared.program.Method.{Method}
 use Rattle.program_model.specs.declared.program.Program.{Program}
 use Rattle.program_model.specs.Lookups.{method_at, optional}
-use Rattle.must_call_sets.specs.Bodies.{constructs, is_constructor_kind}
+use Rattle.must_call_sets.specs.Bodies.{alias_in, constructs, is_constructor_kind}
 use Rattle.must_call_sets.specs.MustCallSets.{Names, fits, is_empty, is_heavy_class, must_of, no_names}
 use Rattle.java_control.specs.Control.{Step}
 use Rattle.java_control.specs.Sources.{emptied, is_temp_among, source}
@@ -35,17 +35,16 @@ use Rattle.ledger_state.specs.Contents.{HeapContents}
 use Rattle.ledger_state.specs.Heaps.{root_of}
 use Rattle.ledger_state.specs.declared.entry.Owner.TheVariants as owners
 use Rattle.ledger_state.specs.declared.object.Object.{Object}
-use Rattle.ledger_state.specs.declared.value.Value.TheVariants as values
+use Rattle.ledger_state.specs.declared.value.Value.{Value}
 use Rattle.ledger_obligations.specs.Obligations.{first_set, is_unmet}
 use Rattle.ledger_operations.specs.Places.{place_value}
 use Rattle.ledger_calls.specs.Configuration.{Frame}
 use Rattle.ledger_calls.specs.Conducts.{result_owner}
 use Rattle.ledger_frames.specs.Choosing.{frame_steps}
 use Rattle.ledger_frames.specs.Frames.{frame_after, locals_after, made_place}
-use Rattle.heap_laws.specs.Heaps.{IsUnlinked}
 use Rattle.place_laws.specs.Places.{IsWay, is_local}
 use Rattle.agreement.specs.Agreement.{Stands, Tracks}
-use Rattle.agreement.specs.PlainForms.{HasPlainForms, IsPlainAction, IsPlainSignature}
+use Rattle.agreement.specs.PlainForms.{HasPlainForms}
 use Rattle.named_step_laws.specs.Naming.{IsOfItsKind}
 use Rattle.named_step_laws.proofs.Reached.{names_what_is_there}
 use Rattle.conduct_laws.specs.Fitting.{FitsMethod}
@@ -55,10 +54,10 @@ use Rattle.java_control.specs.Calls.{called_method}
 use Rattle.ledger_calls.specs.Conducts.{owning_in}
 use Rattle.library_call_laws.specs.LibraryCalls.{IsMadeAs}
 use Rattle.owned_fact_laws.specs.Outcomes.{IsCallRow}
+use Rattle.tracking_laws.specs.Steps.{is_super}
 use Rattle.tracking_laws.proofs.Carried.{Ready}
-use Rattle.heap_laws.proofs.Laws.{roots_of_unlinked-root}
 use Rattle.place_laws.proofs.Laws.{made_value_stands, single_place-alone, single_place-has, single_place-same, single_place-some}
-use Rattle.tracking_laws.proofs.Ready.{plain_step, ready, step_there}
+use Rattle.tracking_laws.proofs.Ready.{ready, step_there}
 
 -- the place of a result takes its value from no place
 among : (d n : ℕ) → 0 < n → is_temp_among d n (places.Temp d) ≡ true
@@ -83,11 +82,6 @@ origin_class : (p : Program) (kind : OriginKind) (pos : Pos) (c : ClassId) (firs
 origin_class p kind pos c None = refl
 origin_class p kind pos c (Some s) = refl
 
--- the action calls a super constructor
-abbrev pub is_super : Action → Bool
-is_super (actions.Super m d n) = true
-is_super a = false
-
 -- an object of which nothing must be called is met
 pub heavy_by_unmet : (p : Program) (c : ClassId) (y : Object) → is_unmet y ≡ true → set.is_subset y.must (must_of p c) ≡ true → is_heavy_class p c ≡ true
 heavy_by_unmet p c y unmet within = go (is_empty (must_of p c)) refl
@@ -102,12 +96,12 @@ result_birth_is : (p : Program) (d : ℕ) (pos : Pos) (x : Method) (r : ClassId)
     → result_birth p d pos (Some x) ≡ Some (origin_of p kinds.Result pos r x.sig.first, fact_at (places.Temp d) modes.Own no_names false)
 result_birth_is p d pos x r alias result owning = rw (alias, result, owning) refl
 
-module _ (p : Program) (ac : Accept p) (forms : HasPlainForms p) (h k : HeapContents) (uk : IsUnlinked k)
-    (fr : Frame) (st : Stands p fr) (i : ℕ) (s : Step) (here : slice_get (frame_steps p fr) i ≡ Some s) (way : IsWay s.action s.edge) (n : ℕ) (y : Object) where
+module _ (p : Program) (ac : Accept p) (forms : HasPlainForms p) (h k : HeapContents)
+    (fr : Frame) (st : Stands p fr) (i : ℕ) (s : Step) (here : slice_get (frame_steps p fr) i ≡ Some s) (way : IsWay s.action s.edge) (n : ℕ) (y : Object) (w : Value) (itself : root_of k w ≡ Some n) where
   born_tracks : (d : ℕ) (o : Origin) → d < 64 → birth_on p s.action s.edge s.pos ≡ Some (o, fact_at (places.Temp d) modes.Own no_names false)
       → made_place s.action ≡ Some (places.Temp d) → source p st.body s.action s.edge (places.Temp d) ≡ None
       → fits p y.class o.class ≡ true → set.is_subset y.must o.first ≡ true → set.is_subset y.must (must_of p y.class) ≡ true
-      → Tracks p k (frame_after p h fr s (values.Object n)) n y
+      → Tracks p k (frame_after p h fr s w) n y
   born_tracks d o small birth made none class needed bounded = record {
     body = st.number;
     id = st.id;
@@ -125,10 +119,10 @@ module _ (p : Program) (ac : Accept p) (forms : HasPlainForms p) (h k : HeapCont
       alone = single_place-alone (places.Temp d) small;
       places = λ q room is.
           let same : places.Temp d ≡ q = single_place-same (places.Temp d) q (sym (single_place-has (places.Temp d) q small room) ∙ is) in
-          subst (λ (z : Place). (is_local z ≡ true) × (root_of k (place_value p k fr.method (locals_after p h fr.method fr.locals s.action s.edge (values.Object n)) z) ≡ Some n)) same (
+          subst (λ (z : Place). (is_local z ≡ true) × (root_of k (place_value p k fr.method (locals_after p h fr.method fr.locals s.action s.edge w) z) ≡ Some n)) same (
             refl,
-            ap (root_of k) (made_value_stands p h k fr.method st.body fr.locals s.action s.edge (values.Object n) (places.Temp d) r.method small refl r.target made none)
-                ∙ ap Some (roots_of_unlinked-root k n uk),
+            ap (root_of k) (made_value_stands p h k fr.method st.body fr.locals s.action s.edge w (places.Temp d) r.method small refl r.target made none)
+                ∙ itself,
           );
     };
   }
@@ -142,7 +136,7 @@ module _ (p : Program) (ac : Accept p) (forms : HasPlainForms p) (h k : HeapCont
   -- the object of a `new`
   pub new_tracks : (m : MethodId) (d c : ℕ) (x : Method) → s.action ≡ actions.New m d c → s.edge ≡ edges.Go → method_at p m ≡ Some x → x.sig.alias ≡ None → is_heavy_class p x.class ≡ true
       → fits p y.class x.class ≡ true → set.is_subset y.must (origin_of p kinds.New s.pos x.class x.sig.first).first ≡ true → set.is_subset y.must (must_of p y.class) ≡ true
-      → Tracks p k (frame_after p h fr s (values.Object n)) n y
+      → Tracks p k (frame_after p h fr s w) n y
   new_tracks m d c x is edge named alias heavy class needed bounded =
       let room : d + c < 64 = subst (IsSmallAction p) is small_step in
       born_tracks d (origin_of p kinds.New s.pos x.class x.sig.first) (omega arith)
@@ -156,7 +150,7 @@ module _ (p : Program) (ac : Accept p) (forms : HasPlainForms p) (h k : HeapCont
   pub result_tracks : (m : MethodId) (d c : ℕ) (form : TargetForm) (x : Method) (r : ClassId) → s.action ≡ actions.Call m d c form → s.edge ≡ edges.Go → method_at p m ≡ Some x
       → x.sig.alias ≡ None → x.sig.result ≡ Some (types.Obj r) → x.sig.owning_result ≡ true → fits p y.class r ≡ true
       → set.is_subset y.must (origin_of p kinds.Result s.pos r x.sig.first).first ≡ true → set.is_subset y.must (must_of p y.class) ≡ true
-      → Tracks p k (frame_after p h fr s (values.Object n)) n y
+      → Tracks p k (frame_after p h fr s w) n y
   result_tracks m d c form x r is edge named alias result owning class needed bounded =
       let room : (d < 64) × (d + c ≤ 64) = subst (IsSmallAction p) is small_step in
       born_tracks d (origin_of p kinds.Result s.pos r x.sig.first) room.0
@@ -182,7 +176,7 @@ module _ (p : Program) (ac : Accept p) (forms : HasPlainForms p) (h k : HeapCont
     bounded_by m class must = ap (λ (c : ClassId). set.is_subset y.must (must_of p c)) class ∙ must_within m e (within_self (must_of p e)) must
 
     by_new : (m : MethodId) (d c : ℕ) (x : Method) → s.action ≡ actions.New m d c → method_at p m ≡ Some x → x.sig.alias ≡ None → is_constructor_kind x.kind ≡ true → IsMade (Some x)
-        → Tracks p k (frame_after p h fr s (values.Object n)) n y
+        → Tracks p k (frame_after p h fr s w) n y
     by_new m d c x is named alias kind made =
         let same : x.class ≡ e = subst (λ (b : Bool). MatchBool b (x.class ≡ e) ((r : ClassId) × (x.sig.result ≡ Some (types.Obj r)) × (fits p e r ≡ true))) kind made.1 in
         let fit : fits p e x.class ≡ true = subst (λ (z : ClassId). fits p z x.class ≡ true) same (within_self (must_of p x.class)) in
@@ -193,7 +187,7 @@ module _ (p : Program) (ac : Accept p) (forms : HasPlainForms p) (h k : HeapCont
         (bounded_by x made.0.0 made.0.1)
 
     by_call : (m : MethodId) (d c : ℕ) (form : TargetForm) (x : Method) → s.action ≡ actions.Call m d c form → method_at p m ≡ Some x → x.sig.alias ≡ None
-        → is_constructor_kind x.kind ≡ false → x.sig.owning_result ≡ true → IsMade (Some x) → Tracks p k (frame_after p h fr s (values.Object n)) n y
+        → is_constructor_kind x.kind ≡ false → x.sig.owning_result ≡ true → IsMade (Some x) → Tracks p k (frame_after p h fr s w) n y
     by_call m d c form x is named alias kind owning made =
         let result : (r : ClassId) × (x.sig.result ≡ Some (types.Obj r)) × (fits p e r ≡ true) = subst (λ (b : Bool). MatchBool b (x.class ≡ e) ((r : ClassId) × (x.sig.result ≡ Some (types.Obj r)) × (fits p e r ≡ true))) kind made.1 in
         let o = origin_of p kinds.Result s.pos result.0 x.sig.first in
@@ -202,9 +196,6 @@ module _ (p : Program) (ac : Accept p) (forms : HasPlainForms p) (h k : HeapCont
         (ap (λ (t : Names). set.is_subset t o.first) made.0.1 ∙ first_is_needed p kinds.Result s.pos result.0 e x.sig.first result.2)
         (bounded_by x made.0.0 made.0.1)
 
-    plain_alias : (m : Option Method) (x : Method) → IsPlainSignature m → m ≡ Some x → x.sig.alias ≡ None
-    plain_alias m x plain is = (subst IsPlainSignature is plain).0
-
     frame_is_owning : (x : Option Method) → (if owning_in x then owners.Frame at else owners.Library) ≡ owners.Frame j → owning_in x ≡ true
     frame_is_owning x same = go (owning_in x) refl same
       where
@@ -212,27 +203,29 @@ module _ (p : Program) (ac : Accept p) (forms : HasPlainForms p) (h k : HeapCont
         go true is one = is
         go false is one = absurd (let never : owners.Library ≡ owners.Frame j = one in cc)
 
-    pub made_tracks : IsCallRow s.action → is_super s.action ≡ false → ((m : MethodId) → called_method s.action ≡ Some m → IsMade (method_at p m))
-        → Tracks p k (frame_after p h fr s (values.Object n)) n y
-    made_tracks row other made = go s.action refl
+    -- where the method that the call names has no aliased argument
+    pub made_tracks : IsCallRow s.action → is_super s.action ≡ false → ((m : MethodId) → called_method s.action ≡ Some m → alias_in (method_at p m) ≡ None)
+        → ((m : MethodId) → called_method s.action ≡ Some m → IsMade (method_at p m)) → Tracks p k (frame_after p h fr s w) n y
+    made_tracks row other alias made = go s.action refl
       where
-        go : (a : Action) → s.action ≡ a → Tracks p k (frame_after p h fr s (values.Object n)) n y
+        go : (a : Action) → s.action ≡ a → Tracks p k (frame_after p h fr s w) n y
         go actions.Skip is = absurd (subst IsCallRow is row)
         go (actions.New m d c) is = by (method_at p m) refl
           where
-            by : (x : Option Method) → method_at p m ≡ x → Tracks p k (frame_after p h fr s (values.Object n)) n y
-            by None named = absurd (subst IsMade named (made m (ap called_method is))).1
-            by (Some x) named =
-                by_new m d c x is named (plain_alias (method_at p m) x (subst (IsPlainAction p) is (plain_step p ac forms fr st i s here)).signature named)
-                (sym (ap constructs named) ∙ subst (IsOfItsKind p) is kind_of)
-                (subst IsMade named (made m (ap called_method is)))
-        go (actions.Call m d c form) is = by (method_at p m) refl
-          where
-            by : (x : Option Method) → method_at p m ≡ x → Tracks p k (frame_after p h fr s (values.Object n)) n y
+            by : (x : Option Method) → method_at p m ≡ x → Tracks p k (frame_after p h fr s w) n y
             by None named = absurd (subst IsMade named (made m (ap called_method is))).1
             by (Some x) named =
                 let one = subst IsMade named (made m (ap called_method is)) in
-                by_call m d c form x is named (plain_alias (method_at p m) x (subst (IsPlainAction p) is (plain_step p ac forms fr st i s here)).signature named)
+                by_new m d c x is named (sym (ap alias_in named) ∙ alias m (ap called_method is))
+                (sym (ap constructs named) ∙ subst (IsOfItsKind p) is kind_of)
+                one
+        go (actions.Call m d c form) is = by (method_at p m) refl
+          where
+            by : (x : Option Method) → method_at p m ≡ x → Tracks p k (frame_after p h fr s w) n y
+            by None named = absurd (subst IsMade named (made m (ap called_method is))).1
+            by (Some x) named =
+                let one = subst IsMade named (made m (ap called_method is)) in
+                by_call m d c form x is named (sym (ap alias_in named) ∙ alias m (ap called_method is))
                 (sym (ap constructs named) ∙ subst (IsOfItsKind p) is kind_of)
                 (frame_is_owning (Some x) (ap (λ (a : Action). result_owner a (Some x) at) (sym is) ∙ sym one.0.2 ∙ owner))
                 one

@@ -1,32 +1,31 @@
--- The names that a fact knows after a call: its own, and that of the method where the fact has the receiver.
-use Rattle.std.proofs.Common.{◌≡◌, ℕ, ◌+◌, ◌<◌, Bool, true, false, Option, Some, None, List, [], ◌∷◌, refl, sym, ap, ◌∙◌, subst, true≢false, if◌then◌else◌, nat_lt, lt-ltb, ltb-true, ltb-false, eq-eqb, arith}
-use Rattle.std.specs.FinSet as set
+-- What a call is noted on: the receiver and the other operands of the object of a fact whose places are variables and temps.
+use Rattle.std.proofs.Common.{◌≡◌, ℕ, zero, suc, ◌+◌, ◌<◌, Bool, true, false, ◌&&◌, Option, Some, None, [], ◌∷◌, refl, sym, ap, ◌∙◌, subst, true≢false, if◌then◌else◌, nat_lt, lt-ltb, ltb-true, ltb-false, eq-eqb, arith}
 use Rattle.rlc_base.specs.declared.name_id.NameId.{NameId}
-use Rattle.rlc_base.proofs.SetLaws.{insert_within, union-empty}
 use Rattle.program_model.specs.declared.kinds.BodyId.{BodyId}
+use Rattle.program_model.specs.declared.kinds.FieldId.{FieldId}
 use Rattle.program_model.specs.declared.kinds.MethodId.{MethodId}
 use Rattle.program_model.specs.declared.kinds.MethodKind.{MethodKind}
 use Rattle.program_model.specs.declared.kinds.MethodKind.TheVariants as methods
 use Rattle.program_model.specs.declared.program.Method.{Method}
 use Rattle.program_model.specs.declared.program.Program.{Program}
-use Rattle.program_model.specs.declared.program.Promise.{Promise}
+use Rattle.program_model.specs.declared.kinds.Target.{Target}
+use Rattle.program_model.specs.declared.kinds.Target.TheVariants as promised
 use Rattle.program_model.specs.Lookups.{method_at}
-use Rattle.must_call_sets.specs.Bodies.{constructs, is_constructor_kind, is_instance_kind, promises_in, reset_in, throwing_promises_in}
-use Rattle.must_call_sets.specs.MustCallSets.{Names}
+use Rattle.must_call_sets.specs.Bodies.{constructs, has_field_place, is_constructor_kind, is_instance_kind, reset_in}
 use Rattle.must_call_sets.specs.WellFormed.{HasSmallInterests, interest_of}
-use Rattle.java_control.specs.Calls.{is_reset_of_this, operand_at, resets_receiver}
+use Rattle.java_control.specs.Calls.{operand_at}
 use Rattle.java_control.specs.declared.action.Action.{Action}
 use Rattle.java_control.specs.declared.action.Action.TheVariants as actions
-use Rattle.java_control.specs.declared.action.Edge.{Edge}
-use Rattle.java_control.specs.declared.action.Edge.TheVariants as edges
 use Rattle.java_control.specs.declared.action.TargetForm.TheVariants as forms
-use Rattle.java_control.specs.declared.fact.Fact.{Fact}
+use Rattle.java_control.specs.Owned.{place_of_field}
+use Rattle.java_control.specs.PlaceNumbers.{IsSmall}
+use Rattle.java_control.specs.declared.place.Place.{Place}
 use Rattle.java_control.specs.declared.place.Place.TheVariants as places
-use Rattle.obligation_facts.specs.Callees.{callee, holds_operand, is_super_target, may_be_null_target}
+use Rattle.obligation_facts.specs.Callees.{callee, holds_operand, is_super_target, is_this_target}
 use Rattle.obligation_facts.specs.Facts.{PlaceSet, has, has_temp}
 use Rattle.obligation_facts.specs.SmallActions.{IsSmallAction, IsSmallTemp}
 use Rattle.obligation_facts.proofs.SmallOperands.{no_operand, operand_has_room}
-use Rattle.called_methods.specs.CalledRows.{called_after, called_at_call, called_by, holds_receiver, interest_in, promised_at, promises_at, with_name}
+use Rattle.called_methods.specs.CalledRows.{holds_field, holds_receiver, holds_target, interest_in}
 use Rattle.called_methods.proofs.CallNames.{callee_small}
 use Rattle.accepted_programs.specs.Accept.{Accept}
 use Rattle.ledger_state.specs.Contents.{HeapContents}
@@ -39,10 +38,8 @@ use Rattle.ledger_state.specs.declared.value.Value.TheVariants as values
 use Rattle.ledger_obligations.specs.Obligations.{has_note, note}
 use Rattle.ledger_calls.specs.Calls.{depth_at, operand_of, receiver_note}
 use Rattle.ledger_calls.specs.Calls as calls
-use Rattle.heap_laws.specs.Heaps.{IsUnlinked}
-use Rattle.heap_laws.proofs.Laws.{roots_of_unlinked-root}
-use Rattle.agreement.specs.PlainForms.{IsPlainAction, IsPlainSignature}
-use Rattle.owned_fact_laws.specs.Outcomes.{IsCallRow}
+use Rattle.place_laws.specs.Places.{is_local}
+use Rattle.agreement.specs.PlainForms.{IsOnField, IsPlainAction, IsPlainSignature}
 use Rattle.tracking_laws.proofs.Carried.{HoldIt}
 
 -- ---- operands
@@ -69,70 +66,56 @@ operand_is_near p a held j small is = go (nat_lt j 64) refl
     go true one = ltb-true j 64 one
     go false one = absurd (true≢false (sym is ∙ ap (has_temp held) (no_operand p a j small (ltb-false j 64 one))))
 
--- ---- the names of a call
+-- so an operand of a fact stands at a position of 32 bits
+pub operand_has_position : (p : Program) (a : Action) (held : PlaceSet) (k : ℕ) → IsSmallAction p a → holds_operand a held k ≡ true → k < 4294967296
+operand_has_position p a held zero small is = omega arith
+operand_has_position p a held (suc j) small is =
+    let next : j + 1 ≡ suc j = omega arith in
+    let near = operand_is_near p a held j small (ap (holds_operand a held) next ∙ is) in
+    omega (arith, near)
 
-plain_reset : (m : Option Method) → IsPlainSignature m → reset_in m ≡ None
-plain_reset None plain = refl
-plain_reset (Some m) plain = plain.1
+-- ---- the signature
+
+plain_reset : (p : Program) (m : Option Method) → IsPlainSignature p m → reset_in m ≡ None
+plain_reset p None plain = refl
+plain_reset p (Some m) plain = plain.1
 
 pub plain_no_reset : (p : Program) (a : Action) → IsPlainAction p a → reset_in (callee p a) ≡ None
 plain_no_reset p actions.Skip first = refl
-plain_no_reset p (actions.Call m d n form) first = plain_reset (method_at p m) first.signature
-plain_no_reset p (actions.New m d n) first = plain_reset (method_at p m) first.signature
-plain_no_reset p (actions.Super m d n) first = plain_reset (method_at p m) first.0.signature
+plain_no_reset p (actions.Call m d n form) first = plain_reset p (method_at p m) first.signature
+plain_no_reset p (actions.New m d n) first = plain_reset p (method_at p m) first.signature
+plain_no_reset p (actions.Super m d n) first = plain_reset p (method_at p m) first.0.signature
 plain_no_reset p a first = refl
 
-plain_promises : (m : Option Method) → IsPlainSignature m → promises_in m ≡ []
-plain_promises None plain = refl
-plain_promises (Some m) plain = plain.2
+-- ---- places
 
-plain_throwing : (m : Option Method) → IsPlainSignature m → throwing_promises_in m ≡ []
-plain_throwing None plain = refl
-plain_throwing (Some m) plain = plain.3
+-- the places are variables and temps
+abbrev pub HasLocals : PlaceSet → Type 0
+HasLocals held = (q : Place) → IsSmall q → has held q ≡ true → is_local q ≡ true
 
-no_promises : (p : Program) (a : Action) (e : Edge) → IsPlainSignature (callee p a) → promises_at p a e ≡ []
-no_promises p a edges.Go plain = plain_promises (callee p a) plain
-no_promises p a (edges.Throws t) plain = go (may_be_null_target p a (edges.Throws t))
+pub not_among : (held : PlaceSet) (q : Place) → HasLocals held → IsSmall q → is_local q ≡ false → has held q ≡ false
+not_among held q locals small out = go (has held q) refl
   where
-    go : (b : Bool) → (if b then [] else throwing_promises_in (callee p a)) ≡ []
-    go true = refl
-    go false = plain_throwing (callee p a) plain
-no_promises p a e plain = refl
+    go : (x : Bool) → has held q ≡ x → has held q ≡ false
+    go true is = absurd (true≢false (sym (locals q small is) ∙ out))
+    go false is = is
 
-called_once : (p : Program) (b : BodyId) (a : Action) (e : Edge) (f : Fact) → is_reset_of_this p a ≡ false → IsPlainSignature (callee p a)
-    → called_by p b a e f ≡ called_at_call p a f.places f.called
-called_once p b a e f no_reset plain =
-    rw no_reset (ap (λ (ps : List Promise). set.union (called_at_call p a f.places f.called) (promised_at p b a f.places ps)) (no_promises p a e plain)
-    ∙ union-empty (called_at_call p a f.places f.called))
-
--- the call creates no obligation anew, so none of `this`
-no_receiver : (m : Option Method) → IsPlainSignature m → resets_receiver m ≡ false
-no_receiver None plain = refl
-no_receiver (Some m) plain = rw (plain.1) refl
-
-pub called_names : (p : Program) (b : BodyId) (a : Action) (e : Edge) (f : Fact) → IsPlainAction p a → IsCallRow a → called_after p b a e f ≡ called_at_call p a f.places f.called
-called_names p b actions.Skip e f plain row = absurd row
-called_names p b (actions.Call m d n forms.Static) e f plain row = called_once p b (actions.Call m d n forms.Static) e f refl plain.signature
-called_names p b (actions.Call m d n forms.Other) e f plain row = called_once p b (actions.Call m d n forms.Other) e f refl plain.signature
-called_names p b (actions.Call m d n forms.This) e f plain row = called_once p b (actions.Call m d n forms.This) e f (no_receiver (method_at p m) plain.signature) plain.signature
-called_names p b (actions.Call m d n forms.Super) e f plain row = called_once p b (actions.Call m d n forms.Super) e f (no_receiver (method_at p m) plain.signature) plain.signature
-called_names p b (actions.New m d n) e f plain row = called_once p b (actions.New m d n) e f refl plain.signature
-called_names p b (actions.Super m d n) e f plain row = called_once p b (actions.Super m d n) e f refl plain.0.signature
-called_names p b a e f plain row = absurd row
-
--- what was called on the object has all of them
-pub known_names : (p : Program) (a : Action) (held : PlaceSet) (called names : Names) → set.is_subset called names ≡ true
-    → ((n : NameId) → holds_receiver a held ≡ true → interest_in (callee p a) ≡ Some n → set.contains names n.0 ≡ true)
-    → set.is_subset (called_at_call p a held called) names ≡ true
-known_names p a held called names known noted = go (holds_receiver a held) refl
+-- so none is that of a field of `this`
+no_field : (p : Program) (ac : Accept p) (b : BodyId) (held : PlaceSet) (f : FieldId) → HasLocals held → holds_field p b held f ≡ false
+no_field p ac b held f locals = go (has_field_place p b f) refl
   where
-    named : (i : Option NameId) → interest_in (callee p a) ≡ i → holds_receiver a held ≡ true → set.is_subset (with_name called i) names ≡ true
-    named None same is = known
-    named (Some n) same is = insert_within called names n.0 known (noted n is same)
+    go : (x : Bool) → has_field_place p b f ≡ x → (x && has held (place_of_field p f)) ≡ false
+    go true is = not_among held (place_of_field p f) locals ((ac.fits b).room.fields f is) refl
+    go false is = refl
 
-    go : (x : Bool) → holds_receiver a held ≡ x → set.is_subset (if x then with_name called (interest_in (callee p a)) else called) names ≡ true
-    go true is = named (interest_in (callee p a)) refl is
-    go false is = known
+-- and no promise on a field is one on them
+pub no_target : (p : Program) (ac : Accept p) (b : BodyId) (a : Action) (held : PlaceSet) (t : Target) → HasLocals held → IsOnField t → holds_target p b a held t ≡ false
+no_target p ac b a held (promised.OfField f) locals on = ap (λ (x : Bool). is_this_target a && x) (no_field p ac b held f locals) ∙ none (is_this_target a)
+  where
+    none : (x : Bool) → (x && false) ≡ false
+    none true = refl
+    none false = refl
+no_target p ac b a held (promised.At k) locals on = absurd on
 
 -- ---- the receiver
 
@@ -153,13 +136,11 @@ receiver_operand p h m l o a held hold is = go (is_super_target a) refl is
     go true super one = absurd (true≢false (sym one ∙ no_super p h m l o held hold))
     go false other one = (other, one)
 
--- an object by its root
-pub object_of_root : (h : HeapContents) (v : Value) (o : ℕ) → IsUnlinked h → root_of h v ≡ Some o → v ≡ values.Object o
-object_of_root h (values.Object k) o unlinked is =
-    let same : k ≡ o = (let both : Some (root h k) ≡ Some o = is in let one : root h k ≡ o = cc in sym (roots_of_unlinked-root h k unlinked) ∙ one) in
-    ap values.Object same
-object_of_root h values.Nothing o unlinked is = absurd (let never : None ≡ Some o = is in cc)
-object_of_root h v o unlinked is = absurd (let never : None ≡ Some o = is in cc)
+-- what has a root is an object
+pub object_with_root : (h : HeapContents) (v : Value) (o : ℕ) → root_of h v ≡ Some o → (k : ℕ) × (v ≡ values.Object k) × (root h k ≡ o)
+object_with_root h (values.Object k) o is = (k, refl, (let both : Some (root h k) ≡ Some o = is in (let one : root h k ≡ o = cc in one)))
+object_with_root h values.Nothing o is = absurd (let never : None ≡ Some o = is in cc)
+object_with_root h v o is = absurd (let never : None ≡ Some o = is in cc)
 
 -- a note is among itself
 same_here : (k : ℕ) (n : NameId) → has_note (note false k n ∷ []) (note false k n) ≡ true
@@ -203,14 +184,25 @@ noted_by l (actions.New c d e) held k n m name other is number interest = absurd
 noted_by l (actions.Super c d e) held k n m name other is number interest = absurd (let never : None ≡ Some n = sym name ∙ interest in cc)
 noted_by l a held k n m name other is number interest = absurd (true≢false (sym is))
 
--- the call is noted on the object of a fact that has the receiver
-pub noted_receiver : (p : Program) (ac : Accept p) (h : HeapContents) (m : MethodId) (l : Locals) (a : Action) (o : ℕ) (held : PlaceSet) (n : NameId) → IsUnlinked h → IsPlainAction p a
-    → IsSmallAction p a → HoldIt p h m l o held → holds_receiver a held ≡ true → interest_in (callee p a) ≡ Some n → has_note (receiver_note l a (callee p a)) (note false o n) ≡ true
-noted_receiver p ac h m l a o held n unlinked plain small hold receives interest =
+-- The call is noted on the receiver, whose root is the object.
+pub record IsReceiver (h : HeapContents) (l : Locals) (a : Action) (m : Option Method) (o : ℕ) (n : NameId) : Type 0 where
+  pub object : ℕ
+  pub value : operand_of l a 0 ≡ values.Object object
+  pub root : root h object ≡ o
+  pub noted : has_note (receiver_note l a m) (note false object n) ≡ true
+
+-- so it is for the object of a fact that has the receiver
+pub noted_receiver : (p : Program) (ac : Accept p) (h : HeapContents) (m : MethodId) (l : Locals) (a : Action) (o : ℕ) (held : PlaceSet) (n : NameId) → IsPlainAction p a
+    → IsSmallAction p a → HoldIt p h m l o held → holds_receiver a held ≡ true → interest_in (callee p a) ≡ Some n → IsReceiver h l a (callee p a) o n
+noted_receiver p ac h m l a o held n plain small hold receives interest =
     let operand = receiver_operand p h m l o a held hold receives in
-    noted_by l a held o n (callee p a) (has_name p ac a plain) operand.0 operand.1
-    (ap number_of (object_of_root h (operand_of l a 0) o unlinked (operand_of_fact p h m l a o 0 held small (omega arith) hold operand.1)))
-    (same_interest (callee p a) ∙ interest)
+    let is = object_with_root h (operand_of l a 0) o (operand_of_fact p h m l a o 0 held small (omega arith) hold operand.1) in
+    record {
+      object = is.0;
+      value = is.1;
+      root = is.2;
+      noted = noted_by l a held is.0 n (callee p a) (has_name p ac a plain) operand.0 operand.1 (ap number_of is.1) (same_interest (callee p a) ∙ interest);
+    }
 
 pub small_name : (p : Program) (a : Action) (n : NameId) → HasSmallInterests p → interest_in (callee p a) ≡ Some n → n.0 < 128
 small_name p a n small is = go (callee p a) refl is

@@ -1,7 +1,8 @@
 -- A fact that speaks the truth of an object goes on to do so, where a step keeps it.
-use Rattle.std.proofs.Common.{◌≡◌, ℕ, ◌+◌, Bool, true, false, Option, Some, None, List, [], ◌∷◌, length, nat_eq, refl, sym, ap, ◌∙◌, true≢false}
+use Rattle.std.proofs.Common.{◌≡◌, ℕ, ◌+◌, Bool, true, false, Option, Some, None, List, [], ◌∷◌, length, nat_eq, refl, sym, ap, ◌∙◌, true≢false, ◌||◌}
 use Rattle.std.specs.FinSet as set
 use Rattle.std.specs.Prelude.{MatchBool}
+use Rattle.std.proofs.lemmas.Bool.{and_parts}
 use Rattle.program_model.specs.declared.kinds.BodyId.{BodyId}
 use Rattle.program_model.specs.declared.kinds.ClassId.{ClassId}
 use Rattle.program_model.specs.declared.kinds.MethodId.{MethodId}
@@ -20,7 +21,7 @@ use Rattle.java_control.specs.declared.place.Place.{Place}
 use Rattle.java_control.specs.declared.place.Place.TheVariants as places
 use Rattle.obligation_facts.specs.Facts.{PlaceSet, has, is_nowhere, need}
 use Rattle.obligation_facts.specs.SmallActions.{IsSmallAction}
-use Rattle.alias_sets.specs.Aliases.{alias_operand}
+use Rattle.alias_sets.specs.Aliases.{gives_alias}
 use Rattle.alias_sets.specs.PlaceRows.{places_after}
 use Rattle.ledger_state.specs.Contents.{HeapContents}
 use Rattle.ledger_state.specs.Heaps.{root_of}
@@ -30,22 +31,20 @@ use Rattle.ledger_state.specs.declared.value.Value.{Value}
 use Rattle.ledger_operations.specs.Places.{place_value}
 use Rattle.ledger_calls.specs.Configuration.{Frame}
 use Rattle.ledger_frames.specs.Choosing.{method_body}
-use Rattle.ledger_frames.specs.Frames.{locals_after}
+use Rattle.ledger_frames.specs.Frames.{is_made, locals_after, made_place}
 use Rattle.rlc_base.proofs.SetLaws.{within_trans}
-use Rattle.heap_laws.specs.Heaps.{GoesOn, IsUnlinked}
-use Rattle.place_laws.specs.Places.{HasTarget, IsWay, SetsLocals, has_source, is_local}
+use Rattle.heap_laws.specs.Heaps.{GoesOn}
+use Rattle.place_laws.specs.Places.{HasTarget, IsWay, SetsLocals, has_source, is_local, takes_alias}
 use Rattle.agreement.specs.Agreement.{Awaits, Follows, IsAwaited, Tracks}
-use Rattle.heap_laws.proofs.Laws.{roots_of_unlinked-value}
-use Rattle.place_laws.proofs.Laws.{no_other_place_joins, places_come_from_sources, places_stay_in_range, source_is_small, value_comes_from_source}
+use Rattle.tracking_laws.specs.Steps.{RootsStay}
+use Rattle.place_laws.proofs.Laws.{alias_stands, no_other_place_joins, places_come_from_sources, places_stay_in_range, source_is_small, value_comes_from_source}
 
 -- all that the laws on places ask of a step
 pub record Ready (p : Program) (m : MethodId) (l : Locals) (b : BodyId) (body : Body) (a : Action) (e : Edge) : Type 0 where
   pub at : body_at p b ≡ Some body
   pub method : method_body p m ≡ Some body
   pub small : IsSmallAction p a
-  pub locals : SetsLocals a
   pub target : HasTarget l a
-  pub no_alias : alias_operand p a ≡ None
   pub way : IsWay a e
 
 -- an object that goes on has no more to be called than its class
@@ -58,9 +57,11 @@ abbrev pub HoldIt : Program → HeapContents → MethodId → Locals → ℕ →
 HoldIt p h m l o held = (q : Place) → IsSmall q → has held q ≡ true → (is_local q ≡ true) × (root_of h (place_value p h m l q) ≡ Some o)
 
 module _ (p : Program) (h k : HeapContents) (m : MethodId) (l : Locals) (b : BodyId) (body : Body) (a : Action) (e : Edge) (v : Value)
-    (r : Ready p m l b body a e) (uh : IsUnlinked h) (uk : IsUnlinked k) where
-  pub places_hold : (o : ℕ) (held : PlaceSet) → HoldIt p h m l o held → HoldIt p k m (locals_after p h m l a e v) o (places_after p b a e held)
-  places_hold o held before q small is = go (is_local q) refl
+    (r : Ready p m l b body a e) (sets : SetsLocals a) (o : ℕ) (stay : RootsStay h k o) where
+  -- where the step is a call that gives an alias of the object, it gives a value whose root is the object
+  pub places_hold : (held : PlaceSet) → HoldIt p h m l o held → (gives_alias p a e held ≡ true → root_of k v ≡ Some o)
+      → HoldIt p k m (locals_after p h m l a e v) o (places_after p b a e held)
+  places_hold held before alias q small is = go (is_local q) refl
     where
       from : is_local q ≡ true → (z : Option Place) → source p body a e q ≡ z → has_source held z ≡ true
           → (is_local q ≡ true) × (root_of k (place_value p k m (locals_after p h m l a e v) q) ≡ Some o)
@@ -68,15 +69,22 @@ module _ (p : Program) (h k : HeapContents) (m : MethodId) (l : Locals) (b : Bod
       from local (Some z) s one =
           let was = (before z (source_is_small p body a e q z r.small small s) one).1 in (
             local,
-            roots_of_unlinked-value k h (place_value p k m (locals_after p h m l a e v) q) uk uh
-                ∙ ap (root_of h) (value_comes_from_source p h k m body l a e v q z o r.method small local r.target s was) ∙ was,
+            ap (root_of k) (value_comes_from_source p h k m body l a e v q z o r.method small local r.target s was) ∙ stay (place_value p h m l z) was,
           )
 
-      go : (x : Bool) → is_local q ≡ x → (is_local q ≡ true) × (root_of k (place_value p k m (locals_after p h m l a e v) q) ≡ Some o)
-      go true local = from local (source p body a e q) refl (sym (places_come_from_sources p b body a e held q r.at r.small small local r.no_alias r.way) ∙ is)
-      go false out = absurd (true≢false (sym (before q small (no_other_place_joins p b a e held q r.small r.locals small out is)).0 ∙ out))
+      taken : (x : Bool) → takes_alias p a e held q ≡ x → is_local q ≡ true → (x || has_source held (source p body a e q)) ≡ true
+          → (is_local q ≡ true) × (root_of k (place_value p k m (locals_after p h m l a e v) q) ≡ Some o)
+      taken true takes local one = (
+        local,
+        ap (root_of k) (alias_stands p h k m body l a e v held q r.method small r.target takes) ∙ alias (and_parts (gives_alias p a e held) (is_made (made_place a) q) takes).0,
+      )
+      taken false takes local one = from local (source p body a e q) refl one
 
-  module _ (o : ℕ) (x y : Object) (origin : Origin) (f : Fact) (before : Follows p h m l o x origin f) (goes : GoesOn x y) where
+      go : (x : Bool) → is_local q ≡ x → (is_local q ≡ true) × (root_of k (place_value p k m (locals_after p h m l a e v) q) ≡ Some o)
+      go true local = taken (takes_alias p a e held q) refl local (sym (places_come_from_sources p b body a e held q r.at r.small small local r.way) ∙ is)
+      go false out = absurd (true≢false (sym (before q small (no_other_place_joins p b a e held q r.small sets small out is)).0 ∙ out))
+
+  module _ (x y : Object) (origin : Origin) (f : Fact) (before : Follows p h m l o x origin f) (goes : GoesOn x y) (alias : gives_alias p a e f.places ≡ true → root_of k v ≡ Some o) where
     -- the fact at the places after the step, with more names called
     pub carried : (names : Names) → set.is_subset names y.called ≡ true → is_nowhere (places_after p b a e f.places) ≡ false
         → Follows p k m (locals_after p h m l a e v) o y origin (record f { places = places_after p b a e f.places; mode = modes.Own; called = names })
@@ -88,7 +96,7 @@ module _ (p : Program) (h k : HeapContents) (m : MethodId) (l : Locals) (b : Bod
       called = known;
       some = some;
       alone = places_stay_in_range p b a e f.places r.small before.alone;
-      places = places_hold o f.places before.places;
+      places = places_hold f.places before.places alias;
     }
 
     known_still : set.is_subset f.called y.called ≡ true
@@ -96,7 +104,7 @@ module _ (p : Program) (h k : HeapContents) (m : MethodId) (l : Locals) (b : Bod
 
     -- the fact as it was
     pub kept : ((q : Place) → has f.places q ≡ true → has (places_after p b a e f.places) q ≡ true) → Follows p k m (locals_after p h m l a e v) o y origin f
-    kept stay = record {
+    kept remain = record {
       own = before.own;
       class = ap (λ c. fits p c origin.class) goes.class ∙ before.class;
       bounded = still_bounded p x y goes before.bounded;
@@ -104,7 +112,7 @@ module _ (p : Program) (h k : HeapContents) (m : MethodId) (l : Locals) (b : Bod
       called = known_still;
       some = before.some;
       alone = before.alone;
-      places = λ q small is. places_hold o f.places before.places q small (stay q is);
+      places = λ q small is. places_hold f.places before.places alias q small (remain q is);
     }
 
 -- ---- frames that wait
@@ -117,9 +125,9 @@ local_value p h k m l places.This local = absurd (true≢false (sym local))
 local_value p h k m l (places.Field n) local = absurd (true≢false (sym local))
 local_value p h k m l places.Super local = absurd (true≢false (sym local))
 
-pub awaits : (p : Program) (h k : HeapContents) (m : MethodId) (l : Locals) (o : ℕ) (x y : Object) (origin : Origin) (f : Fact) → IsUnlinked h → IsUnlinked k → GoesOn x y
+pub awaits : (p : Program) (h k : HeapContents) (m : MethodId) (l : Locals) (o : ℕ) (x y : Object) (origin : Origin) (f : Fact) → RootsStay h k o → GoesOn x y
     → Follows p h m l o x origin f → Follows p k m l o y origin f
-awaits p h k m l o x y origin f uh uk goes before = record {
+awaits p h k m l o x y origin f stay goes before = record {
   own = before.own;
   class = ap (λ c. fits p c origin.class) goes.class ∙ before.class;
   bounded = still_bounded p x y goes before.bounded;
@@ -129,25 +137,25 @@ awaits p h k m l o x y origin f uh uk goes before = record {
   alone = before.alone;
   places = λ q small is.
       let was = before.places q small is in
-      (was.0, roots_of_unlinked-value k h (place_value p k m l q) uk uh ∙ ap (root_of h) (local_value p h k m l q was.0) ∙ was.1);
+      (was.0, ap (root_of k) (local_value p h k m l q was.0) ∙ stay (place_value p h m l q) was.1);
 }
 
-abbrev pub tracks_on : (p : Program) (h k : HeapContents) (fr : Frame) (o : ℕ) (x y : Object) → IsUnlinked h → IsUnlinked k → GoesOn x y → Tracks p h fr o x → Tracks p k fr o y
-tracks_on p h k fr o x y uh uk goes t = record {
+abbrev pub tracks_on : (p : Program) (h k : HeapContents) (fr : Frame) (o : ℕ) (x y : Object) → RootsStay h k o → GoesOn x y → Tracks p h fr o x → Tracks p k fr o y
+tracks_on p h k fr o x y stay goes t = record {
   body = t.body;
   id = t.id;
   origin = t.origin;
   fact = t.fact;
   reached = t.reached;
-  follows = awaits p h k fr.method fr.locals o x y t.origin t.fact uh uk goes t.follows;
+  follows = awaits p h k fr.method fr.locals o x y t.origin t.fact stay goes t.follows;
 }
 
-pub still_awaited : (p : Program) (h k : HeapContents) (frs : List Frame) (o : ℕ) (x y : Object) (j : ℕ) → IsUnlinked h → IsUnlinked k → GoesOn x y
+pub still_awaited : (p : Program) (h k : HeapContents) (frs : List Frame) (o : ℕ) (x y : Object) (j : ℕ) → RootsStay h k o → GoesOn x y
     → IsAwaited p h frs o x j → IsAwaited p k frs o y j
-still_awaited p h k [] o x y j uh uk goes before = before
-still_awaited p h k (fr ∷ frs) o x y j uh uk goes before = go (still_awaited p h k frs o x y j uh uk goes) (nat_eq (length frs + 1) j) before
+still_awaited p h k [] o x y j stay goes before = before
+still_awaited p h k (fr ∷ frs) o x y j stay goes before = go (still_awaited p h k frs o x y j stay goes) (nat_eq (length frs + 1) j) before
   where
     go : (IsAwaited p h frs o x j → IsAwaited p k frs o y j) → (b : Bool)
         → MatchBool b (Awaits p h fr o x) (IsAwaited p h frs o x j) → MatchBool b (Awaits p k fr o y) (IsAwaited p k frs o y j)
-    go further true t = record { tracks = tracks_on p h k fr o x y uh uk goes t.tracks; stays = t.stays }
+    go further true t = record { tracks = tracks_on p h k fr o x y stay goes t.tracks; stays = t.stays }
     go further false w = further w

@@ -1,12 +1,11 @@
 -- The frame of a call that begins: it stands at the start of its body, and tracks the objects of its owning parameters.
-use Rattle.std.proofs.Common.{◌≡◌, ℕ, zero, suc, ◌+◌, ◌-◌, ◌<◌, ◌≤◌, Bool, true, false, not, ◌&&◌, ◌||◌, Option, Some, None, IsSomeAnd, List, [], ◌∷◌, ◌++◌, length, map, replicate, slice_get, refl, sym, ap, ◌∙◌, subst, true≢false, if◌then◌else◌, arith, eqb-true}
+use Rattle.std.proofs.Common.{◌≡◌, ℕ, zero, suc, ◌+◌, ◌-◌, ◌<◌, ◌≤◌, Bool, true, false, ◌||◌, Option, Some, None, IsSomeAnd, List, [], ◌∷◌, ◌++◌, length, map, replicate, slice_get, refl, sym, ap, ◌∙◌, subst, true≢false, arith, eqb-true}
 use Rattle.std.specs.FinSet as set
 use Rattle.std.specs.List.{list_any, range_with_len}
 use Rattle.std.proofs.lemmas.Bool.{and_parts}
 use Rattle.std.proofs.lemmas.List.{length-replicate}
 use Rattle.std.proofs.lemmas.List.FromFn.{get_or-map-range_with_len, length-map-range_with_len}
 use Rattle.std.proofs.lemmas.Option.{slice_get-get_or, slice_get_within}
-use Rattle.rlc_base.specs.declared.place.Pos.{Pos}
 use Rattle.rlc_base.proofs.SetLaws.{empty_within, within_trans}
 use Rattle.program_model.specs.declared.kinds.BodyId.{BodyId}
 use Rattle.program_model.specs.declared.kinds.ClassId.{ClassId}
@@ -23,7 +22,7 @@ use Rattle.program_model.specs.Lookups.{body_at, method_at, optional, variable_a
 use Rattle.program_model.specs.Overrides.{are_types, is_type}
 use Rattle.program_model.specs.SuperTests.{is_class}
 use Rattle.program_model.specs.Validity.{HasParameters, IsBodyOf, OwnsBody}
-use Rattle.must_call_sets.specs.MustCallSets.{Names, fits, is_empty, must_of, must_of_type, no_names}
+use Rattle.must_call_sets.specs.MustCallSets.{fits, is_empty, must_of, no_names}
 use Rattle.must_call_sets.specs.OverrideCases.{differ, has_other_owning}
 use Rattle.java_control.specs.Control.{start_of}
 use Rattle.java_control.specs.declared.fact.Fact.{Fact}
@@ -33,7 +32,7 @@ use Rattle.java_control.specs.declared.fact.OriginKind.TheVariants as kinds
 use Rattle.java_control.specs.declared.place.Place.{Place}
 use Rattle.java_control.specs.declared.place.Place.TheVariants as places
 use Rattle.java_control.specs.Remaining.{Todo}
-use Rattle.ownership_rules.specs.Births.{birth_on, births_at_entry, entry_births_in, entry_births_of, fact_at, held_births, origin_of, parameter_birth, parameter_births, this_birth}
+use Rattle.ownership_rules.specs.Births.{births_at_entry, entry_births_in, entry_births_of, fact_at, held_births, origin_of, parameter_birth, parameter_births, this_birth}
 use Rattle.ownership_rules.specs.Room.{variables_in}
 use Rattle.accepted_programs.specs.Accept.{Accept}
 use Rattle.flow_rules.specs.Paths.{Reach, entered, relation_of, start}

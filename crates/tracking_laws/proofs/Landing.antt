@@ -1,6 +1,6 @@
 -- The end of a step: where each unmet object that a frame owns is tracked, nothing is lost, and the frames, the heap and the lines
 -- agree with the facts. And what agrees is safe.
-use Rattle.std.proofs.Common.{◌≡◌, ℕ, suc, ◌+◌, Bool, true, false, ◌||◌, Some, List, [], ◌∷◌, ◌++◌, length, nat_eq, refl, sym, ap, ◌∙◌, subst, true≢false, if◌then◌else◌}
+use Rattle.std.proofs.Common.{◌≡◌, ℕ, suc, ◌+◌, Bool, true, false, ◌||◌, Some, None, List, [], ◌∷◌, ◌++◌, length, nat_eq, refl, sym, ap, ◌∙◌, subst, true≢false, if◌then◌else◌}
 use Rattle.std.specs.Prelude.{MatchBool}
 use Rattle.std.specs.List.{list_any}
 use Rattle.program_model.specs.declared.program.Program.{Program}
@@ -16,8 +16,9 @@ use Rattle.ledger_state.specs.declared.value.Value.{Value}
 use Rattle.ledger_obligations.specs.Obligations.{held_at, holds, is_unmet, lose, owner_holds}
 use Rattle.ledger_calls.specs.Configuration.{Frame, held_by}
 use Rattle.ledger_steps.specs.Effects.{left}
-use Rattle.run_command.specs.RunAnswers.{is_leak}
-use Rattle.heap_laws.specs.Heaps.{IsUnlinked}
+use Rattle.ledger_state.specs.Leaks.{is_leak}
+use Rattle.heap_laws.specs.Heaps.{HasLibraryLinks}
+use Rattle.agreement.specs.Chains.{HaveEnds}
 use Rattle.agreement.specs.Agreement.{Agrees, AllStand, Awaits, IsAwaited, IsStacked, IsTracked, Tracks, is_answering}
 use Rattle.heap_laws.proofs.Laws.{nothing_is_lost, step_leaks_nothing-lines}
 use Rattle.place_laws.proofs.Laws.{held_place_counts, some_place_is_held}
@@ -88,17 +89,18 @@ no_leak_in_both (x ∷ xs) ys a b = go (is_leak x) a (no_leak_in_both xs ys)
     go false good rest = rest good b
 
 -- a step that ends with this heap
-pub landed : (p : Program) (frs : List Frame) (k : HeapContents) (es : List Entry) (pos : Pos) (lines : List Entry) → AllStand p frs → IsStacked p k frs → IsUnlinked k
+pub landed : (p : Program) (frs : List Frame) (k : HeapContents) (es : List Entry) (pos : Pos) (lines : List Entry) → AllStand p frs → IsStacked p k frs → HasLibraryLinks k → HaveEnds k
     → ((o : ℕ) (x : Object) (j : ℕ) → object_at k o ≡ Some x → is_unmet x ≡ true → x.owner ≡ owners.Frame j → IsTracked p k frs o x j)
-    → ((o : ℕ) (x : Object) → object_at k o ≡ Some x → is_unmet x ≡ true → is_answering x.owner ≡ true)
+    → ((o : ℕ) (x : Object) → object_at k o ≡ Some x → x.link ≡ None → is_unmet x ≡ true → is_answering x.owner ≡ true)
     → list_any is_leak es ≡ false → list_any is_leak lines ≡ false
     → Agrees p frs (left p pos (held_by frs) lines [] k).heap (es ++ (left p pos (held_by frs) lines [] k).lines)
-landed p frs k es pos lines standing stacked unlinked tracked answered old new =
+landed p frs k es pos lines standing stacked links ends tracked answered old new =
     let same : lose (held_by frs) k ≡ k = nothing_is_lost (held_by frs) k (λ o x at unmet. owner_holds_it p k frs o x x.owner (λ j is. tracked o x j at unmet is)) in
     subst (λ (h : HeapContents). Agrees p frs h (es ++ (left p pos (held_by frs) lines [] k).lines)) (sym same) (record {
       standing = standing;
       stacked = stacked;
-      unlinked = unlinked;
+      links = links;
+      ends = ends;
       tracked = tracked;
       answered = answered;
       no_leak = no_leak_in_both es (left p pos (held_by frs) lines [] k).lines old (step_leaks_nothing-lines p pos (held_by frs) lines k same new);

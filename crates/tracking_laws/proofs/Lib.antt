@@ -2,6 +2,7 @@ pub mod Carried
 pub mod Following
 pub mod Ready
 pub mod NameCounts
+pub mod SignedPromises
 pub mod CallNames
 pub mod Moving
 pub mod Tracking
@@ -12,3 +13,7 @@ pub mod Entries
 pub mod Given
 pub mod Unmet
 pub mod Results
+pub mod Stores
+pub mod Chains
+pub mod AliasConducts
+pub mod AliasRoots

@@ -19,7 +19,7 @@ few_names table (a ∷ annos) few none =
     let next = one_more a.pos (nat_lt 128 (length (with_names table a))) (past_limit (with_names table a) annos) none in
     few_names (with_names table a) annos (ltb-false 128 (length (with_names table a)) next.0) next.1
 
-table_few : (p : Program) (table : List (List ℕ)) → IsNameTable p table → length table ≤ 128
+pub table_few : (p : Program) (table : List (List ℕ)) → IsNameTable p table → length table ≤ 128
 table_few p table h =
     let few = few_names [] h.ordered (omega arith) h.few in
     let same = ap length h.listed in

@@ -1,20 +1,22 @@
 -- The steps of a frame that stands at a reached control are such as the laws on places ask for.
-use Rattle.std.proofs.Common.{◌≡◌, ℕ, ◌<◌, Option, Some, None, length, slice_get, option_map, refl, sym, ap, ◌∙◌, subst}
+use Rattle.std.proofs.Common.{◌≡◌, ℕ, ◌<◌, false, Option, Some, None, length, slice_get, option_map, refl, sym, ap, ◌∙◌, subst}
 use Rattle.std.proofs.lemmas.Option.{slice_get-map}
 use Rattle.program_model.specs.declared.kinds.BodyId.{BodyId}
 use Rattle.program_model.specs.declared.kinds.MethodId.{MethodId}
-use Rattle.program_model.specs.declared.program.Method.{Method}
 use Rattle.program_model.specs.declared.program.Program.{Program}
 use Rattle.program_model.specs.declared.tree.Body.{Body}
-use Rattle.program_model.specs.Lookups.{method_at}
 use Rattle.must_call_sets.specs.Bodies.{alias_in}
 use Rattle.java_control.specs.Calls.{called_method}
 use Rattle.java_control.specs.Control.{Step, next_of}
 use Rattle.java_control.specs.declared.action.Action.{Action}
 use Rattle.java_control.specs.declared.action.Action.TheVariants as actions
+use Rattle.java_control.specs.declared.action.Edge.{Edge}
+use Rattle.java_control.specs.declared.action.Edge.TheVariants as edges
 use Rattle.java_control.specs.declared.place.Place.{Place}
 use Rattle.java_control.specs.declared.place.Place.TheVariants as places
-use Rattle.alias_sets.specs.Aliases.{alias_operand, operand_of}
+use Rattle.obligation_facts.specs.Callees.{callee}
+use Rattle.obligation_facts.specs.Facts.{PlaceSet, has_temp}
+use Rattle.alias_sets.specs.Aliases.{alias_operand, gives_alias, operand_of}
 use Rattle.accepted_programs.specs.Accept.{Accept}
 use Rattle.flow_rules.specs.Paths.{move_of, relation_of}
 use Rattle.ledger_state.specs.declared.locals.Locals.{Locals}
@@ -22,8 +24,8 @@ use Rattle.ledger_calls.specs.Configuration.{Frame}
 use Rattle.ledger_frames.specs.Choosing.{body_by, frame_steps, steps_by}
 use Rattle.place_laws.specs.Places.{HasTarget, HasVariable, IsWay, SetsLocals}
 use Rattle.agreement.specs.Agreement.{Stands}
-use Rattle.agreement.specs.PlainForms.{HasPlainForms, IsPlainAction, IsPlainCall, IsPlainSignature}
-use Rattle.owned_fact_laws.specs.Outcomes.{IsCallRow}
+use Rattle.agreement.specs.PlainForms.{HasPlainForms, IsPlainAction, IsPlainCall}
+use Rattle.owned_fact_laws.specs.Outcomes.{IsCallRow, IsPlainRow}
 use Rattle.named_step_laws.specs.Naming.{HasTargetIn, IsInBody}
 use Rattle.named_step_laws.proofs.Reached.{names_what_is_there}
 use Rattle.tracking_laws.proofs.Carried.{Ready}
@@ -38,12 +40,20 @@ step_there p fr st i t here =
     slice_get-map move_of (next_of p st.number fr.control) i
     ∙ ap (option_map move_of) (ap (λ (b : Option BodyId). slice_get (steps_by p b fr.control) i) (sym st.id) ∙ here)
 
-plain_sets_locals : (p : Program) (a : Action) → IsPlainAction p a → SetsLocals a
-plain_sets_locals p actions.Skip first = tt
-plain_sets_locals p (actions.Copy x y) first = first
-plain_sets_locals p (actions.Move x y) first = first
-plain_sets_locals p (actions.PutOwn f d) first = absurd first
-plain_sets_locals p a first = tt
+-- what calls nothing and stores into no owning field sets variables and temps alone, and so does a call
+pub row_sets : (p : Program) (a : Action) → IsPlainAction p a → IsPlainRow a → SetsLocals a
+row_sets p actions.Skip plain row = tt
+row_sets p (actions.Copy x y) plain row = plain
+row_sets p (actions.Move x y) plain row = plain
+row_sets p (actions.PutOwn f d) plain row = absurd row
+row_sets p a plain row = tt
+
+pub call_sets : (a : Action) → IsCallRow a → SetsLocals a
+call_sets actions.Skip row = tt
+call_sets (actions.Copy x y) row = absurd row
+call_sets (actions.Move x y) row = absurd row
+call_sets (actions.PutOwn f d) row = absurd row
+call_sets a row = tt
 
 has_variable : (l : Locals) (body : Body) (x : Place) → length l.variables ≡ length body.vars.items → IsInBody body x → HasVariable l x
 has_variable l body (places.Var i) same in_body = subst (λ n. i < n) (sym same) in_body
@@ -57,16 +67,25 @@ has_target l body (actions.Plain x v) same in_body = has_variable l body x same 
 has_target l body (actions.Enter clause x d k) same in_body = subst (λ n. x < n) (sym same) in_body
 has_target l body a same in_body = tt
 
-plain_alias : (m : Option Method) → IsPlainSignature m → alias_in m ≡ None
-plain_alias None plain = refl
-plain_alias (Some m) plain = plain.0
+-- what has no aliased operand gives no alias
+none_given : (p : Program) (a : Action) (e : Edge) (held : PlaceSet) → alias_operand p a ≡ None → gives_alias p a e held ≡ false
+none_given p a edges.Go held none = ap (has_temp held) none
+none_given p a edges.Null held none = refl
+none_given p a edges.NonNull held none = refl
+none_given p a edges.True held none = refl
+none_given p a edges.False held none = refl
+none_given p a (edges.Throws c) held none = refl
 
-plain_no_alias : (p : Program) (a : Action) → IsPlainAction p a → alias_operand p a ≡ None
-plain_no_alias p actions.Skip first = refl
-plain_no_alias p (actions.Call m d n form) first = ap (operand_of (actions.Call m d n form)) (plain_alias (method_at p m) first.signature)
-plain_no_alias p (actions.New m d n) first = ap (operand_of (actions.New m d n)) (plain_alias (method_at p m) first.signature)
-plain_no_alias p (actions.Super m d n) first = ap (operand_of (actions.Super m d n)) (plain_alias (method_at p m) first.0.signature)
-plain_no_alias p a first = refl
+-- so what calls nothing gives none, nor does what names a method with no aliased argument
+pub row_gives_none : (p : Program) (a : Action) (e : Edge) (held : PlaceSet) → IsPlainRow a → gives_alias p a e held ≡ false
+row_gives_none p actions.Skip e held row = none_given p actions.Skip e held refl
+row_gives_none p (actions.Call m d n form) e held row = absurd row
+row_gives_none p (actions.New m d n) e held row = absurd row
+row_gives_none p (actions.Super m d n) e held row = absurd row
+row_gives_none p a e held row = none_given p a e held refl
+
+pub named_gives_none : (p : Program) (a : Action) (e : Edge) (held : PlaceSet) → alias_in (callee p a) ≡ None → gives_alias p a e held ≡ false
+named_gives_none p a e held none = none_given p a e held (ap (operand_of a) none)
 
 -- the method that a call names
 pub plain_call : (p : Program) (a : Action) (named : MethodId) → IsPlainAction p a → IsCallRow a → called_method a ≡ Some named → IsPlainCall p named
@@ -86,8 +105,6 @@ module _ (p : Program) (ac : Accept p) (forms : HasPlainForms p) (fr : Frame) (s
     at = st.at;
     method = ap (body_by p) st.id ∙ st.at;
     small = (ac.fits st.number).steps i (move_of t) st.control (step_there p fr st i t here);
-    locals = plain_sets_locals p t.action plain_step;
     target = has_target fr.locals st.body t.action st.variables (names_what_is_there p ac.well_formed.valid.typed st.number st.body fr.control i (move_of t) st.at st.control (step_there p fr st i t here)).0;
-    no_alias = plain_no_alias p t.action plain_step;
     way = way;
   }

@@ -4,12 +4,11 @@ use Rattle.std.specs.FinSet as set
 use Rattle.std.proofs.lemmas.Bool.{and_parts}
 use Rattle.rlc_base.proofs.SetLaws.{within_trans}
 use Rattle.program_model.specs.declared.kinds.BodyId.{BodyId}
-use Rattle.program_model.specs.declared.kinds.ClassId.{ClassId}
 use Rattle.program_model.specs.declared.kinds.MethodId.{MethodId}
 use Rattle.program_model.specs.declared.kinds.VType.{VType}
 use Rattle.program_model.specs.declared.program.Method.{Method}
 use Rattle.program_model.specs.declared.program.Program.{Program}
-use Rattle.must_call_sets.specs.Bodies.{alias_position, method_of}
+use Rattle.must_call_sets.specs.Bodies.{alias_in, alias_position, method_of}
 use Rattle.must_call_sets.specs.MustCallSets.{fits_type, is_heavy_as, must_of, must_of_type}
 use Rattle.java_control.specs.declared.action.Action.TheVariants as actions
 use Rattle.java_control.specs.declared.action.Completion.{Completion}
@@ -27,17 +26,16 @@ use Rattle.ownership_rules.specs.declared.moved.Moved.{Moved}
 use Rattle.ownership_rules.specs.declared.moved.Moved.TheVariants as moves
 use Rattle.ledger_state.specs.Contents.{HeapContents}
 use Rattle.ledger_state.specs.Heaps.{root_of}
-use Rattle.ledger_state.specs.declared.entry.Owner.TheVariants as owners
 use Rattle.ledger_state.specs.declared.locals.Locals.{Locals}
 use Rattle.ledger_state.specs.declared.object.Object.{Object}
-use Rattle.ledger_obligations.specs.Obligations.{is_unmet, may_move}
 use Rattle.ledger_steps.specs.Ends.{exception_class, result_value, thrown_in}
 use Rattle.agreement.specs.Agreement.{Follows}
 use Rattle.must_call_sets.specs.Signatures.{is_present}
 
--- the declared type of the result takes the object, and the method's result is owning
+-- the declared type of the result takes the object, and the method's result is owning, and no alias of an argument
 pub record IsResult (p : Program) (m : Option Method) (x : Object) : Type 0 where
   pub owning : owning_result_in m ≡ true
+  pub own : is_present (alias_in m) ≡ false
   pub type : VType
   pub result : result_in m ≡ Some type
   pub lies : set.is_subset (must_of p x.class) (must_of_type p type) ≡ true
@@ -59,14 +57,15 @@ result_there p o f None owned fit = absurd (true≢false (let heavy = (and_parts
 result_there p o f (Some u) owned fit = (u, refl)
 
 owned_moves : (p : Program) (b : BodyId) (o : Origin) (f : Fact) (x : Object) → set.is_subset (must_of p x.class) (must_of p o.class) ≡ true → owning_result_in (method_of p b) ≡ true
-    → owned_result p b o f ≡ moves.Moves → IsResult p (method_of p b) x
-owned_moves p b o f x class owning is =
+    → is_present (alias_position p b) ≡ false → owned_result p b o f ≡ moves.Moves → IsResult p (method_of p b) x
+owned_moves p b o f x class owning own is =
     let first = if_moves (not (is_owned p o f)) (moves.Bad rules.NotOwned) _ (λ (h : moves.Bad rules.NotOwned ≡ moves.Moves). cc) is in
     let second = if_moves (not (fits_type p o.class (result_type p b))) (moves.Bad rules.Narrow) moves.Moves (λ (h : moves.Bad rules.Narrow ≡ moves.Moves). cc) first.1 in
     let fit = not_false (fits_type p o.class (result_type p b)) second.0 in
     let t = result_there p o f (result_type p b) (not_false (is_owned p o f) first.0) fit in
     record {
       owning = owning;
+      own = own;
       type = t.0;
       result = t.1;
       lies = within_trans (must_of p x.class) (must_of p o.class) (must_of_type p t.0) class (subst (λ (u : Option VType). fits_type p o.class u ≡ true) t.1 fit);
@@ -74,15 +73,16 @@ owned_moves p b o f x class owning is =
 
 heavy_moves : (p : Program) (b : BodyId) (o : Origin) (f : Fact) (x : Object) → f.mode ≡ modes.Own → set.is_subset (must_of p x.class) (must_of p o.class) ≡ true → heavy_result p b o f ≡ moves.Moves
     → IsResult p (method_of p b) x
-heavy_moves p b o f x own class is = go (is_present (alias_position p b)) (owning_result_in (method_of p b)) refl is
+heavy_moves p b o f x own class is = go (is_present (alias_position p b)) refl (owning_result_in (method_of p b)) refl is
   where
     alias : kept_alias f ≡ moves.Moves → ⊥
     alias same = let bad : moves.Bad rules.AliasKept ≡ moves.Moves = rw own at same in cc
 
-    go : (u v : Bool) → owning_result_in (method_of p b) ≡ v → (if u then kept_alias f else (if v then owned_result p b o f else moves.Stays)) ≡ moves.Moves → IsResult p (method_of p b) x
-    go true v owning same = absurd (alias same)
-    go false true owning same = owned_moves p b o f x class owning same
-    go false false owning same = absurd (stays_not same)
+    go : (u : Bool) → is_present (alias_position p b) ≡ u → (v : Bool) → owning_result_in (method_of p b) ≡ v
+        → (if u then kept_alias f else (if v then owned_result p b o f else moves.Stays)) ≡ moves.Moves → IsResult p (method_of p b) x
+    go true present v owning same = absurd (alias same)
+    go false none true owning same = owned_moves p b o f x class owning none same
+    go false none false owning same = absurd (stays_not same)
 
 -- the frame ends by no exception, and gives the object
 pub record IsGivenBack (p : Program) (h : HeapContents) (l : Locals) (m : Option Method) (q : Completion) (o : ℕ) (x : Object) : Type 0 where

@@ -1,10 +1,11 @@
 -- Frames that wait, over a step of the frames above them, and which positions frames have.
-use Rattle.std.proofs.Common.{◌≡◌, ℕ, ◌+◌, ◌<◌, ◌≤◌, Bool, true, false, Option, Some, None, List, [], ◌∷◌, length, nat_eq, refl, sym, ap, ◌∙◌, subst, true≢false, arith, eqb-true}
+use Rattle.std.proofs.Common.{◌≡◌, ℕ, ◌+◌, ◌<◌, ◌≤◌, Bool, true, false, Some, List, [], ◌∷◌, length, nat_eq, refl, sym, ap, ◌∙◌, subst, arith, eqb-true}
 use Rattle.std.specs.FinSet as set
 use Rattle.std.specs.Prelude.{MatchBool}
 use Rattle.program_model.specs.declared.kinds.MethodId.{MethodId}
 use Rattle.program_model.specs.declared.program.Program.{Program}
 use Rattle.program_model.specs.Lookups.{method_at}
+use Rattle.must_call_sets.specs.Bodies.{constructs}
 use Rattle.must_call_sets.specs.MustCallSets.{must_of}
 use Rattle.java_control.specs.declared.action.Action.{Action}
 use Rattle.java_control.specs.declared.action.Action.TheVariants as actions
@@ -13,9 +14,8 @@ use Rattle.ledger_state.specs.Contents.{HeapContents}
 use Rattle.ledger_state.specs.Heaps.{next_number, object_at}
 use Rattle.ledger_state.specs.declared.object.Object.{Object}
 use Rattle.ledger_state.specs.declared.value.Value.{Value}
-use Rattle.ledger_operations.specs.Places.{class_of_method}
 use Rattle.ledger_calls.specs.Configuration.{Frame}
-use Rattle.agreement.specs.Agreement.{Awaits, IsAwaited, IsCalledFrom, IsMade, IsMadeBy, IsTracked, Tracks, WaitsFor}
+use Rattle.agreement.specs.Agreement.{Awaits, IsAwaited, IsCalledFrom, IsMade, IsMadeBy, IsTracked, RunsItself, RunsOnSame, Tracks, WaitsFor}
 use Rattle.agreement.specs.PlainForms.{MayRun}
 
 -- the objects of the first heap have the same classes in the second
@@ -27,7 +27,7 @@ module _ (p : Program) (h k : HeapContents) (keeps : KeepsClasses h k) where
   made_on : (m : MethodId) (v : Value) → IsMade p h m v → IsMade p k m v
   made_on m v made =
       let count = keeps.count in
-      (made.0, made.1, omega (arith, made.2, count), λ y at. let x = keeps.class made.0 y at made.2 in made.3 x.0 x.1 ∙ ap Some (sym x.2))
+      (made.0, made.1, omega (arith, made.2, count), λ y at. let x = keeps.class made.0 y at made.2 in made.3 x.0 x.1 ∙ ap Some (sym x.2), made.4)
 
   made_by_on : (a : Action) (v : Value) → IsMadeBy p h a v → IsMadeBy p k a v
   made_by_on actions.Skip v made = tt
@@ -42,11 +42,14 @@ module _ (p : Program) (h k : HeapContents) (keeps : KeepsClasses h k) where
     named = w.named;
     calls = w.calls;
     runs = subst (MayRun p w.named) (sym method) w.runs;
+    itself = subst (RunsItself w.step.action w.named) (sym method) w.itself;
+    kind = ap (λ (m : MethodId). constructs (method_at p m)) method ∙ w.kind;
+    on_same = subst (RunsOnSame w.step.action caller.locals.this) (sym this) w.on_same;
     makes = subst (IsMadeBy p k w.step.action) (sym this) (made_by_on w.step.action fr.locals.this w.makes);
   }
 
   pub called_on : (fr after : Frame) (frs : List Frame) → after.method ≡ fr.method → after.locals.this ≡ fr.locals.this → IsCalledFrom p h fr frs → IsCalledFrom p k after frs
-  called_on fr after [] method this last = ap (λ (m : MethodId). result_in (method_at p m)) method ∙ last
+  called_on fr after [] method this last = (ap (λ (m : MethodId). result_in (method_at p m)) method ∙ last.0, ap (λ (m : MethodId). constructs (method_at p m)) method ∙ last.1)
   called_on fr after (caller ∷ frs) method this w = (waits_on caller fr after method this w.0, called_on caller caller frs refl refl w.1)
 
 -- ---- positions

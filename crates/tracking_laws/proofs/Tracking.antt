@@ -14,6 +14,7 @@ use Rattle.java_control.specs.declared.fact.Origin.{Origin}
 use Rattle.java_control.specs.declared.place.Place.TheVariants as places
 use Rattle.obligation_facts.specs.Facts.{Names, has, is_met, need}
 use Rattle.obligation_facts.specs.SmallActions.{IsSmallAction}
+use Rattle.alias_sets.specs.Aliases.{gives_alias}
 use Rattle.called_methods.specs.CalledRows.{called_after}
 use Rattle.ownership_rules.specs.MovesAtCalls.{moved_at_call}
 use Rattle.ownership_rules.specs.declared.moved.Moved.TheVariants as moves
@@ -24,7 +25,6 @@ use Rattle.ledger_state.specs.Contents.{HeapContents}
 use Rattle.ledger_state.specs.Heaps.{root_of}
 use Rattle.ledger_state.specs.Locals.{temp_value}
 use Rattle.ledger_state.specs.Values.{is_null}
-use Rattle.ledger_state.specs.declared.locals.Locals.{Locals}
 use Rattle.ledger_state.specs.declared.object.Object.{Object}
 use Rattle.ledger_state.specs.declared.value.Value.{Value}
 use Rattle.ledger_state.specs.declared.value.Value.TheVariants as values
@@ -33,26 +33,22 @@ use Rattle.ledger_calls.specs.Configuration.{Frame}
 use Rattle.ledger_frames.specs.Choosing.{body_id, frame_steps}
 use Rattle.ledger_frames.specs.Frames.{frame_after, locals_after}
 use Rattle.rlc_base.proofs.SetLaws.{within_trans}
-use Rattle.heap_laws.specs.Heaps.{GoesOn, IsUnlinked}
+use Rattle.heap_laws.specs.Heaps.{GoesOn}
 use Rattle.place_laws.specs.Places.{IsWay}
 use Rattle.agreement.specs.Agreement.{Follows, IsAwaited, IsTracked, Stands, Tracks}
 use Rattle.agreement.specs.PlainForms.{HasPlainForms}
 use Rattle.owned_fact_laws.specs.Outcomes.{After, IsCallRow, IsNotNull, IsPlainRow}
 use Rattle.owned_fact_laws.proofs.OwedFacts.{call_row, owed, plain_row}
+use Rattle.tracking_laws.specs.Steps.{IsTrueTest, RootsStay}
 use Rattle.tracking_laws.proofs.Carried.{carried, kept, still_awaited}
 use Rattle.tracking_laws.proofs.CallNames.{plain_no_reset}
 use Rattle.tracking_laws.proofs.Following.{followed}
-use Rattle.tracking_laws.proofs.Ready.{plain_step, ready, step_there}
+use Rattle.tracking_laws.proofs.Ready.{call_sets, plain_step, ready, row_gives_none, row_sets, step_there}
 
 pub null_is_no_object : (h : HeapContents) (v : Value) (o : ℕ) → is_null v ≡ true → root_of h v ≡ Some o → ⊥
 null_is_no_object h values.Nothing o null is = cc
 null_is_no_object h (values.Object k) o null is = true≢false (sym null)
 null_is_no_object h v o null is = cc
-
--- a test that goes by its null edge has found null
-abbrev pub IsTrueTest : Locals → Action → Edge → Type 0
-IsTrueTest l (actions.Test d) edges.Null = is_null (temp_value l d) ≡ true
-IsTrueTest l a e = Unit {0}
 
 not_null : (p : Program) (h : HeapContents) (fr : Frame) (o : ℕ) (x : Object) (origin : Origin) (f : Fact) (a : Action) (e : Edge) → IsSmallAction p a
     → Follows p h fr.method fr.locals o x origin f → IsTrueTest fr.locals a e → IsNotNull f a e
@@ -68,9 +64,9 @@ not_null p h fr o x origin f a e small follows test = tt
 pub same_body : (b c : BodyId) (x : Option BodyId) → x ≡ Some b → x ≡ Some c → b ≡ c
 same_body b c x one other = let same : Some b ≡ Some c = sym one ∙ other in cc
 
-module _ (p : Program) (ac : Accept p) (forms : HasPlainForms p) (h k : HeapContents) (uh : IsUnlinked h) (uk : IsUnlinked k)
+module _ (p : Program) (ac : Accept p) (forms : HasPlainForms p) (h k : HeapContents)
     (fr : Frame) (st : Stands p fr) (i : ℕ) (s : Step) (here : slice_get (frame_steps p fr) i ≡ Some s) (way : IsWay s.action s.edge) (v : Value)
-    (o : ℕ) (x y : Object) (goes : GoesOn x y) (unmet : is_unmet y ≡ true) (t : Tracks p h fr o x) where
+    (o : ℕ) (x y : Object) (stay : RootsStay h k o) (goes : GoesOn x y) (unmet : is_unmet y ≡ true) (t : Tracks p h fr o x) where
   reached : Reach p st.number (relation_of p st.number) t.origin fr.control t.fact
   reached = subst (λ (b : BodyId). Reach p b (relation_of p b) t.origin fr.control t.fact) (same_body t.body st.number (body_id p fr.method) t.id st.id) t.reached
 
@@ -91,25 +87,29 @@ module _ (p : Program) (ac : Accept p) (forms : HasPlainForms p) (h k : HeapCont
   pub is_owing : is_met t.origin t.fact ≡ false
   is_owing = owed y t.origin t.fact unmet needed known
 
+  -- what calls nothing gives no alias
+  plain_gives_none : IsPlainRow s.action → gives_alias p s.action s.edge t.fact.places ≡ true → root_of k v ≡ Some o
+  plain_gives_none row gives = absurd (true≢false (sym gives ∙ row_gives_none p s.action s.edge t.fact.places row))
+
   pub tracks_plain : IsPlainRow s.action → IsTrueTest fr.locals s.action s.edge → Tracks p k (frame_after p h fr s v) o y
   tracks_plain row test = goes_on (plain_row Goal p st.number t.origin s.action s.edge t.fact row t.follows.own is_owing
       (not_null p h fr o x t.origin t.fact s.action s.edge (ready p ac forms fr st i s here way).small t.follows test)
-      (λ some. carried p h k fr.method fr.locals st.number st.body s.action s.edge v (ready p ac forms fr st i s here way) uh uk o x y t.origin t.fact t.follows goes t.fact.called known some)
-      (λ stay. kept p h k fr.method fr.locals st.number st.body s.action s.edge v (ready p ac forms fr st i s here way) uh uk o x y t.origin t.fact t.follows goes stay))
+      (λ some. carried p h k fr.method fr.locals st.number st.body s.action s.edge v (ready p ac forms fr st i s here way) (row_sets p s.action (plain_step p ac forms fr st i s here) row) o stay x y t.origin t.fact t.follows goes (plain_gives_none row) t.fact.called known some)
+      (λ remain. kept p h k fr.method fr.locals st.number st.body s.action s.edge v (ready p ac forms fr st i s here way) (row_sets p s.action (plain_step p ac forms fr st i s here) row) o stay x y t.origin t.fact t.follows goes (plain_gives_none row) remain))
 
   pub tracks_call : IsCallRow s.action → set.is_subset (called_after p st.number s.action s.edge t.fact) y.called ≡ true
-      → (moved_at_call p t.origin s.action s.edge t.fact ≡ moves.Moves → ⊥) → Tracks p k (frame_after p h fr s v) o y
-  tracks_call row all stays = goes_on (call_row Goal p st.number t.origin s.action s.edge t.fact row (plain_no_reset p s.action (plain_step p ac forms fr st i s here)) t.follows.own
+      → (gives_alias p s.action s.edge t.fact.places ≡ true → root_of k v ≡ Some o) → (moved_at_call p t.origin s.action s.edge t.fact ≡ moves.Moves → ⊥) → Tracks p k (frame_after p h fr s v) o y
+  tracks_call row all alias stays = goes_on (call_row Goal p st.number t.origin s.action s.edge t.fact row (plain_no_reset p s.action (plain_step p ac forms fr st i s here)) t.follows.own
       (owed y t.origin (record t.fact { called = called_after p st.number s.action s.edge t.fact }) unmet needed all)
       stays
-      (λ some. carried p h k fr.method fr.locals st.number st.body s.action s.edge v (ready p ac forms fr st i s here way) uh uk o x y t.origin t.fact t.follows goes
+      (λ some. carried p h k fr.method fr.locals st.number st.body s.action s.edge v (ready p ac forms fr st i s here way) (call_sets s.action row) o stay x y t.origin t.fact t.follows goes alias
       (called_after p st.number s.action s.edge t.fact) all some))
 
 -- the frames of a stack, of which the top one takes a step
-pub stack_tracks : (p : Program) (h k : HeapContents) (fr after : Frame) (frs : List Frame) (o : ℕ) (x y : Object) (j : ℕ) → IsUnlinked h → IsUnlinked k → GoesOn x y
+pub stack_tracks : (p : Program) (h k : HeapContents) (fr after : Frame) (frs : List Frame) (o : ℕ) (x y : Object) (j : ℕ) → RootsStay h k o → GoesOn x y
     → (Tracks p h fr o x → Tracks p k after o y) → IsTracked p h (fr ∷ frs) o x j → IsTracked p k (after ∷ frs) o y j
-stack_tracks p h k fr after frs o x y j uh uk goes top before = go (nat_eq (length frs + 1) j) before
+stack_tracks p h k fr after frs o x y j stay goes top before = go (nat_eq (length frs + 1) j) before
   where
     go : (b : Bool) → MatchBool b (Tracks p h fr o x) (IsAwaited p h frs o x j) → MatchBool b (Tracks p k after o y) (IsAwaited p k frs o y j)
     go true w = top w
-    go false w = still_awaited p h k frs o x y j uh uk goes w
+    go false w = still_awaited p h k frs o x y j stay goes w

@@ -1,9 +1,10 @@
 -- Unmet objects: what they were before, what their types are, and who owns them; and the actions that call.
-use Rattle.std.proofs.Common.{◌≡◌, ℕ, Bool, true, false, not, ◌&&◌, Some, None, refl, sym, ap, ◌∙◌, true≢false}
+use Rattle.std.proofs.Common.{◌≡◌, ◌⊎◌, inl, inr, ℕ, Bool, true, false, not, ◌&&◌, Some, None, refl, sym, ap, ◌∙◌, true≢false}
 use Rattle.std.specs.FinSet as set
 use Rattle.std.proofs.lemmas.Bool.{and_parts, and_from, not-true}
 use Rattle.rlc_base.proofs.SetLaws.{empty_within, within_trans}
 use Rattle.program_model.specs.declared.kinds.ClassId.{ClassId}
+use Rattle.program_model.specs.declared.kinds.FieldId.{FieldId}
 use Rattle.program_model.specs.declared.kinds.MethodId.{MethodId}
 use Rattle.program_model.specs.declared.kinds.VType.{VType}
 use Rattle.program_model.specs.declared.kinds.VType.TheVariants as types
@@ -78,14 +79,15 @@ not_librarys p t x may =
     not-true (is_library_owner x.owner) (and_parts x.finished (not (is_library_owner x.owner))
     (and_parts (x.finished && not (is_library_owner x.owner)) (set.is_subset (must_of p x.class) (must_of_type p t)) may).0).1
 
--- what moves and is answered for is a frame's
-pub frame_of : (p : Program) (t : VType) (x : Object) → may_move p t x ≡ true → is_answering x.owner ≡ true → (j : ℕ) × (x.owner ≡ owners.Frame j)
-frame_of p t x may answers = go x.owner (not_librarys p t x may) answers
+-- what moves and is answered for is a frame's or a field's
+pub owner_of : (p : Program) (t : VType) (x : Object) → may_move p t x ≡ true → is_answering x.owner ≡ true
+    → ((j : ℕ) × (x.owner ≡ owners.Frame j)) ⊎ ((w : ℕ) × (f : FieldId) × (x.owner ≡ owners.Field w f))
+owner_of p t x may answers = go x.owner (not_librarys p t x may) answers
   where
-    go : (w : Owner) → is_library_owner w ≡ false → is_answering w ≡ true → (j : ℕ) × (w ≡ owners.Frame j)
-    go (owners.Frame j) other is = (j, refl)
+    go : (o : Owner) → is_library_owner o ≡ false → is_answering o ≡ true → ((j : ℕ) × (o ≡ owners.Frame j)) ⊎ ((w : ℕ) × (f : FieldId) × (o ≡ owners.Field w f))
+    go (owners.Frame j) other is = inl (j, refl)
     go owners.Library other is = absurd (true≢false other)
-    go (owners.Field w f) other is = absurd (true≢false (sym is))
+    go (owners.Field w f) other is = inr (w, f, refl)
     go owners.Released other is = absurd (true≢false (sym is))
     go owners.Lost other is = absurd (true≢false (sym is))
     go owners.Unowned other is = absurd (true≢false (sym is))

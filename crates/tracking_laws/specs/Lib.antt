@@ -1,0 +1,4 @@
+pub mod Steps
+pub use Rattle.agreement.specs.Agreement
+pub use Rattle.agreement.specs.PlainForms
+pub use Rattle.owned_fact_laws.specs.Outcomes

@@ -1,6 +1,6 @@
 use Rattle.std.proofs.Common.{◌≡◌, ◌++◌, map, take}
 use Rattle.java_syntax.specs.StatementTrees.{resource_of}
-use Rattle.java_expression_rules.specs.Surroundings.{surroundings_of}
+use Rattle.java_statement_rules.specs.Surroundings.{surroundings_of}
 use Rattle.body_variables.specs.BodyVariables.{resource_variables}
 use Rattle.body_variables.specs.Declarations.{variable_in}
 use Rattle.body_variables.proofs.declarations.push_resources.Given as goal

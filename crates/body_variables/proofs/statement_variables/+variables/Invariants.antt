@@ -1,7 +1,7 @@
 -- What is made, and what is still to be made, are all.
 use Rattle.std.proofs.Common.{◌≡◌, ◌++◌, map, drop}
 use Rattle.java_syntax.specs.StatementTrees.{catch_of, catches, statements, stmt_of}
-use Rattle.java_expression_rules.specs.Surroundings.{surroundings_of}
+use Rattle.java_statement_rules.specs.Surroundings.{surroundings_of}
 use Rattle.body_variables.specs.BodyVariables.{all_variables, catch_variables}
 use Rattle.body_variables.specs.Declarations.{variable_in}
 use Rattle.body_variables.proofs.statement_variables.+variables.Given as goal

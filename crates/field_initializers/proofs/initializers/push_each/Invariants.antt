@@ -1,7 +1,7 @@
 use Rattle.std.proofs.Common.{◌≡◌, ◌++◌, map, take}
 use Rattle.std.specs.Prelude.{flat_map}
 use Rattle.java_typed_trees.specs.StatementTrees.{statement_of}
-use Rattle.java_expression_rules.specs.Surroundings.{surroundings_of}
+use Rattle.java_typed_expressions.specs.Surroundings.{surroundings_of}
 use Rattle.source_classes.specs.Members.{numbered_field_of}
 use Rattle.field_initializers.specs.FieldInitializers.{cases_of_field, statements_of_field}
 use Rattle.field_initializers.proofs.initializers.push_each.Given as goal

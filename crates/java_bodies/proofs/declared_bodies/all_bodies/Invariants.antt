@@ -1,6 +1,6 @@
 use Rattle.std.proofs.Common.{◌≡◌, map, take}
-use Rattle.source_classes.specs.Members.{environment_in}
-use Rattle.source_classes.specs.SourceClasses.{source_class_of}
+use Rattle.field_initializers.specs.Members.{environment_in}
+use Rattle.field_initializers.specs.SourceClasses.{source_class_of}
 use Rattle.java_bodies.specs.Bodies.{all_bodies, source_body_of}
 use Rattle.java_bodies.proofs.declared_bodies.all_bodies.Given as goal
 

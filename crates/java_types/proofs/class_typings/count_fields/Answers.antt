@@ -1,6 +1,6 @@
 use Rattle.source_classes.specs.Members.{environment_in}
 use Rattle.source_classes.specs.SourceClasses.{source_class_of}
-use Rattle.field_initializers.specs.FieldInitializers.{static_cases}
+use Rattle.java_bodies.specs.FieldInitializers.{static_cases}
 use Rattle.java_types.proofs.ListSteps.{flat_step}
 use Rattle.java_types.proofs.class_typings.count_fields.Goals as goal
 

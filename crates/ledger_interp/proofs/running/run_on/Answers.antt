@@ -2,11 +2,11 @@
 use Rattle.std.proofs.Common.{◌≡◌, ◌+◌, ◌-◌, ◌<◌, arith}
 use Rattle.ledger_interp.proofs.RunLaws.{one_taken, run_over, run_stray}
 use Rattle.ledger_interp.proofs.running.run_on.Goals as goal
-use Rattle.ledger_interp.specs.Runs.{run_from}
+use Rattle.ledger_runs.specs.Runs.{run_from}
 use Rattle.ledger_machine.specs.Configurations.{configuration}
 use Rattle.ledger_machine.specs.declared.turn.Turn.TheVariants as turns
-use Rattle.ledger_machine.specs.Outcomes.{turn_of}
-use Rattle.ledger_machine.specs.Steps.{step}
+use Rattle.ledger_machine.specs.Turns.{turn_of}
+use Rattle.ledger_runs.specs.Steps.{step}
 
 pub returns-in-Ended : goal.returns-in-Ended
 returns-in-Ended c =

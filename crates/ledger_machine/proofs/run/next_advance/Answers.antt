@@ -1,7 +1,6 @@
 use Rattle.std.proofs.Common.{◌≡◌, ◌∙◌, ap, sym, [], ◌∷◌, ◌++◌, length}
-use Rattle.ledger_machine.proofs.FrameLaws.{last_bounded, last_seen, lists_kept}
-use Rattle.ledger_machine.specs.Machines.{config_of}
-use Rattle.ledger_machine.specs.Steps.{top_move}
+use Rattle.machine_state.specs.RunStates.{config_of}
+use Rattle.ledger_runs.specs.Steps.{top_move}
 use Rattle.ledger_frames.specs.Choosing.{frame_steps}
 use Rattle.ledger_moves.specs.Frames.{frame_seen}
 use Rattle.ledger_moves.specs.Moves.{next_move, standing}
@@ -9,6 +8,7 @@ use Rattle.ledger_operations.specs.Operations.{next_choice}
 use Rattle.java_control.specs.Remaining.{todos}
 use Rattle.java_control.specs.Tables.{list_at}
 use Rattle.std.specs.Prelude.{slice_get}
+use Rattle.machine_state.proofs.FrameLaws.{last_bounded, last_seen, lists_kept}
 use Rattle.ledger_machine.proofs.run.next_advance.Goals as goal
 
 pub frame_move-requires : goal.frame_move-requires

@@ -1,8 +1,9 @@
 use Rattle.std.proofs.Common.{◌∙◌, sym, ap}
-use Rattle.ledger_machine.proofs.MoveLaws.{none_seen}
+use Rattle.machine_state.specs.RunStates.{config_of}
+use Rattle.ledger_runs.specs.Outcomes.{config_after}
+use Rattle.ledger_machine.specs.Turns.{turn_of}
 use Rattle.ledger_machine.proofs.OneStep.{over_step}
-use Rattle.ledger_machine.specs.Machines.{config_of}
-use Rattle.ledger_machine.specs.Outcomes.{config_after, turn_of}
+use Rattle.machine_state.proofs.FrameLaws.{none_seen}
 use Rattle.ledger_machine.proofs.run.over.Goals as goal
 
 pub returns-clause-turn : goal.returns-clause-turn

@@ -1,9 +1,10 @@
 use Rattle.std.proofs.Common.{◌∙◌, ap}
-use Rattle.ledger_machine.proofs.MoveLaws.{on_error}
-use Rattle.ledger_machine.proofs.OneStep.{step_taken}
-use Rattle.ledger_machine.specs.Machines.{config_of}
-use Rattle.ledger_machine.specs.Outcomes.{config_after, turn_of}
+use Rattle.machine_state.specs.RunStates.{config_of}
+use Rattle.ledger_runs.specs.Outcomes.{config_after}
+use Rattle.ledger_machine.specs.Turns.{turn_of}
 use Rattle.ledger_moves.specs.Frames.{move_seen}
+use Rattle.ledger_machine.proofs.OneStep.{step_taken}
+use Rattle.machine_state.proofs.FrameLaws.{on_error}
 use Rattle.ledger_machine.proofs.run.step_on.Goals as goal
 
 pub returns-clause-turn : goal.returns-clause-turn

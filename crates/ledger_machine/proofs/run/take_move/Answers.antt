@@ -1,10 +1,12 @@
 use Rattle.std.proofs.Common.{◌≡◌, ◌∙◌, ap}
-use Rattle.ledger_machine.proofs.MoveLaws.{more_seen, rest_went, stray_went}
-use Rattle.ledger_machine.specs.Machines.{config_of}
-use Rattle.ledger_machine.specs.Outcomes.{config_after, turn_of}
-use Rattle.ledger_machine.specs.Steps.{moved_by}
+use Rattle.machine_state.specs.RunStates.{config_of}
+use Rattle.ledger_runs.specs.Outcomes.{config_after}
+use Rattle.ledger_machine.specs.Turns.{turn_of}
+use Rattle.ledger_runs.specs.Steps.{moved_by}
 use Rattle.ledger_moves.specs.declared.advance.Advance.TheVariants as advances
 use Rattle.ledger_moves.specs.Frames.{move_seen}
+use Rattle.ledger_machine.proofs.MoveLaws.{rest_went, stray_went}
+use Rattle.machine_state.proofs.FrameLaws.{more_seen}
 use Rattle.ledger_machine.proofs.run.take_move.Goals as goal
 
 pub returns-in_ok-run_inner-in-Inner-clause-turn : goal.returns-in_ok-run_inner-in-Inner-clause-turn

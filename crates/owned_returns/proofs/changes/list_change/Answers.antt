@@ -1,9 +1,8 @@
-use Rattle.std.proofs.Common.{◌≡◌, ◌∙◌, ap, sym, subst, true, Bool, Option, Some, Result, Ok, Err}
+use Rattle.std.proofs.Common.{◌≡◌, subst, true, Bool, Some, Result, Ok, Err}
 use Rattle.std.specs.Prelude.{IfOk}
 use Rattle.frame_owners.proofs.OwnerLaws.{all_listed}
 use Rattle.frame_owners.specs.FrameOwners.{Listed, is_listed, lists_in}
 use Rattle.ledger_state.specs.declared.object.Object.{Object}
-use Rattle.ledger_state.specs.Heaps.{next_number}
 use Rattle.owned_returns.proofs.ThereLaws.{change_listed}
 use Rattle.plain_calls.specs.PlainCalls.{left_by}
 use Rattle.rlc_base.specs.declared.faults.NoMemory.{NoMemory}

@@ -1,8 +1,7 @@
-use Rattle.std.proofs.Common.{◌≡◌, ◌∙◌, ◌-◌, ◌+◌, ap, sym, subst, length, take, ℕ, arith}
+use Rattle.std.proofs.Common.{◌≡◌, ◌∙◌, ◌-◌, ap, sym, length, take, arith}
 use Rattle.std.proofs.lemmas.List.{length-map}
 use Rattle.frame_owners.specs.FrameOwners.{list_at, lists_in}
 use Rattle.owned_returns.proofs.ThereLaws.{listed_returned, released_by}
-use Rattle.owned_returns.specs.OwnedReturns.{left_by_frame}
 use Rattle.plain_calls.specs.PlainCalls.{put_noted}
 use Rattle.owned_returns.proofs.changes.return_objects.Goals as goal
 

@@ -1,0 +1,14 @@
+pub mod Bodies
+pub mod Valid
+pub mod Formed
+pub mod Declared
+pub mod PassFlows
+pub mod MainFlows
+pub mod Walks
+pub mod PassPaths
+pub mod MainPaths
+pub mod Reached
+pub mod Mild
+pub mod Accepted
+pub mod Calls
+pub mod Plain

@@ -1,3 +1,0 @@
--- What the contracts of the runner of cases speak of.
-pub mod Agreement
-pub mod Counts

@@ -1,0 +1,9 @@
+pub mod Leaves
+pub mod Noted
+pub mod Goes
+pub mod Heaps
+pub mod Finished
+pub use Rattle.range_laws.proofs.Configs
+pub use Rattle.range_laws.proofs.Growth
+pub use Rattle.range_laws.proofs.Steps
+pub use Rattle.range_laws.proofs.Values

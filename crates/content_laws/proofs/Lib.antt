@@ -1,0 +1,10 @@
+pub mod Steps
+pub mod Frames
+pub mod Promised
+pub mod Ends
+pub mod LibraryNotes
+pub mod Stores
+pub mod TopSteps
+pub mod Returns
+pub mod Runs
+pub use Rattle.next_step_laws.proofs.Cases

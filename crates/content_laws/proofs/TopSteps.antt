@@ -1,0 +1,271 @@
+-- A step of the top frame keeps what owning fields hold and own: within the frame, at the start of a call, and over a call of the library.
+use Rattle.std.specs.Prelude.{◌<◌, ◌≤◌, ◌||◌, ◌&&◌, not}
+use Rattle.std.specs.FinSet as set
+use Rattle.std.proofs.Common.{◌≡◌, ◌⊎◌, ℕ, ◌+◌, Bool, true, false, true≢false, Option, Some, None, List, ◌∷◌, length, slice_get, refl, sym, ap, ◌∙◌, subst, if◌then◌else◌, inl, inr, arith}
+use Rattle.std.proofs.lemmas.List.Elements.{All-head, All-tail}
+use Rattle.rlc_base.specs.declared.name_id.NameId.{NameId}
+use Rattle.rlc_base.specs.declared.place.Pos.{Pos}
+use Rattle.program_model.specs.declared.kinds.ClassId.{ClassId}
+use Rattle.program_model.specs.declared.kinds.FieldId.{FieldId}
+use Rattle.program_model.specs.declared.kinds.MethodId.{MethodId}
+use Rattle.program_model.specs.declared.kinds.VType.{VType}
+use Rattle.program_model.specs.declared.program.Field.{Field}
+use Rattle.program_model.specs.declared.program.Method.{Method}
+use Rattle.program_model.specs.declared.program.Program.{Program}
+use Rattle.program_model.specs.Lookups.{field_at, method_at}
+use Rattle.must_call_sets.specs.Bodies.{is_field_in}
+use Rattle.must_call_sets.specs.MustCallSets.{must_of, must_of_type}
+use Rattle.java_control.specs.Control.{Step}
+use Rattle.java_control.specs.Owned.{is_owning, is_owning_field}
+use Rattle.java_control.specs.declared.action.Action.{Action}
+use Rattle.java_control.specs.declared.action.Action.TheVariants as actions
+use Rattle.accepted_programs.specs.Accept.{Accept}
+use Rattle.flow_rules.specs.Paths.{move_of}
+use Rattle.owned_fact_laws.specs.Outcomes.{IsCallRow, IsPlainRow}
+use Rattle.stub_conduct.specs.declared.choice.Conduct.{Conduct}
+use Rattle.ledger_state.specs.Contents.{HeapContents}
+use Rattle.ledger_state.specs.Heaps.{next_number, object_at, put_field}
+use Rattle.ledger_state.specs.Locals.{temp_value}
+use Rattle.ledger_state.specs.Values.{number_of}
+use Rattle.ledger_state.specs.declared.entry.Owner.{Owner}
+use Rattle.ledger_state.specs.declared.entry.Owner.TheVariants as owners
+use Rattle.ledger_state.specs.declared.object.Object.{Object}
+use Rattle.ledger_state.specs.declared.value.Value.{Value}
+use Rattle.ledger_state.specs.declared.value.Value.TheVariants as values
+use Rattle.ledger_obligations.specs.Obligations.{is_library_owner, is_unmet, lose, may_move, stored_owning}
+use Rattle.ledger_operations.specs.Operations.{made_value, next_choice}
+use Rattle.ledger_calls.specs.Calls.{argument_values, begun, interest_in, reset_position}
+use Rattle.ledger_calls.specs.Conducts.{arguments_shared, conduct_value, positions}
+use Rattle.ledger_calls.specs.Configuration.{Config, Frame, held_by}
+use Rattle.ledger_frames.specs.Choosing.{frame_steps}
+use Rattle.ledger_frames.specs.Frames.{frame_after}
+use Rattle.ledger_steps.specs.CallSteps.{began_heap, library_heap, self_begun}
+use Rattle.ledger_steps.specs.InnerSteps.{heap_stored, is_bound, store_into, store_of, store_unless, thrown_heap, thrown_value}
+use Rattle.ledger_steps.specs.declared.store.Store.{Store}
+use Rattle.ledger_runs.specs.Steps.{began, library_went, within}
+use Rattle.heap_laws.specs.Heaps.{Evolves, GoesOn, HasLibraryLinks}
+use Rattle.agreement.specs.Agreement.{Agrees, Stands, is_answering}
+use Rattle.agreement.specs.PlainForms.{HasPlainForms, IsPlainSignature}
+use Rattle.next_step_laws.specs.Nexts.{IsInnerStep, IsLibraryMove, IsStartMove}
+use Rattle.next_step_laws.proofs.NameCounts.{accepted_names}
+use Rattle.next_step_laws.proofs.Ready.{plain_step, step_there}
+use Rattle.next_step_laws.proofs.Stacks.{tracked_bounded}
+use Rattle.covered_field_laws.specs.FieldContents.{FieldsHold, IsContent, is_made_in, makes_object, promised_on}
+use Rattle.covered_field_laws.specs.PlaceFacts.{IsCovered}
+use Rattle.covered_field_laws.specs.Ranges.{FieldsInRange, LocalsInRange}
+use Rattle.content_heap_laws.proofs.Configs.{frames_stay}
+use Rattle.content_heap_laws.proofs.Steps.{IsFuller, owning_fuller}
+use Rattle.content_heap_laws.proofs.Values.{value_stays}
+use Rattle.content_laws.proofs.Frames.{callee_dispatched, callee_fresh, callee_new, callee_unfinished}
+use Rattle.content_heap_laws.proofs.Goes.{contents_go_on, dispatched_on, fields_fit_on, goes_forth, self_goes, there, unfinished_on}
+use Rattle.content_heap_laws.proofs.Heaps.{inner_goes, library_goes, start_goes}
+use Rattle.content_heap_laws.proofs.Leaves.{lost_from}
+use Rattle.content_laws.proofs.Steps.{lost, same_after, IsSameFrame, LocalsIn, same_dispatched, same_fresh, same_makes, same_new, same_unfinished, stepped, this_in}
+use Rattle.content_laws.proofs.LibraryNotes.{no_library_note}
+use Rattle.content_laws.proofs.Stores.{store_forth, stored_contents, stored_fit, unbound}
+use Rattle.content_laws.proofs.Promised.{promises_its_own}
+use Rattle.content_heap_laws.specs.Going.{Goes, IsNotedBy, NoName, PromisesItsOwn}
+
+pub plain_no_reset : (p : Program) (m : Option Method) → IsPlainSignature p m → reset_position m ≡ None
+plain_no_reset p None plain = refl
+plain_no_reset p (Some m) plain = plain.1
+
+-- the name of the call is one of the table
+pub small_interest : (p : Program) → Accept p → (named : MethodId) (n : NameId) → interest_in (method_at p named) ≡ Some n → n.0 < 128
+small_interest p ac named n interest = go (method_at p named) refl interest
+  where
+    go : (x : Option Method) → method_at p named ≡ x → interest_in x ≡ Some n → n.0 < 128
+    go None at is = absurd (let never : None ≡ Some n = is in cc)
+    go (Some x) at is = accepted_names p ac named x n at is
+
+or_right : (a b : Bool) → b ≡ true → (a || b) ≡ true
+or_right true b is = refl
+or_right false b is = is
+
+library_stays : (p : Program) (t : VType) (x : Object) → may_move p t x ≡ true → x.owner ≡ owners.Library → ⊥
+library_stays p t x may is = go x.finished (sym (ap (λ (o : Owner). x.finished && not (is_library_owner o) && set.is_subset (must_of p x.class) (must_of_type p t)) is) ∙ may)
+  where
+    go : (b : Bool) → (b && false && set.is_subset (must_of p x.class) (must_of_type p t)) ≡ true → ⊥
+    go true same = true≢false (sym same)
+    go false same = true≢false (sym same)
+
+module _ (p : Program) (ac : Accept p) (forms' : HasPlainForms p) (c : Config) (fr : Frame) (frs : List Frame) (agrees : Agrees p (fr ∷ frs) c.heap c.entries) (covered : IsCovered p c.heap fr)
+    (in' : LocalsIn c.heap (fr ∷ frs)) (ranges : FieldsInRange c.heap) (hold : FieldsHold p (fr ∷ frs) c.heap) where
+  abbrev h : HeapContents
+  h = c.heap
+
+  st : Stands p fr
+  st = agrees.standing.0
+
+  links : HasLibraryLinks h
+  links = agrees.links
+
+  own : PromisesItsOwn p
+  own = promises_its_own p ac
+
+  top : LocalsInRange h fr.locals
+  top = All-head (λ (x : Frame). LocalsInRange h x.locals) fr frs in'
+
+  below : LocalsIn h frs
+  below = All-tail (λ (x : Frame). LocalsInRange h x.locals) fr frs in'
+
+  abbrev Done : Config → Type 0
+  Done x = FieldsHold p x.frames x.heap
+
+  -- ---- steps within the frame
+
+  -- the frame after a step of its own
+  abbrev stepped_frame : Option ClassId → Step → Frame
+  stepped_frame e s = frame_after p h fr s (thrown_value h e (made_value p h c.arrays c.statics (next_choice c.choices c.used) fr.locals s.action))
+
+  inner_hold : (e : Option ClassId) (i : ℕ) (s : Step) → slice_get (frame_steps p fr) i ≡ Some s → (IsPlainRow s.action ⊎ IsCallRow s.action) → Done (within p c fr frs e s)
+  inner_hold e i s here row =
+      stepped p own h (lose (held_by (stepped_frame e s ∷ frs)) (heap_stored p (method_at p fr.method) fr.locals (store_unless e (store_of fr.locals s.action)) (thrown_heap p e h))) NoName links
+      (inner_goes p (method_at p fr.method) fr.locals e s.action (held_by (stepped_frame e s ∷ frs)) h (plain_step p ac forms' fr st i s here) row links) fr (stepped_frame e s) frs
+      (same_after p h fr s (thrown_value h e (made_value p h c.arrays c.statics (next_choice c.choices c.used) fr.locals s.action))) in' ranges
+      (λ o x y w f at now unmet on content m d' n fin there' class interest must never. absurd never) hold
+
+  -- an unmet object that may move has an obligation by its class
+  bounded : (o : ℕ) (x : Object) → object_at h o ≡ Some x → x.link ≡ None → is_unmet x ≡ true → (t : VType) → may_move p t x ≡ true → set.is_subset x.must (must_of p x.class) ≡ true
+  bounded o x at free unmet t may = go x.owner refl (agrees.answered o x at free unmet)
+    where
+      go : (w : Owner) → x.owner ≡ w → is_answering x.owner ≡ true → set.is_subset x.must (must_of p x.class) ≡ true
+      go (owners.Frame j) is answers = tracked_bounded p h (fr ∷ frs) o x j (agrees.tracked o x j at unmet is)
+      go (owners.Field w f) is answers = (hold.contents o x w f at unmet is).own
+      go owners.Library is answers = absurd (library_stays p t x may is)
+      go owners.Released is answers = absurd (true≢false (sym answers ∙ ap is_answering is))
+      go owners.Lost is answers = absurd (true≢false (sym answers ∙ ap is_answering is))
+      go owners.Unowned is answers = absurd (true≢false (sym answers ∙ ap is_answering is))
+
+  -- a store into an owning field of `this`
+  module _ (i : ℕ) (s : Step) (here : slice_get (frame_steps p fr) i ≡ Some s) (f : FieldId) (t : ℕ) (is : s.action ≡ actions.PutOwn f t) where
+    abbrev v : Value
+    v = thrown_value h None (made_value p h c.arrays c.statics (next_choice c.choices c.used) fr.locals s.action)
+
+    abbrev after : Frame
+    after = frame_after p h fr s v
+
+    owning : is_owning p f ≡ true
+    owning = own_field (field_at p f) (forms'.stores st.number i (move_of s) f t st.control (step_there p fr st i s here) is).1
+      where
+        own_field : (x : Option Field) → is_field_in p st.number x ≡ true → is_owning_field x ≡ true
+        own_field None absent = absurd (true≢false (sym absent))
+        own_field (Some x) has = first x.owning _ has
+          where
+            first : (a b : Bool) → (a && b) ≡ true → a ≡ true
+            first true b one = refl
+            first false b one = one
+
+    -- the heap after the store, before objects are lost
+    abbrev Stored : Option ℕ → HeapContents
+    Stored w = heap_stored p (method_at p fr.method) fr.locals (store_into w f (temp_value fr.locals t)) h
+
+    abbrev IsHeld : HeapContents → Type 0
+    IsHeld k = (FieldsInRange k × (next_number h ≤ next_number k)) × FieldsHold p (after ∷ frs) k
+
+    no_store : IsHeld h
+    no_store = (
+      (ranges, omega arith),
+      stepped p own h h NoName links (self_goes p h NoName) fr after frs (same_after p h fr s v) in' ranges
+          (λ o x y w g at now unmet on content m e n fin there' class interest must never. absurd never) hold,
+    )
+
+    unbound' : (w : ℕ) → fr.locals.this ≡ values.Object w → is_bound h (method_at p fr.method) fr.locals (temp_value fr.locals t) ≡ false
+    unbound' w this = let self = there h w (top.this w (ap number_of this)) in
+        unbound p ac forms' h fr frs st links covered hold i s here f t is w this self.0 self.1 agrees.standing.1 agrees.stacked bounded
+
+    store_held : (w : ℕ) → fr.locals.this ≡ values.Object w → IsHeld (stored_owning p h w f false (temp_value fr.locals t))
+    store_held w this = (
+      (full.fields, full.count),
+      record {
+        contents = stored_contents p ac forms' h fr frs st links covered hold i s here f t is w this self.0 self.1 agrees.standing.1 agrees.stacked bounded own after (same_makes p fr after frs same);
+        fit = stored_fit p ac forms' h fr frs st links covered hold i s here f t is w this self.0 self.1 agrees.standing.1 agrees.stacked bounded;
+        new = same_new p fr after frs same hold.new;
+        fresh = same_fresh p fr after frs same hold.fresh;
+        unfinished = same_unfinished p fr after frs same (stored_owning p h w f false (temp_value fr.locals t)) (unfinished_on p h (stored_owning p h w f false (temp_value fr.locals t)) forth (fr ∷ frs) (this_in h (fr ∷ frs) in') hold.unfinished);
+        dispatched = same_dispatched p fr after frs same (stored_owning p h w f false (temp_value fr.locals t)) (dispatched_on p h (stored_owning p h w f false (temp_value fr.locals t)) forth fr frs below hold.dispatched);
+      },
+    )
+      where
+        same : IsSameFrame fr after
+        same = same_after p h fr s v
+
+        self : (x : Object) × (object_at h w ≡ Some x)
+        self = there h w (top.this w (ap number_of this))
+
+        forth : Evolves h (stored_owning p h w f false (temp_value fr.locals t))
+        forth = store_forth p ac forms' h fr frs st links covered hold i s here f t is w this self.0 self.1 agrees.standing.1 agrees.stacked bounded
+
+        full : IsFuller h (stored_owning p h w f false (temp_value fr.locals t))
+        full = owning_fuller p h w f false (temp_value fr.locals t) (top.this w (ap number_of this)) (top.temps t) ranges
+
+    by_this : (u : Value) → fr.locals.this ≡ u → IsHeld (Stored (number_of u))
+    by_this values.Nothing this = no_store
+    by_this (values.Object w) this = subst IsHeld (sym (ap (λ (b : Bool). if b then stored_owning p h w f (is_bound h (method_at p fr.method) fr.locals (temp_value fr.locals t)) (temp_value fr.locals t)
+        else put_field w f (temp_value fr.locals t) h) owning ∙ ap (λ (b : Bool). stored_owning p h w f b (temp_value fr.locals t)) (unbound' w this))) (store_held w this)
+    by_this u this = no_store
+
+    store_hold : Done (within p c fr frs None s)
+    store_hold = subst (λ (st' : Option Store). Done (record (within p c fr frs None s) { heap = lose (held_by (after ∷ frs)) (heap_stored p (method_at p fr.method) fr.locals st' h) })) (sym (ap (store_of fr.locals) is))
+        (lost p own (Stored (number_of fr.locals.this)) (held_by (after ∷ frs)) after frs (frames_stay h (Stored (number_of fr.locals.this)) kept.0.1 frs below) (value_stays h (Stored (number_of fr.locals.this)) kept.0.1 fr.locals.this top.this) kept.1)
+      where
+        kept : IsHeld (Stored (number_of fr.locals.this))
+        kept = by_this fr.locals.this refl
+
+  pub inner_step : (e : Option ClassId) (s : Step) (i : ℕ) → slice_get (frame_steps p fr) i ≡ Some s → IsInnerStep p h c.arrays fr.method fr.locals e s → Done (within p c fr frs e s)
+  inner_step e s i here next = elim next [
+    | inl plain ↦ inner_hold e i s here (inl plain.row)
+    | inr more ↦ elim more [
+      | inl null ↦ inner_hold e i s here (inr null.row)
+      | inr store ↦ subst (λ (x : Option ClassId). Done (within p c fr frs x s)) (sym store.normal) (store_hold i s here store.field store.temp store.action)
+    ]
+  ]
+
+  -- ---- calls
+
+  pub began_hold : (named runs : MethodId) (a : Action) (at : Pos) → IsStartMove p h c.arrays fr.locals (frame_steps p fr) named runs a → Done (began p c fr frs named runs a at)
+  began_hold named runs a at next = record {
+    contents = contents_go_on p h k NoName goes own (fr ∷ frs) (callee ∷ fr ∷ frs) hold.contents (λ o x y w f at' now unmet on content m e n fin there' class interest must never. absurd never)
+        (λ o x y w f content at' owner un' made'. or_right (makes_object p w content.field.class callee) (is_made_in p w content.field.class (fr ∷ frs)) made');
+    fit = fields_fit_on p h k NoName goes links ranges hold.fit;
+    new = callee_new p ac forms' h c.arrays fr frs st in' named runs a next hold.new;
+    fresh = callee_fresh p ac forms' h c.arrays fr frs st in' named runs a next hold.fresh;
+    unfinished = callee_unfinished p ac forms' h c.arrays fr frs st in' named runs a next (length frames) k links from (unfinished_on p h k (goes_forth p h k NoName goes) (fr ∷ frs) (this_in h (fr ∷ frs) in') hold.unfinished);
+    dispatched = dispatched_on p h k (goes_forth p h k NoName goes) callee (fr ∷ frs) in' (callee_dispatched p ac forms' h c.arrays fr frs st in' named runs a next hold.dispatched);
+  }
+    where
+      callee : Frame
+      callee = begun p runs (self_begun fr.locals a h) (argument_values fr.locals a (method_at p named))
+
+      frames : List Frame
+      frames = callee ∷ fr ∷ frs
+
+      k : HeapContents
+      k = lose (held_by frames) (began_heap p fr.locals a (method_at p named) (length frames) h)
+
+      goes : Goes p h k NoName
+      goes = start_goes p fr.locals a (method_at p named) (length frames) (held_by frames) h links
+
+      from : (n : ℕ) (y : Object) → object_at k n ≡ Some y → (x : Object) × (object_at (began_heap p fr.locals a (method_at p named) (length frames) h) n ≡ Some x) × (y.finished ≡ x.finished)
+      from n y at' = (let x = lost_from (held_by frames) (began_heap p fr.locals a (method_at p named) (length frames) h) n y at' in (x.0, x.1, x.2.finished))
+
+  -- the frame, and the heap, after a call of the library
+  abbrev called_frame : MethodId → Conduct → Step → Frame
+  called_frame named x s =
+      frame_after p h fr s (conduct_value (length (arguments_shared c.arrays fr.locals s.action (method_at p named))) (method_at p named) (positions fr.locals s.action (next_number h) x) (next_number h) x)
+
+  abbrev called_heap : MethodId → Conduct → Step → HeapContents
+  called_heap named x s = lose (held_by (called_frame named x s ∷ frs)) (library_heap p fr.locals s.action (method_at p named) (method_at p named) x (length frs + 1) h)
+
+  pub library_hold : (named m : MethodId) (x : Conduct) (s : Step) → IsLibraryMove p h c.arrays fr.locals (frame_steps p fr) named m x s → Done (library_went p c fr frs named m x s)
+  library_hold named m x s next =
+      subst (λ (z : MethodId). Done (library_went p c fr frs named z x s)) (sym next.same)
+      (stepped p own h (called_heap named x s) (IsNotedBy fr.locals s.action (method_at p named)) links
+      (library_goes p fr.locals s.action (method_at p named) x (length frs + 1) (held_by (called_frame named x s ∷ frs)) h (plain_no_reset p (method_at p named) next.signature) (small_interest p ac named) links) fr (called_frame named x s) frs
+      (same_after p h fr s (conduct_value (length (arguments_shared c.arrays fr.locals s.action (method_at p named))) (method_at p named) (positions fr.locals s.action (next_number h) x) (next_number h) x)) in' ranges
+      keeps hold)
+    where
+      keeps : (o : ℕ) (y z : Object) (w : ℕ) (f : FieldId) → object_at h o ≡ Some y → object_at (called_heap named x s) o ≡ Some z → is_unmet z ≡ true → GoesOn y z → (content : IsContent p (fr ∷ frs) h o y w f)
+          → (e : MethodId) (d' : Method) (n : NameId) → content.holder.finished ≡ true → method_at p e ≡ Some d' → d'.class ≡ content.holder.class → d'.sig.interest ≡ Some n
+          → set.contains (must_of p content.holder.class) n.0 ≡ true → IsNotedBy fr.locals s.action (method_at p named) w n.0 → set.is_subset (promised_on f d') z.called ≡ true
+      keeps o y z w f at now unmet on content e d' n fin there' class interest must noted = absurd (no_library_note p forms' h c.arrays fr named x s (subst (λ (z : MethodId). IsLibraryMove p h c.arrays fr.locals (frame_steps p fr) named z x s) next.same next) (fr ∷ frs) o y w f content e d' n there' class interest must noted)

@@ -1,0 +1,1 @@
+pub use Rattle.next_step_laws.specs.Nexts

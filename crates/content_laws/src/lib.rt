@@ -1,0 +1,6 @@
+//! What owning fields hold and own, over the steps of a run.
+#![tactic(auto)]
+
+mod fields;
+
+pub use fields::{fields_hold_at_start, fields_hold_step};

@@ -1,0 +1,5 @@
+pub mod Following
+pub mod HeavyFields
+pub mod FrameEnds
+pub mod Storing
+pub mod Laws

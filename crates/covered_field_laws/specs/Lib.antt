@@ -1,0 +1,4 @@
+pub mod Covering
+pub use Rattle.place_facts.specs.FieldContents
+pub use Rattle.place_facts.specs.PlaceFacts
+pub use Rattle.place_facts.specs.Ranges

@@ -1,0 +1,134 @@
+-- An argument that moves to an owning parameter, where the class of its fact or the parameter's type has an obligation: the fact says
+-- that the frame owns it, and it fits the type. Else the call breaks a rule.
+use Rattle.std.proofs.Common.{◌≡◌, ◌⊎◌, inl, inr, ℕ, zero, suc, ◌+◌, Bool, true, false, ◌&&◌, ◌||◌, Option, Some, None, List, [], ◌∷◌, length, slice_get, nat_lt, lt-ltb, refl, sym, ap, ◌∙◌, subst, true≢false, if◌then◌else◌, arith, not}
+use Rattle.std.specs.List.{list_any}
+use Rattle.std.proofs.lemmas.Bool.{and_from, and_parts, or_left, or_right}
+use Rattle.program_model.specs.declared.kinds.BodyId.{BodyId}
+use Rattle.program_model.specs.declared.kinds.VType.{VType}
+use Rattle.program_model.specs.declared.program.Method.{Method}
+use Rattle.program_model.specs.declared.program.ParamSig.{ParamSig}
+use Rattle.program_model.specs.declared.program.Program.{Program}
+use Rattle.must_call_sets.specs.MustCallSets.{Names, fits_type, is_heavy_as, is_heavy_class}
+use Rattle.must_call_sets.specs.Signatures.{is_present}
+use Rattle.java_control.specs.declared.action.Action.{Action}
+use Rattle.java_control.specs.declared.action.Action.TheVariants as actions
+use Rattle.java_control.specs.declared.action.Edge.{Edge}
+use Rattle.java_control.specs.declared.fact.Fact.{Fact}
+use Rattle.java_control.specs.declared.fact.Mode.{Mode}
+use Rattle.java_control.specs.declared.fact.Mode.TheVariants as modes
+use Rattle.java_control.specs.declared.fact.Origin.{Origin}
+use Rattle.java_control.specs.declared.fact.Rule.{Rule}
+use Rattle.java_control.specs.declared.fact.Rule.TheVariants as rules
+use Rattle.obligation_facts.specs.Callees.{callee, holds_operand, may_be_null_target}
+use Rattle.obligation_facts.specs.Facts.{PlaceSet, is_own, is_met}
+use Rattle.alias_sets.specs.PlaceRows.{places_after}
+use Rattle.called_methods.specs.Preconditions.{precondition_missing}
+use Rattle.ownership_rules.specs.Heavy.{is_owned}
+use Rattle.ownership_rules.specs.MovesAtCalls.{are_two, first_of, has_two_owners, is_heavy_owner, is_heavy_target, moved_at_call, moved_to, moved_to_first, owners, owners_from, takes, target}
+use Rattle.ownership_rules.specs.declared.moved.Moved.TheVariants as moves
+use Rattle.flow_rules.specs.Calls.{at_precondition, called}
+use Rattle.flow_rules.specs.Flow.{flow, placed, turned}
+use Rattle.owned_fact_laws.specs.Outcomes.{IsCallRow, IsFault}
+
+-- the type is one of these, and the first one where there is but one
+pub record IsAmong (ts : List VType) (t : VType) : Type 0 where
+  pub any : (P : VType → Bool) → P t ≡ true → list_any P ts ≡ true
+  pub one : (first_of ts ≡ Some t) ⊎ (nat_lt 1 (length ts) ≡ true)
+
+first_among : (t : VType) (ts : List VType) → IsAmong (t ∷ ts) t
+first_among t ts = record { any = λ P is. or_left (P t) (list_any P ts) is; one = inl refl }
+
+further_among : (u t : VType) (ts : List VType) → IsAmong ts t → IsAmong (u ∷ ts) t
+further_among u t [] among = absurd (true≢false (sym (among.any (λ z. true) refl)))
+further_among u t (w ∷ ts) among = record {
+  any = λ P is. or_right (P u) (list_any P (w ∷ ts)) (among.any P is);
+  one = inr (lt-ltb 1 (length (u ∷ w ∷ ts)) (omega arith));
+}
+
+owner_among : (a : Action) (held : PlaceSet) (k i n : ℕ) (params : List ParamSig) (q : ParamSig) → n ≡ k + i → slice_get params i ≡ Some q → takes a held n q ≡ true → IsAmong (owners_from a held k params) q.vtype
+owner_among a held k i n [] q same at is = absurd (let never : None ≡ Some q = at in cc)
+owner_among a held k zero n (x ∷ xs) q same at is =
+    let param : x ≡ q = (let both : Some x ≡ Some q = at in cc) in
+    let number : n ≡ k = omega (arith, same) in
+    let takes' : takes a held k x ≡ true = ap (takes a held k) param ∙ (ap (λ (j : ℕ). takes a held j q) (sym number) ∙ is) in
+    rw takes' (subst (λ (t : VType). IsAmong (x.vtype ∷ owners_from a held (k + 1) xs) t) (ap (λ (u : ParamSig). u.vtype) param) (first_among x.vtype (owners_from a held (k + 1) xs)))
+owner_among a held k (suc i) n (x ∷ xs) q same at is = go (takes a held k x) refl (owner_among a held (k + 1) i n xs q (omega (arith, same)) at is)
+  where
+    go : (b : Bool) → takes a held k x ≡ b → IsAmong (owners_from a held (k + 1) xs) q.vtype
+        → IsAmong (if b then x.vtype ∷ owners_from a held (k + 1) xs else owners_from a held (k + 1) xs) q.vtype
+    go true e rest = further_among x.vtype q.vtype (owners_from a held (k + 1) xs) rest
+    go false e rest = rest
+
+-- ---- a call that breaks no rule
+
+module _ (p : Program) (b : BodyId) (o : Origin) (e : Edge) (f : Fact) where
+  -- an argument that may not move breaks a rule
+  bad_breaks : (a : Action) (held : PlaceSet) (rule : Rule) → moved_at_call p o a e f ≡ moves.Bad rule → IsFault (placed o f held (turned (called p b o a e f)))
+  bad_breaks a held rule bad = go (precondition_missing p a f)
+    where
+      go : (x : Option Names) → IsFault (placed o f held (turned (at_precondition p b o a e f x)))
+      go None = rw bad tt
+      go (Some names) = tt
+
+  call_breaks : (a : Action) (rule : Rule) → IsCallRow a → moved_at_call p o a e f ≡ moves.Bad rule → IsFault (flow p b o a e f)
+  call_breaks actions.Skip rule row bad = absurd row
+  call_breaks (actions.Call m d n form) rule row bad = bad_breaks (actions.Call m d n form) (places_after p b (actions.Call m d n form) e f.places) rule bad
+  call_breaks (actions.New m d n) rule row bad = bad_breaks (actions.New m d n) (places_after p b (actions.New m d n) e f.places) rule bad
+  call_breaks (actions.Super m d n) rule row bad = bad_breaks (actions.Super m d n) (places_after p b (actions.Super m d n) e f.places) rule bad
+  call_breaks a rule row bad = absurd row
+
+  own_mode : (m : Mode) → is_own m ≡ true → m ≡ modes.Own
+  own_mode modes.Own is = refl
+  own_mode modes.None is = absurd (true≢false (sym is))
+  own_mode modes.Held is = absurd (true≢false (sym is))
+  own_mode modes.Lent is = absurd (true≢false (sym is))
+  own_mode modes.Alias is = absurd (true≢false (sym is))
+
+  -- the fact says that the frame owns the object, and it fits the type
+  abbrev pub IsOwnedAs : VType → Type 0
+  IsOwnedAs t = (f.mode ≡ modes.Own) × (is_heavy_class p o.class ≡ true) × (fits_type p o.class (Some t) ≡ true)
+
+  -- and it moves at the call
+  abbrev pub IsGivenAs : Action → VType → Type 0
+  IsGivenAs a t = IsOwnedAs t × (moved_at_call p o a e f ≡ moves.Moves)
+
+  module _ (a : Action) (row : IsCallRow a) (fine : IsFault (flow p b o a e f) → ⊥) where
+    moved_is : (rule : Rule) → moved_at_call p o a e f ≡ moves.Bad rule → ⊥
+    moved_is rule bad = fine (call_breaks a rule row bad)
+
+    to_one : (t : VType) → is_heavy_as p o.class (Some t) ≡ true → moved_at_call p o a e f ≡ moved_to p o a e f t → IsGivenAs a t
+    to_one t heavy same = by (is_owned p o f) refl (fits_type p o.class (Some t)) refl
+      where
+        by : (x : Bool) → is_owned p o f ≡ x → (y : Bool) → fits_type p o.class (Some t) ≡ y → IsGivenAs a t
+        by false none y fit = absurd (moved_is rules.NotOwned (same ∙ rw (heavy, none) refl))
+        by true owned false fit = absurd (moved_is rules.Narrow (same ∙ rw (heavy, owned, fit) refl))
+        by true owned true fit =
+            let parts = and_parts (is_heavy_class p o.class) (is_own f.mode) owned in
+            ((own_mode f.mode parts.1, parts.0, fit), moved (may_be_null_target p a e && not (is_met o f)) refl)
+          where
+            moved : (z : Bool) → (may_be_null_target p a e && not (is_met o f)) ≡ z → moved_at_call p o a e f ≡ moves.Moves
+            moved true unsafe = absurd (moved_is rules.Throw (same ∙ rw (heavy, owned, fit, unsafe) refl))
+            moved false safe = same ∙ rw (heavy, owned, fit, safe) refl
+
+    pub argument_is_given : (m : Method) (i : ℕ) (q : ParamSig) → callee p a ≡ Some m → slice_get m.sig.params.items i ≡ Some q → q.owning ≡ true → holds_operand a f.places (i + 1) ≡ true
+        → is_heavy_as p o.class (Some q.vtype) ≡ true → IsGivenAs a q.vtype
+    argument_is_given m i q named at owning held heavy = by (has_two_owners p o.class a f.places) refl
+      where
+        among : IsAmong (owners p a f.places) q.vtype
+        among = rw named (owner_among a f.places 0 i i m.sig.params.items q (omega arith) at (and_from q.owning (holds_operand a f.places (i + 1)) owning held))
+
+        two : nat_lt 1 (length (owners p a f.places)) ≡ true → has_two_owners p o.class a f.places ≡ true
+        two more = and_from (are_two (length (owners p a f.places)) (target p a f.places)) (is_heavy_owner p o.class (owners p a f.places) || is_heavy_target p o.class (target p a f.places))
+            (or_left (nat_lt 1 (length (owners p a f.places))) (nat_lt 0 (length (owners p a f.places)) && is_present (target p a f.places)) more)
+            (or_left (is_heavy_owner p o.class (owners p a f.places)) (is_heavy_target p o.class (target p a f.places)) (among.any (λ t. is_heavy_as p o.class (Some t)) heavy))
+
+        by : (x : Bool) → has_two_owners p o.class a f.places ≡ x → IsGivenAs a q.vtype
+        by true is = absurd (moved_is rules.Twice (rw is refl))
+        by false is = elim among.one [
+          | inl first ↦ to_one q.vtype heavy (rw is (ap (moved_to_first p o a e f) first))
+          | inr more ↦ absurd (true≢false (sym (two more) ∙ is))
+        ]
+
+    pub argument_is_owned : (m : Method) (i : ℕ) (q : ParamSig) → callee p a ≡ Some m → slice_get m.sig.params.items i ≡ Some q → q.owning ≡ true → holds_operand a f.places (i + 1) ≡ true
+        → is_heavy_as p o.class (Some q.vtype) ≡ true → IsOwnedAs q.vtype
+    argument_is_owned m i q named at owning held heavy = (argument_is_given m i q named at owning held heavy).0

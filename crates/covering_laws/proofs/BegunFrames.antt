@@ -1,0 +1,97 @@
+-- The frame of a call that begins: what its places hold is in facts of the body's entry.
+use Rattle.std.proofs.Common.{◌≡◌, ℕ, zero, suc, ◌+◌, Bool, true, Option, Some, None, List, [], ◌∷◌, ◌++◌, slice_get, refl, sym, ap, ◌∙◌, subst, arith, false}
+use Rattle.program_model.specs.declared.kinds.ClassId.{ClassId}
+use Rattle.program_model.specs.declared.kinds.VType.TheVariants as types
+use Rattle.program_model.specs.declared.program.ParamSig.{ParamSig}
+use Rattle.program_model.specs.declared.program.Program.{Program}
+use Rattle.program_model.specs.declared.program.Sig.{Sig}
+use Rattle.program_model.specs.declared.tree.Body.{Body}
+use Rattle.program_model.specs.declared.tree.Var.{Var}
+use Rattle.program_model.specs.Lookups.{optional, variable_at, method_at}
+use Rattle.must_call_sets.specs.MustCallSets.{Names, is_heavy_class, is_empty, no_names}
+use Rattle.java_control.specs.Control.{start_of}
+use Rattle.java_control.specs.PlaceNumbers.{IsSmall}
+use Rattle.java_control.specs.Remaining.{Todo}
+use Rattle.java_control.specs.declared.fact.Fact.{Fact}
+use Rattle.java_control.specs.declared.fact.Mode.{Mode}
+use Rattle.java_control.specs.declared.fact.Mode.TheVariants as modes
+use Rattle.java_control.specs.declared.fact.Origin.{Origin}
+use Rattle.java_control.specs.declared.fact.OriginKind.TheVariants as kinds
+use Rattle.java_control.specs.declared.place.Place.{Place}
+use Rattle.java_control.specs.declared.place.Place.TheVariants as places
+use Rattle.ownership_rules.specs.Births.{births_at_entry, fact_at, origin_of, parameter_birth, parameter_births, parameter_mode}
+use Rattle.flow_rules.specs.Paths.{Reach, entered, relation_of}
+use Rattle.ledger_state.specs.Contents.{HeapContents}
+use Rattle.ledger_state.specs.Heaps.{root_of}
+use Rattle.ledger_state.specs.declared.object.Object.{Object}
+use Rattle.ledger_operations.specs.Places.{place_value}
+use Rattle.ledger_calls.specs.Configuration.{Frame}
+use Rattle.place_laws.proofs.Laws.{single_place-alone}
+use Rattle.agreement.specs.Agreement.{Stands}
+use Rattle.covered_field_laws.specs.PlaceFacts.{Covers, IsTrueOf, claims, is_heavy_field, is_lent}
+use Rattle.covering_laws.proofs.Births.{at_itself, at_one}
+use Rattle.rlc_base.proofs.SetLaws.{empty_within, within_trans}
+use Rattle.obligation_facts.specs.Facts.{is_held, is_own}
+use Rattle.std.specs.Prelude.{◌||◌}
+
+module _ (p : Program) (k : HeapContents) (fr : Frame) (st : Stands p fr) (starts : fr.control ≡ start_of p st.number) where
+  -- a place is covered by its birth at the entry. The place of an owning field is born as held, and its class has an obligation where
+  -- the field's type has one
+  pub entered_covers : (q : Place) (o : ℕ) (y : Object) (g : Origin) (mode : Mode) (names : Names) (full : Bool) (n : ℕ) → IsSmall q
+      → slice_get (births_at_entry p st.number) n ≡ Some (g, fact_at q mode names full) → root_of k (place_value p k fr.method fr.locals q) ≡ Some o
+      → (claims p g (fact_at q mode names full) ≡ true → IsTrueOf p y g (fact_at q mode names full))
+      → (is_lent p (method_at p fr.method) g.kind ≡ true → ((is_own mode || is_held mode) ≡ false) × (is_heavy_class p g.class ≡ true) × (is_empty names ≡ true))
+      → ((j : ℕ) → q ≡ places.Field j → is_heavy_class p g.class ≡ true → is_heavy_field p fr.method q ≡ true)
+      → ((j : ℕ) → q ≡ places.Field j → is_heavy_field p fr.method q ≡ true → (mode ≡ modes.Held) × (is_heavy_class p g.class ≡ true))
+      → Covers p k fr q o y
+  entered_covers q o y g mode names full n small birth root truth lent' wide held = record {
+    body = st.number;
+    id = st.id;
+    origin = g;
+    fact = fact_at q mode names full;
+    reached = subst (λ (t : List Todo). Reach p st.number (relation_of p st.number) g t (fact_at q mode names full)) (sym starts) (entered n birth);
+    alone = single_place-alone q small;
+    here = at_itself q small mode names full;
+    places = λ z small' is. subst (λ (u : Place). root_of k (place_value p k fr.method fr.locals u) ≡ Some o) (at_one q small mode names full z small' is) root;
+    true' = truth;
+    lent = λ lent. (let is = lent' lent in (is.0, is.1));
+    known = λ done lent. within_trans names no_names y.called (lent' lent).2 (empty_within y.called);
+    fields = λ j inside heavy is.
+        let same : q ≡ places.Field j = at_one q small mode names full (places.Field j) inside is in
+        subst (λ (u : Place). is_heavy_field p fr.method u ≡ true) same (wide j same heavy);
+    held = λ j inside is heavy.
+        let same : q ≡ places.Field j = at_one q small mode names full (places.Field j) inside is in
+        held j same (subst (λ (u : Place). is_heavy_field p fr.method u ≡ true) (sym same) heavy);
+  }
+
+-- ---- the parameters
+
+-- an element behind an optional one
+behind : {X : Type 0} (x : Option X) (xs : List X) (i : ℕ) (y : X) → slice_get xs i ≡ Some y → (n : ℕ) × (slice_get (optional x ++ xs) n ≡ Some y)
+behind None xs i y is = (i, is)
+behind (Some x) xs i y is = (suc i, is)
+
+-- the birth of a parameter of a class type
+abbrev pub IsParameterBirth : Program → Sig → ℕ → Var → ClassId → ParamSig → Option (Origin × Fact) → Type 0
+IsParameterBirth p s k v c x birth = birth ≡ Some (origin_of p (kinds.Param k) v.pos c None, fact_at (places.Var k) (parameter_mode s (k + 1) x) x.before true)
+
+first_birth : (p : Program) (b : Body) (s : Sig) (k : ℕ) (x : ParamSig) (v : Var) (c : ClassId) → variable_at b k ≡ Some v → x.vtype ≡ types.Obj c
+    → IsParameterBirth p s k v c x (parameter_birth p s k x (variable_at b k))
+first_birth p b s k x v c at type = rw (at, type) refl
+
+pub parameter_born : (p : Program) (b : Body) (s : Sig) (k i m : ℕ) (params : List ParamSig) (x : ParamSig) (v : Var) (c : ClassId) → m ≡ k + i → slice_get params i ≡ Some x → variable_at b m ≡ Some v
+    → x.vtype ≡ types.Obj c → (n : ℕ) × IsParameterBirth p s m v c x (slice_get (parameter_births p b s k params) n)
+parameter_born p b s k i m [] x v c same at var type = absurd (let never : None ≡ Some x = at in cc)
+parameter_born p b s k zero m (y ∷ ys) x v c same at var type =
+    let here : k ≡ m = omega (arith, same) in
+    let param : y ≡ x = (let both : Some y ≡ Some x = at in cc) in
+    let born = first_birth p b s k y v c (ap (variable_at b) here ∙ var) (ap (λ (u : ParamSig). u.vtype) param ∙ type) in (
+      0,
+      subst (λ (j : ℕ). IsParameterBirth p s j v c x (slice_get (parameter_births p b s k (y ∷ ys)) 0)) here
+          (subst (λ (u : ParamSig). IsParameterBirth p s k v c u (slice_get (parameter_births p b s k (y ∷ ys)) 0)) param
+          (ap (λ (z : Option (Origin × Fact)). slice_get (optional z ++ parameter_births p b s (k + 1) ys) 0) born)),
+    )
+parameter_born p b s k (suc i) m (y ∷ ys) x v c same at var type =
+    let rest = parameter_born p b s (k + 1) i m ys x v c (omega (arith, same)) at var type in
+    behind (parameter_birth p s k y (variable_at b k)) (parameter_births p b s (k + 1) ys) rest.0
+    (origin_of p (kinds.Param m) v.pos c None, fact_at (places.Var m) (parameter_mode s (m + 1) x) x.before true) rest.1

@@ -1,0 +1,91 @@
+-- What a call gives is covered by its birth: the result of a class type, and the object of a `new`.
+use Rattle.std.proofs.Common.{◌≡◌, ℕ, Bool, true, false, ◌&&◌, Option, Some, None, slice_get, refl, sym, ap, ◌∙◌, true≢false}
+use Rattle.rlc_base.specs.declared.place.Pos.{Pos}
+use Rattle.program_model.specs.declared.kinds.ClassId.{ClassId}
+use Rattle.program_model.specs.declared.kinds.MethodId.{MethodId}
+use Rattle.program_model.specs.declared.kinds.VType.TheVariants as types
+use Rattle.program_model.specs.declared.program.Method.{Method}
+use Rattle.program_model.specs.declared.program.Program.{Program}
+use Rattle.program_model.specs.Lookups.{method_at}
+use Rattle.must_call_sets.specs.MustCallSets.{Names, is_heavy_class, no_names}
+use Rattle.java_control.specs.Control.{Step}
+use Rattle.java_control.specs.PlaceNumbers.{IsSmall}
+use Rattle.java_control.specs.declared.action.Action.{Action}
+use Rattle.java_control.specs.declared.action.Action.TheVariants as actions
+use Rattle.java_control.specs.declared.action.Edge.{Edge}
+use Rattle.java_control.specs.declared.action.Edge.TheVariants as edges
+use Rattle.java_control.specs.declared.action.TargetForm.{TargetForm}
+use Rattle.java_control.specs.declared.fact.Mode.TheVariants as modes
+use Rattle.java_control.specs.declared.fact.Origin.{Origin}
+use Rattle.java_control.specs.declared.fact.OriginKind.TheVariants as kinds
+use Rattle.java_control.specs.declared.place.Place.{Place}
+use Rattle.java_control.specs.declared.place.Place.TheVariants as places
+use Rattle.ownership_rules.specs.Births.{birth_on, fact_at, new_birth, origin_of, result_birth, result_fact}
+use Rattle.ledger_state.specs.Contents.{HeapContents}
+use Rattle.ledger_state.specs.Heaps.{root_of}
+use Rattle.ledger_state.specs.declared.object.Object.{Object}
+use Rattle.ledger_state.specs.declared.value.Value.{Value}
+use Rattle.ledger_operations.specs.Places.{place_value}
+use Rattle.ledger_calls.specs.Configuration.{Frame}
+use Rattle.ledger_frames.specs.Choosing.{frame_steps}
+use Rattle.ledger_frames.specs.Frames.{frame_after}
+use Rattle.agreement.specs.Agreement.{Stands}
+use Rattle.covered_field_laws.specs.PlaceFacts.{Covers, IsTrueOf, claims}
+use Rattle.covering_laws.proofs.Births.{born_covers}
+use Rattle.covering_laws.proofs.BornTruths.{new_unlent, result_unlent}
+
+result_birth_is : (p : Program) (d : ℕ) (pos : Pos) (x : Method) (r : ClassId) → x.sig.alias ≡ None → x.sig.result ≡ Some (types.Obj r)
+    → result_birth p d pos (Some x) ≡ Some (origin_of p kinds.Result pos r x.sig.first, result_fact d x.sig.owning_result)
+result_birth_is p d pos x r alias result = rw (alias, result) refl
+
+new_birth_is : (p : Program) (d : ℕ) (pos : Pos) (x : Method) → x.sig.alias ≡ None → is_heavy_class p x.class ≡ true
+    → new_birth p d pos (Some x) ≡ Some (origin_of p kinds.New pos x.class x.sig.first, fact_at (places.Temp d) modes.Own no_names false)
+new_birth_is p d pos x alias heavy = rw (heavy, alias) refl
+
+pub unclaimed : (p : Program) (g : Origin) (q : Place) → claims p g (fact_at q modes.None no_names true) ≡ true → ⊥
+unclaimed p g q claimed = true≢false (sym claimed ∙ go (is_heavy_class p g.class))
+  where
+    go : (b : Bool) → (b && false) ≡ false
+    go true = refl
+    go false = refl
+
+module _ (p : Program) (h k : HeapContents) (fr : Frame) (st : Stands p fr) (i : ℕ) (s : Step) (here : slice_get (frame_steps p fr) i ≡ Some s) (v : Value) (d o : ℕ) (y : Object) (small : IsSmall (places.Temp d))
+    (root : root_of k (place_value p k fr.method (frame_after p h fr s v).locals (places.Temp d)) ≡ Some o) (m : MethodId) (x : Method) (edge : s.edge ≡ edges.Go) (named : method_at p m ≡ Some x) (alias : x.sig.alias ≡ None) where
+  -- the result of a call
+  pub result_covers : (c : ℕ) (form : TargetForm) (r : ClassId) → s.action ≡ actions.Call m d c form → x.sig.result ≡ Some (types.Obj r)
+      → (x.sig.owning_result ≡ true → is_heavy_class p r ≡ true → IsTrueOf p y (origin_of p kinds.Result s.pos r x.sig.first) (fact_at (places.Temp d) modes.Own no_names false))
+      → Covers p k (frame_after p h fr s v) (places.Temp d) o y
+  result_covers c form r is result truth = by x.sig.owning_result refl
+    where
+      birth : birth_on p s.action s.edge s.pos ≡ Some (origin_of p kinds.Result s.pos r x.sig.first, result_fact d x.sig.owning_result)
+      birth = ap (λ (a : Action). birth_on p a s.edge s.pos) is ∙ ap (λ (f : Edge). birth_on p (actions.Call m d c form) f s.pos) edge
+          ∙ ap (result_birth p d s.pos) named ∙ result_birth_is p d s.pos x r alias result
+
+      class : (origin_of p kinds.Result s.pos r x.sig.first).class ≡ r
+      class = go x.sig.first
+        where
+          go : (first : Option Names) → (origin_of p kinds.Result s.pos r first).class ≡ r
+          go None = refl
+          go (Some f) = refl
+
+      heavy_of : (b c' : Bool) → (b && c') ≡ true → b ≡ true
+      heavy_of true c' e = refl
+      heavy_of false c' e = absurd (true≢false (sym e))
+
+      by : (b : Bool) → x.sig.owning_result ≡ b → Covers p k (frame_after p h fr s v) (places.Temp d) o y
+      by true own =
+          born_covers p k fr st i s here (frame_after p h fr s v) (places.Temp d) o y (origin_of p kinds.Result s.pos r x.sig.first) modes.Own false refl refl small refl
+          (birth ∙ ap (λ (b : Bool). Some (origin_of p kinds.Result s.pos r x.sig.first, result_fact d b)) own) root
+          (result_unlent p s.pos r x.sig.first) (λ claimed. truth own (ap (is_heavy_class p) (sym class) ∙ heavy_of _ _ claimed))
+      by false own =
+          born_covers p k fr st i s here (frame_after p h fr s v) (places.Temp d) o y (origin_of p kinds.Result s.pos r x.sig.first) modes.None true refl refl small refl
+          (birth ∙ ap (λ (b : Bool). Some (origin_of p kinds.Result s.pos r x.sig.first, result_fact d b)) own) root
+          (result_unlent p s.pos r x.sig.first) (λ claimed. absurd (unclaimed p (origin_of p kinds.Result s.pos r x.sig.first) (places.Temp d) claimed))
+
+  -- the object of a `new`
+  pub new_covers : (c : ℕ) → s.action ≡ actions.New m d c → is_heavy_class p x.class ≡ true
+      → IsTrueOf p y (origin_of p kinds.New s.pos x.class x.sig.first) (fact_at (places.Temp d) modes.Own no_names false) → Covers p k (frame_after p h fr s v) (places.Temp d) o y
+  new_covers c is heavy truth =
+      born_covers p k fr st i s here (frame_after p h fr s v) (places.Temp d) o y (origin_of p kinds.New s.pos x.class x.sig.first) modes.Own false refl refl small refl
+      (ap (λ (a : Action). birth_on p a s.edge s.pos) is ∙ ap (λ (f : Edge). birth_on p (actions.New m d c) f s.pos) edge ∙ ap (new_birth p d s.pos) named ∙ new_birth_is p d s.pos x alias heavy)
+      root (new_unlent p s.pos x.class x.sig.first) (λ claimed. truth)

@@ -1,0 +1,367 @@
+-- What a call of the program without an aliased argument gives its caller when the frame above has ended: an exception is light, a `new` gives
+-- its finished object, and an owning result of a type with an obligation was owned by the frame, or its end breaks a rule.
+use Rattle.std.specs.Prelude.{not, if◌then◌else◌}
+use Rattle.std.proofs.Common.{◌≡◌, ℕ, ◌<◌, Bool, true, false, true≢false, ◌&&◌, Option, Some, None, slice_get, refl, sym, ap, ◌∙◌, subst}
+use Rattle.std.specs.FinSet as set
+use Rattle.std.proofs.lemmas.Bool.{and_from, and_parts, not-true, or_right}
+use Rattle.rlc_base.specs.declared.place.Pos.{Pos}
+use Rattle.rlc_base.proofs.SetLaws.{within_self, within_trans}
+use Rattle.program_model.specs.declared.kinds.BodyId.{BodyId}
+use Rattle.program_model.specs.declared.kinds.ClassId.{ClassId}
+use Rattle.program_model.specs.declared.kinds.MethodId.{MethodId}
+use Rattle.program_model.specs.declared.kinds.VType.{VType}
+use Rattle.program_model.specs.declared.kinds.VType.TheVariants as types
+use Rattle.program_model.specs.declared.program.Method.{Method}
+use Rattle.program_model.specs.declared.program.Program.{Program}
+use Rattle.program_model.specs.Lookups.{method_at}
+use Rattle.program_model.specs.Overrides.{is_library}
+use Rattle.program_model.specs.SuperTests.{is_under}
+use Rattle.program_model.specs.Validity.{is_class_type}
+use Rattle.program_conditions.specs.Conditions.{MakesNoString}
+use Rattle.must_call_sets.specs.Bodies.{alias_in, alias_position, method_in, method_of}
+use Rattle.must_call_sets.specs.MustCallSets.{Names, fits, fits_type, is_empty, is_heavy_as, is_heavy_class, must_of, must_of_optional, no_names}
+use Rattle.must_call_sets.specs.OverrideCases.{differ}
+use Rattle.java_control.specs.Calls.{called_method, completion_temp}
+use Rattle.java_control.specs.Control.{Step}
+use Rattle.java_control.specs.PlaceNumbers.{IsSmall}
+use Rattle.java_control.specs.declared.action.Action.{Action}
+use Rattle.java_control.specs.declared.action.Action.TheVariants as actions
+use Rattle.java_control.specs.declared.action.Completion.{Completion}
+use Rattle.java_control.specs.declared.action.Completion.TheVariants as completions
+use Rattle.java_control.specs.declared.action.Edge.{Edge}
+use Rattle.java_control.specs.declared.action.Edge.TheVariants as edges
+use Rattle.java_control.specs.declared.action.TargetForm.{TargetForm}
+use Rattle.java_control.specs.declared.fact.Fact.{Fact}
+use Rattle.java_control.specs.declared.fact.Mode.{Mode}
+use Rattle.java_control.specs.declared.fact.Mode.TheVariants as modes
+use Rattle.java_control.specs.declared.fact.Origin.{Origin}
+use Rattle.java_control.specs.declared.fact.OriginKind.TheVariants as kinds
+use Rattle.java_control.specs.declared.fact.Rule.{Rule}
+use Rattle.java_control.specs.declared.fact.Rule.TheVariants as rules
+use Rattle.java_control.specs.declared.place.Place.{Place}
+use Rattle.java_control.specs.declared.place.Place.TheVariants as places
+use Rattle.obligation_facts.specs.Facts.{has, is_own}
+use Rattle.must_call_sets.specs.Signatures.{is_present}
+use Rattle.ownership_rules.specs.Heavy.{is_owned}
+use Rattle.obligation_facts.specs.SmallActions.{IsSmallAction, IsSmallTemp}
+use Rattle.ownership_rules.specs.Births.{fact_at, origin_of}
+use Rattle.ownership_rules.specs.MovesAtReturns.{heavy_result, kept_alias, moved_at_return, owned_result, owning_result_in, result_type}
+use Rattle.ownership_rules.specs.MovesAtReturns as at_returns
+use Rattle.ownership_rules.specs.declared.moved.Moved.{Moved}
+use Rattle.ownership_rules.specs.declared.moved.Moved.TheVariants as moves
+use Rattle.flow_rules.specs.Ends.{after_return}
+use Rattle.flow_rules.specs.Flow.{flow}
+use Rattle.flow_rules.specs.Paths.{Reach, move_of, relation_of}
+use Rattle.accepted_programs.specs.Accept.{Accept}
+use Rattle.ledger_state.specs.Classes.{class_in, runtime_class}
+use Rattle.ledger_state.specs.Contents.{HeapContents}
+use Rattle.ledger_state.specs.Heaps.{object_at, root, root_of, unfinished}
+use Rattle.ledger_state.specs.Locals.{temp_value}
+use Rattle.ledger_state.specs.Values.{number_of}
+use Rattle.ledger_state.specs.declared.object.Link.{Link}
+use Rattle.ledger_state.specs.declared.object.Object.{Object}
+use Rattle.ledger_state.specs.declared.value.Value.{Value}
+use Rattle.ledger_state.specs.declared.value.Value.TheVariants as values
+use Rattle.ledger_obligations.specs.Obligations.{first_set}
+use Rattle.ledger_operations.specs.Places.{class_of_method, place_value}
+use Rattle.ledger_calls.specs.Calls as calls
+use Rattle.ledger_calls.specs.Configuration.{Frame}
+use Rattle.ledger_frames.specs.Choosing.{body_id, frame_steps}
+use Rattle.ledger_frames.specs.Frames.{frame_after, is_made, made_place}
+use Rattle.ledger_steps.specs.Ends.{answered, exception_class, result_value, returned_heap, thrown_in}
+use Rattle.heap_laws.specs.Heaps.{HasLibraryLinks}
+use Rattle.heap_laws.proofs.Laws.{roots_of_links-itself}
+use Rattle.place_laws.proofs.Laws.{single_place-same}
+use Rattle.owned_fact_laws.specs.Outcomes.{IsCallRow, IsFault}
+use Rattle.agreement.specs.Agreement.{IsMade, IsMadeBy, Stands}
+use Rattle.agreement.specs.PlainForms.{HasPlainForms, IsPlainCall, MayRun, RunsFor}
+use Rattle.range_laws.specs.Nexts.{IsBackStep}
+use Rattle.operand_type_laws.specs.Operands.{NoObject, result_of}
+use Rattle.tracking_laws.proofs.CallNames.{object_with_root}
+use Rattle.tracking_laws.proofs.Chains.{object_there}
+use Rattle.typed_step_laws.specs.Typed.{GivesResult, NamesMembers}
+use Rattle.value_type_laws.specs.Types.{GivesAsNamed, KeepsTypes}
+use Rattle.value_type_laws.proofs.Laws.{returned_value_is_no_object}
+use Rattle.covered_field_laws.specs.FieldContents.{is_new}
+use Rattle.covered_field_laws.specs.PlaceFacts.{Covers, IsCovered, IsTrueOf, may_owe}
+use Rattle.covered_field_laws.specs.Ranges.{LocalsInRange}
+use Rattle.covered_field_laws.proofs.Following.{breaks_nothing, same_body, step_there}
+use Rattle.covered_field_laws.proofs.HeavyFields.{own_claims}
+use Rattle.covering_laws.specs.Running.{HasPlainRuns, IsAlike}
+use Rattle.covering_laws.specs.Throws.{ExceptionsAreUnlinked}
+use Rattle.covering_laws.proofs.AliasResults.{default_no_root}
+use Rattle.covering_laws.proofs.Bodies.{running_method}
+use Rattle.covering_laws.proofs.BornTruths.{true_of_made}
+use Rattle.covering_laws.proofs.CallResults.{new_covers, result_covers}
+use Rattle.covering_laws.proofs.EndHeaps.{finished_here}
+use Rattle.covering_laws.proofs.GivenArguments.{true_of_result}
+use Rattle.covering_laws.proofs.LightExceptions.{leaving_is_light, leaving_is_throwable}
+use Rattle.covering_laws.proofs.LocalSteps.{names_members}
+use Rattle.covering_laws.proofs.Waiting.{IsCarried, KeepsRoots, owed_before, value_root}
+
+-- ---- a result that breaks no rule
+
+own_mode : (m : Mode) → is_own m ≡ true → m ≡ modes.Own
+own_mode modes.Own is = refl
+own_mode modes.None is = absurd (true≢false (sym is))
+own_mode modes.Held is = absurd (true≢false (sym is))
+own_mode modes.Lent is = absurd (true≢false (sym is))
+own_mode modes.Alias is = absurd (true≢false (sym is))
+
+-- the returned object is owned, and fits the result's type
+result_is_owned : (p : Program) (b : BodyId) (o : Origin) (d : ℕ) (pos : Pos) (e : Edge) (f : Fact) (t : VType) → result_type p b ≡ Some t → alias_position p b ≡ None → owning_result_in (method_of p b) ≡ true
+    → has f.places (places.Temp d) ≡ true → is_heavy_as p o.class (Some t) ≡ true → (IsFault (flow p b o (actions.End (completions.ReturnValue d pos)) e f) → ⊥)
+    → (f.mode ≡ modes.Own) × (is_heavy_class p o.class ≡ true) × (fits_type p o.class (Some t) ≡ true)
+result_is_owned p b o d pos e f t type alias owning there heavy fine = by (is_owned p o f) refl (fits_type p o.class (Some t)) refl
+  where
+    moved_is : moved_at_return p b o (actions.End (completions.ReturnValue d pos)) f ≡ owned_result p b o f
+    moved_is =
+        ap (λ (x : Bool). if x then heavy_result p b o f else moves.Stays) (and_from (has f.places (places.Temp d)) (is_heavy_as p o.class (result_type p b)) there (ap (is_heavy_as p o.class) type ∙ heavy))
+        ∙ ap (λ (x : Bool). if x then kept_alias f else (if owning_result_in (method_of p b) then owned_result p b o f else moves.Stays)) (ap is_present alias)
+        ∙ ap (λ (x : Bool). if x then owned_result p b o f else moves.Stays) owning
+
+    no_bad : (rule : Rule) → owned_result p b o f ≡ moves.Bad rule → ⊥
+    no_bad rule bad = fine (subst (λ (x : Moved). IsFault (after_return p b o (completions.ReturnValue d pos) f x)) (sym (moved_is ∙ bad)) tt)
+
+    by : (x : Bool) → is_owned p o f ≡ x → (y : Bool) → fits_type p o.class (Some t) ≡ y → (f.mode ≡ modes.Own) × (is_heavy_class p o.class ≡ true) × (fits_type p o.class (Some t) ≡ true)
+    by false none y fit = absurd (no_bad rules.NotOwned (ap (λ (x : Bool). if not x then moves.Bad rules.NotOwned else (if not (fits_type p o.class (result_type p b)) then moves.Bad rules.Narrow else moves.Moves)) none))
+    by true owned false fit = absurd (no_bad rules.Narrow (ap (λ (x : Bool). if not x then moves.Bad rules.NotOwned else (if not (fits_type p o.class (result_type p b)) then moves.Bad rules.Narrow else moves.Moves)) owned
+        ∙ ap (λ (x : Bool). if not x then moves.Bad rules.Narrow else moves.Moves) (ap (fits_type p o.class) type ∙ fit)))
+    by true owned true fit = let parts = and_parts (is_heavy_class p o.class) (is_own f.mode) owned in (own_mode f.mode parts.1, parts.0, fit)
+
+no_number : (k : HeapContents) (v : Value) (o : ℕ) → number_of v ≡ None → root_of k v ≡ Some o → ⊥
+no_number k (values.Object n) o none is = absurd (let never : Some n ≡ None = none in cc)
+no_number k v o none is = cc
+
+module _ (p : Program) (ac : Accept p) (forms' : HasPlainForms p) (runs' : HasPlainRuns p) (texts : MakesNoString p) (h : HeapContents) (links : HasLibraryLinks h) (apart : ExceptionsAreUnlinked p h) (fr caller : Frame) (st : Stands p fr) (below : Stands p caller)
+    (keeps : KeepsTypes p fr) (gives : GivesAsNamed p caller fr) (mine' : LocalsInRange h fr.locals) (covered : IsCovered p h fr) (i : ℕ) (s : Step) (q : Completion) (here : slice_get (frame_steps p fr) i ≡ Some s) (is : s.action ≡ actions.End q)
+    (t : Step) (named : MethodId) (back : IsBackStep p (frame_steps p caller) (exception_class p h (thrown_in fr.locals q)) named t) (n : Method) (named_at : method_at p named ≡ Some n) (call : IsPlainCall p named)
+    (may : MayRun p named fr.method) (makes : IsMadeBy p h t.action fr.locals.this) (at : ℕ) where
+  abbrev e : Option ClassId
+  e = exception_class p h (thrown_in fr.locals q)
+
+  abbrev v : Value
+  v = result_value fr.locals (method_at p fr.method) q
+
+  abbrev V : Value
+  V = answered fr.locals.this t.action v e
+
+  abbrev K : HeapContents
+  K = returned_heap p at fr.locals.this caller.locals t.action (method_at p fr.method) (method_at p named) v e h
+
+  abbrev after : Frame
+  after = frame_after p h caller t V
+
+  -- the method that ran
+  run : (x : Method) × (method_at p fr.method ≡ Some x) × (is_library p x.class ≡ false)
+  run = running_method p ac fr st
+
+  fit : RunsFor p n run.0
+  fit = call.program fr.method n run.0 may named_at run.1 run.2
+
+  alike : IsAlike p t.action n run.0
+  alike = runs'.alike below.number back.index (move_of t) named fr.method n run.0 below.control (step_there p caller below back.index t back.here) back.calls may named_at run.1 run.2
+
+  body_method : method_of p st.number ≡ Some run.0
+  body_method = ap (method_in p) st.at ∙ ap (method_at p) st.method ∙ run.1
+
+  module _ (roots : KeepsRoots h K) (unmade : (w : ℕ) (x : Object) → is_new t.action ≡ true → fr.locals.this ≡ values.Object w → object_at h w ≡ Some x → x.finished ≡ false)
+      (was : (o : ℕ) (y : Object) → object_at K o ≡ Some y → IsCarried h o y) (place : Place) (o : ℕ) (y : Object) (small : IsSmall place) (there : is_made (made_place t.action) place ≡ true)
+      (value : place_value p K caller.method after.locals place ≡ V) (rooted : root_of K V ≡ Some o) (now : object_at K o ≡ Some y) (heavy : is_heavy_class p y.class ≡ true)
+      (owes : may_owe y ≡ true) where
+    old : IsCarried h o y
+    old = was o y now
+
+    -- what a temp of the frame holds
+    temp_root : (d : ℕ) → root_of K (temp_value fr.locals d) ≡ Some o → root_of h (temp_value fr.locals d) ≡ Some o
+    temp_root d found = sym (value_root h K roots (temp_value fr.locals d) (mine'.temps d)) ∙ found
+
+    temp_object : (d : ℕ) → root_of K (temp_value fr.locals d) ≡ Some o → (k : ℕ) × (x : Object) × (temp_value fr.locals d ≡ values.Object k) × (root h k ≡ o) × (object_at h k ≡ Some x)
+    temp_object d found =
+        let is = object_with_root h (temp_value fr.locals d) o (temp_root d found) in
+        let number = mine'.temps d is.0 (ap number_of is.1) in
+        let x = object_there h is.0 (unfinished y.class) number.0 number.1 in
+        (is.0, x.0, is.1, is.2, x.1)
+
+    -- the exception is light
+    pub thrown_light : (c : ClassId) → e ≡ Some c → root_of K v ≡ Some o → ⊥
+    thrown_light c thrown root' = by q refl thrown root'
+      where
+        light : is_heavy_class p c ≡ false
+        light = let way = back.thrown c thrown in leaving_is_light p ac named c way.0 way.1
+
+        by : (r : Completion) → q ≡ r → exception_class p h (thrown_in fr.locals r) ≡ Some c → root_of K (result_value fr.locals (method_at p fr.method) r) ≡ Some o → ⊥
+        by (completions.Throw d k pos) same thrown' found =
+            let object = temp_object d found in
+            let class : object.1.class ≡ c = (let both : Some object.1.class ≡ Some c = sym (ap class_in object.4) ∙ sym (ap (runtime_class p h) object.2) ∙ thrown' in (let one : object.1.class ≡ c = cc in one)) in
+            by_link object.0 object.1 object.3 object.4 class object.1.link refl
+          where
+            by_link : (k' : ℕ) (x : Object) → root h k' ≡ o → object_at h k' ≡ Some x → x.class ≡ c → (l : Option Link) → x.link ≡ l → ⊥
+            by_link k' x root'' at' class None none =
+                let same : k' ≡ o = sym (roots_of_links-itself h k' x at' none) ∙ root'' in
+                let one : old.0 ≡ x = (let both : Some old.0 ≡ Some x = sym old.1 ∙ ap (object_at h) (sym same) ∙ at' in (let it : old.0 ≡ x = cc in it)) in
+                true≢false (sym heavy ∙ ap (is_heavy_class p) (old.2 ∙ ap (λ (z : Object). z.class) one ∙ class) ∙ light)
+            by_link k' x root'' at' class (Some l) some =
+                let way = back.thrown c thrown in
+                true≢false (sym (leaving_is_throwable p ac named c way.0 way.1) ∙ ap (λ (z : ClassId). is_under p z p.core.throwable) (sym class) ∙ apart k' x l at' some)
+        by (completions.Return pos) same thrown' found = let never : None ≡ Some c = thrown' in cc
+        by (completions.ReturnValue d pos) same thrown' found = let never : None ≡ Some c = thrown' in cc
+        by (completions.Break pos) same thrown' found = let never : None ≡ Some c = thrown' in cc
+        by (completions.Continue pos) same thrown' found = let never : None ≡ Some c = thrown' in cc
+
+    at_temp : (d : ℕ) → made_place t.action ≡ Some (places.Temp d)
+        → (IsSmall (places.Temp d) → root_of K (place_value p K caller.method after.locals (places.Temp d)) ≡ Some o → Covers p K after (places.Temp d) o y) → Covers p K after place o y
+    at_temp d same covers =
+        let it : places.Temp d ≡ place = single_place-same (places.Temp d) place (ap (λ (x : Option Place). is_made x place) (sym same) ∙ there) in
+        subst (λ (z : Place). Covers p K after z o y) it (covers (subst IsSmall (sym it) small)
+        (subst (λ (z : Place). root_of K (place_value p K caller.method after.locals z) ≡ Some o) (sym it) (ap (root_of K) value ∙ rooted)))
+
+    module _ (normal : e ≡ None) (plain : n.sig.alias ≡ None) where
+      edge : t.edge ≡ edges.Go
+      edge = back.normal normal
+
+      named_is : (m : MethodId) → called_method t.action ≡ Some m → m ≡ named
+      named_is m it = let both : Some m ≡ Some named = sym it ∙ back.calls in (let one : m ≡ named = cc in one)
+
+      -- ---- a `new`
+
+      -- the object that is made is not finished, so it is not linked
+      self_is : {m : MethodId} {d c : ℕ} → t.action ≡ actions.New m d c → (made : IsMade p h m fr.locals.this) → root_of K fr.locals.this ≡ Some o → made.0 ≡ o
+      self_is it made root' =
+          let x = object_there h made.0 (unfinished y.class) made.4 made.2 in
+          let unlinked : x.0.link ≡ None = no_link x.0 x.1 in
+          let own : root K made.0 ≡ made.0 = roots made.0 (made.4, made.2) ∙ roots_of_links-itself h made.0 x.0 x.1 unlinked in
+          sym own ∙ (let both : Some (root K made.0) ≡ Some o = ap (root_of K) (sym made.1) ∙ root' in (let one : root K made.0 ≡ o = cc in one))
+        where
+          no_link : (x : Object) → object_at h made.0 ≡ Some x → x.link ≡ None
+          no_link x at' = by x.link refl
+            where
+              by : (k : Option Link) → x.link ≡ k → x.link ≡ None
+              by None none = none
+              by (Some k) some = absurd (true≢false (sym (links made.0 x k at' some).finished ∙ unmade made.0 x (ap is_new it) made.1 at'))
+
+      new_given : (m : MethodId) (d c : ℕ) → t.action ≡ actions.New m d c → root_of K fr.locals.this ≡ Some o → Covers p K after place o y
+      new_given m d c it root' =
+          let made = subst (λ (a : Action). IsMadeBy p h a fr.locals.this) it makes in
+          let m_is = named_is m (ap called_method it) in
+          let self : fr.locals.this ≡ values.Object o = made.1 ∙ ap values.Object (self_is it made root') in
+          let class : n.class ≡ y.class = (let both : Some n.class ≡ Some old.0.class = sym (ap class_of_method named_at) ∙ sym (ap (λ (z : MethodId). class_of_method (method_at p z)) m_is) ∙ made.3 old.0
+          (ap (object_at h) (let both : values.Object made.0 ≡ values.Object o = sym made.1 ∙ self in (let one : made.0 ≡ o = cc in one)) ∙ old.1) in (let one : n.class ≡ old.0.class = cc in one)) ∙ sym old.2 in
+          let done = finished_here p at o fr.locals.this caller.locals m d c (method_at p fr.method) (method_at p named) v h y (ap (λ (z : Option Method). calls.alias_position z) named_at ∙ plain) self
+          (subst (λ (x : Option ClassId). object_at (returned_heap p at fr.locals.this caller.locals (actions.New m d c) (method_at p fr.method) (method_at p named) v x h) o ≡ Some y) normal
+          (subst (λ (a : Action). object_at (returned_heap p at fr.locals.this caller.locals a (method_at p fr.method) (method_at p named) v e h) o ≡ Some y) it now)) in
+          at_temp d (ap made_place it) (λ small' root''. new_covers p h K caller below back.index t back.here V d o y small' root'' m n edge (ap (method_at p) m_is ∙ named_at) plain c it
+          (ap (is_heavy_class p) class ∙ heavy)
+          (true_of_made p kinds.New t.pos n.class y.class n.sig.first (places.Temp d) y done.0 refl (done.1 ∙ sym (ap (first_set p y.class) fit.first)) (subst (λ (z : ClassId). fits p y.class z ≡ true) (sym class) (within_self (must_of p y.class)))))
+
+      -- ---- a result
+
+      -- the value of the frame's result
+      module _ (d : ℕ) (pos : Pos) (end' : q ≡ completions.ReturnValue d pos) (found : root_of K (temp_value fr.locals d) ≡ Some o) where
+        result_there : (x : VType) × (run.0.sig.result ≡ Some x)
+        result_there =
+            let g : GivesResult p st.body (completions.ReturnValue d pos) = subst (GivesResult p st.body) end' (subst (NamesMembers p st.body) is (names_members p ac forms' fr st i s here)) in
+            let same : g.0 ≡ run.0 = (let both : Some g.0 ≡ Some run.0 = sym g.1 ∙ ap (method_at p) st.method ∙ run.1 in (let one : g.0 ≡ run.0 = cc in one)) in
+            (g.2, ap (λ (z : Method). z.sig.result) (sym same) ∙ g.3)
+
+        room : d < 64
+        room = subst (λ (r : Completion). IsSmallTemp (completion_temp r)) end' (subst (IsSmallAction p) is ((ac.fits st.number).steps i (move_of s) st.control (step_there p fr st i s here)))
+
+        cover : Covers p h fr (places.Temp d) o old.0
+        cover = covered (places.Temp d) o old.0 room (temp_root d found) old.1 (ap (is_heavy_class p) (sym old.2) ∙ heavy) (owed_before old.0 y old.3 owes)
+
+        reached : Reach p st.number (relation_of p st.number) cover.origin fr.control cover.fact
+        reached = subst (λ (b : BodyId). Reach p b (relation_of p b) cover.origin fr.control cover.fact) (same_body cover.body st.number (body_id p fr.method) cover.id st.id) cover.reached
+
+        fine : IsFault (flow p st.number cover.origin (actions.End (completions.ReturnValue d pos)) s.edge cover.fact) → ⊥
+        fine fault = breaks_nothing p ac st.number cover.origin i (move_of s) cover.fact reached (step_there p fr st i s here)
+            (subst (λ (a : Action). IsFault (flow p st.number cover.origin a s.edge cover.fact)) (sym (is ∙ ap actions.End end')) fault)
+
+        owning_run : n.sig.owning_result ≡ true → run.0.sig.owning_result ≡ true
+        owning_run owning = go run.0.sig.owning_result n.sig.owning_result (ap (λ (x : Option VType). is_present x && differ run.0.sig.owning_result n.sig.owning_result) (sym result_there.1) ∙ fit.result) owning
+          where
+            go : (a b : Bool) → differ a b ≡ false → b ≡ true → a ≡ true
+            go true b same one = refl
+            go false true same one = absurd (true≢false same)
+            go false false same one = one
+
+        owned : (r : ClassId) → n.sig.result ≡ Some (types.Obj r) → n.sig.owning_result ≡ true → is_heavy_class p r ≡ true → IsTrueOf p y (origin_of p kinds.Result t.pos r None) (fact_at (places.Temp d) modes.Own no_names false)
+        owned r result owning heavy' =
+            let type : result_type p st.number ≡ Some result_there.0 = ap at_returns.result_in body_method ∙ result_there.1 in
+            let mine = result_is_owned p st.number cover.origin d pos s.edge cover.fact result_there.0 type (ap alias_in body_method ∙ fit.alias ∙ plain) (ap owning_result_in body_method ∙ owning_run owning) cover.here heavy_as fine in
+            let truth = cover.true' (own_claims p cover.origin cover.fact mine.0 mine.1) in
+            true_of_result p old.0 y cover.origin cover.fact kinds.Result t.pos r (places.Temp d) truth (old.3 truth.finished)
+            (within_trans (must_of p cover.origin.class) (must_of_optional p (Some result_there.0)) (must_of p r) mine.2 wider)
+          where
+            not_light : (b : Bool) → is_empty (must_of_optional p (Some result_there.0)) ≡ b → not b ≡ true
+            not_light true light = absurd (true≢false (sym (ap (λ (x : Option VType). is_empty (must_of_optional p x)) (sym result) ∙ alike.light (ap (λ (x : Option VType). is_empty (must_of_optional p x)) result_there.1 ∙ light))
+                ∙ not-true (is_empty (must_of p r)) heavy'))
+            not_light false some = refl
+
+            heavy_as : is_heavy_as p cover.origin.class (Some result_there.0) ≡ true
+            heavy_as = or_right (is_heavy_class p cover.origin.class) (not (is_empty (must_of_optional p (Some result_there.0)))) (not_light (is_empty (must_of_optional p (Some result_there.0))) refl)
+
+            wider : set.is_subset (must_of_optional p (Some result_there.0)) (must_of p r) ≡ true
+            wider = go (set.is_subset (must_of_optional p (Some result_there.0)) (must_of p r)) refl
+              where
+                go : (b : Bool) → set.is_subset (must_of_optional p (Some result_there.0)) (must_of p r) ≡ b → set.is_subset (must_of_optional p (Some result_there.0)) (must_of p r) ≡ true
+                go true fits' = fits'
+                go false none = absurd (true≢false (sym (and_from run.0.sig.owning_result (not (set.is_subset (must_of_optional p run.0.sig.result) (must_of_optional p n.sig.result))) (owning_run owning)
+                    (ap not (ap (λ (x : Option VType). set.is_subset (must_of_optional p x) (must_of_optional p n.sig.result)) result_there.1
+                    ∙ ap (λ (x : Option VType). set.is_subset (must_of_optional p (Some result_there.0)) (must_of_optional p x)) result ∙ none))) ∙ fit.wider))
+
+        result_given : (m : MethodId) (d' c : ℕ) (f : TargetForm) → t.action ≡ actions.Call m d' c f → Covers p K after place o y
+        result_given m d' c f it = by n.sig.result refl
+          where
+            of_class : (r : ClassId) → n.sig.result ≡ Some (types.Obj r) → Covers p K after place o y
+            of_class r result = at_temp d' (ap made_place it) (λ small' root''. result_covers p h K caller below back.index t back.here V d' o y small' root'' m n edge (ap (method_at p) (named_is m (ap called_method it)) ∙ named_at) plain
+                c f r it result (λ owning heavy'. subst (λ (first : Option Names). IsTrueOf p y (origin_of p kinds.Result t.pos r first) (fact_at (places.Temp d') modes.Own no_names false)) (sym fit.first)
+                (owned_at r result owning heavy')))
+              where
+                owned_at : (r' : ClassId) → n.sig.result ≡ Some (types.Obj r') → n.sig.owning_result ≡ true → is_heavy_class p r' ≡ true → IsTrueOf p y (origin_of p kinds.Result t.pos r' None) (fact_at (places.Temp d') modes.Own no_names false)
+                owned_at r' result' owning heavy' = let truth = owned r' result' owning heavy' in
+                    record { finished = truth.finished; class = truth.class; bounded = truth.bounded; need = truth.need; called = truth.called }
+
+            of_none : (x : VType) → n.sig.result ≡ Some x → is_class_type x ≡ false → ⊥
+            of_none x result none =
+                no_number K (temp_value fr.locals d) o (ap (λ (r : Completion). number_of (result_value fr.locals (method_at p fr.method) r)) (sym end')
+                ∙ returned_value_is_no_object p ac texts fr keeps i s q here is (ap (thrown_in fr.locals) end')
+                (gives back.index t named back.here back.calls (subst (λ (z : Option Method). NoObject (result_of z)) (sym named_at) (subst NoObject (sym result) none)))) found
+
+            by : (x : Option VType) → n.sig.result ≡ x → Covers p K after place o y
+            by None result = absurd (let never : None ≡ Some result_there.0 = sym (alike.none result) ∙ result_there.1 in cc)
+            by (Some (types.Obj r)) result = of_class r result
+            by (Some (types.Primitive k)) result = absurd (of_none (types.Primitive k) result refl)
+            by (Some types.Str) result = absurd (of_none types.Str result refl)
+            by (Some (types.Arr k)) result = absurd (of_none (types.Arr k) result refl)
+            by (Some types.NullType) result = absurd (of_none types.NullType result refl)
+
+      call_given : (m : MethodId) (d' c : ℕ) (f : TargetForm) → t.action ≡ actions.Call m d' c f → root_of K v ≡ Some o → Covers p K after place o y
+      call_given m d' c f it found = by q refl normal found
+        where
+          by : (r : Completion) → q ≡ r → exception_class p h (thrown_in fr.locals r) ≡ None → root_of K (result_value fr.locals (method_at p fr.method) r) ≡ Some o → Covers p K after place o y
+          by (completions.ReturnValue d pos) same none found' = result_given d pos same found' m d' c f it
+          by (completions.Return pos) same none found' = absurd (default_no_root K _ o found')
+          by (completions.Throw d k pos) same none found' =
+              let object = temp_object d found' in
+              absurd (let never : None ≡ Some object.1.class = sym none ∙ ap (runtime_class p h) object.2 ∙ ap class_in object.4 in cc)
+          by (completions.Break pos) same none found' = absurd (let never : None ≡ Some o = found' in cc)
+          by (completions.Continue pos) same none found' = absurd (let never : None ≡ Some o = found' in cc)
+
+      given_normally : root_of K (answered fr.locals.this t.action v None) ≡ Some o → Covers p K after place o y
+      given_normally root' = go t.action refl (ap (λ (a : Action). root_of K (answered fr.locals.this a v None)) refl ∙ root')
+        where
+          go : (a : Action) → t.action ≡ a → root_of K (answered fr.locals.this a v None) ≡ Some o → Covers p K after place o y
+          go actions.Skip it found = absurd (subst IsCallRow it back.row)
+          go (actions.New m d c) it found = new_given m d c it found
+          go (actions.Super m d c) it found = absurd (let never : None ≡ Some o = found in cc)
+          go (actions.Call m d c f) it found = call_given m d c f it found
+          go a it found = absurd (subst IsCallRow it back.row)
+
+    -- where the signature has no alias
+    pub given : n.sig.alias ≡ None → Covers p K after place o y
+    given plain = by e refl
+      where
+        by : (x : Option ClassId) → e ≡ x → Covers p K after place o y
+        by (Some c) thrown = absurd (thrown_light c thrown (ap (λ (x : Option ClassId). root_of K (answered fr.locals.this t.action v x)) (sym thrown) ∙ rooted))
+        by None normal = given_normally normal plain (ap (λ (x : Option ClassId). root_of K (answered fr.locals.this t.action v x)) (sym normal) ∙ rooted)

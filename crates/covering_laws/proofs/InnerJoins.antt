@@ -1,0 +1,231 @@
+-- The top frame takes a step that calls nothing and stores into no owning field: what the step makes is no object, or is not owned.
+use Rattle.std.specs.Prelude.{◌&&◌, if◌then◌else◌}
+use Rattle.std.proofs.Common.{◌≡◌, ◌⊎◌, inl, inr, ℕ, Bool, true, false, Option, Some, None, List, ◌∷◌, option_map, slice_get, nat_eq, eq-eqb, refl, sym, ap, ◌∙◌, subst, true≢false, eqb-true}
+use Rattle.std.proofs.lemmas.List.Elements.{All-head, All-tail}
+use Rattle.program_model.specs.declared.kinds.ClassId.{ClassId}
+use Rattle.program_model.specs.declared.kinds.FieldId.{FieldId}
+use Rattle.program_model.specs.declared.kinds.VType.{VType}
+use Rattle.program_model.specs.declared.kinds.VType.TheVariants as types
+use Rattle.program_model.specs.declared.program.Field.{Field}
+use Rattle.program_model.specs.declared.program.Program.{Program}
+use Rattle.program_model.specs.Lookups.{method_at}
+use Rattle.program_model.specs.SuperTests.{is_class}
+use Rattle.program_model.specs.Validity.{is_class_type}
+use Rattle.program_conditions.specs.Conditions.{MakesNoString}
+use Rattle.must_call_sets.specs.MustCallSets.{is_heavy_class, must_of, no_names}
+use Rattle.must_call_sets.specs.Signatures as signatures
+use Rattle.java_control.specs.Control.{Step}
+use Rattle.java_control.specs.Sources.{emptied, is_null_pointer, is_temp, source}
+use Rattle.java_control.specs.declared.action.Action.{Action}
+use Rattle.java_control.specs.declared.action.Action.TheVariants as actions
+use Rattle.java_control.specs.declared.action.Edge.{Edge}
+use Rattle.java_control.specs.declared.action.Edge.TheVariants as edges
+use Rattle.java_control.specs.declared.action.PlainValue.{PlainValue}
+use Rattle.java_control.specs.declared.action.PlainValue.TheVariants as plain_values
+use Rattle.java_control.specs.declared.fact.Mode.TheVariants as modes
+use Rattle.java_control.specs.declared.fact.Origin.{Origin}
+use Rattle.java_control.specs.declared.fact.OriginKind.TheVariants as kinds
+use Rattle.java_control.specs.declared.place.Place.{Place}
+use Rattle.java_control.specs.declared.place.Place.TheVariants as places
+use Rattle.ownership_rules.specs.Births.{birth_on, fact_at, origin_of, read_birth}
+use Rattle.flow_rules.specs.Paths.{move_of}
+use Rattle.accepted_programs.specs.Accept.{Accept}
+use Rattle.ledger_state.specs.Contents.{HeapContents}
+use Rattle.ledger_state.specs.Heaps as heaps
+use Rattle.ledger_state.specs.Heaps.{append, next_number, object_at, only_at}
+use Rattle.ledger_state.specs.Values.{number_of}
+use Rattle.ledger_state.specs.declared.entry.Owner.TheVariants as owners
+use Rattle.ledger_state.specs.declared.object.Object.{Object}
+use Rattle.ledger_state.specs.declared.value.Value.{Value}
+use Rattle.ledger_obligations.specs.Obligations.{finished}
+use Rattle.ledger_operations.specs.Operations.{made_value, next_choice, thrown_by_operation}
+use Rattle.ledger_calls.specs.Configuration.{Config, Frame}
+use Rattle.ledger_frames.specs.Choosing.{agrees_with, edge_of_class, frame_steps, operation_edge, same_edge}
+use Rattle.ledger_frames.specs.Frames.{frame_after, is_made, made_place}
+use Rattle.ledger_steps.specs.InnerSteps.{heap_stored, store_of, store_unless, thrown_heap, with_exception}
+use Rattle.heap_laws.specs.Heaps.{HasLibraryLinks}
+use Rattle.heap_laws.proofs.Laws.{appended_object_at-object, changed_object_at-object}
+use Rattle.agreement.specs.Agreement.{Stands}
+use Rattle.agreement.specs.PlainForms.{HasPlainForms}
+use Rattle.owned_fact_laws.specs.Outcomes.{IsPlainRow}
+use Rattle.place_laws.proofs.Laws.{single_place-same}
+use Rattle.operand_type_laws.specs.Operands as operand_types
+use Rattle.operand_type_laws.specs.Operands.{NoObject}
+use Rattle.operand_source_laws.specs.Origins.{MakesNone}
+use Rattle.range_laws.specs.Nexts.{IsPlainStep}
+use Rattle.tracking_laws.proofs.Ready.{plain_step, row_sets, step_there}
+use Rattle.typed_step_laws.specs.Typed.{HasField, NamesMembers}
+use Rattle.value_type_laws.specs.Types.{HaveTypes, KeepsTypes}
+use Rattle.value_type_laws.proofs.Laws.{made_value_is_no_object}
+use Rattle.covered_field_laws.specs.PlaceFacts.{AreCovered}
+use Rattle.covered_field_laws.specs.Ranges.{FieldsInRange, LocalsInRange}
+use Rattle.covering_laws.specs.Throws.{ExceptionsAreUnlinked, ThrowsNoNullPointer}
+use Rattle.covering_laws.proofs.InnerSteps.{carries, fields, heap, inner_covered, linked_were, roots, unfinished, value}
+use Rattle.covering_laws.proofs.LightExceptions.{operation_is_light}
+use Rattle.covering_laws.proofs.LocalSteps.{LocalsIn, all_there, holds_there, local_step, names_members}
+use Rattle.covering_laws.proofs.TopSteps.{IsLocalStep}
+use Rattle.covering_laws.proofs.Waiting.{AllHeldBefore, KeepsRoots, KeepsUnfinished, all_held_before, all_keep, all_wait, frames_ready, no_other}
+use Rattle.covering_laws.proofs.LinkedExceptions.{still_unlinked}
+
+-- an exception that is made is of its class
+pub exception_class_is : (p : Program) (e : ClassId) (h : HeapContents) (y : Object) → object_at (with_exception p e h) (next_number h) ≡ Some y → y.class ≡ e
+exception_class_is p e h y at = by (nat_eq (next_number h) (next_number h)) (let both : Some (only_at (next_number h) (finished (must_of p e) owners.Library) (next_number h) (heaps.unfinished e)) ≡ Some y = sym there ∙ at in (
+    let one : only_at (next_number h) (finished (must_of p e) owners.Library) (next_number h) (heaps.unfinished e) ≡ y = cc in one))
+  where
+    appended : object_at (append h e) (next_number h) ≡ Some (heaps.unfinished e)
+    appended = appended_object_at-object h e (next_number h) ∙ ap (λ (b : Bool). if b then Some (heaps.unfinished e) else object_at h (next_number h)) (eq-eqb (next_number h) (next_number h) refl)
+
+    there : object_at (with_exception p e h) (next_number h) ≡ Some (only_at (next_number h) (finished (must_of p e) owners.Library) (next_number h) (heaps.unfinished e))
+    there = changed_object_at-object (only_at (next_number h) (finished (must_of p e) owners.Library)) (append h e) (next_number h)
+        ∙ ap (option_map (only_at (next_number h) (finished (must_of p e) owners.Library) (next_number h))) appended
+
+    by : (b : Bool) → (if b then finished (must_of p e) owners.Library (heaps.unfinished e) else heaps.unfinished e) ≡ y → y.class ≡ e
+    by true is = ap (λ (z : Object). z.class) (sym is)
+    by false is = ap (λ (z : Object). z.class) (sym is)
+
+goes_on : (e : Edge) → same_edge edges.Go e ≡ true → e ≡ edges.Go
+goes_on edges.Go is = refl
+goes_on edges.Null is = absurd (true≢false (sym is))
+goes_on edges.NonNull is = absurd (true≢false (sym is))
+goes_on edges.True is = absurd (true≢false (sym is))
+goes_on edges.False is = absurd (true≢false (sym is))
+goes_on (edges.Throws c) is = absurd (true≢false (sym is))
+
+-- a thrown object goes by the class of its expression
+no_null_pointer : (p : Program) (s : Option ClassId) (e : Edge) → ((c : ClassId) → s ≡ Some c → is_class c p.core.null_pointer_exception ≡ false) → same_edge (edge_of_class s) e ≡ true → is_null_pointer p e ≡ false
+no_null_pointer p None e other is = ap (is_null_pointer p) (goes_on e is)
+no_null_pointer p (Some c) (edges.Throws d) other is = same_number c.0 d.0 p.core.null_pointer_exception.0 is (other c refl)
+  where
+    same_number : (a b n : ℕ) → nat_eq a b ≡ true → nat_eq a n ≡ false → nat_eq b n ≡ false
+    same_number a b n same apart = ap (λ (k : ℕ). nat_eq k n) (sym (eqb-true a b same)) ∙ apart
+no_null_pointer p (Some c) edges.Go other is = refl
+no_null_pointer p (Some c) edges.Null other is = refl
+no_null_pointer p (Some c) edges.NonNull other is = refl
+no_null_pointer p (Some c) edges.True other is = refl
+no_null_pointer p (Some c) edges.False other is = refl
+
+emptied_by : (b c : Bool) (q : Place) → emptied (b && c) q ≡ None → b ≡ true
+emptied_by true c q is = refl
+emptied_by false c q is = absurd (let never : Some q ≡ None = is in cc)
+
+module _ (p : Program) (ac : Accept p) (forms : HasPlainForms p) (others : ThrowsNoNullPointer p) (texts : MakesNoString p) (c : Config) (types' : HaveTypes p c) (links : HasLibraryLinks c.heap) (ranges : FieldsInRange c.heap)
+    (fr : Frame) (st : Stands p fr) (keeps : KeepsTypes p fr) (i : ℕ) (s : Step) (here : slice_get (frame_steps p fr) i ≡ Some s) (e : Option ClassId)
+    (step : IsPlainStep p c.heap c.arrays fr.method fr.locals e s) where
+  abbrev h : HeapContents
+  h = c.heap
+
+  abbrev made : Value
+  made = made_value p h c.arrays c.statics (next_choice c.choices c.used) fr.locals s.action
+
+  -- what is made is no object, or a fact that is not owned is born for it
+  abbrev IsGiven : Place → Type 0
+  IsGiven q = (number_of made ≡ None) ⊎ ((g : Origin) × (birth_on p s.action s.edge s.pos ≡ Some (g, fact_at q modes.None no_names true)) × (g.kind ≡ kinds.Read))
+
+  none_made : MakesNone p s.action → number_of made ≡ None
+  none_made makes = made_value_is_no_object p ac texts c fr types' keeps i s (next_choice c.choices c.used) here makes
+
+  nothing_by : (a : Action) → s.action ≡ a → number_of (made_value p h c.arrays c.statics (next_choice c.choices c.used) fr.locals a) ≡ None → number_of made ≡ None
+  nothing_by a is none = ap (λ (b : Action). number_of (made_value p h c.arrays c.statics (next_choice c.choices c.used) fr.locals b)) is ∙ none
+
+  -- the edge of a step that throws nothing of its own
+  edge_by : (a : Action) → s.action ≡ a → e ≡ None → agrees_with p h c.arrays fr.method fr.locals a s.edge ≡ same_edge (operation_edge a (thrown_by_operation p h c.arrays fr.locals a)) s.edge
+      → same_edge (operation_edge a None) s.edge ≡ true
+  edge_by a is normal same =
+      ap (λ (x : Option ClassId). same_edge (operation_edge a x) s.edge) (sym normal ∙ step.thrown ∙ ap (thrown_by_operation p h c.arrays fr.locals) is)
+      ∙ sym same ∙ ap (λ (b : Action). agrees_with p h c.arrays fr.method fr.locals b s.edge) (sym is) ∙ step.agreeing
+
+  no_place : (a : Action) (q : Place) → s.action ≡ a → is_made (made_place a) q ≡ false → is_made (made_place s.action) q ≡ true → ⊥
+  no_place a q is none made' = true≢false (sym made' ∙ ap (λ (b : Action). is_made (made_place b) q) is ∙ none)
+
+  plain_given : (x : Place) (v : PlainValue) (q : Place) → s.action ≡ actions.Plain x v → IsGiven q
+  plain_given x (plain_values.LibraryConstant m) q is = inl (nothing_by (actions.Plain x (plain_values.LibraryConstant m)) is refl)
+  plain_given x (plain_values.Literal v) q is = inl (none_made (subst (MakesNone p) (sym is) tt))
+  plain_given x (plain_values.Default t) q is = inl (none_made (subst (MakesNone p) (sym is) tt))
+  plain_given x (plain_values.StaticField f) q is = inl (none_made (subst (MakesNone p) (sym is) tt))
+
+  read_given : (f : FieldId) (d : ℕ) (this : Bool) (q : Place) → s.action ≡ actions.Get f d this → e ≡ None → is_made (made_place s.action) q ≡ true → IsGiven q
+  read_given f d this q is normal made' = by field.0.vtype refl
+    where
+      field : HasField p f
+      field = subst (NamesMembers p st.body) is (names_members p ac forms fr st i s here)
+
+      edge : s.edge ≡ edges.Go
+      edge = goes_on s.edge (edge_by (actions.Get f d this) is normal refl)
+
+      place : places.Temp d ≡ q
+      place = single_place-same (places.Temp d) q (ap (λ (b : Action). is_made (made_place b) q) (sym is) ∙ made')
+
+      none_by : is_class_type field.0.vtype ≡ false → IsGiven q
+      none_by other = inl (none_made (subst (MakesNone p) (sym is) (subst (λ (x : Option Field). NoObject (operand_types.type_of_field x)) (sym field.1) other)))
+
+      by : (t : VType) → field.0.vtype ≡ t → IsGiven q
+      by (types.Obj k) type = inr (
+        origin_of p kinds.Read s.pos k None,
+        ap (λ (a : Action). birth_on p a s.edge s.pos) is ∙ ap (λ (g : Edge). birth_on p (actions.Get f d this) g s.pos) edge
+            ∙ ap (λ (x : Option Field). read_birth p (places.Temp d) s.pos (signatures.type_of_field x)) field.1 ∙ ap (λ (t : VType). read_birth p (places.Temp d) s.pos (Some t)) type
+            ∙ ap (λ (z : Place). Some (origin_of p kinds.Read s.pos k None, fact_at z modes.None no_names true)) place,
+        refl,
+      )
+      by (types.Primitive k) type = none_by (ap is_class_type type)
+      by types.Str type = none_by (ap is_class_type type)
+      by (types.Arr k) type = none_by (ap is_class_type type)
+      by types.NullType type = none_by (ap is_class_type type)
+
+  -- the object that is thrown stays in its place
+  raised : (d : ℕ) (x : Option ClassId) (q : Place) → s.action ≡ actions.Raise d x → e ≡ None → source p st.body s.action s.edge q ≡ None → ⊥
+  raised d x q is normal none =
+      true≢false (sym (emptied_by (is_null_pointer p s.edge) (is_temp d q) q (ap (λ (a : Action). source p st.body a s.edge q) (sym is) ∙ none))
+      ∙ no_null_pointer p x s.edge (λ k same. others st.number fr.control i (move_of s) d k st.control (step_there p fr st i s here) (is ∙ ap (actions.Raise d) same))
+      (edge_by (actions.Raise d x) is normal refl))
+
+  given : (q : Place) → e ≡ None → source p st.body s.action s.edge q ≡ None → is_made (made_place s.action) q ≡ true → IsGiven q
+  given q normal none made' = go s.action refl
+    where
+      go : (a : Action) → s.action ≡ a → IsGiven q
+      go (actions.Plain x v) is = plain_given x v q is
+      go (actions.Op k d n) is = inl (none_made (subst (MakesNone p) (sym is) tt))
+      go (actions.Get f d this) is = read_given f d this q is normal made'
+      go (actions.Put f d this) is = inl (nothing_by (actions.Put f d this) is refl)
+      go (actions.Cast t d) is = inl (nothing_by (actions.Cast t d) is refl)
+      go (actions.Raise d x) is = absurd (raised d x q is normal none)
+      go (actions.Call m d n form) is = absurd (subst IsPlainRow is step.row)
+      go (actions.New m d n) is = absurd (subst IsPlainRow is step.row)
+      go (actions.Super m d n) is = absurd (subst IsPlainRow is step.row)
+      go actions.Skip is = absurd (no_place actions.Skip q is refl made')
+      go a is = absurd (no_place a q is refl made')
+
+  pub local : IsLocalStep p fr st s
+  local = local_step p ac forms fr st i s here (row_sets p s.action (plain_step p ac forms fr st i s here) step.row) step.way
+
+  abbrev after : Frame
+  after = frame_after p h fr s (value p ac forms h links fr st i s here local step.row step.test e made)
+
+  abbrev heap_then : HeapContents
+  heap_then = heap p ac forms h links fr st i s here local step.row step.test e made
+
+  light : (k : ClassId) (y : Object) → e ≡ Some k → object_at heap_then (next_number h) ≡ Some y → is_heavy_class p y.class ≡ false
+  light k y same at =
+      ap (is_heavy_class p) (exception_class_is p k h y (subst (λ (x : Option ClassId). object_at (heap_stored p (method_at p fr.method) fr.locals (store_unless x (store_of fr.locals s.action)) (thrown_heap p x h)) (next_number h) ≡ Some y) same at))
+      ∙ operation_is_light p ac h c.arrays fr.locals s.action k (sym step.thrown ∙ same)
+
+  plain_roots : KeepsRoots h heap_then
+  plain_roots = roots p ac forms h links fr st i s here local step.row step.test e made
+
+  pub plain_linked : ExceptionsAreUnlinked p h → ExceptionsAreUnlinked p heap_then
+  plain_linked = still_unlinked p h heap_then (linked_were p ac forms h links fr st i s here local step.row step.test e made)
+
+  pub plain_unfinished : KeepsUnfinished h heap_then no_other
+  plain_unfinished = unfinished p ac forms h links fr st i s here local step.row step.test e made
+
+  pub plain_covered : (frs : List Frame) → LocalsIn h (fr ∷ frs) → AreCovered p h (fr ∷ frs) → AreCovered p heap_then (after ∷ frs)
+  plain_covered frs in' covered = (
+    inner_covered p ac forms h links fr st i s here local step.row step.test e made covered.0
+        (holds_there p h ranges fr (All-head (λ (x : Frame). LocalsInRange h x.locals) fr frs in')) light given,
+    all_wait p h heap_then links plain_roots (carries p ac forms h links fr st i s here local step.row step.test e made) frs
+        (all_keep p h heap_then (fields p ac forms h links fr st i s here local step.row step.test e made) frs)
+        (all_there p h ranges frs (All-tail (λ (x : Frame). LocalsInRange h x.locals) fr frs in')) (frames_ready p h heap_then plain_unfinished frs) covered.1,
+  )
+
+  pub plain_held_before : (frs : List Frame) → LocalsIn h frs → AllHeldBefore p h heap_then frs
+  plain_held_before frs in' =
+      all_held_before p h heap_then plain_roots frs (all_keep p h heap_then (fields p ac forms h links fr st i s here local step.row step.test e made) frs) (all_there p h ranges frs in')

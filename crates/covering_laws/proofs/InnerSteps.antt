@@ -1,0 +1,228 @@
+-- A step within the top frame that stores into no owning field.
+use Rattle.std.proofs.Common.{◌≡◌, ◌⊎◌, inl, inr, ℕ, ◌+◌, Bool, true, false, ◌&&◌, Option, Some, None, slice_get, refl, sym, ap, ◌∙◌, true≢false, arith}
+use Rattle.std.specs.FinSet as set
+use Rattle.rlc_base.proofs.SetLaws.{within_self}
+use Rattle.program_model.specs.declared.kinds.ClassId.{ClassId}
+use Rattle.program_model.specs.declared.kinds.FieldId.{FieldId}
+use Rattle.program_model.specs.declared.program.Method.{Method}
+use Rattle.program_model.specs.declared.program.Program.{Program}
+use Rattle.program_model.specs.Lookups.{method_at}
+use Rattle.must_call_sets.specs.MustCallSets.{Names, is_heavy_class, no_names}
+use Rattle.java_control.specs.Control.{Step}
+use Rattle.java_control.specs.Owned.{is_owning}
+use Rattle.java_control.specs.PlaceNumbers.{IsSmall}
+use Rattle.java_control.specs.Sources.{source}
+use Rattle.java_control.specs.declared.action.Action.{Action}
+use Rattle.java_control.specs.declared.action.Action.TheVariants as actions
+use Rattle.java_control.specs.declared.action.Edge.{Edge}
+use Rattle.java_control.specs.declared.action.Edge.TheVariants as edges
+use Rattle.java_control.specs.declared.fact.Fact.{Fact}
+use Rattle.java_control.specs.declared.fact.Mode.TheVariants as modes
+use Rattle.java_control.specs.declared.fact.Origin.{Origin}
+use Rattle.java_control.specs.declared.fact.OriginKind.TheVariants as kinds
+use Rattle.java_control.specs.declared.place.Place.{Place}
+use Rattle.java_control.specs.declared.place.Place.TheVariants as places
+use Rattle.obligation_facts.specs.Facts.{has}
+use Rattle.obligation_facts.specs.SmallActions.{IsSmallAction}
+use Rattle.called_methods.specs.CalledRows.{called_after}
+use Rattle.ownership_rules.specs.Births.{birth_on, fact_at}
+use Rattle.program_model.specs.declared.kinds.BodyId.{BodyId}
+use Rattle.accepted_programs.specs.Accept.{Accept}
+use Rattle.ledger_state.specs.Contents.{HeapContents}
+use Rattle.ledger_state.specs.Fields.{field_value}
+use Rattle.ledger_state.specs.Heaps.{next_number, object_at, root, root_of}
+use Rattle.ledger_state.specs.Locals.{temp_value}
+use Rattle.ledger_state.specs.Values.{is_null, number_of}
+use Rattle.ledger_state.specs.declared.locals.Locals.{Locals}
+use Rattle.ledger_state.specs.declared.object.Object.{Object}
+use Rattle.ledger_state.specs.declared.value.Value.{Value}
+use Rattle.ledger_state.specs.declared.value.Value.TheVariants as values
+use Rattle.ledger_operations.specs.Places.{place_value}
+use Rattle.ledger_calls.specs.Configuration.{Frame}
+use Rattle.ledger_frames.specs.Choosing.{frame_steps}
+use Rattle.ledger_frames.specs.Frames.{frame_after, is_made, made_place}
+use Rattle.ledger_steps.specs.declared.store.Store.{Store}
+use Rattle.ledger_steps.specs.InnerSteps.{heap_stored, store_into, store_of, store_unless, thrown_heap, thrown_value}
+use Rattle.heap_laws.specs.Heaps.{GoesOn, HasLibraryLinks}
+use Rattle.heap_laws.proofs.Laws.{numbers_are_in_range}
+use Rattle.library_call_laws.proofs.Laws.{exceptions_are_the_librarys, exceptions_keep_links-evolves}
+use Rattle.place_laws.specs.Places.{is_local}
+use Rattle.agreement.specs.Agreement.{Stands}
+use Rattle.agreement.specs.PlainForms.{HasPlainForms, IsPlainAction}
+use Rattle.owned_fact_laws.specs.Outcomes.{IsNotNull, IsPlainRow}
+use Rattle.store_laws.proofs.Fields.{plain_holds}
+use Rattle.fact_step_laws.proofs.Going.{other_steps}
+use Rattle.tracking_laws.specs.Steps.{IsTrueTest}
+use Rattle.covered_field_laws.specs.PlaceFacts.{AllHold, Covers, IsCovered, is_lent}
+use Rattle.covering_laws.proofs.Births.{born_covers}
+use Rattle.covered_field_laws.proofs.Following.{plain_step}
+use Rattle.tracking_laws.proofs.Ready.{row_gives_none}
+use Rattle.covering_laws.proofs.TopSteps.{IsLocalStep, top_covered, after_as}
+use Rattle.covering_laws.proofs.Waiting.{Carries, HoldsThere, KeepsFields, KeepsRoots, KeepsUnfinished, all_ready, linked_roots, new_root, no_other}
+use Rattle.covering_laws.proofs.LinkedExceptions.{LinkedWere}
+use Rattle.covering_laws.proofs.BornTruths.{read_unlent}
+use Rattle.fact_step_laws.specs.Going.{GoesAs}
+use Rattle.flow_rules.specs.Flow.{flow}
+use Rattle.alias_sets.specs.PlaceRows.{places_after}
+
+-- an object as it is goes on
+pub same_goes_on : (x : Object) → GoesOn x x
+same_goes_on x = record { class = refl; link = refl; finished = refl; must = refl; called = within_self x.called }
+
+-- ---- the heap
+
+abbrev pub IsPlainStore : Program → Option Store → Type 0
+IsPlainStore p None = Unit {0}
+IsPlainStore p (Some s) = is_owning p s.field ≡ false
+
+plain_stored : (p : Program) (m : Option Method) (l : Locals) (s : Option Store) (h : HeapContents) (n : ℕ) → IsPlainStore p s → object_at (heap_stored p m l s h) n ≡ object_at h n
+plain_stored p m l None h n plain = refl
+plain_stored p m l (Some s) h n plain = rw plain refl
+
+plain_into : (p : Program) (w : Option ℕ) (f : FieldId) (v : Value) → is_owning p f ≡ false → IsPlainStore p (store_into w f v)
+plain_into p None f v plain = tt
+plain_into p (Some w) f v plain = plain
+
+plain_store_of : (p : Program) (l : Locals) (a : Action) → IsPlainRow a → IsPlainAction p a → IsPlainStore p (store_of l a)
+plain_store_of p l actions.Skip row plain = tt
+plain_store_of p l (actions.Put f d this) row plain = plain_into p (number_of (temp_value l d)) f (temp_value l (d + 1)) plain
+plain_store_of p l (actions.PutOwn f d) row plain = absurd row
+plain_store_of p l a row plain = tt
+
+plain_unless : (p : Program) (e : Option ClassId) (s : Option Store) → IsPlainStore p s → IsPlainStore p (store_unless e s)
+plain_unless p None s plain = plain
+plain_unless p (Some e) s plain = tt
+
+same_thrown_fields : (p : Program) (e : Option ClassId) (h : HeapContents) (w : ℕ) (f : FieldId) → field_value p (thrown_heap p e h) w f ≡ field_value p h w f
+same_thrown_fields p None h w f = refl
+same_thrown_fields p (Some e) h w f = refl
+
+-- the owning fields hold what they held
+stored_fields : (p : Program) (m : Option Method) (l : Locals) (s : Option Store) (h : HeapContents) (w : ℕ) (f : FieldId) → IsPlainStore p s → is_owning p f ≡ true
+    → field_value p (heap_stored p m l s h) w f ≡ field_value p h w f
+stored_fields p m l None h w f plain own = refl
+stored_fields p m l (Some s) h w f plain own = rw plain (elim (plain_holds p h s.holder w s.field f s.value) [
+  | inl same ↦ same
+  | inr other ↦ absurd (true≢false (sym own ∙ ap (is_owning p) other.1 ∙ plain))
+])
+
+-- ---- what the step lets go on
+
+pub no_object : (h : HeapContents) (v : Value) (o : ℕ) → is_null v ≡ true → root_of h v ≡ Some o → ⊥
+no_object h values.Nothing o null is = cc
+no_object h (values.Object k) o null is = true≢false (sym null)
+no_object h v o null is = cc
+
+pub not_null : (p : Program) (h : HeapContents) (fr : Frame) (o : ℕ) (f : Fact) (a : Action) (e : Edge) → IsSmallAction p a → AllHold p h fr.method fr.locals o f.places → IsTrueTest fr.locals a e → IsNotNull f a e
+not_null p h fr o f actions.Skip e small hold test = tt
+not_null p h fr o f (actions.Test d) edges.Null small hold test = go (has f.places (places.Temp d)) refl
+  where
+    go : (b : Bool) → has f.places (places.Temp d) ≡ b → has f.places (places.Temp d) ≡ false
+    go true is = absurd (no_object h (temp_value fr.locals d) o test (hold (places.Temp d) small is))
+    go false is = is
+not_null p h fr o f (actions.Test d) e small hold test = tt
+not_null p h fr o f a e small hold test = tt
+
+-- a step that calls nothing knows of no more calls
+pub same_names : (p : Program) (b : BodyId) (a : Action) (e : Edge) (f : Fact) → IsPlainRow a → IsNotNull f a e → called_after p b a e f ≡ f.called
+same_names p b actions.Skip e f row safe = refl
+same_names p b (actions.Test d) edges.Null f row safe = rw safe refl
+same_names p b (actions.Test d) e f row safe = refl
+same_names p b (actions.Call m d n form) e f row safe = absurd row
+same_names p b (actions.New m d n) e f row safe = absurd row
+same_names p b (actions.Super m d n) e f row safe = absurd row
+same_names p b a e f row safe = refl
+
+-- ---- the step
+
+module _ (p : Program) (ac : Accept p) (forms : HasPlainForms p) (h : HeapContents) (links : HasLibraryLinks h) (fr : Frame) (st : Stands p fr) (i : ℕ) (s : Step) (here : slice_get (frame_steps p fr) i ≡ Some s)
+    (r : IsLocalStep p fr st s) (row : IsPlainRow s.action) (test : IsTrueTest fr.locals s.action s.edge) (e : Option ClassId) (made : Value) where
+  abbrev store : Option Store
+  store = store_unless e (store_of fr.locals s.action)
+
+  abbrev pub heap : HeapContents
+  heap = heap_stored p (method_at p fr.method) fr.locals store (thrown_heap p e h)
+
+  abbrev pub value : Value
+  value = thrown_value h e made
+
+  is_plain : IsPlainStore p store
+  is_plain = plain_unless p e (store_of fr.locals s.action) (plain_store_of p fr.locals s.action row (plain_step p ac fr st i s here forms))
+
+  was_there : (o : ℕ) (y : Object) → object_at heap o ≡ Some y → (object_at h o ≡ Some y) ⊎ ((o ≡ next_number h) × (object_at (thrown_heap p e h) o ≡ Some y) × (y.link ≡ None))
+  was_there o y at = elim (exceptions_are_the_librarys p e h o y now) [ inl old ↦ inl old | inr new ↦ inr (new.0, now, new.2) ]
+    where
+      now : object_at (thrown_heap p e h) o ≡ Some y
+      now = sym (plain_stored p (method_at p fr.method) fr.locals store (thrown_heap p e h) o is_plain) ∙ at
+
+  pub roots : KeepsRoots h heap
+  roots = linked_roots h heap links (λ n x at.
+      let y = exceptions_keep_links-evolves p e h n x at in
+      (y.0, plain_stored p (method_at p fr.method) fr.locals store (thrown_heap p e h) n is_plain ∙ y.1, y.2.link))
+
+  next_root : root heap (next_number h) ≡ next_number h
+  next_root = new_root h heap (λ y at. elim (was_there (next_number h) y at) [
+    | inl old ↦ absurd (let range = numbers_are_in_range h (next_number h) y old in let below = range.1 in omega (arith, below))
+    | inr new ↦ new.2
+  ])
+
+  pub linked_were : LinkedWere h heap
+  linked_were n y l at some = elim (was_there n y at) [ inl old ↦ (y, old, some, refl) | inr new ↦ absurd (let never : None ≡ Some l = sym new.2 ∙ some in cc) ]
+
+  pub unfinished : KeepsUnfinished h heap no_other
+  unfinished o x y apart before now none = elim (was_there o y now) [
+    | inl old ↦ ap (λ (z : Object). z.finished) (let both : Some y ≡ Some x = sym old ∙ before in (let one : y ≡ x = cc in one)) ∙ none
+    | inr new ↦ absurd (let number = new.0 in let range = numbers_are_in_range h o x before in let below = range.1 in omega (arith, number, below))
+  ]
+
+  pub carries : Carries h heap
+  carries o y at below = elim (was_there o y at) [
+    | inl old ↦ (y, old, refl, (λ is. same_goes_on y), refl)
+    | inr new ↦ absurd (let number = new.0 in omega (arith, number, below))
+  ]
+
+  pub fields : KeepsFields p h heap
+  fields w f own = stored_fields p (method_at p fr.method) fr.locals store (thrown_heap p e h) w f is_plain own ∙ same_thrown_fields p e h w f
+
+  -- what is made is no object, or a fact that is not owned is born for it
+  abbrev pub IsGiven : Place → Type 0
+  IsGiven q = (number_of made ≡ None) ⊎ ((g : Origin) × (birth_on p s.action s.edge s.pos ≡ Some (g, fact_at q modes.None no_names true)) × (g.kind ≡ kinds.Read))
+
+  no_number : (k : HeapContents) (v : Value) (o : ℕ) → number_of v ≡ None → root_of k v ≡ Some o → ⊥
+  no_number k (values.Object n) o none is = absurd (let never : Some n ≡ None = none in cc)
+  no_number k v o none is = cc
+
+  module _ (covered : IsCovered p h fr) (inside : HoldsThere p h fr)
+      (light : (c : ClassId) (y : Object) → e ≡ Some c → object_at heap (next_number h) ≡ Some y → is_heavy_class p y.class ≡ false)
+      (gives : (q : Place) → e ≡ None → source p st.body s.action s.edge q ≡ None → is_made (made_place s.action) q ≡ true → IsGiven q) where
+    given : (q : Place) (o : ℕ) (y : Object) → IsSmall q → is_local q ≡ true → source p st.body s.action s.edge q ≡ None → is_made (made_place s.action) q ≡ true
+        → place_value p heap fr.method (frame_after p h fr s value).locals q ≡ value → root_of heap value ≡ Some o → object_at heap o ≡ Some y → is_heavy_class p y.class ≡ true
+        → Covers p heap (frame_after p h fr s value) q o y
+    given q o y small local none there is found' at heavy = by e refl found'
+      where
+        by : (x : Option ClassId) → e ≡ x → root_of heap (thrown_value h x made) ≡ Some o → Covers p heap (frame_after p h fr s value) q o y
+        by (Some c) same found =
+            let number : next_number h ≡ o = sym next_root ∙ (let both : root_of heap (values.Object (next_number h)) ≡ Some o = found in cc) in
+            absurd (true≢false (sym heavy ∙ light c y same (ap (object_at heap) number ∙ at)))
+        by None same found = elim (gives q same none there) [
+          | inl nothing ↦ absurd (no_number heap made o nothing found)
+          | inr birth ↦ born_covers p heap fr st i s here (frame_after p h fr s value) q o y birth.0 modes.None true refl refl small local birth.1
+              (ap (root_of heap) is ∙ found') (λ m. ap (is_lent p m) birth.2 ∙ read_unlent p m) (λ claimed. absurd (true≢false (sym claimed ∙ unclaimed (is_heavy_class p birth.0.class))))
+        ]
+          where
+            unclaimed : (b : Bool) → (b && false) ≡ false
+            unclaimed true = refl
+            unclaimed false = refl
+
+    pub inner_covered : IsCovered p heap (frame_after p h fr s value)
+    inner_covered = top_covered p ac h heap links roots carries fields fr st i s here r inside value covered (all_ready p h heap unfinished fr)
+        (λ o f g. Unit {0})
+        (λ z o x c q is. after_as (GoesAs c.fact (places_after p st.number s.action s.edge c.fact.places) (called_after p st.number s.action s.edge c.fact))
+        (λ (g : Fact). GoesAs c.fact (places_after p st.number s.action s.edge c.fact.places) (called_after p st.number s.action s.edge c.fact) g × Unit {0})
+        (flow p st.number c.origin s.action s.edge c.fact) (λ g goes. (goes, tt))
+        (other_steps p st.number c.origin s.action s.edge c.fact q row (not_null p h fr o c.fact s.action s.edge r.small c.places test) is))
+        (λ z o x y c before at g more trusted done goes wide some owes was.
+        ap (λ (t : Names). set.is_subset t y.called) (same_names p st.number s.action s.edge c.fact row (not_null p h fr o c.fact s.action s.edge r.small c.places test))
+        ∙ was)
+        (λ z o x c before some owes gives. absurd (true≢false (sym gives ∙ row_gives_none p s.action s.edge c.fact.places row)))
+        (λ q o y small local none there is found' at heavy owes. inl (given q o y small local none there is found' at heavy))

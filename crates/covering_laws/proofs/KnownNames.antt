@@ -1,0 +1,144 @@
+-- The names that a fact which covers a place knows after a call: its own, that of the method where it has the receiver, and what the
+-- signature promises on the targets that it has.
+use Rattle.std.proofs.Common.{◌≡◌, ℕ, suc, ◌<◌, Bool, true, false, Option, Some, None, List, [], ◌∷◌, slice_get, lt-ltb, nat_lt, refl, sym, ap, ◌∙◌, subst, true≢false, if◌then◌else◌}
+use Rattle.std.specs.FinSet as set
+use Rattle.rlc_base.specs.declared.name_id.NameId.{NameId}
+use Rattle.rlc_base.proofs.SetLaws.{empty_within, insert_within, union_within}
+use Rattle.program_model.specs.declared.kinds.BodyId.{BodyId}
+use Rattle.program_model.specs.declared.kinds.MethodId.{MethodId}
+use Rattle.program_model.specs.declared.program.Program.{Program}
+use Rattle.program_model.specs.declared.program.Promise.{Promise}
+use Rattle.must_call_sets.specs.Bodies.{promises_in, throwing_promises_in}
+use Rattle.must_call_sets.specs.MustCallSets.{Names}
+use Rattle.must_call_sets.specs.Signatures.{when}
+use Rattle.java_control.specs.Calls.{is_reset_of_this, operand_at}
+use Rattle.java_control.specs.declared.action.Action.{Action}
+use Rattle.java_control.specs.declared.action.Action.TheVariants as actions
+use Rattle.java_control.specs.declared.action.Edge.{Edge}
+use Rattle.java_control.specs.declared.action.Edge.TheVariants as edges
+use Rattle.java_control.specs.declared.fact.Fact.{Fact}
+use Rattle.java_control.specs.declared.place.Place.TheVariants as places
+use Rattle.obligation_facts.specs.Callees.{callee, holds_operand, is_super_target, may_be_null_target}
+use Rattle.obligation_facts.specs.Facts.{PlaceSet, has, has_temp}
+use Rattle.obligation_facts.specs.SmallActions.{IsSmallAction, IsSmallTemp}
+use Rattle.obligation_facts.proofs.SmallOperands.{operand_has_room}
+use Rattle.called_methods.specs.CalledRows.{called_after, called_at_call, called_by, holds_receiver, holds_target, interest_in, promised_at, promises_at, with_name}
+use Rattle.ledger_state.specs.Contents.{HeapContents}
+use Rattle.ledger_state.specs.Heaps.{root_of}
+use Rattle.ledger_state.specs.Locals.{temp_in, temp_value}
+use Rattle.ledger_state.specs.declared.locals.Locals.{Locals}
+use Rattle.ledger_calls.specs.Calls.{depth_at, operand_of}
+use Rattle.owned_fact_laws.specs.Outcomes.{IsCallRow}
+use Rattle.covered_field_laws.specs.PlaceFacts.{AllHold}
+
+-- ---- operands
+
+holds_at : (held : PlaceSet) (d : Option ℕ) → has_temp held d ≡ true → (n : ℕ) × (d ≡ Some n) × (has held (places.Temp n) ≡ true)
+holds_at held None is = absurd (true≢false (sym is))
+holds_at held (Some n) is = (n, refl, is)
+
+depth_is : (a : Action) (k n : ℕ) → k < 4294967296 → operand_at a k ≡ Some n → depth_at a k ≡ Some n
+depth_is a k n below is = rw (lt-ltb k 4294967296 below) is
+
+-- the operand of a fact's place is its object
+pub operand_holds : (p : Program) (h : HeapContents) (m : MethodId) (l : Locals) (a : Action) (o k : ℕ) (held : PlaceSet) → IsSmallAction p a → k < 4294967296
+    → AllHold p h m l o held → holds_operand a held k ≡ true → root_of h (operand_of l a k) ≡ Some o
+operand_holds p h m l a o k held small below hold is =
+    let d = holds_at held (operand_at a k) is in
+    let room : d.0 < 64 = subst IsSmallTemp d.1 (operand_has_room p a k small) in
+    ap (λ (x : Option ℕ). root_of h (temp_in l x)) (depth_is a k d.0 below d.1) ∙ hold (places.Temp d.0) room d.2
+
+-- the temp of an operand that is an object
+pub operand_temp : (l : Locals) (a : Action) (k : ℕ) (h : HeapContents) (o : ℕ) → root_of h (operand_of l a k) ≡ Some o → (n : ℕ) × (operand_at a k ≡ Some n) × (operand_of l a k ≡ temp_value l n)
+operand_temp l a k h o root = go (depth_at a k) refl
+  where
+    at_depth : (n : ℕ) (b : Bool) → (if b then operand_at a k else None) ≡ Some n → operand_at a k ≡ Some n
+    at_depth n true is = is
+    at_depth n false is = absurd (let never : None ≡ Some n = is in cc)
+
+    go : (x : Option ℕ) → depth_at a k ≡ x → (n : ℕ) × (operand_at a k ≡ Some n) × (operand_of l a k ≡ temp_value l n)
+    go None is = absurd (let never : None ≡ Some o = ap (λ (d : Option ℕ). root_of h (temp_in l d)) (sym is) ∙ root in cc)
+    go (Some n) is = (n, at_depth n (nat_lt k 4294967296) is, ap (temp_in l) is)
+
+-- the super class's part of `this` is none of the places that hold an object
+no_super : (p : Program) (h : HeapContents) (m : MethodId) (l : Locals) (o : ℕ) (held : PlaceSet) → AllHold p h m l o held → has held places.Super ≡ false
+no_super p h m l o held hold = go (has held places.Super) refl
+  where
+    go : (b : Bool) → has held places.Super ≡ b → has held places.Super ≡ false
+    go true is = absurd (let never : ◌≡◌ {A = Option ℕ} None (Some o) = hold places.Super tt is in cc)
+    go false is = is
+
+-- so the receiver is the operand of position 0, and the call is not `super.m()`
+pub receiver_is_operand : (p : Program) (h : HeapContents) (m : MethodId) (l : Locals) (o : ℕ) (a : Action) (held : PlaceSet) → AllHold p h m l o held → holds_receiver a held ≡ true
+    → (is_super_target a ≡ false) × (holds_operand a held 0 ≡ true)
+receiver_is_operand p h m l o a held hold is = go (is_super_target a) refl is
+  where
+    go : (b : Bool) → is_super_target a ≡ b → (if b then has held places.Super else holds_operand a held 0) ≡ true → (is_super_target a ≡ false) × (holds_operand a held 0 ≡ true)
+    go true super one = absurd (true≢false (sym one ∙ no_super p h m l o held hold))
+    go false other one = (other, one)
+
+-- ---- names
+
+-- what was called on the object has the name of the call
+own_name : (p : Program) (a : Action) (held : PlaceSet) (called names : Names) → set.is_subset called names ≡ true
+    → ((n : NameId) → holds_receiver a held ≡ true → interest_in (callee p a) ≡ Some n → set.contains names n.0 ≡ true)
+    → set.is_subset (called_at_call p a held called) names ≡ true
+own_name p a held called names known noted = go (holds_receiver a held) refl
+  where
+    named : (i : Option NameId) → interest_in (callee p a) ≡ i → holds_receiver a held ≡ true → set.is_subset (with_name called i) names ≡ true
+    named None same is = known
+    named (Some n) same is = insert_within called names n.0 known (noted n is same)
+
+    go : (x : Bool) → holds_receiver a held ≡ x → set.is_subset (if x then with_name called (interest_in (callee p a)) else called) names ≡ true
+    go true is = named (interest_in (callee p a)) refl is
+    go false is = known
+
+-- each of these promises whose target the fact has was kept
+abbrev pub AreKept : Program → BodyId → Action → PlaceSet → Names → List Promise → Type 0
+AreKept p b a held names [] = Unit {0}
+AreKept p b a held names (x ∷ xs) = (holds_target p b a held x.target ≡ true → set.is_subset x.names names ≡ true) × AreKept p b a held names xs
+
+-- all of these promises are kept where each is
+pub all_kept : (p : Program) (b : BodyId) (a : Action) (held : PlaceSet) (names : Names) (xs : List Promise)
+    → ((j : ℕ) (q : Promise) → slice_get xs j ≡ Some q → holds_target p b a held q.target ≡ true → set.is_subset q.names names ≡ true) → AreKept p b a held names xs
+all_kept p b a held names [] each = tt
+all_kept p b a held names (x ∷ xs) each = (each 0 x refl, all_kept p b a held names xs (λ j q is. each (suc j) q is))
+
+-- a signature that promises nothing promises nothing at an edge
+pub none_promised : (p : Program) (a : Action) (e : Edge) → promises_in (callee p a) ≡ [] → throwing_promises_in (callee p a) ≡ [] → promises_at p a e ≡ []
+none_promised p a edges.Go none thrown = none
+none_promised p a edges.Null none thrown = refl
+none_promised p a edges.NonNull none thrown = refl
+none_promised p a edges.True none thrown = refl
+none_promised p a edges.False none thrown = refl
+none_promised p a (edges.Throws t) none thrown = go (may_be_null_target p a (edges.Throws t))
+  where
+    go : (b : Bool) → (if b then [] else throwing_promises_in (callee p a)) ≡ []
+    go true = refl
+    go false = thrown
+
+promised_names_kept : (p : Program) (b : BodyId) (a : Action) (held : PlaceSet) (names : Names) (xs : List Promise) → AreKept p b a held names xs → set.is_subset (promised_at p b a held xs) names ≡ true
+promised_names_kept p b a held names [] kept = empty_within names
+promised_names_kept p b a held names (x ∷ xs) kept =
+    union_within (when (holds_target p b a held x.target) x.names) (promised_at p b a held xs) names (go (holds_target p b a held x.target) refl) (promised_names_kept p b a held names xs kept.1)
+  where
+    go : (t : Bool) → holds_target p b a held x.target ≡ t → set.is_subset (when t x.names) names ≡ true
+    go true is = kept.0 is
+    go false is = empty_within names
+
+both_known : (p : Program) (b : BodyId) (a : Action) (e : Edge) (f : Fact) (names : Names) → is_reset_of_this p a ≡ false → set.is_subset f.called names ≡ true
+    → ((n : NameId) → holds_receiver a f.places ≡ true → interest_in (callee p a) ≡ Some n → set.contains names n.0 ≡ true)
+    → AreKept p b a f.places names (promises_at p a e) → set.is_subset (called_by p b a e f) names ≡ true
+both_known p b a e f names no_reset known noted kept =
+    rw no_reset (union_within (called_at_call p a f.places f.called) (promised_at p b a f.places (promises_at p a e)) names
+    (own_name p a f.places f.called names known noted) (promised_names_kept p b a f.places names (promises_at p a e) kept))
+
+-- all names that the fact knows after the call
+pub known_after_call : (p : Program) (b : BodyId) (a : Action) (e : Edge) (f : Fact) (names : Names) → IsCallRow a → is_reset_of_this p a ≡ false → set.is_subset f.called names ≡ true
+    → ((n : NameId) → holds_receiver a f.places ≡ true → interest_in (callee p a) ≡ Some n → set.contains names n.0 ≡ true)
+    → AreKept p b a f.places names (promises_at p a e) → set.is_subset (called_after p b a e f) names ≡ true
+known_after_call p b actions.Skip e f names row no_reset known noted kept = absurd row
+known_after_call p b (actions.Call m d n form) e f names row no_reset known noted kept = both_known p b (actions.Call m d n form) e f names no_reset known noted kept
+known_after_call p b (actions.New m d n) e f names row no_reset known noted kept = both_known p b (actions.New m d n) e f names no_reset known noted kept
+known_after_call p b (actions.Super m d n) e f names row no_reset known noted kept = both_known p b (actions.Super m d n) e f names no_reset known noted kept
+known_after_call p b a e f names row no_reset known noted kept = absurd row

@@ -1,0 +1,584 @@
+-- A call of the library, or a read of its constant, begins and ends in one step of the top frame.
+use Rattle.std.specs.Prelude.{MatchBool, not, ℤ}
+use Rattle.std.proofs.Common.{Bool, List, None, Option, Some, ap, arith, false, inl, inr, refl, subst, suc, sym, true, true≢false, zero, ℕ, ◌∙◌, ◌∷◌, ◌≡◌, ◌⊎◌}
+use Rattle.std.proofs.lemmas.List.Elements.{All-tail}
+use Rattle.std.specs.FinSet as set
+use Rattle.rlc_base.specs.declared.name_id.NameId.{NameId}
+use Rattle.rlc_base.proofs.SetLaws.{within_self}
+use Rattle.program_model.specs.declared.kinds.ClassId.{ClassId}
+use Rattle.program_model.specs.declared.kinds.MethodId.{MethodId}
+use Rattle.program_model.specs.declared.kinds.MethodKind.{MethodKind}
+use Rattle.program_model.specs.declared.kinds.MethodKind.TheVariants as methods
+use Rattle.program_model.specs.declared.kinds.VType.{VType}
+use Rattle.program_model.specs.declared.kinds.VType.TheVariants as types
+use Rattle.program_model.specs.declared.program.Method.{Method}
+use Rattle.program_model.specs.declared.program.Program.{Program}
+use Rattle.program_model.specs.Lookups.{method_at}
+use Rattle.program_model.specs.Validity.{IsOfKind}
+use Rattle.must_call_sets.specs.Bodies.{alias_in, constructs, is_constructor_kind}
+use Rattle.must_call_sets.specs.MustCallSets.{Names, fits, is_empty, is_heavy_class, must_of, no_names}
+use Rattle.must_call_sets.specs.WellFormed.{HasSmallInterests}
+use Rattle.java_control.specs.Calls.{called_method, operand_at}
+use Rattle.java_control.specs.Control.{Step}
+use Rattle.java_control.specs.PlaceNumbers.{IsSmall}
+use Rattle.java_control.specs.declared.action.Action.{Action}
+use Rattle.java_control.specs.declared.action.Action.TheVariants as actions
+use Rattle.java_control.specs.declared.action.Edge.{Edge}
+use Rattle.java_control.specs.declared.action.Edge.TheVariants as edges
+use Rattle.java_control.specs.declared.action.PlainValue.TheVariants as plain_values
+use Rattle.java_control.specs.declared.action.TargetForm.{TargetForm}
+use Rattle.java_control.specs.declared.fact.Mode.TheVariants as modes
+use Rattle.java_control.specs.declared.fact.OriginKind.TheVariants as kinds
+use Rattle.java_control.specs.declared.place.Place.{Place}
+use Rattle.java_control.specs.declared.place.Place.TheVariants as places
+use Rattle.obligation_facts.specs.Callees.{callee, callee_in, is_super_target}
+use Rattle.called_methods.specs.CalledRows.{interest_in, called_after}
+use Rattle.ownership_rules.specs.Births.{birth_on, fact_at, origin_of, read_birth}
+use Rattle.ownership_rules.specs.MovesAtReturns as returns
+use Rattle.flow_rules.specs.Paths.{move_of}
+use Rattle.accepted_programs.specs.Accept.{Accept}
+use Rattle.stub_conduct.specs.declared.choice.Conduct.{Conduct}
+use Rattle.stub_conduct.specs.declared.choice.Conduct.TheVariants as conducts
+use Rattle.conduct_laws.specs.Fitting.{FitsMethod}
+use Rattle.ledger_state.specs.Contents.{HeapContents}
+use Rattle.ledger_state.specs.Heaps.{next_number, object_at, root, root_of}
+use Rattle.ledger_state.specs.declared.array.ArrayObject.{ArrayObject}
+use Rattle.ledger_state.specs.declared.locals.Locals.{Locals}
+use Rattle.ledger_state.specs.declared.object.Object.{Object}
+use Rattle.ledger_state.specs.declared.value.Value.{Value}
+use Rattle.ledger_state.specs.declared.value.Value.TheVariants as values
+use Rattle.ledger_obligations.specs.Obligations.{first_set, note}
+use Rattle.ledger_operations.specs.Places.{place_value}
+use Rattle.ledger_calls.specs.Calls.{alias_position, operand_of, position_object, position_of, reset_position}
+use Rattle.ledger_calls.specs.Conducts.{argument_of, conduct_value, first_in, given_value, made_by_new, positions, result_in, value_at}
+use Rattle.ledger_calls.specs.Configuration.{Frame}
+use Rattle.ledger_frames.specs.Choosing.{frame_steps}
+use Rattle.ledger_frames.specs.Frames.{frame_after, is_made, made_place}
+use Rattle.ledger_steps.specs.CallSteps.{library_heap}
+use Rattle.heap_laws.specs.Heaps.{HasLibraryLinks, IsOlder}
+use Rattle.heap_laws.proofs.Laws.{numbers_are_in_range, roots_of_links-absent}
+use Rattle.library_call_laws.specs.LibraryCalls.{IsAliasMadeAs, IsAliasOf, IsMadeAs}
+use Rattle.library_call_laws.proofs.Laws.{library_aliases_are_older_or_made, library_objects_are_older_or_made, receiver_is_called}
+use Rattle.place_laws.specs.Places.{IsWay, SetsLocals, is_local}
+use Rattle.place_laws.proofs.Laws.{single_place-same}
+use Rattle.named_step_laws.specs.Naming.{IsOfItsKind}
+use Rattle.named_step_laws.proofs.Reached.{names_what_is_there}
+use Rattle.agreement.specs.Agreement.{Stands}
+use Rattle.agreement.specs.PlainForms.{HasPlainForms, IsPlainAction, IsPlainSignature}
+use Rattle.owned_fact_laws.specs.Outcomes.{IsCallRow, IsPlainRow}
+use Rattle.fact_step_laws.proofs.Going.{other_steps}
+use Rattle.range_laws.specs.Nexts.{IsLibraryMove}
+use Rattle.tracking_laws.specs.Steps.{IsTrueTest, is_super}
+use Rattle.tracking_laws.proofs.CallNames.{IsReceiver, plain_no_reset, same_interest, small_name}
+use Rattle.tracking_laws.proofs.Ready.{call_sets, plain_step, row_gives_none, step_there}
+use Rattle.tracking_laws.proofs.Unmet.{way_of_call}
+use Rattle.typed_step_laws.specs.Typed.{IsLibraryConstant, NamesMembers}
+use Rattle.value_type_laws.proofs.Moved.{IsConstantRead}
+use Rattle.covered_field_laws.specs.PlaceFacts.{AreCovered, Covers, IsCovered, IsTrueOf, may_owe}
+use Rattle.covered_field_laws.specs.Ranges.{FieldsInRange, LocalsInRange}
+use Rattle.std.proofs.lemmas.Bool.{and_from}
+use Rattle.ledger_state.specs.Values.{number_of}
+use Rattle.ledger_state.specs.declared.entry.Owner.TheVariants as owners
+use Rattle.range_laws.proofs.Values.{operand_in_range}
+use Rattle.tracking_laws.proofs.AliasRoots.{OperandsAreThere, fresh_root, library_alias, same_alias}
+use Rattle.tracking_laws.proofs.Chains.{object_there}
+use Rattle.covering_laws.proofs.AliasPlaces.{from_operand}
+use Rattle.covering_laws.proofs.EndHeaps.{number_value}
+use Rattle.covering_laws.proofs.Births.{born_covers}
+use Rattle.covering_laws.proofs.BornTruths.{true_of_made, read_unlent}
+use Rattle.covering_laws.proofs.CallNotes.{noted_at}
+use Rattle.covering_laws.proofs.CallResults.{new_covers, result_covers, unclaimed}
+use Rattle.covering_laws.proofs.CallSteps.{call_covered}
+use Rattle.covering_laws.proofs.ExistingResults.{GivesUnowned, MayGive, library_may_give}
+use Rattle.covering_laws.proofs.InnerSteps.{not_null, same_names}
+use Rattle.covering_laws.proofs.KnownNames.{operand_holds, operand_temp}
+use Rattle.covering_laws.proofs.LibraryPromises.{library_keeps_promises}
+use Rattle.covering_laws.proofs.LightExceptions.{leaving_is_light}
+use Rattle.covering_laws.proofs.LocalSteps.{LocalsIn, all_there, holds_there, local_step, names_members}
+use Rattle.covering_laws.proofs.MadeObjects.{fresh_finished, library_carries, library_keeps, library_roots, library_unfinished, thrown_class}
+use Rattle.covering_laws.proofs.TopSteps.{ComesFrom, IsLocalStep, top_covered, after_as}
+use Rattle.covering_laws.proofs.Waiting.{AllHeldBefore, Carries, HoldsThere, KeepsRoots, KeepsUnfinished, all_held_before, all_keep, all_ready, all_wait, frames_ready, new_root, no_other, value_root}
+use Rattle.covering_laws.proofs.LinkedExceptions.{alias_no_exception}
+use Rattle.covering_laws.specs.Throws.{ExceptionsAreUnlinked}
+use Rattle.program_model.specs.SuperTests.{is_under}
+use Rattle.tracking_laws.proofs.AliasConducts.{GivesAlias, gives_object, library_gives}
+use Rattle.fact_step_laws.specs.Going.{GoesAs}
+use Rattle.java_control.specs.declared.fact.Fact.{Fact}
+use Rattle.flow_rules.specs.Flow.{flow}
+use Rattle.alias_sets.specs.PlaceRows.{places_after}
+
+-- ---- signatures
+
+pub signature_resets : (p : Program) (m : Option Method) → IsPlainSignature p m → reset_position m ≡ None
+signature_resets p None plain = refl
+signature_resets p (Some m) plain = plain.1
+
+-- a constructor has no result
+no_result : (x : Method) → is_constructor_kind x.kind ≡ true → IsOfKind x.kind x.sig → x.sig.result ≡ None
+no_result x new kind = go x.kind new kind
+  where
+    go : (k : MethodKind) → is_constructor_kind k ≡ true → IsOfKind k x.sig → x.sig.result ≡ None
+    go methods.Ctor is kind' = kind'
+    go methods.Instance is kind' = absurd (true≢false (sym is))
+    go methods.Static is kind' = absurd (true≢false (sym is))
+    go methods.Constant is kind' = absurd (true≢false (sym is))
+
+-- ---- values
+
+given_no_object : (h : HeapContents) (count : ℕ) (t : Option VType) (z : ℤ) (o : ℕ) → root_of h (given_value count t z) ≡ Some o → ⊥
+given_no_object h count (Some (types.Arr e)) z o is = cc
+given_no_object h count (Some types.Str) z o is = cc
+given_no_object h count None z o is = cc
+given_no_object h count t z o is = cc
+
+argument_no_object : (h : HeapContents) (m : Option Method) (at : ℕ → Value) (o : ℕ) → alias_position m ≡ None → root_of h (argument_of m at) ≡ Some o → ⊥
+argument_no_object h m at o none is = let never : None ≡ Some o = sym (ap (λ (k : Option ℕ). root_of h (value_at at k)) none) ∙ is in cc
+
+constant_row : (a : Action) (named : MethodId) → IsConstantRead a named → IsPlainRow a
+constant_row actions.Skip named is = absurd is
+constant_row (actions.Plain q v) named is = tt
+constant_row a named is = absurd is
+
+constant_way : (a : Action) (e : Edge) (named : MethodId) → IsConstantRead a named → IsWay a e
+constant_way actions.Skip e named is = tt
+constant_way (actions.Put f d this) e named is = absurd is
+constant_way a e named is = tt
+
+constant_test : (l : Locals) (a : Action) (e : Edge) (named : MethodId) → IsConstantRead a named → IsTrueTest l a e
+constant_test l actions.Skip e named is = tt
+constant_test l (actions.Test d) e named is = absurd is
+constant_test l a e named is = tt
+
+-- a read has no operand
+no_operand : (a : Action) (named : MethodId) → IsConstantRead a named → (k n : ℕ) → operand_at a k ≡ Some n → ⊥
+no_operand actions.Skip named is k n some = is
+no_operand (actions.Plain x v) named is k n some = let never : None ≡ Some n = some in cc
+no_operand a named is k n some = is
+
+constant_sets : (a : Action) (named : MethodId) → IsConstantRead a named → SetsLocals a
+constant_sets actions.Skip named is = tt
+constant_sets (actions.Plain x v) named is = tt
+constant_sets a named is = absurd is
+
+-- ---- the call
+
+module _ (p : Program) (ac : Accept p) (forms : HasPlainForms p) (names : HasSmallInterests p) (h : HeapContents) (links : HasLibraryLinks h) (ranges : FieldsInRange h) (fr : Frame) (st : Stands p fr)
+    (mine : LocalsInRange h fr.locals) (arrays : List ArrayObject) (named : MethodId) (d : Conduct) (s : Step) (next : IsLibraryMove p h arrays fr.locals (frame_steps p fr) named named d s) (at count : ℕ) where
+  abbrev m : Option Method
+  m = method_at p named
+
+  abbrev l : Locals
+  l = fr.locals
+
+  abbrev K : HeapContents
+  K = library_heap p l s.action m m d at h
+
+  abbrev v : Value
+  v = conduct_value count m (positions l s.action (next_number h) d) (next_number h) d
+
+  abbrev after : Frame
+  after = frame_after p h fr s v
+
+  no_reset : reset_position m ≡ None
+  no_reset = signature_resets p m next.signature
+
+  roots : KeepsRoots h K
+  roots = library_roots p l s.action m at h no_reset links d
+
+  carries : Carries h K
+  carries = library_carries p l s.action m at h no_reset links d
+
+  inside : HoldsThere p h fr
+  inside = holds_there p h ranges fr mine
+
+  operands_there : OperandsAreThere h l s.action
+  operands_there k w is = operand_in_range h l mine s.action k w is
+
+  kind : IsOfItsKind p s.action
+  kind = (names_what_is_there p ac.well_formed.valid.typed st.number st.body fr.control next.index (move_of s) st.at st.control (step_there p fr st next.index s next.here)).1
+
+  -- ---- the next object
+
+  not_older : (z : Object) → IsOlder h (next_number h) z owners.Library → ⊥
+  not_older z old = let range = numbers_are_in_range h (next_number h) old.before old.at in let below = range.1 in omega (arith, below)
+
+  new_number : ((z : Object) → object_at K (next_number h) ≡ Some z → z.link ≡ None) → (o : ℕ) → root_of K (values.Object (next_number h)) ≡ Some o → next_number h ≡ o
+  new_number unlinked o is = sym (new_root h K unlinked) ∙ (let both : Some (root K (next_number h)) ≡ Some o = is in (let one : root K (next_number h) ≡ o = cc in one))
+
+  -- where the signature has no alias, the call made it so
+  made_next : alias_position m ≡ None → (c : Conduct) → d ≡ c → (z : Object) → object_at K (next_number h) ≡ Some z → IsMadeAs p s.action m at c z
+  made_next none c is z there = elim (library_objects_are_older_or_made p l s.action m m d at h (next_number h) z no_reset none there) [
+    | inl old ↦ absurd (not_older z old)
+    | inr new ↦ subst (λ (x : Conduct). IsMadeAs p s.action m at x z) is new.1
+  ]
+
+  -- where it has one, so
+  alias_next : (k : ℕ) → alias_position m ≡ Some k → (c : Conduct) → d ≡ c → (z : Object) → object_at K (next_number h) ≡ Some z → IsAliasMadeAs l s.action k c z
+  alias_next k some c is z there = elim (library_aliases_are_older_or_made p l s.action m m d at h (next_number h) k z no_reset some there) [
+    | inl old ↦ absurd (not_older z old)
+    | inr new ↦ subst (λ (x : Conduct). IsAliasMadeAs l s.action k x z) is new.1
+  ]
+
+  thrown_unlinked : (e : ClassId) → d ≡ conducts.Throws e → (z : Object) → object_at K (next_number h) ≡ Some z → z.link ≡ None
+  thrown_unlinked e is z there = by (alias_position m) refl
+    where
+      by : (k : Option ℕ) → alias_position m ≡ k → z.link ≡ None
+      by None none = (made_next none (conducts.Throws e) is z there).1
+      by (Some k) some = (alias_next k some (conducts.Throws e) is z there).1
+
+  -- an exception is light
+  thrown_light : (e : ClassId) → d ≡ conducts.Throws e → (o : ℕ) (y : Object) → next_number h ≡ o → object_at K o ≡ Some y → is_heavy_class p y.class ≡ true → ⊥
+  thrown_light e is o y number now heavy =
+      let class : y.class ≡ e = thrown_class p l s.action m at h no_reset e y (ap (λ (c : Conduct). object_at (library_heap p l s.action m m c at h) (next_number h)) (sym is) ∙ ap (object_at K) number ∙ now) in
+      let way = next.thrown e is in
+      true≢false (sym heavy ∙ ap (is_heavy_class p) class ∙ leaving_is_light p ac named e way.0 way.1)
+
+  -- what the call makes is finished
+  made_finished : (e : ClassId) → d ≡ conducts.Fresh e → (y : Object) → object_at K (next_number h) ≡ Some y → y.finished ≡ true
+  made_finished e is y there = fresh_finished p l s.action m at h no_reset e y (ap (λ (c : Conduct). object_at (library_heap p l s.action m m c at h) (next_number h)) (sym is) ∙ there)
+
+  normal : ((e : ClassId) → d ≡ conducts.Throws e → ⊥) → s.edge ≡ edges.Go
+  normal other = next.normal other
+
+  may_give : MayGive m d
+  may_give = subst (MayGive m) (sym next.by.1) (library_may_give p h arrays named next.by.0 (position_of None l s.action) s.action)
+
+  existing : (k : ℕ) → d ≡ conducts.Existing k → GivesUnowned m
+  existing k is = subst (MayGive m) is may_give
+
+  -- the object that is given: it is made by the call, or was there
+  module _ (o : ℕ) (y : Object) (root' : root_of K v ≡ Some o) (now : object_at K o ≡ Some y) (heavy : is_heavy_class p y.class ≡ true) (owes : may_owe y ≡ true) where
+    -- it is the root of the aliased operand
+    abbrev IsOperand : Type 0
+    IsOperand = (k : ℕ) × (alias_position m ≡ Some k) × (root_of h (operand_of l s.action k) ≡ Some o)
+
+    root_by : (c : Conduct) → d ≡ c → root_of K (conduct_value count m (positions l s.action (next_number h) c) (next_number h) c) ≡ Some o
+    root_by c is = ap (λ (x : Conduct). root_of K (conduct_value count m (positions l s.action (next_number h) x) (next_number h) x)) (sym is) ∙ root'
+
+    position_is : (k : ℕ) → position_of None l s.action k ≡ operand_of l s.action k
+    position_is zero = refl
+    position_is (suc k) = refl
+
+    -- an alias that the call makes
+    alias_made : (e : ClassId) → d ≡ conducts.Fresh e → (k : ℕ) → alias_position m ≡ Some k → IsOperand
+    alias_made e is k some = by (position_object (position_of None l s.action) k) refl
+      where
+        next_is : root_of K (values.Object (next_number h)) ≡ Some o
+        next_is = root_by (conducts.Fresh e) is
+
+        of_null : position_object (position_of None l s.action) k ≡ None → ⊥
+        of_null none =
+            let number : next_number h ≡ o = new_number (λ z there. (subst (λ (w : Option ℕ). IsAliasOf w z) none (alias_next k some (conducts.Fresh e) is z there).2).2) o next_is in
+            let there : object_at K (next_number h) ≡ Some y = ap (object_at K) number ∙ now in
+            let made = subst (λ (w : Option ℕ). IsAliasOf w y) none (alias_next k some (conducts.Fresh e) is y there).2 in
+            true≢false (sym owes ∙ ap not (and_from y.finished (is_empty y.must) (made_finished e is y there) (ap is_empty made.0 ∙ within_self no_names)))
+
+        of_object : (w : ℕ) → position_object (position_of None l s.action) k ≡ Some w → IsOperand
+        of_object w is' =
+            let value : operand_of l s.action k ≡ values.Object w = number_value (operand_of l s.action k) w (ap number_of (sym (position_is k)) ∙ is') in
+            let same : root K (next_number h) ≡ root h w = fresh_root p l s.action m d at count h links no_reset operands_there k some (root h w) (ap (root_of h) value) e is in
+            (k, some, ap (root_of h) value ∙ ap Some (sym same) ∙ next_is)
+
+        by : (w : Option ℕ) → position_object (position_of None l s.action) k ≡ w → IsOperand
+        by None none = absurd (of_null none)
+        by (Some w) is' = of_object w is'
+
+    -- the argument itself
+    argument_given : d ≡ conducts.Argument → (k : ℕ) → alias_position m ≡ Some k → IsOperand
+    argument_given is k some = (k, some, sym (value_root h K roots (operand_of l s.action k) (operand_in_range h l mine s.action k)) ∙ operand s.action k (alias_next k some conducts.Argument is) at_position)
+      where
+        at_position : root_of K (position_of (made_by_new s.action (next_number h) conducts.Argument) l s.action k) ≡ Some o
+        at_position = ap (λ (x : Option ℕ). root_of K (value_at (positions l s.action (next_number h) conducts.Argument) x)) (sym some) ∙ root_by conducts.Argument is
+
+        no_new : ((z : Object) → object_at K (next_number h) ≡ Some z → ⊥) → root_of K (values.Object (next_number h)) ≡ Some o → ⊥
+        no_new none is' = by (object_at K (next_number h)) refl
+          where
+            by : (x : Option Object) → object_at K (next_number h) ≡ x → ⊥
+            by None absent =
+                let number : next_number h ≡ o = sym (roots_of_links-absent K (next_number h) absent) ∙ (let both : Some (root K (next_number h)) ≡ Some o = is' in (let one : root K (next_number h) ≡ o = cc in one)) in
+                let never : None ≡ Some y = sym absent ∙ ap (object_at K) number ∙ now in
+                cc
+            by (Some z) there = none z there
+
+        operand : (b : Action) (j : ℕ) → ((z : Object) → object_at K (next_number h) ≡ Some z → ⊥) → root_of K (position_of (made_by_new b (next_number h) conducts.Argument) l b j) ≡ Some o
+            → root_of K (operand_of l b j) ≡ Some o
+        operand actions.Skip zero none r = r
+        operand actions.Skip (suc j) none r = r
+        operand (actions.New c e n) zero none r = absurd (no_new none r)
+        operand (actions.New c e n) (suc j) none r = r
+        operand b zero none r = r
+        operand b (suc j) none r = r
+
+    given : (P : Type 0) → ((e : ClassId) → d ≡ conducts.Fresh e → alias_position m ≡ None → s.edge ≡ edges.Go → IsMadeAs p s.action m at (conducts.Fresh e) y → y.finished ≡ true → P)
+        → ((k : ℕ) → d ≡ conducts.Existing k → s.edge ≡ edges.Go → GivesUnowned m → P) → (s.edge ≡ edges.Go → IsOperand → P) → P
+    given P fresh there aliased = by d refl
+      where
+        by_fresh : (e : ClassId) → d ≡ conducts.Fresh e → (k : Option ℕ) → alias_position m ≡ k → P
+        by_fresh e is None none =
+            let number : next_number h ≡ o = new_number (λ z here. (made_next none (conducts.Fresh e) is z here).3) o (root_by (conducts.Fresh e) is) in
+            let here : object_at K (next_number h) ≡ Some y = ap (object_at K) number ∙ now in
+            fresh e is none (next.edge e is) (made_next none (conducts.Fresh e) is y here) (made_finished e is y here)
+        by_fresh e is (Some k) some = aliased (next.edge e is) (alias_made e is k some)
+
+        by_argument : d ≡ conducts.Argument → (k : Option ℕ) → alias_position m ≡ k → P
+        by_argument is None none = absurd (argument_no_object K m _ o none (root_by conducts.Argument is))
+        by_argument is (Some k) some = aliased (normal (λ e same. let never : conducts.Argument ≡ conducts.Throws e = sym is ∙ same in cc)) (argument_given is k some)
+
+        by : (c : Conduct) → d ≡ c → P
+        by conducts.Null is = absurd (let never : None ≡ Some o = root_by conducts.Null is in cc)
+        by (conducts.Throws e) is = absurd (thrown_light e is o y (new_number (thrown_unlinked e is) o (root_by (conducts.Throws e) is)) now heavy)
+        by (conducts.Fresh e) is = by_fresh e is (alias_position m) refl
+        by (conducts.Existing k) is = there k is (normal (λ e same. let never : conducts.Existing k ≡ conducts.Throws e = sym is ∙ same in cc)) (existing k is)
+        by conducts.Argument is = by_argument is (alias_position m) refl
+        by (conducts.Value z) is = absurd (given_no_object K count (result_in m) z o (root_by (conducts.Value z) is))
+        by conducts.Nothing is = absurd (let never : None ≡ Some o = root_by conducts.Nothing is in cc)
+
+  -- ---- a call
+
+  module _ (called : called_method s.action ≡ Some named) (row : IsCallRow s.action) where
+    local : IsLocalStep p fr st s
+    local = local_step p ac forms fr st next.index s next.here (call_sets s.action row) (way_of_call s row)
+
+    same_callee : callee p s.action ≡ m
+    same_callee = ap (callee_in p) called
+
+    form : IsPlainAction p s.action
+    form = plain_step p ac forms fr st next.index s next.here
+
+    noted : (o : ℕ) (x y : Object) (n : NameId) → object_at h o ≡ Some x → object_at K o ≡ Some y → root_of h (operand_of l s.action 0) ≡ Some o → is_super_target s.action ≡ false
+        → interest_in (callee p s.action) ≡ Some n → set.contains y.called n.0 ≡ true
+    noted o x y n before now root' other interest =
+        let r = subst (λ (z : Option Method). IsReceiver h l s.action z o n) same_callee (noted_at p ac h l o n s.action form row other root' (same_interest (callee p s.action) ∙ interest)) in
+        let number = operands_there 0 r.object (ap number_of r.value) in
+        let object = object_there h r.object x number.0 number.1 in
+        receiver_is_called p l s.action m m d at h (note false r.object n) object.0 y links no_reset r.noted (small_name p s.action n names interest) object.1 (ap (object_at K) r.root ∙ now)
+
+    -- a place that gives an alias its object
+    abbrev Comes : Place → ℕ → Type 0
+    Comes q o = ComesFrom p ac h K links roots carries (library_keeps p l s.action m at h no_reset links d) fr st next.index s next.here local inside v q o
+
+    comes : (q : Place) (o : ℕ) → IsSmall q → is_local q ≡ true → is_made (made_place s.action) q ≡ true → s.edge ≡ edges.Go → (k : ℕ) → alias_position m ≡ Some k → root_of h (operand_of l s.action k) ≡ Some o
+        → Comes q o
+    comes q o small local' there edge k some is = from_operand p h fr st s local q o small local' there edge k (ap alias_in same_callee ∙ sym (same_alias m) ∙ some) is
+
+    -- what the call gives is covered by its birth, or comes from the operand of which it is an alias
+    made : (q : Place) (o : ℕ) (y : Object) → IsSmall q → is_local q ≡ true → is_made (made_place s.action) q ≡ true → place_value p K fr.method after.locals q ≡ v → root_of K v ≡ Some o → object_at K o ≡ Some y
+        → is_heavy_class p y.class ≡ true → may_owe y ≡ true → Covers p K after q o y ⊎ Comes q o
+    made q o y small local' there is root' now heavy owes = given o y root' now heavy owes (Covers p K after q o y ⊎ Comes q o)
+        (λ e same none edge as' done. inl (fresh e same none edge as' done)) (λ k same edge gives. inl (old k same edge gives)) (λ edge operand. inr (comes q o small local' there edge operand.0 operand.1 operand.2))
+      where
+        rooted : root_of K (place_value p K fr.method after.locals q) ≡ Some o
+        rooted = ap (root_of K) is ∙ root'
+
+        named_is : (k : MethodId) (a : Action) → s.action ≡ a → called_method a ≡ Some k → k ≡ named
+        named_is k a same is' = let both : Some k ≡ Some named = sym is' ∙ ap called_method (sym same) ∙ called in (let one : k ≡ named = cc in one)
+
+        place : (d' : ℕ) → made_place s.action ≡ Some (places.Temp d') → places.Temp d' ≡ q
+        place d' same = single_place-same (places.Temp d') q (ap (λ (x : Option Place). is_made x q) (sym same) ∙ there)
+
+        -- at the place of the result
+        at_temp : (d' : ℕ) → made_place s.action ≡ Some (places.Temp d')
+            → (IsSmall (places.Temp d') → root_of K (place_value p K fr.method after.locals (places.Temp d')) ≡ Some o → Covers p K after (places.Temp d') o y) → Covers p K after q o y
+        at_temp d' same covers =
+            let here = place d' same in
+            subst (λ (z : Place). Covers p K after z o y) here (covers (subst IsSmall (sym here) small) (subst (λ (z : Place). root_of K (place_value p K fr.method after.locals z) ≡ Some o) (sym here) rooted))
+
+        alias : alias_position m ≡ None → (x : Method) → m ≡ Some x → x.sig.alias ≡ None
+        alias none x named_at = ap alias_position (sym named_at) ∙ none
+
+        result : (k : MethodId) (d' c : ℕ) (f : TargetForm) (x : Method) (r : ClassId) → s.action ≡ actions.Call k d' c f → k ≡ named → s.edge ≡ edges.Go → m ≡ Some x → x.sig.result ≡ Some (types.Obj r) → x.sig.alias ≡ None
+            → (x.sig.owning_result ≡ true → IsTrueOf p y (origin_of p kinds.Result s.pos r x.sig.first) (fact_at (places.Temp d') modes.Own no_names false)) → Covers p K after q o y
+        result k d' c f x r same it edge named_at result' none truth =
+            at_temp d' (ap made_place same) (λ small' root''. result_covers p h K fr st next.index s next.here v d' o y small' root'' k x edge (ap (method_at p) it ∙ named_at) none c f r same result'
+            (λ owning heavy'. truth owning))
+
+        fresh : (e : ClassId) → d ≡ conducts.Fresh e → alias_position m ≡ None → s.edge ≡ edges.Go → IsMadeAs p s.action m at (conducts.Fresh e) y → y.finished ≡ true → Covers p K after q o y
+        fresh e same none edge as' done = go s.action refl
+          where
+            fit : FitsMethod p m (conducts.Fresh e)
+            fit = subst (FitsMethod p m) same next.fits
+
+            by_kind : (x : Method) → m ≡ Some x → (b : Bool) → constructs m ≡ b → MatchBool b (x.class ≡ e) ((c : ClassId) × (x.sig.result ≡ Some (types.Obj c)) × (fits p e c ≡ true))
+            by_kind x named_at b is' = subst (λ (t : Bool). MatchBool t (x.class ≡ e) ((c : ClassId) × (x.sig.result ≡ Some (types.Obj c)) × (fits p e c ≡ true))) (sym (ap constructs named_at) ∙ is')
+                (subst (λ (z : Option Method). FitsMethod p z (conducts.Fresh e)) named_at fit)
+
+            must : (x : Method) → m ≡ Some x → y.must ≡ first_set p e x.sig.first
+            must x named_at = as'.1 ∙ ap (λ (z : Option Method). first_set p e (first_in z)) named_at
+
+            no_method : m ≡ None → ⊥
+            no_method none' = subst (λ (z : Option Method). FitsMethod p z (conducts.Fresh e)) none' fit
+
+            by_call : (k : MethodId) (d' c : ℕ) (f : TargetForm) → s.action ≡ actions.Call k d' c f → (x : Option Method) → m ≡ x → Covers p K after q o y
+            by_call k d' c f is' None named_at = absurd (no_method named_at)
+            by_call k d' c f is' (Some x) named_at =
+                let it = named_is k (actions.Call k d' c f) is' refl in
+                let r = by_kind x named_at false (ap (λ (z : MethodId). constructs (method_at p z)) (sym it) ∙ subst (IsOfItsKind p) is' kind) in
+                result k d' c f x r.0 is' it edge named_at r.1 (alias none x named_at)
+                (λ owning. true_of_made p kinds.Result s.pos r.0 e x.sig.first (places.Temp d') y done as'.0 (must x named_at) r.2)
+
+            by_new : (k : MethodId) (d' c : ℕ) → s.action ≡ actions.New k d' c → (x : Option Method) → m ≡ x → Covers p K after q o y
+            by_new k d' c is' None named_at = absurd (no_method named_at)
+            by_new k d' c is' (Some x) named_at =
+                let it = named_is k (actions.New k d' c) is' refl in
+                let class : x.class ≡ e = by_kind x named_at true (ap (λ (z : MethodId). constructs (method_at p z)) (sym it) ∙ subst (IsOfItsKind p) is' kind) in
+                at_temp d' (ap made_place is') (λ small' root''. new_covers p h K fr st next.index s next.here v d' o y small' root'' k x edge (ap (method_at p) it ∙ named_at) (alias none x named_at) c is'
+                (ap (is_heavy_class p) class ∙ ap (is_heavy_class p) (sym as'.0) ∙ heavy)
+                (true_of_made p kinds.New s.pos x.class e x.sig.first (places.Temp d') y done as'.0 (must x named_at) (subst (λ (z : ClassId). fits p e z ≡ true) (sym class) (within_self (must_of p e)))))
+
+            go : (a : Action) → s.action ≡ a → Covers p K after q o y
+            go actions.Skip is' = absurd (subst IsCallRow is' row)
+            go (actions.Call k d' c f) is' = by_call k d' c f is' m refl
+            go (actions.New k d' c) is' = by_new k d' c is' m refl
+            go (actions.Super k d' c) is' = absurd (true≢false (sym (ap is_super is') ∙ next.other e same))
+            go a is' = absurd (subst IsCallRow is' row)
+
+        old : (k : ℕ) → d ≡ conducts.Existing k → s.edge ≡ edges.Go → GivesUnowned m → Covers p K after q o y
+        old k same edge gives = go s.action refl
+          where
+            no_new : (j : MethodId) → j ≡ named → constructs (method_at p j) ≡ true → ⊥
+            no_new j it new =
+                let never : None ≡ Some (types.Obj gives.class) = sym (no_result gives.method (sym (ap constructs gives.is) ∙ ap (λ (z : MethodId). constructs (method_at p z)) (sym it) ∙ new)
+                (ac.well_formed.valid.typed.methods named gives.method gives.is).kind) ∙ gives.result in
+                cc
+
+            go : (a : Action) → s.action ≡ a → Covers p K after q o y
+            go actions.Skip is' = absurd (subst IsCallRow is' row)
+            go (actions.Call j d' c f) is' =
+                result j d' c f gives.method gives.class is' (named_is j (actions.Call j d' c f) is' refl) edge gives.is gives.result gives.alias (λ owning. absurd (true≢false (sym owning ∙ gives.unowned)))
+            go (actions.New j d' c) is' = absurd (no_new j (named_is j (actions.New j d' c) is' refl) (subst (IsOfItsKind p) is' kind))
+            go (actions.Super j d' c) is' = absurd (no_new j (named_is j (actions.Super j d' c) is' refl) (subst (IsPlainAction p) is' form).1)
+            go a is' = absurd (subst IsCallRow is' row)
+
+    call_top : IsCovered p h fr → IsCovered p K after
+    call_top covered =
+        call_covered p ac h K links roots carries (library_keeps p l s.action m at h no_reset links d) fr st next.index s next.here local inside v row (plain_no_reset p s.action form) covered
+        (all_ready p h K (library_unfinished p l s.action m at h no_reset links d) fr) noted
+        (λ z o x y c before now g more trusted done goes wide some owes. library_keeps_promises p ac h links fr st arrays named d s next at no_reset called local.small z o x y c before now)
+        (λ z o x c before some owes gives.
+        library_alias p ac h links arrays l s.action s.edge c.fact.places named d at count o local.small form same_callee no_reset operands_there next.by (λ e is. let way = next.thrown e is in (way.0, way.2))
+        (λ k below held. operand_holds p h fr.method l s.action o k c.fact.places local.small below c.places held) gives)
+        (λ q o y small local' none' there is root' now heavy owes. made q o y small local' there is root' now heavy owes)
+
+  -- ---- a read of a constant
+
+  module _ (read : IsConstantRead s.action named) where
+    local_read : IsLocalStep p fr st s
+    local_read = local_step p ac forms fr st next.index s next.here (constant_sets s.action named read) (constant_way s.action s.edge named read)
+
+    plain_row : IsPlainRow s.action
+    plain_row = constant_row s.action named read
+
+    test : IsTrueTest l s.action s.edge
+    test = constant_test l s.action s.edge named read
+
+    constant_made : (q : Place) (o : ℕ) (y : Object) → IsSmall q → is_local q ≡ true → is_made (made_place s.action) q ≡ true → place_value p K fr.method after.locals q ≡ v → root_of K v ≡ Some o
+        → object_at K o ≡ Some y → is_heavy_class p y.class ≡ true → may_owe y ≡ true → Covers p K after q o y
+    constant_made q o y small local' there is root' now heavy owes = go s.action refl read
+      where
+        by_class : (x : Place) (k : MethodId) (z : Method) (r : ClassId) → s.action ≡ actions.Plain x (plain_values.LibraryConstant k) → k ≡ named → s.edge ≡ edges.Go → m ≡ Some z → z.sig.result ≡ Some (types.Obj r)
+            → Covers p K after q o y
+        by_class x k z r is' it edge named_at result =
+            born_covers p K fr st next.index s next.here after q o y (origin_of p kinds.Read s.pos r None) modes.None true refl refl small local'
+            (ap (λ (a : Action). birth_on p a s.edge s.pos) is' ∙ ap (λ (e : Edge). birth_on p (actions.Plain x (plain_values.LibraryConstant k)) e s.pos) edge
+            ∙ ap (λ (u : Option Method). read_birth p x s.pos (returns.result_in u)) (ap (method_at p) it ∙ named_at) ∙ ap (read_birth p x s.pos) result
+            ∙ ap (λ (u : Place). Some (origin_of p kinds.Read s.pos r None, fact_at u modes.None no_names true)) (single_place-same x q (ap (λ (a : Action). is_made (made_place a) q) (sym is') ∙ there)))
+            (ap (root_of K) is ∙ root') (read_unlent p) (λ claimed. absurd (unclaimed p (origin_of p kinds.Read s.pos r None) q claimed))
+
+        constant : (x : Place) (k : MethodId) → s.action ≡ actions.Plain x (plain_values.LibraryConstant k) → IsLibraryConstant p k
+        constant x k is' = subst (NamesMembers p st.body) is' (names_members p ac forms fr st next.index s next.here)
+
+        fresh_class : (z : Method) (e : ClassId) → m ≡ Some z → z.kind ≡ methods.Constant → d ≡ conducts.Fresh e → (r : ClassId) × (z.sig.result ≡ Some (types.Obj r)) × (fits p e r ≡ true)
+        fresh_class z e named_at kind' same = subst (λ (b : Bool). MatchBool b (z.class ≡ e) ((r : ClassId) × (z.sig.result ≡ Some (types.Obj r)) × (fits p e r ≡ true))) (ap is_constructor_kind kind')
+            (subst (λ (u : Option Method). FitsMethod p u (conducts.Fresh e)) named_at (subst (FitsMethod p m) same next.fits))
+
+        by_constant : (x : Place) (k : MethodId) → s.action ≡ actions.Plain x (plain_values.LibraryConstant k) → k ≡ named → IsLibraryConstant p k → Covers p K after q o y
+        by_constant x k is' it of = given o y root' now heavy owes (Covers p K after q o y)
+            (λ e same none edge as' done. (let r = fresh_class of.0 e (ap (method_at p) (sym it) ∙ of.1) of.2 same in by_class x k of.0 r.0 is' it edge (ap (method_at p) (sym it) ∙ of.1) r.1))
+            (λ j same edge gives. by_class x k gives.method gives.class is' it edge gives.is gives.result)
+            (λ edge operand. absurd (let t = operand_temp l s.action operand.0 h o operand.2 in no_operand s.action named read operand.0 t.0 t.1))
+
+        go : (a : Action) → s.action ≡ a → IsConstantRead a named → Covers p K after q o y
+        go actions.Skip is' read' = absurd read'
+        go (actions.Plain x (plain_values.LibraryConstant k)) is' read' = by_constant x k is' read' (constant x k is')
+        go (actions.Plain x (plain_values.Literal z)) is' read' = absurd read'
+        go (actions.Plain x z) is' read' = absurd read'
+        go a is' read' = absurd read'
+
+    read_top : IsCovered p h fr → IsCovered p K after
+    read_top covered =
+        top_covered p ac h K links roots carries (library_keeps p l s.action m at h no_reset links d) fr st next.index s next.here local_read inside v covered
+        (all_ready p h K (library_unfinished p l s.action m at h no_reset links d) fr)
+        (λ o f g. Unit {0})
+        (λ z o x c q is. after_as (GoesAs c.fact (places_after p st.number s.action s.edge c.fact.places) (called_after p st.number s.action s.edge c.fact))
+        (λ (g : Fact). GoesAs c.fact (places_after p st.number s.action s.edge c.fact.places) (called_after p st.number s.action s.edge c.fact) g × Unit {0})
+        (flow p st.number c.origin s.action s.edge c.fact) (λ g goes. (goes, tt))
+        (other_steps p st.number c.origin s.action s.edge c.fact q plain_row (not_null p h fr o c.fact s.action s.edge local_read.small c.places test) is))
+        (λ z o x y c before now g more trusted done goes wide some owes was.
+        ap (λ (t : Names). set.is_subset t y.called) (same_names p st.number s.action s.edge c.fact plain_row (not_null p h fr o c.fact s.action s.edge local_read.small c.places test)) ∙ was)
+        (λ z o x c before some owes gives. absurd (true≢false (sym gives ∙ row_gives_none p s.action s.edge c.fact.places plain_row)))
+        (λ q o y small local' none' there is root' now heavy owes. inl (constant_made q o y small local' there is root' now heavy owes))
+
+  -- ---- all frames
+
+  row_of : (a : Action) → called_method a ≡ Some named → IsCallRow a
+  row_of actions.Skip is = absurd (let never : None ≡ Some named = is in cc)
+  row_of (actions.Call k d' n f) is = tt
+  row_of (actions.New k d' n) is = tt
+  row_of (actions.Super k d' n) is = tt
+  row_of a is = absurd (let never : None ≡ Some named = is in cc)
+
+  -- an alias that the call makes is no exception
+  alias_class : (k : ℕ) → alias_position m ≡ Some k → (e : ClassId) → d ≡ conducts.Fresh e → is_under p e p.core.throwable ≡ false
+  alias_class k some e is = by m refl
+    where
+      by : (x : Option Method) → m ≡ x → is_under p e p.core.throwable ≡ false
+      by None named_at = absurd (let never : None ≡ Some k = ap alias_position (sym named_at) ∙ some in cc)
+      by (Some x) named_at =
+          let alias : x.sig.alias ≡ Some k = ap alias_position (sym named_at) ∙ some in
+          alias_no_exception p ac named x named_at k alias e
+          (subst (GivesAlias p x) (sym next.by.1 ∙ is)
+          (library_gives p x k alias (gives_object p ac.well_formed named x named_at k alias) h arrays named named_at next.by.0 (position_of None l s.action) s.action (next.other e is)))
+
+  pub library_linked : ExceptionsAreUnlinked p h → ExceptionsAreUnlinked p K
+  library_linked apart n y k there some = by (alias_position m) refl
+    where
+      older : IsOlder h n y owners.Library → is_under p y.class p.core.throwable ≡ false
+      older old = ap (λ (c : ClassId). is_under p c p.core.throwable) old.goes_on.class ∙ apart n old.before k old.at (sym old.goes_on.link ∙ some)
+
+      unlinked : y.link ≡ None → is_under p y.class p.core.throwable ≡ false
+      unlinked none = absurd (let never : None ≡ Some k = sym none ∙ some in cc)
+
+      made_as : (c : Conduct) → IsMadeAs p s.action m at c y → is_under p y.class p.core.throwable ≡ false
+      made_as (conducts.Throws e) is = unlinked is.1
+      made_as (conducts.Fresh e) is = unlinked is.3
+      made_as conducts.Null is = absurd is
+      made_as (conducts.Existing j) is = absurd is
+      made_as conducts.Argument is = absurd is
+      made_as (conducts.Value z) is = absurd is
+      made_as conducts.Nothing is = absurd is
+
+      alias_as : (j : ℕ) → alias_position m ≡ Some j → (c : Conduct) → d ≡ c → IsAliasMadeAs l s.action j c y → is_under p y.class p.core.throwable ≡ false
+      alias_as j at' (conducts.Throws e) same is = unlinked is.1
+      alias_as j at' (conducts.Fresh e) same is = ap (λ (c : ClassId). is_under p c p.core.throwable) is.0 ∙ alias_class j at' e same
+      alias_as j at' conducts.Null same is = absurd is
+      alias_as j at' (conducts.Existing i) same is = absurd is
+      alias_as j at' conducts.Argument same is = absurd is
+      alias_as j at' (conducts.Value z) same is = absurd is
+      alias_as j at' conducts.Nothing same is = absurd is
+
+      by : (j : Option ℕ) → alias_position m ≡ j → is_under p y.class p.core.throwable ≡ false
+      by None none = elim (library_objects_are_older_or_made p l s.action m m d at h n y no_reset none there) [ inl old ↦ older old | inr new ↦ made_as d new.1 ]
+      by (Some j) at' = elim (library_aliases_are_older_or_made p l s.action m m d at h n j y no_reset at' there) [ inl old ↦ older old | inr new ↦ alias_as j at' d refl new.1 ]
+
+  pub library_after_unfinished : KeepsUnfinished h K no_other
+  library_after_unfinished = library_unfinished p l s.action m at h no_reset links d
+
+  pub library_covered : (called_method s.action ≡ Some named) ⊎ IsConstantRead s.action named → (frs : List Frame) → LocalsIn h (fr ∷ frs) → AreCovered p h (fr ∷ frs) → AreCovered p K (after ∷ frs)
+  library_covered row frs in' covered = (
+    elim row [ inl called ↦ call_top called (row_of s.action called) covered.0 | inr read ↦ read_top read covered.0 ],
+    all_wait p h K links roots carries frs (all_keep p h K (library_keeps p l s.action m at h no_reset links d) frs)
+        (all_there p h ranges frs (All-tail (λ (x : Frame). LocalsInRange h x.locals) fr frs in')) (frames_ready p h K (library_unfinished p l s.action m at h no_reset links d) frs) covered.1,
+  )
+
+  pub library_held_before : (frs : List Frame) → LocalsIn h frs → AllHeldBefore p h K frs
+  library_held_before frs in' = all_held_before p h K roots frs (all_keep p h K (library_keeps p l s.action m at h no_reset links d) frs) (all_there p h ranges frs in')

@@ -1,0 +1,133 @@
+-- What a method of the library promises of the places of a fact was called on the object that they hold.
+use Rattle.std.specs.Prelude.{if◌then◌else◌}
+use Rattle.std.proofs.Common.{◌≡◌, ◌⊎◌, inl, inr, ℕ, Bool, true, false, true≢false, Option, Some, None, List, [], slice_get, refl, sym, ap, ◌∙◌, subst}
+use Rattle.std.proofs.lemmas.Bool.{and_parts}
+use Rattle.std.specs.FinSet as set
+use Rattle.rlc_base.proofs.SetLaws.{within_from}
+use Rattle.program_model.specs.declared.kinds.ClassId.{ClassId}
+use Rattle.program_model.specs.declared.kinds.FieldId.{FieldId}
+use Rattle.program_model.specs.declared.kinds.MethodId.{MethodId}
+use Rattle.program_model.specs.declared.kinds.Target.{Target}
+use Rattle.program_model.specs.declared.kinds.Target.TheVariants as promised
+use Rattle.program_model.specs.declared.program.Field.{Field}
+use Rattle.program_model.specs.declared.program.Method.{Method}
+use Rattle.program_model.specs.declared.program.Program.{Program}
+use Rattle.program_model.specs.declared.program.Promise.{Promise}
+use Rattle.program_model.specs.Lookups.{method_at}
+use Rattle.program_model.specs.Overrides.{is_library}
+use Rattle.must_call_sets.specs.Bodies.{has_field_place, promises_in, throwing_promises_in}
+use Rattle.java_control.specs.Calls.{called_method}
+use Rattle.java_control.specs.Control.{Step}
+use Rattle.java_control.specs.Owned.{place_of_field}
+use Rattle.java_control.specs.declared.action.Action.{Action}
+use Rattle.java_control.specs.declared.action.Edge.{Edge}
+use Rattle.java_control.specs.declared.action.Edge.TheVariants as edges
+use Rattle.java_control.specs.declared.place.Place.{Place}
+use Rattle.obligation_facts.specs.Callees.{callee, callee_in, is_this_target, may_be_null_target}
+use Rattle.obligation_facts.specs.Facts.{has}
+use Rattle.obligation_facts.specs.SmallActions.{IsSmallAction}
+use Rattle.called_methods.specs.CalledRows.{holds_field, holds_target, promises_at}
+use Rattle.accepted_programs.specs.Accept.{Accept}
+use Rattle.stub_conduct.specs.declared.choice.Conduct.{Conduct}
+use Rattle.stub_conduct.specs.declared.choice.Conduct.TheVariants as conducts
+use Rattle.ledger_state.specs.Contents.{HeapContents}
+use Rattle.ledger_state.specs.Heaps.{object_at}
+use Rattle.ledger_state.specs.declared.array.ArrayObject.{ArrayObject}
+use Rattle.ledger_state.specs.declared.locals.Locals.{Locals}
+use Rattle.ledger_state.specs.declared.object.Object.{Object}
+use Rattle.ledger_obligations.specs.Obligations.{is_library_method}
+use Rattle.ledger_calls.specs.Calls.{reset_position}
+use Rattle.ledger_calls.specs.Conducts.{promises_by}
+use Rattle.ledger_calls.specs.Configuration.{Frame}
+use Rattle.ledger_frames.specs.Choosing.{frame_steps}
+use Rattle.ledger_steps.specs.CallSteps.{library_heap}
+use Rattle.heap_laws.specs.Heaps.{HasLibraryLinks}
+use Rattle.library_call_laws.proofs.Laws.{promised_names_are_called-position}
+use Rattle.agreement.specs.Agreement.{Stands}
+use Rattle.range_laws.specs.Nexts.{IsLibraryMove}
+use Rattle.tracking_laws.proofs.CallNames.{operand_has_position}
+use Rattle.tracking_laws.proofs.SignedPromises.{Promises, promised_name_is_small}
+use Rattle.covered_field_laws.specs.PlaceFacts.{Covers}
+use Rattle.covered_field_laws.proofs.HeavyFields.{HasPlace, has_place_here}
+use Rattle.covering_laws.proofs.Bodies.{running_method}
+use Rattle.covering_laws.proofs.KnownNames.{AreKept, all_kept, operand_holds}
+use Rattle.covering_laws.proofs.PromisedFields.{IsOwnField, promised_field}
+
+-- ---- the promises of a call
+
+thrown_promises : (p : Program) (a : Action) (t : ClassId) (m : Option Method) → callee p a ≡ m → (promises_at p a (edges.Throws t) ≡ []) ⊎ (promises_at p a (edges.Throws t) ≡ throwing_promises_in m)
+thrown_promises p a t m same = go (may_be_null_target p a (edges.Throws t))
+  where
+    go : (b : Bool) → ((if b then [] else throwing_promises_in (callee p a)) ≡ []) ⊎ ((if b then [] else throwing_promises_in (callee p a)) ≡ throwing_promises_in m)
+    go true = inl refl
+    go false = inr (ap throwing_promises_in same)
+
+-- the promises at the edge are those of the way in which the library ends the call, or there are none, since the edge may be that of a null
+-- target
+pub edge_promises : (p : Program) (a : Action) (e : Edge) (m : Option Method) (d : Conduct) → callee p a ≡ m → ((c : ClassId) → d ≡ conducts.Throws c → (k : ClassId) × (e ≡ edges.Throws k))
+    → (((c : ClassId) → d ≡ conducts.Throws c → ⊥) → e ≡ edges.Go) → (promises_at p a e ≡ []) ⊎ (promises_at p a e ≡ promises_by m d)
+edge_promises p a e m conducts.Null same thrown normal =
+    inr (ap (promises_at p a) (normal (λ c is. let never : conducts.Null ≡ conducts.Throws c = is in cc)) ∙ ap promises_in same)
+edge_promises p a e m (conducts.Throws c) same thrown normal =
+    let k = thrown c refl in
+    subst (λ (x : Edge). (promises_at p a x ≡ []) ⊎ (promises_at p a x ≡ throwing_promises_in m)) (sym k.1) (thrown_promises p a k.0 m same)
+edge_promises p a e m d same thrown normal = inr (ap (promises_at p a) (normal (λ c is. cc)) ∙ ap promises_in same)
+
+-- each of them is one of the method's
+pub promise_of : (m : Option Method) (d : Conduct) (j : ℕ) (q : Promise) → slice_get (promises_by m d) j ≡ Some q → (x : Method) × (m ≡ Some x) × Promises x q
+promise_of None conducts.Null j q at = absurd (let never : None ≡ Some q = at in cc)
+promise_of None (conducts.Throws e) j q at = absurd (let never : None ≡ Some q = at in cc)
+promise_of None d j q at = absurd (let never : None ≡ Some q = at in cc)
+promise_of (Some x) conducts.Null j q at = (x, refl, (j, inl at))
+promise_of (Some x) (conducts.Throws e) j q at = (x, refl, (j, inr at))
+promise_of (Some x) d j q at = (x, refl, (j, inl at))
+
+-- ---- a call of the library
+
+module _ (p : Program) (ac : Accept p) (h : HeapContents) (links : HasLibraryLinks h) (fr : Frame) (st : Stands p fr) (arrays : List ArrayObject) (named : MethodId) (d : Conduct) (s : Step)
+    (next : IsLibraryMove p h arrays fr.locals (frame_steps p fr) named named d s) (at : ℕ) (no_reset : reset_position (method_at p named) ≡ None) (called : called_method s.action ≡ Some named)
+    (small : IsSmallAction p s.action) where
+  abbrev m : Option Method
+  m = method_at p named
+
+  abbrev l : Locals
+  l = fr.locals
+
+  abbrev K : HeapContents
+  K = library_heap p l s.action m m d at h
+
+  -- one promise
+  module _ (j : ℕ) (q : Promise) (there : slice_get (promises_by m d) j ≡ Some q) where
+    its : (x : Method) × (m ≡ Some x) × Promises x q
+    its = promise_of m d j q there
+
+    in_library : is_library p its.0.class ≡ true
+    in_library = ap (is_library_method p) (sym its.1) ∙ next.library
+
+    -- one on a field is on one of the library's classes, which has no place in a body of the program
+    no_place : (f : FieldId) → q.target ≡ promised.OfField f → has_field_place p st.number f ≡ true → ⊥
+    no_place f target place =
+        let mine : HasPlace p fr f = has_place_here p ac fr st f place in
+        let own : IsOwnField p its.0 f = promised_field p ac named its.0 q its.1 its.2 f target in
+        let same_field : mine.field ≡ own.field = (let both : Some mine.field ≡ Some own.field = sym mine.at ∙ own.at in (let one : mine.field ≡ own.field = cc in one)) in
+        let run = running_method p ac fr st in
+        let same_method : mine.method ≡ run.0 = (let both : Some mine.method ≡ Some run.0 = sym mine.named ∙ run.1 in (let one : mine.method ≡ run.0 = cc in one)) in
+        true≢false (sym in_library ∙ ap (is_library p) (sym own.class ∙ sym (ap (λ (x : Field). x.class) same_field) ∙ mine.class ∙ ap (λ (x : Method). x.class) same_method) ∙ run.2)
+
+    one_kept : (z : Place) (o : ℕ) (x y : Object) (c : Covers p h fr z o x) → object_at h o ≡ Some x → object_at K o ≡ Some y → (t : Target) → q.target ≡ t
+        → holds_target p st.number s.action c.fact.places t ≡ true → set.is_subset q.names y.called ≡ true
+    one_kept z o x y c before now (promised.At k) target holds = within_from q.names y.called (λ n has.
+        promised_names_are_called-position p l s.action m m d at h j q k n o x y links no_reset there target has (promised_name_is_small p ac named its.0 q n its.1 its.2 has)
+        (operand_holds p h fr.method l s.action o k c.fact.places small (operand_has_position p s.action c.fact.places k small holds) c.places holds) before now)
+    one_kept z o x y c before now (promised.OfField f) target holds =
+        let parts = and_parts (is_this_target s.action) (holds_field p st.number c.fact.places f) holds in
+        absurd (no_place f target (and_parts (has_field_place p st.number f) (has c.fact.places (place_of_field p f)) parts.1).0)
+
+  pub library_keeps_promises : (z : Place) (o : ℕ) (x y : Object) (c : Covers p h fr z o x) → object_at h o ≡ Some x → object_at K o ≡ Some y
+      → AreKept p st.number s.action c.fact.places y.called (promises_at p s.action s.edge)
+  library_keeps_promises z o x y c before now = elim (edge_promises p s.action s.edge m d (ap (callee_in p) called) (λ e is. let way = next.thrown e is in (way.0, way.2)) next.normal) [
+    | inl none ↦ subst (λ (ps : List Promise). AreKept p st.number s.action c.fact.places y.called ps) (sym none) tt
+    | inr same ↦
+        subst (λ (ps : List Promise). AreKept p st.number s.action c.fact.places y.called ps) (sym same)
+        (all_kept p st.number s.action c.fact.places y.called (promises_by m d) (λ j q there holds. one_kept j q there z o x y c before now q.target refl holds))
+  ]

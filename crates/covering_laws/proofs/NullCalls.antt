@@ -1,0 +1,138 @@
+-- A call whose target is null throws before it starts: the library's exception is all that the step makes.
+use Rattle.std.proofs.Common.{List, None, Option, Some, [], ap, arith, false, inl, inr, refl, slice_get, subst, sym, true, true≢false, ℕ, ◌∙◌, ◌∷◌, ◌≡◌}
+use Rattle.std.proofs.lemmas.List.Elements.{All-head, All-tail}
+use Rattle.program_model.specs.declared.kinds.ClassId.{ClassId}
+use Rattle.program_model.specs.declared.program.Program.{Program}
+use Rattle.program_model.specs.declared.program.Promise.{Promise}
+use Rattle.must_call_sets.specs.MustCallSets.{Names, is_heavy_class}
+use Rattle.java_control.specs.Control.{Step}
+use Rattle.java_control.specs.declared.action.Action.{Action}
+use Rattle.java_control.specs.declared.action.Edge.{Edge}
+use Rattle.java_control.specs.declared.action.Edge.TheVariants as edges
+use Rattle.java_control.specs.declared.place.Place.{Place}
+use Rattle.obligation_facts.specs.Callees.{may_be_null_target}
+use Rattle.obligation_facts.specs.Facts.{PlaceSet}
+use Rattle.alias_sets.specs.Aliases.{gives_alias}
+use Rattle.called_methods.specs.CalledRows.{promises_at}
+use Rattle.accepted_programs.specs.Accept.{Accept}
+use Rattle.ledger_state.specs.Contents.{HeapContents}
+use Rattle.ledger_state.specs.Heaps.{next_number, object_at, root, root_of}
+use Rattle.ledger_state.specs.declared.object.Object.{Object}
+use Rattle.ledger_state.specs.declared.value.Value.{Value}
+use Rattle.ledger_state.specs.declared.value.Value.TheVariants as values
+use Rattle.ledger_operations.specs.Places.{place_value}
+use Rattle.ledger_calls.specs.Calls.{operand_of}
+use Rattle.ledger_calls.specs.Configuration.{Frame}
+use Rattle.ledger_frames.specs.Choosing.{frame_steps}
+use Rattle.ledger_frames.specs.Frames.{frame_after}
+use Rattle.ledger_steps.specs.InnerSteps.{with_exception}
+use Rattle.heap_laws.specs.Heaps.{HasLibraryLinks}
+use Rattle.heap_laws.proofs.Laws.{evolving_heaps-links, numbers_are_in_range}
+use Rattle.library_call_laws.proofs.Laws.{exceptions_are_the_librarys, exceptions_keep_links-evolves}
+use Rattle.agreement.specs.Agreement.{Stands}
+use Rattle.agreement.specs.PlainForms.{HasPlainForms}
+use Rattle.range_laws.specs.Nexts.{IsNullCall}
+use Rattle.tracking_laws.proofs.CallNames.{plain_no_reset}
+use Rattle.tracking_laws.proofs.Ready.{call_sets, plain_step}
+use Rattle.tracking_laws.proofs.Unmet.{way_of_call}
+use Rattle.covered_field_laws.specs.PlaceFacts.{AreCovered, Covers}
+use Rattle.covered_field_laws.specs.Ranges.{FieldsInRange, LocalsInRange}
+use Rattle.covering_laws.proofs.CallSteps.{call_covered}
+use Rattle.covering_laws.proofs.InnerJoins.{exception_class_is}
+use Rattle.covering_laws.proofs.InnerSteps.{no_object, same_goes_on}
+use Rattle.covering_laws.proofs.KnownNames.{AreKept}
+use Rattle.covering_laws.proofs.LightExceptions.{null_pointer_is_light}
+use Rattle.covering_laws.proofs.LocalSteps.{LocalsIn, all_there, holds_there, local_step}
+use Rattle.covering_laws.proofs.TopSteps.{IsLocalStep}
+use Rattle.covering_laws.proofs.Waiting.{AllHeldBefore, Carries, KeepsFields, KeepsRoots, KeepsUnfinished, all_held_before, all_keep, all_ready, all_wait, frames_ready, linked_roots, new_root, no_other}
+use Rattle.covering_laws.proofs.LinkedExceptions.{LinkedWere}
+
+-- ---- the heap with an exception
+
+module _ (p : Program) (h : HeapContents) (links : HasLibraryLinks h) (e : ClassId) where
+  pub thrown_roots : KeepsRoots h (with_exception p e h)
+  thrown_roots = linked_roots h (with_exception p e h) links (evolving_heaps-links h (with_exception p e h) (exceptions_keep_links-evolves p (Some e) h))
+
+  -- the exception has itself for its root
+  pub exception_root : root (with_exception p e h) (next_number h) ≡ next_number h
+  exception_root = new_root h (with_exception p e h) (λ y at. elim (exceptions_are_the_librarys p (Some e) h (next_number h) y at) [
+    | inl old ↦ absurd (let range = numbers_are_in_range h (next_number h) y old in let below = range.1 in omega (arith, below))
+    | inr new ↦ new.2
+  ])
+
+  pub thrown_linked : LinkedWere h (with_exception p e h)
+  thrown_linked n y l at some = elim (exceptions_are_the_librarys p (Some e) h n y at) [ inl old ↦ (y, old, some, refl) | inr new ↦ absurd (let never : None ≡ Some l = sym new.2 ∙ some in cc) ]
+
+  pub thrown_unfinished : KeepsUnfinished h (with_exception p e h) no_other
+  thrown_unfinished o x y apart before now none = elim (exceptions_are_the_librarys p (Some e) h o y now) [
+    | inl old ↦ ap (λ (z : Object). z.finished) (let both : Some y ≡ Some x = sym old ∙ before in (let one : y ≡ x = cc in one)) ∙ none
+    | inr new ↦ absurd (let number = new.0 in let range = numbers_are_in_range h o x before in let below = range.1 in omega (arith, number, below))
+  ]
+
+  pub thrown_carries : Carries h (with_exception p e h)
+  thrown_carries o y at below = elim (exceptions_are_the_librarys p (Some e) h o y at) [
+    | inl old ↦ (y, old, refl, (λ is. same_goes_on y), refl)
+    | inr new ↦ absurd (let number = new.0 in omega (arith, number, below))
+  ]
+
+  pub thrown_fields : KeepsFields p h (with_exception p e h)
+  thrown_fields w f own = refl
+
+-- nothing is promised where the target is null
+null_promises : (p : Program) (a : Action) (e : Edge) → may_be_null_target p a e ≡ true → promises_at p a e ≡ []
+null_promises p a edges.Go null = absurd (true≢false (sym null))
+null_promises p a edges.Null null = refl
+null_promises p a edges.NonNull null = refl
+null_promises p a edges.True null = refl
+null_promises p a edges.False null = refl
+null_promises p a (edges.Throws t) null = rw null refl
+
+-- so it gives no alias
+null_gives_none : (p : Program) (a : Action) (e : Edge) (held : PlaceSet) → may_be_null_target p a e ≡ true → gives_alias p a e held ≡ false
+null_gives_none p a edges.Go held null = absurd (true≢false (sym null))
+null_gives_none p a edges.Null held null = refl
+null_gives_none p a edges.NonNull held null = refl
+null_gives_none p a edges.True held null = refl
+null_gives_none p a edges.False held null = refl
+null_gives_none p a (edges.Throws t) held null = refl
+
+module _ (p : Program) (ac : Accept p) (forms : HasPlainForms p) (h : HeapContents) (links : HasLibraryLinks h) (ranges : FieldsInRange h) (fr : Frame) (st : Stands p fr) (i : ℕ) (s : Step)
+    (here : slice_get (frame_steps p fr) i ≡ Some s) (e : Option ClassId) (call : IsNullCall p fr.locals e s) where
+  abbrev npe : ClassId
+  npe = p.core.null_pointer_exception
+
+  abbrev k : HeapContents
+  k = with_exception p npe h
+
+  abbrev v : Value
+  v = values.Object (next_number h)
+
+  abbrev after : Frame
+  after = frame_after p h fr s v
+
+  local : IsLocalStep p fr st s
+  local = local_step p ac forms fr st i s here (call_sets s.action call.row) (way_of_call s call.row)
+
+  -- what the step makes is the exception
+  made : (q : Place) (o : ℕ) (y : Object) → place_value p k fr.method after.locals q ≡ v → root_of k v ≡ Some o → object_at k o ≡ Some y → is_heavy_class p y.class ≡ true → Covers p k after q o y
+  made q o y is root' at heavy =
+      let number : next_number h ≡ o = (let both : Some (next_number h) ≡ Some o = sym (ap Some (exception_root p h links npe)) ∙ root' in (let one : next_number h ≡ o = cc in one)) in
+      absurd (true≢false (sym heavy ∙ ap (is_heavy_class p) (exception_class_is p npe h y (ap (object_at k) number ∙ at)) ∙ null_pointer_is_light p ac))
+
+  none_kept : (held : PlaceSet) (names : Names) → AreKept p st.number s.action held names (promises_at p s.action s.edge)
+  none_kept held names = subst (λ (ps : List Promise). AreKept p st.number s.action held names ps) (sym (null_promises p s.action s.edge call.target)) tt
+
+  pub null_covered : (frs : List Frame) → LocalsIn h (fr ∷ frs) → AreCovered p h (fr ∷ frs) → AreCovered p k (after ∷ frs)
+  null_covered frs in' covered = (
+    call_covered p ac h k links (thrown_roots p h links npe) (thrown_carries p h links npe) (thrown_fields p h links npe) fr st i s here local
+        (holds_there p h ranges fr (All-head (λ (x : Frame). LocalsInRange h x.locals) fr frs in')) v call.row (plain_no_reset p s.action (plain_step p ac forms fr st i s here)) covered.0 (all_ready p h k (thrown_unfinished p h links npe) fr)
+        (λ o x y n before at root' other interest. absurd (no_object h (operand_of fr.locals s.action 0) o call.null root'))
+        (λ z o x y c before at g more trusted done goes wide some owes. none_kept c.fact.places y.called)
+        (λ z o x c before some owes gives. absurd (true≢false (sym gives ∙ null_gives_none p s.action s.edge c.fact.places call.target)))
+        (λ q o y small local' none there is root' at heavy owes. inl (made q o y is root' at heavy)),
+    all_wait p h k links (thrown_roots p h links npe) (thrown_carries p h links npe) frs (all_keep p h k (thrown_fields p h links npe) frs)
+        (all_there p h ranges frs (All-tail (λ (x : Frame). LocalsInRange h x.locals) fr frs in')) (frames_ready p h k (thrown_unfinished p h links npe) frs) covered.1,
+  )
+
+  pub null_held_before : (frs : List Frame) → LocalsIn h frs → AllHeldBefore p h k frs
+  null_held_before frs in' = all_held_before p h k (thrown_roots p h links npe) frs (all_keep p h k (thrown_fields p h links npe) frs) (all_there p h ranges frs in')

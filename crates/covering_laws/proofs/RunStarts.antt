@@ -1,0 +1,32 @@
+-- A run begins without objects.
+use Rattle.std.proofs.Common.{◌≡◌, ℕ, zero, suc, true, Option, Some, None, []}
+use Rattle.program_model.specs.declared.kinds.MethodId.{MethodId}
+use Rattle.program_model.specs.declared.program.Method.{Method}
+use Rattle.program_model.specs.declared.program.Program.{Program}
+use Rattle.program_model.specs.Lookups.{method_at}
+use Rattle.accepted_programs.specs.Accept.{Accept}
+use Rattle.stub_conduct.specs.declared.choice.Choices.{Choices}
+use Rattle.ledger_state.specs.Heaps.{object_in}
+use Rattle.ledger_state.specs.declared.object.Object.{Object}
+use Rattle.ledger_runs.specs.Starts.{start_config}
+use Rattle.ledger_moves.specs.Moves.{has_body}
+use Rattle.covered_field_laws.specs.PlaceFacts.{AreCovered}
+use Rattle.covering_laws.specs.Making.{AreBeingMade}
+use Rattle.covering_laws.specs.Throws.{ExceptionsAreUnlinked}
+
+no_object : (o : ℕ) (x : Object) → object_in [] o ≡ Some x → ⊥
+no_object zero x is = let never : ◌≡◌ {A = Option Object} None (Some x) = is in cc
+no_object (suc k) x is = let never : ◌≡◌ {A = Option Object} None (Some x) = is in cc
+
+pub covered_at_start : (p : Program) → Accept p → (main : MethodId) (m : Method) (choices : Choices) → method_at p main ≡ Some m → has_body m.body ≡ true
+    → AreCovered p (start_config p main choices).heap (start_config p main choices).frames
+unfolding start_config
+covered_at_start p ac main m choices named body = ((λ q o x small root at heavy owes. absurd (no_object o x at)), tt)
+
+pub being_made_at_start : (p : Program) (main : MethodId) (choices : Choices) → AreBeingMade p (start_config p main choices).heap (start_config p main choices).frames
+unfolding start_config
+being_made_at_start p main choices = tt
+
+pub unlinked_exceptions_at_start : (p : Program) (main : MethodId) (choices : Choices) → ExceptionsAreUnlinked p (start_config p main choices).heap
+unfolding start_config
+unlinked_exceptions_at_start p main choices k x l at some = absurd (no_object k x at)

@@ -1,0 +1,341 @@
+-- Each step of a run keeps what the places of frames hold covered, and the objects that are being made unfinished.
+use Rattle.std.proofs.Common.{◌≡◌, ◌⊎◌, inl, inr, ℕ, ◌+◌, true, true≢false, Option, Some, List, [], ◌∷◌, length, slice_get, refl, sym, ap, ◌∙◌, subst}
+use Rattle.std.proofs.lemmas.List.Elements.{All-head, All-tail}
+use Rattle.rlc_base.specs.declared.place.Pos.{Pos}
+use Rattle.program_model.specs.declared.kinds.BodyId.{BodyId}
+use Rattle.program_model.specs.declared.kinds.ClassId.{ClassId}
+use Rattle.program_model.specs.declared.kinds.MethodId.{MethodId}
+use Rattle.program_model.specs.declared.program.Program.{Program}
+use Rattle.program_model.specs.Lookups.{method_at}
+use Rattle.program_conditions.specs.Conditions.{MakesNoString}
+use Rattle.must_call_sets.specs.WellFormed.{HasSmallInterests}
+use Rattle.java_control.specs.Calls.{called_method}
+use Rattle.java_control.specs.Control.{Step, next_of}
+use Rattle.java_control.specs.declared.action.Action.{Action}
+use Rattle.java_control.specs.declared.action.Action.TheVariants as actions
+use Rattle.java_control.specs.declared.action.Completion.{Completion}
+use Rattle.accepted_programs.specs.Accept.{Accept}
+use Rattle.stub_conduct.specs.declared.choice.Conduct.{Conduct}
+use Rattle.ledger_state.specs.Contents.{HeapContents}
+use Rattle.ledger_obligations.specs.Obligations.{end_frame}
+use Rattle.ledger_state.specs.Heaps.{next_number, object_at}
+use Rattle.ledger_state.specs.declared.locals.Locals.{Locals}
+use Rattle.ledger_state.specs.declared.value.Value.{Value}
+use Rattle.ledger_state.specs.declared.value.Value.TheVariants as values
+use Rattle.ledger_obligations.specs.Obligations.{lose}
+use Rattle.ledger_operations.specs.Operations.{made_value, next_choice}
+use Rattle.ledger_calls.specs.Calls.{argument_values, begun}
+use Rattle.ledger_calls.specs.Conducts.{arguments_shared, conduct_value, positions}
+use Rattle.ledger_calls.specs.Configuration.{Config, Frame, held_by}
+use Rattle.ledger_frames.specs.Choosing.{frame_steps, steps_by}
+use Rattle.ledger_frames.specs.Frames.{frame_after}
+use Rattle.ledger_moves.specs.Moves.{Move, Inner, Start, Library, End, Stray, Rest, next_move, standing}
+use Rattle.ledger_moves.specs.Moves.{Return, Back, StrayBack, NoWay, return_move}
+use Rattle.ledger_steps.specs.CallSteps.{began_heap, library_heap, self_begun}
+use Rattle.ledger_steps.specs.Ends.{answered, exception_class, result_value, returned_heap, thrown_in}
+use Rattle.ledger_steps.specs.InnerSteps.{thrown_value, with_exception}
+use Rattle.ledger_runs.specs.Outcomes.{went, ended, stray}
+use Rattle.ledger_runs.specs.Steps.{began, end, library_went, main_ended, moved, moved_by, returned, returned_by, step, top_move, within}
+use Rattle.heap_laws.specs.Heaps.{HasLibraryLinks}
+use Rattle.call_step_laws.proofs.Ways.{one_action}
+use Rattle.agreement.specs.Agreement.{Agree, Agrees, IsMadeBy, Stands, WaitsFor, RunsItself}
+use Rattle.agreement.specs.PlainForms.{HasPlainForms, MayRun}
+use Rattle.range_laws.specs.Nexts.{IsBack, IsBackStep, IsInnerStep, IsLibraryMove, IsNext, IsNullCall, IsOwningStore, IsPlainStep, IsStartMove}
+use Rattle.range_laws.proofs.Cases.{next_is}
+use Rattle.range_laws.proofs.Returns.{back_is}
+use Rattle.target_laws.specs.Frames.{HaveTargets}
+use Rattle.tracking_laws.proofs.Ready.{plain_step, step_here}
+use Rattle.tracking_laws.proofs.Unmet.{call_may, row_of}
+use Rattle.owned_fact_laws.specs.Outcomes.{IsCallRow}
+use Rattle.value_type_laws.specs.Types.{AreCalled, HaveTypes, KeepAll}
+use Rattle.value_type_laws.proofs.Moved as typed_moves
+use Rattle.value_type_laws.proofs.Moved.{IsConstantRead}
+use Rattle.covered_field_laws.specs.FieldContents.{FieldsHold, IsBeingMade, is_new}
+use Rattle.covered_field_laws.specs.PlaceFacts.{AreCovered}
+use Rattle.covered_field_laws.specs.Ranges.{AreInRange, FieldsInRange, LocalsInRange}
+use Rattle.covering_laws.specs.Making.{AreBeingMade, HoldNone, IsUnheld}
+use Rattle.covering_laws.specs.Running.{HasPlainRuns}
+use Rattle.covering_laws.specs.Throws.{ExceptionsAreUnlinked, ThrowsNoNullPointer, EndsByException, TopEndsByException}
+use Rattle.covering_laws.proofs.BeingMade.{all_apart, apart_from, making_on}
+use Rattle.covering_laws.proofs.EndJoins.{ended_covered, ended_held_before, ended_linked, ended_unfinished}
+use Rattle.covering_laws.proofs.InnerJoins.{plain_covered, plain_held_before, plain_linked, plain_unfinished}
+use Rattle.covering_laws.proofs.LibraryJoins.{library_after_unfinished, library_covered, library_held_before, library_linked}
+use Rattle.covering_laws.proofs.LocalSteps.{LocalsIn, all_there}
+use Rattle.covering_laws.proofs.Lost.{all_lost, frame_linked, lost_held_before, lost_linked, lost_unfinished, was_there}
+use Rattle.covering_laws.proofs.NullCalls.{null_covered, null_held_before, thrown_linked, thrown_unfinished}
+use Rattle.covering_laws.proofs.StartHeaps.{new_unfinished}
+use Rattle.covering_laws.proofs.StartJoins.{callee_this, start_covered, start_held_before, started_linked, started_unfinished}
+use Rattle.covering_laws.proofs.StoreJoins.{store_held_before, store_linked, store_unfinished, stores_covered}
+use Rattle.covering_laws.proofs.Waiting.{AllHeldBefore, KeepsUnfinished, held_before_further, next_not_held, no_other, none_held_on}
+use Rattle.covering_laws.proofs.LinkedExceptions.{still_unlinked}
+use Rattle.argument_laws.specs.Arguments.{HasArguments, HaveArguments}
+
+-- a `new` begins on the next object
+new_self : (l : Locals) (a : Action) (h : HeapContents) → is_new a ≡ true → self_begun l a h ≡ values.Object (next_number h)
+new_self l actions.Skip h new = absurd (true≢false (sym new))
+new_self l (actions.New m d n) h new = refl
+new_self l a h new = absurd (true≢false (sym new))
+
+abbrev pub AreKept : Program → Config → Type 0
+AreKept p c = AreCovered p c.heap c.frames × AreBeingMade p c.heap c.frames × ExceptionsAreUnlinked p c.heap
+
+module _ (p : Program) (ac : Accept p) (forms : HasPlainForms p) (raises : ThrowsNoNullPointer p) (runs : HasPlainRuns p) (names : HasSmallInterests p) (texts : MakesNoString p) (c d : Config) (types : HaveTypes p c) (fr : Frame) (frs : List Frame)
+    (agrees : Agrees p (fr ∷ frs) c.heap c.entries) (targets : HaveTargets p (fr ∷ frs)) (keeps : KeepAll p (fr ∷ frs)) (called : AreCalled p (fr ∷ frs)) (in' : LocalsIn c.heap (fr ∷ frs)) (ranges : FieldsInRange c.heap)
+    (hold : FieldsHold p (fr ∷ frs) c.heap) (making : AreBeingMade p c.heap (fr ∷ frs)) (linked : ExceptionsAreUnlinked p c.heap) (covered : AreCovered p c.heap (fr ∷ frs)) where
+  abbrev h : HeapContents
+  h = c.heap
+
+  st : Stands p fr
+  st = agrees.standing.0
+
+  links : HasLibraryLinks h
+  links = agrees.links
+
+  others_in : LocalsIn h frs
+  others_in = All-tail (λ (x : Frame). LocalsInRange h x.locals) fr frs in'
+
+  carried : (x : Config) → went x ≡ went d → AreKept p x → AreKept p d
+  carried x is kept = subst (AreKept p) (let same : x ≡ d = cc in same) kept
+
+  -- the top frame goes on as another on the same object, and the heap loses what no place holds
+  goes : (k : HeapContents) (after : Frame) → after.locals.this ≡ fr.locals.this → KeepsUnfinished h k no_other → AllHeldBefore p h k frs → ExceptionsAreUnlinked p k → AreCovered p k (after ∷ frs)
+      → AreCovered p (lose (held_by (after ∷ frs)) k) (after ∷ frs) × AreBeingMade p (lose (held_by (after ∷ frs)) k) (after ∷ frs) × ExceptionsAreUnlinked p (lose (held_by (after ∷ frs)) k)
+  goes k after same unready before apart all = (
+    all_lost p k (held_by (after ∷ frs)) (after ∷ frs) all,
+    making_on p h (lose (held_by (after ∷ frs)) k) no_other (lost_unfinished p k (held_by (after ∷ frs)) h no_other unready) fr after frs same in' (all_apart (fr ∷ frs))
+        (held_before_further p h k (lose (held_by (after ∷ frs)) k) frs before (lost_held_before p k (held_by (after ∷ frs)) frs)) making,
+    still_unlinked p k (lose (held_by (after ∷ frs)) k) (lost_linked p k (held_by (after ∷ frs))) apart,
+  )
+
+  -- ---- steps within the frame
+
+  plain_kept : (e : Option ClassId) (s : Step) (i : ℕ) (here : slice_get (frame_steps p fr) i ≡ Some s) → IsPlainStep p h c.arrays fr.method fr.locals e s → AreKept p (within p c fr frs e s)
+  plain_kept e s i here next =
+      goes _
+      (frame_after p h fr s (thrown_value h e (made_value p h c.arrays c.statics (next_choice c.choices c.used) fr.locals s.action))) refl
+      (plain_unfinished p ac forms raises texts c types links ranges fr st keeps.0 i s here e next) (plain_held_before p ac forms raises texts c types links ranges fr st keeps.0 i s here e next frs others_in)
+      (plain_linked p ac forms raises texts c types links ranges fr st keeps.0 i s here e next linked) (plain_covered p ac forms raises texts c types links ranges fr st keeps.0 i s here e next frs in' covered)
+
+  null_kept : (e : Option ClassId) (s : Step) (i : ℕ) (here : slice_get (frame_steps p fr) i ≡ Some s) → IsNullCall p fr.locals e s → AreKept p (within p c fr frs e s)
+  null_kept e s i here next = subst (λ (x : Option ClassId). AreKept p (within p c fr frs x s)) (sym next.thrown)
+      (goes (with_exception p p.core.null_pointer_exception h) (frame_after p h fr s (values.Object (next_number h))) refl
+      (thrown_unfinished p h links p.core.null_pointer_exception) (null_held_before p ac forms h links ranges fr st i s here e next frs others_in)
+      (still_unlinked p h (with_exception p p.core.null_pointer_exception h) (thrown_linked p h links p.core.null_pointer_exception) linked) (null_covered p ac forms h links ranges fr st i s here e next frs in' covered))
+
+  store_kept : (e : Option ClassId) (s : Step) (i : ℕ) (here : slice_get (frame_steps p fr) i ≡ Some s) → IsOwningStore e s → AreKept p (within p c fr frs e s)
+  store_kept e s i here next = subst (λ (x : Option ClassId). AreKept p (within p c fr frs x s)) (sym next.normal)
+      (goes _
+      (frame_after p h fr s made) refl
+      (store_unfinished p ac forms h links ranges fr frs st agrees.standing.1 agrees.stacked hold i s here next.field next.temp next.action made)
+      (store_held_before p ac forms h links ranges fr frs st agrees.standing.1 agrees.stacked hold i s here next.field next.temp next.action made in' covered.0)
+      (store_linked p ac forms h links ranges fr frs st agrees.standing.1 agrees.stacked hold i s here next.field next.temp next.action made linked)
+      (stores_covered p ac forms h links ranges fr frs st agrees.standing.1 agrees.stacked hold i s here next.field next.temp next.action made in' covered))
+    where
+      made : Value
+      made = made_value p h c.arrays c.statics (next_choice c.choices c.used) fr.locals s.action
+
+  inner_kept : (e : Option ClassId) (s : Step) (i : ℕ) → slice_get (frame_steps p fr) i ≡ Some s → IsInnerStep p h c.arrays fr.method fr.locals e s → AreKept p (within p c fr frs e s)
+  inner_kept e s i here next = elim next [
+    | inl plain ↦ plain_kept e s i here plain
+    | inr more ↦ elim more [ inl null ↦ null_kept e s i here null | inr store ↦ store_kept e s i here store ]
+  ]
+
+  -- ---- calls that begin
+
+  module _ (named r : MethodId) (a : Action) (pos : Pos) (next : IsStartMove p h c.arrays fr.locals (frame_steps p fr) named r a) where
+    abbrev s : Step
+    s = next.step
+
+    abbrev callee : Frame
+    callee = begun p r (self_begun fr.locals s.action h) (argument_values fr.locals s.action (method_at p named))
+
+    abbrev frames : List Frame
+    frames = callee ∷ fr ∷ frs
+
+    abbrev held : List (List Value)
+    held = held_by frames
+
+    top : LocalsInRange h fr.locals
+    top = All-head (λ (x : Frame). LocalsInRange h x.locals) fr frs in'
+
+    abbrev k : HeapContents
+    k = began_heap p fr.locals s.action (method_at p named) (length frames) h
+
+    later : KeepsUnfinished h (lose held k) no_other
+    later = lost_unfinished p k held h no_other (started_unfinished p ac forms runs texts h links ranges types.fields hold.fit fr st keeps.0 top covered.0 c.arrays named r a next (length frames))
+
+    -- the object of a `new` that begins
+    begins : IsBeingMade p (lose held k) callee fr
+    begins j u w y at new this now =
+        let one : u.action ≡ s.action = one_action p st.number fr.control next.index j s u (step_here p fr st next.index s next.here) (step_here p fr st j u at) (call_may s.action (subst IsCallRow (sym next.same) next.row)) in
+        let self : values.Object w ≡ values.Object (next_number h) = sym this ∙ callee_this p ac forms runs texts h links ranges types.fields hold.fit fr st keeps.0 top covered.0 c.arrays named r a next (length frames)
+        ∙ new_self fr.locals s.action h (ap is_new (sym one) ∙ new) in
+        let z = was_there p k held w y now in
+        z.2.finished ∙ new_unfinished p fr.locals s.action (method_at p named) (length frames) h links z.0 (ap (object_at k) (let number : next_number h ≡ w = cc in number) ∙ z.1)
+
+    held_before : AllHeldBefore p h (lose held k) (fr ∷ frs)
+    held_before = held_before_further p h k (lose held k) (fr ∷ frs)
+        (start_held_before p ac forms runs texts h links ranges types.fields hold.fit fr st keeps.0 top covered.0 c.arrays named r a next (length frames) (fr ∷ frs) in') (lost_held_before p k held (fr ∷ frs))
+
+    -- which no frame holds yet
+    unheld : IsUnheld p (lose held k) callee fr frs
+    unheld j u w at new this =
+        let one : u.action ≡ s.action = one_action p st.number fr.control next.index j s u (step_here p fr st next.index s next.here) (step_here p fr st j u at) (call_may s.action (subst IsCallRow (sym next.same) next.row)) in
+        let self : values.Object w ≡ values.Object (next_number h) = sym this ∙ callee_this p ac forms runs texts h links ranges types.fields hold.fit fr st keeps.0 top covered.0 c.arrays named r a next (length frames)
+        ∙ new_self fr.locals s.action h (ap is_new (sym one) ∙ new) in
+        subst (λ (n : ℕ). HoldNone p (lose held k) n (fr ∷ frs)) (let number : next_number h ≡ w = cc in number)
+        (none_held_on p h (lose held k) (next_number h) (fr ∷ frs) held_before (next_not_held p h links (fr ∷ frs) (all_there p h ranges (fr ∷ frs) in')))
+
+    began_kept : AreKept p (began p c fr frs named r a pos)
+    began_kept = subst (λ (b : Action). AreKept p (began p c fr frs named r b pos)) next.same (
+      all_lost p k held frames (start_covered p ac forms runs texts h links ranges types.fields hold.fit fr st keeps.0 top covered.0 c.arrays named r a next (length frames) frs in' covered),
+      (begins, unheld, making_on p h (lose held k) no_other later fr fr frs refl in' (all_apart (fr ∷ frs)) held_before.1 making),
+      still_unlinked p k (lose held k) (lost_linked p k held)
+          (still_unlinked p h k (started_linked p ac forms runs texts h links ranges types.fields hold.fit fr st keeps.0 top covered.0 c.arrays named r a next (length frames)) linked),
+    )
+
+  -- ---- calls of the library
+
+  library_kept : (named m : MethodId) (x : Conduct) (s : Step) → IsLibraryMove p h c.arrays fr.locals (frame_steps p fr) named m x s → (called_method s.action ≡ Some named) ⊎ IsConstantRead s.action named
+      → AreKept p (library_went p c fr frs named m x s)
+  library_kept named m x s next row = subst (λ (z : MethodId). AreKept p (library_went p c fr frs named z x s)) (sym next.same)
+      (goes (library_heap p fr.locals s.action (method_at p named) (method_at p named) x (length frs + 1) h)
+      (frame_after p h fr s (conduct_value count (method_at p named) (positions fr.locals s.action (next_number h) x) (next_number h) x)) refl
+      (library_after_unfinished p ac forms names h links ranges fr st mine c.arrays named x s named_next (length frs + 1) count)
+      (library_held_before p ac forms names h links ranges fr st mine c.arrays named x s named_next (length frs + 1) count frs others_in)
+      (library_linked p ac forms names h links ranges fr st mine c.arrays named x s named_next (length frs + 1) count linked)
+      (library_covered p ac forms names h links ranges fr st mine c.arrays named x s named_next (length frs + 1) count row frs in' covered))
+    where
+      named_next : IsLibraryMove p h c.arrays fr.locals (frame_steps p fr) named named x s
+      named_next = subst (λ (z : MethodId). IsLibraryMove p h c.arrays fr.locals (frame_steps p fr) named z x s) next.same next
+
+      mine : LocalsInRange h fr.locals
+      mine = All-head (λ (u : Frame). LocalsInRange h u.locals) fr frs in'
+
+      count : ℕ
+      count = length (arguments_shared c.arrays fr.locals s.action (method_at p named))
+
+-- ---- ends
+
+module _ (p : Program) (ac : Accept p) (forms : HasPlainForms p) (raises : ThrowsNoNullPointer p) (runs : HasPlainRuns p) (names : HasSmallInterests p) (texts : MakesNoString p) (c d : Config) (fr caller : Frame) (rest : List Frame)
+    (agrees : Agrees p (fr ∷ caller ∷ rest) c.heap c.entries) (targets : HaveTargets p (fr ∷ caller ∷ rest)) (keeps : KeepAll p (fr ∷ caller ∷ rest)) (called : AreCalled p (fr ∷ caller ∷ rest)) (in' : LocalsIn c.heap (fr ∷ caller ∷ rest))
+    (ranges : FieldsInRange c.heap) (hold : FieldsHold p (fr ∷ caller ∷ rest) c.heap) (making : AreBeingMade p c.heap (fr ∷ caller ∷ rest)) (linked : ExceptionsAreUnlinked p c.heap) (covered : AreCovered p c.heap (fr ∷ caller ∷ rest))
+    (i : ℕ) (s : Step) (q : Completion) (here : slice_get (frame_steps p fr) i ≡ Some s) (is : s.action ≡ actions.End q) (args : HasArguments p caller fr) (exits : EndsByException p c.heap fr) where
+  abbrev e : Option ClassId
+  e = exception_class p c.heap (thrown_in fr.locals q)
+
+  abbrev waits : WaitsFor p c.heap caller fr
+  waits = agrees.stacked.0
+
+  below : Stands p caller
+  below = agrees.standing.1.0
+
+  below_in : LocalsIn c.heap (caller ∷ rest)
+  below_in = All-tail (λ (x : Frame). LocalsInRange c.heap x.locals) fr (caller ∷ rest) in'
+
+  module _ (pos : Pos) (t : Step) (named : MethodId) (same : named ≡ waits.named) (back : IsBackStep p (frame_steps p caller) e named t) where
+    may : MayRun p named fr.method
+    may = subst (λ (z : MethodId). MayRun p z fr.method) (sym same) waits.runs
+
+    same_action : t.action ≡ waits.step.action
+    same_action = one_action p below.number caller.control waits.index back.index waits.step t (step_here p caller below waits.index waits.step waits.here) (step_here p caller below back.index t back.here)
+        (call_may waits.step.action (row_of waits.step.action waits.named waits.calls))
+
+    makes : IsMadeBy p c.heap t.action fr.locals.this
+    makes = subst (λ (a : Action). IsMadeBy p c.heap a fr.locals.this) (sym same_action) waits.makes
+
+    itself : RunsItself t.action named fr.method
+    itself = subst (λ (a : Action). RunsItself a named fr.method) (sym same_action) (subst (λ (z : MethodId). RunsItself waits.step.action z fr.method) (sym same) waits.itself)
+
+    abbrev ended_heap : HeapContents
+    ended_heap = returned_heap p (length rest + 1) fr.locals.this caller.locals t.action (method_at p fr.method) (method_at p named) (result_value fr.locals (method_at p fr.method) q) e c.heap
+
+    abbrev after : Frame
+    after = frame_after p c.heap caller t (answered fr.locals.this t.action (result_value fr.locals (method_at p fr.method) q) e)
+
+    abbrev held_after : List (List Value)
+    held_after = held_by (after ∷ rest)
+
+    abbrev apart : ℕ → Type 0
+    apart o = (fr.locals.this ≡ values.Object o) × (is_new t.action ≡ true)
+
+    mine : LocalsInRange c.heap fr.locals
+    mine = All-head (λ (x : Frame). LocalsInRange c.heap x.locals) fr (caller ∷ rest) in'
+
+    returned_kept : AreKept p (returned p c fr caller rest pos q e named t)
+    returned_kept = (
+      all_lost p ended_heap held_after (after ∷ rest) (ended_covered p ac forms runs names texts c.heap agrees.links linked ranges fr caller agrees.standing.0 below targets.1.0 keeps.0 called.0 hold.dispatched.0 making.0 mine covered.0 i s q here is t named back
+          may makes itself (length rest + 1) args exits rest making.1 below_in covered.1),
+      making_on p c.heap (lose held_after ended_heap) apart (lost_unfinished p ended_heap held_after c.heap apart (ended_unfinished p ac forms runs names texts c.heap agrees.links linked ranges fr caller agrees.standing.0 below targets.1.0 keeps.0 called.0 hold.dispatched.0 making.0
+          mine covered.0 i s q here is t named back may makes itself (length rest + 1) args exits)) caller after rest refl below_in
+          (apart_from apart (caller ∷ rest) (λ w other. hold.fresh.0 back.index t w back.here other.1 other.0))
+          (held_before_further p c.heap ended_heap (lose held_after ended_heap) rest (ended_held_before p ac forms runs names texts c.heap agrees.links linked ranges fr caller agrees.standing.0 below targets.1.0 keeps.0 called.0 hold.dispatched.0 making.0
+          mine covered.0 i s q here is t named back may makes itself (length rest + 1) args exits rest (All-tail (λ (x : Frame). LocalsInRange c.heap x.locals) caller rest below_in)) (lost_held_before p ended_heap held_after rest)) making.2,
+      still_unlinked p ended_heap (lose held_after ended_heap) (lost_linked p ended_heap held_after)
+          (still_unlinked p c.heap ended_heap (ended_linked p ac forms runs names texts c.heap agrees.links linked ranges fr caller agrees.standing.0 below targets.1.0 keeps.0 called.0 hold.dispatched.0 making.0 mine covered.0 i s q here is t named back may makes itself
+          (length rest + 1) args exits) linked),
+    )
+
+  back_kept : c.frames ≡ fr ∷ caller ∷ rest → (pos : Pos) (r : Return) → IsBack p (frame_steps p caller) e waits.named r → returned_by p c fr caller rest pos q r ≡ went d → AreKept p d
+  back_kept frames pos (Back x named t) back same =
+      subst (AreKept p) (let one : returned p c fr caller rest pos q x named t ≡ d = cc in one)
+      (subst (λ (z : Option ClassId). AreKept p (returned p c fr caller rest pos q z named t)) (sym back.0) (returned_kept pos t named back.1 (subst (λ (z : MethodId). IsBackStep p (frame_steps p caller) e z t) (sym back.1) back.2)))
+  back_kept frames pos (StrayBack x at) back same = absurd (let never : stray x at ≡ went d = same in cc)
+  back_kept frames pos NoWay back same = subst (AreKept p) (let one : c ≡ d = cc in one) (subst (λ (gs : List Frame). AreCovered p c.heap gs × AreBeingMade p c.heap gs × ExceptionsAreUnlinked p c.heap) (sym frames) (covered, making, linked))
+
+-- ---- all steps
+
+module _ (p : Program) (ac : Accept p) (forms : HasPlainForms p) (raises : ThrowsNoNullPointer p) (runs : HasPlainRuns p) (names : HasSmallInterests p) (texts : MakesNoString p) (c d : Config) (types : HaveTypes p c)
+    (given : (fr caller : Frame) (rest : List Frame) → c.frames ≡ fr ∷ caller ∷ rest → HasArguments p caller fr × EndsByException p c.heap fr) where
+  ended_kept : (fr : Frame) (frs : List Frame) → c.frames ≡ fr ∷ frs → Agrees p (fr ∷ frs) c.heap c.entries → HaveTargets p (fr ∷ frs) → KeepAll p (fr ∷ frs) → AreCalled p (fr ∷ frs) → LocalsIn c.heap (fr ∷ frs) → FieldsInRange c.heap
+      → FieldsHold p (fr ∷ frs) c.heap → AreBeingMade p c.heap (fr ∷ frs) → ExceptionsAreUnlinked p c.heap → AreCovered p c.heap (fr ∷ frs) → (pos : Pos) (q : Completion) (i : ℕ) (s : Step) → slice_get (frame_steps p fr) i ≡ Some s → s.action ≡ actions.End q
+      → end p c fr frs pos q ≡ went d → AreKept p d
+  ended_kept fr [] frames agrees targets keeps called in' ranges hold making linked covered pos q i s here is same = subst (AreKept p) (let one : main_ended p c fr pos q ≡ d = cc in one) (tt, tt, still_unlinked p c.heap (end_frame 1 c.heap) (frame_linked 1 c.heap) linked)
+  ended_kept fr (caller ∷ rest) frames agrees targets keeps called in' ranges hold making linked covered pos q i s here is same =
+      back_kept p ac forms raises runs names texts c d fr caller rest agrees targets keeps called in' ranges hold making linked covered i s q here is (given fr caller rest frames).0 (given fr caller rest frames).1 frames pos
+      (return_move p (frame_steps p caller) (exception_class p c.heap (thrown_in fr.locals q)))
+      (back_is p caller agrees.standing.1.0 agrees.stacked.0.named agrees.stacked.0.index agrees.stacked.0.step agrees.stacked.0.here agrees.stacked.0.calls (exception_class p c.heap (thrown_in fr.locals q)))
+      same
+
+  moved_kept : (fr : Frame) (frs : List Frame) → c.frames ≡ fr ∷ frs → Agrees p (fr ∷ frs) c.heap c.entries → HaveTargets p (fr ∷ frs) → KeepAll p (fr ∷ frs) → AreCalled p (fr ∷ frs) → LocalsIn c.heap (fr ∷ frs) → FieldsInRange c.heap
+      → FieldsHold p (fr ∷ frs) c.heap → AreBeingMade p c.heap (fr ∷ frs) → ExceptionsAreUnlinked p c.heap → AreCovered p c.heap (fr ∷ frs) → (mv : Move) → IsNext p c.heap c.arrays fr.method fr.locals (frame_steps p fr) mv
+      → typed_moves.IsNext p c.heap c.arrays fr.method fr.locals (frame_steps p fr) mv → moved p c fr frs mv ≡ went d → AreKept p d
+  moved_kept fr frs frames agrees targets keeps called in' ranges hold making linked covered (Inner e s) next typed same =
+      subst (AreKept p) (let one : within p c fr frs e s ≡ d = cc in one)
+      (inner_kept p ac forms raises runs names texts c d types fr frs agrees targets keeps called in' ranges hold making linked covered e s next.0 next.1 next.2)
+  moved_kept fr frs frames agrees targets keeps called in' ranges hold making linked covered (Start named r a pos) next typed same =
+      subst (AreKept p) (let one : began p c fr frs named r a pos ≡ d = cc in one)
+      (began_kept p ac forms raises runs names texts c d types fr frs agrees targets keeps called in' ranges hold making linked covered named r a pos next)
+  moved_kept fr frs frames agrees targets keeps called in' ranges hold making linked covered (Library named m x s) next typed same =
+      subst (AreKept p) (let one : library_went p c fr frs named m x s ≡ d = cc in one)
+      (library_kept p ac forms raises runs names texts c d types fr frs agrees targets keeps called in' ranges hold making linked covered named m x s next typed.row)
+  moved_kept fr frs frames agrees targets keeps called in' ranges hold making linked covered (End pos q) next typed same =
+      ended_kept fr frs frames agrees targets keeps called in' ranges hold making linked covered pos q next.0 next.1 next.2 next.3 same
+  moved_kept fr frs frames agrees targets keeps called in' ranges hold making linked covered (Stray e pos) next typed same = absurd (let never : stray e pos ≡ went d = same in cc)
+  moved_kept fr frs frames agrees targets keeps called in' ranges hold making linked covered Rest next typed same =
+      subst (AreKept p) (let one : c ≡ d = cc in one) (subst (λ (gs : List Frame). AreCovered p c.heap gs × AreBeingMade p c.heap gs × ExceptionsAreUnlinked p c.heap) (sym frames) (covered, making, linked))
+
+  -- what comes next, as the laws on types see it
+  typed_next : (fr : Frame) (st : Stands p fr) → typed_moves.IsNext p c.heap c.arrays fr.method fr.locals (frame_steps p fr)
+      (next_move p c.heap c.arrays (next_choice c.choices c.used) fr.method fr.locals (frame_steps p fr) (standing (slice_get fr.control 0)))
+  typed_next fr st =
+      subst (λ (steps : List Step). typed_moves.IsNext p c.heap c.arrays fr.method fr.locals steps (next_move p c.heap c.arrays (next_choice c.choices c.used) fr.method fr.locals steps (standing (slice_get fr.control 0))))
+      (sym same)
+      (typed_moves.next_is p st.number fr.control (λ i s here. plain_step p ac forms fr st i s (ap (λ (steps : List Step). slice_get steps i) same ∙ here)) c.heap c.arrays (next_choice c.choices c.used) fr.method fr.locals)
+    where
+      same : frame_steps p fr ≡ next_of p st.number fr.control
+      same = ap (λ (b : Option BodyId). steps_by p b fr.control) st.id
+
+  by_frames : (frs : List Frame) → c.frames ≡ frs → Agrees p frs c.heap c.entries → HaveTargets p frs → KeepAll p frs → AreCalled p frs → LocalsIn c.heap frs → FieldsInRange c.heap → FieldsHold p frs c.heap → AreBeingMade p c.heap frs
+      → ExceptionsAreUnlinked p c.heap → AreCovered p c.heap frs → moved_by p c frs (top_move p c frs) ≡ went d → AreKept p d
+  by_frames [] frames agrees targets keeps called in' ranges hold making linked covered same = absurd (let never : ended c.ended ≡ went d = same in cc)
+  by_frames (fr ∷ frs) frames agrees targets keeps called in' ranges hold making linked covered same =
+      moved_kept fr frs frames agrees targets keeps called in' ranges hold making linked covered (top_move p c (fr ∷ frs)) (next_is p ac forms c.heap c.arrays (next_choice c.choices c.used) fr agrees.standing.0 targets.0)
+      (typed_next fr agrees.standing.0) same
+
+pub kept_step : (p : Program) → Accept p → HasPlainForms p → ThrowsNoNullPointer p → HasPlainRuns p → HasSmallInterests p → MakesNoString p → (c d : Config) → Agree p c → HaveTargets p c.frames → HaveTypes p c → AreInRange c
+    → FieldsHold p c.frames c.heap → AreBeingMade p c.heap c.frames → ExceptionsAreUnlinked p c.heap → AreCovered p c.heap c.frames → HaveArguments p c.frames → TopEndsByException p c.heap c.frames → step p c ≡ went d → AreKept p d
+unfolding step
+kept_step p ac forms raises runs names texts c d agrees targets types ranges fields making linked covered args exits same =
+    by_frames p ac forms raises runs names texts c d types
+    (λ fr caller rest frames. ((subst (λ (gs : List Frame). HaveArguments p gs) frames args).0, subst (λ (gs : List Frame). TopEndsByException p c.heap gs) frames exits)) c.frames refl agrees targets types.frames types.called ranges.frames ranges.fields fields making linked covered same

@@ -1,0 +1,291 @@
+-- A frame whose places stay as they are goes on to be covered, where the objects that they hold go on.
+use Rattle.std.proofs.Common.{◌≡◌, ℕ, ◌<◌, ◌≤◌, Bool, true, false, not, ◌&&◌, true≢false, Option, Some, None, List, [], ◌∷◌, refl, sym, ap, ◌∙◌, arith, ◌||◌}
+use Rattle.std.proofs.lemmas.Bool.{and_from, and_parts}
+use Rattle.std.specs.FinSet as set
+use Rattle.rlc_base.proofs.SetLaws.{within_trans}
+use Rattle.program_model.specs.declared.kinds.ClassId.{ClassId}
+use Rattle.program_model.specs.declared.kinds.FieldId.{FieldId}
+use Rattle.program_model.specs.declared.kinds.MethodId.{MethodId}
+use Rattle.program_model.specs.declared.program.Program.{Program}
+use Rattle.must_call_sets.specs.MustCallSets.{Names, fits, is_empty, is_heavy_class, must_of}
+use Rattle.java_control.specs.Owned.{is_owning}
+use Rattle.java_control.specs.PlaceNumbers.{IsSmall}
+use Rattle.java_control.specs.declared.fact.Fact.{Fact}
+use Rattle.java_control.specs.declared.fact.Origin.{Origin}
+use Rattle.java_control.specs.declared.place.Place.{Place}
+use Rattle.java_control.specs.declared.place.Place.TheVariants as places
+use Rattle.obligation_facts.specs.Facts.{need, is_held, is_own}
+use Rattle.ledger_state.specs.Contents.{HeapContents}
+use Rattle.ledger_state.specs.Fields.{field_of, field_value}
+use Rattle.ledger_state.specs.Heaps.{next_number, object_at, root, root_of, unfinished}
+use Rattle.ledger_state.specs.declared.locals.Locals.{Locals}
+use Rattle.ledger_state.specs.declared.object.Object.{Object}
+use Rattle.ledger_state.specs.declared.value.Value.{Value}
+use Rattle.ledger_state.specs.declared.value.Value.TheVariants as values
+use Rattle.ledger_operations.specs.Places.{class_by, class_of_method, field_place_value, owning_field_beside, place_value}
+use Rattle.ledger_calls.specs.Configuration.{Frame}
+use Rattle.program_model.specs.Lookups.{method_at}
+use Rattle.java_control.specs.Owned.{fields_in}
+use Rattle.heap_laws.specs.Heaps.{GoesOn, HasLibraryLinks, KeepsLinks}
+use Rattle.heap_laws.proofs.Laws.{numbers_are_in_range, roots_go_on-number, roots_of_links-absent, roots_of_links-itself, roots_of_links-there}
+use Rattle.covered_field_laws.specs.PlaceFacts.{AreCovered, Covers, IsCovered, IsTrueOf, may_owe}
+use Rattle.covered_field_laws.specs.Ranges.{IsInRange, IsNumber}
+use Rattle.covering_laws.specs.Making.{HoldNone}
+use Rattle.tracking_laws.proofs.Chains.{object_there}
+use Rattle.field_place_laws.proofs.FieldPlaces.{passes}
+use Rattle.java_control.specs.declared.fact.Mode.{Mode}
+
+-- the object of this number was there: it is of its class, and linked as it was, and where it was finished it goes on
+abbrev pub IsCarried : HeapContents → ℕ → Object → Type 0
+IsCarried h o y = (x : Object) × (object_at h o ≡ Some x) × (y.class ≡ x.class) × (x.finished ≡ true → GoesOn x y) × (y.link ≡ x.link)
+
+-- what may owe a call might before
+pub owed_before : (x y : Object) → (x.finished ≡ true → GoesOn x y) → may_owe y ≡ true → may_owe x ≡ true
+owed_before x y goes owes = go (x.finished && is_empty x.must) refl
+  where
+    go : (b : Bool) → (x.finished && is_empty x.must) ≡ b → not (x.finished && is_empty x.must) ≡ true
+    go false e = ap not e
+    go true e =
+        let parts = and_parts x.finished (is_empty x.must) e in
+        let on = goes parts.0 in
+        absurd (true≢false (sym owes ∙ ap not (and_from y.finished (is_empty y.must) (on.finished ∙ parts.0) (ap is_empty on.must ∙ parts.1))))
+
+-- so is each object of the heap `k` that the heap `h` had
+abbrev pub Carries : HeapContents → HeapContents → Type 0
+Carries h k = (o : ℕ) (y : Object) → object_at k o ≡ Some y → o < next_number h → IsCarried h o y
+
+-- an object that was not finished is not, but for these
+abbrev pub KeepsUnfinished : HeapContents → HeapContents → (ℕ → Type 0) → Type 0
+KeepsUnfinished h k apart = (o : ℕ) (x y : Object) → (apart o → ⊥) → object_at h o ≡ Some x → object_at k o ≡ Some y → x.finished ≡ false → y.finished ≡ false
+
+abbrev pub no_other : ℕ → Type 0
+no_other o = ⊥
+
+-- what is true of an object stays so as it goes on
+pub still_true : (p : Program) (x y : Object) (o : Origin) (f : Fact) → GoesOn x y → IsTrueOf p x o f → IsTrueOf p y o f
+still_true p x y o f goes truth = record {
+  finished = goes.finished ∙ truth.finished;
+  class = ap (λ (c : ClassId). fits p c o.class) goes.class ∙ truth.class;
+  bounded = ap (λ (s : Names). set.is_subset s (must_of p y.class)) goes.must ∙ ap (λ (c : ClassId). set.is_subset x.must (must_of p c)) goes.class ∙ truth.bounded;
+  need = ap (λ (s : Names). set.is_subset s (need o f)) goes.must ∙ truth.need;
+  called = within_trans f.called x.called y.called truth.called goes.called;
+}
+
+-- ---- roots
+
+-- what was there has the root that it had
+abbrev pub KeepsRoots : HeapContents → HeapContents → Type 0
+KeepsRoots h k = (n : ℕ) → IsNumber h n → root k n ≡ root h n
+
+pub value_root : (h k : HeapContents) → KeepsRoots h k → (v : Value) → IsInRange h v → root_of k v ≡ root_of h v
+value_root h k roots values.Nothing in' = refl
+value_root h k roots (values.Object n) in' = ap Some (roots n (in' n refl))
+value_root h k roots v in' = refl
+
+-- the root of a value is there
+pub root_there : (h : HeapContents) → HasLibraryLinks h → (v : Value) (o : ℕ) → IsInRange h v → root_of h v ≡ Some o → (x : Object) × (object_at h o ≡ Some x)
+root_there h links values.Nothing o in' is = absurd (let never : None ≡ Some o = is in cc)
+root_there h links (values.Object n) o in' is =
+    let number = in' n refl in
+    let class : ClassId = record { 0 = 0 } in
+    let x = object_there h n (unfinished class) number.0 number.1 in
+    let y = roots_of_links-there h n x.0 links x.1 in
+    (y.0, ap (object_at h) (let both : Some o ≡ Some (root h n) = sym is in (let one : o ≡ root h n = cc in one)) ∙ y.1)
+root_there h links v o in' is = absurd (let never : None ≡ Some o = is in cc)
+
+pub numbered : (h : HeapContents) → HasLibraryLinks h → (v : Value) (o : ℕ) → root_of h v ≡ Some o → IsInRange h v → IsNumber h o
+numbered h links v o is in' = let x = root_there h links v o in' is in numbers_are_in_range h o x.0 x.1
+
+-- the next object has itself for its root, where it is not linked
+pub new_root : (h k : HeapContents) → ((y : Object) → object_at k (next_number h) ≡ Some y → y.link ≡ None) → root k (next_number h) ≡ next_number h
+new_root h k unlinked = go (object_at k (next_number h)) refl
+  where
+    go : (x : Option Object) → object_at k (next_number h) ≡ x → root k (next_number h) ≡ next_number h
+    go None at = roots_of_links-absent k (next_number h) at
+    go (Some y) at = roots_of_links-itself k (next_number h) y at (unlinked y at)
+
+-- where all objects keep their links, no root changes
+pub linked_roots : (h k : HeapContents) → HasLibraryLinks h → KeepsLinks h k → KeepsRoots h k
+linked_roots h k links keeps n number =
+    let class : ClassId = record { 0 = 0 } in
+    let x = object_there h n (unfinished class) number.0 number.1 in
+    roots_go_on-number h k n x.0 links keeps x.1
+
+pub carried_roots : (h k : HeapContents) → HasLibraryLinks h → next_number h ≤ next_number k → Carries h k → KeepsRoots h k
+carried_roots h k links count carries = linked_roots h k links keeps
+  where
+    keeps : KeepsLinks h k
+    keeps m x at =
+        let range = numbers_are_in_range h m x at in
+        let some = range.0 in
+        let below = range.1 in
+        let y = object_there k m x some (omega (arith, below, count)) in
+        let c = carries m y.0 y.1 below in
+        (y.0, y.1, c.4 ∙ ap (λ (z : Object). z.link) (let both : Some c.0 ≡ Some x = sym c.1 ∙ at in (let one : c.0 ≡ x = cc in one)))
+
+-- ---- fields
+
+-- the fields of all objects that are owning hold what they held
+abbrev pub KeepsFields : Program → HeapContents → HeapContents → Type 0
+KeepsFields p h k = (w : ℕ) (f : FieldId) → is_owning p f ≡ true → field_value p k w f ≡ field_value p h w f
+
+module _ (p : Program) (h k : HeapContents) (fields : KeepsFields p h k) where
+  same_field_of : (v : Value) (f : FieldId) → is_owning p f ≡ true → field_of p k v f ≡ field_of p h v f
+  same_field_of (values.Object w) f own = fields w f own
+  same_field_of v f own = refl
+
+  same_beside : (m : MethodId) (this : Value) (n : ℕ) → field_place_value p k this (owning_field_beside p m n) ≡ field_place_value p h this (owning_field_beside p m n)
+  same_beside m this n = go (owning_field_beside p m n) refl
+    where
+      go : (x : Option FieldId) → owning_field_beside p m n ≡ x → field_place_value p k this x ≡ field_place_value p h this x
+      go None is = refl
+      go (Some f) is = same_field_of this f (passes (is_owning p) (fields_in (class_by p (class_of_method (method_at p m)))) n f is)
+
+  -- so the places of a frame hold what they held
+  pub same_place : (m : MethodId) (l : Locals) (q : Place) → place_value p k m l q ≡ place_value p h m l q
+  same_place m l (places.Var i) = refl
+  same_place m l places.This = refl
+  same_place m l (places.Field n) = same_beside m l.this n
+  same_place m l (places.Temp d) = refl
+  same_place m l places.Super = refl
+
+-- the places of the frame hold what they held
+abbrev pub KeepsPlaces : Program → HeapContents → HeapContents → Frame → Type 0
+KeepsPlaces p h k fr = (q : Place) → IsSmall q → place_value p k fr.method fr.locals q ≡ place_value p h fr.method fr.locals q
+
+-- what a place of the frame held is finished only if it was
+abbrev pub KeepsReady : Program → HeapContents → HeapContents → Frame → Type 0
+KeepsReady p h k fr = (q : Place) (o : ℕ) (x y : Object) → IsSmall q → root_of h (place_value p h fr.method fr.locals q) ≡ Some o → object_at h o ≡ Some x → object_at k o ≡ Some y → y.finished ≡ true → x.finished ≡ true
+
+was_ready : (x y : Object) → (x.finished ≡ false → y.finished ≡ false) → y.finished ≡ true → x.finished ≡ true
+was_ready x y keeps done = go x.finished refl
+  where
+    go : (b : Bool) → x.finished ≡ b → x.finished ≡ true
+    go true is = is
+    go false is = absurd (true≢false (sym done ∙ keeps is))
+
+pub ready_but : (p : Program) (h k : HeapContents) (apart : ℕ → Type 0) → KeepsUnfinished h k apart → (fr : Frame)
+    → ((q : Place) (o : ℕ) → IsSmall q → root_of h (place_value p h fr.method fr.locals q) ≡ Some o → apart o → ⊥) → KeepsReady p h k fr
+ready_but p h k apart keeps fr others q o x y small root before at done = was_ready x y (keeps o x y (others q o small root) before at) done
+
+pub all_ready : (p : Program) (h k : HeapContents) → KeepsUnfinished h k no_other → (fr : Frame) → KeepsReady p h k fr
+all_ready p h k keeps fr = ready_but p h k no_other keeps fr (λ q o small root never. never)
+
+-- what the places of the frame hold is there
+abbrev pub HoldsThere : Program → HeapContents → Frame → Type 0
+HoldsThere p h fr = (q : Place) → IsSmall q → IsInRange h (place_value p h fr.method fr.locals q)
+
+-- and has the root that it had
+abbrev pub KeepsRootsOf : Program → HeapContents → HeapContents → Frame → Type 0
+KeepsRootsOf p h k fr = (q : Place) → IsSmall q → root_of k (place_value p h fr.method fr.locals q) ≡ root_of h (place_value p h fr.method fr.locals q)
+
+module _ (p : Program) (h k : HeapContents) (fr : Frame) (roots : KeepsRootsOf p h k fr) (same : KeepsPlaces p h k fr)
+    (was : (q : Place) (o : ℕ) (y : Object) → IsSmall q → root_of h (place_value p h fr.method fr.locals q) ≡ Some o → object_at k o ≡ Some y → IsCarried h o y) (ready : KeepsReady p h k fr) where
+  root_before : (q : Place) (o : ℕ) → IsSmall q → root_of k (place_value p k fr.method fr.locals q) ≡ Some o → root_of h (place_value p h fr.method fr.locals q) ≡ Some o
+  root_before q o small is = sym (roots q small) ∙ ap (root_of k) (sym (same q small)) ∙ is
+
+  root_after : (q : Place) (o : ℕ) → IsSmall q → root_of h (place_value p h fr.method fr.locals q) ≡ Some o → root_of k (place_value p k fr.method fr.locals q) ≡ Some o
+  root_after q o small is = ap (root_of k) (same q small) ∙ roots q small ∙ is
+
+  pub stays_covered : IsCovered p h fr → IsCovered p k fr
+  stays_covered covered q o y small root at heavy owes = by (was q o y small (root_before q o small root) at)
+    where
+      by : IsCarried h o y → Covers p k fr q o y
+      by (x, before, class, goes, link) =
+          let c : Covers p h fr q o x = covered q o x small (root_before q o small root) before (ap (is_heavy_class p) (sym class) ∙ heavy) (owed_before x y goes owes) in
+          record {
+            body = c.body;
+            id = c.id;
+            origin = c.origin;
+            fact = c.fact;
+            reached = c.reached;
+            alone = c.alone;
+            here = c.here;
+            places = λ z small' is. root_after z o small' (c.places z small' is);
+            true' = λ claimed. still_true p x y c.origin c.fact (goes (c.true' claimed).finished) (c.true' claimed);
+            lent = c.lent;
+            known = λ done lent. (let was_done = ready q o x y small (root_before q o small root) before at done in
+                within_trans c.fact.called x.called y.called (c.known was_done lent) (goes was_done).called);
+            fields = c.fields;
+            held = c.held;
+          }
+
+abbrev pub AllKeep : Program → HeapContents → HeapContents → List Frame → Type 0
+AllKeep p h k [] = Unit {0}
+AllKeep p h k (fr ∷ frs) = KeepsPlaces p h k fr × AllKeep p h k frs
+
+abbrev pub AllReady : Program → HeapContents → HeapContents → List Frame → Type 0
+AllReady p h k [] = Unit {0}
+AllReady p h k (fr ∷ frs) = KeepsReady p h k fr × AllReady p h k frs
+
+pub frames_ready : (p : Program) (h k : HeapContents) → KeepsUnfinished h k no_other → (frs : List Frame) → AllReady p h k frs
+frames_ready p h k keeps [] = tt
+frames_ready p h k keeps (fr ∷ frs) = (all_ready p h k keeps fr, frames_ready p h k keeps frs)
+
+abbrev pub AllThere : Program → HeapContents → List Frame → Type 0
+AllThere p h [] = Unit {0}
+AllThere p h (fr ∷ frs) = HoldsThere p h fr × AllThere p h frs
+
+module _ (p : Program) (h k : HeapContents) (links : HasLibraryLinks h) (roots : KeepsRoots h k) (carries : Carries h k) where
+  pub waits : (fr : Frame) → KeepsPlaces p h k fr → HoldsThere p h fr → KeepsReady p h k fr → IsCovered p h fr → IsCovered p k fr
+  waits fr same inside ready covered = stays_covered p h k fr (λ q small. value_root h k roots (place_value p h fr.method fr.locals q) (inside q small)) same
+      (λ q o y small root at. carries o y at (numbered h links (place_value p h fr.method fr.locals q) o root (inside q small)).1) ready covered
+
+  -- so do all frames that wait
+  pub all_wait : (frs : List Frame) → AllKeep p h k frs → AllThere p h frs → AllReady p h k frs → AreCovered p h frs → AreCovered p k frs
+  all_wait [] same inside ready covered = tt
+  all_wait (fr ∷ frs) same inside ready covered = (waits fr same.0 inside.0 ready.0 covered.0, all_wait frs same.1 inside.1 ready.1 covered.1)
+
+-- all frames keep their places where owning fields hold what they held
+pub all_keep : (p : Program) (h k : HeapContents) → KeepsFields p h k → (frs : List Frame) → AllKeep p h k frs
+all_keep p h k fields [] = tt
+all_keep p h k fields (fr ∷ frs) = ((λ q small. same_place p h k fields fr.method fr.locals q), all_keep p h k fields frs)
+
+-- ---- lent facts
+
+-- a fact that goes on in its mode, where it says that the object is owned, is not owned where it was not
+pub stays_unowned : (f g : Mode) → ((is_own g || is_held g) ≡ true → g ≡ f) → (is_own f || is_held f) ≡ false → (is_own g || is_held g) ≡ false
+stays_unowned f g same none = go (is_own g || is_held g) refl
+  where
+    go : (b : Bool) → (is_own g || is_held g) ≡ b → (is_own g || is_held g) ≡ false
+    go true is = absurd (true≢false (sym is ∙ ap (λ (m : Mode). is_own m || is_held m) (same is) ∙ none))
+    go false is = is
+
+-- ---- objects that no place of a frame holds
+
+-- what a place of the frame holds it held before
+abbrev pub HeldBefore : Program → HeapContents → HeapContents → Frame → Type 0
+HeldBefore p h k fr = (q : Place) (w : ℕ) → IsSmall q → root_of k (place_value p k fr.method fr.locals q) ≡ Some w → root_of h (place_value p h fr.method fr.locals q) ≡ Some w
+
+abbrev pub AllHeldBefore : Program → HeapContents → HeapContents → List Frame → Type 0
+AllHeldBefore p h k [] = Unit {0}
+AllHeldBefore p h k (fr ∷ frs) = HeldBefore p h k fr × AllHeldBefore p h k frs
+
+pub all_held_before : (p : Program) (h k : HeapContents) → KeepsRoots h k → (frs : List Frame) → AllKeep p h k frs → AllThere p h frs → AllHeldBefore p h k frs
+all_held_before p h k roots [] same inside = tt
+all_held_before p h k roots (fr ∷ frs) same inside = (
+  (λ q w small is. sym (value_root h k roots (place_value p h fr.method fr.locals q) (inside.0 q small)) ∙ ap (root_of k) (sym (same.0 q small)) ∙ is),
+  all_held_before p h k roots frs same.1 inside.1,
+)
+
+pub held_before_further : (p : Program) (h k j : HeapContents) (frs : List Frame) → AllHeldBefore p h k frs → AllHeldBefore p k j frs → AllHeldBefore p h j frs
+held_before_further p h k j [] first then' = tt
+held_before_further p h k j (fr ∷ frs) first then' = ((λ q w small is. first.0 q w small (then'.0 q w small is)), held_before_further p h k j frs first.1 then'.1)
+
+pub none_held_on : (p : Program) (h k : HeapContents) (w : ℕ) (frs : List Frame) → AllHeldBefore p h k frs → HoldNone p h w frs → HoldNone p k w frs
+none_held_on p h k w [] before none = tt
+none_held_on p h k w (fr ∷ frs) before none = ((λ q small is. none.0 q small (before.0 q w small is)), none_held_on p h k w frs before.1 none.1)
+
+-- what is there is not the next object
+pub next_not_held : (p : Program) (h : HeapContents) → HasLibraryLinks h → (frs : List Frame) → AllThere p h frs → HoldNone p h (next_number h) frs
+next_not_held p h links [] inside = tt
+next_not_held p h links (fr ∷ frs) inside = (
+  (λ q small is. (let range = numbered h links (place_value p h fr.method fr.locals q) (next_number h) is (inside.0 q small) in let below = range.1 in omega (arith, below))),
+  next_not_held p h links frs inside.1,
+)
+
+-- no frame holds what was finished since
+pub frames_ready_but : (p : Program) (h k : HeapContents) (apart : ℕ → Type 0) → KeepsUnfinished h k apart → (frs : List Frame) → ((w : ℕ) → apart w → HoldNone p h w frs) → AllReady p h k frs
+frames_ready_but p h k apart keeps [] others = tt
+frames_ready_but p h k apart keeps (fr ∷ frs) others =
+    (ready_but p h k apart keeps fr (λ q o small root is. (others o is).0 q small root), frames_ready_but p h k apart keeps frs (λ w is. (others w is).1))

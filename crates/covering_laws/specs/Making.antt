@@ -1,0 +1,28 @@
+-- Objects that are being made: a `new` has begun, and its constructor has not ended.
+use Rattle.std.specs.Prelude.{◌≡◌, ℕ, true, Some, List, [], ◌∷◌, slice_get}
+use Rattle.program_model.specs.declared.program.Program.{Program}
+use Rattle.java_control.specs.Control.{Step}
+use Rattle.java_control.specs.PlaceNumbers.{IsSmall}
+use Rattle.java_control.specs.declared.place.Place.{Place}
+use Rattle.ledger_state.specs.Contents.{HeapContents}
+use Rattle.ledger_state.specs.Heaps.{root_of}
+use Rattle.ledger_state.specs.declared.value.Value.TheVariants as values
+use Rattle.ledger_operations.specs.Places.{place_value}
+use Rattle.ledger_calls.specs.Configuration.{Frame}
+use Rattle.ledger_frames.specs.Choosing.{frame_steps}
+use Rattle.covered_field_laws.specs.FieldContents.{IsBeingMade, is_new}
+
+-- no place of these frames holds object `w`
+abbrev pub HoldNone : Program → HeapContents → ℕ → List Frame → Type 0
+HoldNone p h w [] = Unit {0}
+HoldNone p h w (fr ∷ frs) = ((q : Place) → IsSmall q → root_of h (place_value p h fr.method fr.locals q) ≡ Some w → ⊥) × HoldNone p h w frs
+
+-- the frame runs the constructor of a `new` at which the caller waits, and neither the caller nor a frame below holds the object
+abbrev pub IsUnheld : Program → HeapContents → Frame → Frame → List Frame → Type 0
+IsUnheld p h fr caller frs = (i : ℕ) (s : Step) (w : ℕ) → slice_get (frame_steps p caller) i ≡ Some s → is_new s.action ≡ true → fr.locals.this ≡ values.Object w → HoldNone p h w (caller ∷ frs)
+
+-- the objects of constructors that run are not finished, and no frame that waits for them holds them
+abbrev pub AreBeingMade : Program → HeapContents → List Frame → Type 0
+AreBeingMade p h [] = Unit {0}
+AreBeingMade p h (fr ∷ []) = Unit {0}
+AreBeingMade p h (fr ∷ caller ∷ frs) = IsBeingMade p h fr caller × IsUnheld p h fr caller frs × AreBeingMade p h (caller ∷ frs)

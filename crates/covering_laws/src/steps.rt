@@ -1,0 +1,64 @@
+//! The steps of a run. Each law is the contract of a function that does nothing.
+
+ghost use Rattle.std.specs.Prelude.{◌≡◌, true, Some};
+ghost use Rattle.program_model.specs.declared.kinds.MethodId.{MethodId};
+ghost use Rattle.program_model.specs.declared.program.Method.{Method};
+ghost use Rattle.program_model.specs.declared.program.Program.{Program};
+ghost use Rattle.program_model.specs.Lookups.{method_at};
+ghost use Rattle.program_conditions.specs.Conditions.{MakesNoString};
+ghost use Rattle.must_call_sets.specs.WellFormed.{HasSmallInterests};
+ghost use Rattle.accepted_programs.specs.Accept.{Accept};
+ghost use Rattle.stub_conduct.specs.declared.choice.Choices.{Choices};
+ghost use Rattle.ledger_calls.specs.Configuration.{Config};
+ghost use Rattle.ledger_moves.specs.Moves.{has_body};
+ghost use Rattle.ledger_runs.specs.Outcomes.{went};
+ghost use Rattle.ledger_runs.specs.Starts.{start_config};
+ghost use Rattle.ledger_runs.specs.Steps.{step};
+ghost use Rattle.agreement.specs.Agreement.{Agree};
+ghost use Rattle.agreement.specs.PlainForms.{HasPlainForms};
+ghost use Rattle.target_laws.specs.Frames.{HaveTargets};
+ghost use Rattle.argument_laws.specs.Arguments.{HaveArguments};
+ghost use Rattle.value_type_laws.specs.Types.{HaveTypes};
+ghost use Rattle.covered_field_laws.specs.FieldContents.{FieldsHold};
+ghost use Rattle.covered_field_laws.specs.PlaceFacts.{AreCovered};
+ghost use Rattle.covered_field_laws.specs.Ranges.{AreInRange};
+ghost use Rattle.covering_laws.specs.Making.{AreBeingMade};
+ghost use Rattle.covering_laws.specs.Running.{HasPlainRuns};
+ghost use Rattle.covering_laws.specs.Throws.{ExceptionsAreUnlinked, ThrowsNoNullPointer, TopEndsByException};
+
+/// A run begins with the frame of `main`, whose places hold no object.
+pub fn covered_at_start()
+    ensures { (p : Program) → Accept p → (main : MethodId) (m : Method) (choices : Choices) → method_at p main ≡ Some m → has_body m.body ≡ true
+        → AreCovered p (start_config p main choices).heap (start_config p main choices).frames }
+{}
+
+/// Each step that is not stray leaves each place of the frames in a fact that is true of what it holds.
+pub fn covered_step()
+    ensures { (p : Program) → Accept p → HasPlainForms p → ThrowsNoNullPointer p → HasPlainRuns p → HasSmallInterests p → MakesNoString p → (c d : Config) → Agree p c → HaveTargets p c.frames → HaveTypes p c
+        → AreInRange c → FieldsHold p c.frames c.heap → AreBeingMade p c.heap c.frames → ExceptionsAreUnlinked p c.heap → AreCovered p c.heap c.frames
+        → HaveArguments p c.frames → TopEndsByException p c.heap c.frames → step p c ≡ went d → AreCovered p d.heap d.frames }
+{}
+
+/// A run begins with one frame, which waits for none.
+pub fn being_made_at_start()
+    ensures { (p : Program) (main : MethodId) (choices : Choices) → AreBeingMade p (start_config p main choices).heap (start_config p main choices).frames }
+{}
+
+/// Each step that is not stray leaves the objects unfinished whose constructors still run.
+pub fn being_made_step()
+    ensures { (p : Program) → Accept p → HasPlainForms p → ThrowsNoNullPointer p → HasPlainRuns p → HasSmallInterests p → MakesNoString p → (c d : Config) → Agree p c → HaveTargets p c.frames → HaveTypes p c
+        → AreInRange c → FieldsHold p c.frames c.heap → AreBeingMade p c.heap c.frames → ExceptionsAreUnlinked p c.heap → AreCovered p c.heap c.frames
+        → HaveArguments p c.frames → TopEndsByException p c.heap c.frames → step p c ≡ went d → AreBeingMade p d.heap d.frames }
+{}
+
+/// A run begins without objects.
+pub fn unlinked_exceptions_at_start()
+    ensures { (p : Program) (main : MethodId) (choices : Choices) → ExceptionsAreUnlinked p (start_config p main choices).heap }
+{}
+
+/// No step that is not stray makes an exception an alias of a resource.
+pub fn unlinked_exceptions_step()
+    ensures { (p : Program) → Accept p → HasPlainForms p → ThrowsNoNullPointer p → HasPlainRuns p → HasSmallInterests p → MakesNoString p → (c d : Config) → Agree p c → HaveTargets p c.frames → HaveTypes p c
+        → AreInRange c → FieldsHold p c.frames c.heap → AreBeingMade p c.heap c.frames → ExceptionsAreUnlinked p c.heap → AreCovered p c.heap c.frames
+        → HaveArguments p c.frames → TopEndsByException p c.heap c.frames → step p c ≡ went d → ExceptionsAreUnlinked p d.heap }
+{}

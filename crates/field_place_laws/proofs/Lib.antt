@@ -1,0 +1,3 @@
+pub mod OtherPlaces
+pub mod FieldPlaces
+pub mod ValuesAfter

@@ -1,0 +1,5 @@
+use Rattle.heap_laws.proofs.Laws.{links_go_on}
+use Rattle.heap_laws.proofs.roots.links_go_on.Goals as goal
+
+pub returns : goal.returns
+returns c = links_go_on

@@ -1,0 +1,5 @@
+pub mod Outcomes
+pub mod Starts
+pub mod Steps
+pub mod Runs
+pub mod Mains

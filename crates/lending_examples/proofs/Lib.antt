@@ -1,0 +1,13 @@
+pub mod Bodies
+pub mod Valid
+pub mod Formed
+pub mod Declared
+pub mod ShutFlows
+pub mod MainFlows
+pub mod Walks
+pub mod ShutPaths
+pub mod MainPaths
+pub mod Reached
+pub mod Accepted
+pub mod Calls
+pub mod Plain

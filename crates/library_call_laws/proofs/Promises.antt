@@ -1,0 +1,158 @@
+-- What the signature promises at a call of the library is noted on the operand, or on what a field of the receiver holds.
+use Rattle.std.proofs.Common.{◌≡◌, ℕ, zero, suc, ◌+◌, ◌<◌, Bool, true, false, Option, Some, None, List, [], ◌∷◌, slice_get, refl, sym, ap, ◌∙◌, if◌then◌else◌, arith}
+use Rattle.std.specs.Prelude.{unwrap_or}
+use Rattle.std.specs.List.{find, range_with_len}
+use Rattle.std.specs.FinSet as set
+use Rattle.std.proofs.lemmas.Bool.{or_left}
+use Rattle.program_model.specs.declared.kinds.FieldId.{FieldId}
+use Rattle.program_model.specs.declared.kinds.Target.{Target}
+use Rattle.program_model.specs.declared.kinds.Target.TheVariants as promised
+use Rattle.program_model.specs.declared.program.Method.{Method}
+use Rattle.program_model.specs.declared.program.ParamSig.{ParamSig}
+use Rattle.program_model.specs.declared.program.Program.{Program}
+use Rattle.program_model.specs.declared.program.Promise.{Promise}
+use Rattle.program_model.specs.Lookups.{field_at}
+use Rattle.must_call_sets.specs.MustCallSets.{Names}
+use Rattle.java_control.specs.declared.action.Action.{Action}
+use Rattle.java_control.specs.declared.action.Action.TheVariants as actions
+use Rattle.stub_conduct.specs.declared.choice.Conduct.{Conduct}
+use Rattle.stub_conduct.specs.declared.choice.Conduct.TheVariants as conducts
+use Rattle.ledger_state.specs.Contents.{HeapContents}
+use Rattle.ledger_state.specs.Fields.{default_in, field_of}
+use Rattle.ledger_state.specs.Heaps.{change_some, is_field_of, next_number, object_at, root, root_of, value_stored}
+use Rattle.ledger_state.specs.Values.{number_of}
+use Rattle.ledger_state.specs.declared.entry.Owner.{Owner}
+use Rattle.ledger_state.specs.declared.entry.Owner.TheVariants as owners
+use Rattle.ledger_state.specs.declared.locals.Locals.{Locals}
+use Rattle.ledger_state.specs.declared.object.Object.{Object}
+use Rattle.ledger_state.specs.declared.object.StoredField.{StoredField}
+use Rattle.ledger_state.specs.declared.value.Value.{Value}
+use Rattle.ledger_state.specs.declared.value.Value.TheVariants as values
+use Rattle.ledger_obligations.specs.declared.note.Note.{Note}
+use Rattle.ledger_obligations.specs.Obligations.{has_note, keep_all, kept_name, move, moved_to, name_of, note, same_note}
+use Rattle.ledger_calls.specs.Calls.{arguments_moved, keep_promise, kept_promise, kept_promises, move_param, move_params, operand_of, params_in, receiver_note, reset_position}
+use Rattle.ledger_calls.specs.Conducts.{object_made, positions, promises_by}
+use Rattle.ledger_steps.specs.CallSteps.{library_heap, library_made}
+use Rattle.heap_laws.specs.Heaps.{HasLibraryLinks}
+use Rattle.heap_laws.proofs.NoteLists.{flat_has, has_right, range_has, same_note_self}
+use Rattle.heap_laws.proofs.RootLaws.{has_object}
+use Rattle.library_call_laws.proofs.Links.{noted_on_root}
+
+-- ---- what is noted
+
+-- each of the names is kept
+names_kept : (w : ℕ) (names : Names) (n : ℕ) → set.contains names n ≡ true → n < 128 → has_note (keep_all (Some w) names) (note true w (name_of n)) ≡ true
+names_kept w names n is small =
+    flat_has (kept_name w names) (range_with_len 0 128) n n (note true w (name_of n)) (range_has 0 128 n small ∙ (let same : 0 + n ≡ n = omega arith in ap Some same))
+    (rw is (or_left (same_note (note true w (name_of n)) (note true w (name_of n))) false (same_note_self (note true w (name_of n)))))
+
+module _ (p : Program) (g : HeapContents) (at : ℕ → Value) (qs : List Promise) (j : ℕ) (q : Promise) (w n : ℕ) (there : slice_get qs j ≡ Some q) (has : set.contains q.names n ≡ true)
+    (small : n < 128) where
+  kept_on : (t : Target) (v : Value) → q.target ≡ t → has_note (keep_promise p g at q t) (note true w (name_of n)) ≡ has_note (keep_all (number_of v) q.names) (note true w (name_of n))
+      → v ≡ values.Object w → has_note (kept_promises p g at qs) (note true w (name_of n)) ≡ true
+  kept_on t v target same is =
+      flat_has (kept_promise p g at) qs j q (note true w (name_of n)) there
+      (ap (λ (u : Target). has_note (keep_promise p g at q u) (note true w (name_of n))) target
+      ∙ same
+      ∙ ap (λ (u : Value). has_note (keep_all (number_of u) q.names) (note true w (name_of n))) is
+      ∙ names_kept w q.names n has small)
+
+  kept_at : (k : ℕ) → q.target ≡ promised.At k → at k ≡ values.Object w → has_note (kept_promises p g at qs) (note true w (name_of n)) ≡ true
+  kept_at k target is = kept_on (promised.At k) (at k) target refl is
+
+  kept_of_field : (f : FieldId) → q.target ≡ promised.OfField f → field_of p g (at 0) f ≡ values.Object w → has_note (kept_promises p g at qs) (note true w (name_of n)) ≡ true
+  kept_of_field f target is = kept_on (promised.OfField f) (field_of p g (at 0) f) target refl is
+
+-- ---- the positions
+
+-- what has a root is an object
+object_of_root : (h : HeapContents) (v : Value) (o : ℕ) → root_of h v ≡ Some o → (w : ℕ) × (v ≡ values.Object w) × (root h w ≡ o)
+object_of_root h (values.Object w) o is = (w, refl, (let both : Some (root h w) ≡ Some o = is in (let one : root h w ≡ o = cc in one)))
+object_of_root h values.Nothing o is = absurd (let never : None ≡ Some o = is in cc)
+object_of_root h v o is = absurd (let never : None ≡ Some o = is in cc)
+
+-- an operand at position 0 is the receiver: a `new` has none there
+receiver_position : (l : Locals) (a : Action) (made : ℕ) (d : Conduct) (w : ℕ) → operand_of l a 0 ≡ values.Object w → positions l a made d 0 ≡ values.Object w
+receiver_position l actions.Skip made d w is = is
+receiver_position l (actions.New m e n) made d w is = absurd (let never : values.Nothing ≡ values.Object w = is in cc)
+receiver_position l a made d w is = is
+
+operand_position : (l : Locals) (a : Action) (made : ℕ) (d : Conduct) (k w : ℕ) → operand_of l a k ≡ values.Object w → positions l a made d k ≡ values.Object w
+operand_position l a made d zero w is = receiver_position l a made d w is
+operand_position l a made d (suc k) w is = is
+
+-- ---- the fields
+
+some_fields : (r : Option ℕ) (change : Object → Object) (h : HeapContents) → (change_some r change h).fields ≡ h.fields
+some_fields None change h = refl
+some_fields (Some k) change h = refl
+
+param_fields : (p : Program) (o : Owner) (v : Value) (q : ParamSig) (h : HeapContents) → (move_param p o v q h).fields ≡ h.fields
+param_fields p o v q h = go q.owning
+  where
+    go : (b : Bool) → (if b then move p q.vtype o v h else h).fields ≡ h.fields
+    go true = some_fields (root_of h v) (moved_to p q.vtype o) h
+    go false = refl
+
+params_fields : (p : Program) (o : Owner) (at : ℕ → Value) (k : ℕ) (qs : List ParamSig) (h : HeapContents) → (move_params p o at k qs h).fields ≡ h.fields
+params_fields p o at k [] h = refl
+params_fields p o at k (q ∷ qs) h = params_fields p o at (k + 1) qs (move_param p o (at k) q h) ∙ param_fields p o (at k) q h
+
+made_fields : (d : Conduct) (h : HeapContents) → (object_made d h).fields ≡ h.fields
+made_fields conducts.Null h = refl
+made_fields (conducts.Throws e) h = refl
+made_fields (conducts.Fresh e) h = refl
+made_fields d h = refl
+
+-- the same fields hold the same
+field_stays : (p : Program) (g h : HeapContents) (v : Value) (f : FieldId) → g.fields ≡ h.fields → field_of p g v f ≡ field_of p h v f
+field_stays p g h (values.Object w) f same = ap (λ (fields : List StoredField). unwrap_or (value_stored (find (is_field_of w f) fields)) (default_in (field_at p f))) same
+field_stays p g h values.Nothing f same = refl
+field_stays p g h v f same = refl
+
+-- ---- the call
+
+module _ (p : Program) (l : Locals) (a : Action) (named m : Option Method) (d : Conduct) (i : ℕ) (h : HeapContents) where
+  abbrev made : HeapContents
+  made = library_made p l a named d h
+
+  fields_stay : made.fields ≡ h.fields
+  fields_stay = made_fields d (arguments_moved p owners.Library l a named h) ∙ params_fields p owners.Library (operand_of l a) 1 (params_in named) h
+
+  abbrev promises : List Note
+  promises = kept_promises p made (positions l a (next_number h) d) (promises_by m d)
+
+  reaches : (w n o : ℕ) (x y : Object) → HasLibraryLinks h → reset_position named ≡ None → has_note promises (note true w (name_of n)) ≡ true → n < 128 → root h w ≡ o → object_at h o ≡ Some x
+      → object_at (library_heap p l a named m d i h) o ≡ Some y → set.contains y.called n ≡ true
+  reaches w n o x y links none has small end before at =
+      let first = has_object h w o x end before in
+      noted_on_root p l a named m d i h (note true w (name_of n)) first.0 y links none (has_right (receiver_note l a named) promises (note true w (name_of n)) has) small first.1
+      (ap (object_at (library_heap p l a named m d i h)) end ∙ at)
+
+  pub called_at : (j : ℕ) (q : Promise) (k n o : ℕ) (x y : Object) → HasLibraryLinks h → reset_position named ≡ None → slice_get (promises_by m d) j ≡ Some q → q.target ≡ promised.At k
+      → set.contains q.names n ≡ true → n < 128 → root_of h (operand_of l a k) ≡ Some o → object_at h o ≡ Some x → object_at (library_heap p l a named m d i h) o ≡ Some y
+      → set.contains y.called n ≡ true
+  called_at j q k n o x y links none there target has small holds before at =
+      let it = object_of_root h (operand_of l a k) o holds in
+      reaches it.0 n o x y links none
+      (kept_at p made (positions l a (next_number h) d) (promises_by m d) j q it.0 n there has small k target (operand_position l a (next_number h) d k it.0 it.1))
+      small it.2 before at
+
+  pub called_in_field : (j : ℕ) (q : Promise) (f : FieldId) (n o : ℕ) (x y : Object) → HasLibraryLinks h → reset_position named ≡ None → slice_get (promises_by m d) j ≡ Some q
+      → q.target ≡ promised.OfField f → set.contains q.names n ≡ true → n < 128 → root_of h (field_of p h (operand_of l a 0) f) ≡ Some o → object_at h o ≡ Some x
+      → object_at (library_heap p l a named m d i h) o ≡ Some y → set.contains y.called n ≡ true
+  called_in_field j q f n o x y links none there target has small holds before at =
+      let it = object_of_root h (field_of p h (operand_of l a 0) f) o holds in
+      let holder = holder_of (operand_of l a 0) it.1 in
+      reaches it.0 n o x y links none
+      (kept_of_field p made (positions l a (next_number h) d) (promises_by m d) j q it.0 n there has small f target
+      (ap (λ (v : Value). field_of p made v f) (receiver_position l a (next_number h) d holder.0 holder.1)
+      ∙ field_stays p made h (values.Object holder.0) f fields_stay
+      ∙ ap (λ (v : Value). field_of p h v f) (sym holder.1)
+      ∙ it.1))
+      small it.2 before at
+    where
+      holder_of : (v : Value) {w : ℕ} → field_of p h v f ≡ values.Object w → (u : ℕ) × (v ≡ values.Object u)
+      holder_of (values.Object u) is = (u, refl)
+      holder_of values.Nothing {w} is = absurd (let never : values.Nothing ≡ values.Object w = is in cc)
+      holder_of v {w} is = absurd (let never : values.Nothing ≡ values.Object w = is in cc)

@@ -1,0 +1,70 @@
+use Rattle.std.proofs.Common.{◌≡◌, ◌∙◌, sym, ap, refl, subst, ◌≤◌, [], ◌∷◌, ◌++◌, length, map, reverse}
+use Rattle.program_model.specs.Lookups.{method_at}
+use Rattle.ledger_calls.specs.Conducts.{arguments_shared, arrays_given, conduct_value, positions, result_in}
+use Rattle.machine_calls.specs.HeapChanges.{heap_left}
+use Rattle.frame_owners.specs.FrameOwners.{lists_in}
+use Rattle.ledger_obligations.specs.Obligations.{held_in}
+use Rattle.ledger_moves.specs.Frames.{highest_control}
+use Rattle.ledger_operations.specs.Operations.{one_more_used}
+use Rattle.machine_state.proofs.TopLaws.{listed_as, nothing_after, settled_apart, settled_as, settled_with}
+use Rattle.machine_calls.proofs.CallLaws.{library_call_went}
+use Rattle.machine_state.proofs.FrameLaws.{frame_with, put_bounded, top_put}
+use Rattle.machine_calls.proofs.library.run_library.Goals as goal
+
+pub returns-in_ok-take_change-clause-went : goal.returns-in_ok-take_change-clause-went
+returns-in_ok-take_change-clause-went c =
+    let p = c.args.p.now in
+    let m = c.args.m.now in
+    let s = c.args.s in
+    let top = c.in-Some.top.now in
+    let below = c.in-Some.below.now in
+    let taken = c.in_ok-taken.taken in
+    let split : m.frames.items ≡ below ++ top ∷ [] = sym c.deref.ensures.value ∙ c.in-Some.ensures.cases.0 in
+    let put = top_put c.put_top.new.frames.items m.frames.items below top (frame_with top.method s.to taken.locals) m.frames.len split (sym c.deref.ensures.len ∙ ap length c.deref.ensures.value) c.put_top.ensures in
+    let count = c.len-count.ensures ∙ c.reserve.ensures.len ∙ m.arrays.ok.0 in
+    let value = c.conduct_value-value.ensures ∙ ap (λ k. conduct_value c.len-count.result (method_at p c.args.method) (positions top.locals s.action k c.args.conduct) k c.args.conduct) c.next_number-number.ensures in
+    let arrays = c.give_arrays.ensures ∙ ap (λ xs. arrays_given (arguments_shared xs top.locals s.action (method_at p c.args.named)) (result_in (method_at p c.args.method)) c.args.conduct) c.reserve.ensures.items in
+    let used = c.one_more_used-m.ensures ∙ ap (λ xs. one_more_used xs m.used) c.deref-in-Some-2.ensures.value in
+    let entries = c.add_lines.ensures ∙ (λ i. c.reserve-in-Some.ensures.items i ++ (c.deref-in-Some.ensures.value ∙ c.in_ok-taken.ensures.lines) i) in
+    library_call_went p m top below c.args.named c.args.method c.args.conduct s c.len-count.result c.conduct_value-value.result taken.locals c.put_top.new.frames.items c.take_change.new.heap c.give_arrays.new.arrays.items c.one_more_used-m.result c.add_lines.new.entries.items
+    split put count value c.in_ok-taken.ensures.locals (c.in_ok-take_change.ensures.ok ∙ c.in_ok-taken.ensures.heap) arrays used entries
+
+pub returns-in_ok-take_change-clause-bounded : goal.returns-in_ok-take_change-clause-bounded
+returns-in_ok-take_change-clause-bounded c =
+    let m = c.args.m.now in
+    let top = c.in-Some.top.now in
+    let below = c.in-Some.below.now in
+    let new = frame_with top.method c.args.s.to c.in_ok-taken.taken.locals in
+    let split : m.frames.items ≡ below ++ top ∷ [] = sym c.deref.ensures.value ∙ c.in-Some.ensures.cases.0 in
+    let put = top_put c.put_top.new.frames.items m.frames.items below top new m.frames.len split (sym c.deref.ensures.len ∙ ap length c.deref.ensures.value) c.put_top.ensures in
+    subst (λ xs. highest_control xs ≤ length m.lists.cells.keys) (sym put) (put_bounded (length m.lists.cells.keys) m.frames.items below top new split c.requires.bounded c.requires.within)
+
+pub library_result-requires : goal.library_result-requires
+library_result-requires c =
+    let m = c.args.m.now in
+    let split : m.frames.items ≡ c.in-Some.below.now ++ c.in-Some.top.now ∷ [] = sym c.deref.ensures.value ∙ c.in-Some.ensures.cases.0 in
+    settled_apart m c.in-Some.top.now c.in-Some.below.now split c.requires.settled
+
+pub returns-in_ok-take_change-clause-settled : goal.returns-in_ok-take_change-clause-settled
+returns-in_ok-take_change-clause-settled c =
+    let m = c.args.m.now in
+    let top = c.in-Some.top.now in
+    let below = c.in-Some.below.now in
+    let taken = c.in_ok-taken.taken in
+    let new = frame_with top.method c.args.s.to taken.locals in
+    let split : m.frames.items ≡ below ++ top ∷ [] = sym c.deref.ensures.value ∙ c.in-Some.ensures.cases.0 in
+    let put = top_put c.put_top.new.frames.items m.frames.items below top new m.frames.len split (sym c.deref.ensures.len ∙ ap length c.deref.ensures.value) c.put_top.ensures in
+    let left = heap_left taken.change m.heap in
+    λ both. nothing_after taken.settled c.in_ok-listed.listed c.take_change.new.heap (map held_in (reverse c.put_top.new.frames.items)) (lists_in c.list_change_of.new.lists.items)
+    (λ so. settled_with c.take_change.new.heap left c.put_top.new.frames.items below new taken.locals c.in_ok-take_change.ensures.ok put refl (c.in_ok-taken.ensures.settled so))
+    (λ so. listed_as c.take_change.new.heap left (lists_in c.list_change_of.new.lists.items) c.in_ok-take_change.ensures.ok (c.in_ok-listed.ensures.listed so))
+    (sym c.both-m.ensures ∙ both)
+
+pub returns-in_err-listed-clause-settled : goal.returns-in_err-listed-clause-settled
+returns-in_err-listed-clause-settled c = λ so. ((c.requires.settled so).0, c.list_change_of.ensures.kept so)
+
+pub returns-in_err-take_change-clause-settled : goal.returns-in_err-take_change-clause-settled
+returns-in_err-take_change-clause-settled c =
+    let m = c.args.m.now in
+    let same = c.in_err-take_change.ensures.err in
+    λ so. (settled_as c.take_change.new.heap m.heap (map held_in (reverse m.frames.items)) same (c.requires.settled so).0, listed_as c.take_change.new.heap m.heap (lists_in c.list_change_of.new.lists.items) same (c.list_change_of.ensures.kept so))

@@ -1,0 +1,357 @@
+//! Steps that end frames.
+
+ghost use Rattle.std.specs.Prelude.{◌≡◌, ◌+◌, ◌-◌, ◌∷◌, ◌++◌, ◌<◌, ◌≤◌, List, length, map, reverse, take, vec_len, ℕ, IfOk, IfSome, OnErr, OnOk, false, true};
+ghost use Rattle.java_control.specs.Changes.{step_in};
+ghost use Rattle.ledger_calls.specs.Configuration.{Frame};
+ghost use Rattle.ledger_frames.specs.Choosing.{frame_steps};
+ghost use Rattle.ledger_frames.specs.Frames.{locals_after};
+ghost use Rattle.machine_state.specs.RunStates.{HasNothingToLose, NothingToLose, config_of};
+ghost use Rattle.ledger_moves.specs.Frames.{control_back, frame_seen, frames_seen, highest_control, return_seen};
+ghost use Rattle.ledger_moves.specs.Moves.{End, return_move};
+ghost use Rattle.ledger_runs.specs.Outcomes.{went};
+ghost use Rattle.ledger_runs.specs.Steps.{moved_by, returned};
+ghost use Rattle.ledger_obligations.specs.Obligations.{held_in};
+ghost use Rattle.ledger_state.specs.Locals.{held};
+ghost use Rattle.ledger_steps.specs.Ends.{answered, exception_class, result_value, thrown_in};
+ghost use Rattle.ledger_steps.specs.Ends as ends;
+ghost use Rattle.frame_owners.specs.FrameOwners.{Listed, lists_in};
+ghost use Rattle.machine_calls.specs.HeapChanges.{CanReturn, HasChange, heap_returned};
+ghost use Rattle.owned_returns.specs.OwnedReturns.{left_by_frame};
+ghost use Rattle.plain_calls.specs.PlainCalls.{put_noted};
+ghost use Rattle.settled_heaps.specs.Settled.{Settled};
+ghost use Rattle.program_model.specs.Lookups.{method_at};
+
+use crate::change::{HeapReturn, ReturnResult};
+use java_control::{Completion, Triple};
+use ledger_frames::locals_after;
+use ledger_moves::{CallEnd, call_end};
+use ledger_obligations::ActiveFrame;
+use ledger_state::{Entry, Heap, Locals};
+use ledger_steps::{
+    FrameEnd, StepEffect, answered, exception_class, main_effect, result_value, return_effect,
+};
+use machine_state::{RunState, add_lines, both, put_top};
+use owned_returns::{OwnedReturn, owned_return, return_objects};
+use program_model::{ClassId, MethodId, Program};
+use rlc_base::{NoMemory, Pos};
+use std::alloc::Global;
+
+// What the end of the top frame and of its call change, where nothing but the frame's own objects and two more change, and the heap is
+// `settled`. `locals` are the values of the caller after it, and `ended` those of the frame that ends.
+fn return_found(
+    alloc: Global,
+    p: &Program,
+    heap: &Heap,
+    end: FrameEnd,
+    ended: &Locals,
+    caller: &ActiveFrame,
+    below: &[ActiveFrame],
+    named: MethodId,
+    t: Triple,
+    locals: &Locals,
+    settled: bool,
+    lists: &mut Vec<Vec<u64>>,
+) -> Result<Option<OwnedReturn>, NoMemory>
+    requires { settled ≡ true → NothingToLose heap.now (held ended.now ∷ held caller.now.locals ∷ map held_in (reverse below.now)) (lists_in lists.old.items) }
+    ensures heap { IfOk result (λ o. IfSome o (λ r. (ends.returned p.now heap.now (length below.now + 1) end.this caller.now.locals t.action (method_at p.now end.method) (method_at p.now named) end.value end.thrown end.pos t.pos (held locals.now ∷ map held_in (reverse below.now))).heap ≡ put_noted r.change.noted (left_by_frame (length below.now + 1) r.change.moved heap.now))) }
+    ensures lines { IfOk result (λ o. IfSome o (λ r. (ends.returned p.now heap.now (length below.now + 1) end.this caller.now.locals t.action (method_at p.now end.method) (method_at p.now named) end.value end.thrown end.pos t.pos (held locals.now ∷ map held_in (reverse below.now))).lines ≡ r.lines.items)) }
+    ensures settled { IfOk result (λ o. IfSome o (λ r. Settled (put_noted r.change.noted (left_by_frame (length below.now + 1) r.change.moved heap.now)) (held locals.now ∷ map held_in (reverse below.now)))) }
+    ensures change { IfOk result (λ o. IfSome o (λ r. HasChange (length below.now + 1) (lists_in lists.new.items) heap.now r.change)) }
+    ensures kept { settled ≡ true → Listed (lists_in lists.new.items) heap.now }
+{
+    if !settled {
+        return Ok(None);
+    }
+    let position = below.len() as u64 + 1;
+    owned_return(
+        alloc,
+        p,
+        t.pos,
+        position,
+        &caller.locals,
+        t.action,
+        named,
+        end,
+        heap,
+        ended,
+        locals,
+        below,
+        lists,
+    )
+}
+
+fn owned_end(locals: Locals, found: OwnedReturn) -> ReturnResult
+    ensures locals { result.locals ≡ locals }
+    ensures change { result.change ≡ HeapReturn.Owned found.change }
+    ensures lines { result.lines.items ≡ found.lines.items }
+{
+    let OwnedReturn { change, lines } = found;
+    let change = HeapReturn::Owned(change);
+    ReturnResult {
+        locals,
+        change,
+        lines,
+        settled: true,
+    }
+}
+
+fn changed_end(locals: Locals, effect: StepEffect) -> ReturnResult
+    ensures locals { result.locals ≡ locals }
+    ensures change { result.change ≡ HeapReturn.Whole effect.heap }
+    ensures lines { result.lines.items ≡ effect.lines.items }
+    ensures settled { result.settled ≡ false }
+{
+    let StepEffect { heap: after, lines } = effect;
+    let change = HeapReturn::Whole(after);
+    ReturnResult {
+        locals,
+        change,
+        lines,
+        settled: false,
+    }
+}
+
+// What the end of the top frame and of its call leave, whatever they change. `locals` are the values of the caller after it.
+fn whole_return(
+    alloc: Global,
+    p: &Program,
+    heap: &Heap,
+    end: FrameEnd,
+    caller: &ActiveFrame,
+    below: &[ActiveFrame],
+    named: MethodId,
+    t: Triple,
+    locals: Locals,
+) -> Result<ReturnResult, NoMemory>
+    ensures locals { IfOk result (λ r. r.locals ≡ locals) }
+    ensures heap { IfOk result (λ r. heap_returned r.change (length below.now + 1) heap.now ≡ (ends.returned p.now heap.now (length below.now + 1) end.this caller.now.locals t.action (method_at p.now end.method) (method_at p.now named) end.value end.thrown end.pos t.pos (held locals ∷ map held_in (reverse below.now))).heap) }
+    ensures lines { IfOk result (λ r. r.lines.items ≡ (ends.returned p.now heap.now (length below.now + 1) end.this caller.now.locals t.action (method_at p.now end.method) (method_at p.now named) end.value end.thrown end.pos t.pos (held locals ∷ map held_in (reverse below.now))).lines) }
+    ensures settled { IfOk result (λ r. r.settled ≡ false) }
+    ensures change { IfOk result (λ r. (lists : List (List ℕ)) → CanReturn r.change (length below.now + 1) lists heap.now) }
+{
+    let position = below.len() as u64 + 1;
+    let effect = return_effect(
+        alloc,
+        p,
+        t.pos,
+        position,
+        &caller.locals,
+        t.action,
+        named,
+        end,
+        heap,
+        &locals,
+        below,
+    )?;
+    Ok(changed_end(locals, effect))
+}
+
+// What the end of the top frame, which held `ended`, and of its call leave of the caller's frame and of the heap.
+fn return_result(
+    alloc: Global,
+    p: &Program,
+    heap: &Heap,
+    end: FrameEnd,
+    ended: &Locals,
+    caller: &ActiveFrame,
+    below: &[ActiveFrame],
+    named: MethodId,
+    t: Triple,
+    settled: bool,
+    lists: &mut Vec<Vec<u64>>,
+) -> Result<ReturnResult, NoMemory>
+    requires { settled ≡ true → NothingToLose heap.now (held ended.now ∷ held caller.now.locals ∷ map held_in (reverse below.now)) (lists_in lists.old.items) }
+    ensures locals { IfOk result (λ r. r.locals ≡ locals_after p.now heap.now caller.now.method caller.now.locals t.action t.edge (answered end.this t.action end.value end.thrown)) }
+    ensures heap { IfOk result (λ r. heap_returned r.change (length below.now + 1) heap.now ≡ (ends.returned p.now heap.now (length below.now + 1) end.this caller.now.locals t.action (method_at p.now end.method) (method_at p.now named) end.value end.thrown end.pos t.pos (held r.locals ∷ map held_in (reverse below.now))).heap) }
+    ensures lines { IfOk result (λ r. r.lines.items ≡ (ends.returned p.now heap.now (length below.now + 1) end.this caller.now.locals t.action (method_at p.now end.method) (method_at p.now named) end.value end.thrown end.pos t.pos (held r.locals ∷ map held_in (reverse below.now))).lines) }
+    ensures settled { IfOk result (λ r. r.settled ≡ true → Settled (heap_returned r.change (length below.now + 1) heap.now) (held r.locals ∷ map held_in (reverse below.now))) }
+    ensures change { IfOk result (λ r. CanReturn r.change (length below.now + 1) (lists_in lists.new.items) heap.now) }
+    ensures kept { settled ≡ true → Listed (lists_in lists.new.items) heap.now }
+{
+    let value = answered(end.this, t.action, end.value, end.thrown);
+    let locals = locals_after(
+        alloc,
+        p,
+        heap,
+        caller.method,
+        &caller.locals,
+        t.action,
+        t.edge,
+        value,
+    )?;
+    let found = return_found(
+        alloc, p, heap, end, ended, caller, below, named, t, &locals, settled, lists,
+    )?;
+    match found {
+        Some(result) => Ok(owned_end(locals, result)),
+        None => whole_return(alloc, p, heap, end, caller, below, named, t, locals),
+    }
+}
+
+// The heap becomes what a return leaves of it, where the caller stands above these frames. Says whether the lists are those of its frames.
+fn take_return(
+    heap: &mut Heap,
+    lists: &mut Vec<Vec<u64>>,
+    below: &[ActiveFrame],
+    change: HeapReturn,
+) -> bool
+    requires { CanReturn change (length below.now + 1) (lists_in lists.old.items) heap.old }
+    ensures heap { heap.new ≡ heap_returned change (length below.now + 1) heap.old }
+    ensures lists { result ≡ true → Listed (lists_in lists.new.items) heap.new }
+{
+    match change {
+        HeapReturn::Whole(after) => {
+            *heap = after;
+            false
+        }
+        HeapReturn::Owned(found) => {
+            let position = below.len() as u64 + 1;
+            return_objects(heap, lists, position, found.moved, found.noted);
+            true
+        }
+    }
+}
+
+// The top frame is no more.
+fn drop_top(frames: &mut Vec<ActiveFrame>)
+    ensures items { frames.new.items ≡ take (vec_len frames.old - 1) frames.old.items }
+    ensures count { vec_len frames.new ≡ vec_len frames.old - 1 }
+{
+    let _gone = frames.pop();
+}
+
+/// Ends the frame, where its caller takes the step of its call. Where memory runs out all stays.
+pub fn run_return(
+    alloc: Global,
+    p: &Program,
+    m: &mut RunState,
+    pos: Pos,
+    completion: Completion,
+    thrown: Option<ClassId>,
+    named: MethodId,
+    t: Triple,
+) -> Result<(), NoMemory>
+    requires running { 1 < vec_len m.old.frames }
+    requires bounded { highest_control m.old.frames.items ≤ length m.old.lists.cells.keys }
+    requires settled { HasNothingToLose m.old }
+    requires within { t.to ≤ length m.old.lists.cells.keys }
+    ensures went { (fr caller : Frame) (frs : List Frame) → (config_of m.old).frames ≡ fr ∷ caller ∷ frs → OnOk result (config_of m.new ≡ returned p.now (config_of m.old) fr caller frs pos completion thrown named (step_in m.old.lists.cells.keys t)) }
+    ensures kept { OnErr result (config_of m.new ≡ config_of m.old) }
+    ensures bounded { highest_control m.new.frames.items ≤ length m.new.lists.cells.keys }
+    ensures settled { HasNothingToLose m.new }
+{
+    if let Some((top, others)) = m.frames.split_last() {
+        if let Some((caller, below)) = others.split_last() {
+            let method = caller.method;
+            let value = result_value(p, &top.locals, top.method, completion);
+            let end = FrameEnd {
+                pos,
+                this: top.locals.this,
+                method: top.method,
+                value,
+                thrown,
+            };
+            let taken = return_result(
+                alloc,
+                p,
+                &m.heap,
+                end,
+                &top.locals,
+                caller,
+                below,
+                named,
+                t,
+                m.settled,
+                &mut m.owned,
+            )?;
+            let ReturnResult {
+                locals,
+                change,
+                lines,
+                settled,
+            } = taken;
+            m.entries.reserve(lines.len())?;
+            let listed = take_return(&mut m.heap, &mut m.owned, below, change);
+            add_lines(&mut m.entries, &lines);
+            m.settled = both(settled, listed);
+            drop_top(&mut m.frames);
+            put_top(
+                &mut m.frames,
+                ActiveFrame {
+                    method,
+                    control: t.to,
+                    locals,
+                },
+            );
+        }
+    }
+    Ok(())
+}
+
+// Appends the lines of a step to the ledger. Where memory runs out the ledger stays.
+fn append_lines(entries: &mut Vec<Entry>, lines: &[Entry]) -> Result<(), NoMemory>
+    ensures entries { OnOk result (entries.new.items ≡ entries.old.items ++ lines.now) }
+    ensures kept { OnErr result (entries.new.items ≡ entries.old.items) }
+{
+    Ok(entries.extend_from_slice(lines)?)
+}
+
+/// Ends the frame of `main`. Where memory runs out all stays.
+pub fn run_main_end(
+    alloc: Global,
+    p: &Program,
+    m: &mut RunState,
+    pos: Pos,
+    completion: Completion,
+) -> Result<(), NoMemory>
+    requires alone { vec_len m.old.frames ≡ 1 }
+    requires bounded { highest_control m.old.frames.items ≤ length m.old.lists.cells.keys }
+    requires settled { HasNothingToLose m.old }
+    ensures went { OnOk result (went (config_of m.new) ≡ moved_by p.now (config_of m.old) (config_of m.old).frames (End pos completion)) }
+    ensures kept { OnErr result (config_of m.new ≡ config_of m.old) }
+    ensures bounded { highest_control m.new.frames.items ≤ length m.new.lists.cells.keys }
+    ensures settled { HasNothingToLose m.new }
+{
+    if let Some((top, _below)) = m.frames.split_last() {
+        let effect = main_effect(alloc, p, pos, &m.heap)?;
+        let ended = exception_class(p, &m.heap, &top.locals, completion);
+        append_lines(&mut m.entries, &effect.lines)?;
+        let StepEffect { heap, lines } = effect;
+        m.heap = heap;
+        m.settled = false;
+        m.ended = ended;
+        m.frames.clear();
+    }
+    Ok(())
+}
+
+/// What the caller of the top frame does when that ends. All stays but the table of lists, which grows.
+pub fn run_call_end(
+    alloc: Global,
+    p: &Program,
+    m: &mut RunState,
+    pos: Pos,
+    completion: Completion,
+) -> Result<CallEnd, NoMemory>
+    requires running { 1 < vec_len m.old.frames }
+    requires bounded { highest_control m.old.frames.items ≤ length m.old.lists.cells.keys }
+    requires settled { HasNothingToLose m.old }
+    ensures seen { (fr caller : Frame) (frs : List Frame) → (config_of m.old).frames ≡ fr ∷ caller ∷ frs → IfOk result (λ e. return_seen m.new.lists.cells.keys e ≡ return_move p.now (frame_steps p.now caller) (exception_class p.now m.old.heap (thrown_in fr.locals completion))) }
+    ensures within { IfOk result (λ e. control_back e ≤ length m.new.lists.cells.keys) }
+    ensures kept { config_of m.new ≡ config_of m.old }
+    ensures count { vec_len m.new.frames ≡ vec_len m.old.frames }
+    ensures bounded { highest_control m.new.frames.items ≤ length m.new.lists.cells.keys }
+    ensures settled { HasNothingToLose m.new }
+{
+    match m.frames.split_last() {
+        None => Ok(CallEnd::NoWay),
+        Some((top, others)) => match others.split_last() {
+            None => Ok(CallEnd::NoWay),
+            Some((caller, _below)) => {
+                let thrown = exception_class(p, &m.heap, &top.locals, completion);
+                let end = call_end(alloc, &mut m.lists, p, caller, thrown)?;
+                Ok(end)
+            }
+        },
+    }
+}

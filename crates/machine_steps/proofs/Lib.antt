@@ -1,0 +1,2 @@
+mod InnerLaws
+mod ListLaws

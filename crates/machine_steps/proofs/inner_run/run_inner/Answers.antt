@@ -1,0 +1,67 @@
+use Rattle.std.proofs.Common.{◌≡◌, ◌∙◌, sym, ap, refl, subst, ◌≤◌, [], ◌∷◌, ◌++◌, length, map, reverse}
+use Rattle.frame_owners.specs.FrameOwners.{lists_in}
+use Rattle.ledger_moves.specs.Frames.{highest_control}
+use Rattle.ledger_obligations.specs.Obligations.{held_in}
+use Rattle.ledger_operations.specs.Operations.{arrays_after, made_value, next_choice, statics_after, used_after}
+use Rattle.ledger_runs.specs.Steps.{if_thrown}
+use Rattle.machine_state.proofs.FrameLaws.{frame_with, put_bounded, top_put}
+use Rattle.machine_state.proofs.TopLaws.{listed_as, settled_apart, settled_as, settled_with}
+use Rattle.machine_steps.proofs.InnerLaws.{inner_went}
+use Rattle.machine_steps.proofs.ListLaws.{step_listed}
+use Rattle.machine_steps.specs.HeapSteps.{heap_stepped}
+use Rattle.machine_steps.proofs.inner_run.run_inner.Goals as goal
+
+pub inner_result-requires : goal.inner_result-requires
+inner_result-requires c =
+    let m = c.args.m.now in
+    let split : m.frames.items ≡ c.in-Some.below.now ++ c.in-Some.top.now ∷ [] = sym c.deref.ensures.value ∙ c.in-Some.ensures.cases.0 in
+    settled_apart m c.in-Some.top.now c.in-Some.below.now split c.requires.settled
+
+pub returns-in_ok-take_step-clause-went : goal.returns-in_ok-take_step-clause-went
+returns-in_ok-take_step-clause-went c =
+    let m = c.args.m.now in
+    let top = c.in-Some.top.now in
+    let below = c.in-Some.below.now in
+    let taken = c.in_ok-taken.taken in
+    let split : m.frames.items ≡ below ++ top ∷ [] = sym c.deref.ensures.value ∙ c.in-Some.ensures.cases.0 in
+    let put = top_put c.put_top.new.frames.items m.frames.items below top (frame_with top.method c.args.s.to taken.locals) m.frames.len split (sym c.deref.ensures.len ∙ ap length c.deref.ensures.value) c.put_top.ensures in
+    let choice = c.next_choice-choice.ensures ∙ ap (λ xs. next_choice xs m.used) c.deref-in-Some.ensures.value in
+    let made = c.made_value-made.ensures ∙ (λ i. made_value c.args.p.now m.heap (c.deref-in-Some-2.ensures.value i) (c.deref-in-Some-3.ensures.value i) (choice i) top.locals c.args.s.action) in
+    let used = c.used_by-used.ensures ∙ (λ i. if_thrown c.args.thrown m.used (used_after (c.deref-in-Some-4.ensures.value i) (c.deref-in-Some-5.ensures.value i) m.used top.locals c.args.s.action)) in
+    let arrays = c.store_results.ensures.arrays ∙ ap (λ xs. if_thrown c.args.thrown xs (arrays_after xs top.locals c.args.s.action)) c.room_for.ensures.arrays in
+    let statics = c.store_results.ensures.statics ∙ ap (λ xs. if_thrown c.args.thrown xs (statics_after xs top.locals c.args.s.action)) c.room_for.ensures.statics in
+    let entries = c.add_lines.ensures ∙ (λ i. c.room_for.ensures.entries i ++ (c.deref-in-Some-6.ensures.value ∙ c.in_ok-taken.ensures.lines) i) in
+    inner_went c.args.p.now m top below c.args.thrown c.args.s c.made_value-made.result taken.locals c.put_top.new.frames.items c.take_step.new.heap c.store_results.new.arrays.items c.store_results.new.statics.items c.used_by-used.result c.add_lines.new.entries.items
+    split put made c.in_ok-taken.ensures.locals (c.in_ok-take_step.ensures.ok ∙ c.in_ok-taken.ensures.heap) arrays statics used entries
+
+pub returns-in_ok-take_step-clause-bounded : goal.returns-in_ok-take_step-clause-bounded
+returns-in_ok-take_step-clause-bounded c =
+    let m = c.args.m.now in
+    let top = c.in-Some.top.now in
+    let below = c.in-Some.below.now in
+    let new = frame_with top.method c.args.s.to c.in_ok-taken.taken.locals in
+    let split : m.frames.items ≡ below ++ top ∷ [] = sym c.deref.ensures.value ∙ c.in-Some.ensures.cases.0 in
+    let put = top_put c.put_top.new.frames.items m.frames.items below top new m.frames.len split (sym c.deref.ensures.len ∙ ap length c.deref.ensures.value) c.put_top.ensures in
+    subst (λ xs. highest_control xs ≤ length m.lists.cells.keys) (sym put) (put_bounded (length m.lists.cells.keys) m.frames.items below top new split c.requires.bounded c.requires.within)
+
+pub returns-in_ok-take_step-clause-settled : goal.returns-in_ok-take_step-clause-settled
+returns-in_ok-take_step-clause-settled c =
+    let m = c.args.m.now in
+    let top = c.in-Some.top.now in
+    let below = c.in-Some.below.now in
+    let taken = c.in_ok-taken.taken in
+    let new = frame_with top.method c.args.s.to taken.locals in
+    let split : m.frames.items ≡ below ++ top ∷ [] = sym c.deref.ensures.value ∙ c.in-Some.ensures.cases.0 in
+    let put = top_put c.put_top.new.frames.items m.frames.items below top new m.frames.len split (sym c.deref.ensures.len ∙ ap length c.deref.ensures.value) c.put_top.ensures in
+    let left = heap_stepped taken.change m.heap in
+    let lists = lists_in m.owned.items in
+    λ so. (
+      settled_with c.take_step.new.heap left c.put_top.new.frames.items below new taken.locals c.in_ok-take_step.ensures.ok put refl (c.in_ok-taken.ensures.settled so),
+      listed_as c.take_step.new.heap left lists c.in_ok-take_step.ensures.ok (step_listed lists m.heap left (c.in_ok-taken.ensures.owners so) (c.requires.settled (c.in_ok-taken.ensures.was so)).1),
+    )
+
+pub returns-in_err-take_step-clause-settled : goal.returns-in_err-take_step-clause-settled
+returns-in_err-take_step-clause-settled c =
+    let m = c.args.m.now in
+    let same = c.in_err-take_step.ensures.err in
+    λ so. (settled_as c.take_step.new.heap m.heap (map held_in (reverse m.frames.items)) same (c.requires.settled so).0, listed_as c.take_step.new.heap m.heap (lists_in m.owned.items) same (c.requires.settled so).1)

@@ -1,0 +1,10 @@
+pub mod First
+pub mod Cases
+pub mod Returns
+pub use Rattle.tracking_laws.proofs.Ready
+pub use Rattle.tracking_laws.proofs.Births
+pub use Rattle.tracking_laws.proofs.NameCounts
+pub use Rattle.tracking_laws.proofs.Stacks
+pub use Rattle.tracking_laws.proofs.Unmet
+pub use Rattle.tracking_laws.proofs.Entries
+pub use Rattle.tracking_laws.proofs.SignedPromises

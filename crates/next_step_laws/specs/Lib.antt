@@ -1,0 +1,2 @@
+pub mod Nexts
+pub use Rattle.target_laws.specs.Frames

@@ -1,0 +1,4 @@
+pub mod Names
+pub mod Runs
+pub mod Owners
+pub mod Named

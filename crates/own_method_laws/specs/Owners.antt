@@ -1,0 +1,25 @@
+-- Classes with owning fields, and the must-call methods that they declare.
+use Rattle.std.specs.Prelude.{◌≡◌, true, false, Some}
+use Rattle.std.specs.FinSet as set
+use Rattle.rlc_base.specs.declared.name_id.NameId.{NameId}
+use Rattle.program_model.specs.declared.kinds.FieldId.{FieldId}
+use Rattle.program_model.specs.declared.kinds.MethodId.{MethodId}
+use Rattle.program_model.specs.declared.program.Field.{Field}
+use Rattle.program_model.specs.declared.program.Method.{Method}
+use Rattle.program_model.specs.declared.program.Program.{Program}
+use Rattle.program_model.specs.Lookups.{field_at, method_at}
+use Rattle.program_model.specs.Overrides.{is_abstract}
+use Rattle.program_model.specs.SuperTests.{is_under}
+use Rattle.must_call_sets.specs.MustCallSets.{must_of}
+use Rattle.ledger_calls.specs.Calls.{overriding_in}
+
+-- no class with owning fields is abstract
+abbrev pub HasConcreteOwners : Program → Type 0
+HasConcreteOwners p = (f : FieldId) (x : Field) → field_at p f ≡ Some x → x.owning ≡ true → is_abstract p x.class ≡ false
+
+-- the must-call method that a class with owning fields declares is the one that its objects run, whichever method of this name a call
+-- names
+abbrev pub RunsOwnMethods : Program → Type 0
+RunsOwnMethods p = (named m : MethodId) (n d : Method) (f : FieldId) (x : Field) (i : NameId) → method_at p named ≡ Some n → method_at p m ≡ Some d
+    → field_at p f ≡ Some x → x.owning ≡ true → x.class ≡ d.class → n.sig.interest ≡ Some i → d.sig.interest ≡ Some i
+    → set.contains (must_of p d.class) i.0 ≡ true → is_under p d.class n.class ≡ true → overriding_in p named (method_at p named) d.class ≡ m

@@ -1,0 +1,7 @@
+mod ArgumentLaws
+mod GrownLaws
+pub mod StartLaws
+mod GivenLaws
+pub mod LibraryLaws
+mod PairLines
+mod PairLaws

@@ -1,0 +1,106 @@
+-- Which facts stand for what the places of a frame hold: each place that holds an object whose class has an obligation, and that may owe
+-- a call, is in a fact that a path brings to the frame's control, and where such a fact says that the object is owned, what it says is
+-- true.
+use Rattle.std.specs.Prelude.{◌≡◌, ℕ, ◌<◌, Bool, true, false, not, ◌&&◌, ◌||◌, Option, Some, None, List, [], ◌∷◌, slice_get}
+use Rattle.std.specs.FinSet as set
+use Rattle.program_model.specs.declared.kinds.BodyId.{BodyId}
+use Rattle.program_model.specs.declared.kinds.FieldId.{FieldId}
+use Rattle.program_model.specs.declared.kinds.MethodId.{MethodId}
+use Rattle.program_model.specs.declared.program.Method.{Method}
+use Rattle.program_model.specs.declared.program.Program.{Program}
+use Rattle.program_model.specs.Lookups.{method_at}
+use Rattle.must_call_sets.specs.MustCallSets.{fits, is_empty, is_heavy_class, must_of, must_of_optional}
+use Rattle.must_call_sets.specs.Signatures.{field_type}
+use Rattle.java_control.specs.PlaceNumbers.{IsSmall}
+use Rattle.java_control.specs.declared.fact.Fact.{Fact}
+use Rattle.java_control.specs.declared.fact.Mode.TheVariants as modes
+use Rattle.java_control.specs.declared.fact.Origin.{Origin}
+use Rattle.java_control.specs.declared.fact.OriginKind.{OriginKind}
+use Rattle.java_control.specs.declared.fact.OriginKind.TheVariants as kinds
+use Rattle.java_control.specs.declared.place.Place.{Place}
+use Rattle.java_control.specs.declared.place.Place.TheVariants as place
+use Rattle.obligation_facts.specs.Facts.{PlaceSet, has, is_held, is_own, need}
+use Rattle.flow_rules.specs.Paths.{Reach, relation_of}
+use Rattle.ledger_state.specs.Contents.{HeapContents}
+use Rattle.ledger_state.specs.Heaps.{object_at, root_of}
+use Rattle.ledger_state.specs.declared.locals.Locals.{Locals}
+use Rattle.ledger_state.specs.declared.object.Object.{Object}
+use Rattle.ledger_operations.specs.Places.{owning_field_beside, place_value}
+use Rattle.ledger_calls.specs.Configuration.{Frame}
+use Rattle.ledger_frames.specs.Choosing.{body_id}
+use Rattle.place_laws.specs.Places.{HasPlacesAlone}
+use Rattle.agreement.specs.PlainForms.{is_lent_parameter}
+
+-- the object is not finished yet, or something must be called on it. (An alias of null is finished, and nothing must be called on it.)
+abbrev pub may_owe : Object → Bool
+may_owe x = not (x.finished && is_empty x.must)
+
+-- The fact says that the object is owned, by the frame or by a field of `this`, and that it has an obligation. A fact whose class has
+-- none counts as not owned.
+abbrev pub claims : Program → Origin → Fact → Bool
+claims p o f = is_heavy_class p o.class && (is_own f.mode || is_held f.mode)
+
+-- what such a fact says is true of the object: it is finished, it is of the class as far as obligations go, all that must be called on
+-- it is needed by the fact, and all that the fact knows was called
+pub record IsTrueOf (p : Program) (x : Object) (o : Origin) (f : Fact) : Type 0 where
+  pub finished : x.finished ≡ true
+  pub class : fits p x.class o.class ≡ true
+  pub bounded : set.is_subset x.must (must_of p x.class) ≡ true
+  pub need : set.is_subset x.must (need o f) ≡ true
+  pub called : set.is_subset f.called x.called ≡ true
+
+-- each of these places of a frame of the method holds object `o`
+abbrev pub AllHold : Program → HeapContents → MethodId → Locals → ℕ → PlaceSet → Type 0
+AllHold p h m l o held = (z : Place) → IsSmall z → has held z ≡ true → root_of h (place_value p h m l z) ≡ Some o
+
+-- the type of the owning field has an obligation
+abbrev pub is_heavy_in : Program → Option FieldId → Bool
+is_heavy_in p None = false
+is_heavy_in p (Some f) = not (is_empty (must_of_optional p (field_type p f)))
+
+-- the place is that of an owning field of `this` whose type has an obligation
+abbrev pub is_heavy_field : Program → MethodId → Place → Bool
+is_heavy_field p m (place.Field k) = is_heavy_in p (owning_field_beside p m k)
+is_heavy_field p m (place.Var i) = false
+is_heavy_field p m place.This = false
+is_heavy_field p m (place.Temp d) = false
+is_heavy_field p m place.Super = false
+
+-- the origin is a lent parameter of the method, or `this` in a class that has an obligation
+abbrev pub is_lent_kind : Program → Method → OriginKind → Bool
+is_lent_kind p m (kinds.Param k) = is_lent_parameter p (slice_get m.sig.params.items k)
+is_lent_kind p m kinds.ThisRef = is_heavy_class p m.class
+is_lent_kind p m kind = false
+
+abbrev pub is_lent : Program → Option Method → OriginKind → Bool
+is_lent p None kind = false
+is_lent p (Some m) kind = is_lent_kind p m kind
+
+-- The place of the frame, which holds object `o`, which is `x`, is in a fact that a path brings to the frame's control. All places of
+-- the fact hold the object. Where the fact says that the object is owned, that is true. Where it is that of a lent parameter, or of `this`, it
+-- says so never, and what it knows to be called on a finished object was called. Where its class has an obligation, it is in no owning field
+-- whose type has none. Where it is in an owning field whose type has one, it says that the field owns it.
+pub record Covers (p : Program) (h : HeapContents) (fr : Frame) (q : Place) (o : ℕ) (x : Object) : Type 0 where
+  pub body : BodyId
+  pub id : body_id p fr.method ≡ Some body
+  pub origin : Origin
+  pub fact : Fact
+  pub reached : Reach p body (relation_of p body) origin fr.control fact
+  pub alone : HasPlacesAlone fact.places
+  pub here : has fact.places q ≡ true
+  pub places : AllHold p h fr.method fr.locals o fact.places
+  pub true' : claims p origin fact ≡ true → IsTrueOf p x origin fact
+  pub lent : is_lent p (method_at p fr.method) origin.kind ≡ true → ((is_own fact.mode || is_held fact.mode) ≡ false) × (is_heavy_class p origin.class ≡ true)
+  pub known : x.finished ≡ true → is_lent p (method_at p fr.method) origin.kind ≡ true → set.is_subset fact.called x.called ≡ true
+  pub fields : (k : ℕ) → k < 16 → is_heavy_class p origin.class ≡ true → has fact.places (place.Field k) ≡ true → is_heavy_field p fr.method (place.Field k) ≡ true
+  pub held : (k : ℕ) → k < 16 → has fact.places (place.Field k) ≡ true → is_heavy_field p fr.method (place.Field k) ≡ true
+      → (fact.mode ≡ modes.Held) × (is_heavy_class p origin.class ≡ true)
+
+-- each place of the frame that holds an object whose class has an obligation, and that may owe a call, is in such a fact
+abbrev pub IsCovered : Program → HeapContents → Frame → Type 0
+IsCovered p h fr = (q : Place) (o : ℕ) (x : Object) → IsSmall q → root_of h (place_value p h fr.method fr.locals q) ≡ Some o → object_at h o ≡ Some x
+    → is_heavy_class p x.class ≡ true → may_owe x ≡ true → Covers p h fr q o x
+
+abbrev pub AreCovered : Program → HeapContents → List Frame → Type 0
+AreCovered p h [] = Unit {0}
+AreCovered p h (fr ∷ frs) = IsCovered p h fr × AreCovered p h frs

@@ -1,0 +1,10 @@
+pub mod CarefulCalls
+pub mod CarefulSteps
+pub mod Valid
+pub mod Formed
+pub mod Declared
+pub mod Flows
+pub mod Faults
+pub mod Accepted
+pub mod Calls
+pub mod Plain

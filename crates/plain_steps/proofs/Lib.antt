@@ -1,0 +1,3 @@
+pub mod LostLaws
+pub mod OwnerLaws
+pub mod ThrowLaws

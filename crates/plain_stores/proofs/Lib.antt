@@ -1,0 +1,4 @@
+pub mod SameLinks
+pub mod StoreLaws
+pub mod KeptLaws
+pub mod StoreLines

@@ -1,0 +1,9 @@
+pub mod Growth
+pub mod Values
+pub mod Given
+pub mod Operations
+pub mod Steps
+pub mod Configs
+pub mod Laws
+pub use Rattle.next_step_laws.proofs.Cases
+pub use Rattle.next_step_laws.proofs.Returns

@@ -1,0 +1,106 @@
+-- What the signature of a call promises was called on the object of a fact whose places are variables and temps; and what the end of a frame shows of
+-- such objects.
+use Rattle.std.proofs.Common.{◌≡◌, inl, inr, ℕ, Bool, true, false, Some, None, List, [], ◌∷◌, slice_get, refl, sym, ◌∙◌, subst, true≢false, if◌then◌else◌}
+use Rattle.std.specs.FinSet as set
+use Rattle.rlc_base.proofs.SetLaws.{within_from}
+use Rattle.program_model.specs.declared.kinds.BodyId.{BodyId}
+use Rattle.program_model.specs.declared.kinds.ClassId.{ClassId}
+use Rattle.program_model.specs.declared.kinds.MethodId.{MethodId}
+use Rattle.program_model.specs.declared.kinds.Target.{Target}
+use Rattle.program_model.specs.declared.kinds.Target.TheVariants as promised
+use Rattle.program_model.specs.declared.program.Program.{Program}
+use Rattle.program_model.specs.declared.program.Promise.{Promise}
+use Rattle.program_model.specs.Lookups.{method_at}
+use Rattle.must_call_sets.specs.Bodies.{throwing_promises_in}
+use Rattle.must_call_sets.specs.MustCallSets.{Names}
+use Rattle.java_control.specs.declared.action.Action.{Action}
+use Rattle.java_control.specs.declared.action.Edge.{Edge}
+use Rattle.java_control.specs.declared.action.Edge.TheVariants as edges
+use Rattle.obligation_facts.specs.Callees.{callee, may_be_null_target}
+use Rattle.obligation_facts.specs.Facts.{PlaceSet}
+use Rattle.obligation_facts.specs.SmallActions.{IsSmallAction}
+use Rattle.called_methods.specs.CalledRows.{holds_target, promises_at}
+use Rattle.alias_sets.specs.Aliases.{gives_alias}
+use Rattle.accepted_programs.specs.Accept.{Accept}
+use Rattle.stub_conduct.specs.declared.choice.Conduct.{Conduct}
+use Rattle.stub_conduct.specs.declared.choice.Conduct.TheVariants as conducts
+use Rattle.ledger_state.specs.Contents.{HeapContents}
+use Rattle.ledger_state.specs.Heaps.{object_at, root_of}
+use Rattle.ledger_state.specs.declared.locals.Locals.{Locals}
+use Rattle.ledger_state.specs.declared.object.Object.{Object}
+use Rattle.ledger_calls.specs.Calls.{reset_position}
+use Rattle.ledger_calls.specs.Conducts.{promises_by}
+use Rattle.ledger_steps.specs.CallSteps.{library_heap}
+use Rattle.heap_laws.specs.Heaps.{HasLibraryLinks}
+use Rattle.java_control.specs.Control.{Step}
+use Rattle.java_control.specs.declared.action.Action.TheVariants as actions
+use Rattle.java_control.specs.declared.action.Completion.{Completion}
+use Rattle.ownership_rules.specs.MovesAtCalls.{moved_at_call}
+use Rattle.ownership_rules.specs.declared.moved.Moved.TheVariants as moves
+use Rattle.ledger_obligations.specs.Obligations.{is_unmet}
+use Rattle.ledger_calls.specs.Configuration.{Frame}
+use Rattle.ledger_frames.specs.Choosing.{frame_steps}
+use Rattle.ledger_steps.specs.Ends.{answered, exception_class, result_value, thrown_in}
+use Rattle.heap_laws.specs.Heaps.{GoesOn}
+use Rattle.agreement.specs.Agreement.{Stands, Tracks}
+use Rattle.owned_fact_laws.specs.Outcomes.{IsCallRow}
+use Rattle.library_call_laws.proofs.Laws.{promised_names_are_called-position}
+use Rattle.covering_laws.proofs.SignedPromises.{promised_name_is_small}
+use Rattle.covering_laws.proofs.CallNames.{no_target, operand_has_position, operand_of_fact}
+use Rattle.covering_laws.proofs.Carried.{HoldIt}
+use Rattle.covering_laws.proofs.KnownNames.{AreKept, all_kept}
+use Rattle.covering_laws.proofs.LibraryPromises.{edge_promises, promise_of}
+
+-- ---- a null target
+
+-- the exception of a null target is thrown before the call starts: nothing is promised
+pub null_target_promises : (p : Program) (b : BodyId) (a : Action) (e : Edge) (held : PlaceSet) (names : Names) → may_be_null_target p a e ≡ true → AreKept p b a held names (promises_at p a e)
+null_target_promises p b a edges.Go held names target = absurd (true≢false (sym target))
+null_target_promises p b a (edges.Throws t) held names target =
+    subst (λ (x : Bool). AreKept p b a held names (if x then [] else throwing_promises_in (callee p a))) (sym target) tt
+null_target_promises p b a e held names target = tt
+
+-- ---- the end of a frame
+
+-- what the call gives is an alias of the object, where it gives one of what is at these places
+abbrev pub ReturnsAlias : Program → HeapContents → Frame → Action → Edge → PlaceSet → Completion → ℕ → Type 0
+ReturnsAlias p h fr a e held q o = gives_alias p a e held ≡ true → root_of h (answered fr.locals.this a (result_value fr.locals (method_at p fr.method) q) (exception_class p h (thrown_in fr.locals q))) ≡ Some o
+
+-- The frame ends, and its caller takes this step of its call, by `Go` where the frame ends normally. The object of a fact of the caller does not move at
+-- the call: what the signature promises of it was called on it, and what the call gives is the object, where the fact says that it is an alias.
+abbrev pub ShowsOperands : Program → HeapContents → Frame → Frame → Type 0
+ShowsOperands p h fr caller = (below : Stands p caller) (i j : ℕ) (s t : Step) (q : Completion) (o : ℕ) (x y : Object) (w : Tracks p h caller o x) → slice_get (frame_steps p fr) i ≡ Some s → s.action ≡ actions.End q
+    → slice_get (frame_steps p caller) j ≡ Some t → IsCallRow t.action → (exception_class p h (thrown_in fr.locals q) ≡ None → t.edge ≡ edges.Go)
+    → ((c : ClassId) → exception_class p h (thrown_in fr.locals q) ≡ Some c → (k : ClassId) × (t.edge ≡ edges.Throws k)) → object_at h o ≡ Some x → is_unmet x ≡ true → GoesOn x y
+    → (moved_at_call p w.origin t.action t.edge w.fact ≡ moves.Moves → ⊥)
+    → AreKept p below.number t.action w.fact.places y.called (promises_at p t.action t.edge) × ReturnsAlias p h fr t.action t.edge w.fact.places q o
+
+-- the top one of these frames, for which the one below waits
+abbrev pub TopShowsOperands : Program → HeapContents → List Frame → Type 0
+TopShowsOperands p h [] = Unit {0}
+TopShowsOperands p h (fr ∷ []) = Unit {0}
+TopShowsOperands p h (fr ∷ caller ∷ frs) = ShowsOperands p h fr caller
+
+-- ---- a method of the library
+
+module _ (p : Program) (ac : Accept p) (h : HeapContents) (links : HasLibraryLinks h) (m : MethodId) (l : Locals) (a : Action) (named : MethodId) (d : Conduct) (i : ℕ)
+    (no_reset : reset_position (method_at p named) ≡ None) (small : IsSmallAction p a) (held : PlaceSet) (o : ℕ) (hold : HoldIt p h m l o held) (x y : Object) (before : object_at h o ≡ Some x)
+    (now : object_at (library_heap p l a (method_at p named) (method_at p named) d i h) o ≡ Some y) (b : BodyId) where
+  target_called : (j : ℕ) (q : Promise) → slice_get (promises_by (method_at p named) d) j ≡ Some q → (n : ℕ) → set.contains q.names n ≡ true
+      → (t : Target) → q.target ≡ t → holds_target p b a held t ≡ true → set.contains y.called n ≡ true
+  target_called j q at n has (promised.At k) is holds =
+      let method = promise_of (method_at p named) d j q at in
+      promised_names_are_called-position p l a (method_at p named) (method_at p named) d i h j q k n o x y links no_reset at is has (promised_name_is_small p ac named method.0 q n method.1 method.2 has)
+      (operand_of_fact p h m l a o k held small (operand_has_position p a held k small holds) hold holds) before now
+  target_called j q at n has (promised.OfField f) is holds =
+      absurd (true≢false (sym holds ∙ no_target p ac b a held (promised.OfField f) (λ z room one. (hold z room one).0) tt))
+
+  conduct_kept : AreKept p b a held y.called (promises_by (method_at p named) d)
+  conduct_kept = all_kept p b a held y.called (promises_by (method_at p named) d) (λ j q at holds. within_from q.names y.called (λ n has. target_called j q at n has q.target refl holds))
+
+  pub library_promises_kept : (e : Edge) → callee p a ≡ method_at p named → ((c : ClassId) → d ≡ conducts.Throws c → (k : ClassId) × (e ≡ edges.Throws k))
+      → (((c : ClassId) → d ≡ conducts.Throws c → ⊥) → e ≡ edges.Go) → AreKept p b a held y.called (promises_at p a e)
+  library_promises_kept e same thrown normal = elim (edge_promises p a e (method_at p named) d same thrown normal) [
+    | inl none ↦ subst (λ (qs : List Promise). AreKept p b a held y.called qs) (sym none) tt
+    | inr all ↦ subst (λ (qs : List Promise). AreKept p b a held y.called qs) (sym all) conduct_kept
+  ]

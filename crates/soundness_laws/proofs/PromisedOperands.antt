@@ -1,0 +1,338 @@
+-- As a frame ends, what its method promises was called on the objects that the caller owns and has lent: on a parameter or on `this`, where the
+-- callee's own fact knows the names, as the rule `ensures` asks at the end of a body. And a result that is an alias is the object that the caller has
+-- at the aliased position.
+use Rattle.std.proofs.Common.{◌≡◌, inl, inr, ℕ, zero, suc, ◌+◌, ◌<◌, ◌&&◌, Bool, true, false, not, Option, Some, None, List, [], ◌∷◌, length, slice_get, refl, sym, ap, ◌∙◌, subst, true≢false, if◌then◌else◌, arith}
+use Rattle.std.specs.Option.{IsSomeAnd}
+use Rattle.std.specs.List.{All}
+use Rattle.std.specs.FinSet as set
+use Rattle.std.proofs.lemmas.Bool.{and_parts, or_left}
+use Rattle.std.proofs.lemmas.List.Elements.{All-head, All-tail}
+use Rattle.rlc_base.proofs.SetLaws.{within_trans}
+use Rattle.program_model.specs.declared.kinds.BodyId.{BodyId}
+use Rattle.program_model.specs.declared.kinds.ClassId.{ClassId}
+use Rattle.program_model.specs.declared.kinds.MethodId.{MethodId}
+use Rattle.program_model.specs.declared.kinds.Target.{Target}
+use Rattle.program_model.specs.declared.kinds.Target.TheVariants as promised
+use Rattle.program_model.specs.declared.program.Method.{Method}
+use Rattle.program_model.specs.declared.program.ParamSig.{ParamSig}
+use Rattle.program_model.specs.declared.program.Program.{Program}
+use Rattle.program_model.specs.declared.program.Promise.{Promise}
+use Rattle.program_model.specs.Lookups.{method_at}
+use Rattle.program_model.specs.Overrides.{is_library}
+use Rattle.program_model.specs.Validity.{IsBodyOf, IsPromised, IsValidSig}
+use Rattle.must_call_sets.specs.Assigned.{is_spoken_variable}
+use Rattle.must_call_sets.specs.Bodies.{alias_in, constructs, is_constructor_kind, method_of, promises_in, throwing_promises_in}
+use Rattle.must_call_sets.specs.MustCallSets.{is_empty, is_heavy_class, must_of, must_of_type, no_names}
+use Rattle.java_control.specs.Calls.{called_method}
+use Rattle.java_control.specs.Control.{Step}
+use Rattle.java_control.specs.PlaceNumbers.{IsSmall}
+use Rattle.java_control.specs.declared.action.Action.{Action}
+use Rattle.java_control.specs.declared.action.Action.TheVariants as actions
+use Rattle.java_control.specs.declared.action.Completion.{Completion}
+use Rattle.java_control.specs.declared.action.Completion.TheVariants as completions
+use Rattle.java_control.specs.declared.action.Edge.{Edge}
+use Rattle.java_control.specs.declared.action.Edge.TheVariants as edges
+use Rattle.java_control.specs.declared.fact.OriginKind.{OriginKind}
+use Rattle.java_control.specs.declared.fact.OriginKind.TheVariants as kinds
+use Rattle.java_control.specs.declared.place.Place.{Place}
+use Rattle.java_control.specs.declared.place.Place.TheVariants as places
+use Rattle.obligation_facts.specs.Callees.{callee, callee_in, holds_operand, may_be_null_target}
+use Rattle.obligation_facts.specs.Facts.{is_origin_at}
+use Rattle.obligation_facts.specs.SmallActions.{IsSmallAction}
+use Rattle.ownership_rules.specs.MovesAtCalls.{moved_at_call}
+use Rattle.ownership_rules.specs.Room.{variable_count, variables_in}
+use Rattle.ownership_rules.specs.declared.moved.Moved.TheVariants as moves
+use Rattle.called_methods.specs.CalledRows.{holds_target, promises_at}
+use Rattle.alias_sets.specs.Aliases.{gives_alias}
+use Rattle.flow_rules.specs.Ends.{is_throw}
+use Rattle.flow_rules.specs.Paths.{Reach, move_of, relation_of}
+use Rattle.accepted_programs.specs.Accept.{Accept}
+use Rattle.ledger_state.specs.Contents.{HeapContents}
+use Rattle.ledger_state.specs.Heaps.{object_at, root_of}
+use Rattle.ledger_state.specs.Locals.{variable_value}
+use Rattle.ledger_state.specs.declared.object.Object.{Object}
+use Rattle.ledger_state.specs.declared.value.Value.TheVariants as values
+use Rattle.ledger_obligations.specs.Obligations.{is_unmet}
+use Rattle.ledger_operations.specs.Places.{place_value}
+use Rattle.ledger_calls.specs.Calls.{operand_of}
+use Rattle.ledger_calls.specs.Configuration.{Frame}
+use Rattle.ledger_frames.specs.Choosing.{body_id, frame_steps}
+use Rattle.ledger_steps.specs.Ends.{answered, answered_normally, exception_class, result_value, thrown_in}
+use Rattle.program_call_laws.specs.ProgramCalls.{is_new}
+use Rattle.heap_laws.specs.Heaps.{GoesOn}
+use Rattle.call_step_laws.proofs.Ways.{one_action}
+use Rattle.owned_fact_laws.specs.Outcomes.{IsCallRow}
+use Rattle.agreement.specs.Agreement.{Stands, Tracks, WaitsFor}
+use Rattle.agreement.specs.PlainForms.{HasPlainForms, IsPlainAction, IsPlainCall, IsPlainSignature, IsPromisedPlainly, PromisesPlainly, is_lent_parameter}
+use Rattle.place_facts.specs.PlaceFacts.{Covers, IsCovered, is_lent, may_owe}
+use Rattle.covering_laws.specs.Arguments.{HasArguments}
+use Rattle.parameter_fact_laws.proofs.Origins.{parameters_own, this_own}
+use Rattle.covering_laws.proofs.SignedPromises.{Promises}
+use Rattle.covering_laws.specs.Throws.{EndsByException}
+use Rattle.covering_laws.proofs.AliasResults.{argument_is_result}
+use Rattle.covering_laws.proofs.AliasRoots.{GivesOperand, gives_operand}
+use Rattle.covering_laws.proofs.Arguments.{argument_is_given}
+use Rattle.covering_laws.proofs.Births.{heavy_by_unmet}
+use Rattle.covering_laws.proofs.CallNames.{no_target, object_with_root, operand_has_position, operand_of_fact}
+use Rattle.covering_laws.proofs.EndNames.{element_there, parameter_origin, parameters_fit, spoken, zero_origin}
+use Rattle.covering_laws.proofs.KnownNames.{AreKept, all_kept, none_promised}
+use Rattle.covering_laws.proofs.ParameterEnds.{AsksFor, return_asks, shown_on_position, throw_asks, unowned_moves}
+use Rattle.covering_laws.proofs.Ready.{named_gives_none, plain_call, plain_step, step_here, step_there}
+use Rattle.covering_laws.proofs.Unmet.{call_may, nothing_to_call, row_of}
+use Rattle.covered_field_laws.proofs.Following.{breaks_nothing, same_body}
+use Rattle.soundness_laws.proofs.KeptPromises.{ReturnsAlias}
+use Rattle.soundness_laws.proofs.Makers.{IsRunBelow, body_method, constructor_no_alias, new_constructs, run_below}
+use Rattle.soundness_laws.proofs.Programs.{is_programs}
+use Rattle.soundness_laws.proofs.Supporting.{not_true, throws_by}
+
+-- what holds of all elements of a list holds of each
+each_of : {X : Type 0} (P : X → Type 0) (xs : List X) (k : ℕ) (x : X) → All P xs → slice_get xs k ≡ Some x → P x
+each_of P [] k x all at = absurd (let never : None ≡ Some x = at in cc)
+each_of P (y ∷ ys) zero x all at = subst P (let both : Some y ≡ Some x = at in (let same : y ≡ x = cc in same)) (All-head P y ys all)
+each_of P (y ∷ ys) (suc k) x all at = each_of P ys k x (All-tail P y ys all) at
+
+module _ (p : Program) (ac : Accept p) (forms : HasPlainForms p) (h : HeapContents) (fr caller : Frame) (st : Stands p fr) (wait : WaitsFor p h caller fr) (covered : IsCovered p h fr)
+    (args : HasArguments p caller fr) (exits : EndsByException p h fr) (below : Stands p caller) (i j : ℕ) (s t : Step) (q : Completion) (here : slice_get (frame_steps p fr) i ≡ Some s) (is : s.action ≡ actions.End q)
+    (there : slice_get (frame_steps p caller) j ≡ Some t) (row : IsCallRow t.action) (normal : exception_class p h (thrown_in fr.locals q) ≡ None → t.edge ≡ edges.Go)
+    (thrown : (c : ClassId) → exception_class p h (thrown_in fr.locals q) ≡ Some c → (k : ClassId) × (t.edge ≡ edges.Throws k)) where
+  abbrev named : MethodId
+  named = wait.named
+
+  run : IsRunBelow p fr named
+  run = run_below p ac forms h fr caller st below wait
+
+  abbrev n : Method
+  n = run.method
+
+  first_row : IsCallRow wait.step.action
+  first_row = row_of wait.step.action named wait.calls
+
+  -- all steps of the caller are steps of the call
+  same_action : t.action ≡ wait.step.action
+  same_action = one_action p below.number caller.control wait.index j wait.step t (step_here p caller below wait.index wait.step wait.here) (step_here p caller below j t there) (call_may wait.step.action first_row)
+
+  called : called_method t.action ≡ Some named
+  called = ap called_method same_action ∙ wait.calls
+
+  same_callee : callee p t.action ≡ Some n
+  same_callee = ap (callee_in p) called ∙ run.named_at
+
+  call : IsPlainCall p named
+  call = plain_call p wait.step.action named (plain_step p ac forms caller below wait.index wait.step wait.here) first_row wait.calls
+
+  program : is_library p run.running.class ≡ false
+  program = is_programs p ac fr.method run.running st.number run.running_at st.id
+
+  of_program : fr.method ≡ named → is_library p n.class ≡ false
+  of_program same =
+      let one : run.running ≡ n = (let both : Some run.running ≡ Some n = sym run.running_at ∙ ap (method_at p) same ∙ run.named_at in (let it : run.running ≡ n = cc in it)) in
+      ap (λ (x : Method). is_library p x.class) (sym one) ∙ program
+
+  small : IsSmallAction p t.action
+  small = (ac.fits below.number).steps j (move_of t) below.control (step_there p caller below j t there)
+
+  -- ---- how the frame has ended
+
+  abbrev e : Option ClassId
+  e = exception_class p h (thrown_in fr.locals q)
+
+  normal_end : t.edge ≡ edges.Go → e ≡ None
+  normal_end edge = go e refl
+    where
+      go : (x : Option ClassId) → e ≡ x → e ≡ None
+      go None is' = is'
+      go (Some c) is' = let way = thrown c is' in absurd (let never : edges.Go ≡ edges.Throws way.0 = sym edge ∙ way.1 in cc)
+
+  throw_end : (c : ClassId) → t.edge ≡ edges.Throws c → is_throw q ≡ true
+  throw_end c edge = go e refl
+    where
+      go : (x : Option ClassId) → e ≡ x → is_throw q ≡ true
+      go None is' = absurd (let never : edges.Throws c ≡ edges.Go = sym edge ∙ normal is' in cc)
+      go (Some k) is' = throws_by p h fr.locals q k is'
+
+  returns : t.edge ≡ edges.Go → is_throw q ≡ false
+  returns edge = by q refl
+    where
+      by : (c : Completion) → q ≡ c → is_throw q ≡ false
+      by (completions.Throw f k pos) is' =
+          absurd (exits i s f k pos here (is ∙ ap actions.End is') (ap (λ (c : Completion). exception_class p h (thrown_in fr.locals c)) (sym is') ∙ normal_end edge))
+      by (completions.Return pos) is' = ap is_throw is'
+      by (completions.ReturnValue f pos) is' = ap is_throw is'
+      by (completions.Break pos) is' = ap is_throw is'
+      by (completions.Continue pos) is' = ap is_throw is'
+
+  -- ---- an object of the caller
+
+  module _ (o : ℕ) (x y : Object) (w : Tracks p h caller o x) (before : object_at h o ≡ Some x) (unmet : is_unmet x ≡ true) (goes : GoesOn x y) (stays : moved_at_call p w.origin t.action t.edge w.fact ≡ moves.Moves → ⊥) where
+    done : x.finished ≡ true
+    done = (and_parts x.finished (not (set.is_subset x.must x.called)) unmet).0
+
+    heavy : is_heavy_class p x.class ≡ true
+    heavy = heavy_by_unmet p x.class x unmet w.follows.bounded
+
+    owes : may_owe x ≡ true
+    owes = ap not (not_true (x.finished && is_empty x.must) (λ both. nothing_to_call x unmet (and_parts x.finished (is_empty x.must) both).1))
+
+    wide : is_heavy_class p w.origin.class ≡ true
+    wide = ap not (not_true (is_empty (must_of p w.origin.class)) (λ light.
+        nothing_to_call x unmet (within_trans x.must (must_of p x.class) no_names w.follows.bounded (within_trans (must_of p x.class) (must_of p w.origin.class) no_names w.follows.class light))))
+
+    operand : (v : ℕ) → holds_operand t.action w.fact.places v ≡ true → root_of h (operand_of caller.locals t.action v) ≡ Some o
+    operand v holds = operand_of_fact p h caller.method caller.locals t.action o v w.fact.places small (operand_has_position p t.action w.fact.places v small holds) w.follows.places holds
+
+    reached : Reach p below.number (relation_of p below.number) w.origin caller.control w.fact
+    reached = subst (λ (b : BodyId). Reach p b (relation_of p b) w.origin caller.control w.fact) (same_body w.body below.number (body_id p caller.method) w.id below.id) w.reached
+
+    module _ (same : fr.method ≡ named) (xs : List Promise) (asks : AsksFor p st.number q xs) (k : ℕ) (u : Promise) (at : slice_get xs k ≡ Some u) (promises : Promises n u) where
+      own_method : method_at p fr.method ≡ Some n
+      own_method = ap (method_at p) same ∙ run.named_at
+
+      -- what is lent shows its names
+      of_lent : (place : Place) (v : ℕ) → IsSmall place → root_of h (place_value p h fr.method fr.locals place) ≡ Some o → u.target ≡ promised.At v
+          → ((cover : Covers p h fr place o x) → (is_origin_at cover.origin.kind (Some v) ≡ true) × (is_lent p (method_at p fr.method) cover.origin.kind ≡ true)) → set.is_subset u.names y.called ≡ true
+      of_lent place v room root target its =
+          let cover : Covers p h fr place o x = covered place o x room root before heavy owes in
+          let lent = its cover in
+          within_trans u.names x.called y.called
+          (shown_on_position p ac h fr st i s q here is place o x cover (unowned_moves p st.number cover.origin cover.fact (cover.lent lent.1).0 q) (cover.known done lent.1) xs asks v k u at target lent.0) goes.called
+
+      reached_here : (place : Place) (cover : Covers p h fr place o x) → Reach p st.number (relation_of p st.number) cover.origin fr.control cover.fact
+      reached_here place cover = subst (λ (b : BodyId). Reach p b (relation_of p b) cover.origin fr.control cover.fact) (same_body cover.body st.number (body_id p fr.method) cover.id st.id) cover.reached
+
+      lent_here : (kind f : OriginKind) → kind ≡ f → is_lent p (Some n) f ≡ true → is_lent p (method_at p fr.method) kind ≡ true
+      lent_here kind f is' lent = ap (is_lent p (method_at p fr.method)) is' ∙ ap (λ (m : Option Method). is_lent p m f) own_method ∙ lent
+
+      on_receiver : u.target ≡ promised.At 0 → is_heavy_class p n.class ≡ true → holds_operand t.action w.fact.places 0 ≡ true → set.is_subset u.names y.called ≡ true
+      on_receiver target class holds =
+          let v = object_with_root h (operand_of caller.locals t.action 0) o (operand 0 holds) in
+          let this : fr.locals.this ≡ values.Object v.0 = args.receiver j t v.0 there v.1 in
+          of_lent places.This 0 tt (ap (root_of h) this ∙ ap Some v.2) target
+          (λ cover. (let own = this_own p ac st.number st.body st.at cover.origin fr.control cover.fact (reached_here places.This cover) cover.here in
+          (own, lent_here cover.origin.kind kinds.ThisRef (zero_origin cover.origin.kind own) class)))
+
+      -- an owning parameter takes the object, which then does not stay
+      never_owning : (v : ℕ) (param : ParamSig) → slice_get n.sig.params.items v ≡ Some param → param.owning ≡ true → holds_operand t.action w.fact.places (v + 1) ≡ true → ⊥
+      never_owning v param param_at owning holds = stays
+          (argument_is_given p below.number w.origin t.edge w.fact t.action row (breaks_nothing p ac below.number w.origin j (move_of t) w.fact reached (step_there p caller below j t there)) n v param same_callee param_at owning
+          holds (or_left (is_heavy_class p w.origin.class) (not (is_empty (must_of_type p param.vtype))) wide)).1
+
+      on_parameter : (v : ℕ) → u.target ≡ promised.At (v + 1) → IsPromisedPlainly p n (promised.At (v + 1)) → v < length n.sig.params.items → holds_operand t.action w.fact.places (v + 1) ≡ true
+          → set.is_subset u.names y.called ≡ true
+      on_parameter v target plainly inside holds = by (element_there n.sig.params.items v inside)
+        where
+          parameter : is_spoken_variable n v ≡ true
+          parameter = spoken n v u promises target inside
+
+          at_suc : IsPromisedPlainly p n (promised.At (suc v))
+          at_suc = subst (λ (m : ℕ). IsPromisedPlainly p n (promised.At m)) (let next : v + 1 ≡ suc v = omega arith in next) plainly
+
+          root : root_of h (variable_value fr.locals v) ≡ Some o
+          root = ap (root_of h) (args.parameters j t n v there own_method parameter) ∙ ap (λ (m : ℕ). root_of h (operand_of caller.locals t.action m)) (let next : suc v ≡ v + 1 = omega arith in next) ∙ operand (v + 1) holds
+
+          room : v < 160
+          room =
+              let few = (ac.fits st.number).room.variables in
+              let count : variable_count p st.number ≡ length st.body.vars.items = ap variables_in st.at in
+              let more = parameters_fit st.body.vars.items n.sig.params.items
+              (subst (λ (m : Option Method). IsSomeAnd m (IsBodyOf st.number st.body)) (ap (method_at p) st.method ∙ own_method) (ac.well_formed.valid.typed.bodies st.number st.body st.at).method).1 in
+              omega (arith, few, count, more, inside)
+
+          of_param : (param : ParamSig) → slice_get n.sig.params.items v ≡ Some param → is_lent_parameter p (Some param) ≡ true → set.is_subset u.names y.called ≡ true
+          of_param param param_at lent = of_lent (places.Var v) (v + 1) room root target
+              (λ cover. (let own = parameters_own p ac st.number st.body n v st.at (ap (method_at p) st.method ∙ own_method) parameter cover.origin fr.control cover.fact (reached_here (places.Var v) cover) cover.here in
+              (own, lent_here cover.origin.kind (kinds.Param v) (parameter_origin v cover.origin.kind own) (ap (is_lent_parameter p) param_at ∙ lent))))
+
+          by : (param : ParamSig) × (slice_get n.sig.params.items v ≡ Some param) → set.is_subset u.names y.called ≡ true
+          by (param, param_at) = elim (at_suc param param_at) [
+            | inl owning ↦ absurd (never_owning v param param_at owning holds)
+            | inr lent ↦ of_param param param_at lent
+          ]
+
+      on_target : (v : Target) → u.target ≡ v → IsPromisedPlainly p n v → IsPromised p n.sig v → holds_target p below.number t.action w.fact.places v ≡ true → set.is_subset u.names y.called ≡ true
+      on_target (promised.At zero) target plainly valid holds = on_receiver target plainly holds
+      on_target (promised.At (suc v)) target plainly valid holds =
+          let next : suc v ≡ v + 1 = omega arith in
+          on_parameter v (target ∙ ap promised.At next) (subst (λ (m : ℕ). IsPromisedPlainly p n (promised.At m)) next plainly) (omega (arith, valid)) (ap (holds_operand t.action w.fact.places) (sym next) ∙ holds)
+      on_target (promised.OfField f) target plainly valid holds =
+          absurd (true≢false (sym holds ∙ no_target p ac below.number t.action w.fact.places (promised.OfField f) (λ z room one. (w.follows.places z room one).0) tt))
+
+    plainly : fr.method ≡ named → PromisesPlainly p n
+    plainly same = (subst (IsPlainSignature p) run.named_at call.signature).2 (of_program same)
+
+    valid : IsValidSig p n.sig
+    valid = (ac.well_formed.valid.typed.methods named n run.named_at).signature
+
+    abbrev Kept : List Promise → Type 0
+    Kept ps = AreKept p below.number t.action w.fact.places y.called ps
+
+    kept_as : (ps qs : List Promise) → qs ≡ ps → Kept ps → Kept qs
+    kept_as ps qs same kept = subst (λ (us : List Promise). AreKept p below.number t.action w.fact.places y.called us) (sym same) kept
+
+    -- all of a list that the end asks for
+    all_of_end : (same : fr.method ≡ named) (xs : List Promise) → AsksFor p st.number q xs → ((k : ℕ) (u : Promise) → slice_get xs k ≡ Some u → Promises n u) → All (λ (v : Promise). IsPromisedPlainly p n v.target) xs
+        → All (λ (v : Promise). IsPromised p n.sig v.target) xs → Kept xs
+    all_of_end same xs asks promises plain valid' = all_kept p below.number t.action w.fact.places y.called xs (λ k u at holds.
+        on_target same xs asks k u at (promises k u at) u.target refl (each_of (λ (v : Promise). IsPromisedPlainly p n v.target) xs k u plain at) (each_of (λ (v : Promise). IsPromised p n.sig v.target) xs k u valid' at) holds)
+
+    here_is : fr.method ≡ named → method_of p st.number ≡ Some n
+    here_is same = body_method p ac forms fr st ∙ ap (method_at p) same ∙ run.named_at
+
+    returned : fr.method ≡ named → t.edge ≡ edges.Go → Kept n.sig.promises.items
+    returned same edge =
+        all_of_end same n.sig.promises.items (subst (λ (m : Option Method). AsksFor p st.number q (promises_in m)) (here_is same) (return_asks p st.number q (returns edge))) (λ k u at. (k, inl at))
+        (plainly same).returning valid.promises
+
+    itself : fr.method ≡ named → (f : Edge) → t.edge ≡ f → Kept (promises_at p t.action f)
+    itself same edges.Go edge = kept_as n.sig.promises.items (promises_in (callee p t.action)) (ap promises_in same_callee) (returned same edge)
+    itself same edges.Null edge = tt
+    itself same edges.NonNull edge = tt
+    itself same edges.True edge = tt
+    itself same edges.False edge = tt
+    itself same (edges.Throws c) edge = by (may_be_null_target p t.action (edges.Throws c))
+      where
+        by : (b : Bool) → Kept (if b then [] else throwing_promises_in (callee p t.action))
+        by true = tt
+        by false = kept_as n.sig.on_throw.items (throwing_promises_in (callee p t.action)) (ap throwing_promises_in same_callee)
+            (all_of_end same n.sig.on_throw.items (subst (λ (m : Option Method). AsksFor p st.number q (throwing_promises_in m)) (here_is same) (throw_asks p st.number q (throw_end c edge))) (λ k u at. (k, inr at))
+            (plainly same).throwing valid.on_throw)
+
+    operands_kept : AreKept p below.number t.action w.fact.places y.called (promises_at p t.action t.edge)
+    operands_kept = elim (call.keeps fr.method n run.running wait.runs run.named_at run.running_at program) [
+      | inl none ↦ kept_as [] (promises_at p t.action t.edge) (none_promised p t.action t.edge (ap promises_in same_callee ∙ none.returning) (ap throwing_promises_in same_callee ∙ none.throwing)) tt
+      | inr same ↦ itself same t.edge refl
+    ]
+
+    -- ---- the aliased operand
+
+    alias_given : ReturnsAlias p h fr t.action t.edge w.fact.places q o
+    alias_given gives = by t.action refl
+      where
+        given : GivesOperand t.action w.fact.places (Some n) × (t.edge ≡ edges.Go)
+        given = gives_operand p t.action t.edge w.fact.places (Some n) small same_callee gives
+
+        alias : run.running.sig.alias ≡ Some given.0.position
+        alias = run.fit.alias ∙ given.0.alias
+
+        no_constructor : constructs (method_at p fr.method) ≡ true → ⊥
+        no_constructor new =
+            let never : None ≡ Some given.0.position = sym (constructor_no_alias p ac forms h fr caller st below wait new) ∙ ap alias_in run.running_at ∙ alias in cc
+
+        result : root_of h (result_value fr.locals (method_at p fr.method) q) ≡ Some o
+        result =
+            ap (λ (m : Option Method). root_of h (result_value fr.locals m q)) run.running_at
+            ∙ argument_is_result p ac h fr caller st args covered i s q here is (returns given.1) run.running run.running_at given.0.position alias
+            (not_true (is_constructor_kind run.running.kind) (λ new. no_constructor (ap constructs run.running_at ∙ new))) j t there o x before heavy owes (operand given.0.position given.0.operand)
+
+        by : (a : Action) → t.action ≡ a → root_of h (answered fr.locals.this t.action (result_value fr.locals (method_at p fr.method) q) e) ≡ Some o
+        by actions.Skip is' = absurd (subst IsCallRow is' row)
+        by (actions.Call m d c form) is' =
+            ap (λ (x : Option ClassId). root_of h (answered fr.locals.this t.action (result_value fr.locals (method_at p fr.method) q) x)) (normal_end given.1)
+            ∙ ap (λ (a : Action). root_of h (answered_normally fr.locals.this a (result_value fr.locals (method_at p fr.method) q))) is' ∙ result
+        by (actions.New m d c) is' = absurd (no_constructor (new_constructs p ac forms h fr caller below wait (ap is_new (sym same_action ∙ is'))))
+        by (actions.Super m d c) is' =
+            absurd (true≢false (sym gives ∙ ap (λ (a : Action). gives_alias p a t.edge w.fact.places) is'
+            ∙ named_gives_none p (actions.Super m d c) t.edge w.fact.places (subst (IsPlainAction p) is' (plain_step p ac forms caller below j t there)).2))
+        by a is' = absurd (subst IsCallRow is' row)
+
+    pub operands_shown : AreKept p below.number t.action w.fact.places y.called (promises_at p t.action t.edge) × ReturnsAlias p h fr t.action t.edge w.fact.places q o
+    operands_shown = (operands_kept, alias_given)

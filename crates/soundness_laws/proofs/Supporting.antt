@@ -1,0 +1,179 @@
+-- What the other invariants say of fields is what the agreement needs to know of them.
+use Rattle.std.proofs.Common.{◌≡◌, ℕ, Bool, true, false, not, ◌&&◌, Option, Some, None, List, [], ◌∷◌, is_some, slice_get, refl, sym, ap, ◌∙◌, true≢false, eqb-true}
+use Rattle.std.proofs.lemmas.Bool.{and_parts}
+use Rattle.rlc_base.proofs.SetLaws.{within_trans}
+use Rattle.program_model.specs.declared.kinds.ClassId.{ClassId}
+use Rattle.program_model.specs.declared.kinds.FieldId.{FieldId}
+use Rattle.program_model.specs.declared.program.Field.{Field}
+use Rattle.program_model.specs.declared.program.Method.{Method}
+use Rattle.program_model.specs.declared.program.Program.{Program}
+use Rattle.program_model.specs.Lookups.{field_at, method_at}
+use Rattle.must_call_sets.specs.Bodies.{alias_in, alias_position, constructs, has_field_place, is_class_of, is_field_in, method_of}
+use Rattle.must_call_sets.specs.MustCallSets.{is_empty, must_of, must_of_optional, must_of_type, no_names}
+use Rattle.must_call_sets.specs.Signatures.{type_of_field}
+use Rattle.java_control.specs.Control.{Step}
+use Rattle.java_control.specs.Owned.{is_owning_field}
+use Rattle.java_control.specs.declared.action.Action.TheVariants as actions
+use Rattle.java_control.specs.declared.action.Completion.{Completion}
+use Rattle.java_control.specs.declared.action.Completion.TheVariants as completions
+use Rattle.flow_rules.specs.Ends.{is_throw}
+use Rattle.flow_rules.specs.Paths.{move_of}
+use Rattle.accepted_programs.specs.Accept.{Accept}
+use Rattle.ledger_state.specs.Contents.{HeapContents}
+use Rattle.ledger_state.specs.Fields.{field_of}
+use Rattle.ledger_state.specs.Heaps.{object_at, root_of, same_root, unfinished}
+use Rattle.ledger_state.specs.Locals.{temp_value}
+use Rattle.ledger_state.specs.Values.{number_of}
+use Rattle.ledger_state.specs.declared.entry.Owner.{Owner}
+use Rattle.ledger_state.specs.declared.entry.Owner.TheVariants as owners
+use Rattle.ledger_state.specs.declared.locals.Locals.{Locals}
+use Rattle.ledger_state.specs.declared.object.Object.{Object}
+use Rattle.ledger_state.specs.declared.value.Value.{Value}
+use Rattle.ledger_state.specs.declared.value.Value.TheVariants as values
+use Rattle.ledger_obligations.specs.Obligations.{finished_in, is_held_by, is_unmet}
+use Rattle.ledger_calls.specs.Calls as calls
+use Rattle.ledger_calls.specs.Calls.{alias_target}
+use Rattle.ledger_calls.specs.Configuration.{Frame}
+use Rattle.ledger_frames.specs.Choosing.{frame_steps}
+use Rattle.ledger_steps.specs.Ends.{exception_class, thrown_in}
+use Rattle.ledger_steps.specs.InnerSteps.{is_bound, parameter, root_of_number}
+use Rattle.store_laws.proofs.Objects.{unfinished_stays}
+use Rattle.agreement.specs.Agreement.{AllStand, IsCalledFrom, IsMade, Stands}
+use Rattle.agreement.specs.PlainForms.{HasPlainForms}
+use Rattle.place_facts.specs.FieldContents.{AreUnfinished, HaveContents}
+use Rattle.place_facts.specs.PlaceFacts.{IsCovered}
+use Rattle.covering_laws.specs.Covering.{HoldsHeavy}
+use Rattle.covering_laws.proofs.Laws.{contents_are_met_at_throw, overwritten_is_met}
+use Rattle.covering_laws.proofs.Births.{heavy_by_unmet}
+use Rattle.covering_laws.proofs.Chains.{object_there}
+use Rattle.covering_laws.proofs.Ready.{step_there}
+use Rattle.covering_laws.proofs.Unmet.{nothing_to_call}
+use Rattle.soundness_laws.specs.Supports.{StoresWell, Supports}
+use Rattle.soundness_laws.proofs.Makers.{body_method, class_of_maker, constructor_no_alias, new_of_owner}
+
+pub not_true : (b : Bool) → (b ≡ true → ⊥) → b ≡ false
+not_true true never = absurd (never refl)
+not_true false never = refl
+
+no_and : (a : Bool) → (a && false) ≡ false
+no_and true = refl
+no_and false = refl
+
+field_of_owner : (o : Owner) (w : ℕ) → is_held_by o w ≡ true → (f : FieldId) × (o ≡ owners.Field w f)
+field_of_owner (owners.Field v f) w is = (f, ap (λ (k : ℕ). owners.Field k f) (eqb-true v w is))
+field_of_owner (owners.Frame j) w is = absurd (true≢false (sym is))
+field_of_owner owners.Library w is = absurd (true≢false (sym is))
+field_of_owner owners.Released w is = absurd (true≢false (sym is))
+field_of_owner owners.Lost w is = absurd (true≢false (sym is))
+field_of_owner owners.Unowned w is = absurd (true≢false (sym is))
+
+pub object_of_number : (v : Value) (w : ℕ) → number_of v ≡ Some w → v ≡ values.Object w
+object_of_number (values.Object k) w is = let same : k ≡ w = cc in ap values.Object same
+object_of_number values.Nothing w is = absurd (let never : None ≡ Some w = is in cc)
+object_of_number v w is = absurd (let never : None ≡ Some w = is in cc)
+
+-- an exception ends the frame by a throw
+pub throws_by : (p : Program) (h : HeapContents) (l : Locals) (q : Completion) (c : ClassId) → exception_class p h (thrown_in l q) ≡ Some c → is_throw q ≡ true
+throws_by p h l (completions.Throw d t pos) c is = refl
+throws_by p h l (completions.Return pos) c is = absurd (let never : None ≡ Some c = is in cc)
+throws_by p h l (completions.ReturnValue d pos) c is = absurd (let never : None ≡ Some c = is in cc)
+throws_by p h l (completions.Break pos) c is = absurd (let never : None ≡ Some c = is in cc)
+throws_by p h l (completions.Continue pos) c is = absurd (let never : None ≡ Some c = is in cc)
+
+module _ (p : Program) (ac : Accept p) (forms : HasPlainForms p) (h : HeapContents) (fr : Frame) (frs : List Frame) (st : Stands p fr) (rest : AllStand p frs) (called : IsCalledFrom p h fr frs)
+    (contents : HaveContents p (fr ∷ frs) h) (covered : IsCovered p h fr) (unmade : AreUnfinished p h (fr ∷ frs)) where
+  -- a constructor that runs has no aliased argument
+  no_alias : constructs (method_at p fr.method) ≡ true → alias_in (method_at p fr.method) ≡ None
+  no_alias new = go frs rest called
+    where
+      go : (frs : List Frame) → AllStand p frs → IsCalledFrom p h fr frs → alias_in (method_at p fr.method) ≡ None
+      go [] rest' called' = absurd (true≢false (sym new ∙ called'.1))
+      go (caller ∷ more) rest' called' = constructor_no_alias p ac forms h fr caller st rest'.0 called'.0 new
+
+  body_no_alias : constructs (method_at p fr.method) ≡ true → alias_position p st.number ≡ None
+  body_no_alias new = ap alias_in (body_method p ac forms fr st) ∙ no_alias new
+
+  same_alias : (m : Option Method) → calls.alias_position m ≡ alias_in m
+  same_alias None = refl
+  same_alias (Some m) = refl
+
+  not_bound : (v : Value) → constructs (method_at p fr.method) ≡ true → is_bound h (method_at p fr.method) fr.locals v ≡ false
+  not_bound v new =
+      ap (λ (b : Bool). (constructs (method_at p fr.method) && b) && same_root (root_of h v) (root_of_number h (alias_target (parameter fr.locals) (method_at p fr.method))))
+      (ap is_some (same_alias (method_at p fr.method) ∙ no_alias new))
+      ∙ ap (λ (b : Bool). b && same_root (root_of h v) (root_of_number h (alias_target (parameter fr.locals) (method_at p fr.method)))) (no_and (constructs (method_at p fr.method)))
+
+  -- what a field of `this` owns and is unmet has an obligation, and so has the field's type
+  heavy_content : (o : ℕ) (x : Object) (w : ℕ) (f : FieldId) → object_at h o ≡ Some x → is_unmet x ≡ true → x.owner ≡ owners.Field w f → fr.locals.this ≡ values.Object w → HoldsHeavy p h fr w f o x
+  heavy_content o x w f at unmet owner this =
+      let c = contents o x w f at unmet owner in
+      record {
+        this = this;
+        owning = ap is_owning_field c.declared ∙ c.owning;
+        heavy = ap (λ (t : Option Field). not (is_empty (must_of_optional p (type_of_field t)))) c.declared ∙ ap not (not_true (is_empty (must_of_type p c.field.vtype)) (λ light.
+            nothing_to_call x unmet (within_trans x.must (must_of_type p c.field.vtype) no_names (within_trans x.must (must_of p x.class) (must_of_type p c.field.vtype) c.own c.bounded) light)));
+        held = c.held;
+        at = at;
+        class = heavy_by_unmet p x.class x unmet c.own;
+        owes = ap not (not_true (x.finished && is_empty x.must) (λ both. nothing_to_call x unmet (and_parts x.finished (is_empty x.must) both).1));
+      }
+
+  module _ (i : ℕ) (s : Step) (here : slice_get (frame_steps p fr) i ≡ Some s) (f : FieldId) (d : ℕ) (is : s.action ≡ actions.PutOwn f d) where
+    abbrev v : Value
+    v = temp_value fr.locals d
+
+    form : (constructs (method_of p st.number) ≡ true) × (has_field_place p st.number f ≡ true)
+    form = forms.stores st.number i (move_of s) f d st.control (step_there p fr st i s here) is
+
+    new : constructs (method_at p fr.method) ≡ true
+    new = sym (ap constructs (body_method p ac forms fr st)) ∙ form.0
+
+    by_field : (x : Option Field) → field_at p f ≡ x → is_field_in p st.number x ≡ true → StoresWell p h fr f v
+    by_field None at place = absurd (true≢false (sym place))
+    by_field (Some x) at place = well (new_of_owner p ac forms h fr frs st rest called new f x at parts.0 class)
+      where
+        parts : (x.owning ≡ true) × (is_class_of x.class (method_of p st.number) ≡ true)
+        parts = and_parts x.owning (is_class_of x.class (method_of p st.number)) place
+
+        class : is_class_of x.class (method_at p fr.method) ≡ true
+        class = sym (ap (is_class_of x.class) (body_method p ac forms fr st)) ∙ parts.1
+
+        well : IsMade p h fr.method fr.locals.this → StoresWell p h fr f v
+        well made =
+            let object = object_there h made.0 (unfinished x.class) made.4 made.2 in
+            let none : object.0.finished ≡ false = unmade.0 made.0 object.0 (f, x, at, parts.0, class) new made.1 object.1 in
+            record {
+              holder = made.0;
+              this = made.1;
+              object = object.0;
+              there = object.1;
+              unfinished = none;
+              owning = ap is_owning_field at ∙ parts.0;
+              free = not_bound v new;
+              still = unfinished_stays p h made.0 f v false (field_of p h (values.Object made.0) f) (ap finished_in object.1 ∙ none);
+              met = λ n y there gone. not_true (is_unmet y) (λ unmet. true≢false (sym unmet ∙
+                  overwritten_is_met p ac forms h fr st (body_no_alias new) covered i d s f made.0 n y here is (heavy_content n y made.0 f there unmet gone.owner made.1) gone.other));
+            }
+
+    stores_well : StoresWell p h fr f v
+    stores_well = by_field (field_at p f) refl form.1
+
+  throws_well : (i : ℕ) (s : Step) (q : Completion) (c : ClassId) (n w : ℕ) (x : Object) → slice_get (frame_steps p fr) i ≡ Some s → s.action ≡ actions.End q
+      → exception_class p h (thrown_in fr.locals q) ≡ Some c → constructs (method_at p fr.method) ≡ true → number_of fr.locals.this ≡ Some w
+      → object_at h n ≡ Some x → is_unmet x ≡ true → is_held_by x.owner w ≡ true → ⊥
+  throws_well i s q c n w x here is thrown new number at unmet held =
+      let owner = field_of_owner x.owner w held in
+      let this = object_of_number fr.locals.this w number in
+      let k = contents n x w owner.0 at unmet owner.1 in
+      let class = class_of_maker p ac forms h fr frs st rest called new w k.holder owner.0 k.field this k.at k.declared k.owning k.class in
+      let place : has_field_place p st.number owner.0 ≡ true =
+      ap (is_field_in p st.number) k.declared ∙ ap (λ (b : Bool). b && is_class_of k.field.class (method_of p st.number)) k.owning ∙ ap (is_class_of k.field.class) (body_method p ac forms fr st) ∙ class in
+      true≢false (sym unmet ∙ contents_are_met_at_throw p ac h fr st covered i s q owner.0 w n x here is (body_no_alias new) (throws_by p h fr.locals q c thrown) new place
+      (heavy_content n x w owner.0 at unmet owner.1 this))
+
+  pub supported : Supports p h fr
+  supported = record {
+    bounded = λ o x w f at unmet owner. (contents o x w f at unmet owner).own;
+    stores = λ i s f d here is. stores_well i s here f d is;
+    throws = throws_well;
+  }

@@ -1,0 +1,2 @@
+pub mod SpreadCallLaws
+pub mod SpreadLists

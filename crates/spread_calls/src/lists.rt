@@ -1,0 +1,65 @@
+//! The lists of the frames' objects after a call whose notes go on to other objects.
+
+ghost use Rattle.std.specs.Prelude.{◌≡◌, Some, true, IfOk};
+ghost use Rattle.frame_owners.specs.FrameOwners.{HasAll, Listed, is_listed, lists_in};
+ghost use Rattle.ledger_state.specs.declared.object.Object.{Object};
+ghost use Rattle.spread_calls.specs.SpreadCalls.{AllListed, left_by_each};
+
+use crate::change::SpreadChange;
+use frame_owners::add_owned;
+use ledger_obligations::owner_of;
+use ledger_state::{Heap, Object};
+use plain_calls::Numbered;
+use rlc_base::NoMemory;
+
+// Puts the object into the list of its owner, unless that was its owner before. Says whether there is such a list.
+fn list_one(lists: &mut Vec<Vec<u64>>, heap: &Heap, found: &Numbered) -> Result<bool, NoMemory>
+    requires { Listed (lists_in lists.old.items) heap.now }
+    ensures all { HasAll (lists_in lists.old.items) (lists_in lists.new.items) }
+    ensures listed { IfOk result (λ b. b ≡ true → is_listed (lists_in lists.new.items) found.now.object.owner found.now.number ≡ true) }
+{
+    if owner_of(heap, found.number) == found.object.owner {
+        return Ok(true);
+    }
+    add_owned(lists, found.object.owner, found.number)
+}
+
+fn list_each(lists: &mut Vec<Vec<u64>>, heap: &Heap, objects: &[Numbered]) -> Result<bool, NoMemory>
+    requires { Listed (lists_in lists.old.items) heap.now }
+    ensures all { HasAll (lists_in lists.old.items) (lists_in lists.new.items) }
+    ensures listed { IfOk result (λ b. b ≡ true → AllListed (lists_in lists.new.items) objects.now) }
+{
+    'each: for found in objects {
+        if !list_one(lists, heap, found)? {
+            return Ok(false);
+        }
+    }
+    Ok(true)
+}
+
+fn list_made(lists: &mut Vec<Vec<u64>>, number: u64, made: Option<Object>) -> Result<bool, NoMemory>
+    ensures all { HasAll (lists_in lists.old.items) (lists_in lists.new.items) }
+    ensures listed { IfOk result (λ b. b ≡ true → (x : Object) → made ≡ Some x → is_listed (lists_in lists.new.items) x.owner number ≡ true) }
+{
+    match made {
+        None => Ok(true),
+        Some(x) => add_owned(lists, x.owner, number),
+    }
+}
+
+/// Puts the objects that such a call changes and makes into the lists of their owners. Says whether the lists are those of the heap then;
+/// they are those of the heap before the call in any case.
+pub fn list_spread(
+    lists: &mut Vec<Vec<u64>>,
+    heap: &Heap,
+    change: &SpreadChange,
+) -> Result<bool, NoMemory>
+    requires { Listed (lists_in lists.old.items) heap.now }
+    ensures kept { Listed (lists_in lists.new.items) heap.now }
+    ensures listed { IfOk result (λ b. b ≡ true → Listed (lists_in lists.new.items) (left_by_each change.now.noted.items change.now.made heap.now)) }
+{
+    if !list_made(lists, heap.next_number(), change.made)? {
+        return Ok(false);
+    }
+    list_each(lists, heap, &change.noted)
+}

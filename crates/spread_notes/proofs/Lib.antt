@@ -1,0 +1,6 @@
+pub mod ThroughLaws
+pub mod NoteTurns
+pub mod PlacedLaws
+pub mod RisingLines
+pub mod ObjectLists
+pub mod SpreadLaws

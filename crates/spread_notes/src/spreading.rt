@@ -1,0 +1,65 @@
+//! All that follows from the notes of a call's end, where that goes through links alone.
+
+ghost use Rattle.std.specs.Prelude.{◌≡◌, [], IfOk, IfSome, true};
+ghost use Rattle.std.specs.List.{flat_map};
+ghost use Rattle.ledger_obligations.specs.Obligations.{follows, joined};
+ghost use Rattle.spread_notes.specs.SpreadNotes.{SpreadsTo};
+
+use crate::follows::{all_follows, join};
+use ledger_obligations::Note;
+use ledger_state::Heap;
+use program_model::Program;
+use rlc_base::NoMemory;
+use std::alloc::Global;
+
+/// Notes, and all that follow from them.
+#[derive(Drop)]
+pub(crate) struct SpreadNotes {
+    pub(crate) notes: Vec<Note>,
+}
+
+// Lets notes join what follows from them, unless a method promises something on the contents of owning fields.
+fn turn(alloc: Global, p: &Program, heap: &Heap, notes: &mut Vec<Note>) -> Result<bool, NoMemory>
+    ensures { IfOk result (λ b. b ≡ true → notes.new.items ≡ joined notes.old.items (flat_map (follows p.now heap.now) notes.old.items)) }
+{
+    match all_follows(alloc, p, heap, notes)? {
+        None => Ok(false),
+        Some(further) => {
+            join(notes, &further.notes)?;
+            Ok(true)
+        }
+    }
+}
+
+// Lets notes join all that follows from them, until a turn adds none. Says whether that is known to be all.
+fn spread(alloc: Global, p: &Program, heap: &Heap, notes: &mut Vec<Note>) -> Result<bool, NoMemory>
+    ensures { IfOk result (λ b. b ≡ true → SpreadsTo p.now heap.now notes.old.items notes.new.items) }
+{
+    'turns: for _turn in 0..heap.objects.len() {
+        let before = notes.len();
+        if !turn(alloc, p, heap, notes)? {
+            return Ok(false);
+        }
+        if notes.len() == before {
+            return Ok(true);
+        }
+    }
+    Ok(false)
+}
+
+/// All notes that follow from these, each once, unless a method promises something on the contents of owning fields.
+pub(crate) fn spread_notes(
+    alloc: Global,
+    p: &Program,
+    heap: &Heap,
+    first: &[Note],
+) -> Result<Option<SpreadNotes>, NoMemory>
+    ensures { IfOk result (λ o. IfSome o (λ s. SpreadsTo p.now heap.now (joined [] first.now) s.notes.items)) }
+{
+    let mut all = Vec::new(alloc);
+    join(&mut all, first)?;
+    if !spread(alloc, p, heap, &mut all)? {
+        return Ok(None);
+    }
+    Ok(Some(SpreadNotes { notes: all }))
+}

@@ -1,0 +1,4 @@
+pub mod Fields
+pub mod Leaks
+pub mod Objects
+pub mod FrameEnds

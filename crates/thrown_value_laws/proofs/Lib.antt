@@ -1,0 +1,7 @@
+pub mod Fronts
+pub mod Statements
+pub mod Kept
+pub mod Ways
+pub mod Values
+pub mod Frames
+pub mod Laws

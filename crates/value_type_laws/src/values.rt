@@ -1,0 +1,76 @@
+//! Which values of a run are no objects. Each law is the contract of a function that does nothing.
+
+ghost use Rattle.std.specs.Prelude.{◌≡◌, ◌+◌, ℕ, None, Some, List, ◌∷◌, slice_get};
+ghost use Rattle.program_model.specs.declared.kinds.ClassId.{ClassId};
+ghost use Rattle.program_model.specs.declared.kinds.FieldId.{FieldId};
+ghost use Rattle.program_model.specs.declared.kinds.MethodId.{MethodId};
+ghost use Rattle.program_model.specs.declared.program.ParamSig.{ParamSig};
+ghost use Rattle.program_model.specs.declared.program.Program.{Program};
+ghost use Rattle.program_model.specs.Lookups.{method_at};
+ghost use Rattle.program_model.specs.Validity.{IsTypedProgram};
+ghost use Rattle.program_conditions.specs.Conditions.{MakesNoString};
+ghost use Rattle.java_control.specs.Calls.{called_method};
+ghost use Rattle.java_control.specs.Control.{Step};
+ghost use Rattle.java_control.specs.declared.action.Action.{Action};
+ghost use Rattle.java_control.specs.declared.action.Action.TheVariants as actions;
+ghost use Rattle.java_control.specs.declared.action.Completion.{Completion};
+ghost use Rattle.accepted_programs.specs.Accept.{Accept};
+ghost use Rattle.stub_conduct.specs.declared.choice.Choice.{Choice};
+ghost use Rattle.stub_conduct.specs.declared.choice.Conduct.{Conduct};
+ghost use Rattle.stub_conduct.specs.declared.choice.Conduct.TheVariants as conducts;
+ghost use Rattle.ledger_state.specs.Contents.{HeapContents};
+ghost use Rattle.ledger_state.specs.Fields.{field_value};
+ghost use Rattle.ledger_state.specs.declared.array.ArrayObject.{ArrayObject};
+ghost use Rattle.ledger_state.specs.declared.locals.Locals.{Locals};
+ghost use Rattle.ledger_operations.specs.Operations.{made_value};
+ghost use Rattle.ledger_calls.specs.Calls.{operand_of, position_of};
+ghost use Rattle.ledger_calls.specs.Conducts.{conduct_value, on_this, positions, settled};
+ghost use Rattle.ledger_calls.specs.Configuration.{Config, Frame};
+ghost use Rattle.ledger_frames.specs.Choosing.{frame_steps};
+ghost use Rattle.ledger_steps.specs.Ends.{result_value, thrown_in};
+ghost use Rattle.operand_type_laws.specs.Operands.{NoObject, field_type, params_of, result_of};
+ghost use Rattle.operand_source_laws.specs.Origins.{MakesNone};
+ghost use Rattle.operation_type_laws.specs.Values.{IsNoObject};
+ghost use Rattle.value_type_laws.specs.Types.{GiveAsNamed, HaveTypes, KeepsTypes, StoredHoldNone};
+
+/// At a call that a frame is about to make, the operand of a parameter of no class type is no object. Parameter `k` is position `k + 1`.
+pub fn argument_is_no_object()
+    ensures { (p : Program) → Accept p → MakesNoString p → (fr : Frame) → KeepsTypes p fr
+        → (i : ℕ) (t : Step) (named : MethodId) (k : ℕ) (x : ParamSig) → slice_get (frame_steps p fr) i ≡ Some t → called_method t.action ≡ Some named
+        → slice_get (params_of (method_at p named)) k ≡ Some x → NoObject (Some x.vtype) → IsNoObject (operand_of fr.locals t.action (k + 1)) }
+{}
+
+/// The value that a frame gives as it ends normally is no object where the result of its method is of no class type.
+pub fn returned_value_is_no_object()
+    ensures { (p : Program) → Accept p → MakesNoString p → (fr : Frame) → KeepsTypes p fr
+        → (i : ℕ) (t : Step) (q : Completion) → slice_get (frame_steps p fr) i ≡ Some t → t.action ≡ actions.End q → thrown_in fr.locals q ≡ None
+        → NoObject (result_of (method_at p fr.method)) → IsNoObject (result_value fr.locals (method_at p fr.method) q) }
+{}
+
+/// A frame's result is of no class type where that of the method is that its caller names.
+pub fn result_is_as_named()
+    ensures { (p : Program) (fr caller : Frame) (frs : List Frame) → GiveAsNamed p fr (caller ∷ frs)
+        → (i : ℕ) (t : Step) (named : MethodId) → slice_get (frame_steps p caller) i ≡ Some t → called_method t.action ≡ Some named
+        → NoObject (result_of (method_at p named)) → NoObject (result_of (method_at p fr.method)) }
+{}
+
+/// A field of no class type holds no object.
+pub fn field_is_no_object()
+    ensures { (p : Program) (h : HeapContents) (w : ℕ) (f : FieldId) → StoredHoldNone p h → NoObject (field_type p f) → IsNoObject (field_value p h w f) }
+{}
+
+/// What a step makes is no object where its type is no class type: what is read from a field of such a type, and in any case literals,
+/// default values, what is read from static fields and arrays, and what operators give.
+pub fn made_value_is_no_object()
+    ensures { (p : Program) → Accept p → MakesNoString p → (c : Config) (fr : Frame) → HaveTypes p c → KeepsTypes p fr
+        → (i : ℕ) (t : Step) (choice : Choice) → slice_get (frame_steps p fr) i ≡ Some t → MakesNone p t.action
+        → IsNoObject (made_value p c.heap c.arrays c.statics choice fr.locals t.action) }
+{}
+
+/// What a call of the library gives that throws nothing is no object where the result is of no class type.
+pub fn library_value_is_no_object()
+    ensures { (p : Program) → IsTypedProgram p
+        → (h : HeapContents) (arrays : List ArrayObject) (m : MethodId) (choice : Choice) (l : Locals) (a : Action) (d : Conduct) (count k : ℕ)
+        → d ≡ on_this a (settled p h arrays m choice (position_of None l a)) → ((e : ClassId) → d ≡ conducts.Throws e → ⊥)
+        → NoObject (result_of (method_at p m)) → IsNoObject (conduct_value count (method_at p m) (positions l a k d) k d) }
+{}
