@@ -8,8 +8,8 @@ use Rattle.program_model.specs.declared.kinds.MethodId.{MethodId}
 use Rattle.program_model.specs.declared.program.Program.{Program}
 use Rattle.program_model.specs.declared.tree.Body.{Body}
 use Rattle.program_model.specs.Lookups.{body_at, method_at}
-use Rattle.must_call_sets.specs.Bodies.{constructs}
-use Rattle.must_call_sets.specs.MustCallSets.{fits, must_of}
+use Rattle.heap_laws.specs.Bodies.{constructs}
+use Rattle.heap_laws.specs.MustCallSets.{fits, must_of}
 use Rattle.java_control.specs.Calls.{called_method}
 use Rattle.java_control.specs.Control.{Step}
 use Rattle.java_control.specs.PlaceNumbers.{IsSmall}
@@ -19,13 +19,14 @@ use Rattle.java_control.specs.declared.fact.Fact.{Fact}
 use Rattle.java_control.specs.declared.fact.Mode.TheVariants as modes
 use Rattle.java_control.specs.declared.fact.Origin.{Origin}
 use Rattle.java_control.specs.declared.place.Place.{Place}
-use Rattle.obligation_facts.specs.Facts.{has, is_nowhere, need}
+use Rattle.place_laws.specs.Facts.{has, is_nowhere, need}
 use Rattle.ownership_rules.specs.MovesAtCalls.{moved_at_call}
 use Rattle.ownership_rules.specs.MovesAtReturns.{result_in}
 use Rattle.ownership_rules.specs.declared.moved.Moved.TheVariants as moves
 use Rattle.flow_rules.specs.Paths.{Comes, Reach, relation_of}
 use Rattle.ledger_state.specs.Contents.{HeapContents}
 use Rattle.ledger_state.specs.Heaps.{next_number, object_at, root_of}
+use Rattle.ledger_state.specs.Values.{number_of}
 use Rattle.ledger_state.specs.declared.entry.Entry.{Entry}
 use Rattle.ledger_state.specs.declared.entry.Owner.{Owner}
 use Rattle.ledger_state.specs.declared.entry.Owner.TheVariants as owners
@@ -33,12 +34,13 @@ use Rattle.ledger_state.specs.declared.locals.Locals.{Locals}
 use Rattle.ledger_state.specs.declared.object.Object.{Object}
 use Rattle.ledger_state.specs.declared.value.Value.{Value}
 use Rattle.ledger_state.specs.declared.value.Value.TheVariants as values
-use Rattle.ledger_obligations.specs.Obligations.{is_unmet}
-use Rattle.ledger_operations.specs.Places.{class_of_method, place_value}
+use Rattle.place_laws.specs.Obligations.{is_unmet}
+use Rattle.place_laws.specs.Places.{class_of_method, place_value}
+use Rattle.ledger_calls.specs.Calls.{alias_target, operand_of}
 use Rattle.ledger_calls.specs.Configuration.{Config, Frame}
-use Rattle.ledger_frames.specs.Choosing.{body_id, frame_steps}
+use Rattle.place_laws.specs.Choosing.{body_id, frame_steps}
 use Rattle.ledger_state.specs.Leaks.{is_leak}
-use Rattle.heap_laws.specs.Heaps.{HasLibraryLinks}
+use Rattle.heap_laws.specs.Heaps.{HasEarlierLinks}
 use Rattle.place_laws.specs.Places.{HasPlacesAlone, is_local}
 use Rattle.agreement.specs.Chains.{HaveEnds}
 use Rattle.agreement.specs.PlainForms.{MayRun}
@@ -112,6 +114,11 @@ abbrev pub IsMadeBy : Program → HeapContents → Action → Value → Type 0
 IsMadeBy p h (actions.New m d n) v = IsMade p h m v
 IsMadeBy p h a v = Unit {0}
 
+-- the object that a `new` makes is made after the argument that it is to be an alias of
+abbrev pub IsMadeAfter : Program → Locals → Action → Value → Type 0
+IsMadeAfter p l (actions.New m d n) v = (k w : ℕ) → number_of v ≡ Some k → alias_target (operand_of l (actions.New m d n)) (method_at p m) ≡ Some w → (0 < w) × (w < k)
+IsMadeAfter p l a v = Unit {0}
+
 -- a constructor is the one that the call names
 abbrev pub RunsItself : Action → MethodId → MethodId → Type 0
 RunsItself (actions.New m d n) named runs = runs ≡ named
@@ -135,6 +142,7 @@ pub record WaitsFor (p : Program) (h : HeapContents) (caller fr : Frame) : Type 
   pub kind : constructs (method_at p fr.method) ≡ constructs (method_at p named)
   pub on_same : RunsOnSame step.action caller.locals.this fr.locals.this
   pub makes : IsMadeBy p h step.action fr.locals.this
+  pub after : IsMadeAfter p caller.locals step.action fr.locals.this
 
 -- each of these frames waits for the one above it, and the last one gives no result and makes no object
 abbrev pub IsCalledFrom : Program → HeapContents → Frame → List Frame → Type 0
@@ -149,7 +157,7 @@ IsStacked p h (fr ∷ frs) = IsCalledFrom p h fr frs
 pub record Agrees (p : Program) (frs : List Frame) (h : HeapContents) (lines : List Entry) : Type 0 where
   pub standing : AllStand p frs
   pub stacked : IsStacked p h frs
-  pub links : HasLibraryLinks h
+  pub links : HasEarlierLinks h
   pub ends : HaveEnds h
   pub tracked : (o : ℕ) (x : Object) (j : ℕ) → object_at h o ≡ Some x → is_unmet x ≡ true → x.owner ≡ owners.Frame j → IsTracked p h frs o x j
   pub answered : (o : ℕ) (x : Object) → object_at h o ≡ Some x → x.link ≡ None → is_unmet x ≡ true → is_answering x.owner ≡ true

@@ -17,7 +17,7 @@ pub data Ends (h : HeapContents) : Owner → Type 0 where
   ends_here : (o : Owner) → IsLast o → Ends h o
   of_field : (w : ℕ) (f : FieldId) (x : Object) → object_at h w ≡ Some x → Ends h x.owner → Ends h (owners.Field w f)
 
--- it does from each object, and an object that is not finished is owned by no field
+-- it does from each object, and nobody owns an object that is not finished
 pub record HaveEnds (h : HeapContents) : Type 0 where
   pub ends : (o : ℕ) (x : Object) → object_at h o ≡ Some x → Ends h x.owner
-  pub unfinished : (o : ℕ) (x : Object) → object_at h o ≡ Some x → x.finished ≡ false → IsLast x.owner
+  pub unfinished : (o : ℕ) (x : Object) → object_at h o ≡ Some x → x.finished ≡ false → x.owner ≡ owners.Unowned

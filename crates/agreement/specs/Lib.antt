@@ -1,3 +1,13 @@
+pub mod Storing
 pub mod PlainForms
 pub mod Chains
 pub mod Agreement
+pub use Rattle.flow_rules.specs.Flow
+pub use Rattle.flow_rules.specs.Paths
+pub use Rattle.place_laws.specs.Places
+pub use Rattle.heap_laws.specs.Leading
+pub use Rattle.ledger_calls.specs.Calls
+pub use Rattle.ledger_calls.specs.Conducts
+pub use Rattle.ledger_calls.specs.Configuration
+pub use Rattle.ownership_rules.specs.Room
+pub use Rattle.ownership_rules.specs.Births

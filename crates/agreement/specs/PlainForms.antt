@@ -1,7 +1,7 @@
--- The forms of steps and calls that the laws on safety speak of: no constructor of the program has a resource alias, no method of the program
--- promises anything on a parameter that is neither owning nor lent, and no call creates obligations anew.
+-- The forms of steps and calls that the laws on safety speak of: no constructor of the program asks for calls on its aliased argument before, no
+-- method of the program promises anything on a parameter that is neither owning nor lent, and no call creates obligations anew.
 use Rattle.std.specs.Prelude.{◌≡◌, ℕ, Bool, true, false, not, ◌&&◌, ◌⊎◌, Option, Some, None, List, [], slice_get, zero, suc}
-use Rattle.std.specs.List.{All, list_any}
+use Rattle.std.specs.List.{All}
 use Rattle.std.specs.FinSet as set
 use Rattle.rlc_base.specs.declared.name_id.NameId.{NameId}
 use Rattle.program_model.specs.declared.kinds.BodyId.{BodyId}
@@ -20,9 +20,10 @@ use Rattle.program_model.specs.Lookups.{field_at, method_at}
 use Rattle.program_model.specs.Overrides.{are_types, is_library}
 use Rattle.program_model.specs.SuperTests.{is_under}
 use Rattle.program_model.specs.Validity.{is_class_type}
-use Rattle.must_call_sets.specs.Bodies.{alias_in, constructs, has_field_place, is_class_of, is_constructor, is_constructor_kind}
-use Rattle.must_call_sets.specs.MustCallSets.{is_empty, must_of, is_heavy_class, must_of_type}
-use Rattle.must_call_sets.specs.OverrideCases.{has_other_owning, has_other_result, has_wider_result}
+use Rattle.heap_laws.specs.Bodies.{alias_in, constructs, has_field_place, is_class_of, is_constructor, is_constructor_kind}
+use Rattle.heap_laws.specs.MustCallSets.{Names, is_empty, must_of, is_heavy_class, must_of_type}
+use Rattle.heap_laws.specs.OverrideCases.{has_other_owning, has_other_result, has_wider_result}
+use Rattle.heap_laws.specs.Signatures.{is_at, promised_names}
 use Rattle.java_control.specs.Calls.{called_method}
 use Rattle.java_control.specs.Owned.{is_owning}
 use Rattle.java_control.specs.Remaining.{Todo}
@@ -32,8 +33,9 @@ use Rattle.java_control.specs.declared.action.PlainValue.{PlainValue}
 use Rattle.java_control.specs.declared.action.PlainValue.TheVariants as plain
 use Rattle.flow_rules.specs.Paths.{Comes, Move, relation_of}
 use Rattle.ledger_calls.specs.Calls.{overriding_in}
-use Rattle.ledger_obligations.specs.Obligations.{is_library_method}
+use Rattle.place_laws.specs.Obligations.{is_library_method}
 use Rattle.place_laws.specs.Places.{SetsLocals}
+use Rattle.agreement.specs.Storing.{HasStored}
 
 -- ---- calls
 
@@ -58,12 +60,17 @@ pub record PromisesPlainly (p : Program) (m : Method) : Type 0 where
   pub returning : All (λ (q : Promise). IsPromisedPlainly p m q.target) m.sig.promises.items
   pub throwing : All (λ (q : Promise). IsPromisedPlainly p m q.target) m.sig.on_throw.items
 
--- an aliased argument is one of the library's, or of a method of the program, which returns it
-abbrev pub AliasesPlainly : Program → Method → Type 0
-AliasesPlainly p m = (m.sig.alias ≡ None) ⊎ ((is_library p m.class ≡ true) ⊎ (is_constructor_kind m.kind ≡ false))
+-- the aliased argument is that of a parameter which asks for no calls on it before
+abbrev pub TakesAliasFreely : Method → Type 0
+TakesAliasFreely m = (k : ℕ) × (x : ParamSig) × (m.sig.alias ≡ Some (suc k)) × (slice_get m.sig.params.items k ≡ Some x) × (is_empty x.before ≡ true)
 
--- no constructor of the program has an aliased argument, each method of the program promises plainly, and the signature creates no obligation
--- anew
+-- an aliased argument is one of the library's, or of a method of the program, which returns it, or of a constructor of the program, which takes it
+-- freely
+abbrev pub AliasesPlainly : Program → Method → Type 0
+AliasesPlainly p m = (m.sig.alias ≡ None) ⊎ ((is_library p m.class ≡ true) ⊎ ((is_constructor_kind m.kind ≡ false) ⊎ TakesAliasFreely m))
+
+-- each constructor of the program takes its aliased argument freely, each method of the program promises plainly, and the signature creates no
+-- obligation anew
 abbrev pub IsPlainSignature : Program → Option Method → Type 0
 IsPlainSignature p None = Unit {0}
 IsPlainSignature p (Some m) = AliasesPlainly p m × (m.sig.reset ≡ None) × (is_library p m.class ≡ false → PromisesPlainly p m)
@@ -78,16 +85,12 @@ pub data MayRun (p : Program) (m : MethodId) : MethodId → Type 0 where
   by_name : MayRun p m m
   by_class : (c : ClassId) → MayRun p m (run_by p m c)
 
--- an owning parameter that asks for calls on its argument before
-abbrev pub asks_on_owned : ParamSig → Bool
-asks_on_owned x = x.owning && not (is_empty x.before)
-
--- What callers are told of ownership by the signature that a call names holds of the method of the program that runs, and a result of
--- no class type is of the named type (JLS 8.4.5). (The rules on overriding ask this of each method for those that it overrides.)
+-- What callers are told of ownership by the signature that a call names holds of the method of the program that runs, it asks for no more calls on its
+-- arguments before, and a result of no class type is of the named type (JLS 8.4.5). (The rules on overriding ask this of each method for those that it overrides.)
 pub record RunsFor (p : Program) (named runs : Method) : Type 0 where
   pub types : are_types runs.sig.params.items named.sig.params.items ≡ true
   pub owning : has_other_owning runs.sig.params.items named.sig.params.items ≡ false
-  pub asks : list_any asks_on_owned runs.sig.params.items ≡ false
+  pub asks : (k : ℕ) (x y : ParamSig) → slice_get runs.sig.params.items k ≡ Some x → slice_get named.sig.params.items k ≡ Some y → set.is_subset x.before y.before ≡ true
   pub result : has_other_result runs.sig named.sig ≡ false
   pub wider : has_wider_result p runs.sig named.sig ≡ false
   pub kind : (t : VType) → named.sig.result ≡ Some t → is_class_type t ≡ false → runs.sig.result ≡ Some t
@@ -95,20 +98,26 @@ pub record RunsFor (p : Program) (named runs : Method) : Type 0 where
   pub first : named.sig.first ≡ None
   pub alias : runs.sig.alias ≡ named.sig.alias
 
--- the method promises nothing, however it ends
-pub record PromisesNothing (m : Method) : Type 0 where
-  pub returning : m.sig.promises.items ≡ []
-  pub throwing : m.sig.on_throw.items ≡ []
+-- The method promises the names of the position, among these promises of it, and promises plainly there. (A promise of the named method on an
+-- owning field is none that another method keeps.)
+abbrev pub IsKeptBy : Program → Method → List Promise → Target → Names → Type 0
+IsKeptBy p x promises (promised.At k) names = (set.is_subset names (promised_names (λ t. is_at t k) promises) ≡ true) × IsPromisedPlainly p x (promised.At k)
+IsKeptBy p x promises (promised.OfField f) names = ⊥
+
+-- what the named method promises, the method that runs promises as well, however they end
+pub record KeepsPromises (p : Program) (named runs : Method) : Type 0 where
+  pub returning : All (λ (q : Promise). IsKeptBy p runs runs.sig.promises.items q.target q.names) named.sig.promises.items
+  pub throwing : All (λ (q : Promise). IsKeptBy p runs runs.sig.on_throw.items q.target q.names) named.sig.on_throw.items
 
 -- A call that names this method has a plain signature. A method of the library runs only where the named one is the library's, and has its
--- aliased argument; a method of the program is as the named signature says; and where one runs for a method that promises something, it is
--- that method itself.
+-- aliased argument; a method of the program is as the named signature says, and it promises what the named one does, or it is that method
+-- itself.
 pub record IsPlainCall (p : Program) (m : MethodId) : Type 0 where
   pub signature : IsPlainSignature p (method_at p m)
   pub library : (r : MethodId) → MayRun p m r → is_library_method p (method_at p r) ≡ true → is_library_method p (method_at p m) ≡ true
   pub aliased : (r : MethodId) (n x : Method) → MayRun p m r → method_at p m ≡ Some n → method_at p r ≡ Some x → is_library p x.class ≡ true → x.sig.alias ≡ n.sig.alias
   pub program : (r : MethodId) (n x : Method) → MayRun p m r → method_at p m ≡ Some n → method_at p r ≡ Some x → is_library p x.class ≡ false → RunsFor p n x
-  pub keeps : (r : MethodId) (n x : Method) → MayRun p m r → method_at p m ≡ Some n → method_at p r ≡ Some x → is_library p x.class ≡ false → PromisesNothing n ⊎ (r ≡ m)
+  pub keeps : (r : MethodId) (n x : Method) → MayRun p m r → method_at p m ≡ Some n → method_at p r ≡ Some x → is_library p x.class ≡ false → KeepsPromises p n x ⊎ (r ≡ m)
 
 -- ---- actions
 
@@ -140,13 +149,13 @@ RunsOwnMethods p = (named m : MethodId) (n d : Method) (f : FieldId) (x : Field)
     → set.contains (must_of p d.class) i.0 ≡ true → is_under p d.class n.class ≡ true → run_by p named d.class ≡ m
 
 -- Each step that a control of a body can reach has one of the plain forms; owning fields are stored in constructors of the class that
--- declares them, which call no super constructor; no class with owning fields is the one whose constructor is called so; and objects with
--- owning fields run their own must-call methods.
+-- declares them, and no super constructor is called behind such a store; no class with owning fields is the one whose constructor is called so; and
+-- objects with owning fields run their own must-call methods.
 pub record HasPlainForms (p : Program) : Type 0 where
   pub steps : (b : BodyId) {k : List Todo} (i : ℕ) (t : Move (List Todo)) → Comes (relation_of p b) k
       → slice_get ((relation_of p b).next k) i ≡ Some t → IsPlainAction p t.action
-  pub supers : (b : BodyId) {k : List Todo} (i : ℕ) (t : Move (List Todo)) (f : FieldId) → Comes (relation_of p b) k
-      → slice_get ((relation_of p b).next k) i ≡ Some t → calls_constructor p t.action ≡ true → has_field_place p b f ≡ false
+  pub supers : (b : BodyId) {k : List Todo} (i : ℕ) (t : Move (List Todo)) → HasStored p b k
+      → slice_get ((relation_of p b).next k) i ≡ Some t → calls_constructor p t.action ≡ false
   pub super_calls : (b : BodyId) {k : List Todo} (i : ℕ) (t : Move (List Todo)) → Comes (relation_of p b) k
       → slice_get ((relation_of p b).next k) i ≡ Some t → calls_constructor p t.action ≡ true → is_constructor p b ≡ true
   pub stores : (b : BodyId) {k : List Todo} (i : ℕ) (t : Move (List Todo)) (f : FieldId) (d : ℕ) → Comes (relation_of p b) k

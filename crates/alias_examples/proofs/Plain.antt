@@ -22,8 +22,9 @@ use Rattle.owner_examples.specs.Paths.{Comes, Move, relation_of}
 use Rattle.owner_examples.specs.PlainForms.{IsPlainAction, MayRun, calls_constructor}
 use Rattle.owner_examples.specs.Owners.{HasConcreteOwners}
 use Rattle.owner_examples.specs.Running.{HasPlainRuns, IsAlike, is_on_object}
+use Rattle.filled_field_laws.proofs.Storing.{no_supers}
 use Rattle.owner_examples.specs.Plain.{IsPlain}
-use Rattle.exception_value_laws.proofs.Plain.{methods_give_no_exceptions}
+use Rattle.owner_examples.proofs.Plain.{methods_give_no_exceptions}
 use Rattle.alias_examples.specs.Controls.{main_controls, pass_controls}
 use Rattle.alias_examples.specs.Programs.{aliasing, main_body, running, pass_body, passing}
 use Rattle.owner_examples.proofs.Tests.{all_of, holds_at}
@@ -124,7 +125,7 @@ pub aliasing_plain : IsPlain aliasing
 aliasing_plain = record {
   steps = λ b {k} i t comes at. (fine_step b k i t comes at).0;
   stores = λ b {k} i t f d comes at is. absurd (true≢false (sym (mild_step b k i t comes at) ∙ ap is_mild is));
-  supers = λ b {k} i t f comes at calls. absurd (no_super t.action (mild_step b k i t comes at) calls);
+  supers = no_supers aliasing (λ b k i t comes at calls. no_super t.action (mild_step b k i t comes at) calls);
   owners = owners;
   runs = runs;
   texts = texts;

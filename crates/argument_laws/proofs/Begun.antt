@@ -6,7 +6,7 @@ use Rattle.program_model.specs.declared.kinds.MethodId.{MethodId}
 use Rattle.program_model.specs.declared.program.Method.{Method}
 use Rattle.program_model.specs.declared.program.Program.{Program}
 use Rattle.program_model.specs.Lookups.{method_at}
-use Rattle.must_call_sets.specs.Assigned.{is_spoken_of, is_spoken_variable}
+use Rattle.owned_fact_laws.specs.Assigned.{is_spoken_of, is_spoken_variable}
 use Rattle.java_control.specs.Control.{Step}
 use Rattle.java_control.specs.declared.action.Action.{Action}
 use Rattle.java_control.specs.declared.action.Action.TheVariants as actions
@@ -17,8 +17,8 @@ use Rattle.ledger_state.specs.declared.array.ArrayObject.{ArrayObject}
 use Rattle.ledger_state.specs.declared.locals.Locals.{Locals}
 use Rattle.ledger_state.specs.declared.value.Value.{Value}
 use Rattle.ledger_state.specs.declared.value.Value.TheVariants as values
-use Rattle.ledger_calls.specs.Calls.{argument_values, begun, operand_of, params_in}
-use Rattle.ledger_calls.specs.Configuration.{Frame}
+use Rattle.agreement.specs.Calls.{argument_values, begun, operand_of, params_in}
+use Rattle.agreement.specs.Configuration.{Frame}
 use Rattle.ledger_frames.specs.Choosing.{frame_steps}
 use Rattle.ledger_steps.specs.CallSteps.{self_begun}
 use Rattle.agreement.specs.Agreement.{Stands}

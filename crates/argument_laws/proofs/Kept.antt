@@ -8,19 +8,19 @@ use Rattle.program_model.specs.declared.program.Method.{Method}
 use Rattle.program_model.specs.declared.program.Program.{Program}
 use Rattle.program_model.specs.declared.tree.Body.{Body}
 use Rattle.program_model.specs.Lookups.{method_at}
-use Rattle.must_call_sets.specs.Assigned.{is_spoken_variable}
+use Rattle.owned_fact_laws.specs.Assigned.{is_spoken_variable}
 use Rattle.java_control.specs.Control.{Step}
 use Rattle.java_control.specs.declared.place.Place.{Place}
 use Rattle.java_control.specs.declared.place.Place.TheVariants as places
-use Rattle.ownership_rules.specs.Room.{variables_in}
-use Rattle.flow_rules.specs.Paths.{move_of}
+use Rattle.agreement.specs.Room.{variables_in}
+use Rattle.agreement.specs.Paths.{move_of}
 use Rattle.accepted_programs.specs.Accept.{Accept}
 use Rattle.ledger_state.specs.Contents.{HeapContents}
 use Rattle.ledger_state.specs.Locals.{variable_value}
 use Rattle.ledger_state.specs.Values.{value_or_nothing}
 use Rattle.ledger_state.specs.declared.value.Value.{Value}
 use Rattle.ledger_state.specs.declared.value.Value.TheVariants as values
-use Rattle.ledger_calls.specs.Configuration.{Frame}
+use Rattle.agreement.specs.Configuration.{Frame}
 use Rattle.ledger_frames.specs.Choosing.{body_by, frame_steps, method_body}
 use Rattle.ledger_frames.specs.Frames.{frame_after, source_by, sourced, value_after}
 use Rattle.agreement.specs.Agreement.{Stands}

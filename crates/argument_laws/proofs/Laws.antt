@@ -9,19 +9,19 @@ use Rattle.accepted_programs.specs.Accept.{Accept}
 use Rattle.stub_conduct.specs.declared.choice.Choices.{Choices}
 use Rattle.ledger_state.specs.Heaps.{next_number}
 use Rattle.ledger_operations.specs.Operations.{made_value, next_choice}
-use Rattle.ledger_calls.specs.Conducts.{arguments_shared, conduct_value, positions}
-use Rattle.ledger_calls.specs.Configuration.{Config, Frame}
+use Rattle.agreement.specs.Conducts.{arguments_shared, conduct_value, positions}
+use Rattle.agreement.specs.Configuration.{Config, Frame}
 use Rattle.ledger_frames.specs.Choosing.{frame_steps}
 use Rattle.ledger_steps.specs.Ends.{answered, exception_class, result_value, thrown_in}
 use Rattle.ledger_steps.specs.InnerSteps.{thrown_value}
-use Rattle.ledger_moves.specs.Moves.{Move, Inner, Start, Library, End, Stray, Rest, Return, Back, StrayBack, NoWay, return_move}
+use Rattle.next_step_laws.specs.Moves.{Move, Inner, Start, Library, End, Stray, Rest, Return, Back, StrayBack, NoWay, return_move}
 use Rattle.ledger_runs.specs.Outcomes.{went, ended, stray}
 use Rattle.ledger_runs.specs.Starts.{start_config}
 use Rattle.ledger_runs.specs.Steps.{began, end, library_went, main_ended, moved, moved_by, returned, returned_by, step, top_move, within}
 use Rattle.agreement.specs.Agreement.{AllStand, Stands}
 use Rattle.agreement.specs.PlainForms.{HasPlainForms}
-use Rattle.target_laws.specs.Frames.{HaveTargets}
-use Rattle.target_laws.proofs.Moved.{IsBack, back_is}
+use Rattle.next_step_laws.specs.Frames.{HaveTargets}
+use Rattle.next_step_laws.proofs.Moved.{IsBack, back_is}
 use Rattle.next_step_laws.specs.Nexts.{IsNext}
 use Rattle.next_step_laws.proofs.Cases.{next_is}
 use Rattle.argument_laws.specs.Arguments.{AreGiven, HaveArguments}

@@ -1,3 +1,12 @@
 pub mod Kept
 pub mod Begun
 pub mod Laws
+pub use Rattle.next_step_laws.proofs.Births
+pub use Rattle.next_step_laws.proofs.Cases
+pub use Rattle.next_step_laws.proofs.NameCounts
+pub use Rattle.next_step_laws.proofs.Ready
+pub use Rattle.next_step_laws.proofs.Returns
+pub use Rattle.next_step_laws.proofs.SignedPromises
+pub use Rattle.next_step_laws.proofs.Stacks
+pub use Rattle.next_step_laws.proofs.Unmet
+pub use Rattle.call_step_laws.proofs.Ways

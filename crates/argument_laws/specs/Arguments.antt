@@ -3,14 +3,14 @@ use Rattle.std.specs.Prelude.{◌≡◌, ℕ, suc, Bool, true, false, Some, List
 use Rattle.program_model.specs.declared.program.Method.{Method}
 use Rattle.program_model.specs.declared.program.Program.{Program}
 use Rattle.program_model.specs.Lookups.{method_at}
-use Rattle.must_call_sets.specs.Assigned.{is_spoken_variable}
+use Rattle.owned_fact_laws.specs.Assigned.{is_spoken_variable}
 use Rattle.java_control.specs.Control.{Step}
 use Rattle.java_control.specs.declared.action.Action.{Action}
 use Rattle.java_control.specs.declared.action.Action.TheVariants as actions
 use Rattle.ledger_state.specs.Locals.{variable_value}
 use Rattle.ledger_state.specs.declared.value.Value.TheVariants as values
-use Rattle.ledger_calls.specs.Calls.{operand_of}
-use Rattle.ledger_calls.specs.Configuration.{Frame}
+use Rattle.agreement.specs.Calls.{operand_of}
+use Rattle.agreement.specs.Configuration.{Frame}
 use Rattle.ledger_frames.specs.Choosing.{frame_steps}
 
 -- the object at position 0 is there before the call: a `new` makes it

@@ -5,13 +5,13 @@ ghost use Rattle.program_model.specs.declared.kinds.MethodId.{MethodId};
 ghost use Rattle.program_model.specs.declared.program.Program.{Program};
 ghost use Rattle.accepted_programs.specs.Accept.{Accept};
 ghost use Rattle.stub_conduct.specs.declared.choice.Choices.{Choices};
-ghost use Rattle.ledger_calls.specs.Configuration.{Config};
+ghost use Rattle.agreement.specs.Configuration.{Config};
 ghost use Rattle.ledger_runs.specs.Outcomes.{went};
 ghost use Rattle.ledger_runs.specs.Starts.{start_config};
 ghost use Rattle.ledger_runs.specs.Steps.{step};
 ghost use Rattle.agreement.specs.Agreement.{AllStand};
 ghost use Rattle.agreement.specs.PlainForms.{HasPlainForms};
-ghost use Rattle.target_laws.specs.Frames.{HaveTargets};
+ghost use Rattle.next_step_laws.specs.Frames.{HaveTargets};
 ghost use Rattle.argument_laws.specs.Arguments.{HaveArguments};
 
 /// A run begins with one frame, which no other frame has called.

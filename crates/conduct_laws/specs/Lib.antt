@@ -1,1 +1,13 @@
 pub mod Fitting
+pub use Rattle.must_call_sets.specs.AliasCases
+pub use Rattle.must_call_sets.specs.Bodies
+pub use Rattle.must_call_sets.specs.MustCallSets
+pub use Rattle.must_call_sets.specs.OverrideCases
+pub use Rattle.must_call_sets.specs.Overridings
+pub use Rattle.must_call_sets.specs.Signatures
+pub use Rattle.must_call_sets.specs.WellFormed
+pub use Rattle.ledger_calls.specs.Calls
+pub use Rattle.ledger_calls.specs.Conducts
+pub use Rattle.ledger_calls.specs.Configuration
+pub use Rattle.must_call_sets.specs.Assigned
+pub use Rattle.must_call_sets.specs.OwningCases

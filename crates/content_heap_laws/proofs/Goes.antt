@@ -6,7 +6,7 @@ use Rattle.std.proofs.Common.{◌≡◌, ◌⊎◌, ℕ, zero, suc, Bool, true, 
 use Rattle.std.specs.List.{find}
 use Rattle.std.proofs.lemmas.Bool.Decides.{nat_tests}
 use Rattle.std.proofs.lemmas.List.Elements.{All-head, All-tail}
-use Rattle.rlc_base.proofs.SetLaws.{within_at, within_from, within_self, within_trans}
+use Rattle.rlc_base.proofs.SetLaws.{empty_within, within_at, within_from, within_self, within_trans}
 use Rattle.rlc_base.specs.declared.name_id.NameId.{NameId}
 use Rattle.program_model.specs.NameSets.{Names}
 use Rattle.program_model.specs.Overrides.{is_library}
@@ -18,9 +18,9 @@ use Rattle.program_model.specs.declared.program.Field.{Field}
 use Rattle.program_model.specs.declared.program.Method.{Method}
 use Rattle.program_model.specs.declared.program.Program.{Program}
 use Rattle.program_model.specs.Lookups.{field_at, method_at}
-use Rattle.must_call_sets.specs.Bodies.{constructs}
-use Rattle.must_call_sets.specs.MustCallSets.{is_empty, is_heavy_class, must_of, must_of_type}
-use Rattle.must_call_sets.specs.Signatures.{is_of_field, promised_names}
+use Rattle.owned_fact_laws.specs.Bodies.{constructs}
+use Rattle.owned_fact_laws.specs.MustCallSets.{is_empty, is_heavy_class, must_of, must_of_type}
+use Rattle.owned_fact_laws.specs.Signatures.{is_of_field, promised_names}
 use Rattle.java_control.specs.Owned.{is_owning, is_owning_field}
 use Rattle.ledger_state.specs.Contents.{HeapContents}
 use Rattle.ledger_state.specs.Fields.{default_in, field_value}
@@ -35,19 +35,21 @@ use Rattle.ledger_obligations.specs.declared.note.Note.{Note}
 use Rattle.ledger_obligations.specs.Obligations.{all_notes, is_unmet, lose, lost_object, name_of, noted, noted_object, own_promises}
 use Rattle.java_control.specs.declared.action.Action.{Action}
 use Rattle.ledger_state.specs.declared.locals.Locals.{Locals}
-use Rattle.ledger_calls.specs.Configuration.{Frame}
+use Rattle.agreement.specs.Configuration.{Frame}
 use Rattle.agreement.specs.PlainForms.{run_by}
-use Rattle.heap_laws.specs.Heaps.{Evolves, GoesOn, HasLibraryLinks}
-use Rattle.heap_laws.proofs.Laws.{root_of_changed, roots_go_on-number, roots_of_links-absent, roots_of_links-there}
-use Rattle.heap_laws.proofs.NoteLaws.{noted_goes_on}
-use Rattle.heap_laws.proofs.ObjectLaws.{changed_at, goes_on_further, in_range}
+use Rattle.store_laws.specs.Heaps.{Evolves, GoesOn, HasEarlierLinks}
+use Rattle.store_laws.specs.Leading.{Leads}
+use Rattle.store_laws.proofs.Laws.{root_of_changed, roots_go_on-number, roots_of_links-absent}
+use Rattle.store_laws.proofs.NoteLaws.{noted_goes_on}
+use Rattle.store_laws.proofs.ObjectLaws.{changed_at, goes_on_further, in_range}
 use Rattle.content_heap_laws.proofs.Leaves.{Leaves, StaysBut, leaves_self, lose_leaves, loses}
 use Rattle.content_heap_laws.proofs.Noted.{AreNotesOf, noted_called}
-use Rattle.range_laws.specs.FieldContents.{AreDispatched, AreUnfinished, DeclaresOwning, FieldsFit, FitsField, HaveContents, IsContent, IsDispatched, IsKept, is_made_in, promised_on}
+use Rattle.range_laws.specs.FieldContents.{AreDispatched, AreUnfinished, DeclaresOwning, HaveContents, IsContent, IsDispatched, IsKept, LinksLead, is_made_in, promised_on}
 use Rattle.range_laws.specs.PlaceFacts.{may_owe}
-use Rattle.range_laws.specs.Ranges.{FieldsInRange, IsInRange, IsNumber, LocalsInRange}
-use Rattle.range_laws.proofs.Values.{field_in_range, operand_in_range}
-use Rattle.content_heap_laws.specs.Going.{Goes, IsDone, IsNotedBy, KeepsRoots, PromisesItsOwn}
+use Rattle.range_laws.specs.Ranges.{IsInRange, IsNumber, LocalsInRange}
+use Rattle.range_laws.proofs.Values.{operand_in_range}
+use Rattle.content_heap_laws.proofs.Leading.{goes_hold, leads_forth}
+use Rattle.content_heap_laws.specs.Going.{Goes, IsBorn, IsDone, IsNotedBy, KeepsRoots, PromisesItsOwn}
 
 -- an object that goes on was unmet if it is
 unmet_then : (x y : Object) → GoesOn x y → is_unmet y ≡ true → is_unmet x ≡ true
@@ -76,16 +78,47 @@ there h (suc o) number = go (slice_get h.objects o) refl
     go (Some x) is = (x, is)
     go None is = absurd (none_there h.objects o is (let below = number.1 in omega (arith, below)))
 
+-- what a field holds leads to the object at the end of its links
+pub led_there : (p : Program) (h : HeapContents) → LinksLead p h → (v : Value) (o : ℕ) (x : Object) → root_of h v ≡ Some o → object_at h o ≡ Some x → is_heavy_class p x.class ≡ true → may_owe x ≡ true
+    → (c : ℕ) × (v ≡ values.Object c) × Leads p h c o
+led_there p h led values.Nothing o x is at heavy owes = absurd (let never : None ≡ Some o = is in cc)
+led_there p h led (values.Object c) o x is at heavy owes = go (object_at h c) refl
+  where
+    same : root h c ≡ o
+    same = let both : Some (root h c) ≡ Some o = is in (let one : root h c ≡ o = cc in one)
+
+    go : (z : Option Object) → object_at h c ≡ z → (c' : ℕ) × (values.Object c ≡ values.Object c') × Leads p h c' o
+    go (Some z) there' = (c, refl, led c o z x there' same at heavy owes)
+    go None absent = absurd (let never : None ≡ Some x = sym absent ∙ ap (object_at h) (sym (roots_of_links-absent h c absent) ∙ same) ∙ at in cc)
+led_there p h led v o x is at heavy owes = absurd (let never : None ≡ Some o = is in cc)
+
 -- what may owe a call could before
 pub owed_before : (x y : Object) → GoesOn x y → may_owe y ≡ true → may_owe x ≡ true
 owed_before x y on owes = ap (λ (b : Bool). not (b && is_empty x.must)) (sym on.finished) ∙ ap (λ (s : Names). not (y.finished && is_empty s)) (sym on.must) ∙ owes
 
-pub fits_on : (p : Program) (field : Field) (x y : Object) → GoesOn x y → FitsField p field x → FitsField p field y
-fits_on p field x y on fits = record {
-  finished = on.finished ∙ fits.finished;
-  bounded = ap (λ (c : ClassId). set.is_subset (must_of p c) (must_of_type p field.vtype)) on.class ∙ fits.bounded;
-  own = ap (λ (s : Names). set.is_subset s (must_of p y.class)) on.must ∙ ap (λ (c : ClassId). set.is_subset x.must (must_of p c)) on.class ∙ fits.own;
-}
+-- what is unmet owes a call, and the class has an obligation that bounds what must be called
+pub unmet_owes : (x : Object) → is_unmet x ≡ true → may_owe x ≡ true
+unmet_owes x unmet = go (is_empty x.must) refl
+  where
+    and_false : (b : Bool) → (b && false) ≡ false
+    and_false true = refl
+    and_false false = refl
+
+    go : (b : Bool) → is_empty x.must ≡ b → not (x.finished && b) ≡ true
+    go true none = absurd (true≢false (sym unmet ∙ ap (λ (c : Bool). x.finished && not c) (within_trans x.must set.empty x.called none (empty_within x.called)) ∙ and_false x.finished))
+    go false some = ap not (and_false x.finished)
+
+pub unmet_is_heavy : (p : Program) (x : Object) → is_unmet x ≡ true → set.is_subset x.must (must_of p x.class) ≡ true → is_heavy_class p x.class ≡ true
+unmet_is_heavy p x unmet own = go (is_empty (must_of p x.class)) refl
+  where
+    and_false : (b : Bool) → (b && false) ≡ false
+    and_false true = refl
+    and_false false = refl
+
+    go : (b : Bool) → is_empty (must_of p x.class) ≡ b → is_heavy_class p x.class ≡ true
+    go true none = absurd (true≢false (sym unmet
+        ∙ ap (λ (c : Bool). x.finished && not c) (within_trans x.must set.empty x.called (within_trans x.must (must_of p x.class) set.empty own none) (empty_within x.called)) ∙ and_false x.finished))
+    go false some = ap not some
 
 -- ---- roots
 
@@ -101,22 +134,15 @@ root_stays h k keeps (values.Object n) o x is at = go (object_at h n) refl
         absurd (let never : None ≡ Some x = sym absent ∙ ap (object_at h) same ∙ at in cc)
 root_stays h k keeps v o x is at = absurd (let never : None ≡ Some o = is in cc)
 
--- and so does that of a value which is an object that was there
-pub root_stood : (h k : HeapContents) → KeepsRoots h k → HasLibraryLinks h → (v : Value) (o : ℕ) → IsInRange h v → root_of k v ≡ Some o → (root_of h v ≡ Some o) × ((x : Object) × (object_at h o ≡ Some x))
-root_stood h k keeps links values.Nothing o in' is = absurd (let never : None ≡ Some o = is in cc)
-root_stood h k keeps links (values.Object n) o in' is =
-    let x = there h n (in' n refl) in
-    let same : root h n ≡ o = sym (keeps n x.0 x.1) ∙ (let both : Some (root k n) ≡ Some o = is in (let one : root k n ≡ o = cc in one)) in
-    let end = roots_of_links-there h n x.0 links x.1 in
-    (ap Some same, (end.0, ap (object_at h) (sym same) ∙ end.1))
-root_stood h k keeps links v o in' is = absurd (let never : None ≡ Some o = is in cc)
-
 -- links are kept, and so are roots
-pub roots_by_links : (h k : HeapContents) → HasLibraryLinks h → Evolves h k → KeepsRoots h k
+pub roots_by_links : (h k : HeapContents) → HasEarlierLinks h → Evolves h k → KeepsRoots h k
 roots_by_links h k links forth n x at = roots_go_on-number h k n x links (λ m z there'. (let y = forth m z there' in (y.0, y.1, y.2.link))) at
 
 pub changed_roots : (change : ℕ → Object → Object) (h : HeapContents) → ((n : ℕ) (x : Object) → (change n x).link ≡ x.link) → KeepsRoots h (change_each change h)
 changed_roots change h same n x at = root_of_changed change h n same
+
+pub goes_forth : (p : Program) (h k : HeapContents) (noted : ℕ → ℕ → Type 0) → Goes p h k noted → Evolves h k
+goes_forth p h k noted goes n x at = let y = goes.forth n x at in (y.0, y.1, y.2)
 
 -- ---- one content
 
@@ -125,6 +151,7 @@ module _ (p : Program) (own : PromisesItsOwn p) (h k : HeapContents) (noted : �
     (before : object_at h o ≡ Some x) (now : object_at k o ≡ Some y) (on : GoesOn x y)
     (next : (z : Object) × (object_at k w ≡ Some z) × GoesOn content.holder z × ((i : ℕ) → set.contains z.called i ≡ true → (set.contains content.holder.called i ≡ true) ⊎ (noted w i ⊎ IsDone p h k w i)))
     (held : root_of k (field_value p k w f) ≡ Some o)
+    (leads : (c : ℕ) × (field_value p h w f ≡ values.Object c) × Leads p h c o)
     (keeps : (m : MethodId) (d : Method) (n : NameId) → content.holder.finished ≡ true → method_at p m ≡ Some d → d.class ≡ content.holder.class → d.sig.interest ≡ Some n
     → set.contains (must_of p content.holder.class) n.0 ≡ true → noted w n.0 → set.is_subset (promised_on f d) y.called ≡ true)
     (made : content.holder.finished ≡ false → is_made_in p w content.field.class frs ≡ true → is_made_in p w content.field.class gs ≡ true) where
@@ -136,7 +163,7 @@ module _ (p : Program) (own : PromisesItsOwn p) (h k : HeapContents) (noted : �
       → IsDone p h k w n.0 → set.is_subset (promised_on f d) y.called ≡ true
   by_own m d n at same interest must all = within_from (promised_on f d) y.called (λ i promised.
       (let mine = own m d n f i at interest (ap (λ (c : ClassId). set.contains (must_of p c) n.0) same ∙ must) (ap (is_library p) (same ∙ content.class) ∙ content.program) promised in
-      all content.holder x y f o i content.at (owning_by p f content.field content.declared content.owning) content.held before now
+      all content.holder x y f leads.0 o i content.at (owning_by p f content.field content.declared content.owning) leads.1 leads.2 before now
       (subst (λ (c : ClassId). set.contains (promised_names (λ t. is_of_field t f) (own_promises p c n)) i ≡ true) same mine.0) mine.1))
 
   kept : next.0.finished ≡ true → IsKept p next.0 f y
@@ -173,35 +200,23 @@ module _ (p : Program) (h k : HeapContents) (noted : ℕ → ℕ → Type 0) (go
   -- ---- contents
 
   -- each content goes on, where each noted name of a holder is kept
-  pub contents_go_on : PromisesItsOwn p → (frs gs : List Frame) → HaveContents p frs h
+  pub contents_go_on : PromisesItsOwn p → LinksLead p h → (frs gs : List Frame) → HaveContents p frs h
       → ((o : ℕ) (x y : Object) (w : ℕ) (f : FieldId) → object_at h o ≡ Some x → object_at k o ≡ Some y → is_unmet y ≡ true → GoesOn x y → (content : IsContent p frs h o x w f)
       → (m : MethodId) (d : Method) (n : NameId) → content.holder.finished ≡ true → method_at p m ≡ Some d → d.class ≡ content.holder.class → d.sig.interest ≡ Some n
       → set.contains (must_of p content.holder.class) n.0 ≡ true → noted w n.0 → set.is_subset (promised_on f d) y.called ≡ true)
       → ((o : ℕ) (x y : Object) (w : ℕ) (f : FieldId) (content : IsContent p frs h o x w f) → object_at k o ≡ Some y → y.owner ≡ owners.Field w f → content.holder.finished ≡ false
       → is_made_in p w content.field.class frs ≡ true → is_made_in p w content.field.class gs ≡ true)
       → HaveContents p gs k
-  contents_go_on own frs gs have keeps made o y w f at unmet owner =
+  contents_go_on own led frs gs have keeps made o y w f at unmet owner =
       let was = goes.back o y w f at owner in
-      let content = have o was.0 w f was.1 (unmet_then was.0 y was.2 unmet) was.3 in
+      let unmet' = unmet_then was.0 y was.2 unmet in
+      let content = have o was.0 w f was.1 unmet' was.3 in
       content_goes_on p own h k noted frs gs o was.0 y w f content was.1 at was.2 (goes.forth w content.holder content.at)
       (ap (root_of k) (goes.fields w f (owning_by p f content.field content.declared content.owning)) ∙ root_stays h k goes.roots (field_value p h w f) o was.0 content.held was.1)
+      (led_there p h led (field_value p h w f) o was.0 content.held was.1 (unmet_is_heavy p was.0 unmet' content.own) (unmet_owes was.0 unmet'))
       (keeps o was.0 y w f was.1 at unmet was.2 content) (made o was.0 y w f content at owner)
 
-  -- ---- what fits a field
-
-  pub fields_fit_on : HasLibraryLinks h → FieldsInRange h → FieldsFit p h → FieldsFit p k
-  fields_fit_on links ranges fit w f field o y declared owning heavy held at class owes =
-      let was = root_stood h k goes.roots links (field_value p h w f) o (field_in_range p h ranges (values.Object w) f) (ap (root_of k) (sym (goes.fields w f (owning_by p f field declared owning))) ∙ held) in
-      let y' = goes.forth o was.1.0 was.1.1 in
-      let same : y'.0 ≡ y = (let both : Some y'.0 ≡ Some y = sym y'.1 ∙ at in cc) in
-      let on = subst (GoesOn was.1.0) same y'.2 in
-      fits_on p field was.1.0 y on
-      (fit w f field o was.1.0 declared owning heavy was.0 was.1.1 (ap (is_heavy_class p) (sym on.class) ∙ class) (owed_before was.1.0 y on owes))
-
 -- ---- frames
-
-pub goes_forth : (p : Program) (h k : HeapContents) (noted : ℕ → ℕ → Type 0) → Goes p h k noted → Evolves h k
-goes_forth p h k noted goes n x at = let y = goes.forth n x at in (y.0, y.1, y.2)
 
 module _ (p : Program) (h k : HeapContents) (forth : Evolves h k) where
   pub unfinished_on : (frs : List Frame) → All (λ (fr : Frame). IsInRange h fr.locals.this) frs → AreUnfinished p h frs → AreUnfinished p k frs
@@ -237,18 +252,18 @@ module _ (p : Program) (h k : HeapContents) (forth : Evolves h k) where
 module _ (p : Program) (h k j : HeapContents) (noted : ℕ → ℕ → Type 0) (a : Goes p h k noted) (b : Goes p k j noted) where
   -- what was done stays done
   done_on : (w n : ℕ) → IsDone p h k w n → IsDone p h j w n
-  done_on w n all x z u f o i at owning held before now promised small =
+  done_on w n all x z u f c o i at owning held leads before now promised small =
       let y = a.forth o z before in
       let last = b.forth o y.0 y.1 in
       let same : last.0 ≡ u = (let both : Some last.0 ≡ Some u = sym last.1 ∙ now in cc) in
-      subst (λ (v : Object). set.contains v.called i ≡ true) same (within_at y.0.called last.0.called last.2.called i (all x z y.0 f o i at owning held before y.1 promised small))
+      subst (λ (v : Object). set.contains v.called i ≡ true) same (within_at y.0.called last.0.called last.2.called i (all x z y.0 f c o i at owning held leads before y.1 promised small))
 
   -- what is done later is done on what was there first
   done_from : (w n : ℕ) → IsDone p k j w n → IsDone p h j w n
-  done_from w n all x z u f o i at owning held before now promised small =
+  done_from w n all x z u f c o i at owning held leads before now promised small =
       let x' = a.forth w x at in
       let z' = a.forth o z before in
-      all x'.0 z'.0 u f o i x'.1 owning (ap (root_of k) (a.fields w f owning) ∙ root_stays h k a.roots (field_value p h w f) o z held before) z'.1 now
+      all x'.0 z'.0 u f c o i x'.1 owning (a.fields w f owning ∙ held) (leads_forth p h k (goes_forth p h k noted a) (goes_hold p h k noted a) c o leads) z'.1 now
       (ap (λ (c : ClassId). set.contains (promised_names (λ t. is_of_field t f) (own_promises p c (name_of n))) i) x'.2.class ∙ promised) small
 
   pub goes_further : Goes p h j noted
@@ -274,6 +289,15 @@ module _ (p : Program) (h k j : HeapContents) (noted : ℕ → ℕ → Type 0) (
     back = λ n z w f at owner. (let y = b.back n z w f at owner in let x = a.back n y.0 w f y.1 y.3 in (x.0, x.1, goes_on_further x.0 y.0 z x.2 y.2, x.3));
     fields = λ w f owning. b.fields w f owning ∙ a.fields w f owning;
     roots = λ n x at. (let y = a.forth n x at in b.roots n y.0 y.1 ∙ a.roots n x at);
+    born = λ n z at. elim (b.born n z at) [
+      | inr born ↦ inr born
+      | inl y ↦ elim (a.born n y.0 y.1) [
+        | inl x ↦ inl x
+        | inr born ↦ (let next = b.forth n y.0 y.1 in
+            let same : next.0 ≡ z = (let both : Some next.0 ≡ Some z = sym next.1 ∙ at in cc) in
+            inr (λ l link. born l (sym next.2.link ∙ ap (λ (u : Object). u.link) same ∙ link)))
+      ]
+    ];
   }
 
 -- ---- steps of one kind
@@ -288,11 +312,11 @@ stays_goes x y stays = record {
   called = ap (set.is_subset x.called) stays.called ∙ within_self x.called;
 }
 
-leaves_forth : (h k : HeapContents) → Leaves h k → Evolves h k
-leaves_forth h k leaves n x at = let y = leaves.forth n x at in (y.0, y.1, stays_goes x y.0 y.2)
+leaves_evolve : (h k : HeapContents) → Leaves h k → Evolves h k
+leaves_evolve h k leaves n x at = let y = leaves.forth n x at in (y.0, y.1, stays_goes x y.0 y.2)
 
-pub leaves_roots : (h k : HeapContents) → HasLibraryLinks h → Leaves h k → KeepsRoots h k
-leaves_roots h k links leaves = roots_by_links h k links (leaves_forth h k leaves)
+pub leaves_roots : (h k : HeapContents) → HasEarlierLinks h → Leaves h k → KeepsRoots h k
+leaves_roots h k links leaves = roots_by_links h k links (leaves_evolve h k leaves)
 
 -- owners change alone
 pub leaves_goes : (p : Program) (h k : HeapContents) (noted : ℕ → ℕ → Type 0) → KeepsRoots h k → Leaves h k → Goes p h k noted
@@ -301,6 +325,10 @@ leaves_goes p h k noted roots leaves = record {
   back = λ n y w f at owner. (let x = leaves.back n y w f at owner in (x.0, x.1, stays_goes x.0 y x.2, x.3));
   fields = λ w f owning. ap (λ (fs : List StoredField). unwrap_or (value_stored (find (is_field_of w f) fs)) (default_in (field_at p f))) leaves.fields;
   roots = roots;
+  born = λ n y at. elim (leaves.born n y at) [
+    | inl x ↦ inl x
+    | inr none ↦ inr (λ l link. absurd (let never : None ≡ Some l = sym none ∙ link in cc))
+  ];
 }
 
 pub self_goes : (p : Program) (h : HeapContents) (noted : ℕ → ℕ → Type 0) → Goes p h h noted
@@ -311,13 +339,14 @@ pub lose_goes : (p : Program) (held : List (List Value)) (h : HeapContents) (not
 lose_goes p held h noted = leaves_goes p h (lose held h) noted (changed_roots (lost_object h held) h (λ n x. ((loses h held).stays n x).link)) (lose_leaves held h)
 
 -- the call is noted, on its receiver and with what it keeps
-pub noted_goes : (p : Program) (h : HeapContents) (l : Locals) (a : Action) (named : Option Method) (notes : List Note) → AreNotesOf l a named notes → HasLibraryLinks h → Goes p h (noted p notes h) (IsNotedBy l a named)
-noted_goes p h l a named notes its links = record {
-  forth = λ n x at. (all n x, changed_at all h n ∙ ap (option_map (all n)) at, noted_goes_on (all_notes p h notes) n x, λ i has. noted_called p h links l a named notes its n i x has);
+pub noted_goes : (p : Program) (h : HeapContents) (l : Locals) (a : Action) (named : Option Method) (notes : List Note) → AreNotesOf l a named notes → Goes p h (noted p notes h) (IsNotedBy l a named)
+noted_goes p h l a named notes its = record {
+  forth = λ n x at. (all n x, changed_at all h n ∙ ap (option_map (all n)) at, noted_goes_on (all_notes p h notes) n x, λ i has. noted_called p h l a named notes its n i x has);
   back = λ n y w f at owner. (let z = back n y (object_at h n) refl (sym (changed_at all h n) ∙ at) in
       (z.0, z.1, subst (GoesOn z.0) z.2 (noted_goes_on (all_notes p h notes) n z.0), ap (λ (u : Object). u.owner) z.2 ∙ owner));
   fields = λ w f owning. refl;
   roots = changed_roots all h (λ n x. refl);
+  born = λ n y at. (let z = back n y (object_at h n) refl (sym (changed_at all h n) ∙ at) in inl (z.0, z.1));
 }
   where
     all : ℕ → Object → Object
@@ -328,8 +357,8 @@ noted_goes p h l a named notes its links = record {
     back n y (Some z) at is = (z, at, (let both : Some (all n z) ≡ Some y = is in cc))
 
 -- the object that the step has made is finished, or linked: it is none that was there before
-module _ (p : Program) (h j : HeapContents) (noted : ℕ → ℕ → Type 0) (change : Object → Object) (k : ℕ) (links : HasLibraryLinks h) (is : k ≡ next_number h) (goes : Goes p h j noted)
-    (gives : (x : Object) (w : ℕ) (f : FieldId) → (change x).owner ≡ owners.Field w f → x.owner ≡ owners.Field w f) where
+module _ (p : Program) (h j : HeapContents) (noted : ℕ → ℕ → Type 0) (change : Object → Object) (k : ℕ) (links : HasEarlierLinks h) (is : k ≡ next_number h) (goes : Goes p h j noted)
+    (gives : (x : Object) (w : ℕ) (f : FieldId) → (change x).owner ≡ owners.Field w f → x.owner ≡ owners.Field w f) (bears : (x : Object) → IsBorn x → IsBorn (change x)) where
   other : (n : ℕ) (x y : Object) → object_at h n ≡ Some x → object_at j n ≡ Some y → object_at (change_one k change j) n ≡ Some y
   other n x y before at =
       let below = (in_range h n x before).1 in
@@ -337,10 +366,10 @@ module _ (p : Program) (h j : HeapContents) (noted : ℕ → ℕ → Type 0) (ch
       changed_at (only_at k change) j n ∙ ap (option_map (only_at k change n)) at ∙ ap (λ (b : Bool). Some (if b then change y else y)) no
 
   done_then : (w n : ℕ) → IsDone p h j w n → IsDone p h (change_one k change j) w n
-  done_then w n all x z u f o i at owning held before now promised small =
+  done_then w n all x z u f c o i at owning held leads before now promised small =
       let y = goes.forth o z before in
       let same : y.0 ≡ u = (let both : Some y.0 ≡ Some u = sym (other o z y.0 before y.1) ∙ now in cc) in
-      subst (λ (v : Object). set.contains v.called i ≡ true) same (all x z y.0 f o i at owning held before y.1 promised small)
+      subst (λ (v : Object). set.contains v.called i ≡ true) same (all x z y.0 f c o i at owning held leads before y.1 promised small)
 
   new_here : (n : ℕ) (y x : Object) (w : ℕ) (f : FieldId) → object_at j n ≡ Some x → nat_eq n k ≡ true → change x ≡ y → y.owner ≡ owners.Field w f → ⊥
   new_here n y x w f at eq same owner =
@@ -356,6 +385,17 @@ module _ (p : Program) (h j : HeapContents) (noted : ℕ → ℕ → Type 0) (ch
       absurd (new_here n y x w f at eq (let both : Some (change x) ≡ Some y = sym (ap (λ (b : Bool). Some (if b then change x else x)) eq) ∙ same in (let one : change x ≡ y = cc in one)) owner)
   back n y w f (Some x) at false eq same owner =
       goes.back n y w f (at ∙ (sym (ap (λ (b : Bool). Some (if b then change x else x)) eq) ∙ same)) owner
+
+  born : (n : ℕ) (y : Object) (x : Option Object) → object_at j n ≡ x → option_map (only_at k change n) x ≡ Some y → ((z : Object) × (object_at h n ≡ Some z)) ⊎ IsBorn y
+  born n y None at same = absurd (let never : None ≡ Some y = same in cc)
+  born n y (Some x) at same = elim (goes.born n x at) [
+    | inl old ↦ inl old
+    | inr free ↦ inr (subst IsBorn (let both : Some (only_at k change n x) ≡ Some y = same in (let one : only_at k change n x ≡ y = cc in one)) (by (nat_eq n k) free))
+  ]
+    where
+      by : (b : Bool) → IsBorn x → IsBorn (if b then change x else x)
+      by true free = bears x free
+      by false free = free
 
   forth : (n : ℕ) (x : Object) → object_at h n ≡ Some x
       → (y : Object) × (object_at (change_one k change j) n ≡ Some y) × GoesOn x y × ((i : ℕ) → set.contains y.called i ≡ true → (set.contains x.called i ≡ true) ⊎ (noted n i ⊎ IsDone p h (change_one k change j) n i))
@@ -379,4 +419,5 @@ module _ (p : Program) (h j : HeapContents) (noted : ℕ → ℕ → Type 0) (ch
     back = λ n y w f at owner. back n y w f (object_at j n) refl (nat_eq n k) refl (sym (changed_at (only_at k change) j n) ∙ at) owner;
     fields = λ w f owning. goes.fields w f owning;
     roots = roots_by_links h (change_one k change j) links (λ n x at. (let y = forth n x at in (y.0, y.1, y.2)));
+    born = λ n y at. born n y (object_at j n) refl (sym (changed_at (only_at k change) j n) ∙ at);
   }

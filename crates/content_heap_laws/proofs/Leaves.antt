@@ -1,7 +1,7 @@
 -- What an operation on the heap leaves of objects that fields own, and of those that have fields: where it moves, gives up and makes
 -- objects, and changes nothing else.
 use Rattle.std.specs.Prelude.{not, ◌&&◌}
-use Rattle.std.proofs.Common.{◌≡◌, ℕ, ◌+◌, Bool, true, false, true≢false, Option, Some, None, List, [], ◌∷◌, option_map, nat_eq, refl, sym, ap, ◌∙◌, subst, if◌then◌else◌, eqb-true, eq-eqb, arith}
+use Rattle.std.proofs.Common.{◌≡◌, ◌⊎◌, inl, inr, ℕ, ◌+◌, Bool, true, false, true≢false, Option, Some, None, List, [], ◌∷◌, option_map, nat_eq, refl, sym, ap, ◌∙◌, subst, if◌then◌else◌, eqb-true, eq-eqb, arith}
 use Rattle.std.proofs.lemmas.Bool.Decides.{nat_tests}
 use Rattle.program_model.specs.declared.kinds.ClassId.{ClassId}
 use Rattle.program_model.specs.declared.kinds.FieldId.{FieldId}
@@ -9,7 +9,7 @@ use Rattle.program_model.specs.declared.kinds.VType.{VType}
 use Rattle.program_model.specs.declared.program.Method.{Method}
 use Rattle.program_model.specs.declared.program.ParamSig.{ParamSig}
 use Rattle.program_model.specs.declared.program.Program.{Program}
-use Rattle.must_call_sets.specs.Bodies.{constructs}
+use Rattle.owned_fact_laws.specs.Bodies.{constructs}
 use Rattle.java_control.specs.declared.action.Action.{Action}
 use Rattle.java_control.specs.declared.action.Action.TheVariants as actions
 use Rattle.stub_conduct.specs.declared.choice.Conduct.{Conduct}
@@ -24,13 +24,13 @@ use Rattle.ledger_state.specs.declared.object.Link.{Link}
 use Rattle.ledger_state.specs.declared.object.Object.{Object}
 use Rattle.ledger_state.specs.declared.value.Value.{Value}
 use Rattle.ledger_obligations.specs.Obligations.{end_frame, end_holder, given_up, given_up_by_frame, given_up_by_holder, is_frame, is_held_by, is_unmet, lose, lost_object, may_move, move, moved_to, owner_holds, with_owner}
-use Rattle.ledger_calls.specs.Calls.{arguments_moved, is_alias, move_param, move_params, operand_of, params_in}
-use Rattle.ledger_calls.specs.Conducts.{object_made, owning_in, result_in}
-use Rattle.ledger_steps.specs.CallSteps.{began_heap, library_made, object_begun, object_of_new}
-use Rattle.ledger_steps.specs.Ends.{constructor_ended, frame_ended, frame_gone, moved_as, moved_normally, result_moved}
-use Rattle.heap_laws.specs.Heaps.{HasLibraryLinks, IsLibraryLink}
-use Rattle.heap_laws.proofs.Laws.{links_go_on, roots_go_on-root}
-use Rattle.heap_laws.proofs.ObjectLaws.{appended_at, changed_at, in_range}
+use Rattle.agreement.specs.Calls.{arguments_moved, is_alias, move_param, move_params, operand_of, params_in}
+use Rattle.agreement.specs.Conducts.{object_made, owning_in, result_in}
+use Rattle.range_laws.specs.CallSteps.{began_heap, library_made, object_begun, object_of_new}
+use Rattle.range_laws.specs.Ends.{constructor_ended, frame_ended, frame_gone, moved_as, moved_normally, result_moved}
+use Rattle.store_laws.specs.Heaps.{HasEarlierLinks, IsEarlierLink}
+use Rattle.store_laws.proofs.Laws.{links_go_on, roots_go_on-root}
+use Rattle.store_laws.proofs.ObjectLaws.{appended_at, changed_at, in_range}
 
 -- all of the object stays but its owner
 pub record StaysBut (x y : Object) : Type 0 where
@@ -46,16 +46,17 @@ stays_self x = record { class = refl; link = refl; finished = refl; must = refl;
 stays_further : (x y z : Object) → StaysBut x y → StaysBut y z → StaysBut x z
 stays_further x y z a b = record { class = b.class ∙ a.class; link = b.link ∙ a.link; finished = b.finished ∙ a.finished; must = b.must ∙ a.must; called = b.called ∙ a.called }
 
--- each object goes on so; what a field owns it owned before; and fields hold what they held
+-- each object goes on so; what a field owns it owned before; fields hold what they held; and other objects are not linked
 pub record Leaves (h k : HeapContents) : Type 0 where
   pub forth : (n : ℕ) (x : Object) → object_at h n ≡ Some x → (y : Object) × (object_at k n ≡ Some y) × StaysBut x y
   pub back : (n : ℕ) (y : Object) (w : ℕ) (f : FieldId) → object_at k n ≡ Some y → y.owner ≡ owners.Field w f
       → (x : Object) × (object_at h n ≡ Some x) × StaysBut x y × (x.owner ≡ owners.Field w f)
   pub fields : k.fields ≡ h.fields
-  pub links : HasLibraryLinks h → HasLibraryLinks k
+  pub links : HasEarlierLinks h → HasEarlierLinks k
+  pub born : (n : ℕ) (y : Object) → object_at k n ≡ Some y → ((x : Object) × (object_at h n ≡ Some x)) ⊎ (y.link ≡ None)
 
 pub leaves_self : (h : HeapContents) → Leaves h h
-leaves_self h = record { forth = λ n x at. (x, at, stays_self x); back = λ n y w f at owner. (y, at, stays_self y, owner); fields = refl; links = λ links. links }
+leaves_self h = record { forth = λ n x at. (x, at, stays_self x); back = λ n y w f at owner. (y, at, stays_self y, owner); fields = refl; links = λ links. links; born = λ n y at. inl (y, at) }
 
 pub leaves_further : (h k j : HeapContents) → Leaves h k → Leaves k j → Leaves h j
 leaves_further h k j a b = record {
@@ -63,6 +64,15 @@ leaves_further h k j a b = record {
   back = λ n z w f at owner. (let y = b.back n z w f at owner in let x = a.back n y.0 w f y.1 y.3 in (x.0, x.1, stays_further x.0 y.0 z x.2 y.2, x.3));
   fields = b.fields ∙ a.fields;
   links = λ links. b.links (a.links links);
+  born = λ n z at. elim (b.born n z at) [
+    | inr none ↦ inr none
+    | inl y ↦ elim (a.born n y.0 y.1) [
+      | inl x ↦ inl x
+      | inr none ↦ (let next = b.forth n y.0 y.1 in
+          let same : next.0 ≡ z = (let both : Some next.0 ≡ Some z = sym next.1 ∙ at in cc) in
+          inr (ap (λ (u : Object). u.link) (sym same) ∙ next.2.link ∙ none))
+    ]
+  ];
 }
 
 -- ---- changes of owners
@@ -78,7 +88,7 @@ changed_back change n (Some z) y is = (z, refl, (let same : Some (change n z) �
 
 -- the owner of an object that is linked stays
 abbrev pub KeepsLinked : (ℕ → Object → Object) → HeapContents → Type 0
-KeepsLinked change h = HasLibraryLinks h → (n : ℕ) (x : Object) (l : Link) → object_at h n ≡ Some x → x.link ≡ Some l → (change n x).owner ≡ x.owner
+KeepsLinked change h = HasEarlierLinks h → (n : ℕ) (x : Object) (l : Link) → object_at h n ≡ Some x → x.link ≡ Some l → (change n x).owner ≡ x.owner
 
 -- it does where what nobody owns stays so
 unowned_stays : (change : ℕ → Object → Object) (h : HeapContents) → ((n : ℕ) (x : Object) → x.owner ≡ owners.Unowned → (change n x).owner ≡ x.owner) → KeepsLinked change h
@@ -95,6 +105,7 @@ each_leaves change h only keeps = record {
       (let z = changed_back change n (object_at h n) y (sym (changed_at change h n) ∙ at) in
       let old : z.0.link ≡ Some l = sym (only.stays n z.0).link ∙ ap (λ (u : Object). u.link) z.2 ∙ link in
       (z.0, z.1, old, ap (λ (u : Object). u.owner) (sym z.2) ∙ keeps links n z.0 l z.1 old, ap (λ (u : Object). u.finished) (sym z.2) ∙ (only.stays n z.0).finished)));
+  born = λ n y at. (let z = changed_back change n (object_at h n) y (sym (changed_at change h n) ∙ at) in inl (z.0, z.1));
 }
 
 -- the owner is no field
@@ -166,7 +177,13 @@ library_no_field = record { never = λ w f is. cc }
 -- ---- objects that are made
 
 pub append_leaves : (h : HeapContents) (c : ClassId) → Leaves h (append h c)
-append_leaves h c = record { forth = forth; back = back; fields = refl; links = λ old n y l at link. links old n y l (nat_eq n (next_number h)) (sym (appended_at h c n) ∙ at) link }
+append_leaves h c = record {
+  forth = forth;
+  back = back;
+  fields = refl;
+  links = λ old n y l at link. links old n y l (nat_eq n (next_number h)) (sym (appended_at h c n) ∙ at) link;
+  born = λ n y at. born n y (nat_eq n (next_number h)) (sym (appended_at h c n) ∙ at);
+}
   where
     other : (n : ℕ) (x : Object) → object_at h n ≡ Some x → object_at (append h c) n ≡ Some x
     other n x at =
@@ -186,7 +203,11 @@ append_leaves h c = record { forth = forth; back = back; fields = refl; links = 
             let never : owners.Unowned ≡ owners.Field w f = ap (λ (u : Object). u.owner) same ∙ owner in cc)
         go false is = (y, is, stays_self y, owner)
 
-    links : HasLibraryLinks h → (n : ℕ) (y : Object) (l : Link) (b : Bool) → (if b then Some (unfinished c) else object_at h n) ≡ Some y → y.link ≡ Some l → IsLibraryLink n y l
+    born : (n : ℕ) (y : Object) (b : Bool) → (if b then Some (unfinished c) else object_at h n) ≡ Some y → ((x : Object) × (object_at h n ≡ Some x)) ⊎ (y.link ≡ None)
+    born n y true is = inr (ap (λ (u : Object). u.link) (sym (let one : unfinished c ≡ y = cc in one)))
+    born n y false is = inl (y, is)
+
+    links : HasEarlierLinks h → (n : ℕ) (y : Object) (l : Link) (b : Bool) → (if b then Some (unfinished c) else object_at h n) ≡ Some y → y.link ≡ Some l → IsEarlierLink n y l
     links old n y l true is link = absurd (let never : None ≡ Some l = ap (λ (u : Object). u.link) (let one : unfinished c ≡ y = cc in one) ∙ link in cc)
     links old n y l false is link = old n y l is link
 

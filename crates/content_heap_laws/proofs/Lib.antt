@@ -1,9 +1,17 @@
 pub mod Leaves
 pub mod Noted
+pub mod Leading
 pub mod Goes
+pub mod LinkSteps
 pub mod Heaps
 pub mod Finished
+pub mod Linked
 pub use Rattle.range_laws.proofs.Configs
 pub use Rattle.range_laws.proofs.Growth
 pub use Rattle.range_laws.proofs.Steps
 pub use Rattle.range_laws.proofs.Values
+pub use Rattle.owned_fact_laws.proofs.Ends
+pub use Rattle.owned_fact_laws.proofs.OwedFacts
+pub use Rattle.store_laws.proofs.Fields
+pub use Rattle.store_laws.proofs.Objects
+pub use Rattle.store_laws.proofs.FrameEnds

@@ -22,10 +22,10 @@ use Rattle.ledger_state.specs.declared.object.Object.{Object}
 use Rattle.ledger_state.specs.declared.value.Value.{Value}
 use Rattle.ledger_obligations.specs.declared.note.Note.{Note}
 use Rattle.ledger_obligations.specs.Obligations.{all_notes, has_note, keep_all, kept_name, name_of, note, noted, noted_object, same_note}
-use Rattle.ledger_calls.specs.Calls.{form_of, interest_in, keep_promise, kept_promise, kept_promises, note_by_form, note_of_object, operand_of, receiver_note}
-use Rattle.heap_laws.specs.Heaps.{HasLibraryLinks, HasSmallName}
-use Rattle.heap_laws.proofs.Laws.{called_names_are_noted, kept_names_reach_contents}
-use Rattle.heap_laws.proofs.NoteLists.{flat_from, has_either, has_one, same_note_self, small_names}
+use Rattle.agreement.specs.Calls.{form_of, interest_in, keep_promise, kept_promise, kept_promises, note_by_form, note_of_object, operand_of, receiver_note}
+use Rattle.store_laws.specs.Heaps.{HasSmallName}
+use Rattle.store_laws.proofs.Laws.{called_names_are_noted, kept_names_reach_contents}
+use Rattle.store_laws.proofs.NoteLists.{flat_from, has_either, has_one, same_note_self, small_names}
 use Rattle.range_laws.specs.FieldContents.{is_chosen_by_class}
 use Rattle.content_heap_laws.specs.Going.{IsDone, IsNotedBy}
 
@@ -152,12 +152,12 @@ kept_notes p h at qs l a named small = record {
 
 -- A name that was called on an object after the notes was called before; or the object is the receiver and it is the name of the call; or all
 -- was done that the object's own method of that name promises.
-pub noted_called : (p : Program) (h : HeapContents) → HasLibraryLinks h → (l : Locals) (a : Action) (named : Option Method) (notes : List Note) → AreNotesOf l a named notes → (k n : ℕ) (x : Object)
+pub noted_called : (p : Program) (h : HeapContents) (l : Locals) (a : Action) (named : Option Method) (notes : List Note) → AreNotesOf l a named notes → (k n : ℕ) (x : Object)
     → set.contains (noted_object (all_notes p h notes) k x).called n ≡ true → (set.contains x.called n ≡ true) ⊎ (IsNotedBy l a named k n ⊎ IsDone p h (noted p notes h) k n)
-noted_called p h links l a named notes its k n x is = elim (called_names_are_noted p notes h k n x is) [
+noted_called p h l a named notes its k n x is = elim (called_names_are_noted p notes h k n x is) [
   | inl old ↦ inl old
   | inr new ↦ elim new [
     | inl first ↦ inr (inl (its.first k n first))
-    | inr kept ↦ inr (inr (λ x' z y f o i there owning held at now promised low. kept_names_reach_contents p notes h k o i (name_of n) x' y f links its.small kept there promised low held now))
+    | inr kept ↦ inr (inr (λ x' z y f c o i there owning held leads at now promised low. kept_names_reach_contents p notes h k c o i (name_of n) x' y f its.small kept there promised low held leads now))
   ]
 ]

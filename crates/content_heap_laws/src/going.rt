@@ -9,50 +9,50 @@ ghost use Rattle.program_model.specs.declared.kinds.MethodId.{MethodId};
 ghost use Rattle.program_model.specs.declared.program.Method.{Method};
 ghost use Rattle.program_model.specs.declared.program.Program.{Program};
 ghost use Rattle.program_model.specs.Lookups.{method_at};
-ghost use Rattle.must_call_sets.specs.MustCallSets.{must_of};
+ghost use Rattle.owned_fact_laws.specs.MustCallSets.{is_heavy_class, must_of};
 ghost use Rattle.java_control.specs.declared.action.Action.{Action};
 ghost use Rattle.stub_conduct.specs.declared.choice.Conduct.{Conduct};
 ghost use Rattle.owned_fact_laws.specs.Outcomes.{IsCallRow, IsPlainRow};
 ghost use Rattle.ledger_state.specs.Contents.{HeapContents};
-ghost use Rattle.ledger_state.specs.Heaps.{object_at};
+ghost use Rattle.ledger_state.specs.Heaps.{change_one, object_at, root};
 ghost use Rattle.ledger_state.specs.declared.entry.Owner.TheVariants as owners;
 ghost use Rattle.ledger_state.specs.declared.locals.Locals.{Locals};
 ghost use Rattle.ledger_state.specs.declared.object.Object.{Object};
 ghost use Rattle.ledger_state.specs.declared.value.Value.{Value};
 ghost use Rattle.ledger_obligations.specs.Obligations.{is_unmet, lose};
-ghost use Rattle.ledger_calls.specs.Calls.{interest_in, reset_position};
-ghost use Rattle.ledger_calls.specs.Configuration.{Frame};
-ghost use Rattle.ledger_steps.specs.CallSteps.{began_heap, library_heap};
-ghost use Rattle.ledger_steps.specs.Ends.{frame_gone, returned_reset};
-ghost use Rattle.ledger_steps.specs.InnerSteps.{heap_stored, store_of, store_unless, thrown_heap};
+ghost use Rattle.agreement.specs.Calls.{interest_in, reset_position};
+ghost use Rattle.agreement.specs.Configuration.{Frame};
+ghost use Rattle.range_laws.specs.CallSteps.{began_heap, library_heap};
+ghost use Rattle.range_laws.specs.Ends.{frame_gone, returned_reset};
+ghost use Rattle.range_laws.specs.InnerSteps.{heap_stored, store_of, store_unless, thrown_heap};
 ghost use Rattle.agreement.specs.PlainForms.{IsPlainAction};
-ghost use Rattle.heap_laws.specs.Heaps.{GoesOn, HasLibraryLinks};
-ghost use Rattle.range_laws.specs.FieldContents.{FieldsFit, HaveContents, IsContent, is_made_in, promised_on};
-ghost use Rattle.range_laws.specs.Ranges.{FieldsInRange};
-ghost use Rattle.content_heap_laws.specs.Going.{Goes, IsNotedBy, NoName, PromisesItsOwn};
+ghost use Rattle.store_laws.specs.Heaps.{GoesOn, HasEarlierLinks};
+ghost use Rattle.range_laws.specs.FieldContents.{HaveContents, IsContent, LinksLead, is_made_in, promised_on};
+ghost use Rattle.range_laws.specs.PlaceFacts.{may_owe};
+ghost use Rattle.content_heap_laws.specs.Going.{Goes, IsNotedBy, KeepsArgument, NoName, PromisesItsOwn, linked};
 
 /// The heap goes on over a step within a frame that stores into no owning field.
 pub fn inner_step_goes_on()
-    ensures { (p : Program) (m : Option Method) (l : Locals) (e : Option ClassId) (a : Action) (held : List (List Value)) (h : HeapContents) → IsPlainAction p a → (IsPlainRow a ⊎ IsCallRow a) → HasLibraryLinks h
+    ensures { (p : Program) (m : Option Method) (l : Locals) (e : Option ClassId) (a : Action) (held : List (List Value)) (h : HeapContents) → IsPlainAction p a → (IsPlainRow a ⊎ IsCallRow a) → HasEarlierLinks h
         → Goes p h (lose held (heap_stored p m l (store_unless e (store_of l a)) (thrown_heap p e h))) NoName }
 {}
 
 /// The heap goes on where a call begins a frame.
 pub fn call_start_goes_on()
-    ensures { (p : Program) (l : Locals) (a : Action) (named : Option Method) (j : ℕ) (held : List (List Value)) (h : HeapContents) → HasLibraryLinks h
+    ensures { (p : Program) (l : Locals) (a : Action) (named : Option Method) (j : ℕ) (held : List (List Value)) (h : HeapContents) → HasEarlierLinks h
         → Goes p h (lose held (began_heap p l a named j h)) NoName }
 {}
 
 /// The heap goes on over a call of the library, which is noted on its receiver, and with what it promises.
 pub fn library_call_goes_on()
     ensures { (p : Program) (l : Locals) (a : Action) (named : Option Method) (d : Conduct) (i : ℕ) (held : List (List Value)) (h : HeapContents)
-        → reset_position named ≡ None → ((n : NameId) → interest_in named ≡ Some n → n.0 < 128) → HasLibraryLinks h → Goes p h (lose held (library_heap p l a named named d i h)) (IsNotedBy l a named) }
+        → reset_position named ≡ None → ((n : NameId) → interest_in named ≡ Some n → n.0 < 128) → HasEarlierLinks h → Goes p h (lose held (library_heap p l a named named d i h)) (IsNotedBy l a named) }
 {}
 
 /// The heap goes on where a frame and its call end, which is noted on its receiver, before a `new` finishes its object.
 pub fn call_end_goes_on()
     ensures { (p : Program) (i : ℕ) (self : Value) (l : Locals) (a : Action) (runs named : Option Method) (v : Value) (e : Option ClassId) (h : HeapContents) → reset_position named ≡ None
-        → ((n : NameId) → interest_in named ≡ Some n → n.0 < 128) → HasLibraryLinks h
+        → ((n : NameId) → interest_in named ≡ Some n → n.0 < 128) → HasEarlierLinks h
         → Goes p h (returned_reset p l a named (frame_gone p i self runs v e h)) (IsNotedBy l a named) }
 {}
 
@@ -60,7 +60,7 @@ pub fn call_end_goes_on()
 /// was called, and the constructors of holders that are not finished go on. (Where a name reaches the holder through a link, or a method of
 /// the library promises it, the machine itself does what the holder's own method promises.)
 pub fn contents_go_on()
-    ensures { (p : Program) (h k : HeapContents) (l : Locals) (a : Action) (named : Option Method) → Goes p h k (IsNotedBy l a named) → PromisesItsOwn p → (frs gs : List Frame) → HaveContents p frs h
+    ensures { (p : Program) (h k : HeapContents) (l : Locals) (a : Action) (named : Option Method) → Goes p h k (IsNotedBy l a named) → PromisesItsOwn p → LinksLead p h → (frs gs : List Frame) → HaveContents p frs h
         → ((o : ℕ) (x y : Object) (w : ℕ) (f : FieldId) → object_at h o ≡ Some x → object_at k o ≡ Some y → is_unmet y ≡ true → GoesOn x y → (content : IsContent p frs h o x w f)
         → (m : MethodId) (d : Method) (n : NameId) → content.holder.finished ≡ true → method_at p m ≡ Some d → d.class ≡ content.holder.class → d.sig.interest ≡ Some n
         → set.contains (must_of p content.holder.class) n.0 ≡ true → IsNotedBy l a named w n.0 → set.is_subset (promised_on f d) y.called ≡ true)
@@ -69,7 +69,15 @@ pub fn contents_go_on()
         → HaveContents p gs k }
 {}
 
-/// What owning fields hold fits them as before, over a call.
-pub fn fields_fit_on()
-    ensures { (p : Program) (h k : HeapContents) (l : Locals) (a : Action) (named : Option Method) → Goes p h k (IsNotedBy l a named) → HasLibraryLinks h → FieldsInRange h → FieldsFit p h → FieldsFit p k }
+/// Calls on each object reach its root as before, over a call: an object that is made is linked by the library, if at all.
+pub fn leads_go_on()
+    ensures { (p : Program) (h k : HeapContents) (l : Locals) (a : Action) (named : Option Method) → Goes p h k (IsNotedBy l a named) → HasEarlierLinks h → LinksLead p h → HasEarlierLinks k → LinksLead p k }
+{}
+
+/// Where a constructor of the program has kept its aliased argument in a field, and the object that it made is linked to this, calls on each
+/// object reach its root as before.
+pub fn linked_object_leads()
+    ensures { (p : Program) (h : HeapContents) (w a : ℕ) → (0 < a) × (a < w) → (x : Object) → object_at h w ≡ Some x → x.link ≡ None → x.finished ≡ false → is_heavy_class p x.class ≡ true
+        → HasEarlierLinks h → HasEarlierLinks (change_one w (linked p (Some a)) h) → LinksLead p h
+        → ((o : ℕ) (y : Object) → root h a ≡ o → object_at h o ≡ Some y → is_heavy_class p y.class ≡ true → may_owe y ≡ true → KeepsArgument p h w x o) → LinksLead p (change_one w (linked p (Some a)) h) }
 {}

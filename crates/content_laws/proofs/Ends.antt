@@ -1,8 +1,9 @@
 -- The end of a frame and of the call at which the frame below waits.
-use Rattle.std.specs.Prelude.{not, ◌&&◌}
+use Rattle.std.specs.Prelude.{not}
 use Rattle.std.specs.FinSet as set
-use Rattle.std.proofs.Common.{◌≡◌, ℕ, Bool, true, false, true≢false, Option, Some, None, List, ◌∷◌, slice_get, refl, sym, ap, ◌∙◌, inr, eq-eqb}
-use Rattle.rlc_base.proofs.SetLaws.{empty_within, within_trans}
+use Rattle.std.proofs.Common.{◌≡◌, ℕ, true, Option, Some, None, List, ◌∷◌, slice_get, refl, sym, ap, ◌∙◌, inr, eq-eqb}
+use Rattle.std.proofs.lemmas.Bool.{and_parts}
+use Rattle.rlc_base.proofs.SetLaws.{within_trans}
 use Rattle.rlc_base.specs.declared.name_id.NameId.{NameId}
 use Rattle.program_model.specs.declared.kinds.ClassId.{ClassId}
 use Rattle.program_model.specs.declared.kinds.FieldId.{FieldId}
@@ -10,70 +11,60 @@ use Rattle.program_model.specs.declared.kinds.MethodId.{MethodId}
 use Rattle.program_model.specs.declared.program.Field.{Field}
 use Rattle.program_model.specs.declared.program.Method.{Method}
 use Rattle.program_model.specs.declared.program.Program.{Program}
-use Rattle.program_model.specs.Lookups.{method_at}
+use Rattle.program_model.specs.Lookups.{field_at, method_at}
 use Rattle.program_model.specs.SuperTests.{is_class, is_under}
 use Rattle.program_model.specs.declared.kinds.VType.{VType}
-use Rattle.must_call_sets.specs.Bodies.{has_field_place, is_field_in, is_finalizer, is_finalizer_in, method_in, method_of}
-use Rattle.must_call_sets.specs.MustCallSets.{is_empty, is_heavy_class, must_of, must_of_optional, must_of_type}
-use Rattle.must_call_sets.specs.Signatures.{type_of_field}
+use Rattle.named_step_laws.specs.Bodies.{has_field_place, is_field_in, is_finalizer, is_finalizer_in, method_in, method_of}
+use Rattle.named_step_laws.specs.MustCallSets.{is_empty, is_heavy_class, must_of, must_of_optional, must_of_type}
+use Rattle.named_step_laws.specs.Signatures.{type_of_field}
 use Rattle.java_control.specs.Calls.{called_method}
 use Rattle.java_control.specs.Control.{Step}
 use Rattle.java_control.specs.Owned.{is_owning_field}
 use Rattle.java_control.specs.declared.action.Action.TheVariants as actions
 use Rattle.java_control.specs.declared.action.Completion.{Completion}
-use Rattle.accepted_programs.specs.Accept.{Accept}
+use Rattle.target_laws.specs.Accept.{Accept}
 use Rattle.ledger_state.specs.Contents.{HeapContents}
 use Rattle.ledger_state.specs.Heaps.{object_at}
 use Rattle.ledger_state.specs.Values.{number_of}
 use Rattle.ledger_state.specs.declared.object.Object.{Object}
 use Rattle.ledger_state.specs.declared.value.Value.{Value}
 use Rattle.ledger_state.specs.declared.value.Value.TheVariants as values
-use Rattle.ledger_obligations.specs.Obligations.{is_unmet}
-use Rattle.ledger_calls.specs.Calls.{operand_of}
-use Rattle.ledger_calls.specs.Configuration.{Frame}
-use Rattle.ledger_frames.specs.Choosing.{frame_steps}
-use Rattle.agreement.specs.Agreement.{Stands}
-use Rattle.agreement.specs.PlainForms.{HasPlainForms, run_by}
-use Rattle.heap_laws.specs.Heaps.{GoesOn}
-use Rattle.covered_field_laws.specs.Covering.{HoldsHeavy}
-use Rattle.covered_field_laws.proofs.Laws.{promises_are_kept_at_end}
-use Rattle.covered_field_laws.specs.FieldContents.{IsContent, IsDispatched, promised_on}
-use Rattle.covered_field_laws.specs.PlaceFacts.{IsCovered, is_heavy_in, may_owe}
-use Rattle.next_step_laws.proofs.Births.{heavy_by_unmet}
-use Rattle.next_step_laws.proofs.Unmet.{object_type_of}
+use Rattle.program_call_laws.specs.Obligations.{is_unmet}
+use Rattle.program_call_laws.specs.Calls.{operand_of}
+use Rattle.program_call_laws.specs.Configuration.{Frame}
+use Rattle.target_laws.specs.Choosing.{frame_steps}
+use Rattle.argument_laws.specs.Agreement.{Stands}
+use Rattle.argument_laws.specs.PlainForms.{HasPlainForms, run_by}
+use Rattle.program_call_laws.specs.Heaps.{GoesOn}
+use Rattle.kept_argument_laws.specs.Covering.{HoldsHeavy}
+use Rattle.kept_argument_laws.proofs.Laws.{promises_are_kept_at_end}
+use Rattle.kept_argument_laws.specs.FieldContents.{IsContent, IsDispatched, promised_on}
+use Rattle.kept_argument_laws.specs.PlaceFacts.{IsCovered, is_heavy_in}
+use Rattle.argument_laws.proofs.Births.{heavy_by_unmet}
+use Rattle.argument_laws.proofs.Unmet.{object_type_of}
+use Rattle.content_heap_laws.proofs.Goes.{unmet_owes}
 use Rattle.content_heap_laws.specs.Going.{IsNotedBy}
 
 -- ---- what an unmet content is
 
-and_false : (b : Bool) → (b && false) ≡ false
-and_false true = refl
-and_false false = refl
-
--- what is unmet owes a call
-pub unmet_owes : (x : Object) → is_unmet x ≡ true → may_owe x ≡ true
-unmet_owes x unmet = go (is_empty x.must) refl
-  where
-    go : (b : Bool) → is_empty x.must ≡ b → not (x.finished && b) ≡ true
-    go true none = absurd (true≢false (sym unmet ∙ ap (λ (c : Bool). x.finished && not c) (within_trans x.must set.empty x.called none (empty_within x.called)) ∙ and_false x.finished))
-    go false some = ap not (and_false x.finished)
+-- the type of a field that bounds the obligation of what is unmet has one
+pub heavy_field_by : (p : Program) (f : FieldId) (field : Field) → field_at p f ≡ Some field → (x : Object) → is_unmet x ≡ true → set.is_subset x.must (must_of_type p field.vtype) ≡ true → is_heavy_in p (Some f) ≡ true
+heavy_field_by p f field declared x unmet within =
+    let c = object_type_of p field.vtype x unmet within in
+    let heavy : is_heavy_class p c.0 ≡ true = heavy_by_unmet p c.0 x unmet (ap (λ (t : VType). set.is_subset x.must (must_of_type p t)) (sym c.1) ∙ within) in
+    ap (λ (y : Option Field). not (is_empty (must_of_optional p (type_of_field y)))) declared
+    ∙ ap (λ (t : VType). not (is_empty (must_of_type p t))) c.1 ∙ heavy
 
 module _ (p : Program) (h : HeapContents) (frs : List Frame) (fr : Frame) (o : ℕ) (x : Object) (w : ℕ) (f : FieldId) (content : IsContent p frs h o x w f) (at : object_at h o ≡ Some x)
     (unmet : is_unmet x ≡ true) (this : fr.locals.this ≡ values.Object w) where
   within_type : set.is_subset x.must (must_of_type p content.field.vtype) ≡ true
   within_type = within_trans x.must (must_of p x.class) (must_of_type p content.field.vtype) content.own content.bounded
 
-  heavy_field : is_heavy_in p (Some f) ≡ true
-  heavy_field =
-      let c = object_type_of p content.field.vtype x unmet within_type in
-      let heavy : is_heavy_class p c.0 ≡ true = heavy_by_unmet p c.0 x unmet (ap (λ (t : VType). set.is_subset x.must (must_of_type p t)) (sym c.1) ∙ within_type) in
-      ap (λ (y : Option Field). not (is_empty (must_of_optional p (type_of_field y)))) content.declared
-      ∙ ap (λ (t : VType). not (is_empty (must_of_type p t))) c.1 ∙ heavy
-
   pub holds_heavy : HoldsHeavy p h fr w f o x
   holds_heavy = record {
     this = this;
     owning = ap is_owning_field content.declared ∙ content.owning;
-    heavy = heavy_field;
+    heavy = heavy_field_by p f content.field content.declared x unmet within_type;
     held = content.held;
     at = at;
     class = heavy_by_unmet p x.class x unmet content.own;
@@ -98,7 +89,8 @@ module _ (p : Program) (ac : Accept p) (forms' : HasPlainForms p) (h : HeapConte
       → set.contains (must_of p content.holder.class) name.0 ≡ true → IsNotedBy caller.locals t.action (Some n) w name.0 → set.is_subset (promised_on f d) y.called ≡ true
   promise_is_kept o x y w f at unmet goes content m d name there' class interest must noted =
       within_trans (promised_on f d) x.called y.called
-      (promises_are_kept_at_end p ac h fr st covered i s q d f w o x here is method place (inr finalizer) (holds_heavy p h (fr ∷ caller ∷ frs) fr o x w f content at unmet run.2))
+      (promises_are_kept_at_end p ac h fr st covered i s q d f w o x here is method place (inr finalizer) (holds_heavy p h (fr ∷ caller ∷ frs) fr o x w f content at unmet run.2)
+      (and_parts x.finished (not (set.is_subset x.must x.called)) unmet).0)
       goes.called
     where
       target : operand_of caller.locals t.action 0 ≡ values.Object w

@@ -9,15 +9,15 @@ use Rattle.program_model.specs.declared.kinds.MethodId.{MethodId}
 use Rattle.program_model.specs.declared.program.Method.{Method}
 use Rattle.program_model.specs.declared.program.Program.{Program}
 use Rattle.program_model.specs.Lookups.{method_at}
-use Rattle.must_call_sets.specs.Bodies.{constructs, is_class_of, is_constructor_kind}
+use Rattle.named_step_laws.specs.Bodies.{constructs, is_class_of, is_constructor_kind}
 use Rattle.java_control.specs.Calls.{called_method}
 use Rattle.java_control.specs.Control.{Step}
 use Rattle.java_control.specs.declared.action.Action.{Action}
 use Rattle.java_control.specs.declared.action.Action.TheVariants as actions
 use Rattle.java_control.specs.declared.action.TargetForm.{TargetForm}
 use Rattle.java_control.specs.declared.action.TargetForm.TheVariants as forms
-use Rattle.accepted_programs.specs.Accept.{Accept}
-use Rattle.flow_rules.specs.Paths.{move_of}
+use Rattle.target_laws.specs.Accept.{Accept}
+use Rattle.named_step_laws.specs.Paths.{move_of}
 use Rattle.ledger_state.specs.Classes.{class_in, is_under_class}
 use Rattle.ledger_state.specs.Contents.{HeapContents}
 use Rattle.ledger_state.specs.Heaps.{next_number, object_at}
@@ -27,25 +27,25 @@ use Rattle.ledger_state.specs.declared.locals.Locals.{Locals}
 use Rattle.ledger_state.specs.declared.object.Object.{Object}
 use Rattle.ledger_state.specs.declared.value.Value.{Value}
 use Rattle.ledger_state.specs.declared.value.Value.TheVariants as values
-use Rattle.ledger_calls.specs.Calls.{argument_values, begun, body_of, by_form, control_in, form_of, operand_of, running}
-use Rattle.ledger_calls.specs.Configuration.{Frame}
-use Rattle.ledger_frames.specs.Choosing.{frame_steps}
-use Rattle.ledger_moves.specs.Moves.{fits_target, is_target_of}
+use Rattle.program_call_laws.specs.Calls.{argument_values, begun, body_of, by_form, control_in, form_of, operand_of, running}
+use Rattle.program_call_laws.specs.Configuration.{Frame}
+use Rattle.target_laws.specs.Choosing.{frame_steps}
+use Rattle.target_laws.specs.Moves.{fits_target, is_target_of}
 use Rattle.ledger_steps.specs.CallSteps.{began_heap, self_begun}
-use Rattle.agreement.specs.Agreement.{Stands}
-use Rattle.agreement.specs.PlainForms.{HasPlainForms, calls_constructor, run_by}
+use Rattle.argument_laws.specs.Agreement.{Stands}
+use Rattle.argument_laws.specs.PlainForms.{HasPlainForms, calls_constructor, run_by}
 use Rattle.named_step_laws.specs.Naming.{IsOfItsKind}
 use Rattle.named_step_laws.proofs.Reached.{names_what_is_there}
-use Rattle.next_step_laws.proofs.Ready.{step_here, step_there}
-use Rattle.call_step_laws.proofs.Ways.{one_action}
-use Rattle.next_step_laws.proofs.Unmet.{call_may}
+use Rattle.argument_laws.proofs.Ready.{step_here, step_there}
+use Rattle.argument_laws.proofs.Ways.{one_action}
+use Rattle.argument_laws.proofs.Unmet.{call_may}
 use Rattle.program_call_laws.proofs.Begun.{begun_from}
-use Rattle.heap_laws.specs.Heaps.{HasLibraryLinks}
-use Rattle.next_step_laws.specs.Nexts.{IsStartMove}
-use Rattle.owned_fact_laws.specs.Outcomes.{IsCallRow}
-use Rattle.heap_laws.proofs.ObjectLaws.{in_range}
-use Rattle.covered_field_laws.specs.FieldContents.{AreDispatched, AreFresh, AreNew, AreUnfinished, DeclaresOwning, IsDispatched, RunOnOthers, RunsNamed, is_chosen_by_class, is_new}
-use Rattle.covered_field_laws.specs.Ranges.{LocalsInRange}
+use Rattle.program_call_laws.specs.Heaps.{HasEarlierLinks}
+use Rattle.argument_laws.specs.Nexts.{IsStartMove}
+use Rattle.argument_laws.specs.Outcomes.{IsCallRow}
+use Rattle.program_call_laws.proofs.ObjectLaws.{in_range}
+use Rattle.kept_argument_laws.specs.FieldContents.{AreDispatched, AreFresh, AreNew, AreUnfinished, DeclaresOwning, IsDispatched, RunOnOthers, RunsNamed, is_chosen_by_class, is_new}
+use Rattle.kept_argument_laws.specs.Ranges.{LocalsInRange}
 
 -- ---- the frame that begins
 
@@ -114,7 +114,7 @@ module _ (p : Program) (ac : Accept p) (forms' : HasPlainForms p) (h : HeapConte
       (names_what_is_there p ac.well_formed.valid.typed st.number st.body fr.control next.index (move_of next.step) st.at st.control (step_there p fr st next.index next.step next.here)).1
 
   -- the object of a `new` is none on which a frame runs
-  new_object : (w : ℕ) → is_new a ≡ true → callee.locals.this ≡ values.Object w → w ≡ next_number h
+  pub new_object : (w : ℕ) → is_new a ≡ true → callee.locals.this ≡ values.Object w → w ≡ next_number h
   new_object w new is = go a new (sym this ∙ is)
     where
       go : (b : Action) → is_new b ≡ true → self_begun fr.locals b h ≡ values.Object w → w ≡ next_number h
@@ -133,7 +133,7 @@ module _ (p : Program) (ac : Accept p) (forms' : HasPlainForms p) (h : HeapConte
   pub callee_fresh : AreFresh p (fr ∷ frs) → AreFresh p (callee ∷ fr ∷ frs)
   callee_fresh all = ((λ i s w here new is. run_on_others h w (fr ∷ frs) in' (new_object w (ap is_new (sym (one i s here)) ∙ new) is)), all)
 
-  constructor_new : DeclaresOwning p callee.method → constructs (method_at p callee.method) ≡ true → is_new a ≡ true
+  pub constructor_new : DeclaresOwning p callee.method → constructs (method_at p callee.method) ≡ true → is_new a ≡ true
   constructor_new declares new = go a refl
     where
       owner : DeclaresOwning p runs
@@ -176,7 +176,7 @@ module _ (p : Program) (ac : Accept p) (forms' : HasPlainForms p) (h : HeapConte
   pub callee_new : AreNew p (fr ∷ frs) → AreNew p (callee ∷ fr ∷ frs)
   callee_new all = ((λ w declares new is. run_on_others h w (fr ∷ frs) in' (new_object w (constructor_new declares new) is)), all)
 
-  pub callee_unfinished : (j : ℕ) (k : HeapContents) → HasLibraryLinks h → ((n : ℕ) (y : Object) → object_at k n ≡ Some y → (x : Object) × (object_at (began_heap p fr.locals a (method_at p named) j h) n ≡ Some x) × (y.finished ≡ x.finished))
+  pub callee_unfinished : (j : ℕ) (k : HeapContents) → HasEarlierLinks h → ((n : ℕ) (y : Object) → object_at k n ≡ Some y → (x : Object) × (object_at (began_heap p fr.locals a (method_at p named) j h) n ≡ Some x) × (y.finished ≡ x.finished))
       → AreUnfinished p k (fr ∷ frs) → AreUnfinished p k (callee ∷ fr ∷ frs)
   callee_unfinished j k links from all = (top, all)
     where

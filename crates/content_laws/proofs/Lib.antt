@@ -1,10 +1,14 @@
-pub mod Steps
-pub mod Frames
+pub mod Finalizers
 pub mod Promised
 pub mod Ends
+pub mod AliasConstructors
+pub mod Frames
+pub mod Steps
 pub mod LibraryNotes
 pub mod Stores
 pub mod TopSteps
 pub mod Returns
 pub mod Runs
-pub use Rattle.next_step_laws.proofs.Cases
+pub use Rattle.content_heap_laws.proofs.Finished
+pub use Rattle.argument_laws.proofs.Cases
+pub use Rattle.target_laws.proofs.Moved

@@ -10,7 +10,7 @@ use Rattle.program_model.specs.declared.program.Program.{Program}
 use Rattle.program_model.specs.Lookups.{method_at}
 use Rattle.program_model.specs.Overrides.{is_library}
 use Rattle.program_model.specs.SuperTests.{is_under}
-use Rattle.must_call_sets.specs.MustCallSets.{must_of}
+use Rattle.named_step_laws.specs.MustCallSets.{must_of}
 use Rattle.java_control.specs.Calls.{called_method}
 use Rattle.java_control.specs.Control.{Step}
 use Rattle.java_control.specs.declared.action.Action.{Action}
@@ -21,14 +21,14 @@ use Rattle.ledger_state.specs.declared.array.ArrayObject.{ArrayObject}
 use Rattle.ledger_state.specs.declared.object.Object.{Object}
 use Rattle.ledger_state.specs.declared.value.Value.{Value}
 use Rattle.ledger_state.specs.declared.value.Value.TheVariants as values
-use Rattle.ledger_obligations.specs.Obligations.{is_library_method}
-use Rattle.ledger_calls.specs.Calls.{by_form, form_of, interest_in, operand_of}
-use Rattle.ledger_calls.specs.Configuration.{Frame}
-use Rattle.ledger_frames.specs.Choosing.{frame_steps}
-use Rattle.ledger_moves.specs.Moves.{fits_target}
-use Rattle.agreement.specs.PlainForms.{HasPlainForms, run_by}
-use Rattle.next_step_laws.specs.Nexts.{IsConstantRead, IsLibraryMove}
-use Rattle.covered_field_laws.specs.FieldContents.{IsContent, is_chosen_by_class}
+use Rattle.program_call_laws.specs.Obligations.{is_library_method}
+use Rattle.program_call_laws.specs.Calls.{by_form, form_of, interest_in, operand_of}
+use Rattle.program_call_laws.specs.Configuration.{Frame}
+use Rattle.target_laws.specs.Choosing.{frame_steps}
+use Rattle.target_laws.specs.Moves.{fits_target}
+use Rattle.argument_laws.specs.PlainForms.{HasPlainForms, run_by}
+use Rattle.argument_laws.specs.Nexts.{IsConstantRead, IsLibraryMove}
+use Rattle.kept_argument_laws.specs.FieldContents.{IsContent, is_chosen_by_class}
 use Rattle.content_heap_laws.specs.Going.{IsNotedBy}
 use Rattle.content_laws.proofs.Ends.{receiver_object, same_name}
 use Rattle.content_laws.proofs.Frames.{runs_by_class, target_is_under}

@@ -1,8 +1,9 @@
 -- The end of a frame and of its call keeps what owning fields hold and own.
-pub use Rattle.next_step_laws.proofs.Returns.{back_is}
-use Rattle.std.specs.Prelude.{◌≤◌, ◌||◌, ◌&&◌, is_some}
+pub use Rattle.argument_laws.proofs.Returns.{back_is}
+use Rattle.std.specs.Prelude.{◌<◌, ◌≤◌, ◌||◌, ◌&&◌, is_some, not}
 use Rattle.std.specs.FinSet as set
-use Rattle.std.proofs.Common.{◌≡◌, ◌⊎◌, ℕ, ◌+◌, Bool, true, false, true≢false, Option, Some, None, List, ◌∷◌, length, slice_get, refl, sym, ap, ◌∙◌, subst, if◌then◌else◌, inl, inr, eqb-true}
+use Rattle.std.proofs.Common.{◌≡◌, ◌⊎◌, ℕ, suc, ◌+◌, Bool, true, false, true≢false, Option, Some, None, List, ◌∷◌, length, slice_get, refl, sym, ap, ◌∙◌, subst, if◌then◌else◌, inl, inr, eqb-true, eq-eqb, arith}
+use Rattle.std.proofs.lemmas.Bool.{and_parts}
 use Rattle.std.proofs.lemmas.List.Elements.{All-head, All-tail}
 use Rattle.rlc_base.specs.declared.name_id.NameId.{NameId}
 use Rattle.rlc_base.specs.declared.place.Pos.{Pos}
@@ -13,63 +14,104 @@ use Rattle.program_model.specs.declared.program.Field.{Field}
 use Rattle.program_model.specs.declared.program.Method.{Method}
 use Rattle.program_model.specs.declared.program.Program.{Program}
 use Rattle.program_model.specs.Lookups.{field_at, method_at}
-use Rattle.must_call_sets.specs.Bodies.{alias_in, constructs, is_class_of}
-use Rattle.must_call_sets.specs.MustCallSets.{must_of}
+use Rattle.named_step_laws.specs.Bodies.{alias_in, alias_position as body_alias_position, constructs, is_class_of, is_constructor_kind, method_in}
+use Rattle.named_step_laws.specs.MustCallSets.{is_heavy_class, must_of, must_of_optional, must_of_type}
+use Rattle.named_step_laws.specs.Signatures.{type_at}
+use Rattle.java_control.specs.Owned.{is_owning_field}
+use Rattle.named_step_laws.specs.Ends.{is_throw}
 use Rattle.java_control.specs.Calls.{called_method}
 use Rattle.java_control.specs.Control.{Step}
 use Rattle.java_control.specs.declared.action.Action.{Action}
 use Rattle.java_control.specs.declared.action.Action.TheVariants as actions
 use Rattle.java_control.specs.declared.action.Completion.{Completion}
-use Rattle.accepted_programs.specs.Accept.{Accept}
-use Rattle.flow_rules.specs.Paths.{move_of}
-use Rattle.owned_fact_laws.specs.Outcomes.{IsCallRow}
+use Rattle.target_laws.specs.Accept.{Accept}
+use Rattle.named_step_laws.specs.Paths.{move_of}
+use Rattle.argument_laws.specs.Outcomes.{IsCallRow}
 use Rattle.ledger_state.specs.Contents.{HeapContents}
-use Rattle.ledger_state.specs.Heaps.{change_one, next_number, object_at}
+use Rattle.ledger_state.specs.Fields.{field_value}
+use Rattle.ledger_state.specs.Heaps.{change_one, next_number, object_at, root, root_of}
+use Rattle.ledger_state.specs.Locals.{variable_value}
 use Rattle.ledger_state.specs.Values.{number_of}
 use Rattle.ledger_state.specs.declared.entry.Owner.TheVariants as owners
+use Rattle.ledger_state.specs.declared.locals.Locals.{Locals}
+use Rattle.ledger_state.specs.declared.object.Link.{Link}
 use Rattle.ledger_state.specs.declared.object.Object.{Object}
 use Rattle.ledger_state.specs.declared.value.Value.{Value}
 use Rattle.ledger_state.specs.declared.value.Value.TheVariants as values
-use Rattle.ledger_obligations.specs.Obligations.{alias_born, end_holder, finished, is_unmet}
-use Rattle.ledger_calls.specs.Calls.{alias_position, alias_target, interest_in, operand_of, reset_position}
-use Rattle.ledger_calls.specs.Configuration.{Config, Frame, held_by}
-use Rattle.ledger_frames.specs.Choosing.{frame_steps, is_number}
-use Rattle.ledger_frames.specs.Frames.{frame_after}
+use Rattle.program_call_laws.specs.Obligations.{alias_born, end_holder, finished, is_unmet}
+use Rattle.program_call_laws.specs.Calls.{alias_position, alias_target, interest_in, is_alias, object_by, operand_of, reset_position}
+use Rattle.program_call_laws.specs.Configuration.{Config, Frame, held_by}
+use Rattle.target_laws.specs.Choosing.{frame_steps, is_number}
+use Rattle.target_laws.specs.Frames.{frame_after}
+use Rattle.program_call_laws.specs.Places.{class_of_method}
 use Rattle.ledger_steps.specs.Ends.{answered, constructor_ended, exception_class, finished_by_new, object_finished, frame_ended, frame_gone, program_birth, result_value, returned_heap, returned_reset, thrown_in}
-use Rattle.ledger_moves.specs.Moves.{Return, Back, StrayBack, NoWay}
-use Rattle.ledger_runs.specs.Outcomes.{went, stray}
-use Rattle.ledger_runs.specs.Steps.{returned, returned_by}
-use Rattle.heap_laws.specs.Heaps.{Evolves, GoesOn, HasLibraryLinks}
-use Rattle.agreement.specs.Agreement.{Agrees, AllStand, IsMadeBy, RunsItself, WaitsFor}
-use Rattle.agreement.specs.PlainForms.{HasPlainForms, IsPlainCall, IsPlainSignature, calls_constructor}
-use Rattle.next_step_laws.specs.Nexts.{IsBack, IsBackStep}
-use Rattle.next_step_laws.proofs.Ready.{plain_call, plain_step, step_here, step_there}
-use Rattle.next_step_laws.proofs.Unmet.{call_may, unmet_before}
-use Rattle.call_step_laws.proofs.Ways.{one_action}
+use Rattle.target_laws.specs.Moves.{Return, Back, StrayBack, NoWay}
+use Rattle.target_laws.specs.Outcomes.{went, stray}
+use Rattle.target_laws.specs.Steps.{returned, returned_by}
+use Rattle.program_call_laws.specs.Heaps.{Evolves, GoesOn, HasEarlierLinks}
+use Rattle.program_call_laws.specs.Leading.{CallsOnField, Leads}
+use Rattle.program_call_laws.proofs.Laws.{roots_of_links-there}
+use Rattle.program_call_laws.proofs.ObjectLaws.{in_range}
+use Rattle.program_call_laws.specs.ProgramCalls.{is_new as is_made_new}
+use Rattle.program_call_laws.proofs.EndLinks.{called_links, end_links, gone_links}
+use Rattle.program_call_laws.proofs.Returned.{gone_unowned}
+use Rattle.argument_laws.specs.Arguments.{HasArguments}
+use Rattle.kept_argument_laws.proofs.Constructors.{spoken}
+use Rattle.kept_argument_laws.proofs.KeptArguments.{field_holds}
+use Rattle.argument_laws.specs.Agreement.{Agrees, AllStand, IsMade, IsMadeAfter, IsMadeBy, RunsItself, WaitsFor}
+use Rattle.argument_laws.specs.PlainForms.{HasPlainForms, IsPlainCall, IsPlainSignature, calls_constructor}
+use Rattle.argument_laws.specs.Nexts.{IsBack, IsBackStep}
+use Rattle.argument_laws.proofs.Ready.{plain_call, plain_step, step_here, step_there}
+use Rattle.argument_laws.proofs.Unmet.{call_may, unmet_before}
+use Rattle.argument_laws.proofs.Ways.{one_action}
 use Rattle.named_step_laws.specs.Naming.{IsOfItsKind}
 use Rattle.named_step_laws.proofs.Reached.{names_what_is_there}
-use Rattle.covered_field_laws.specs.FieldContents.{AreDispatched, AreFresh, AreNew, AreUnfinished, FieldsFit, FieldsHold, HaveContents, IsBeingMade, IsContent, is_made_in, is_new, makes_object, promised_on}
-use Rattle.covered_field_laws.specs.PlaceFacts.{IsCovered}
-use Rattle.covered_field_laws.specs.Ranges.{FieldsInRange, LocalsInRange}
+use Rattle.kept_argument_laws.specs.FieldContents.{AreDispatched, AreFresh, AreNew, AreUnfinished, FieldsHold, HaveContents, IsBeingMade, IsContent, LinksLead, RunOnOthers, is_made_in, is_new, makes_holder, makes_object, promised_on}
+use Rattle.kept_argument_laws.specs.PlaceFacts.{IsCovered, may_owe}
+use Rattle.kept_argument_laws.specs.Ranges.{LocalsInRange}
 use Rattle.content_heap_laws.proofs.Configs.{frames_stay}
 use Rattle.content_heap_laws.proofs.Growth.{returned_grows}
 use Rattle.content_heap_laws.proofs.Values.{value_stays}
-use Rattle.content_laws.proofs.Ends.{promise_is_kept}
-use Rattle.content_heap_laws.proofs.Finished.{made, made_contents, made_dispatched, made_fit, made_unfinished}
-use Rattle.content_heap_laws.proofs.Goes.{contents_go_on, dispatched_on, fields_fit_on, goes_forth, there, unfinished_on}
-use Rattle.content_heap_laws.proofs.Heaps.{after_goes, end_goes, gone_links}
+use Rattle.content_laws.proofs.AliasConstructors.{alias_class_is_heavy, calls_on_field}
+use Rattle.content_laws.proofs.Ends.{promise_is_kept, receiver_object}
+use Rattle.content_heap_laws.proofs.Finished.{changed_dispatched, changed_unfinished, linked_contents, made, made_contents}
+use Rattle.content_heap_laws.proofs.Goes.{contents_go_on, dispatched_on, goes_forth, led_there, owed_before, there, unfinished_on}
+use Rattle.content_heap_laws.proofs.Heaps.{after_goes, end_goes}
+use Rattle.content_heap_laws.proofs.Leading.{goes_hold, leads_forth}
 use Rattle.content_heap_laws.proofs.Leaves.{holder_owns_nothing}
+use Rattle.content_heap_laws.proofs.Linked.{finished_leads, finished_root, linked_leads, linked_root}
+use Rattle.content_heap_laws.proofs.LinkSteps.{leads_go_on}
 use Rattle.content_laws.proofs.Steps.{IsSameFrame, LocalsIn, same_dispatched, same_fresh, same_makes, same_new, same_unfinished, this_in}
-use Rattle.content_heap_laws.specs.Going.{Goes, IsNotedBy, PromisesItsOwn}
+use Rattle.content_heap_laws.specs.Going.{Goes, IsNotedBy, KeepsArgument, PromisesItsOwn, linked}
 use Rattle.content_laws.proofs.Steps.{lost, same_after}
 use Rattle.content_laws.proofs.Promised.{promises_its_own}
-use Rattle.content_laws.proofs.Stores.{own_no_alias}
+use Rattle.content_laws.proofs.Stores.{IsAliasForm, body_is_of_program, own_alias_form}
 use Rattle.content_laws.proofs.TopSteps.{plain_no_reset, small_interest}
 
 -- a `new` that makes no alias finishes its object
 plainly_finished : (p : Program) (i : ℕ) (m : Option Method) (alias : Option ℕ) → alias_position m ≡ None → object_finished p i m alias ≡ made p i
 plainly_finished p i m alias none =
     ap (λ (z : Option ℕ). (λ (x : Object). if is_some z then alias_born p false alias (record x { called = set.empty }) else finished (must_of p x.class) (owners.Frame i) (record x { called = set.empty }))) none
+
+aliased_finished : (p : Program) (i : ℕ) (m : Option Method) (alias : Option ℕ) (k : ℕ) → alias_position m ≡ Some k → object_finished p i m alias ≡ linked p alias
+aliased_finished p i m alias k some =
+    ap (λ (z : Option ℕ). (λ (x : Object). if is_some z then alias_born p false alias (record x { called = set.empty }) else finished (must_of p x.class) (owners.Frame i) (record x { called = set.empty }))) some
+
+-- a `new`, in the words of the two crates
+made_as_new : (a : Action) → is_made_new a ≡ true → is_new a ≡ true
+made_as_new actions.Skip new = new
+made_as_new (actions.New m d n) new = refl
+made_as_new a new = new
+
+made_after : (p : Program) (l : Locals) (a : Action) (v : Value) (named : MethodId) → IsMadeAfter p l a v → called_method a ≡ Some named → is_made_new a ≡ true → (n w : ℕ) → number_of v ≡ Some n
+    → alias_target (operand_of l a) (method_at p named) ≡ Some w → (0 < w) × (w < n)
+made_after p l actions.Skip v named is calls new n w at to = absurd (true≢false (sym new))
+made_after p l (actions.New m d c) v named is calls new n w at to =
+    let one : m ≡ named = (let both : Some m ≡ Some named = calls in cc) in is n w at (ap (λ (z : MethodId). alias_target (operand_of l (actions.New m d c)) (method_at p z)) one ∙ to)
+made_after p l a v named is calls new n w at to = absurd (true≢false (sym new))
+
+same_class_of : (c : ClassId) (m : Method) → is_class_of c (Some m) ≡ true → c ≡ m.class
+same_class_of c m same = ap (λ (n : ℕ). (let z : ClassId = record { 0 = n } in z)) (eqb-true c.0 m.class.0 same)
 
 three : (a b c : Bool) → ((a && b) && c) ≡ true → (a ≡ true) × (b ≡ true) × (c ≡ true)
 three true true c is = (refl, refl, is)
@@ -89,8 +131,9 @@ row_of (actions.Super k d n) m is = tt
 row_of a m is = absurd (let never : None ≡ Some m = is in cc)
 
 module _ (p : Program) (ac : Accept p) (forms' : HasPlainForms p) (c d : Config) (fr caller : Frame) (rest : List Frame) (agrees : Agrees p (fr ∷ caller ∷ rest) c.heap c.entries)
-    (covered : IsCovered p c.heap fr) (in' : LocalsIn c.heap (fr ∷ caller ∷ rest)) (ranges : FieldsInRange c.heap) (hold : FieldsHold p (fr ∷ caller ∷ rest) c.heap) (making : IsBeingMade p c.heap fr caller) (i : ℕ) (s : Step) (q : Completion)
-    (here : slice_get (frame_steps p fr) i ≡ Some s) (is : s.action ≡ actions.End q) where
+    (covered : IsCovered p c.heap fr) (in' : LocalsIn c.heap (fr ∷ caller ∷ rest)) (hold : FieldsHold p (fr ∷ caller ∷ rest) c.heap) (making : IsBeingMade p c.heap fr caller) (given : HasArguments p caller fr) (i : ℕ) (s : Step) (q : Completion)
+    (here : slice_get (frame_steps p fr) i ≡ Some s) (is : s.action ≡ actions.End q)
+    (exits : is_throw q ≡ true → exception_class p c.heap (thrown_in fr.locals q) ≡ None → ⊥) where
   abbrev h : HeapContents
   h = c.heap
 
@@ -106,7 +149,7 @@ module _ (p : Program) (ac : Accept p) (forms' : HasPlainForms p) (c d : Config)
   carried : (x : Config) → went x ≡ went d → Done x → Done d
   carried x is held = subst Done (let same : x ≡ d = cc in same) held
 
-  links : HasLibraryLinks h
+  links : HasEarlierLinks h
   links = agrees.links
 
   own : PromisesItsOwn p
@@ -174,15 +217,21 @@ module _ (p : Program) (ac : Accept p) (forms' : HasPlainForms p) (c d : Config)
 
     -- the contents when the frame has gone, while its constructor still counts
     between : HaveContents p (fr ∷ after ∷ rest) reset
-    between = contents_go_on p h reset _ goes own (fr ∷ caller ∷ rest) (fr ∷ after ∷ rest) hold.contents keeps
+    between = contents_go_on p h reset _ goes own hold.leads (fr ∷ caller ∷ rest) (fr ∷ after ∷ rest) hold.contents keeps
         (λ o x y w f content now owner un' made'. still_made w content.field.class made')
       where
         still_made : (w : ℕ) (c' : ClassId) → is_made_in p w c' (fr ∷ caller ∷ rest) ≡ true → is_made_in p w c' (fr ∷ after ∷ rest) ≡ true
-        still_made w c' made' = ap (λ (b : Bool). makes_object p w c' fr || b) (same_makes p caller after rest same w c') ∙ made'
+        still_made w c' made' = ap (λ (b : Bool). makes_holder p w c' fr || b) (same_makes p caller after rest same w c') ∙ made'
 
     -- all but the contents
-    fit_then : FieldsFit p reset
-    fit_then = fields_fit_on p h reset _ goes links ranges hold.fit
+    gone_linked : HasEarlierLinks (frame_gone p position fr.locals.this (method_at p fr.method) v e h)
+    gone_linked = gone_links p position fr.locals.this (method_at p fr.method) v e h links
+
+    reset_linked : HasEarlierLinks reset
+    reset_linked = called_links p position fr.locals.this caller.locals t.action (method_at p named) (frame_gone p position fr.locals.this (method_at p fr.method) v e h) no_reset gone_linked
+
+    leads_then : LinksLead p reset
+    leads_then = leads_go_on p h reset _ goes links hold.leads reset_linked
 
     forth : Evolves h reset
     forth = goes_forth p h reset _ goes
@@ -214,14 +263,15 @@ module _ (p : Program) (ac : Accept p) (forms' : HasPlainForms p) (c d : Config)
             ∙ rw (new, this) refl
 
     no_maker : (is_new waits.step.action ≡ false) ⊎ ((x : ClassId) × (e ≡ Some x)) → (o : ℕ) (y : Object) (w : ℕ) (f : FieldId) (field : Field) → field_at p f ≡ Some field → field.owning ≡ true
-        → makes_object p w field.class fr ≡ true → object_at reset o ≡ Some y → is_unmet y ≡ true → y.owner ≡ owners.Field w f → ⊥
+        → makes_holder p w field.class fr ≡ true → object_at reset o ≡ Some y → is_unmet y ≡ true → y.owner ≡ owners.Field w f → ⊥
     no_maker how o y w f field declared owning makes now unmet owner = elim how [
       | inr thrown ↦ (let z = after_gone o y w f now owner in none_held thrown.0 thrown.1 constructor w this z.0.0 z.0.1 f z.1 z.2)
       | inl other ↦ by_action waits.step.action refl other waits.itself
     ]
       where
         parts : (constructs (method_at p fr.method) ≡ true) × (is_number w (number_of fr.locals.this) ≡ true) × (is_class_of field.class (method_at p fr.method) ≡ true)
-        parts = three (constructs (method_at p fr.method)) (is_number w (number_of fr.locals.this)) (is_class_of field.class (method_at p fr.method)) makes
+        parts = three (constructs (method_at p fr.method)) (is_number w (number_of fr.locals.this)) (is_class_of field.class (method_at p fr.method))
+            (and_parts (makes_object p w field.class fr) (not (is_alias (method_at p fr.method))) makes).0
 
         constructor : constructs (method_at p fr.method) ≡ true
         constructor = parts.0
@@ -233,8 +283,7 @@ module _ (p : Program) (ac : Accept p) (forms' : HasPlainForms p) (c d : Config)
         after_gone : (o : ℕ) (y : Object) (w : ℕ) (f : FieldId) → object_at reset o ≡ Some y → y.owner ≡ owners.Field w f
             → (x : (n : ℕ) × Object) × (object_at (frame_gone p position fr.locals.this (method_at p fr.method) v e h) x.0 ≡ Some x.1) × (x.1.owner ≡ owners.Field w f)
         after_gone o y w f now' owner' =
-            let b = (after_goes p caller.locals t.action (method_at p named) (frame_gone p position fr.locals.this (method_at p fr.method) v e h) no_reset (small_interest p ac named)
-            (gone_links p position fr.locals.this (method_at p fr.method) v e h links)).back o y w f now' owner' in
+            let b = (after_goes p caller.locals t.action (method_at p named) (frame_gone p position fr.locals.this (method_at p fr.method) v e h) no_reset (small_interest p ac named)).back o y w f now' owner' in
             ((o, b.0), b.1, b.3)
 
         named_is : (m : MethodId) → called_method waits.step.action ≡ Some m → m ≡ waits.named
@@ -270,10 +319,10 @@ module _ (p : Program) (ac : Accept p) (forms' : HasPlainForms p) (c d : Config)
           whole = content.whole;
           unlinked = content.unlinked;
           kept = content.kept;
-          made = λ un'. by_maker (makes_object p w content.field.class fr) refl (content.made un');
+          made = λ un'. by_maker (makes_holder p w content.field.class fr) refl (content.made un');
         }
           where
-            by_maker : (b : Bool) → makes_object p w content.field.class fr ≡ b → (b || is_made_in p w content.field.class (after ∷ rest)) ≡ true → is_made_in p w content.field.class (after ∷ rest) ≡ true
+            by_maker : (b : Bool) → makes_holder p w content.field.class fr ≡ b → (b || is_made_in p w content.field.class (after ∷ rest)) ≡ true → is_made_in p w content.field.class (after ∷ rest) ≡ true
             by_maker false absent more = more
             by_maker true makes more = absurd (no_maker how o y w f content.field content.declared content.owning makes now unmet owner)
 
@@ -284,71 +333,295 @@ module _ (p : Program) (ac : Accept p) (forms' : HasPlainForms p) (c d : Config)
     Then k = FieldsHold p (after ∷ rest) k
 
     as_it_is : (is_new waits.step.action ≡ false) ⊎ ((x : ClassId) × (e ≡ Some x)) → Then reset
-    as_it_is how = record { contents = gone_maker how; fit = fit_then; new = new_then; fresh = fresh_then; unfinished = unfinished_then; dispatched = dispatched_then }
+    as_it_is how = record { contents = gone_maker how; leads = leads_then; new = new_then; fresh = fresh_then; unfinished = unfinished_then; dispatched = dispatched_then }
 
-    -- the object of the `new` is not finished before
+    -- the object of the `new` is not finished before, and nobody owns it
+    made_before : (w : ℕ) → fr.locals.this ≡ values.Object w → is_new waits.step.action ≡ true → (x : Object) × (object_at h w ≡ Some x) × (x.finished ≡ false) × (x.owner ≡ owners.Unowned)
+    made_before w this new =
+        let x = there h w ((All-head (λ (z : Frame). LocalsInRange h z.locals) fr (caller ∷ rest) in').this w (ap number_of this)) in
+        let unmade = making waits.index waits.step w x.0 waits.here new this x.1 in
+        (x.0, x.1, unmade, agrees.ends.unfinished w x.0 x.1 unmade)
+
     not_finished : (w : ℕ) → fr.locals.this ≡ values.Object w → is_new waits.step.action ≡ true → (y : Object) → object_at reset w ≡ Some y → y.finished ≡ false
     not_finished w this new y now =
-        let x = there h w ((All-head (λ (z : Frame). LocalsInRange h z.locals) fr (caller ∷ rest) in').this w (ap number_of this)) in
+        let x = made_before w this new in
         let z = forth w x.0 x.1 in
         let same : z.0 ≡ y = (let both : Some z.0 ≡ Some y = sym z.1 ∙ now in cc) in
-        ap (λ (u : Object). u.finished) (sym same) ∙ z.2.finished ∙ making waits.index waits.step w x.0 waits.here new this x.1
+        ap (λ (u : Object). u.finished) (sym same) ∙ z.2.finished ∙ x.2
 
-    finished_then : (w : ℕ) → fr.locals.this ≡ values.Object w → is_new waits.step.action ≡ true → Then (change_one w (made p position) reset)
-    finished_then w this new = record {
-      contents = made_contents p reset position w fr (after ∷ rest) this between;
-      fit = made_fit p reset position w (not_finished w this new) fit_then;
-      new = new_then;
-      fresh = fresh_then;
-      unfinished = made_unfinished p reset position w (after ∷ rest) (hold.fresh.0 waits.index waits.step w waits.here new this) unfinished_then;
-      dispatched = made_dispatched p reset position w (after ∷ rest) dispatched_then;
-    }
+    not_linked : (w : ℕ) → fr.locals.this ≡ values.Object w → is_new waits.step.action ≡ true → (y : Object) → object_at reset w ≡ Some y → y.link ≡ None
+    not_linked w this new y now = go y.link refl
+      where
+        go : (l : Option Link) → y.link ≡ l → y.link ≡ None
+        go None none = none
+        go (Some l) some = absurd (true≢false (sym (reset_linked w y l now some).finished ∙ not_finished w this new y now))
+
+    no_owner : (w : ℕ) → fr.locals.this ≡ values.Object w → is_new waits.step.action ≡ true → (y : Object) (u : ℕ) (f : FieldId) → object_at reset w ≡ Some y → y.owner ≡ owners.Field u f → ⊥
+    no_owner w this new y u f now owner =
+        let x = made_before w this new in
+        let z = goes.back w y u f now owner in
+        let same : z.0 ≡ x.0 = (let both : Some z.0 ≡ Some x.0 = sym z.1 ∙ x.1 in cc) in
+        let never : owners.Field u f ≡ owners.Unowned = sym z.3 ∙ ap (λ (s : Object). s.owner) same ∙ x.3 in
+        cc
 
     named_one : named ≡ waits.named
     named_one = let both : Some named ≡ Some waits.named = sym back.calls ∙ ap called_method same_action ∙ waits.calls in (let one : named ≡ waits.named = cc in one)
 
-    -- a constructor of the program has no aliased argument
-    made_plainly : (a : Action) → waits.step.action ≡ a → is_new a ≡ true → alias_position (method_at p named) ≡ None
-    made_plainly actions.Skip it new = absurd (true≢false (sym new))
-    made_plainly (actions.New m d n) it new =
-        let itself : fr.method ≡ waits.named = subst (λ (a : Action). RunsItself a waits.named fr.method) it waits.itself in
-        let runs : fr.method ≡ named = itself ∙ sym named_one in
-        let one : m ≡ waits.named = (let both : Some m ≡ Some waits.named = sym (ap called_method it) ∙ waits.calls in (let same : m ≡ waits.named = cc in same)) in
-        let kind = subst (IsOfItsKind p) it
-        (names_what_is_there p ac.well_formed.valid.typed standing'.0.number standing'.0.body caller.control waits.index (move_of waits.step) standing'.0.at standing'.0.control
-        (step_there p caller standing'.0 waits.index waits.step waits.here)).1 in
-        let constructor : constructs (method_at p fr.method) ≡ true = ap (λ (z : MethodId). constructs (method_at p z)) (itself ∙ sym one) ∙ kind in
-        ap (λ (z : MethodId). alias_position (method_at p z)) (sym runs)
-        ∙ by (method_at p fr.method) (own_no_alias p ac fr agrees.standing.0 constructor (subst (λ (z : MethodId). IsPlainSignature p (method_at p z)) (sym runs) named_call.signature))
+    -- a `new` ends normally
+    module _ (m : MethodId) (depth count : ℕ) (it : waits.step.action ≡ actions.New m depth count) (w : ℕ) (this : fr.locals.this ≡ values.Object w) where
+      is_made : is_new waits.step.action ≡ true
+      is_made = ap is_new it
+
+      runs : fr.method ≡ named
+      runs = subst (λ (a : Action). RunsItself a waits.named fr.method) it waits.itself ∙ sym named_one
+
+      constructor : constructs (method_at p fr.method) ≡ true
+      constructor =
+          let one : m ≡ waits.named = (let both : Some m ≡ Some waits.named = sym (ap called_method it) ∙ waits.calls in (let same' : m ≡ waits.named = cc in same')) in
+          let kind = subst (IsOfItsKind p) it
+          (names_what_is_there p ac.well_formed.valid.typed standing'.0.number standing'.0.body caller.control waits.index (move_of waits.step) standing'.0.at standing'.0.control
+          (step_there p caller standing'.0 waits.index waits.step waits.here)).1 in
+          ap (λ (z : MethodId). constructs (method_at p z)) (runs ∙ named_one ∙ sym one) ∙ kind
+
+      form : IsAliasForm (method_at p fr.method)
+      form = own_alias_form p ac fr agrees.standing.0 constructor (subst (λ (z : MethodId). IsPlainSignature p (method_at p z)) (sym runs) named_call.signature)
+
+      -- its constructor has no aliased argument
+      finished_then : Then (change_one w (made p position) reset)
+      finished_then = record {
+        contents = made_contents p reset position w fr (after ∷ rest) this between;
+        leads = finished_leads p reset w (made p position) (not_linked w this is_made) (not_finished w this is_made) (λ x. refl) (λ x. refl) leads_then;
+        new = new_then;
+        fresh = fresh_then;
+        unfinished = changed_unfinished p reset w (made p position) (after ∷ rest) others unfinished_then;
+        dispatched = changed_dispatched p reset w (made p position) (λ x. refl) (after ∷ rest) dispatched_then;
+      }
+        where
+          others : RunOnOthers w (after ∷ rest)
+          others = hold.fresh.0 waits.index waits.step w waits.here is_made this
+
+      -- or it has, and its object is linked to this, or to none
+      linked_then : (alias : Option ℕ) → is_alias (method_at p fr.method) ≡ true → ((u : Value) (o : ℕ) (x : Object) → (o ≡ w → ⊥) → root_of reset u ≡ Some o → object_at reset o ≡ Some x
+          → root_of (change_one w (linked p alias) reset) u ≡ Some o) → LinksLead p (change_one w (linked p alias) reset) → Then (change_one w (linked p alias) reset)
+      linked_then alias is roots leads = record {
+        contents = linked_contents p reset w alias fr (after ∷ rest) is others (not_finished w this is_made) (no_owner w this is_made) roots between;
+        leads = leads;
+        new = new_then;
+        fresh = fresh_then;
+        unfinished = changed_unfinished p reset w (linked p alias) (after ∷ rest) others unfinished_then;
+        dispatched = changed_dispatched p reset w (linked p alias) (same_class alias) (after ∷ rest) dispatched_then;
+      }
+        where
+          others : RunOnOthers w (after ∷ rest)
+          others = hold.fresh.0 waits.index waits.step w waits.here is_made this
+
+          same_class : (a : Option ℕ) (x : Object) → (linked p a x).class ≡ x.class
+          same_class None x = refl
+          same_class (Some a) x = refl
+
+      null_then : is_alias (method_at p fr.method) ≡ true → Then (change_one w (linked p None) reset)
+      null_then is = linked_then None is
+          (λ u o x apart root at. finished_root p reset w (linked p None) (not_linked w this is_made) (not_finished w this is_made) (λ x. refl) (λ x. refl) leads_then u ∙ root)
+          (finished_leads p reset w (linked p None) (not_linked w this is_made) (not_finished w this is_made) (λ x. refl) (λ x. refl) leads_then)
+
+      -- the argument, which the constructor has kept
+      module _ (normal : is_throw q ≡ false) (a position' : ℕ) (alias : alias_in (method_at p fr.method) ≡ Some (suc position')) (argument : operand_of caller.locals waits.step.action (suc position') ≡ values.Object a)
+          (earlier : (0 < a) × (a < w)) (now : HasEarlierLinks (change_one w (linked p (Some a)) reset)) where
+        object : (y : Object) × (object_at reset w ≡ Some y) × GoesOn (made_before w this is_made).0 y
+        object = forth w (made_before w this is_made).0 (made_before w this is_made).1
+
+        running : (x : Method) × (method_at p fr.method ≡ Some x)
+        running = go (method_at p fr.method) refl alias
+          where
+            go : (z : Option Method) → method_at p fr.method ≡ z → alias_in z ≡ Some (suc position') → (x : Method) × (method_at p fr.method ≡ Some x)
+            go None at none = absurd (let never : None ≡ Some (suc position') = none in cc)
+            go (Some x) at some = (x, at)
+
+        alias_there : running.0.sig.alias ≡ Some (suc position')
+        alias_there = ap alias_in (sym running.1) ∙ alias
+
+        body_alias : body_alias_position p agrees.standing.0.number ≡ Some (suc position')
+        body_alias = ap alias_in (ap (method_in p) agrees.standing.0.at ∙ ap (method_at p) agrees.standing.0.method) ∙ alias
+
+        -- the object is of the class of the constructor, which has an obligation
+        class_is : object.0.class ≡ running.0.class
+        class_is =
+            let made' : IsMade p h m fr.locals.this = subst (λ (b : Action). IsMadeBy p h b fr.locals.this) it waits.makes in
+            let x = made_before w this is_made in
+            let number : made'.0 ≡ w = (let both : values.Object made'.0 ≡ values.Object w = sym made'.1 ∙ this in (let one : made'.0 ≡ w = cc in one)) in
+            let one : m ≡ waits.named = (let both : Some m ≡ Some waits.named = sym (ap called_method it) ∙ waits.calls in (let same' : m ≡ waits.named = cc in same')) in
+            let both : Some running.0.class ≡ Some x.0.class = ap class_of_method (sym running.1 ∙ ap (method_at p) (runs ∙ named_one ∙ sym one)) ∙ made'.3 x.0 (ap (object_at h) number ∙ x.1) in
+            object.2.class ∙ sym (let same' : running.0.class ≡ x.0.class = cc in same')
+
+        constructs_it : is_constructor_kind running.0.kind ≡ true
+        constructs_it = ap constructs (sym running.1) ∙ constructor
+
+        heavy_object : is_heavy_class p object.0.class ≡ true
+        heavy_object = ap (is_heavy_class p) class_is ∙ alias_class_is_heavy p ac fr.method running.0 (suc position') running.1 alias_there constructs_it
+
+        -- the parameter still holds it
+        held_by_parameter : variable_value fr.locals position' ≡ values.Object a
+        held_by_parameter = given.parameters waits.index waits.step running.0 position' waits.here running.1 (spoken p ac fr agrees.standing.0 running.0 running.1 position' constructor body_alias) ∙ argument
+
+        argument_there : (x : Object) × (object_at h a ≡ Some x)
+        argument_there =
+            let w' = made_before w this is_made in
+            let first = earlier.0 in
+            let below = earlier.1 in
+            let last = (in_range h w w'.0 w'.1).1 in
+            there h a (first, omega (arith, below, last))
+
+        -- the root of the argument, before the frame ends
+        abbrev IsRootBefore : ℕ → Object → Type 0
+        IsRootBefore o x = (object_at h o ≡ Some x) × (is_heavy_class p x.class ≡ true) × (may_owe x ≡ true) × (root_of h (variable_value fr.locals position') ≡ Some o)
+
+        root_before : (o : ℕ) (y : Object) → root reset a ≡ o → object_at reset o ≡ Some y → is_heavy_class p y.class ≡ true → may_owe y ≡ true → (x : Object) × IsRootBefore o x
+        root_before o y root' at heavy owes = go argument_there
+          where
+            go : (x : Object) × (object_at h a ≡ Some x) → (x : Object) × IsRootBefore o x
+            go (first, first_at) = by (roots_of_links-there h a first links first_at)
+              where
+                was : root h a ≡ o
+                was = sym (goes.roots a first first_at) ∙ root'
+
+                by : (z : Object) × (object_at h (root h a) ≡ Some z) × (z.link ≡ None) → (x : Object) × IsRootBefore o x
+                by (z, there', free) = on (forth o z (ap (object_at h) (sym was) ∙ there'))
+                  where
+                    on : (u : Object) × (object_at reset o ≡ Some u) × GoesOn z u → (x : Object) × IsRootBefore o x
+                    on (u, now', next) =
+                        let same' : GoesOn z y = subst (GoesOn z) (let both : Some u ≡ Some y = sym now' ∙ at in (let one : u ≡ y = cc in one)) next in
+                        (z, (ap (object_at h) (sym was) ∙ there', ap (is_heavy_class p) (sym same'.class) ∙ heavy, owed_before z y same' owes, ap (root_of h) held_by_parameter ∙ ap Some was))
+
+        -- the field that holds it
+        abbrev IsKeptIn : ℕ → FieldId → Field → Type 0
+        IsKeptIn o f field = (field_at p f ≡ Some field) × (field.owning ≡ true) × (is_class_of field.class (method_at p fr.method) ≡ true)
+            × (set.is_subset (must_of_optional p (type_at running.0.sig (suc position'))) (must_of_type p field.vtype) ≡ true) × (root_of h (field_value p h w f) ≡ Some o)
+
+        from_field : (o : ℕ) (x : Object) → IsRootBefore o x → (f : FieldId) (field : Field) → IsKeptIn o f field → KeepsArgument p reset w object.0 o
+        from_field o x (before, heavy, owes, root') f field (declared, owning, class, bounded, held) = by (led_there p h hold.leads (field_value p h w f) o x held before heavy owes)
+          where
+            calls : CallsOnField p running.0.class f
+            calls = calls_on_field p ac fr.method running.0 (suc position') running.1 alias_there constructs_it f field declared owning
+                (same_class_of field.class running.0 (subst (λ (z : Option Method). is_class_of field.class z ≡ true) running.1 class)) bounded
+                (body_is_of_program p ac fr agrees.standing.0 running.0.class (ap (is_class_of running.0.class) running.1 ∙ eq-eqb running.0.class.0 running.0.class.0 refl))
+
+            by : (c : ℕ) × (field_value p h w f ≡ values.Object c) × Leads p h c o → KeepsArgument p reset w object.0 o
+            by (c, value, led) = record {
+              field = f;
+              declared = field;
+              at = declared;
+              owning = owning;
+              calls = subst (λ (k : ClassId). CallsOnField p k f) (sym class_is) calls;
+              content = c;
+              held = goes.fields w f (ap is_owning_field declared ∙ owning) ∙ value;
+              leads = leads_forth p h reset forth (goes_hold p h reset _ goes) c o led;
+            }
+
+        keeps_argument : (o : ℕ) (y : Object) → root reset a ≡ o → object_at reset o ≡ Some y → is_heavy_class p y.class ≡ true → may_owe y ≡ true → KeepsArgument p reset w object.0 o
+        keeps_argument o y root' at heavy owes = go (root_before o y root' at heavy owes)
+          where
+            go : (x : Object) × IsRootBefore o x → KeepsArgument p reset w object.0 o
+            go (x, (before, heavy', owes', held)) = by
+                (field_holds p ac h fr agrees.standing.0 covered i s q position' w o x running.0 here is normal running.1 constructor body_alias this held before heavy' owes')
+              where
+                by : (f : FieldId) × (field : Field) × (field_at p f ≡ Some field) × (field.owning ≡ true) × (is_class_of field.class (method_at p fr.method) ≡ true)
+                    × (set.is_subset (must_of_optional p (type_at running.0.sig (suc position'))) (must_of_type p field.vtype) ≡ true) × (root_of h (field_value p h w f) ≡ Some o)
+                    → KeepsArgument p reset w object.0 o
+                by (f, field, declared, owning, class, bounded, value) = from_field o x (before, heavy', owes', held) f field (declared, owning, class, bounded, value)
+
+        argument_then : Then (change_one w (linked p (Some a)) reset)
+        argument_then = linked_then (Some a) (ap is_some (ap alias_position running.1 ∙ alias_there))
+            (linked_root p reset w a earlier object.0 object.1 (not_linked w this is_made object.0 object.1) (not_finished w this is_made object.0 object.1) heavy_object reset_linked now leads_then keeps_argument)
+            (linked_leads p reset w a earlier object.0 object.1 (not_linked w this is_made object.0 object.1) (not_finished w this is_made object.0 object.1) heavy_object reset_linked now leads_then keeps_argument)
+
+    -- ---- all of it
+
+    -- by no exception the frame ends normally
+    ends_normally : e ≡ None → is_throw q ≡ false
+    ends_normally normal = go (is_throw q) refl
       where
-        by : (x : Option Method) → alias_in x ≡ None → alias_position x ≡ None
-        by None none = refl
-        by (Some x) none = none
-    made_plainly a it new = absurd (true≢false (sym new))
+        go : (b : Bool) → is_throw q ≡ b → is_throw q ≡ false
+        go true throws = absurd (exits throws normal)
+        go false other = other
+
+    -- a `new` ends normally: its object is finished or linked
+    module _ (m : MethodId) (depth count : ℕ) (it : waits.step.action ≡ actions.New m depth count) (makes : IsMade p h m fr.locals.this) (normal : e ≡ None) where
+      abbrev w : ℕ
+      w = makes.0
+
+      abbrev a : Action
+      a = actions.New m depth count
+
+      abbrev target : Option ℕ
+      target = alias_target (operand_of caller.locals a) (method_at p named)
+
+      abbrev ended_heap : HeapContents
+      ended_heap = finished_by_new p position a (method_at p named) (number_of fr.locals.this) target reset
+
+      born : (change : Object → Object) → object_finished p position (method_at p named) target ≡ change → ended_heap ≡ change_one w change reset
+      born change same = ap (λ (u : Value). finished_by_new p position a (method_at p named) (number_of u) target reset) makes.1 ∙ ap (λ (f : Object → Object). change_one w f reset) same
+
+      position_is : alias_position (method_at p named) ≡ alias_in (method_at p fr.method)
+      position_is = same_position (method_at p named) ∙ ap (λ (z : MethodId). alias_in (method_at p z)) (sym (runs m depth count it w makes.1))
+        where
+          same_position : (x : Option Method) → alias_position x ≡ alias_in x
+          same_position None = refl
+          same_position (Some x) = refl
+
+      is_aliased : (v : ℕ) → alias_in (method_at p fr.method) ≡ Some (suc v) → is_alias (method_at p fr.method) ≡ true
+      is_aliased v alias = ap is_some (ap (λ (z : MethodId). alias_position (method_at p z)) (runs m depth count it w makes.1) ∙ position_is ∙ alias)
+
+      with_argument : (v : ℕ) → alias_in (method_at p fr.method) ≡ Some (suc v) → (n : Option ℕ) → number_of (operand_of caller.locals a (suc v)) ≡ n → HasEarlierLinks ended_heap → Then ended_heap
+      with_argument v alias n is' now = by_number n (ap (object_by (operand_of caller.locals a)) (position_is ∙ alias) ∙ is') is'
+        where
+          finish : (k : Option ℕ) → target ≡ k → object_finished p position (method_at p named) target ≡ linked p k
+          finish k same = aliased_finished p position (method_at p named) target (suc v) (position_is ∙ alias) ∙ ap (linked p) same
+
+          by_number : (k : Option ℕ) → target ≡ k → number_of (operand_of caller.locals a (suc v)) ≡ k → Then ended_heap
+          by_number None same number = subst Then (sym (born (linked p None) (finish None same))) (null_then m depth count it w makes.1 (is_aliased v alias))
+          by_number (Some k) same number =
+              let heap_is = born (linked p (Some k)) (finish (Some k) same) in
+              subst Then (sym heap_is)
+              (argument_then m depth count it w makes.1 (ends_normally normal) k v alias (ap (λ (b : Action). operand_of caller.locals b (suc v)) it ∙ receiver_object k (operand_of caller.locals a (suc v)) number)
+              (subst (λ (b : Action). IsMadeAfter p caller.locals b fr.locals.this) it waits.after w k (ap number_of makes.1) (ap (λ (z : MethodId). alias_target (operand_of caller.locals a) (method_at p z)) named_is_made ∙ same))
+              (subst HasEarlierLinks heap_is now))
+            where
+              named_is_made : m ≡ named
+              named_is_made = let both : Some m ≡ Some waits.named = sym (ap called_method it) ∙ waits.calls in (let one : m ≡ waits.named = cc in one) ∙ sym named_one
+
+      new_ended : HasEarlierLinks ended_heap → Then ended_heap
+      new_ended now = elim (form m depth count it w makes.1) [
+        | inl none ↦ subst Then (sym (born (made p position) (plainly_finished p position (method_at p named) target (position_is ∙ none)))) (finished_then m depth count it w makes.1)
+        | inr alias ↦ with_argument alias.0 alias.1 (number_of (operand_of caller.locals a (suc alias.0))) refl now
+      ]
 
     -- the heap when the call has ended
     ended_then : (x : Option ClassId) → e ≡ x → (a : Action) → waits.step.action ≡ a → IsMadeBy p h a fr.locals.this
+        → HasEarlierLinks (program_birth p position a (method_at p named) (number_of fr.locals.this) (alias_target (operand_of caller.locals a) (method_at p named)) x reset)
         → Then (program_birth p position a (method_at p named) (number_of fr.locals.this) (alias_target (operand_of caller.locals a) (method_at p named)) x reset)
-    ended_then (Some x) thrown a it makes = as_it_is (inr (x, thrown))
-    ended_then None normal actions.Skip it makes = as_it_is (inl (ap is_new it))
-    ended_then None normal (actions.New m d n) it makes =
-        subst Then (sym (ap (λ (u : Value). finished_by_new p position (actions.New m d n) (method_at p named) (number_of u) (alias_target (operand_of caller.locals (actions.New m d n)) (method_at p named)) reset) makes.1
-        ∙ ap (λ (change : Object → Object). change_one makes.0 change reset)
-        (plainly_finished p position (method_at p named) (alias_target (operand_of caller.locals (actions.New m d n)) (method_at p named)) (made_plainly (actions.New m d n) it refl))))
-        (finished_then makes.0 makes.1 (ap is_new it))
-    ended_then None normal a it makes = as_it_is (inl (ap is_new it))
+    ended_then (Some x) thrown a it makes now = as_it_is (inr (x, thrown))
+    ended_then None normal actions.Skip it makes now = as_it_is (inl (ap is_new it))
+    ended_then None normal (actions.New m d n) it makes now = new_ended m d n it makes normal now
+    ended_then None normal a it makes now = as_it_is (inl (ap is_new it))
+
+    made_new : is_made_new t.action ≡ true → is_new waits.step.action ≡ true
+    made_new new = ap is_new (sym same_action) ∙ made_as_new t.action new
+
+    heap_linked : HasEarlierLinks heap
+    heap_linked = end_links p position fr.locals.this caller.locals t.action (method_at p named) (frame_gone p position fr.locals.this (method_at p fr.method) v e h) no_reset gone_linked
+        (λ n x new number at. (let before = made_before n (receiver_object n fr.locals.this number) (made_new new) in
+        gone_unowned p position fr.locals.this (method_at p fr.method) v e h n before.0 x before.1 before.2 before.3 at))
+        (λ n w new number to. made_after p caller.locals t.action fr.locals.this named (subst (λ (a : Action). IsMadeAfter p caller.locals a fr.locals.this) (sym same_action) waits.after) back.calls new n w number to) e
 
     then_held : Then heap
-    then_held = subst (λ (a : Action). Then (program_birth p position a (method_at p named) (number_of fr.locals.this) (alias_target (operand_of caller.locals a) (method_at p named)) e reset)) (sym same_action)
-        (ended_then' e refl)
+    then_held = subst (λ (a : Action). HasEarlierLinks (returned_by_action a) → Then (returned_by_action a)) (sym same_action) (ended_then e refl waits.step.action refl waits.makes) heap_linked
       where
-        ended_then' : (x : Option ClassId) → e ≡ x
-            → Then (program_birth p position waits.step.action (method_at p named) (number_of fr.locals.this) (alias_target (operand_of caller.locals waits.step.action) (method_at p named)) x reset)
-        ended_then' x same' = ended_then x same' waits.step.action refl waits.makes
+        returned_by_action : Action → HeapContents
+        returned_by_action a = program_birth p position a (method_at p named) (number_of fr.locals.this) (alias_target (operand_of caller.locals a) (method_at p named)) e reset
 
     returned_hold : (pos : Pos) → Done (returned p c fr caller rest pos q e named t)
     returned_hold pos =
-        lost p own heap (held_by (after ∷ rest)) after rest (frames_stay h heap grown rest (All-tail (λ (x : Frame). LocalsInRange h x.locals) caller rest in_all))
+        lost p own heap heap_linked (held_by (after ∷ rest)) after rest (frames_stay h heap grown rest (All-tail (λ (x : Frame). LocalsInRange h x.locals) caller rest in_all))
         (value_stays h heap grown caller.locals.this (All-head (λ (x : Frame). LocalsInRange h x.locals) caller rest in_all).this) then_held
 
   pub back_hold : c.frames ≡ fr ∷ caller ∷ rest → (pos : Pos) (r : Return) → IsBack p (frame_steps p caller) e waits.named r → returned_by p c fr caller rest pos q r ≡ went d → Done d

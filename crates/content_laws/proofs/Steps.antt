@@ -10,23 +10,23 @@ use Rattle.program_model.specs.declared.kinds.MethodId.{MethodId}
 use Rattle.program_model.specs.declared.program.Method.{Method}
 use Rattle.program_model.specs.declared.program.Program.{Program}
 use Rattle.program_model.specs.Lookups.{method_at}
-use Rattle.must_call_sets.specs.Bodies.{constructs}
-use Rattle.must_call_sets.specs.MustCallSets.{is_heavy_class, must_of}
+use Rattle.named_step_laws.specs.Bodies.{constructs}
+use Rattle.named_step_laws.specs.MustCallSets.{must_of}
 use Rattle.java_control.specs.Control.{Step}
 use Rattle.ledger_state.specs.Contents.{HeapContents}
-use Rattle.ledger_state.specs.Fields.{field_value}
 use Rattle.ledger_state.specs.Heaps.{object_at}
 use Rattle.ledger_state.specs.declared.object.Object.{Object}
 use Rattle.ledger_state.specs.declared.value.Value.{Value}
-use Rattle.ledger_obligations.specs.Obligations.{is_unmet, lose, lost_object}
-use Rattle.ledger_calls.specs.Configuration.{Frame}
-use Rattle.ledger_frames.specs.Frames.{frame_after}
-use Rattle.heap_laws.specs.Heaps.{GoesOn, HasLibraryLinks}
-use Rattle.heap_laws.proofs.ObjectLaws.{root_of_value_changed}
-use Rattle.covered_field_laws.specs.FieldContents.{AreDispatched, AreFresh, AreNew, AreUnfinished, DeclaresOwning, FieldsFit, FieldsHold, IsContent, is_made_in, promised_on}
-use Rattle.covered_field_laws.specs.Ranges.{FieldsInRange, IsInRange, LocalsInRange}
-use Rattle.content_heap_laws.proofs.Goes.{contents_go_on, dispatched_on, fields_fit_on, fits_on, goes_forth, lose_goes, owed_before, stays_goes, unfinished_on}
-use Rattle.content_heap_laws.proofs.Leaves.{loses, lost_from}
+use Rattle.program_call_laws.specs.Obligations.{is_unmet, lose}
+use Rattle.program_call_laws.specs.Configuration.{Frame}
+use Rattle.target_laws.specs.Frames.{frame_after}
+use Rattle.program_call_laws.specs.Heaps.{GoesOn, HasEarlierLinks}
+use Rattle.kept_argument_laws.specs.FieldContents.{AreDispatched, AreFresh, AreNew, AreUnfinished, DeclaresOwning, FieldsHold, IsContent, is_made_in, promised_on}
+use Rattle.kept_argument_laws.specs.Ranges.{IsInRange, LocalsInRange}
+use Rattle.content_heap_laws.proofs.Goes.{contents_go_on, dispatched_on, goes_forth, lose_goes, unfinished_on}
+use Rattle.content_heap_laws.proofs.Leading.{goes_hold}
+use Rattle.content_heap_laws.proofs.Leaves.{lost_from}
+use Rattle.content_heap_laws.proofs.LinkSteps.{leads_go_on, leads_stay}
 use Rattle.content_heap_laws.specs.Going.{Goes, NoName, PromisesItsOwn}
 
 -- ---- the top frame takes a step of its own, or begins a frame: the frames that were there stay
@@ -72,15 +72,15 @@ module _ (p : Program) (fr after : Frame) (frs : List Frame) (same : IsSameFrame
   same_dispatched g all = same_dispatched_by g frs all
 
 -- a step that notes nothing on a holder, or of which each note is kept
-pub stepped : (p : Program) → PromisesItsOwn p → (h k : HeapContents) (noted : ℕ → ℕ → Type 0) → HasLibraryLinks h → (goes : Goes p h k noted) (fr after : Frame) (frs : List Frame) → IsSameFrame fr after → LocalsIn h (fr ∷ frs) → FieldsInRange h
+pub stepped : (p : Program) → PromisesItsOwn p → (h k : HeapContents) (noted : ℕ → ℕ → Type 0) → HasEarlierLinks h → HasEarlierLinks k → (goes : Goes p h k noted) (fr after : Frame) (frs : List Frame) → IsSameFrame fr after → LocalsIn h (fr ∷ frs)
     → ((o : ℕ) (x y : Object) (w : ℕ) (f : FieldId) → object_at h o ≡ Some x → object_at k o ≡ Some y → is_unmet y ≡ true → GoesOn x y → (content : IsContent p (fr ∷ frs) h o x w f)
     → (m : MethodId) (d : Method) (n : NameId) → content.holder.finished ≡ true → method_at p m ≡ Some d → d.class ≡ content.holder.class → d.sig.interest ≡ Some n
     → set.contains (must_of p content.holder.class) n.0 ≡ true → noted w n.0 → set.is_subset (promised_on f d) y.called ≡ true)
     → FieldsHold p (fr ∷ frs) h → FieldsHold p (after ∷ frs) k
-stepped p own h k noted links goes fr after frs same in' ranges keeps hold = record {
-  contents = contents_go_on p h k noted goes own (fr ∷ frs) (after ∷ frs) hold.contents keeps
+stepped p own h k noted links now goes fr after frs same in' keeps hold = record {
+  contents = contents_go_on p h k noted goes own hold.leads (fr ∷ frs) (after ∷ frs) hold.contents keeps
       (λ o x y w f content at owner unfinished made. same_makes p fr after frs same w content.field.class ∙ made);
-  fit = fields_fit_on p h k noted goes links ranges hold.fit;
+  leads = leads_go_on p h k noted goes links hold.leads now;
   new = same_new p fr after frs same hold.new;
   fresh = same_fresh p fr after frs same hold.fresh;
   unfinished = same_unfinished p fr after frs same k (unfinished_on p h k (goes_forth p h k noted goes) (fr ∷ frs) (this_in h (fr ∷ frs) in') hold.unfinished);
@@ -90,21 +90,13 @@ stepped p own h k noted links goes fr after frs same in' ranges keeps hold = rec
 pub same_after : (p : Program) (h : HeapContents) (fr : Frame) (s : Step) (v : Value) → IsSameFrame fr (frame_after p h fr s v)
 same_after p h fr s v = record { method = refl; this = refl }
 
--- the heap loses what no place holds: nothing changes for what fields hold
-lost_fit : (p : Program) (k : HeapContents) (held : List (List Value)) → FieldsFit p k → FieldsFit p (lose held k)
-lost_fit p k held fit w f field o y declared owning heavy held' at class owes =
-    let x = lost_from held k o y at in
-    let on = stays_goes x.0 y x.2 in
-    let same = root_of_value_changed (lost_object k held) k (field_value p k w f) (λ n z. ((loses k held).stays n z).link) in
-    fits_on p field x.0 y on (fit w f field o x.0 declared owning heavy (sym same ∙ held') x.1 (ap (is_heavy_class p) (sym on.class) ∙ class) (owed_before x.0 y on owes))
-
--- and own
-pub lost : (p : Program) → PromisesItsOwn p → (k : HeapContents) (held : List (List Value)) (fr : Frame) (frs : List Frame) → LocalsIn k frs → IsInRange k fr.locals.this → FieldsHold p (fr ∷ frs) k
+-- the heap loses what no place holds: nothing changes for what fields hold and own
+pub lost : (p : Program) → PromisesItsOwn p → (k : HeapContents) → HasEarlierLinks k → (held : List (List Value)) (fr : Frame) (frs : List Frame) → LocalsIn k frs → IsInRange k fr.locals.this → FieldsHold p (fr ∷ frs) k
     → FieldsHold p (fr ∷ frs) (lose held k)
-lost p own k held fr frs in' this hold = record {
-  contents = contents_go_on p k (lose held k) NoName goes own (fr ∷ frs) (fr ∷ frs) hold.contents (λ o x y w f at now unmet on content m d n fin there' class interest must never. absurd never)
+lost p own k links held fr frs in' this hold = record {
+  contents = contents_go_on p k (lose held k) NoName goes own hold.leads (fr ∷ frs) (fr ∷ frs) hold.contents (λ o x y w f at now unmet on content m d n fin there' class interest must never. absurd never)
       (λ o x y w f content at owner un' made'. made');
-  fit = lost_fit p k held hold.fit;
+  leads = leads_stay p k (lose held k) (goes_forth p k (lose held k) NoName goes) (goes_hold p k (lose held k) NoName goes) links hold.leads (λ n y at. (let x = lost_from held k n y at in (x.0, x.1)));
   new = hold.new;
   fresh = hold.fresh;
   unfinished = unfinished_on p k (lose held k) (goes_forth p k (lose held k) NoName goes) (fr ∷ frs) (All-cons (λ (x : Frame). IsInRange k x.locals.this) fr frs this (this_in k frs in')) hold.unfinished;

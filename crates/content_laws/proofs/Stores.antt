@@ -1,7 +1,7 @@
 -- The store into an owning field of `this`.
-use Rattle.std.specs.Prelude.{not, is_some, ◌&&◌}
+use Rattle.std.specs.Prelude.{is_some, ◌&&◌, ◌||◌}
 use Rattle.std.specs.FinSet as set
-use Rattle.std.proofs.Common.{◌≡◌, ◌⊎◌, ℕ, Bool, true, false, true≢false, Option, Some, None, List, [], ◌∷◌, slice_get, nat_eq, refl, sym, ap, ◌∙◌, subst, inl, inr, IsSomeAnd, eqb-true, eq-eqb}
+use Rattle.std.proofs.Common.{◌≡◌, ◌⊎◌, ℕ, suc, Bool, true, false, true≢false, Option, Some, None, List, [], ◌∷◌, slice_get, nat_eq, refl, sym, ap, ◌∙◌, subst, inl, inr, IsSomeAnd, eqb-true, eq-eqb}
 use Rattle.program_model.specs.NameSets.{Names}
 use Rattle.program_model.specs.declared.kinds.ClassId.{ClassId}
 use Rattle.program_model.specs.declared.kinds.FieldId.{FieldId}
@@ -15,50 +15,54 @@ use Rattle.program_model.specs.Overrides.{is_library, is_library_in}
 use Rattle.program_model.specs.SuperTests.{is_class}
 use Rattle.program_model.specs.Validity.{MayHaveBody}
 use Rattle.program_model.specs.declared.program.Class.{Class}
-use Rattle.ledger_calls.specs.Calls.{body_of}
-use Rattle.must_call_sets.specs.Bodies.{alias_in, alias_position, constructs, has_field_place, is_class_of, is_constructor_kind, is_field_in, method_in, method_of}
-use Rattle.must_call_sets.specs.MustCallSets.{is_empty, is_heavy_class, must_of, must_of_optional, must_of_type}
+use Rattle.program_call_laws.specs.Calls.{alias_position as alias_of, body_of, object_by}
+use Rattle.named_step_laws.specs.Bodies.{alias_in, alias_position, constructs, has_field_place, is_class_of, is_constructor_kind, is_field_in, method_in, method_of}
+use Rattle.named_step_laws.specs.MustCallSets.{must_of, must_of_type}
 use Rattle.java_control.specs.Calls.{called_method}
 use Rattle.java_control.specs.Control.{Step}
-use Rattle.must_call_sets.specs.Signatures as signatures
 use Rattle.java_control.specs.declared.action.Action.{Action}
 use Rattle.java_control.specs.declared.action.Action.TheVariants as actions
-use Rattle.accepted_programs.specs.Accept.{Accept}
-use Rattle.flow_rules.specs.Paths.{move_of}
+use Rattle.target_laws.specs.Accept.{Accept}
+use Rattle.named_step_laws.specs.Paths.{move_of}
 use Rattle.ledger_state.specs.Contents.{HeapContents}
 use Rattle.ledger_state.specs.Fields.{field_of, field_value}
 use Rattle.ledger_state.specs.Heaps.{object_at, root, root_of, same_root}
-use Rattle.ledger_state.specs.Locals.{temp_value}
+use Rattle.ledger_state.specs.Locals.{temp_value, variable_value}
+use Rattle.ledger_state.specs.Values.{number_of}
 use Rattle.ledger_state.specs.declared.entry.Owner.TheVariants as owners
+use Rattle.ledger_state.specs.declared.locals.Locals.{Locals}
 use Rattle.ledger_state.specs.declared.object.Link.{Link}
 use Rattle.ledger_state.specs.declared.object.Object.{Object}
 use Rattle.ledger_state.specs.declared.value.Value.{Value}
 use Rattle.ledger_state.specs.declared.value.Value.TheVariants as values
-use Rattle.ledger_obligations.specs.Obligations.{finished_in, is_unmet, may_move, resets_holder, stored_owning, type_of_field, with_owner}
-use Rattle.ledger_calls.specs.Calls.{alias_target}
-use Rattle.ledger_calls.specs.Configuration.{Frame}
+use Rattle.program_call_laws.specs.Obligations.{finished_in, is_unmet, may_move, resets_holder, stored_owning, type_of_field, with_owner}
+use Rattle.program_call_laws.specs.Configuration.{Frame}
 use Rattle.ledger_steps.specs.InnerSteps.{is_bound, parameter, root_of_number}
-use Rattle.ledger_frames.specs.Choosing.{frame_steps}
-use Rattle.agreement.specs.Agreement.{AllStand, IsCalledFrom, IsMadeBy, RunsItself, Stands}
-use Rattle.agreement.specs.PlainForms.{HasPlainForms, IsPlainAction, IsPlainSignature, calls_constructor}
-use Rattle.ledger_operations.specs.Places.{class_of_method}
+use Rattle.target_laws.specs.Choosing.{frame_steps}
+use Rattle.argument_laws.specs.Agreement.{AllStand, IsCalledFrom, IsMadeBy, RunsItself, Stands}
+use Rattle.argument_laws.specs.PlainForms.{HasPlainForms, IsPlainAction, IsPlainSignature, calls_constructor}
+use Rattle.program_call_laws.specs.Places.{class_of_method}
 use Rattle.named_step_laws.specs.Naming.{IsOfItsKind}
 use Rattle.named_step_laws.proofs.Reached.{names_what_is_there}
-use Rattle.covered_field_laws.specs.Covering.{HoldsHeavy}
-use Rattle.rlc_base.proofs.SetLaws.{within_self}
-use Rattle.heap_laws.specs.Heaps.{Evolves, GoesOn, HasLibraryLinks}
-use Rattle.heap_laws.proofs.Laws.{roots_go_on-root, roots_of_links-absent}
-use Rattle.store_laws.specs.Stores.{IsMovedIn, IsStored}
-use Rattle.store_laws.proofs.Fields.{holds_here, holds_other}
-use Rattle.store_laws.proofs.Objects.{stored_back, stored_forward, stored_goes_on, unfinished_stays}
-use Rattle.next_step_laws.proofs.Ready.{plain_call, plain_step, step_there}
-use Rattle.owned_fact_laws.specs.Outcomes.{IsCallRow}
-use Rattle.next_step_laws.proofs.Unmet.{may_lies}
-use Rattle.covered_field_laws.proofs.Laws.{overwritten_is_met, stored_value_fits}
-use Rattle.covered_field_laws.specs.FieldContents.{FieldsFit, FieldsHold, FitsField, HaveContents, IsContent, is_made_in}
-use Rattle.covered_field_laws.specs.PlaceFacts.{IsCovered, is_heavy_in, may_owe}
-use Rattle.content_laws.proofs.Ends.{holds_heavy}
-use Rattle.content_heap_laws.proofs.Goes.{content_goes_on, fits_on, owed_before, root_stays, roots_by_links}
+use Rattle.kept_argument_laws.specs.Covering.{HoldsHeavy}
+use Rattle.rlc_base.proofs.SetLaws.{within_self, within_trans}
+use Rattle.program_call_laws.specs.Heaps.{Evolves, GoesOn, HasEarlierLinks}
+use Rattle.program_call_laws.proofs.Laws.{roots_go_on-root, roots_of_links-absent}
+use Rattle.content_heap_laws.specs.Stores.{IsMovedIn, IsStored}
+use Rattle.content_heap_laws.proofs.Fields.{holds_here, holds_other}
+use Rattle.content_heap_laws.proofs.Objects.{bound_back, stored_back, stored_forward, stored_goes_on, unfinished_stays}
+use Rattle.argument_laws.proofs.Ready.{plain_call, plain_step, step_there}
+use Rattle.argument_laws.specs.Outcomes.{IsCallRow}
+use Rattle.argument_laws.proofs.Unmet.{may_lies}
+use Rattle.kept_argument_laws.proofs.Laws.{overwritten_is_met}
+use Rattle.kept_argument_laws.specs.FieldContents.{FieldsHold, HaveContents, IsContent, LinksLead, is_made_in}
+use Rattle.kept_argument_laws.specs.PlaceFacts.{IsCovered}
+use Rattle.kept_argument_laws.proofs.KeptArguments.{argument_alone}
+use Rattle.content_laws.proofs.Ends.{heavy_field_by, holds_heavy}
+use Rattle.content_heap_laws.proofs.Finished.{alias_makes_none, made_by_none}
+use Rattle.content_heap_laws.proofs.Goes.{content_goes_on, led_there, root_stays, roots_by_links, unmet_is_heavy, unmet_owes}
+use Rattle.content_heap_laws.proofs.Leading.{HoldsOn}
+use Rattle.content_heap_laws.proofs.LinkSteps.{leads_stay}
 use Rattle.content_heap_laws.proofs.Leaves.{given_no_field}
 use Rattle.content_heap_laws.specs.Going.{IsDone, KeepsRoots, NoName, PromisesItsOwn}
 
@@ -104,32 +108,63 @@ body_is_of_program p ac fr st c in' = go (method_at p fr.method) refl in' st.id
     go None at absent id = absurd (true≢false (sym absent))
     go (Some m) at same id = by_class m same (subst (MayHaveBody p m) id (ac.well_formed.valid.typed.methods fr.method m at).bodiless).2
 
--- a constructor that runs has no aliased argument, where its signature is plain
-pub own_no_alias : (p : Program) (ac : Accept p) (fr : Frame) (st : Stands p fr) → constructs (method_at p fr.method) ≡ true → IsPlainSignature p (method_at p fr.method) → alias_in (method_at p fr.method) ≡ None
-own_no_alias p ac fr st new plain = go (method_at p fr.method) refl new plain
+-- a constructor that runs has its aliased argument as that of a parameter, where its signature is plain
+abbrev pub IsAliasForm : Option Method → Type 0
+IsAliasForm m = (alias_in m ≡ None) ⊎ ((v : ℕ) × (alias_in m ≡ Some (suc v)))
+
+pub own_alias_form : (p : Program) (ac : Accept p) (fr : Frame) (st : Stands p fr) → constructs (method_at p fr.method) ≡ true → IsPlainSignature p (method_at p fr.method) → IsAliasForm (method_at p fr.method)
+own_alias_form p ac fr st new plain = go (method_at p fr.method) refl new plain
   where
     same_class : (m : Method) → is_class m.class m.class ≡ true
     same_class m = eq-eqb m.class.0 m.class.0 refl
 
-    go : (x : Option Method) → method_at p fr.method ≡ x → constructs x ≡ true → IsPlainSignature p x → alias_in x ≡ None
-    go None at new' plain' = refl
+    go : (x : Option Method) → method_at p fr.method ≡ x → constructs x ≡ true → IsPlainSignature p x → IsAliasForm x
+    go None at new' plain' = inl refl
     go (Some m) at new' plain' = elim plain'.0 [
-      | inl none ↦ none
+      | inl none ↦ inl none
       | inr more ↦ elim more [
         | inl library ↦ absurd (true≢false (sym library ∙ body_is_of_program p ac fr st m.class (ap (is_class_of m.class) at ∙ same_class m)))
-        | inr other ↦ absurd (true≢false (sym new' ∙ other))
+        | inr program ↦ elim program [
+          | inl other ↦ absurd (true≢false (sym new' ∙ other))
+          | inr takes ↦ inr (takes.0, takes.2)
+        ]
       ]
     ]
 
-module _ (p : Program) (ac : Accept p) (forms' : HasPlainForms p) (h : HeapContents) (fr : Frame) (frs : List Frame) (st : Stands p fr) (links : HasLibraryLinks h) (covered : IsCovered p h fr)
+-- ---- the aliased argument of a constructor is bound
+
+number_root : (h : HeapContents) (v : Value) → root_of_number h (number_of v) ≡ root_of h v
+number_root h values.Nothing = refl
+number_root h (values.Object k) = refl
+number_root h v = refl
+
+all_true : (a b c : Bool) → a ≡ true → b ≡ true → c ≡ true → (a && b && c) ≡ true
+all_true true true true x y z = refl
+all_true false b c x y z = absurd (true≢false (sym x))
+all_true true false c x y z = absurd (true≢false (sym y))
+all_true true true false x y z = absurd (true≢false (sym z))
+
+bound_when : (h : HeapContents) (m : Option Method) (l : Locals) (u : Value) (v o : ℕ) → constructs m ≡ true → alias_in m ≡ Some (suc v) → root_of h u ≡ Some o → root_of h (variable_value l v) ≡ Some o
+    → is_bound h m l u ≡ true
+bound_when h None l u v o new alias root argument = absurd (true≢false (sym new))
+bound_when h (Some m) l u v o new alias root argument =
+    all_true (is_constructor_kind m.kind) (is_some m.sig.alias) (same_root (root_of h u) (root_of_number h (object_by (parameter l) m.sig.alias))) new (ap is_some alias)
+    (ap (λ (k : Option ℕ). same_root (root_of h u) (root_of_number h (object_by (parameter l) k))) alias ∙ ap (λ (r : Option ℕ). same_root r (root_of_number h (number_of (variable_value l v)))) root
+    ∙ ap (same_root (Some o)) (number_root h (variable_value l v) ∙ argument) ∙ eq-eqb o o refl)
+
+module _ (p : Program) (ac : Accept p) (forms' : HasPlainForms p) (h : HeapContents) (fr : Frame) (frs : List Frame) (st : Stands p fr) (links : HasEarlierLinks h) (covered : IsCovered p h fr)
     (hold : FieldsHold p (fr ∷ frs) h) (i : ℕ) (s : Step) (here : slice_get (frame_steps p fr) i ≡ Some s) (f : FieldId) (d : ℕ) (is : s.action ≡ actions.PutOwn f d) (w : ℕ)
     (this : fr.locals.this ≡ values.Object w) (self : Object) (self_at : object_at h w ≡ Some self) (standing : AllStand p frs) (called : IsCalledFrom p h fr frs)
     (bounded : (o : ℕ) (x : Object) → object_at h o ≡ Some x → x.link ≡ None → is_unmet x ≡ true → (t : VType) → may_move p t x ≡ true → set.is_subset x.must (must_of p x.class) ≡ true) where
   abbrev v : Value
   v = temp_value fr.locals d
 
+  -- the value is the argument of an alias
+  abbrev bound : Bool
+  bound = is_bound h (method_at p fr.method) fr.locals v
+
   abbrev k : HeapContents
-  k = stored_owning p h w f false v
+  k = stored_owning p h w f bound v
 
   -- the field is one of the class of the body
   place : has_field_place p st.number f ≡ true
@@ -165,11 +200,11 @@ module _ (p : Program) (ac : Accept p) (forms' : HasPlainForms p) (h : HeapConte
   unfinished : self.finished ≡ false
   unfinished = hold.unfinished.0 w self (f, field, declared.1, declared.2, in_class) constructor this self_at
 
-  pub still : resets_holder p h w f false (field_of p h (values.Object w) f) v ≡ false
-  still = unfinished_stays p h w f v false (field_of p h (values.Object w) f) (ap finished_in self_at ∙ unfinished)
+  pub still : (b : Bool) → resets_holder p h w f b (field_of p h (values.Object w) f) v ≡ false
+  still b = unfinished_stays p h w f v b (field_of p h (values.Object w) f) (ap finished_in self_at ∙ unfinished)
 
   pub store_forth : Evolves h k
-  store_forth n x at = let y = stored_forward p h w f v false n x still at in (y.0, y.1, stored_goes_on p h w f v n x y.0 y.2)
+  store_forth n x at = let y = stored_forward p h w f v bound n x (still bound) at in (y.0, y.1, stored_goes_on p h w f v n x y.0 y.2)
 
   store_roots : KeepsRoots h k
   store_roots = roots_by_links h k links store_forth
@@ -184,7 +219,7 @@ module _ (p : Program) (ac : Accept p) (forms' : HasPlainForms p) (h : HeapConte
 
       go : (x : Option Object) → object_at h n ≡ x → (z : Option Object) → object_at k n ≡ z → root_of h (values.Object n) ≡ Some o
       go (Some x) before z now = ap Some (sym (store_roots n x before) ∙ same)
-      go None before (Some z) now = absurd (let x = stored_back p h w f v false n z still now in let never : None ≡ Some x.0 = sym before ∙ x.1 in cc)
+      go None before (Some z) now = absurd (let x = stored_back p h w f v bound n z (still bound) now in let never : None ≡ Some x.0 = sym before ∙ x.1 in cc)
       go None before None now = absurd (let never : None ≡ Some y = sym now ∙ ap (object_at k) (sym (roots_of_links-absent k n now) ∙ same) ∙ at in cc)
   store_root_before u o y is' at = absurd (let never : None ≡ Some o = is' in cc)
 
@@ -192,11 +227,11 @@ module _ (p : Program) (ac : Accept p) (forms' : HasPlainForms p) (h : HeapConte
   Named n = (x : Object) → object_at h n ≡ Some x → (y : Object) × (object_at k n ≡ Some y) × GoesOn x y × ((j : ℕ) → set.contains y.called j ≡ true → (set.contains x.called j ≡ true) ⊎ (NoName n j ⊎ IsDone p h k n j))
 
   named : (n : ℕ) → Named n
-  named n x at = let y = stored_forward p h w f v false n x still at in
+  named n x at = let y = stored_forward p h w f v bound n x (still bound) at in
       (y.0, y.1, stored_goes_on p h w f v n x y.0 y.2, λ j has. inl (ap (λ (u : Names). set.contains u j) (sym (same_called p h w f v n x y.0 y.2)) ∙ has))
 
   value_held : (o : ℕ) (x : Object) → root_of h v ≡ Some o → object_at h o ≡ Some x → root_of k (field_value p k w f) ≡ Some o
-  value_held o x root at = ap (root_of k) (holds_here p h w f false v) ∙ root_stays h k store_roots v o x root at
+  value_held o x root at = ap (root_of k) (holds_here p h w f bound v) ∙ root_stays h k store_roots v o x root at
 
   -- the object that a constructor of the class makes is of the class
   class_of_self : (frs : List Frame) → AllStand p frs → IsCalledFrom p h fr frs → self.class ≡ field.class
@@ -229,10 +264,10 @@ module _ (p : Program) (ac : Accept p) (forms' : HasPlainForms p) (h : HeapConte
           absurd (true≢false (sym constructor ∙ called'.0.kind ∙ ap (λ (z : MethodId). constructs (method_at p z)) (sym (named_one m (ap called_method it))) ∙ kind))
       go a it itself makes = absurd (let never : None ≡ Some called'.0.named = sym (ap called_method it) ∙ called'.0.calls in cc)
 
-  -- the constructor is that of no alias
-  plain_by : (frs : List Frame) → AllStand p frs → IsCalledFrom p h fr frs → alias_position p st.number ≡ None
-  plain_by [] standing' called' = absurd (true≢false (sym constructor ∙ called'.1))
-  plain_by (caller ∷ rest) standing' called' = ap alias_in body_method ∙ go called'.0.step.action refl called'.0.itself
+  -- the aliased argument of the constructor is that of a parameter
+  form_by : (frs : List Frame) → AllStand p frs → IsCalledFrom p h fr frs → IsAliasForm (method_at p fr.method)
+  form_by [] standing' called' = absurd (true≢false (sym constructor ∙ called'.1))
+  form_by (caller ∷ rest) standing' called' = go called'.0.step.action refl called'.0.itself
     where
       named_one : (m : MethodId) → called_method called'.0.step.action ≡ Some m → m ≡ called'.0.named
       named_one m it = let both : Some m ≡ Some called'.0.named = sym it ∙ called'.0.calls in (let one : m ≡ called'.0.named = cc in one)
@@ -243,11 +278,11 @@ module _ (p : Program) (ac : Accept p) (forms' : HasPlainForms p) (h : HeapConte
       plain_named : IsCallRow called'.0.step.action → IsPlainSignature p (method_at p called'.0.named)
       plain_named row = (plain_call p called'.0.step.action called'.0.named plain_form row called'.0.calls).signature
 
-      go : (a : Action) → called'.0.step.action ≡ a → RunsItself a called'.0.named fr.method → alias_in (method_at p fr.method) ≡ None
+      go : (a : Action) → called'.0.step.action ≡ a → RunsItself a called'.0.named fr.method → IsAliasForm (method_at p fr.method)
       go actions.Skip it itself = absurd (let never : None ≡ Some called'.0.named = sym (ap called_method it) ∙ called'.0.calls in cc)
-      go (actions.New m e n) it itself = own_no_alias p ac fr st constructor (subst (λ (z : MethodId). IsPlainSignature p (method_at p z)) (sym itself) (plain_named (subst IsCallRow (sym it) tt)))
+      go (actions.New m e n) it itself = own_alias_form p ac fr st constructor (subst (λ (z : MethodId). IsPlainSignature p (method_at p z)) (sym itself) (plain_named (subst IsCallRow (sym it) tt)))
       go (actions.Super m e n) it itself =
-          ap (λ (z : MethodId). alias_in (method_at p z)) (itself ∙ sym (named_one m (ap called_method it))) ∙ (subst (IsPlainAction p) it plain_form).2
+          inl (ap (λ (z : MethodId). alias_in (method_at p z)) (itself ∙ sym (named_one m (ap called_method it))) ∙ (subst (IsPlainAction p) it plain_form).2)
       go (actions.Call m e n form) it itself =
           let kind = subst (IsOfItsKind p) it
           (names_what_is_there p ac.well_formed.valid.typed standing'.0.number standing'.0.body caller.control called'.0.index (move_of called'.0.step) standing'.0.at standing'.0.control
@@ -255,29 +290,44 @@ module _ (p : Program) (ac : Accept p) (forms' : HasPlainForms p) (h : HeapConte
           absurd (true≢false (sym constructor ∙ called'.0.kind ∙ ap (λ (z : MethodId). constructs (method_at p z)) (sym (named_one m (ap called_method it))) ∙ kind))
       go a it itself = absurd (let never : None ≡ Some called'.0.named = sym (ap called_method it) ∙ called'.0.calls in cc)
 
-  plain : alias_position p st.number ≡ None
-  plain = plain_by frs standing called
+  form : IsAliasForm (method_at p fr.method)
+  form = form_by frs standing called
 
-  -- so the value is not the argument of an alias
-  pub unbound : is_bound h (method_at p fr.method) fr.locals v ≡ false
-  unbound = go (method_at p fr.method) (sym (ap alias_in body_method) ∙ plain)
-    where
-      off : (a b : Bool) → (a && false && b) ≡ false
-      off true b = refl
-      off false b = refl
+  alias_is : alias_position p st.number ≡ alias_in (method_at p fr.method)
+  alias_is = ap alias_in body_method
 
-      go : (m : Option Method) → alias_in m ≡ None → is_bound h m fr.locals v ≡ false
-      go None none = refl
-      go (Some m) none =
-          ap (λ (k : Option ℕ). is_constructor_kind m.kind && is_some k && same_root (root_of h v) (root_of_number h (alias_target (parameter fr.locals) (Some m)))) none
-          ∙ off (is_constructor_kind m.kind) (same_root (root_of h v) (root_of_number h (alias_target (parameter fr.locals) (Some m))))
+  same_alias : (m : Option Method) → alias_of m ≡ alias_in m
+  same_alias None = refl
+  same_alias (Some m) = refl
+
+  -- a constructor of an alias owns nothing that is unmet in its object's fields
+  no_content : (a : ℕ) → alias_in (method_at p fr.method) ≡ Some (suc a) → (o : ℕ) (x : Object) (g : FieldId) → IsContent p (fr ∷ frs) h o x w g → ⊥
+  no_content a alias o x g content =
+      made_by_none p w content.field.class frs (hold.new.0 w (f, field, declared.1, declared.2, in_class) constructor this)
+      (sym (ap (λ (b : Bool). b || is_made_in p w content.field.class frs) (alias_makes_none p w fr w content.field.class (ap is_some (same_alias (method_at p fr.method) ∙ alias))))
+      ∙ content.made (ap (λ (z : Object). z.finished) (let both : Some content.holder ≡ Some self = sym content.at ∙ self_at in (let one : content.holder ≡ self = cc in one)) ∙ unfinished))
+
+  -- the type bounds the obligation of what moves
+  own_bound : (o : ℕ) (x : Object) → object_at h o ≡ Some x → is_unmet x ≡ true → IsMovedIn p h f v o x → set.is_subset x.must (must_of p x.class) ≡ true
+  own_bound o x at unmet moved = bounded o x at (roots_go_on-root h v o x links moved.root at) unmet (type_of_field (field_at p f)) moved.may
+
+  type_bound : (o : ℕ) (x : Object) → IsMovedIn p h f v o x → set.is_subset (must_of p x.class) (must_of_type p field.vtype) ≡ true
+  type_bound o x moved = ap (λ (t : VType). set.is_subset (must_of p x.class) (must_of_type p t)) (sym (ap type_of_field declared.1)) ∙ may_lies p (type_of_field (field_at p f)) x moved.may
+
+  -- nor does it take what is unmet, but its argument, which is bound
+  pub unmet_is_bound : (a : ℕ) → alias_in (method_at p fr.method) ≡ Some (suc a) → (o : ℕ) (x : Object) → object_at h o ≡ Some x → is_unmet x ≡ true → IsMovedIn p h f v o x → bound ≡ true
+  unmet_is_bound a alias o x at unmet moved =
+      bound_when h (method_at p fr.method) fr.locals v a o constructor alias moved.root
+      (argument_alone p ac forms' h fr st covered i d s f o x a here is constructor (alias_is ∙ alias)
+      (heavy_field_by p f field declared.1 x unmet (within_trans x.must (must_of p x.class) (must_of_type p field.vtype) (own_bound o x at unmet moved) (type_bound o x moved)))
+      moved.root at (unmet_is_heavy p x unmet (own_bound o x at unmet moved)) (unmet_owes x unmet))
 
   -- the frame after the store makes what it made
   module _ (own' : PromisesItsOwn p) (after : Frame) (same_makes : (u : ℕ) (c : ClassId) → is_made_in p u c (after ∷ frs) ≡ is_made_in p u c (fr ∷ frs)) where
     old_content : (o : ℕ) (x : Object) (u : ℕ) (g : FieldId) → object_at h o ≡ Some x → object_at k o ≡ Some x → is_unmet x ≡ true → x.owner ≡ owners.Field u g → IsContent p (after ∷ frs) k o x u g
     old_content o x u g at now unmet owner =
         content_goes_on p own' h k NoName (fr ∷ frs) (after ∷ frs) o x x u g content at now (record { class = refl; link = refl; finished = refl; must = refl; called = within_self x.called })
-        (named u content.holder content.at) held (λ m e n fin there class interest must never. absurd never) (λ un' made. same_makes u content.field.class ∙ made)
+        (named u content.holder content.at) held (led_there p h hold.leads (field_value p h u g) o x content.held at (unmet_is_heavy p x unmet content.own) (unmet_owes x unmet)) (λ m e n fin there class interest must never. absurd never) (λ un' made. same_makes u content.field.class ∙ made)
       where
         content : IsContent p (fr ∷ frs) h o x u g
         content = hold.contents o x u g at unmet owner
@@ -287,18 +337,22 @@ module _ (p : Program) (ac : Accept p) (forms' : HasPlainForms p) (h : HeapConte
 
         held : root_of k (field_value p k u g) ≡ Some o
         held = elim (one_field w u f g) [
-          | inr other ↦ ap (root_of k) (holds_other p h w f false v u g other) ∙ root_stays h k store_roots (field_value p h u g) o x content.held at
+          | inr other ↦ ap (root_of k) (holds_other p h w f bound v u g other) ∙ root_stays h k store_roots (field_value p h u g) o x content.held at
           | inl same ↦ subst (λ (z : ℕ). root_of k (field_value p k z g) ≡ Some o) (sym same.0) (subst (λ (z : FieldId). root_of k (field_value p k w z) ≡ Some o) (sym same.1)
               (value_held' (elim (root_is (root_of h v) o) [
                 | inl root ↦ root
-                | inr other ↦ absurd (true≢false (sym unmet ∙ overwritten_is_met p ac forms' h fr st plain covered i d s f w o x here is
-                    (subst (λ (z : FieldId). HoldsHeavy p h fr w z o x) same.1 (subst (λ (z : ℕ). HoldsHeavy p h fr z g o x) same.0 (holds_heavy p h (fr ∷ frs) fr o x u g content at unmet (this ∙ ap values.Object (sym same.0)))))
-                    other))
+                | inr other ↦ absurd (elim form [
+                  | inr alias ↦ no_content alias.0 alias.1 o x g (subst (λ (z : ℕ). IsContent p (fr ∷ frs) h o x z g) same.0 content)
+                  | inl none ↦ true≢false (sym unmet ∙ overwritten_is_met p ac forms' h fr st (alias_is ∙ none) covered i d s f w o x here is
+                      (subst (λ (z : FieldId). HoldsHeavy p h fr w z o x) same.1 (subst (λ (z : ℕ). HoldsHeavy p h fr z g o x) same.0 (holds_heavy p h (fr ∷ frs) fr o x u g content at unmet (this ∙ ap values.Object (sym same.0)))))
+                      other)
+                ])
               ])))
         ]
 
-    new_content : (o : ℕ) (x : Object) → object_at h o ≡ Some x → is_unmet x ≡ true → IsMovedIn p h f v o x → IsContent p (after ∷ frs) k o (with_owner (owners.Field w f) x) w f
-    new_content o x at unmet moved = record {
+    new_content : alias_in (method_at p fr.method) ≡ None → (o : ℕ) (x : Object) → object_at h o ≡ Some x → is_unmet x ≡ true → IsMovedIn p h f v o x
+        → IsContent p (after ∷ frs) k o (with_owner (owners.Field w f) x) w f
+    new_content none o x at unmet moved = record {
       holder = holder.0;
       at = holder.1;
       field = field;
@@ -307,8 +361,8 @@ module _ (p : Program) (ac : Accept p) (forms' : HasPlainForms p) (h : HeapConte
       program = own_class;
       owning = declared.2;
       held = value_held o x moved.root at;
-      bounded = lies;
-      own = own;
+      bounded = type_bound o x moved;
+      own = own_bound o x at unmet moved;
       whole = λ fin. absurd (true≢false (sym fin ∙ holder.2.finished ∙ unfinished));
       unlinked = holder.2.link ∙ free self.link refl;
       kept = λ fin. absurd (true≢false (sym fin ∙ holder.2.finished ∙ unfinished));
@@ -323,12 +377,6 @@ module _ (p : Program) (ac : Accept p) (forms' : HasPlainForms p) (h : HeapConte
         free None none = none
         free (Some l) some = absurd (true≢false (sym (links w self l self_at some).finished ∙ unfinished))
 
-        own : set.is_subset x.must (must_of p x.class) ≡ true
-        own = bounded o x at (roots_go_on-root h v o x links moved.root at) unmet (type_of_field (field_at p f)) moved.may
-
-        lies : set.is_subset (must_of p x.class) (must_of_type p field.vtype) ≡ true
-        lies = ap (λ (t : VType). set.is_subset (must_of p x.class) (must_of_type p t)) (sym (ap type_of_field declared.1)) ∙ may_lies p (type_of_field (field_at p f)) x moved.may
-
         self_class : self.class ≡ field.class
         self_class = class_of_self frs standing called
 
@@ -336,42 +384,46 @@ module _ (p : Program) (ac : Accept p) (forms' : HasPlainForms p) (h : HeapConte
         own_class = body_is_of_program p ac fr st field.class in_class
 
         making : is_made_in p w field.class (fr ∷ frs) ≡ true
-        making = rw (constructor, in_class, this, eq-eqb w w refl) refl
+        making = rw (constructor, in_class, this, eq-eqb w w refl, same_alias (method_at p fr.method), none) refl
+
+    kept_content : (o : ℕ) (y : Object) (u : ℕ) (g : FieldId) → object_at k o ≡ Some y → is_unmet y ≡ true → y.owner ≡ owners.Field u g → (x : Object) → object_at h o ≡ Some x → y ≡ x → IsContent p (after ∷ frs) k o y u g
+    kept_content o y u g at unmet owner x before same =
+        subst (λ (z : Object). IsContent p (after ∷ frs) k o z u g) (sym same)
+        (old_content o x u g before (at ∙ ap Some same) (ap is_unmet (sym same) ∙ unmet) (ap (λ (z : Object). z.owner) (sym same) ∙ owner))
 
     pub stored_contents : HaveContents p (after ∷ frs) k
-    stored_contents o y u g at unmet owner = let x = stored_back p h w f v false o y still at in elim x.2 [
-      | inl same ↦ subst (λ (z : Object). IsContent p (after ∷ frs) k o z u g) (sym same)
-          (old_content o x.0 u g x.1 (at ∙ ap Some same) (ap is_unmet (sym same) ∙ unmet) (ap (λ (z : Object). z.owner) (sym same) ∙ owner))
-      | inr more ↦ elim more [
-        | inl gone ↦ absurd (given_no_field x.0 u g (ap (λ (z : Object). z.owner) (sym gone.1) ∙ owner))
-        | inr taken ↦
-            (let field_is : owners.Field w f ≡ owners.Field u g = ap (λ (z : Object). z.owner) (sym taken.1) ∙ owner in
+    stored_contents o y u g at unmet owner = go bound refl at
+      where
+        taken_content : bound ≡ false → (x : Object) → object_at h o ≡ Some x → IsMovedIn p h f v o x → y ≡ with_owner (owners.Field w f) x → IsContent p (after ∷ frs) k o y u g
+        taken_content free x before moved taken =
+            let field_is : owners.Field w f ≡ owners.Field u g = ap (λ (z : Object). z.owner) (sym taken) ∙ owner in
             let same_object : w ≡ u = cc in
             let same_one : f ≡ g = cc in
+            let unmet' : is_unmet x ≡ true = ap is_unmet (sym taken) ∙ unmet in
             subst (λ (z : ℕ). IsContent p (after ∷ frs) k o y z g) same_object
             (subst (λ (z : FieldId). IsContent p (after ∷ frs) k o y w z) same_one
-            (subst (λ (z : Object). IsContent p (after ∷ frs) k o z w f) (sym taken.1)
-            (new_content o x.0 x.1 (ap is_unmet (sym taken.1) ∙ unmet) taken.0))))
-      ]
-    ]
+            (subst (λ (z : Object). IsContent p (after ∷ frs) k o z w f) (sym taken)
+            (new_content (elim form [ inl none ↦ none | inr alias ↦ absurd (true≢false (sym (unmet_is_bound alias.0 alias.1 o x before unmet' moved) ∙ free)) ]) o x before unmet' moved)))
 
-  -- ---- what fits a field
+        go : (b : Bool) → bound ≡ b → object_at (stored_owning p h w f b v) o ≡ Some y → IsContent p (after ∷ frs) k o y u g
+        go true tied at' = let x = bound_back p h w f v o y at' in elim x.2 [
+          | inl same ↦ kept_content o y u g at unmet owner x.0 x.1 same
+          | inr gone ↦ absurd (given_no_field x.0 u g (ap (λ (z : Object). z.owner) (sym gone.1) ∙ owner))
+        ]
+        go false free at' = let x = stored_back p h w f v false o y (still false) at' in elim x.2 [
+          | inl same ↦ kept_content o y u g at unmet owner x.0 x.1 same
+          | inr more ↦ elim more [
+            | inl gone ↦ absurd (given_no_field x.0 u g (ap (λ (z : Object). z.owner) (sym gone.1) ∙ owner))
+            | inr taken ↦ taken_content free x.0 x.1 taken.0 taken.1
+          ]
+        ]
 
-  pub stored_fit : FieldsFit p k
-  stored_fit u g own_field o y at owning heavy held there class owes =
-      let x = stored_back p h w f v false o y still there in
-      let on = stored_goes_on p h w f v o x.0 y x.2 in
-      fits_on p own_field x.0 y on (before x.0 x.1 (ap (is_heavy_class p) (sym on.class) ∙ class) (owed_before x.0 y on owes))
-    where
-      heavy_in : is_heavy_in p (Some g) ≡ true
-      heavy_in = ap (λ (z : Option Field). not (is_empty (must_of_optional p (signatures.type_of_field z)))) at ∙ ap not heavy
+  -- ---- where links lead
 
-      before : (x : Object) → object_at h o ≡ Some x → is_heavy_class p x.class ≡ true → may_owe x ≡ true → FitsField p own_field x
-      before x at' class' owes' = elim (one_field w u f g) [
-        | inr other ↦ hold.fit u g own_field o x at owning heavy
-            (store_root_before (field_value p h u g) o y (ap (root_of k) (sym (holds_other p h w f false v u g other)) ∙ held) there) at' class' owes'
-        | inl same ↦ stored_value_fits p ac forms' h fr st plain covered hold.fit i d s f own_field w o x here is this (ap (field_at p) (sym same.1) ∙ at)
-            (subst (λ (z : FieldId). is_heavy_in p (Some z) ≡ true) same.1 heavy_in)
-            (store_root_before v o y (ap (root_of k) (sym (holds_here p h w f false v)) ∙ subst (λ (z : ℕ). root_of k (field_value p k z f) ≡ Some o) same.0
-            (subst (λ (z : FieldId). root_of k (field_value p k u z) ≡ Some o) same.1 held)) there) at' class' owes'
-      ]
+  -- the field of an object that is not finished has changed, so none of one that is linked
+  stored_fields : HoldsOn p h k
+  stored_fields n x l g own_field at link declared' owning = holds_other p h w f bound v n g (λ same.
+      true≢false (sym (ap (λ (z : Object). z.finished) (let both : Some x ≡ Some self = sym at ∙ ap (object_at h) same.0 ∙ self_at in (let one : x ≡ self = cc in sym one)) ∙ (links n x l at link).finished) ∙ unfinished))
+
+  pub stored_leads : LinksLead p k
+  stored_leads = leads_stay p h k store_forth stored_fields links hold.leads (λ n y at. (let x = stored_back p h w f v bound n y (still bound) at in (x.0, x.1)))

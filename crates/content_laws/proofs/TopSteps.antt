@@ -13,15 +13,15 @@ use Rattle.program_model.specs.declared.program.Field.{Field}
 use Rattle.program_model.specs.declared.program.Method.{Method}
 use Rattle.program_model.specs.declared.program.Program.{Program}
 use Rattle.program_model.specs.Lookups.{field_at, method_at}
-use Rattle.must_call_sets.specs.Bodies.{is_field_in}
-use Rattle.must_call_sets.specs.MustCallSets.{must_of, must_of_type}
+use Rattle.named_step_laws.specs.Bodies.{is_field_in}
+use Rattle.named_step_laws.specs.MustCallSets.{must_of, must_of_type}
 use Rattle.java_control.specs.Control.{Step}
 use Rattle.java_control.specs.Owned.{is_owning, is_owning_field}
 use Rattle.java_control.specs.declared.action.Action.{Action}
 use Rattle.java_control.specs.declared.action.Action.TheVariants as actions
-use Rattle.accepted_programs.specs.Accept.{Accept}
-use Rattle.flow_rules.specs.Paths.{move_of}
-use Rattle.owned_fact_laws.specs.Outcomes.{IsCallRow, IsPlainRow}
+use Rattle.target_laws.specs.Accept.{Accept}
+use Rattle.named_step_laws.specs.Paths.{move_of}
+use Rattle.argument_laws.specs.Outcomes.{IsCallRow, IsPlainRow}
 use Rattle.stub_conduct.specs.declared.choice.Conduct.{Conduct}
 use Rattle.ledger_state.specs.Contents.{HeapContents}
 use Rattle.ledger_state.specs.Heaps.{next_number, object_at, put_field}
@@ -32,37 +32,39 @@ use Rattle.ledger_state.specs.declared.entry.Owner.TheVariants as owners
 use Rattle.ledger_state.specs.declared.object.Object.{Object}
 use Rattle.ledger_state.specs.declared.value.Value.{Value}
 use Rattle.ledger_state.specs.declared.value.Value.TheVariants as values
-use Rattle.ledger_obligations.specs.Obligations.{is_library_owner, is_unmet, lose, may_move, stored_owning}
-use Rattle.ledger_operations.specs.Operations.{made_value, next_choice}
-use Rattle.ledger_calls.specs.Calls.{argument_values, begun, interest_in, reset_position}
-use Rattle.ledger_calls.specs.Conducts.{arguments_shared, conduct_value, positions}
-use Rattle.ledger_calls.specs.Configuration.{Config, Frame, held_by}
-use Rattle.ledger_frames.specs.Choosing.{frame_steps}
-use Rattle.ledger_frames.specs.Frames.{frame_after}
+use Rattle.program_call_laws.specs.Obligations.{is_library_owner, is_unmet, lose, may_move, stored_owning}
+use Rattle.program_call_laws.specs.Operations.{made_value, next_choice}
+use Rattle.program_call_laws.specs.Calls.{argument_values, begun, interest_in, reset_position}
+use Rattle.program_call_laws.specs.Conducts.{arguments_shared, conduct_value, positions}
+use Rattle.program_call_laws.specs.Configuration.{Config, Frame, held_by}
+use Rattle.target_laws.specs.Choosing.{frame_steps}
+use Rattle.target_laws.specs.Frames.{frame_after}
 use Rattle.ledger_steps.specs.CallSteps.{began_heap, library_heap, self_begun}
 use Rattle.ledger_steps.specs.InnerSteps.{heap_stored, is_bound, store_into, store_of, store_unless, thrown_heap, thrown_value}
 use Rattle.ledger_steps.specs.declared.store.Store.{Store}
-use Rattle.ledger_runs.specs.Steps.{began, library_went, within}
-use Rattle.heap_laws.specs.Heaps.{Evolves, GoesOn, HasLibraryLinks}
-use Rattle.agreement.specs.Agreement.{Agrees, Stands, is_answering}
-use Rattle.agreement.specs.PlainForms.{HasPlainForms, IsPlainSignature}
-use Rattle.next_step_laws.specs.Nexts.{IsInnerStep, IsLibraryMove, IsStartMove}
-use Rattle.next_step_laws.proofs.NameCounts.{accepted_names}
-use Rattle.next_step_laws.proofs.Ready.{plain_step, step_there}
-use Rattle.next_step_laws.proofs.Stacks.{tracked_bounded}
-use Rattle.covered_field_laws.specs.FieldContents.{FieldsHold, IsContent, is_made_in, makes_object, promised_on}
-use Rattle.covered_field_laws.specs.PlaceFacts.{IsCovered}
-use Rattle.covered_field_laws.specs.Ranges.{FieldsInRange, LocalsInRange}
+use Rattle.target_laws.specs.Steps.{began, library_went, within}
+use Rattle.program_call_laws.specs.Heaps.{Evolves, GoesOn, HasEarlierLinks}
+use Rattle.argument_laws.specs.Agreement.{Agrees, Stands, is_answering}
+use Rattle.argument_laws.specs.PlainForms.{HasPlainForms, IsPlainSignature}
+use Rattle.content_heap_laws.proofs.Objects.{stored_links}
+use Rattle.argument_laws.specs.Nexts.{IsInnerStep, IsLibraryMove, IsStartMove}
+use Rattle.argument_laws.proofs.NameCounts.{accepted_names}
+use Rattle.argument_laws.proofs.Ready.{plain_step, step_there}
+use Rattle.argument_laws.proofs.Stacks.{tracked_bounded}
+use Rattle.kept_argument_laws.specs.FieldContents.{FieldsHold, IsContent, is_made_in, makes_holder, promised_on}
+use Rattle.kept_argument_laws.specs.PlaceFacts.{IsCovered}
+use Rattle.kept_argument_laws.specs.Ranges.{FieldsInRange, LocalsInRange}
 use Rattle.content_heap_laws.proofs.Configs.{frames_stay}
 use Rattle.content_heap_laws.proofs.Steps.{IsFuller, owning_fuller}
 use Rattle.content_heap_laws.proofs.Values.{value_stays}
 use Rattle.content_laws.proofs.Frames.{callee_dispatched, callee_fresh, callee_new, callee_unfinished}
-use Rattle.content_heap_laws.proofs.Goes.{contents_go_on, dispatched_on, fields_fit_on, goes_forth, self_goes, there, unfinished_on}
+use Rattle.content_heap_laws.proofs.Goes.{contents_go_on, dispatched_on, goes_forth, self_goes, there, unfinished_on}
 use Rattle.content_heap_laws.proofs.Heaps.{inner_goes, library_goes, start_goes}
 use Rattle.content_heap_laws.proofs.Leaves.{lost_from}
+use Rattle.content_heap_laws.proofs.LinkSteps.{leads_go_on}
 use Rattle.content_laws.proofs.Steps.{lost, same_after, IsSameFrame, LocalsIn, same_dispatched, same_fresh, same_makes, same_new, same_unfinished, stepped, this_in}
 use Rattle.content_laws.proofs.LibraryNotes.{no_library_note}
-use Rattle.content_laws.proofs.Stores.{store_forth, stored_contents, stored_fit, unbound}
+use Rattle.content_laws.proofs.Stores.{still, store_forth, stored_contents, stored_leads}
 use Rattle.content_laws.proofs.Promised.{promises_its_own}
 use Rattle.content_heap_laws.specs.Going.{Goes, IsNotedBy, NoName, PromisesItsOwn}
 
@@ -97,7 +99,7 @@ module _ (p : Program) (ac : Accept p) (forms' : HasPlainForms p) (c : Config) (
   st : Stands p fr
   st = agrees.standing.0
 
-  links : HasLibraryLinks h
+  links : HasEarlierLinks h
   links = agrees.links
 
   own : PromisesItsOwn p
@@ -118,12 +120,13 @@ module _ (p : Program) (ac : Accept p) (forms' : HasPlainForms p) (c : Config) (
   abbrev stepped_frame : Option ClassId → Step → Frame
   stepped_frame e s = frame_after p h fr s (thrown_value h e (made_value p h c.arrays c.statics (next_choice c.choices c.used) fr.locals s.action))
 
-  inner_hold : (e : Option ClassId) (i : ℕ) (s : Step) → slice_get (frame_steps p fr) i ≡ Some s → (IsPlainRow s.action ⊎ IsCallRow s.action) → Done (within p c fr frs e s)
-  inner_hold e i s here row =
-      stepped p own h (lose (held_by (stepped_frame e s ∷ frs)) (heap_stored p (method_at p fr.method) fr.locals (store_unless e (store_of fr.locals s.action)) (thrown_heap p e h))) NoName links
+  inner_hold : (e : Option ClassId) (i : ℕ) (s : Step) → slice_get (frame_steps p fr) i ≡ Some s → (IsPlainRow s.action ⊎ IsCallRow s.action) → HasEarlierLinks (within p c fr frs e s).heap
+      → Done (within p c fr frs e s)
+  inner_hold e i s here row now =
+      stepped p own h (lose (held_by (stepped_frame e s ∷ frs)) (heap_stored p (method_at p fr.method) fr.locals (store_unless e (store_of fr.locals s.action)) (thrown_heap p e h))) NoName links now
       (inner_goes p (method_at p fr.method) fr.locals e s.action (held_by (stepped_frame e s ∷ frs)) h (plain_step p ac forms' fr st i s here) row links) fr (stepped_frame e s) frs
-      (same_after p h fr s (thrown_value h e (made_value p h c.arrays c.statics (next_choice c.choices c.used) fr.locals s.action))) in' ranges
-      (λ o x y w f at now unmet on content m d' n fin there' class interest must never. absurd never) hold
+      (same_after p h fr s (thrown_value h e (made_value p h c.arrays c.statics (next_choice c.choices c.used) fr.locals s.action))) in'
+      (λ o x y w f at now' unmet on content m d' n fin there' class interest must never. absurd never) hold
 
   -- an unmet object that may move has an obligation by its class
   bounded : (o : ℕ) (x : Object) → object_at h o ≡ Some x → x.link ≡ None → is_unmet x ≡ true → (t : VType) → may_move p t x ≡ true → set.is_subset x.must (must_of p x.class) ≡ true
@@ -161,29 +164,31 @@ module _ (p : Program) (ac : Accept p) (forms' : HasPlainForms p) (c : Config) (
     Stored w = heap_stored p (method_at p fr.method) fr.locals (store_into w f (temp_value fr.locals t)) h
 
     abbrev IsHeld : HeapContents → Type 0
-    IsHeld k = (FieldsInRange k × (next_number h ≤ next_number k)) × FieldsHold p (after ∷ frs) k
+    IsHeld k = (FieldsInRange k × (next_number h ≤ next_number k)) × HasEarlierLinks k × FieldsHold p (after ∷ frs) k
 
     no_store : IsHeld h
     no_store = (
       (ranges, omega arith),
-      stepped p own h h NoName links (self_goes p h NoName) fr after frs (same_after p h fr s v) in' ranges
+      links,
+      stepped p own h h NoName links links (self_goes p h NoName) fr after frs (same_after p h fr s v) in'
           (λ o x y w g at now unmet on content m e n fin there' class interest must never. absurd never) hold,
     )
 
-    unbound' : (w : ℕ) → fr.locals.this ≡ values.Object w → is_bound h (method_at p fr.method) fr.locals (temp_value fr.locals t) ≡ false
-    unbound' w this = let self = there h w (top.this w (ap number_of this)) in
-        unbound p ac forms' h fr frs st links covered hold i s here f t is w this self.0 self.1 agrees.standing.1 agrees.stacked bounded
+    -- the value is the argument of an alias
+    abbrev tied : Bool
+    tied = is_bound h (method_at p fr.method) fr.locals (temp_value fr.locals t)
 
-    store_held : (w : ℕ) → fr.locals.this ≡ values.Object w → IsHeld (stored_owning p h w f false (temp_value fr.locals t))
+    store_held : (w : ℕ) → fr.locals.this ≡ values.Object w → IsHeld (stored_owning p h w f tied (temp_value fr.locals t))
     store_held w this = (
       (full.fields, full.count),
+      stored_links p h w f tied (temp_value fr.locals t) links (still p ac forms' h fr frs st links covered hold i s here f t is w this self.0 self.1 agrees.standing.1 agrees.stacked bounded tied),
       record {
         contents = stored_contents p ac forms' h fr frs st links covered hold i s here f t is w this self.0 self.1 agrees.standing.1 agrees.stacked bounded own after (same_makes p fr after frs same);
-        fit = stored_fit p ac forms' h fr frs st links covered hold i s here f t is w this self.0 self.1 agrees.standing.1 agrees.stacked bounded;
+        leads = stored_leads p ac forms' h fr frs st links covered hold i s here f t is w this self.0 self.1 agrees.standing.1 agrees.stacked bounded;
         new = same_new p fr after frs same hold.new;
         fresh = same_fresh p fr after frs same hold.fresh;
-        unfinished = same_unfinished p fr after frs same (stored_owning p h w f false (temp_value fr.locals t)) (unfinished_on p h (stored_owning p h w f false (temp_value fr.locals t)) forth (fr ∷ frs) (this_in h (fr ∷ frs) in') hold.unfinished);
-        dispatched = same_dispatched p fr after frs same (stored_owning p h w f false (temp_value fr.locals t)) (dispatched_on p h (stored_owning p h w f false (temp_value fr.locals t)) forth fr frs below hold.dispatched);
+        unfinished = same_unfinished p fr after frs same (stored_owning p h w f tied (temp_value fr.locals t)) (unfinished_on p h (stored_owning p h w f tied (temp_value fr.locals t)) forth (fr ∷ frs) (this_in h (fr ∷ frs) in') hold.unfinished);
+        dispatched = same_dispatched p fr after frs same (stored_owning p h w f tied (temp_value fr.locals t)) (dispatched_on p h (stored_owning p h w f tied (temp_value fr.locals t)) forth fr frs below hold.dispatched);
       },
     )
       where
@@ -193,41 +198,43 @@ module _ (p : Program) (ac : Accept p) (forms' : HasPlainForms p) (c : Config) (
         self : (x : Object) × (object_at h w ≡ Some x)
         self = there h w (top.this w (ap number_of this))
 
-        forth : Evolves h (stored_owning p h w f false (temp_value fr.locals t))
+        forth : Evolves h (stored_owning p h w f tied (temp_value fr.locals t))
         forth = store_forth p ac forms' h fr frs st links covered hold i s here f t is w this self.0 self.1 agrees.standing.1 agrees.stacked bounded
 
-        full : IsFuller h (stored_owning p h w f false (temp_value fr.locals t))
-        full = owning_fuller p h w f false (temp_value fr.locals t) (top.this w (ap number_of this)) (top.temps t) ranges
+        full : IsFuller h (stored_owning p h w f tied (temp_value fr.locals t))
+        full = owning_fuller p h w f tied (temp_value fr.locals t) (top.this w (ap number_of this)) (top.temps t) ranges
 
     by_this : (u : Value) → fr.locals.this ≡ u → IsHeld (Stored (number_of u))
     by_this values.Nothing this = no_store
-    by_this (values.Object w) this = subst IsHeld (sym (ap (λ (b : Bool). if b then stored_owning p h w f (is_bound h (method_at p fr.method) fr.locals (temp_value fr.locals t)) (temp_value fr.locals t)
-        else put_field w f (temp_value fr.locals t) h) owning ∙ ap (λ (b : Bool). stored_owning p h w f b (temp_value fr.locals t)) (unbound' w this))) (store_held w this)
+    by_this (values.Object w) this =
+        subst IsHeld (sym (ap (λ (b : Bool). if b then stored_owning p h w f tied (temp_value fr.locals t) else put_field w f (temp_value fr.locals t) h) owning)) (store_held w this)
     by_this u this = no_store
 
     store_hold : Done (within p c fr frs None s)
     store_hold = subst (λ (st' : Option Store). Done (record (within p c fr frs None s) { heap = lose (held_by (after ∷ frs)) (heap_stored p (method_at p fr.method) fr.locals st' h) })) (sym (ap (store_of fr.locals) is))
-        (lost p own (Stored (number_of fr.locals.this)) (held_by (after ∷ frs)) after frs (frames_stay h (Stored (number_of fr.locals.this)) kept.0.1 frs below) (value_stays h (Stored (number_of fr.locals.this)) kept.0.1 fr.locals.this top.this) kept.1)
+        (lost p own (Stored (number_of fr.locals.this)) kept.1 (held_by (after ∷ frs)) after frs (frames_stay h (Stored (number_of fr.locals.this)) kept.0.1 frs below) (value_stays h (Stored (number_of fr.locals.this)) kept.0.1 fr.locals.this top.this) kept.2)
       where
         kept : IsHeld (Stored (number_of fr.locals.this))
         kept = by_this fr.locals.this refl
 
-  pub inner_step : (e : Option ClassId) (s : Step) (i : ℕ) → slice_get (frame_steps p fr) i ≡ Some s → IsInnerStep p h c.arrays fr.method fr.locals e s → Done (within p c fr frs e s)
-  inner_step e s i here next = elim next [
-    | inl plain ↦ inner_hold e i s here (inl plain.row)
+  pub inner_step : (e : Option ClassId) (s : Step) (i : ℕ) → slice_get (frame_steps p fr) i ≡ Some s → IsInnerStep p h c.arrays fr.method fr.locals e s → HasEarlierLinks (within p c fr frs e s).heap
+      → Done (within p c fr frs e s)
+  inner_step e s i here next now = elim next [
+    | inl plain ↦ inner_hold e i s here (inl plain.row) now
     | inr more ↦ elim more [
-      | inl null ↦ inner_hold e i s here (inr null.row)
+      | inl null ↦ inner_hold e i s here (inr null.row) now
       | inr store ↦ subst (λ (x : Option ClassId). Done (within p c fr frs x s)) (sym store.normal) (store_hold i s here store.field store.temp store.action)
     ]
   ]
 
   -- ---- calls
 
-  pub began_hold : (named runs : MethodId) (a : Action) (at : Pos) → IsStartMove p h c.arrays fr.locals (frame_steps p fr) named runs a → Done (began p c fr frs named runs a at)
-  began_hold named runs a at next = record {
-    contents = contents_go_on p h k NoName goes own (fr ∷ frs) (callee ∷ fr ∷ frs) hold.contents (λ o x y w f at' now unmet on content m e n fin there' class interest must never. absurd never)
-        (λ o x y w f content at' owner un' made'. or_right (makes_object p w content.field.class callee) (is_made_in p w content.field.class (fr ∷ frs)) made');
-    fit = fields_fit_on p h k NoName goes links ranges hold.fit;
+  pub began_hold : (named runs : MethodId) (a : Action) (at : Pos) → IsStartMove p h c.arrays fr.locals (frame_steps p fr) named runs a
+      → HasEarlierLinks (began p c fr frs named runs a at).heap → Done (began p c fr frs named runs a at)
+  began_hold named runs a at next now = record {
+    contents = contents_go_on p h k NoName goes own hold.leads (fr ∷ frs) (callee ∷ fr ∷ frs) hold.contents (λ o x y w f at' now' unmet on content m e n fin there' class interest must never. absurd never)
+        (λ o x y w f content at' owner un' made'. or_right (makes_holder p w content.field.class callee) (is_made_in p w content.field.class (fr ∷ frs)) made');
+    leads = leads_go_on p h k NoName goes links hold.leads now;
     new = callee_new p ac forms' h c.arrays fr frs st in' named runs a next hold.new;
     fresh = callee_fresh p ac forms' h c.arrays fr frs st in' named runs a next hold.fresh;
     unfinished = callee_unfinished p ac forms' h c.arrays fr frs st in' named runs a next (length frames) k links from (unfinished_on p h k (goes_forth p h k NoName goes) (fr ∷ frs) (this_in h (fr ∷ frs) in') hold.unfinished);
@@ -257,12 +264,13 @@ module _ (p : Program) (ac : Accept p) (forms' : HasPlainForms p) (c : Config) (
   abbrev called_heap : MethodId → Conduct → Step → HeapContents
   called_heap named x s = lose (held_by (called_frame named x s ∷ frs)) (library_heap p fr.locals s.action (method_at p named) (method_at p named) x (length frs + 1) h)
 
-  pub library_hold : (named m : MethodId) (x : Conduct) (s : Step) → IsLibraryMove p h c.arrays fr.locals (frame_steps p fr) named m x s → Done (library_went p c fr frs named m x s)
-  library_hold named m x s next =
+  pub library_hold : (named m : MethodId) (x : Conduct) (s : Step) → IsLibraryMove p h c.arrays fr.locals (frame_steps p fr) named m x s
+      → HasEarlierLinks (library_went p c fr frs named m x s).heap → Done (library_went p c fr frs named m x s)
+  library_hold named m x s next now =
       subst (λ (z : MethodId). Done (library_went p c fr frs named z x s)) (sym next.same)
-      (stepped p own h (called_heap named x s) (IsNotedBy fr.locals s.action (method_at p named)) links
+      (stepped p own h (called_heap named x s) (IsNotedBy fr.locals s.action (method_at p named)) links (subst (λ (z : MethodId). HasEarlierLinks (library_went p c fr frs named z x s).heap) next.same now)
       (library_goes p fr.locals s.action (method_at p named) x (length frs + 1) (held_by (called_frame named x s ∷ frs)) h (plain_no_reset p (method_at p named) next.signature) (small_interest p ac named) links) fr (called_frame named x s) frs
-      (same_after p h fr s (conduct_value (length (arguments_shared c.arrays fr.locals s.action (method_at p named))) (method_at p named) (positions fr.locals s.action (next_number h) x) (next_number h) x)) in' ranges
+      (same_after p h fr s (conduct_value (length (arguments_shared c.arrays fr.locals s.action (method_at p named))) (method_at p named) (positions fr.locals s.action (next_number h) x) (next_number h) x)) in'
       keeps hold)
     where
       keeps : (o : ℕ) (y z : Object) (w : ℕ) (f : FieldId) → object_at h o ≡ Some y → object_at (called_heap named x s) o ≡ Some z → is_unmet z ≡ true → GoesOn y z → (content : IsContent p (fr ∷ frs) h o y w f)

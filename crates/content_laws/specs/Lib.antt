@@ -1,1 +1,3 @@
-pub use Rattle.next_step_laws.specs.Nexts
+pub mod Exits
+pub use Rattle.argument_laws.specs.Nexts
+pub use Rattle.target_laws.specs.Frames

@@ -1,4 +1,4 @@
-//! What owning fields hold and own, over the steps of a run.
+//! What owning fields hold and own, and where links lead, over the steps of a run.
 #![tactic(auto)]
 
 mod fields;

@@ -4,22 +4,22 @@ use Rattle.std.proofs.lemmas.Option.{slice_get-map}
 use Rattle.program_model.specs.declared.kinds.BodyId.{BodyId}
 use Rattle.program_model.specs.declared.program.Program.{Program}
 use Rattle.program_model.specs.Lookups.{method_at}
-use Rattle.must_call_sets.specs.Bodies.{method_in, method_of}
+use Rattle.place_facts.specs.Bodies.{method_in, method_of}
 use Rattle.java_control.specs.Control.{Step, next_of}
 use Rattle.java_control.specs.Remaining.{Todo}
 use Rattle.java_control.specs.declared.fact.Fact.{Fact}
 use Rattle.java_control.specs.declared.fact.Origin.{Origin}
 use Rattle.java_control.specs.declared.fact.Outcome.{Outcome}
 use Rattle.java_control.specs.declared.fact.Outcome.TheVariants.{Next, Gone, Fault}
-use Rattle.obligation_facts.specs.SmallActions.{IsSmallAction}
+use Rattle.place_facts.specs.SmallActions.{IsSmallAction}
 use Rattle.flow_rules.specs.Flow.{flow}
 use Rattle.flow_rules.specs.Paths.{Move, Reach, flowed, move_of, relation_of}
 use Rattle.accepted_programs.specs.Accept.{Accept}
 use Rattle.ledger_calls.specs.Configuration.{Frame}
-use Rattle.ledger_frames.specs.Choosing.{frame_steps, steps_by}
+use Rattle.place_facts.specs.Choosing.{frame_steps, steps_by}
 use Rattle.place_facts.specs.Agreement.{Stands}
 use Rattle.place_facts.specs.PlainForms.{HasPlainForms, IsPlainAction}
-use Rattle.owned_fact_laws.specs.Outcomes.{After, IsFault}
+use Rattle.fact_step_laws.specs.Outcomes.{After, IsFault}
 
 pub followed : (p : Program) (ac : Accept p) (b : BodyId) (o : Origin) {k : List Todo} (i : ℕ) (t : Move (List Todo)) (f : Fact) (P : Fact → Type 0)
     → Reach p b (relation_of p b) o k f → slice_get ((relation_of p b).next k) i ≡ Some t → After P (flow p b o t.action t.edge f)

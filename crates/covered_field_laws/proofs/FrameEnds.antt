@@ -2,7 +2,7 @@
 use Rattle.std.proofs.Common.{◌≡◌, ◌⊎◌, inl, inr, ℕ, Bool, true, false, not, ◌&&◌, Option, Some, None, List, [], ◌∷◌, slice_get, nat_eq, refl, sym, ap, ◌∙◌, subst, true≢false, eqb-true}
 use Rattle.std.specs.FinSet as set
 use Rattle.std.proofs.lemmas.Bool.{and_from, and_parts, not-true}
-use Rattle.rlc_base.proofs.SetLaws.{empty_within, union_monotone, within_self, within_trans, within_union_right}
+use Rattle.place_facts.proofs.SetLaws.{empty_within, union_monotone, within_self, within_trans, within_union_right}
 use Rattle.program_model.specs.declared.kinds.BodyId.{BodyId}
 use Rattle.program_model.specs.declared.kinds.FieldId.{FieldId}
 use Rattle.program_model.specs.declared.kinds.Target.{Target}
@@ -11,9 +11,9 @@ use Rattle.program_model.specs.declared.program.Method.{Method}
 use Rattle.program_model.specs.declared.program.Program.{Program}
 use Rattle.program_model.specs.declared.program.Promise.{Promise}
 use Rattle.program_model.specs.Lookups.{method_at}
-use Rattle.must_call_sets.specs.Bodies.{alias_position, constructs, has_field_place, is_constructor, is_finalizer, method_of, promises_in, throwing_promises_in}
-use Rattle.must_call_sets.specs.MustCallSets.{Names, is_heavy_class}
-use Rattle.must_call_sets.specs.Signatures.{is_of_field, names_of_all, when}
+use Rattle.place_facts.specs.Bodies.{alias_in, alias_position, constructs, has_field_place, is_constructor, is_finalizer, method_of, promises_in, throwing_promises_in}
+use Rattle.place_facts.specs.MustCallSets.{Names, is_heavy_class}
+use Rattle.place_facts.specs.Signatures.{is_of_field, names_of_all, when}
 use Rattle.java_control.specs.Control.{Step}
 use Rattle.java_control.specs.Owned.{place_of_field}
 use Rattle.java_control.specs.declared.action.Action.{Action}
@@ -22,7 +22,7 @@ use Rattle.java_control.specs.declared.action.Completion.{Completion}
 use Rattle.java_control.specs.declared.action.Completion.TheVariants as completions
 use Rattle.java_control.specs.declared.fact.Mode.TheVariants as modes
 use Rattle.java_control.specs.declared.fact.OriginKind.{OriginKind}
-use Rattle.obligation_facts.specs.Facts.{PlaceSet, are_position, has, is_held, is_met, is_origin_at, need, owes, position_of}
+use Rattle.place_facts.specs.Facts.{PlaceSet, are_position, has, is_held, is_met, is_origin_at, need, owes, position_of}
 use Rattle.called_methods.specs.Promises.{is_of_held_field, promised_at_end, promised_by_end, promised_by_throw, promised_on_both, promised_on_fields, promised_on_position}
 use Rattle.flow_rules.specs.Ends.{constructor_throws, is_throw}
 use Rattle.flow_rules.specs.Flow.{flow}
@@ -30,17 +30,17 @@ use Rattle.flow_rules.specs.Paths.{Reach, move_of, relation_of}
 use Rattle.accepted_programs.specs.Accept.{Accept}
 use Rattle.ledger_state.specs.Contents.{HeapContents}
 use Rattle.ledger_state.specs.declared.object.Object.{Object}
-use Rattle.ledger_obligations.specs.Obligations.{is_unmet}
+use Rattle.place_facts.specs.Obligations.{is_unmet}
 use Rattle.ledger_calls.specs.Configuration.{Frame}
-use Rattle.ledger_frames.specs.Choosing.{body_id, frame_steps}
+use Rattle.place_facts.specs.Choosing.{body_id, frame_steps}
 use Rattle.place_facts.specs.Agreement.{Stands}
-use Rattle.owned_fact_laws.specs.Outcomes.{IsFault}
+use Rattle.fact_step_laws.specs.Outcomes.{IsFault}
 use Rattle.place_facts.specs.FieldContents.{promised_on}
-use Rattle.place_facts.specs.PlaceFacts.{Covers, IsCovered, IsTrueOf}
+use Rattle.place_facts.specs.PlaceFacts.{Covers, IsCovered, IsTrueOf, makes_alone}
 use Rattle.fact_step_laws.proofs.Ending.{ends, held_stays_here}
 use Rattle.covered_field_laws.specs.Covering.{HoldsHeavy}
 use Rattle.covered_field_laws.proofs.Following.{breaks_nothing, method_here, same_body, step_there}
-use Rattle.covered_field_laws.proofs.HeavyFields.{HasPlace, covers_field, has_place_here, heavy_here, held_claims}
+use Rattle.covered_field_laws.proofs.HeavyFields.{HasPlace, covers_field, has_place_here, heavy_here, held_claims, held_tells, makes_alone_by}
 
 -- ---- the promises on a field
 
@@ -112,9 +112,6 @@ module _ (p : Program) (ac : Accept p) (h : HeapContents) (fr : Frame) (st : Sta
   owned : (cover.fact.mode ≡ modes.Held) × (is_heavy_class p cover.origin.class ≡ true)
   owned = cover.held _ there.small cover.here (heavy_here p h fr f there holds.heavy)
 
-  truth : IsTrueOf p x cover.origin cover.fact
-  truth = cover.true' (held_claims p cover.origin cover.fact owned.0 owned.1)
-
   reached : Reach p st.number (relation_of p st.number) cover.origin fr.control cover.fact
   reached = subst (λ (b : BodyId). Reach p b (relation_of p b) cover.origin fr.control cover.fact) (same_body cover.body st.number (body_id p fr.method) cover.id st.id) cover.reached
 
@@ -129,11 +126,12 @@ module _ (p : Program) (ac : Accept p) (h : HeapContents) (fr : Frame) (st : Sta
     | inr good ↦ good
   ]
 
-  pub kept_at_end : (m : Method) → method_at p fr.method ≡ Some m → (is_throw q ≡ false) ⊎ (is_finalizer p st.number ≡ true) → set.is_subset (promised_on f m) x.called ≡ true
-  kept_at_end m named way =
+  pub kept_at_end : x.finished ≡ true → (m : Method) → method_at p fr.method ≡ Some m → (is_throw q ≡ false) ⊎ (is_finalizer p st.number ≡ true) → set.is_subset (promised_on f m) x.called ≡ true
+  kept_at_end done m named way =
       within_trans (promised_on f m) (promised_by_end p st.number cover.origin.kind cover.fact.places q) x.called
       (by_end p st.number cover.origin.kind cover.fact.places f m place cover.here (method_here p fr st ∙ named) q way)
-      (within_trans (promised_by_end p st.number cover.origin.kind cover.fact.places q) cover.fact.called x.called kept.2 truth.called)
+      (within_trans (promised_by_end p st.number cover.origin.kind cover.fact.places q) cover.fact.called x.called kept.2
+      (cover.known done (held_tells p fr.method cover.origin cover.fact owned.0 owned.1)))
 
   met_of : (t c l m a : Bool) → t ≡ true → c ≡ true → l ≡ true → a ≡ false → (t && c && l && not m && not a) ≡ false → m ≡ true
   met_of t c l true a throws makes held plain good = refl
@@ -142,6 +140,12 @@ module _ (p : Program) (ac : Accept p) (h : HeapContents) (fr : Frame) (st : Sta
   pub met_at_throw : alias_position p st.number ≡ None → is_throw q ≡ true → constructs (method_at p fr.method) ≡ true → is_unmet x ≡ false
   met_at_throw plain throws makes = unmet_not (is_unmet x) refl
     where
+      alone : makes_alone (method_at p fr.method) ≡ true
+      alone = makes_alone_by (method_at p fr.method) makes (ap alias_in (sym (method_here p fr st)) ∙ plain)
+
+      truth : IsTrueOf p x cover.origin cover.fact
+      truth = cover.true' (held_claims p (method_at p fr.method) cover.origin cover.fact alone owned.0 owned.1)
+
       met : is_met cover.origin cover.fact ≡ true
       met = met_of (is_throw q) (is_constructor p st.number) (is_held cover.fact.mode) (is_met cover.origin cover.fact) (is_origin_at cover.origin.kind (alias_position p st.number))
           throws (ap constructs (method_here p fr st) ∙ makes) (rw owned.0 refl) (rw plain (no_position cover.origin.kind)) kept.1

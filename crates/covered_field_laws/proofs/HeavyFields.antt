@@ -1,19 +1,25 @@
 -- What an owning field of `this` holds in a frame that has a place for the field.
-use Rattle.std.proofs.Common.{◌≡◌, ℕ, ◌<◌, true, Option, Some, None, refl, sym, ap, ◌∙◌, true≢false, eqb-true}
-use Rattle.std.proofs.lemmas.Bool.{and_parts}
+use Rattle.std.proofs.Common.{◌≡◌, ◌⊎◌, inl, inr, ℕ, ◌<◌, Bool, true, false, not, ◌&&◌, ◌||◌, Option, Some, None, refl, sym, ap, ◌∙◌, true≢false, eqb-true}
+use Rattle.std.proofs.lemmas.Bool.{and_parts, not-true, or_left, or_right}
+use Rattle.place_facts.proofs.SetLaws.{within_trans}
 use Rattle.program_model.specs.declared.kinds.ClassId.{ClassId}
 use Rattle.program_model.specs.declared.kinds.FieldId.{FieldId}
+use Rattle.program_model.specs.declared.kinds.MethodId.{MethodId}
 use Rattle.program_model.specs.declared.program.Field.{Field}
 use Rattle.program_model.specs.declared.program.Method.{Method}
 use Rattle.program_model.specs.declared.program.Program.{Program}
 use Rattle.program_model.specs.Lookups.{field_at, method_at}
 use Rattle.program_model.specs.SuperTests.{is_class}
-use Rattle.must_call_sets.specs.Bodies.{has_field_place, is_class_of, is_field_in, method_of}
-use Rattle.must_call_sets.specs.MustCallSets.{is_heavy_class}
+use Rattle.place_facts.specs.Bodies.{alias_in, constructs, has_field_place, is_class_of, is_field_in, method_of}
+use Rattle.place_facts.specs.MustCallSets.{fits_type, is_empty, is_heavy_class, must_of, must_of_optional, no_names}
+use Rattle.place_facts.specs.Signatures.{field_type}
 use Rattle.java_control.specs.Owned.{field_number, place_of_field}
 use Rattle.java_control.specs.declared.fact.Fact.{Fact}
+use Rattle.java_control.specs.declared.fact.Mode.{Mode}
 use Rattle.java_control.specs.declared.fact.Mode.TheVariants as modes
 use Rattle.java_control.specs.declared.fact.Origin.{Origin}
+use Rattle.java_control.specs.declared.place.Place.TheVariants as places
+use Rattle.place_facts.specs.Facts.{is_held, is_own}
 use Rattle.accepted_programs.specs.Accept.{Accept}
 use Rattle.ledger_state.specs.Contents.{HeapContents}
 use Rattle.ledger_state.specs.Fields.{field_of, field_value}
@@ -21,10 +27,10 @@ use Rattle.ledger_state.specs.Heaps.{root_of}
 use Rattle.ledger_state.specs.declared.object.Object.{Object}
 use Rattle.ledger_state.specs.declared.value.Value.{Value}
 use Rattle.ledger_state.specs.declared.value.Value.TheVariants as values
-use Rattle.ledger_operations.specs.Places.{field_place_value, owning_field_beside, place_value}
+use Rattle.place_facts.specs.Places.{field_place_value, owning_field_beside, place_value}
 use Rattle.ledger_calls.specs.Configuration.{Frame}
 use Rattle.place_facts.specs.Agreement.{Stands}
-use Rattle.place_facts.specs.PlaceFacts.{Covers, IsCovered, claims, is_heavy_field, is_heavy_in}
+use Rattle.place_facts.specs.PlaceFacts.{Covers, IsCovered, claims, fits_field, fits_in, is_heavy_field, is_heavy_in, is_lent, makes_alone, tells_calls}
 use Rattle.field_place_laws.proofs.FieldPlaces.{beside_of_place}
 use Rattle.covered_field_laws.specs.Covering.{HoldsHeavy}
 use Rattle.covered_field_laws.proofs.Following.{method_here}
@@ -73,9 +79,75 @@ module _ (p : Program) (h : HeapContents) (fr : Frame) (f : FieldId) (here : Has
   covers_field covered w o x holds =
       covered (place_of_field p f) o x here.small (ap (root_of h) (value_here w holds.this) ∙ holds.held) holds.at holds.class holds.owes
 
--- a fact that says that a field owns the object claims it
-pub held_claims : (p : Program) (o : Origin) (g : Fact) → g.mode ≡ modes.Held → is_heavy_class p o.class ≡ true → claims p o g ≡ true
-held_claims p o g held heavy = rw (heavy, held) refl
+-- in a constructor without an aliased argument a fact that says that a field holds the object claims it
+pub held_claims : (p : Program) (m : Option Method) (o : Origin) (g : Fact) → makes_alone m ≡ true → g.mode ≡ modes.Held → is_heavy_class p o.class ≡ true → claims p m o g ≡ true
+held_claims p m o g alone held heavy = rw (heavy, held, alone) refl
 
-pub own_claims : (p : Program) (o : Origin) (g : Fact) → g.mode ≡ modes.Own → is_heavy_class p o.class ≡ true → claims p o g ≡ true
-own_claims p o g own heavy = rw (heavy, own) refl
+pub own_claims : (p : Program) (m : Option Method) (o : Origin) (g : Fact) → g.mode ≡ modes.Own → is_heavy_class p o.class ≡ true → claims p m o g ≡ true
+own_claims p m o g own heavy = rw (heavy, own) refl
+
+-- what such a fact knows was called
+pub held_tells : (p : Program) (m : MethodId) (o : Origin) (g : Fact) → g.mode ≡ modes.Held → is_heavy_class p o.class ≡ true → tells_calls p m o g ≡ true
+held_tells p m o g held heavy = or_right (is_lent p (method_at p m) o.kind) (is_heavy_class p o.class && is_held g.mode) (rw (heavy, held) refl)
+
+-- a constructor without an aliased argument
+pub makes_alone_by : (m : Option Method) → constructs m ≡ true → alias_in m ≡ None → makes_alone m ≡ true
+makes_alone_by m makes none = rw (makes, none) refl
+
+-- the type of a field that bounds a class with an obligation has one
+pub heavy_by_fit : (p : Program) (c : ClassId) (f : FieldId) → is_heavy_class p c ≡ true → fits_type p c (field_type p f) ≡ true → is_heavy_in p (Some f) ≡ true
+heavy_by_fit p c f heavy fit = go (is_empty (must_of_optional p (field_type p f))) refl
+  where
+    go : (b : Bool) → is_empty (must_of_optional p (field_type p f)) ≡ b → not b ≡ true
+    go true none = absurd (true≢false (sym (within_trans (must_of p c) (must_of_optional p (field_type p f)) no_names fit none) ∙ not-true (is_empty (must_of p c)) heavy))
+    go false some = refl
+
+pub heavy_by_place : (p : Program) (m : MethodId) (k : ℕ) (c : ClassId) → is_heavy_class p c ≡ true → fits_field p m k c ≡ true → is_heavy_field p m (places.Field k) ≡ true
+heavy_by_place p m k c heavy fit = go (owning_field_beside p m k) fit
+  where
+    go : (x : Option FieldId) → fits_in p c x ≡ true → is_heavy_in p x ≡ true
+    go None none = absurd (true≢false (sym none))
+    go (Some f) fits = heavy_by_fit p c f heavy fits
+
+-- ---- what a fact tells
+
+either : (a b : Bool) → (a || b) ≡ true → (a ≡ true) ⊎ (b ≡ true)
+either true b is = inl refl
+either false b is = inr is
+
+-- it is that of what is lent, or it says that a field holds the object
+pub tells_by : (p : Program) (m : MethodId) (o : Origin) (f : Fact) → tells_calls p m o f ≡ true → (is_lent p (method_at p m) o.kind ≡ true) ⊎ ((is_heavy_class p o.class ≡ true) × (is_held f.mode ≡ true))
+tells_by p m o f tells = elim (either (is_lent p (method_at p m) o.kind) (is_heavy_class p o.class && is_held f.mode) tells) [
+  | inl lent ↦ inl lent
+  | inr held ↦ inr (and_parts (is_heavy_class p o.class) (is_held f.mode) held)
+]
+
+pub lent_tells : (p : Program) (m : MethodId) (o : Origin) (f : Fact) → is_lent p (method_at p m) o.kind ≡ true → tells_calls p m o f ≡ true
+lent_tells p m o f lent = or_left (is_lent p (method_at p m) o.kind) (is_heavy_class p o.class && is_held f.mode) lent
+
+-- a fact claims only where it says that the object is owned
+pub claims_owned : (p : Program) (m : Option Method) (o : Origin) (f : Fact) → claims p m o f ≡ true → (is_heavy_class p o.class ≡ true) × ((is_own f.mode || is_held f.mode) ≡ true)
+claims_owned p m o f claimed =
+    let parts = and_parts (is_heavy_class p o.class) (is_own f.mode || is_held f.mode && makes_alone m) claimed in
+    (parts.0, go (is_own f.mode) (is_held f.mode) (makes_alone m) parts.1)
+  where
+    go : (a b c : Bool) → (a || b && c) ≡ true → (a || b) ≡ true
+    go true b c is = refl
+    go false true c is = refl
+    go false false c is = is
+
+-- and it claims as a fact in the same mode does
+pub claims_as : (p : Program) (m : Option Method) (o : Origin) (f g : Fact) → g.mode ≡ f.mode → claims p m o g ≡ true → claims p m o f ≡ true
+claims_as p m o f g same claimed = sym (ap (λ (u : Mode). is_heavy_class p o.class && (is_own u || is_held u && makes_alone m)) same) ∙ claimed
+
+-- a fact that says that a field holds the object claims in a constructor without an aliased argument alone
+pub claims_alone : (p : Program) (m : Option Method) (o : Origin) (f : Fact) → f.mode ≡ modes.Held → claims p m o f ≡ true → makes_alone m ≡ true
+claims_alone p m o f held claimed =
+    sym (ap (λ (u : Mode). is_own u || is_held u && makes_alone m) held) ∙ (and_parts (is_heavy_class p o.class) (is_own f.mode || is_held f.mode && makes_alone m) claimed).1
+
+pub held_mode : (m : Mode) → is_held m ≡ true → m ≡ modes.Held
+held_mode modes.Own is = absurd (true≢false (sym is))
+held_mode modes.None is = absurd (true≢false (sym is))
+held_mode modes.Held is = refl
+held_mode modes.Lent is = absurd (true≢false (sym is))
+held_mode modes.Alias is = absurd (true≢false (sym is))

@@ -2,50 +2,40 @@
 use Rattle.std.proofs.Common.{◌≡◌, ◌⊎◌, ℕ, true, false, Some, None, slice_get}
 use Rattle.std.specs.FinSet as set
 use Rattle.program_model.specs.declared.kinds.FieldId.{FieldId}
-use Rattle.program_model.specs.declared.program.Field.{Field}
 use Rattle.program_model.specs.declared.program.Method.{Method}
 use Rattle.program_model.specs.declared.program.Program.{Program}
-use Rattle.program_model.specs.Lookups.{field_at, method_at}
-use Rattle.must_call_sets.specs.Bodies.{alias_position, constructs, has_field_place, is_finalizer}
-use Rattle.must_call_sets.specs.MustCallSets.{is_heavy_class}
+use Rattle.program_model.specs.Lookups.{method_at}
+use Rattle.place_facts.specs.Bodies.{alias_position, constructs, has_field_place, is_finalizer}
 use Rattle.java_control.specs.Control.{Step}
 use Rattle.java_control.specs.declared.action.Action.TheVariants as actions
 use Rattle.java_control.specs.declared.action.Completion.{Completion}
 use Rattle.accepted_programs.specs.Accept.{Accept}
 use Rattle.flow_rules.specs.Ends.{is_throw}
 use Rattle.ledger_state.specs.Contents.{HeapContents}
-use Rattle.ledger_state.specs.Heaps.{object_at, root_of}
+use Rattle.ledger_state.specs.Heaps.{root_of}
 use Rattle.ledger_state.specs.Locals.{temp_value}
 use Rattle.ledger_state.specs.declared.object.Object.{Object}
-use Rattle.ledger_state.specs.declared.value.Value.TheVariants as values
-use Rattle.ledger_obligations.specs.Obligations.{is_unmet}
+use Rattle.place_facts.specs.Obligations.{is_unmet}
 use Rattle.ledger_calls.specs.Configuration.{Frame}
-use Rattle.ledger_frames.specs.Choosing.{frame_steps}
+use Rattle.place_facts.specs.Choosing.{frame_steps}
 use Rattle.place_facts.specs.Agreement.{Stands}
 use Rattle.place_facts.specs.PlainForms.{HasPlainForms}
-use Rattle.place_facts.specs.FieldContents.{FieldsFit, FitsField, promised_on}
-use Rattle.place_facts.specs.PlaceFacts.{IsCovered, is_heavy_in, may_owe}
+use Rattle.place_facts.specs.FieldContents.{promised_on}
+use Rattle.place_facts.specs.PlaceFacts.{IsCovered}
 use Rattle.covered_field_laws.specs.Covering.{HoldsHeavy}
 use Rattle.covered_field_laws.proofs.FrameEnds.{kept_at_end, met_at_throw}
-use Rattle.covered_field_laws.proofs.Storing.{displaced_is_met, stored_fits_in}
+use Rattle.covered_field_laws.proofs.Storing.{displaced_is_met}
 
 pub overwritten_is_met : (p : Program) → Accept p → HasPlainForms p → (h : HeapContents) (fr : Frame) → (st : Stands p fr) → alias_position p st.number ≡ None → IsCovered p h fr
     → (i d : ℕ) (s : Step) (f : FieldId) (w o : ℕ) (x : Object) → slice_get (frame_steps p fr) i ≡ Some s → s.action ≡ actions.PutOwn f d
     → HoldsHeavy p h fr w f o x → (root_of h (temp_value fr.locals d) ≡ Some o → ⊥) → is_unmet x ≡ false
-overwritten_is_met p ac forms h fr st plain covered i d s f w o x here is holds apart = displaced_is_met p ac forms h fr st covered plain i d s f here is w o x holds apart
-
-pub stored_value_fits : (p : Program) → Accept p → HasPlainForms p → (h : HeapContents) (fr : Frame) → (st : Stands p fr) → alias_position p st.number ≡ None → IsCovered p h fr → FieldsFit p h
-    → (i d : ℕ) (s : Step) (f : FieldId) (field : Field) (w o : ℕ) (x : Object) → slice_get (frame_steps p fr) i ≡ Some s → s.action ≡ actions.PutOwn f d
-    → fr.locals.this ≡ values.Object w → field_at p f ≡ Some field → is_heavy_in p (Some f) ≡ true
-    → root_of h (temp_value fr.locals d) ≡ Some o → object_at h o ≡ Some x → is_heavy_class p x.class ≡ true → may_owe x ≡ true → FitsField p field x
-stored_value_fits p ac forms h fr st plain covered fit i d s f field w o x here is this at heavy root there class owes =
-    stored_fits_in p ac forms h fr st covered plain i d s f here is fit w o x this heavy root there class owes field at
+overwritten_is_met p ac forms h fr st plain covered i d s f w o x here is holds apart = displaced_is_met p ac forms h fr st covered i d s f here is plain w o x holds apart
 
 pub promises_are_kept_at_end : (p : Program) → Accept p → (h : HeapContents) (fr : Frame) → (st : Stands p fr) → IsCovered p h fr
     → (i : ℕ) (s : Step) (q : Completion) (m : Method) (f : FieldId) (w o : ℕ) (x : Object) → slice_get (frame_steps p fr) i ≡ Some s → s.action ≡ actions.End q
     → method_at p fr.method ≡ Some m → has_field_place p st.number f ≡ true → (is_throw q ≡ false) ⊎ (is_finalizer p st.number ≡ true)
-    → HoldsHeavy p h fr w f o x → set.is_subset (promised_on f m) x.called ≡ true
-promises_are_kept_at_end p ac h fr st covered i s q m f w o x here is named place way holds = kept_at_end p ac h fr st covered i s q f w o x here is place holds m named way
+    → HoldsHeavy p h fr w f o x → x.finished ≡ true → set.is_subset (promised_on f m) x.called ≡ true
+promises_are_kept_at_end p ac h fr st covered i s q m f w o x here is named place way holds done = kept_at_end p ac h fr st covered i s q f w o x here is place holds done m named way
 
 pub contents_are_met_at_throw : (p : Program) → Accept p → (h : HeapContents) (fr : Frame) → (st : Stands p fr) → IsCovered p h fr
     → (i : ℕ) (s : Step) (q : Completion) (f : FieldId) (w o : ℕ) (x : Object) → slice_get (frame_steps p fr) i ≡ Some s → s.action ≡ actions.End q

@@ -3,3 +3,4 @@ pub mod HeavyFields
 pub mod FrameEnds
 pub mod Storing
 pub mod Laws
+pub use Rattle.field_place_laws.proofs.FieldPlaces

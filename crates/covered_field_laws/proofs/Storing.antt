@@ -1,18 +1,17 @@
--- A store into an owning field of `this`: what the field held is met, and what it takes fits it.
-use Rattle.std.proofs.Common.{◌≡◌, ℕ, Bool, true, false, not, Option, Some, None, slice_get, nat_eq, eq-eqb, refl, sym, ap, ◌∙◌, subst, true≢false, if◌then◌else◌}
+-- A store into an owning field of `this`: what the field held is met.
+pub use Rattle.fact_step_laws.proofs.Storing.{stores}
+use Rattle.std.proofs.Common.{◌≡◌, ℕ, Bool, true, false, not, Some, None, slice_get, refl, sym, ap, ◌∙◌, subst, true≢false, if◌then◌else◌}
 use Rattle.std.specs.FinSet as set
-use Rattle.std.proofs.lemmas.Bool.{and_parts, not-true, or_right}
-use Rattle.rlc_base.proofs.SetLaws.{within_trans}
+use Rattle.std.proofs.lemmas.Bool.{and_parts, not-true}
+use Rattle.place_facts.proofs.SetLaws.{within_trans}
 use Rattle.program_model.specs.declared.kinds.BodyId.{BodyId}
 use Rattle.program_model.specs.declared.kinds.FieldId.{FieldId}
-use Rattle.program_model.specs.declared.program.Field.{Field}
 use Rattle.program_model.specs.declared.program.Program.{Program}
-use Rattle.program_model.specs.Lookups.{field_at}
-use Rattle.must_call_sets.specs.Bodies.{alias_position}
-use Rattle.must_call_sets.specs.MustCallSets.{is_empty, is_heavy_class, must_of, must_of_optional, must_of_type}
-use Rattle.must_call_sets.specs.Signatures.{type_of_field}
+use Rattle.program_model.specs.Lookups.{method_at}
+use Rattle.place_facts.specs.Bodies.{alias_in, alias_position, constructs, has_field_place, is_constructor}
+use Rattle.place_facts.specs.MustCallSets.{is_heavy_class, must_of}
 use Rattle.java_control.specs.Control.{Step}
-use Rattle.java_control.specs.Owned.{field_number, place_of_field}
+use Rattle.java_control.specs.Owned.{place_of_field}
 use Rattle.java_control.specs.declared.action.Action.{Action}
 use Rattle.java_control.specs.declared.action.Action.TheVariants as actions
 use Rattle.java_control.specs.declared.fact.Fact.{Fact}
@@ -22,32 +21,28 @@ use Rattle.java_control.specs.declared.fact.Outcome.TheVariants.{Fault}
 use Rattle.java_control.specs.declared.fact.Rule.TheVariants as rules
 use Rattle.java_control.specs.declared.place.Place.{Place}
 use Rattle.java_control.specs.declared.place.Place.TheVariants as places
-use Rattle.obligation_facts.specs.Facts.{PlaceSet, has, is_met, need}
-use Rattle.obligation_facts.specs.SmallActions.{IsSmallAction}
+use Rattle.place_facts.specs.Facts.{PlaceSet, has, is_met, need}
+use Rattle.place_facts.specs.SmallActions.{IsSmallAction}
 use Rattle.alias_sets.specs.PlaceRows.{copied}
-use Rattle.owning_fields.specs.Stores.{lacks_reset, object_stored, stored, stored_over}
+use Rattle.fact_step_laws.specs.Stores.{lacks_reset, object_stored, stored, stored_over}
 use Rattle.flow_rules.specs.Flow.{flow}
 use Rattle.flow_rules.specs.Paths.{Reach, move_of, relation_of}
 use Rattle.accepted_programs.specs.Accept.{Accept}
 use Rattle.ledger_state.specs.Contents.{HeapContents}
-use Rattle.ledger_state.specs.Heaps.{object_at, root_of}
+use Rattle.ledger_state.specs.Heaps.{root_of}
 use Rattle.ledger_state.specs.Locals.{temp_value}
 use Rattle.ledger_state.specs.declared.object.Object.{Object}
-use Rattle.ledger_state.specs.declared.value.Value.TheVariants as values
-use Rattle.ledger_obligations.specs.Obligations.{is_unmet}
+use Rattle.place_facts.specs.Obligations.{is_unmet}
 use Rattle.ledger_calls.specs.Configuration.{Frame}
-use Rattle.ledger_frames.specs.Choosing.{body_id, frame_steps}
+use Rattle.place_facts.specs.Choosing.{body_id, frame_steps}
 use Rattle.place_facts.specs.Agreement.{Stands}
 use Rattle.place_facts.specs.PlainForms.{HasPlainForms}
-use Rattle.owned_fact_laws.specs.Outcomes.{After, IsFault}
-use Rattle.place_facts.specs.FieldContents.{FieldsFit, FitsField}
-use Rattle.place_facts.specs.PlaceFacts.{Covers, IsCovered, IsTrueOf, is_heavy_in, may_owe}
-use Rattle.fact_step_laws.specs.Going.{ArePlaces, StoresAs, left, taken}
-use Rattle.fact_step_laws.proofs.Storing.{stores}
-use Rattle.place_laws.proofs.SetLaws.{has_copied}
+use Rattle.fact_step_laws.specs.Outcomes.{After, IsFault}
+use Rattle.place_facts.specs.PlaceFacts.{Covers, IsCovered, IsTrueOf, makes_alone}
+use Rattle.fact_step_laws.specs.Going.{ArePlaces, StoresAs}
 use Rattle.covered_field_laws.specs.Covering.{HoldsHeavy}
-use Rattle.covered_field_laws.proofs.Following.{breaks_nothing, followed, same_body, small_step, step_there}
-use Rattle.covered_field_laws.proofs.HeavyFields.{HasPlace, covers_field, has_place_here, heavy_here, held_claims, own_claims, value_here}
+use Rattle.covered_field_laws.proofs.Following.{breaks_nothing, followed, method_here, same_body, small_step, step_there}
+use Rattle.covered_field_laws.proofs.HeavyFields.{HasPlace, covers_field, has_place_here, heavy_here, held_claims, makes_alone_by}
 
 -- what is met is not unmet
 pub met_not_unmet : (p : Program) (x : Object) (o : Origin) (f : Fact) → IsTrueOf p x o f → is_met o f ≡ true → is_unmet x ≡ false
@@ -69,16 +64,20 @@ over_faults p b o x d f held unmet out there = go (lacks_reset p b f)
     go true = tt
     go false = rw (out, there, held, unmet) tt
 
-itself : (n : ℕ) → nat_eq n n ≡ true
-itself n = eq-eqb n n refl
-
-module _ (p : Program) (ac : Accept p) (forms : HasPlainForms p) (h : HeapContents) (fr : Frame) (st : Stands p fr) (covered : IsCovered p h fr) (plain : alias_position p st.number ≡ None)
+module _ (p : Program) (ac : Accept p) (forms : HasPlainForms p) (h : HeapContents) (fr : Frame) (st : Stands p fr) (covered : IsCovered p h fr)
     (i d : ℕ) (s : Step) (f : FieldId) (here : slice_get (frame_steps p fr) i ≡ Some s) (is : s.action ≡ actions.PutOwn f d) where
+  in_constructor : (is_constructor p st.number ≡ true) × (has_field_place p st.number f ≡ true)
+  in_constructor = forms.stores st.number i (move_of s) f d st.control (step_there p fr st i s here) is
+
   pub there : HasPlace p fr f
-  there = has_place_here p ac fr st f (forms.stores st.number i (move_of s) f d st.control (step_there p fr st i s here) is).1
+  there = has_place_here p ac fr st f in_constructor.1
 
   pub small : IsSmallAction p (actions.PutOwn f d)
   small = subst (IsSmallAction p) is (small_step p ac fr st i s here)
+
+  -- the method of a constructor without an aliased argument
+  pub alone_here : alias_position p st.number ≡ None → makes_alone (method_at p fr.method) ≡ true
+  alone_here plain = makes_alone_by (method_at p fr.method) (ap constructs (sym (method_here p fr st)) ∙ in_constructor.0) (ap alias_in (sym (method_here p fr st)) ∙ plain)
 
   -- what a fact that covers a place becomes
   module _ (q : Place) (o : ℕ) (x : Object) (c : Covers p h fr q o x) where
@@ -93,11 +92,11 @@ module _ (p : Program) (ac : Accept p) (forms : HasPlainForms p) (h : HeapConten
 
     pub goes : (z : Place) → has now z ≡ true → (g : Fact) × Reach p st.number (relation_of p st.number) c.origin s.to g × Goes g
     goes z some = followed p ac st.number c.origin i (move_of s) c.fact Goes reached (step_there p fr st i s here)
-        (subst (λ (a : Action). After Goes (flow p st.number c.origin a s.edge c.fact)) (sym is) (stores p st.number c.origin f d s.edge c.fact z plain some))
+        (subst (λ (a : Action). After Goes (flow p st.number c.origin a s.edge c.fact)) (sym is) (stores p st.number c.origin f d s.edge c.fact z some))
 
   -- the fact of what the field holds, where t(d) holds another object, is met
-  pub displaced_is_met : (w o : ℕ) (x : Object) → HoldsHeavy p h fr w f o x → (root_of h (temp_value fr.locals d) ≡ Some o → ⊥) → is_unmet x ≡ false
-  displaced_is_met w o x holds apart = by (is_met c.origin c.fact) refl
+  pub displaced_is_met : alias_position p st.number ≡ None → (w o : ℕ) (x : Object) → HoldsHeavy p h fr w f o x → (root_of h (temp_value fr.locals d) ≡ Some o → ⊥) → is_unmet x ≡ false
+  displaced_is_met plain w o x holds apart = by (is_met c.origin c.fact) refl
     where
       c : Covers p h fr (place_of_field p f) o x
       c = covers_field p h fr f there covered w o x holds
@@ -110,43 +109,7 @@ module _ (p : Program) (ac : Accept p) (forms : HasPlainForms p) (h : HeapConten
       out false none = none
 
       by : (b : Bool) → is_met c.origin c.fact ≡ b → is_unmet x ≡ false
-      by true met = met_not_unmet p x c.origin c.fact (c.true' (held_claims p c.origin c.fact owned.0 owned.1)) met
+      by true met = met_not_unmet p x c.origin c.fact (c.true' (held_claims p (method_at p fr.method) c.origin c.fact (alone_here plain) owned.0 owned.1)) met
       by false unmet = absurd (breaks_nothing p ac st.number c.origin i (move_of s) c.fact (reached (place_of_field p f) o x c) (step_there p fr st i s here)
           (subst (λ (a : Action). IsFault (flow p st.number c.origin a s.edge c.fact)) (sym is)
           (over_faults p st.number c.origin f d c.fact owned.0 unmet (out (has c.fact.places (places.Temp d)) refl) c.here)))
-
-  -- what is stored fits the field
-  pub stored_fits : FieldsFit p h → (w o : ℕ) (x : Object) → fr.locals.this ≡ values.Object w → is_heavy_in p (Some f) ≡ true → root_of h (temp_value fr.locals d) ≡ Some o → object_at h o ≡ Some x
-      → is_heavy_class p x.class ≡ true → may_owe x ≡ true → FitsField p there.field x
-  stored_fits fit w o x this heavy root at class owes = by (goes (places.Temp d) o x cover (place_of_field p f) joins)
-    where
-      cover : Covers p h fr (places.Temp d) o x
-      cover = covered (places.Temp d) o x small.0 root at class owes
-
-      joins : has (now (places.Temp d) o x cover) (place_of_field p f) ≡ true
-      joins = has_copied cover.fact.places (place_of_field p f) (places.Temp d) (place_of_field p f) small.1 small.1 ∙ rw (itself (field_number p f)) cover.here
-
-      by : (g : Fact) × Reach p st.number (relation_of p st.number) cover.origin s.to g × Goes (places.Temp d) o x cover g → FitsField p there.field x
-      by (g, there', (same, taken reset called full t)) =
-          let truth = cover.true' (own_claims p cover.origin cover.fact t.own t.heavy) in
-          record {
-            finished = truth.finished;
-            bounded = within_trans (must_of p x.class) (must_of p cover.origin.class) (must_of_type p there.field.vtype) truth.class
-                (subst (λ (y : Option Field). set.is_subset (must_of p cover.origin.class) (must_of_optional p (type_of_field y)) ≡ true) there.at t.fits);
-            own = truth.bounded;
-          }
-      by (g, there', (same, left reset called full l)) = held_already (has cover.fact.places (place_of_field p f)) refl
-        where
-          held_already : (b : Bool) → has cover.fact.places (place_of_field p f) ≡ b → FitsField p there.field x
-          held_already true is' =
-              fit w f there.field o x there.at there.owning (heavy_type there.field there.at)
-              (ap (root_of h) (sym (value_here p h fr f there w this)) ∙ cover.places (place_of_field p f) small.1 is') at class owes
-            where
-              heavy_type : (y : Field) → field_at p f ≡ Some y → is_empty (must_of_type p y.vtype) ≡ false
-              heavy_type y at' = not-true (is_empty (must_of_type p y.vtype)) (subst (λ (z : Option Field). not (is_empty (must_of_optional p (type_of_field z))) ≡ true) at' heavy)
-          held_already false is' = absurd (true≢false (sym (or_right (is_heavy_class p cover.origin.class) (is_heavy_in p (Some f)) heavy) ∙ l.light cover.here is'))
-
-  pub stored_fits_in : FieldsFit p h → (w o : ℕ) (x : Object) → fr.locals.this ≡ values.Object w → is_heavy_in p (Some f) ≡ true → root_of h (temp_value fr.locals d) ≡ Some o → object_at h o ≡ Some x
-      → is_heavy_class p x.class ≡ true → may_owe x ≡ true → (field : Field) → field_at p f ≡ Some field → FitsField p field x
-  stored_fits_in fit w o x this heavy root at class owes field is' =
-      subst (λ (y : Field). FitsField p y x) (let same : there.field ≡ field = (let both : Some there.field ≡ Some field = sym there.at ∙ is' in cc) in same) (stored_fits fit w o x this heavy root at class owes)

@@ -2,3 +2,12 @@ pub mod Covering
 pub use Rattle.place_facts.specs.FieldContents
 pub use Rattle.place_facts.specs.PlaceFacts
 pub use Rattle.place_facts.specs.Ranges
+pub use Rattle.place_facts.specs.Agreement
+pub use Rattle.place_facts.specs.PlainForms
+pub use Rattle.fact_step_laws.specs.Going
+pub use Rattle.flow_rules.specs.Ends
+pub use Rattle.flow_rules.specs.Flow
+pub use Rattle.flow_rules.specs.Paths
+pub use Rattle.ledger_calls.specs.Configuration
+pub use Rattle.alias_sets.specs.Aliases
+pub use Rattle.alias_sets.specs.PlaceRows

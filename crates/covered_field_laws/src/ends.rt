@@ -6,7 +6,7 @@ ghost use Rattle.program_model.specs.declared.kinds.FieldId.{FieldId};
 ghost use Rattle.program_model.specs.declared.program.Method.{Method};
 ghost use Rattle.program_model.specs.declared.program.Program.{Program};
 ghost use Rattle.program_model.specs.Lookups.{method_at};
-ghost use Rattle.must_call_sets.specs.Bodies.{alias_position, constructs, has_field_place, is_finalizer};
+ghost use Rattle.place_facts.specs.Bodies.{alias_position, constructs, has_field_place, is_finalizer};
 ghost use Rattle.java_control.specs.Control.{Step};
 ghost use Rattle.java_control.specs.declared.action.Action.TheVariants as actions;
 ghost use Rattle.java_control.specs.declared.action.Completion.{Completion};
@@ -14,21 +14,21 @@ ghost use Rattle.accepted_programs.specs.Accept.{Accept};
 ghost use Rattle.flow_rules.specs.Ends.{is_throw};
 ghost use Rattle.ledger_state.specs.Contents.{HeapContents};
 ghost use Rattle.ledger_state.specs.declared.object.Object.{Object};
-ghost use Rattle.ledger_obligations.specs.Obligations.{is_unmet};
+ghost use Rattle.place_facts.specs.Obligations.{is_unmet};
 ghost use Rattle.ledger_calls.specs.Configuration.{Frame};
-ghost use Rattle.ledger_frames.specs.Choosing.{frame_steps};
+ghost use Rattle.place_facts.specs.Choosing.{frame_steps};
 ghost use Rattle.place_facts.specs.Agreement.{Stands};
 ghost use Rattle.place_facts.specs.FieldContents.{promised_on};
 ghost use Rattle.place_facts.specs.PlaceFacts.{IsCovered};
 ghost use Rattle.covered_field_laws.specs.Covering.{HoldsHeavy};
 
-/// As a frame ends, all that its method promises on an owning field of its class was called on what the field holds. By an exception it
+/// As a frame ends, all that its method promises on an owning field of its class was called on what the field holds, where that is finished. By an exception it
 /// ends so where the method is a must-call method.
 pub fn promises_are_kept_at_end()
     ensures { (p : Program) → Accept p → (h : HeapContents) (fr : Frame) → (st : Stands p fr) → IsCovered p h fr
         → (i : ℕ) (s : Step) (q : Completion) (m : Method) (f : FieldId) (w o : ℕ) (x : Object) → slice_get (frame_steps p fr) i ≡ Some s → s.action ≡ actions.End q
         → method_at p fr.method ≡ Some m → has_field_place p st.number f ≡ true → (is_throw q ≡ false) ⊎ (is_finalizer p st.number ≡ true)
-        → HoldsHeavy p h fr w f o x → set.is_subset (promised_on f m) x.called ≡ true }
+        → HoldsHeavy p h fr w f o x → x.finished ≡ true → set.is_subset (promised_on f m) x.called ≡ true }
 {}
 
 /// A constructor that ends by an exception owns nothing in its fields that is unmet.

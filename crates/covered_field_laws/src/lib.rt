@@ -5,4 +5,4 @@ mod ends;
 mod stores;
 
 pub use ends::{contents_are_met_at_throw, promises_are_kept_at_end};
-pub use stores::{overwritten_is_met, stored_value_fits};
+pub use stores::overwritten_is_met;

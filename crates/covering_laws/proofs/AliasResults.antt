@@ -1,6 +1,6 @@
 -- As the frame of a method ends normally that has an aliased argument, its result is that argument, where this may owe a call: the rules on the
 -- end of a body ask for it.
-use Rattle.std.specs.Prelude.{if◌then◌else◌, ◌||◌, not}
+use Rattle.std.specs.Prelude.{if◌then◌else◌, not}
 use Rattle.std.proofs.Common.{◌≡◌, ℕ, zero, suc, ◌+◌, ◌<◌, ◌≤◌, Bool, true, false, true≢false, ◌&&◌, Option, Some, None, length, slice_get, refl, sym, ap, ◌∙◌, subst, arith, IsSomeAnd, inl, inr}
 use Rattle.std.proofs.lemmas.Bool.{and_from, or_right}
 use Rattle.rlc_base.specs.declared.place.Pos.{Pos}
@@ -14,10 +14,10 @@ use Rattle.program_model.specs.declared.program.Program.{Program}
 use Rattle.program_model.specs.Lookups.{method_at}
 use Rattle.program_model.specs.SuperTests.{is_class}
 use Rattle.program_model.specs.Validity.{IfPosition, IsBodyOf, type_of_class}
-use Rattle.must_call_sets.specs.Assigned.{is_spoken_variable}
-use Rattle.must_call_sets.specs.Bodies.{alias_in, alias_position, constructs, is_constructor, is_constructor_kind, method_in, method_of}
-use Rattle.must_call_sets.specs.MustCallSets.{is_empty, is_heavy_as, is_heavy_class, must_of, must_of_optional, must_of_type, no_names}
-use Rattle.must_call_sets.specs.Signatures.{is_present, type_at, type_in}
+use Rattle.value_type_laws.specs.Assigned.{is_spoken_variable}
+use Rattle.value_type_laws.specs.Bodies.{alias_in, alias_position, constructs, is_constructor, is_constructor_kind, method_in, method_of}
+use Rattle.value_type_laws.specs.MustCallSets.{is_empty, is_heavy_as, is_heavy_class, must_of, must_of_optional, must_of_type, no_names}
+use Rattle.value_type_laws.specs.Signatures.{is_present, type_at, type_in}
 use Rattle.java_control.specs.Calls.{completion_temp}
 use Rattle.java_control.specs.Control.{Step}
 use Rattle.java_control.specs.declared.action.Action.{Action}
@@ -32,8 +32,8 @@ use Rattle.java_control.specs.declared.fact.Outcome.TheVariants.{Fault}
 use Rattle.java_control.specs.declared.fact.Rule.TheVariants as rules
 use Rattle.java_control.specs.declared.place.Place.{Place}
 use Rattle.java_control.specs.declared.place.Place.TheVariants as places
-use Rattle.obligation_facts.specs.Facts.{has, has_field, is_alias, is_origin_at, missing, owes}
-use Rattle.obligation_facts.specs.SmallActions.{IsSmallAction, IsSmallTemp}
+use Rattle.target_laws.specs.Facts.{has, has_field, is_alias, is_origin_at, missing, owes}
+use Rattle.target_laws.specs.SmallActions.{IsSmallAction, IsSmallTemp}
 use Rattle.called_methods.specs.Promises.{broken_promise}
 use Rattle.ownership_rules.specs.MovesAtReturns.{heavy_result, kept_alias, moved_at_return, owned_result, owning_result_in, result_type, returned}
 use Rattle.ownership_rules.specs.MovesAtReturns as at_returns
@@ -43,25 +43,25 @@ use Rattle.ownership_rules.specs.declared.moved.Moved.TheVariants as moves
 use Rattle.flow_rules.specs.Ends.{after_return, alias_never_returned, constructor_throws, exit_rule, is_throw, left_at_end, promise_at_end}
 use Rattle.flow_rules.specs.Flow.{flow}
 use Rattle.flow_rules.specs.Paths.{Reach, move_of, relation_of}
-use Rattle.accepted_programs.specs.Accept.{Accept}
+use Rattle.target_laws.specs.Accept.{Accept}
 use Rattle.ledger_state.specs.Contents.{HeapContents}
 use Rattle.ledger_state.specs.Heaps.{object_at, root_of}
 use Rattle.ledger_state.specs.Locals.{temp_value, variable_value}
 use Rattle.ledger_state.specs.declared.object.Object.{Object}
 use Rattle.ledger_state.specs.declared.value.Value.TheVariants as values
-use Rattle.ledger_calls.specs.Calls.{operand_of}
-use Rattle.ledger_calls.specs.Configuration.{Frame}
-use Rattle.ledger_frames.specs.Choosing.{body_id, frame_steps}
+use Rattle.program_call_laws.specs.Calls.{operand_of}
+use Rattle.program_call_laws.specs.Configuration.{Frame}
+use Rattle.target_laws.specs.Choosing.{body_id, frame_steps}
 use Rattle.ledger_steps.specs.Ends.{default_result, result_value}
-use Rattle.agreement.specs.Agreement.{Stands}
-use Rattle.owned_fact_laws.specs.Outcomes.{IsFault}
+use Rattle.tracking_laws.specs.Agreement.{Stands}
+use Rattle.tracking_laws.specs.Outcomes.{IsFault}
 use Rattle.argument_laws.specs.Arguments.{HasArguments, has_receiver}
-use Rattle.parameter_fact_laws.proofs.AliasFacts.{aliased_is_spoken, parameter_class, parameter_holds, this_class, this_holds}
-use Rattle.parameter_fact_laws.proofs.Origins.{parameters_own, this_own}
+use Rattle.kept_argument_laws.proofs.AliasFacts.{aliased_is_spoken, parameter_class, parameter_holds, this_class, this_holds}
+use Rattle.kept_argument_laws.proofs.Origins.{parameters_own, this_own}
 use Rattle.tracking_laws.proofs.AliasConducts.{argument_has_names, gives_object}
 use Rattle.tracking_laws.proofs.CallNames.{object_with_root}
-use Rattle.covered_field_laws.specs.PlaceFacts.{Covers, IsCovered, may_owe}
-use Rattle.covered_field_laws.proofs.Following.{breaks_nothing, same_body, step_there}
+use Rattle.kept_argument_laws.specs.PlaceFacts.{Covers, IsCovered, may_owe}
+use Rattle.kept_argument_laws.proofs.Following.{breaks_nothing, same_body, step_there}
 use Rattle.covering_laws.proofs.EndNames.{element_there, parameter_origin, parameters_fit, zero_origin}
 
 -- a default value is no object

@@ -1,15 +1,17 @@
 -- An argument that moves to an owning parameter, where the class of its fact or the parameter's type has an obligation: the fact says
 -- that the frame owns it, and it fits the type. Else the call breaks a rule.
 use Rattle.std.proofs.Common.{◌≡◌, ◌⊎◌, inl, inr, ℕ, zero, suc, ◌+◌, Bool, true, false, ◌&&◌, ◌||◌, Option, Some, None, List, [], ◌∷◌, length, slice_get, nat_lt, lt-ltb, refl, sym, ap, ◌∙◌, subst, true≢false, if◌then◌else◌, arith, not}
+use Rattle.std.specs.FinSet as set
 use Rattle.std.specs.List.{list_any}
 use Rattle.std.proofs.lemmas.Bool.{and_from, and_parts, or_left, or_right}
+use Rattle.rlc_base.proofs.SetLaws.{within_empty, within_from_minus, within_trans, within_union_left, within_union_right}
 use Rattle.program_model.specs.declared.kinds.BodyId.{BodyId}
 use Rattle.program_model.specs.declared.kinds.VType.{VType}
 use Rattle.program_model.specs.declared.program.Method.{Method}
 use Rattle.program_model.specs.declared.program.ParamSig.{ParamSig}
 use Rattle.program_model.specs.declared.program.Program.{Program}
-use Rattle.must_call_sets.specs.MustCallSets.{Names, fits_type, is_heavy_as, is_heavy_class}
-use Rattle.must_call_sets.specs.Signatures.{is_present}
+use Rattle.value_type_laws.specs.MustCallSets.{Names, fits_type, is_empty, is_heavy_as, is_heavy_class}
+use Rattle.value_type_laws.specs.Signatures.{is_present, when}
 use Rattle.java_control.specs.declared.action.Action.{Action}
 use Rattle.java_control.specs.declared.action.Action.TheVariants as actions
 use Rattle.java_control.specs.declared.action.Edge.{Edge}
@@ -19,16 +21,16 @@ use Rattle.java_control.specs.declared.fact.Mode.TheVariants as modes
 use Rattle.java_control.specs.declared.fact.Origin.{Origin}
 use Rattle.java_control.specs.declared.fact.Rule.{Rule}
 use Rattle.java_control.specs.declared.fact.Rule.TheVariants as rules
-use Rattle.obligation_facts.specs.Callees.{callee, holds_operand, may_be_null_target}
-use Rattle.obligation_facts.specs.Facts.{PlaceSet, is_own, is_met}
+use Rattle.target_laws.specs.Callees.{callee, holds_operand, may_be_null_target}
+use Rattle.target_laws.specs.Facts.{PlaceSet, is_own, is_met}
 use Rattle.alias_sets.specs.PlaceRows.{places_after}
-use Rattle.called_methods.specs.Preconditions.{precondition_missing}
+use Rattle.called_methods.specs.Preconditions.{asked_from, missing_before, parameters_in, precondition_missing}
 use Rattle.ownership_rules.specs.Heavy.{is_owned}
 use Rattle.ownership_rules.specs.MovesAtCalls.{are_two, first_of, has_two_owners, is_heavy_owner, is_heavy_target, moved_at_call, moved_to, moved_to_first, owners, owners_from, takes, target}
 use Rattle.ownership_rules.specs.declared.moved.Moved.TheVariants as moves
 use Rattle.flow_rules.specs.Calls.{at_precondition, called}
 use Rattle.flow_rules.specs.Flow.{flow, placed, turned}
-use Rattle.owned_fact_laws.specs.Outcomes.{IsCallRow, IsFault}
+use Rattle.tracking_laws.specs.Outcomes.{IsCallRow, IsFault}
 
 -- the type is one of these, and the first one where there is but one
 pub record IsAmong (ts : List VType) (t : VType) : Type 0 where
@@ -59,6 +61,20 @@ owner_among a held k (suc i) n (x ∷ xs) q same at is = go (takes a held k x) r
     go true e rest = further_among x.vtype q.vtype (owners_from a held (k + 1) xs) rest
     go false e rest = rest
 
+-- what a parameter asks for before is asked of the fact that has its argument
+asked_of_one : (a : Action) (held : PlaceSet) (k i n : ℕ) (params : List ParamSig) (q : ParamSig) → n ≡ k + i → slice_get params i ≡ Some q → holds_operand a held n ≡ true
+    → set.is_subset q.before (asked_from a held k params) ≡ true
+asked_of_one a held k i n [] q same at is = absurd (let never : None ≡ Some q = at in cc)
+asked_of_one a held k zero n (x ∷ xs) q same at is =
+    let param : x ≡ q = (let both : Some x ≡ Some q = at in cc) in
+    let number : n ≡ k = omega (arith, same) in
+    let here : holds_operand a held k ≡ true = ap (holds_operand a held) (sym number) ∙ is in
+    let mine : when (holds_operand a held k) x.before ≡ q.before = ap (λ (b : Bool). when b x.before) here ∙ ap (λ (u : ParamSig). u.before) param in
+    subst (λ (s : Names). set.is_subset s (asked_from a held k (x ∷ xs)) ≡ true) mine (within_union_left (when (holds_operand a held k) x.before) (asked_from a held (suc k) xs))
+asked_of_one a held k (suc i) n (x ∷ xs) q same at is =
+    within_trans q.before (asked_from a held (suc k) xs) (asked_from a held k (x ∷ xs)) (asked_of_one a held (suc k) i n xs q (omega (arith, same)) at is)
+    (within_union_right (when (holds_operand a held k) x.before) (asked_from a held (suc k) xs))
+
 -- ---- a call that breaks no rule
 
 module _ (p : Program) (b : BodyId) (o : Origin) (e : Edge) (f : Fact) where
@@ -76,6 +92,17 @@ module _ (p : Program) (b : BodyId) (o : Origin) (e : Edge) (f : Fact) where
   call_breaks (actions.New m d n) rule row bad = bad_breaks (actions.New m d n) (places_after p b (actions.New m d n) e f.places) rule bad
   call_breaks (actions.Super m d n) rule row bad = bad_breaks (actions.Super m d n) (places_after p b (actions.Super m d n) e f.places) rule bad
   call_breaks a rule row bad = absurd row
+
+  -- and so do calls that are asked for before and are missing
+  names_break : (a : Action) (held : PlaceSet) (names : Names) → precondition_missing p a f ≡ Some names → IsFault (placed o f held (turned (called p b o a e f)))
+  names_break a held names some = rw some tt
+
+  missing_breaks : (a : Action) (names : Names) → IsCallRow a → precondition_missing p a f ≡ Some names → IsFault (flow p b o a e f)
+  missing_breaks actions.Skip names row some = absurd row
+  missing_breaks (actions.Call m d n form) names row some = names_break (actions.Call m d n form) (places_after p b (actions.Call m d n form) e f.places) names some
+  missing_breaks (actions.New m d n) names row some = names_break (actions.New m d n) (places_after p b (actions.New m d n) e f.places) names some
+  missing_breaks (actions.Super m d n) names row some = names_break (actions.Super m d n) (places_after p b (actions.Super m d n) e f.places) names some
+  missing_breaks a names row some = absurd row
 
   own_mode : (m : Mode) → is_own m ≡ true → m ≡ modes.Own
   own_mode modes.Own is = refl
@@ -95,6 +122,17 @@ module _ (p : Program) (b : BodyId) (o : Origin) (e : Edge) (f : Fact) where
   module _ (a : Action) (row : IsCallRow a) (fine : IsFault (flow p b o a e f) → ⊥) where
     moved_is : (rule : Rule) → moved_at_call p o a e f ≡ moves.Bad rule → ⊥
     moved_is rule bad = fine (call_breaks a rule row bad)
+
+    -- what a parameter asks for was called, as the fact says
+    pub asked_before : (m : Method) (i : ℕ) (q : ParamSig) → callee p a ≡ Some m → slice_get m.sig.params.items i ≡ Some q → holds_operand a f.places (i + 1) ≡ true → set.is_subset q.before f.called ≡ true
+    asked_before m i q named at held =
+        within_trans q.before (asked_from a f.places 1 (parameters_in (callee p a))) f.called
+        (ap (λ (k : Option Method). set.is_subset q.before (asked_from a f.places 1 (parameters_in k))) named ∙ asked_of_one a f.places 1 i (i + 1) m.sig.params.items q (omega arith) at held)
+        (within_from_minus (asked_from a f.places 1 (parameters_in (callee p a))) f.called (within_empty (missing_before p a f) (none (is_empty (missing_before p a f)) refl)))
+      where
+        none : (x : Bool) → is_empty (missing_before p a f) ≡ x → is_empty (missing_before p a f) ≡ true
+        none true is = is
+        none false is = absurd (fine (missing_breaks a (missing_before p a f) row (ap (λ (z : Bool). if z then None else Some (missing_before p a f)) is)))
 
     to_one : (t : VType) → is_heavy_as p o.class (Some t) ≡ true → moved_at_call p o a e f ≡ moved_to p o a e f t → IsGivenAs a t
     to_one t heavy same = by (is_owned p o f) refl (fits_type p o.class (Some t)) refl

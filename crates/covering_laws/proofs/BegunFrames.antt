@@ -1,5 +1,5 @@
 -- The frame of a call that begins: what its places hold is in facts of the body's entry.
-use Rattle.std.proofs.Common.{◌≡◌, ℕ, zero, suc, ◌+◌, Bool, true, Option, Some, None, List, [], ◌∷◌, ◌++◌, slice_get, refl, sym, ap, ◌∙◌, subst, arith, false}
+use Rattle.std.proofs.Common.{◌≡◌, inl, inr, ℕ, zero, suc, ◌+◌, Bool, true, Option, Some, None, List, [], ◌∷◌, ◌++◌, slice_get, refl, sym, ap, ◌∙◌, subst, arith, false}
 use Rattle.program_model.specs.declared.kinds.ClassId.{ClassId}
 use Rattle.program_model.specs.declared.kinds.VType.TheVariants as types
 use Rattle.program_model.specs.declared.program.ParamSig.{ParamSig}
@@ -8,7 +8,7 @@ use Rattle.program_model.specs.declared.program.Sig.{Sig}
 use Rattle.program_model.specs.declared.tree.Body.{Body}
 use Rattle.program_model.specs.declared.tree.Var.{Var}
 use Rattle.program_model.specs.Lookups.{optional, variable_at, method_at}
-use Rattle.must_call_sets.specs.MustCallSets.{Names, is_heavy_class, is_empty, no_names}
+use Rattle.value_type_laws.specs.MustCallSets.{Names, is_heavy_class, is_empty, no_names}
 use Rattle.java_control.specs.Control.{start_of}
 use Rattle.java_control.specs.PlaceNumbers.{IsSmall}
 use Rattle.java_control.specs.Remaining.{Todo}
@@ -24,27 +24,32 @@ use Rattle.flow_rules.specs.Paths.{Reach, entered, relation_of}
 use Rattle.ledger_state.specs.Contents.{HeapContents}
 use Rattle.ledger_state.specs.Heaps.{root_of}
 use Rattle.ledger_state.specs.declared.object.Object.{Object}
-use Rattle.ledger_operations.specs.Places.{place_value}
-use Rattle.ledger_calls.specs.Configuration.{Frame}
-use Rattle.place_laws.proofs.Laws.{single_place-alone}
-use Rattle.agreement.specs.Agreement.{Stands}
-use Rattle.covered_field_laws.specs.PlaceFacts.{Covers, IsTrueOf, claims, is_heavy_field, is_lent}
+use Rattle.program_call_laws.specs.Places.{place_value}
+use Rattle.program_call_laws.specs.Configuration.{Frame}
+use Rattle.field_place_laws.proofs.Laws.{single_place-alone}
+use Rattle.tracking_laws.specs.Agreement.{Stands}
+use Rattle.kept_argument_laws.specs.PlaceFacts.{Covers, IsTrueOf, claims, fits_field, is_heavy_field, is_lent}
+use Rattle.kept_argument_laws.proofs.HeavyFields.{tells_by}
 use Rattle.covering_laws.proofs.Births.{at_itself, at_one}
 use Rattle.rlc_base.proofs.SetLaws.{empty_within, within_trans}
-use Rattle.obligation_facts.specs.Facts.{is_held, is_own}
+use Rattle.target_laws.specs.Facts.{is_held, is_own}
 use Rattle.std.specs.Prelude.{◌||◌}
+
+not_own : (a b : Bool) → (a || b) ≡ false → a ≡ false
+not_own true b is = is
+not_own false b is = refl
 
 module _ (p : Program) (k : HeapContents) (fr : Frame) (st : Stands p fr) (starts : fr.control ≡ start_of p st.number) where
   -- a place is covered by its birth at the entry. The place of an owning field is born as held, and its class has an obligation where
   -- the field's type has one
   pub entered_covers : (q : Place) (o : ℕ) (y : Object) (g : Origin) (mode : Mode) (names : Names) (full : Bool) (n : ℕ) → IsSmall q
       → slice_get (births_at_entry p st.number) n ≡ Some (g, fact_at q mode names full) → root_of k (place_value p k fr.method fr.locals q) ≡ Some o
-      → (claims p g (fact_at q mode names full) ≡ true → IsTrueOf p y g (fact_at q mode names full))
-      → (is_lent p (method_at p fr.method) g.kind ≡ true → ((is_own mode || is_held mode) ≡ false) × (is_heavy_class p g.class ≡ true) × (is_empty names ≡ true))
-      → ((j : ℕ) → q ≡ places.Field j → is_heavy_class p g.class ≡ true → is_heavy_field p fr.method q ≡ true)
+      → (claims p (method_at p fr.method) g (fact_at q mode names full) ≡ true → IsTrueOf p y g (fact_at q mode names full))
+      → (is_lent p (method_at p fr.method) g.kind ≡ true → ((is_own mode || is_held mode) ≡ false) × (is_heavy_class p g.class ≡ true) × (is_empty names ≡ true)) → (is_held mode ≡ true → is_empty names ≡ true)
+      → ((j : ℕ) → q ≡ places.Field j → is_heavy_class p g.class ≡ true → fits_field p fr.method j g.class ≡ true)
       → ((j : ℕ) → q ≡ places.Field j → is_heavy_field p fr.method q ≡ true → (mode ≡ modes.Held) × (is_heavy_class p g.class ≡ true))
       → Covers p k fr q o y
-  entered_covers q o y g mode names full n small birth root truth lent' wide held = record {
+  entered_covers q o y g mode names full n small birth root truth lent' none wide held = record {
     body = st.number;
     id = st.id;
     origin = g;
@@ -54,11 +59,9 @@ module _ (p : Program) (k : HeapContents) (fr : Frame) (st : Stands p fr) (start
     here = at_itself q small mode names full;
     places = λ z small' is. subst (λ (u : Place). root_of k (place_value p k fr.method fr.locals u) ≡ Some o) (at_one q small mode names full z small' is) root;
     true' = truth;
-    lent = λ lent. (let is = lent' lent in (is.0, is.1));
-    known = λ done lent. within_trans names no_names y.called (lent' lent).2 (empty_within y.called);
-    fields = λ j inside heavy is.
-        let same : q ≡ places.Field j = at_one q small mode names full (places.Field j) inside is in
-        subst (λ (u : Place). is_heavy_field p fr.method u ≡ true) same (wide j same heavy);
+    lent = λ lent. (let is = lent' lent in (not_own (is_own mode) (is_held mode) is.0, is.1));
+    known = λ done tells. within_trans names no_names y.called (elim (tells_by p fr.method g (fact_at q mode names full) tells) [ inl lent ↦ (lent' lent).2 | inr held' ↦ none held'.1 ]) (empty_within y.called);
+    fields = λ j inside heavy is. wide j (at_one q small mode names full (places.Field j) inside is) heavy;
     held = λ j inside is heavy.
         let same : q ≡ places.Field j = at_one q small mode names full (places.Field j) inside is in
         held j same (subst (λ (u : Place). is_heavy_field p fr.method u ≡ true) (sym same) heavy);

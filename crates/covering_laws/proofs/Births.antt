@@ -1,10 +1,10 @@
 -- What a step gives to a place of the frame is covered by the fact that is born with it.
 pub use Rattle.tracking_laws.proofs.Births.{heavy_by_unmet, made_tracks, new_tracks, result_tracks}
-use Rattle.std.proofs.Common.{◌≡◌, ℕ, ◌<◌, Bool, true, Option, Some, ◌++◌, slice_get, eq-eqb, List, refl, sym, ap, ◌∙◌, subst, true≢false, false, None}
+use Rattle.std.proofs.Common.{◌≡◌, ℕ, ◌<◌, Bool, true, Option, Some, ◌++◌, slice_get, eq-eqb, List, refl, sym, ap, ◌∙◌, subst, true≢false, false}
 use Rattle.program_model.specs.declared.program.Program.{Program}
 use Rattle.program_model.specs.Lookups.{optional, method_at}
 use Rattle.rlc_base.proofs.SetLaws.{empty_within}
-use Rattle.must_call_sets.specs.MustCallSets.{Names, no_names}
+use Rattle.value_type_laws.specs.MustCallSets.{Names, no_names}
 use Rattle.java_control.specs.Control.{Step}
 use Rattle.java_control.specs.PlaceNumbers.{IsSmall}
 use Rattle.java_control.specs.Remaining.{Todo}
@@ -14,20 +14,20 @@ use Rattle.java_control.specs.declared.fact.Mode.{Mode}
 use Rattle.java_control.specs.declared.fact.Origin.{Origin}
 use Rattle.java_control.specs.declared.place.Place.{Place}
 use Rattle.java_control.specs.declared.place.Place.TheVariants as places
-use Rattle.obligation_facts.specs.Facts.{has}
+use Rattle.target_laws.specs.Facts.{has}
 use Rattle.ownership_rules.specs.Births.{birth_on, fact_at, reset_births}
 use Rattle.flow_rules.specs.Paths.{Reach, born, move_of, relation_of}
 use Rattle.ledger_state.specs.Contents.{HeapContents}
 use Rattle.ledger_state.specs.Heaps.{root_of}
 use Rattle.ledger_state.specs.declared.object.Object.{Object}
-use Rattle.ledger_operations.specs.Places.{place_value}
-use Rattle.ledger_calls.specs.Configuration.{Frame}
-use Rattle.ledger_frames.specs.Choosing.{body_id, frame_steps}
-use Rattle.place_laws.specs.Places.{is_local}
-use Rattle.place_laws.proofs.Laws.{single_place-alone, single_place-has, single_place-same}
-use Rattle.agreement.specs.Agreement.{Stands}
-use Rattle.covered_field_laws.specs.PlaceFacts.{Covers, IsTrueOf, claims, is_lent}
-use Rattle.covered_field_laws.proofs.Following.{step_there}
+use Rattle.program_call_laws.specs.Places.{place_value}
+use Rattle.program_call_laws.specs.Configuration.{Frame}
+use Rattle.target_laws.specs.Choosing.{body_id, frame_steps}
+use Rattle.field_place_laws.specs.Places.{is_local}
+use Rattle.field_place_laws.proofs.Laws.{single_place-alone, single_place-has, single_place-same}
+use Rattle.tracking_laws.specs.Agreement.{Stands}
+use Rattle.kept_argument_laws.specs.PlaceFacts.{Covers, IsTrueOf, claims, is_lent}
+use Rattle.kept_argument_laws.proofs.Following.{step_there}
 use Rattle.program_model.specs.declared.program.Method.{Method}
 
 -- a fact at one place that is no field's
@@ -52,7 +52,7 @@ module _ (p : Program) (k : HeapContents) (fr : Frame) (st : Stands p fr) (i : �
   -- `after` is the frame after the step
   pub born_covers : (q : Place) (o : ℕ) (y : Object) (g : Origin) (mode : Mode) (full : Bool) → after.method ≡ fr.method → after.control ≡ s.to → IsSmall q → is_local q ≡ true
       → birth_on p s.action s.edge s.pos ≡ Some (g, fact_at q mode no_names full) → root_of k (place_value p k after.method after.locals q) ≡ Some o
-      → ((m : Option Method) → is_lent p m g.kind ≡ false) → (claims p g (fact_at q mode no_names full) ≡ true → IsTrueOf p y g (fact_at q mode no_names full)) → Covers p k after q o y
+      → ((m : Option Method) → is_lent p m g.kind ≡ false) → (claims p (method_at p after.method) g (fact_at q mode no_names full) ≡ true → IsTrueOf p y g (fact_at q mode no_names full)) → Covers p k after q o y
   born_covers q o y g mode full method control small local birth root unlent truth = record {
     body = st.number;
     id = ap (body_id p) method ∙ st.id;
@@ -65,7 +65,7 @@ module _ (p : Program) (k : HeapContents) (fr : Frame) (st : Stands p fr) (i : �
     places = λ z small' is. subst (λ (u : Place). root_of k (place_value p k after.method after.locals u) ≡ Some o) (at_one q small mode no_names full z small' is) root;
     true' = truth;
     lent = λ lent. absurd (true≢false (sym lent ∙ unlent (method_at p after.method)));
-    known = λ done lent. empty_within y.called;
+    known = λ done tells. empty_within y.called;
     fields = λ n inside wide is. absurd (no_field q small mode no_names full local n inside is);
     held = λ n inside is heavy. absurd (no_field q small mode no_names full local n inside is);
   }

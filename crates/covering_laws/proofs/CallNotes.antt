@@ -7,24 +7,24 @@ use Rattle.program_model.specs.declared.kinds.MethodKind.TheVariants as methods
 use Rattle.program_model.specs.declared.program.Method.{Method}
 use Rattle.program_model.specs.declared.program.Program.{Program}
 use Rattle.program_model.specs.Lookups.{method_at}
-use Rattle.effective_signatures.specs.Effective.{is_instance_kind}
-use Rattle.must_call_sets.specs.Bodies.{constructs, is_constructor_kind}
-use Rattle.must_call_sets.specs.WellFormed.{interest_of}
+use Rattle.tracking_laws.specs.Effective.{is_instance_kind}
+use Rattle.value_type_laws.specs.Bodies.{constructs, is_constructor_kind}
+use Rattle.value_type_laws.specs.WellFormed.{interest_of}
 use Rattle.java_control.specs.declared.action.Action.{Action}
 use Rattle.java_control.specs.declared.action.Action.TheVariants as actions
 use Rattle.java_control.specs.declared.action.TargetForm.TheVariants as forms
-use Rattle.obligation_facts.specs.Callees.{callee, is_super_target}
-use Rattle.accepted_programs.specs.Accept.{Accept}
+use Rattle.target_laws.specs.Callees.{callee, is_super_target}
+use Rattle.target_laws.specs.Accept.{Accept}
 use Rattle.ledger_state.specs.Contents.{HeapContents}
 use Rattle.ledger_state.specs.Heaps.{root_of}
 use Rattle.ledger_state.specs.Values.{number_of}
 use Rattle.ledger_state.specs.declared.locals.Locals.{Locals}
 use Rattle.ledger_obligations.specs.Obligations.{has_note, note}
-use Rattle.ledger_calls.specs.Calls as calls
-use Rattle.ledger_calls.specs.Calls.{operand_of, receiver_note}
+use Rattle.program_call_laws.specs.Calls as calls
+use Rattle.program_call_laws.specs.Calls.{operand_of, receiver_note}
 use Rattle.ledger_state.specs.Locals.{temp_in}
-use Rattle.agreement.specs.PlainForms.{IsPlainAction}
-use Rattle.owned_fact_laws.specs.Outcomes.{IsCallRow}
+use Rattle.tracking_laws.specs.PlainForms.{IsPlainAction}
+use Rattle.tracking_laws.specs.Outcomes.{IsCallRow}
 use Rattle.tracking_laws.proofs.CallNames.{IsReceiver, object_with_root}
 
 -- a constructor counts for no name

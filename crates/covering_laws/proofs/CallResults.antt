@@ -7,7 +7,7 @@ use Rattle.program_model.specs.declared.kinds.VType.TheVariants as types
 use Rattle.program_model.specs.declared.program.Method.{Method}
 use Rattle.program_model.specs.declared.program.Program.{Program}
 use Rattle.program_model.specs.Lookups.{method_at}
-use Rattle.must_call_sets.specs.MustCallSets.{Names, is_heavy_class, no_names}
+use Rattle.value_type_laws.specs.MustCallSets.{Names, is_heavy_class, no_names}
 use Rattle.java_control.specs.Control.{Step}
 use Rattle.java_control.specs.PlaceNumbers.{IsSmall}
 use Rattle.java_control.specs.declared.action.Action.{Action}
@@ -25,12 +25,12 @@ use Rattle.ledger_state.specs.Contents.{HeapContents}
 use Rattle.ledger_state.specs.Heaps.{root_of}
 use Rattle.ledger_state.specs.declared.object.Object.{Object}
 use Rattle.ledger_state.specs.declared.value.Value.{Value}
-use Rattle.ledger_operations.specs.Places.{place_value}
-use Rattle.ledger_calls.specs.Configuration.{Frame}
-use Rattle.ledger_frames.specs.Choosing.{frame_steps}
-use Rattle.ledger_frames.specs.Frames.{frame_after}
-use Rattle.agreement.specs.Agreement.{Stands}
-use Rattle.covered_field_laws.specs.PlaceFacts.{Covers, IsTrueOf, claims}
+use Rattle.program_call_laws.specs.Places.{place_value}
+use Rattle.program_call_laws.specs.Configuration.{Frame}
+use Rattle.target_laws.specs.Choosing.{frame_steps}
+use Rattle.target_laws.specs.Frames.{frame_after}
+use Rattle.tracking_laws.specs.Agreement.{Stands}
+use Rattle.kept_argument_laws.specs.PlaceFacts.{Covers, IsTrueOf, claims}
 use Rattle.covering_laws.proofs.Births.{born_covers}
 use Rattle.covering_laws.proofs.BornTruths.{new_unlent, result_unlent}
 
@@ -42,8 +42,8 @@ new_birth_is : (p : Program) (d : ℕ) (pos : Pos) (x : Method) → x.sig.alias 
     → new_birth p d pos (Some x) ≡ Some (origin_of p kinds.New pos x.class x.sig.first, fact_at (places.Temp d) modes.Own no_names false)
 new_birth_is p d pos x alias heavy = rw (heavy, alias) refl
 
-pub unclaimed : (p : Program) (g : Origin) (q : Place) → claims p g (fact_at q modes.None no_names true) ≡ true → ⊥
-unclaimed p g q claimed = true≢false (sym claimed ∙ go (is_heavy_class p g.class))
+pub unclaimed : (p : Program) (m : Option Method) (g : Origin) (q : Place) → claims p m g (fact_at q modes.None no_names true) ≡ true → ⊥
+unclaimed p m g q claimed = true≢false (sym claimed ∙ go (is_heavy_class p g.class))
   where
     go : (b : Bool) → (b && false) ≡ false
     go true = refl
@@ -80,7 +80,7 @@ module _ (p : Program) (h k : HeapContents) (fr : Frame) (st : Stands p fr) (i :
       by false own =
           born_covers p k fr st i s here (frame_after p h fr s v) (places.Temp d) o y (origin_of p kinds.Result s.pos r x.sig.first) modes.None true refl refl small refl
           (birth ∙ ap (λ (b : Bool). Some (origin_of p kinds.Result s.pos r x.sig.first, result_fact d b)) own) root
-          (result_unlent p s.pos r x.sig.first) (λ claimed. absurd (unclaimed p (origin_of p kinds.Result s.pos r x.sig.first) (places.Temp d) claimed))
+          (result_unlent p s.pos r x.sig.first) (λ claimed. absurd (unclaimed p (method_at p fr.method) (origin_of p kinds.Result s.pos r x.sig.first) (places.Temp d) claimed))
 
   -- the object of a `new`
   pub new_covers : (c : ℕ) → s.action ≡ actions.New m d c → is_heavy_class p x.class ≡ true

@@ -1,5 +1,8 @@
 -- A frame ends, and with it the call at which the frame below waits.
-use Rattle.std.proofs.Common.{Bool, List, None, Option, Some, ap, false, inl, refl, slice_get, subst, sym, true, true≢false, ℕ, ◌∙◌, ◌∷◌, ◌≡◌, ◌⊎◌, inr}
+use Rattle.std.proofs.Common.{Bool, List, None, Option, Some, ap, false, inl, not, refl, slice_get, subst, sym, true, true≢false, ℕ, ◌<◌, ◌∙◌, ◌∷◌, ◌≡◌, ◌⊎◌, inr}
+use Rattle.std.proofs.lemmas.Bool.{and_from}
+use Rattle.rlc_base.proofs.SetLaws.{within_at, within_self}
+use Rattle.std.specs.Prelude.{is_some}
 use Rattle.std.specs.FinSet as set
 use Rattle.std.proofs.lemmas.List.Elements.{All-head, All-tail}
 use Rattle.rlc_base.specs.declared.name_id.NameId.{NameId}
@@ -8,41 +11,49 @@ use Rattle.program_model.specs.declared.kinds.MethodId.{MethodId}
 use Rattle.program_model.specs.declared.program.Method.{Method}
 use Rattle.program_model.specs.declared.program.Program.{Program}
 use Rattle.program_model.specs.Lookups.{method_at}
+use Rattle.program_model.specs.SuperTests.{is_under}
 use Rattle.program_conditions.specs.Conditions.{MakesNoString}
-use Rattle.must_call_sets.specs.WellFormed.{HasSmallInterests}
+use Rattle.value_type_laws.specs.WellFormed.{HasSmallInterests}
 use Rattle.java_control.specs.Calls.{called_method}
 use Rattle.java_control.specs.Control.{Step}
 use Rattle.java_control.specs.PlaceNumbers.{IsSmall}
 use Rattle.java_control.specs.declared.action.Action.{Action}
 use Rattle.java_control.specs.declared.action.Action.TheVariants as actions
 use Rattle.java_control.specs.declared.action.Completion.{Completion}
-use Rattle.obligation_facts.specs.Callees.{callee, callee_in, is_super_target}
+use Rattle.target_laws.specs.Callees.{callee, callee_in, is_super_target}
 use Rattle.called_methods.specs.CalledRows.{interest_in}
-use Rattle.accepted_programs.specs.Accept.{Accept}
+use Rattle.target_laws.specs.Accept.{Accept}
 use Rattle.ledger_state.specs.Contents.{HeapContents}
-use Rattle.ledger_state.specs.Heaps.{object_at, root_of}
+use Rattle.ledger_state.specs.Heaps.{next_number, object_at, root, root_of, unfinished}
+use Rattle.ledger_state.specs.declared.entry.Owner.TheVariants as owners
+use Rattle.ledger_state.specs.declared.object.Link.{Link}
 use Rattle.ledger_state.specs.declared.locals.Locals.{Locals}
 use Rattle.ledger_state.specs.declared.object.Object.{Object}
 use Rattle.ledger_state.specs.declared.value.Value.{Value}
 use Rattle.ledger_state.specs.declared.value.Value.TheVariants as values
-use Rattle.ledger_calls.specs.Calls.{alias_position, body_of, operand_of, reset_position}
-use Rattle.ledger_calls.specs.Configuration.{Frame}
-use Rattle.ledger_frames.specs.Choosing.{frame_steps}
-use Rattle.ledger_frames.specs.Frames.{frame_after}
+use Rattle.ledger_obligations.specs.Obligations.{note}
+use Rattle.program_call_laws.specs.Calls.{alias_position, alias_target, body_of, object_by, operand_of, reset_position}
+use Rattle.program_call_laws.specs.Calls as calls
+use Rattle.program_call_laws.specs.Configuration.{Frame}
+use Rattle.target_laws.specs.Choosing.{frame_steps}
+use Rattle.target_laws.specs.Frames.{frame_after}
 use Rattle.ledger_steps.specs.Ends.{answered, answered_normally, exception_class, result_value, returned_heap, thrown_in}
-use Rattle.heap_laws.specs.Heaps.{HasLibraryLinks}
-use Rattle.agreement.specs.Agreement.{IsMadeBy, RunsItself, Stands}
-use Rattle.agreement.specs.PlainForms.{HasPlainForms, IsPlainAction, IsPlainCall, MayRun, RunsFor}
+use Rattle.program_call_laws.specs.Heaps.{GoesOn, HasEarlierLinks}
+use Rattle.program_call_laws.specs.Leading.{Leads, is_passed_on}
+use Rattle.program_call_laws.proofs.Laws.{roots_of_links-itself}
+use Rattle.tracking_laws.specs.Agreement.{IsMadeAfter, IsMadeBy, RunsItself, Stands}
+use Rattle.tracking_laws.specs.Chains.{HaveEnds}
+use Rattle.tracking_laws.specs.PlainForms.{HasPlainForms, IsPlainAction, IsPlainCall, MayRun, RunsFor}
 use Rattle.range_laws.specs.Nexts.{IsBackStep}
 use Rattle.range_laws.proofs.Cases.{none_runs}
 use Rattle.target_laws.specs.Frames.{KeepsTargets}
-use Rattle.tracking_laws.proofs.CallNames.{IsReceiver, operand_has_position, plain_no_reset, same_interest, small_name}
+use Rattle.tracking_laws.proofs.CallNames.{IsReceiver, object_with_root, operand_has_position, plain_no_reset, same_interest, small_name}
 use Rattle.tracking_laws.proofs.Ready.{call_sets, plain_call, plain_step, step_there}
 use Rattle.tracking_laws.proofs.Unmet.{way_of_call}
 use Rattle.value_type_laws.specs.Types.{GivesAsNamed, KeepsTypes}
-use Rattle.covered_field_laws.specs.FieldContents.{IsBeingMade, IsDispatched, is_new}
-use Rattle.covered_field_laws.specs.PlaceFacts.{AreCovered, Covers, IsCovered, may_owe}
-use Rattle.covered_field_laws.specs.Ranges.{FieldsInRange, LocalsInRange}
+use Rattle.kept_argument_laws.specs.FieldContents.{IsBeingMade, IsDispatched, LinksLead, is_new}
+use Rattle.kept_argument_laws.specs.PlaceFacts.{AreCovered, Covers, IsCovered, may_owe}
+use Rattle.kept_argument_laws.specs.Ranges.{FieldsInRange, LocalsInRange}
 use Rattle.covering_laws.specs.Throws.{ExceptionsAreUnlinked, EndsByException}
 use Rattle.covering_laws.specs.Running.{HasPlainRuns}
 use Rattle.covering_laws.proofs.AliasPlaces.{IsFromPlace, from_operand, gives_operand}
@@ -50,23 +61,24 @@ use Rattle.covering_laws.proofs.AliasResults.{argument_is_result, result_is_argu
 use Rattle.covering_laws.proofs.CallNotes.{noted_at}
 use Rattle.covering_laws.proofs.KnownNames.{operand_holds}
 use Rattle.covering_laws.proofs.CallSteps.{call_covered}
-use Rattle.covering_laws.proofs.EndHeaps.{end_carries, end_keeps, end_linked, end_noted, end_roots, end_unfinished, end_was, same_new}
-use Rattle.covering_laws.proofs.Bodies.{constructor_has_no_alias, running_method}
+use Rattle.covering_laws.proofs.EndHeaps.{end_carries, end_keeps, end_linked, end_noted, end_roots, end_unfinished, end_was, null_here, number_value, other_roots, self_root}
+use Rattle.covering_laws.proofs.Bodies.{running_method}
+use Rattle.covering_laws.proofs.OwnNames.{chosen_by_note, own_name_called}
 use Rattle.covering_laws.proofs.EndNames.{promises_kept}
 use Rattle.covering_laws.proofs.EndResults.{given, thrown_light}
 use Rattle.covering_laws.proofs.LibraryJoins.{signature_resets}
 use Rattle.covering_laws.proofs.LocalSteps.{LocalsIn, all_there, holds_there, local_step}
 use Rattle.covering_laws.proofs.TopSteps.{IsLocalStep}
-use Rattle.covering_laws.proofs.Waiting.{AllHeldBefore, AllReady, IsCarried, KeepsRoots, KeepsUnfinished, all_held_before, all_keep, all_wait, frames_ready_but, owed_before, value_root}
-use Rattle.covering_laws.proofs.LinkedExceptions.{LinkedWere}
+use Rattle.covering_laws.proofs.Waiting.{AllHeldBefore, AllKeepRoots, AllReady, AllThere, IsCarried, KeepsOtherRoots, KeepsRoots, KeepsUnfinished, all_held_before_on, all_keep, all_keep_other_roots, all_keep_roots, all_wait_on, frames_ready_but, owed_before, value_root}
+use Rattle.covering_laws.proofs.LinkedExceptions.{alias_no_exception}
 use Rattle.tracking_laws.proofs.Chains.{object_there}
 use Rattle.range_laws.proofs.Steps.{result_in_range}
 use Rattle.range_laws.proofs.Values.{operand_in_range}
 use Rattle.ledger_state.specs.Values.{number_of}
 use Rattle.program_model.specs.Overrides.{is_library}
-use Rattle.must_call_sets.specs.Bodies.{alias_in, constructs, is_constructor_kind}
+use Rattle.value_type_laws.specs.Bodies.{alias_in, constructs, is_constructor_kind}
 use Rattle.covering_laws.specs.Making.{IsUnheld}
-use Rattle.must_call_sets.specs.MustCallSets.{is_heavy_class}
+use Rattle.value_type_laws.specs.MustCallSets.{is_empty, is_heavy_class, no_names}
 use Rattle.java_control.specs.declared.action.Completion.TheVariants as completions
 use Rattle.java_control.specs.declared.action.Edge.TheVariants as edges
 use Rattle.flow_rules.specs.Ends.{is_throw}
@@ -74,12 +86,11 @@ use Rattle.flow_rules.specs.Paths.{move_of}
 use Rattle.argument_laws.specs.Arguments.{HasArguments, has_receiver}
 use Rattle.alias_sets.specs.Aliases.{gives_alias}
 use Rattle.java_control.specs.declared.place.Place.{Place}
-use Rattle.ledger_frames.specs.Frames.{is_made, made_place}
-use Rattle.ledger_operations.specs.Places.{place_value}
-use Rattle.named_step_laws.specs.Naming.{IsOfItsKind}
-use Rattle.named_step_laws.proofs.Reached.{names_what_is_there}
-use Rattle.place_laws.specs.Places.{is_local}
-use Rattle.program_call_laws.specs.ProgramCalls as program_calls
+use Rattle.target_laws.specs.Frames.{is_made, made_place}
+use Rattle.program_call_laws.specs.Places.{class_of_method, place_value}
+use Rattle.tracking_laws.specs.Naming.{IsOfItsKind}
+use Rattle.tracking_laws.proofs.Reached.{names_what_is_there}
+use Rattle.field_place_laws.specs.Places.{is_local}
 
 -- a `new` has no receiver
 no_receiver : (h : HeapContents) (l : Locals) (a : Action) (o : ℕ) → root_of h (operand_of l a 0) ≡ Some o → is_new a ≡ true → ⊥
@@ -87,10 +98,11 @@ no_receiver h l actions.Skip o root new = true≢false (sym new)
 no_receiver h l (actions.New m d n) o root new = let never : None ≡ Some o = root in cc
 no_receiver h l a o root new = true≢false (sym new)
 
-module _ (p : Program) (ac : Accept p) (forms : HasPlainForms p) (runs' : HasPlainRuns p) (names : HasSmallInterests p) (texts : MakesNoString p) (h : HeapContents) (links : HasLibraryLinks h) (apart : ExceptionsAreUnlinked p h) (ranges : FieldsInRange h)
+module _ (p : Program) (ac : Accept p) (forms : HasPlainForms p) (runs' : HasPlainRuns p) (names : HasSmallInterests p) (texts : MakesNoString p) (h : HeapContents) (links : HasEarlierLinks h) (apart : ExceptionsAreUnlinked p h) (ranges : FieldsInRange h)
     (fr caller : Frame) (st : Stands p fr) (below : Stands p caller) (targets : KeepsTargets p caller) (keeps : KeepsTypes p fr) (gives : GivesAsNamed p caller fr) (dispatched : IsDispatched p h fr caller)
     (making : IsBeingMade p h fr caller) (mine' : LocalsInRange h fr.locals) (covered : IsCovered p h fr) (i : ℕ) (s : Step) (q : Completion) (here : slice_get (frame_steps p fr) i ≡ Some s) (is : s.action ≡ actions.End q)
-    (t : Step) (named : MethodId) (back : IsBackStep p (frame_steps p caller) (exception_class p h (thrown_in fr.locals q)) named t) (may : MayRun p named fr.method) (makes : IsMadeBy p h t.action fr.locals.this) (itself : RunsItself t.action named fr.method) (at : ℕ) (args : HasArguments p caller fr) (exits : EndsByException p h fr) where
+    (t : Step) (named : MethodId) (back : IsBackStep p (frame_steps p caller) (exception_class p h (thrown_in fr.locals q)) named t) (may : MayRun p named fr.method) (makes : IsMadeBy p h t.action fr.locals.this) (itself : RunsItself t.action named fr.method) (at : ℕ) (args : HasArguments p caller fr) (exits : EndsByException p h fr)
+    (leads : LinksLead p h) (ends : HaveEnds h) (made_after : IsMadeAfter p caller.locals t.action fr.locals.this) where
   abbrev e : Option ClassId
   e = exception_class p h (thrown_in fr.locals q)
 
@@ -145,34 +157,21 @@ module _ (p : Program) (ac : Accept p) (forms : HasPlainForms p) (runs' : HasPla
   named_is : (m' : MethodId) → called_method t.action ≡ Some m' → m' ≡ named
   named_is m' it = let both : Some m' ≡ Some named = sym it ∙ back.calls in (let one : m' ≡ named = cc in one)
 
-  -- a constructor is the one that the call names
-  constructor_itself : constructs m ≡ true → fr.method ≡ named
-  constructor_itself new = go t.action refl itself
+  -- a super constructor has no alias, so a method with one is called, or a `new` ends
+  alias_kind : (k : ℕ) → named_there.0.sig.alias ≡ Some k → (is_new t.action ≡ true) ⊎ ((is_new t.action ≡ false) × (constructs m ≡ false) × (has_receiver t.action ≡ true))
+  alias_kind k some = go t.action refl
     where
-      go : (a : Action) → t.action ≡ a → RunsItself a named fr.method → fr.method ≡ named
-      go actions.Skip is' own = absurd (let never : None ≡ Some named = sym (ap called_method is') ∙ back.calls in cc)
-      go (actions.Call m' d n' f) is' own =
-          absurd (true≢false (sym new ∙ ap (λ (z : MethodId). constructs (method_at p z)) (sym (named_is m' (ap called_method is'))) ∙ subst (IsOfItsKind p) is' kind))
-      go (actions.New m' d n') is' own = own
-      go (actions.Super m' d n') is' own = own
-      go a is' own = absurd (let never : None ≡ Some named = sym (ap called_method is') ∙ back.calls in cc)
+      go : (a : Action) → t.action ≡ a → (is_new a ≡ true) ⊎ ((is_new a ≡ false) × (constructs m ≡ false) × (has_receiver a ≡ true))
+      go actions.Skip is' = absurd (let never : None ≡ Some named = sym (ap called_method is') ∙ back.calls in cc)
+      go (actions.Call m' d n' f) is' = inr (refl, ap (λ (z : MethodId). constructs (method_at p z)) (sym (named_is m' (ap called_method is'))) ∙ subst (IsOfItsKind p) is' kind, refl)
+      go (actions.New m' d n') is' = inl refl
+      go (actions.Super m' d n') is' =
+          absurd (let never : None ≡ Some k = sym (subst (IsPlainAction p) is' form).2 ∙ ap (λ (z : MethodId). alias_in (method_at p z)) (named_is m' (ap called_method is')) ∙ ap alias_in named_there.1 ∙ some in cc)
+      go a is' = absurd (let never : None ≡ Some named = sym (ap called_method is') ∙ back.calls in cc)
 
-  -- so it has no alias
-  constructor_plain : constructs m ≡ true → named_there.0.sig.alias ≡ None
-  constructor_plain new =
-      let one : run.0 ≡ named_there.0 = (let both : Some run.0 ≡ Some named_there.0 = sym run.1 ∙ ap (method_at p) (constructor_itself new) ∙ named_there.1 in (let it : run.0 ≡ named_there.0 = cc in it)) in
-      constructor_has_no_alias p m named_there.0 call.signature named_there.1 (ap (λ (x : Method). is_library p x.class) (sym one) ∙ run.2) (ap constructs (sym named_there.1) ∙ new)
-
-  new_plain : is_new t.action ≡ true → named_there.0.sig.alias ≡ None
-  new_plain new = constructor_plain (go t.action refl new)
-    where
-      go : (a : Action) → t.action ≡ a → is_new a ≡ true → constructs m ≡ true
-      go actions.Skip is' one = absurd (true≢false (sym one))
-      go (actions.New m' d n') is' one = ap (λ (z : MethodId). constructs (method_at p z)) (sym (named_is m' (ap called_method is'))) ∙ subst (IsOfItsKind p) is' kind
-      go a is' one = absurd (true≢false (sym one))
-
-  no_alias : program_calls.is_new t.action ≡ true → alias_position m ≡ None
-  no_alias new = ap alias_position named_there.1 ∙ new_plain (same_new t.action new)
+  -- the argument of which the object of a `new` is to be an alias
+  abbrev target : Option ℕ
+  target = alias_target (operand_of caller.locals t.action) m
 
   -- the caller goes on as if the method had returned: it threw nothing
   normal : t.edge ≡ edges.Go → e ≡ None
@@ -208,83 +207,240 @@ module _ (p : Program) (ac : Accept p) (forms : HasPlainForms p) (runs' : HasPla
       go None is' = absurd (let never : edges.Throws d ≡ edges.Go = sym edge ∙ back.normal is' in cc)
       go (Some k) is' = throws q k is'
 
-  roots : KeepsRoots h K
-  roots = end_roots p at fr.locals.this caller.locals t.action (method_at p fr.method) m v e h links no_reset no_alias unmade
+  -- where no object is linked, all roots stay
+  roots : (e ≡ None → is_new t.action ≡ true → target ≡ None) → KeepsRoots h K
+  roots free = end_roots p at fr.locals.this caller.locals t.action (method_at p fr.method) m v e h links no_reset unmade free
+
+  roots_thrown : (c : ClassId) → e ≡ Some c → KeepsRoots h K
+  roots_thrown c thrown' = roots (λ normal' new. absurd (let never : None ≡ Some c = sym normal' ∙ thrown' in cc))
+
+  roots_called : is_new t.action ≡ false → KeepsRoots h K
+  roots_called old = roots (λ normal' new. absurd (true≢false (sym new ∙ old)))
+
+  roots_plain : named_there.0.sig.alias ≡ None → KeepsRoots h K
+  roots_plain none = roots (λ normal' new. ap (object_by (operand_of caller.locals t.action)) (ap alias_position named_there.1 ∙ none))
+
+  -- the object of a `new`
+  self_made : is_new t.action ≡ true → (w : ℕ) × (fr.locals.this ≡ values.Object w) × (0 < w) × (w < next_number h)
+  self_made new = go t.action refl new makes
+    where
+      go : (a : Action) → t.action ≡ a → is_new a ≡ true → IsMadeBy p h a fr.locals.this → (w : ℕ) × (fr.locals.this ≡ values.Object w) × (0 < w) × (w < next_number h)
+      go actions.Skip is' one made' = absurd (true≢false (sym one))
+      go (actions.New m' d n') is' one made' = (made'.0, made'.1, made'.4, made'.2)
+      go a is' one made' = absurd (true≢false (sym one))
+
+  -- ---- it is linked
+
+  module _ (normal' : e ≡ None) (new : is_new t.action ≡ true) (k : ℕ) (to : target ≡ Some k) where
+    abbrev self : ℕ
+    self = (self_made new).0
+
+    object : (x : Object) × (object_at h self ≡ Some x)
+    object = let class : ClassId = record { 0 = 0 } in object_there h self (unfinished class) (self_made new).2 (self_made new).3
+
+    is_aliased : calls.is_alias m ≡ true
+    is_aliased = go (alias_position m) refl
+      where
+        go : (a : Option ℕ) → alias_position m ≡ a → calls.is_alias m ≡ true
+        go None none = absurd (let never : None ≡ Some k = sym (ap (object_by (operand_of caller.locals t.action)) none) ∙ to in cc)
+        go (Some j) some = ap is_some some
+
+    unowned : object.0.owner ≡ owners.Unowned
+    unowned = ends.unfinished self object.0 object.1 (unmade self object.0 new (self_made new).1 object.1)
+
+    -- it was made after the argument
+    later : (0 < k) × (k < self)
+    later = go t.action refl new made_after to
+      where
+        go : (a : Action) → t.action ≡ a → is_new a ≡ true → IsMadeAfter p caller.locals a fr.locals.this → alias_target (operand_of caller.locals a) m ≡ Some k → (0 < k) × (k < self)
+        go actions.Skip is' one after' to' = absurd (true≢false (sym one))
+        go (actions.New m' d n') is' one after' to' = after' self k (ap number_of (self_made new).1)
+            (ap (λ (z : MethodId). alias_target (operand_of caller.locals (actions.New m' d n')) (method_at p z)) (named_is m' (ap called_method is')) ∙ to')
+        go a is' one after' to' = absurd (true≢false (sym one))
+
+    others_keep : KeepsOtherRoots h K self
+    others_keep = other_roots p at fr.locals.this caller.locals t.action (method_at p fr.method) m v e h links no_reset unmade normal' new self k (self_made new).1 is_aliased to object.0 object.1 unowned later.0 later.1
+
+    linked_root : root K self ≡ root h k
+    linked_root = self_root p at fr.locals.this caller.locals t.action (method_at p fr.method) m v e h links no_reset unmade normal' new self k (self_made new).1 is_aliased to object.0 object.1 unowned later.0 later.1
+
+  -- the frames that wait keep the roots of what they hold
+  all_roots : (rest : List Frame) → IsUnheld p h fr caller rest → LocalsIn h (caller ∷ rest) → AllKeepRoots p h K (caller ∷ rest)
+  all_roots rest unheld in' = by e refl (is_new t.action) refl target refl
+    where
+      inside : AllThere p h (caller ∷ rest)
+      inside = all_there p h ranges (caller ∷ rest) in'
+
+      by : (x : Option ClassId) → e ≡ x → (b : Bool) → is_new t.action ≡ b → (k : Option ℕ) → target ≡ k → AllKeepRoots p h K (caller ∷ rest)
+      by (Some c) thrown' b new k to = all_keep_roots p h K (roots_thrown c thrown') (caller ∷ rest) inside
+      by None normal' false old k to = all_keep_roots p h K (roots_called old) (caller ∷ rest) inside
+      by None normal' true new None none = all_keep_roots p h K (roots (λ x y. none)) (caller ∷ rest) inside
+      by None normal' true new (Some k) to =
+          all_keep_other_roots p h K (self normal' new k to) (others_keep normal' new k to) (caller ∷ rest) inside (unheld back.index t (self normal' new k to) back.here new (self_made new).1)
 
   local : IsLocalStep p caller below t
   local = local_step p ac forms caller below back.index t back.here (call_sets t.action back.row) (way_of_call t back.row)
 
   noted : LocalsInRange h caller.locals → (o : ℕ) (x y : Object) (k : NameId) → object_at h o ≡ Some x → object_at K o ≡ Some y → root_of h (operand_of caller.locals t.action 0) ≡ Some o → is_super_target t.action ≡ false
-      → interest_in (callee p t.action) ≡ Some k → set.contains y.called k.0 ≡ true
-  noted in' o x y k before now root other interest =
-      let r = subst (λ (z : Option Method). IsReceiver h caller.locals t.action z o k) (ap (callee_in p) back.calls)
-      (noted_at p ac h caller.locals o k t.action form back.row other root (same_interest (callee p t.action) ∙ interest)) in
-      let number = operand_in_range h caller.locals in' t.action 0 r.object (ap number_of r.value) in
-      let object = object_there h r.object x number.0 number.1 in
-      end_noted p at fr.locals.this caller.locals t.action (method_at p fr.method) m v e h links no_reset no_alias unmade o object.0 y k (no_receiver h caller.locals t.action o root)
-      r (small_name p t.action k names interest) object.1 now
+      → interest_in (callee p t.action) ≡ Some k → x.finished ≡ true → GoesOn x y → is_heavy_class p x.class ≡ true → may_owe x ≡ true → set.contains y.called k.0 ≡ true
+  noted in' o x y k before now root' other interest done goes heavy owes = by (is_passed_on p (note false r.object k) object.0) refl
+    where
+      r : IsReceiver h caller.locals t.action m o k
+      r = subst (λ (z : Option Method). IsReceiver h caller.locals t.action z o k) (ap (callee_in p) back.calls)
+          (noted_at p ac h caller.locals o k t.action form back.row other root' (same_interest (callee p t.action) ∙ interest))
 
-  pub ended_linked : LinkedWere h K
-  ended_linked = end_linked p at fr.locals.this caller.locals t.action (method_at p fr.method) m v e h links no_reset no_alias unmade
+      object : (z : Object) × (object_at h r.object ≡ Some z)
+      object = let number = operand_in_range h caller.locals in' t.action 0 r.object (ap number_of r.value) in object_there h r.object x number.0 number.1
+
+      way : Leads p h r.object o
+      way = leads r.object o object.0 x object.1 r.root before heavy owes
+
+      named_interest : (z : Option NameId) → interest_in (callee p t.action) ≡ z → calls.interest_in m ≡ z
+      named_interest z same = ap calls.interest_in (sym (ap (callee_in p) back.calls)) ∙ (same_interest (callee p t.action) ∙ same)
+
+      by : (b : Bool) → is_passed_on p (note false r.object k) object.0 ≡ b → set.contains y.called k.0 ≡ true
+      by true passed =
+          end_noted p at fr.locals.this caller.locals t.action (method_at p fr.method) m v e h links no_reset unmade o object.0 y k (no_receiver h caller.locals t.action o root') r
+          (λ n is'. small_name p t.action n names (interest ∙ sym (named_interest (Some k) interest) ∙ is')) object.1 passed way now
+      by false stopped = within_at x.called y.called goes.called k.0
+          (own_name_called p ac forms h links fr caller st covered i s q here is back.index t back.here named named_there.0 back.calls named_there.1 dispatched k
+          (ap interest_in (sym same_callee) ∙ interest) (chosen_by_note caller.locals t.action m (note false r.object k) r.noted) o x before heavy owes done r.object object.0 r.value object.1 way stopped)
+
+  -- no exception is an alias: nor is the object of a `new`
+  pub ended_apart : ExceptionsAreUnlinked p K
+  ended_apart n y l now some = elim (end_linked p at fr.locals.this caller.locals t.action (method_at p fr.method) m v e h links no_reset unmade n y l now some) [
+    | inl was ↦ ap (λ (c : ClassId). is_under p c p.core.throwable) was.3 ∙ apart n was.0 l was.1 was.2
+    | inr made' ↦ of_new made'.0 made'.1 made'.2 made'.3
+  ]
+    where
+      alias_there : (x : Option ℕ) → named_there.0.sig.alias ≡ x → is_some x ≡ true → (k : ℕ) × (named_there.0.sig.alias ≡ Some k)
+      alias_there None none' some' = absurd (true≢false (sym some'))
+      alias_there (Some k) is' some' = (k, is')
+
+      of_new : is_new t.action ≡ true → fr.locals.this ≡ values.Object n → calls.is_alias m ≡ true → ((x : Object) × (object_at h n ≡ Some x) × (y.class ≡ x.class)) → is_under p y.class p.core.throwable ≡ false
+      of_new new this aliased' old = go t.action refl new makes
+        where
+          alias' : (k : ℕ) × (named_there.0.sig.alias ≡ Some k)
+          alias' = alias_there named_there.0.sig.alias refl (sym (ap calls.is_alias named_there.1) ∙ aliased')
+
+          go : (a : Action) → t.action ≡ a → is_new a ≡ true → IsMadeBy p h a fr.locals.this → is_under p y.class p.core.throwable ≡ false
+          go actions.Skip is' one made' = absurd (true≢false (sym one))
+          go (actions.New m' d n') is' one made' =
+              let m_is = named_is m' (ap called_method is') in
+              let number : made'.0 ≡ n = (let both : values.Object made'.0 ≡ values.Object n = sym made'.1 ∙ this in (let same : made'.0 ≡ n = cc in same)) in
+              let class : named_there.0.class ≡ old.0.class = (let both : Some named_there.0.class ≡ Some old.0.class = sym (ap class_of_method named_there.1) ∙ sym (ap (λ (z : MethodId). class_of_method (method_at p z)) m_is)
+              ∙ made'.3 old.0 (ap (object_at h) number ∙ old.1) in (let same : named_there.0.class ≡ old.0.class = cc in same)) in
+              let new_kind : is_constructor_kind named_there.0.kind ≡ true = sym (ap constructs named_there.1) ∙ sym (ap (λ (z : MethodId). constructs (method_at p z)) m_is) ∙ subst (IsOfItsKind p) is' kind in
+              alias_no_exception p ac named named_there.0 named_there.1 alias'.0 alias'.1 y.class (inl (new_kind, old.2 ∙ sym class))
+          go a is' one made' = absurd (true≢false (sym one))
 
   pub ended_unfinished : KeepsUnfinished h K (λ o. (fr.locals.this ≡ values.Object o) × (is_new t.action ≡ true))
-  ended_unfinished = end_unfinished p at fr.locals.this caller.locals t.action (method_at p fr.method) m v e h links no_reset no_alias unmade
+  ended_unfinished = end_unfinished p at fr.locals.this caller.locals t.action (method_at p fr.method) m v e h links no_reset unmade
 
   ready : (rest : List Frame) → IsUnheld p h fr caller rest → AllReady p h K (caller ∷ rest)
   ready rest unheld = frames_ready_but p h K (λ o. (fr.locals.this ≡ values.Object o) × (is_new t.action ≡ true)) ended_unfinished (caller ∷ rest) (λ w is. unheld back.index t w back.here is.1 is.0)
 
-  pub ended_held_before : (rest : List Frame) → LocalsIn h rest → AllHeldBefore p h K rest
-  ended_held_before rest in' =
-      all_held_before p h K roots rest (all_keep p h K (end_keeps p at fr.locals.this caller.locals t.action (method_at p fr.method) m v e h links no_reset no_alias unmade) rest) (all_there p h ranges rest in')
+  pub ended_held_before : (rest : List Frame) → IsUnheld p h fr caller rest → LocalsIn h (caller ∷ rest) → AllHeldBefore p h K rest
+  ended_held_before rest unheld in' =
+      all_held_before_on p h K rest (all_roots rest unheld in').1 (all_keep p h K (end_keeps p at fr.locals.this caller.locals t.action (method_at p fr.method) m v e h links no_reset unmade) rest)
 
   -- ---- a result that is an alias
 
-  value_root_is : root_of K v ≡ root_of h v
-  value_root_is = value_root h K roots v (result_in_range h fr.locals mine' (method_at p fr.method) q)
+  value_root_is : KeepsRoots h K → root_of K v ≡ root_of h v
+  value_root_is keeps' = value_root h K keeps' v (result_in_range h fr.locals mine' (method_at p fr.method) q)
+
+  -- the object of a `new` is an alias of its argument
+  module _ (k : ℕ) (some : named_there.0.sig.alias ≡ Some k) (normal' : e ≡ None) (new : is_new t.action ≡ true) where
+    target_is : target ≡ number_of (operand_of caller.locals t.action k)
+    target_is = ap (object_by (operand_of caller.locals t.action)) (ap alias_position named_there.1 ∙ some)
+
+    answer_is_self : V ≡ fr.locals.this
+    answer_is_self = ap (answered fr.locals.this t.action v) normal' ∙ go t.action refl new
+      where
+        go : (a : Action) → t.action ≡ a → is_new a ≡ true → answered fr.locals.this a v None ≡ fr.locals.this
+        go actions.Skip is' one = absurd (true≢false (sym one))
+        go (actions.New m' d n') is' one = refl
+        go a is' one = absurd (true≢false (sym one))
+
+    new_root_is : (j : ℕ) → target ≡ Some j → root_of K V ≡ Some (root h j)
+    new_root_is j to = ap (root_of K) (answer_is_self ∙ (self_made new).1) ∙ ap Some (linked_root normal' new j to)
+
+    new_to_result : (o : ℕ) → root_of h (operand_of caller.locals t.action k) ≡ Some o → root_of K V ≡ Some o
+    new_to_result o root' =
+        let w = object_with_root h (operand_of caller.locals t.action k) o root' in
+        new_root_is w.0 (target_is ∙ ap number_of w.1) ∙ ap Some w.2
+
+    -- an alias of null needs no call
+    null_owes : (o : ℕ) (y : Object) → target ≡ None → root_of K V ≡ Some o → object_at K o ≡ Some y → may_owe y ≡ true → ⊥
+    null_owes o y none root' now owes = go t.action refl new
+      where
+        self' : (w : ℕ) × (fr.locals.this ≡ values.Object w) × (0 < w) × (w < next_number h)
+        self' = self_made new
+
+        old : (x : Object) × (object_at h self'.0 ≡ Some x)
+        old = let class : ClassId = record { 0 = 0 } in object_there h self'.0 (unfinished class) self'.2 self'.3
+
+        unlinked : old.0.link ≡ None
+        unlinked = by old.0.link refl
+          where
+            by : (l : Option Link) → old.0.link ≡ l → old.0.link ≡ None
+            by None none' = none'
+            by (Some l) some' = absurd (true≢false (sym (links self'.0 old.0 l old.1 some').finished ∙ unmade self'.0 old.0 new self'.1 old.1))
+
+        itself' : self'.0 ≡ o
+        itself' =
+            sym (roots_of_links-itself h self'.0 old.0 old.1 unlinked) ∙ sym (roots (λ x z. none) self'.0 (self'.2, self'.3))
+            ∙ (let both : Some (root K self'.0) ≡ Some o = ap (root_of K) (sym (answer_is_self ∙ self'.1)) ∙ root' in (let same : root K self'.0 ≡ o = cc in same))
+
+        is_aliased' : calls.is_alias m ≡ true
+        is_aliased' = ap calls.is_alias named_there.1 ∙ ap is_some some
+
+        go : (a : Action) → t.action ≡ a → is_new a ≡ true → ⊥
+        go actions.Skip is' one = true≢false (sym one)
+        go (actions.New m' d n') is' one =
+            let null' = null_here p at o fr.locals.this caller.locals m' d n' (method_at p fr.method) m v h y is_aliased' (ap (λ (a : Action). alias_target (operand_of caller.locals a) m) (sym is') ∙ none) (self'.1 ∙ ap values.Object itself')
+            (subst (λ (x : Option ClassId). object_at (returned_heap p at fr.locals.this caller.locals (actions.New m' d n') (method_at p fr.method) m v x h) o ≡ Some y) normal'
+            (subst (λ (a : Action). object_at (returned_heap p at fr.locals.this caller.locals a (method_at p fr.method) m v e h) o ≡ Some y) is' now)) in
+            true≢false (sym owes ∙ ap not (and_from y.finished (is_empty y.must) null'.0 (ap is_empty null'.1 ∙ within_self no_names)))
+        go a is' one = true≢false (sym one)
+
+    new_to_operand : (o : ℕ) (y : Object) → root_of K V ≡ Some o → object_at K o ≡ Some y → may_owe y ≡ true → root_of h (operand_of caller.locals t.action k) ≡ Some o
+    new_to_operand o y root' now owes = by target refl
+      where
+        by : (j : Option ℕ) → target ≡ j → root_of h (operand_of caller.locals t.action k) ≡ Some o
+        by None none = absurd (null_owes o y none root' now owes)
+        by (Some j) to = ap (root_of h) (number_value (operand_of caller.locals t.action k) j (sym target_is ∙ to)) ∙ sym (new_root_is j to) ∙ root'
 
   -- the method that runs returns its aliased argument
-  module _ (k : ℕ) (some : named_there.0.sig.alias ≡ Some k) (edge : t.edge ≡ edges.Go) where
+  module _ (k : ℕ) (some : named_there.0.sig.alias ≡ Some k) (edge : t.edge ≡ edges.Go) (old : is_new t.action ≡ false) (method' : constructs m ≡ false) (receives : has_receiver t.action ≡ true) where
     run_alias : run.0.sig.alias ≡ Some k
     run_alias = fit.alias ∙ some
 
-    no_constructor : constructs m ≡ true → ⊥
-    no_constructor new = let never : None ≡ Some k = sym (constructor_plain new) ∙ some in cc
-
     method_kind : is_constructor_kind run.0.kind ≡ false
-    method_kind = go (is_constructor_kind run.0.kind) refl
-      where
-        go : (b : Bool) → is_constructor_kind run.0.kind ≡ b → is_constructor_kind run.0.kind ≡ false
-        go true new = absurd (no_constructor (ap constructs named_there.1 ∙ sym fit.makes ∙ new))
-        go false other = other
+    method_kind = fit.makes ∙ ap constructs (sym named_there.1) ∙ method'
 
     -- its result is what the caller takes
     answer_is : V ≡ v
-    answer_is = ap (answered fr.locals.this t.action v) (normal edge) ∙ go t.action refl
+    answer_is = ap (answered fr.locals.this t.action v) (normal edge) ∙ go t.action refl old
       where
-        go : (a : Action) → t.action ≡ a → answered_normally fr.locals.this a v ≡ v
-        go actions.Skip is' = refl
-        go (actions.New m' d n') is' = absurd (let never : None ≡ Some k = sym (new_plain (ap is_new is')) ∙ some in cc)
-        go (actions.Super m' d n') is' =
-            absurd (no_constructor (ap (λ (z : MethodId). constructs (method_at p z)) (sym (named_is m' (ap called_method is'))) ∙ (subst (IsPlainAction p) is' form).1))
-        go a is' = refl
-
-    receives : has_receiver t.action ≡ true
-    receives = go t.action refl
-      where
-        go : (a : Action) → t.action ≡ a → has_receiver a ≡ true
-        go actions.Skip is' = refl
-        go (actions.New m' d n') is' = absurd (let never : None ≡ Some k = sym (new_plain (ap is_new is')) ∙ some in cc)
-        go a is' = refl
+        go : (a : Action) → t.action ≡ a → is_new a ≡ false → answered_normally fr.locals.this a v ≡ v
+        go actions.Skip is' one = refl
+        go (actions.New m' d n') is' one = absurd (true≢false one)
+        go (actions.Super m' d n') is' one = absurd (true≢false (sym receives_not ∙ method'))
+          where
+            receives_not : constructs m ≡ true
+            receives_not = ap (λ (z : MethodId). constructs (method_at p z)) (sym (named_is m' (ap called_method is'))) ∙ (subst (IsPlainAction p) is' form).1
+        go a is' one = refl
 
     module _ (o : ℕ) (x : Object) (before : object_at h o ≡ Some x) (heavy : is_heavy_class p x.class ≡ true) (owes : may_owe x ≡ true) where
       value_is : root_of K V ≡ root_of h (result_value fr.locals (Some run.0) q)
-      value_is = ap (root_of K) answer_is ∙ value_root_is ∙ ap (λ (z : Option Method). root_of h (result_value fr.locals z q)) run.1
+      value_is = ap (root_of K) answer_is ∙ value_root_is (roots_called old) ∙ ap (λ (z : Option Method). root_of h (result_value fr.locals z q)) run.1
 
       to_result : root_of h (operand_of caller.locals t.action k) ≡ Some o → root_of K V ≡ Some o
-      to_result root = value_is ∙ argument_is_result p ac h fr caller st args covered i s q here is (returns edge) run.0 run.1 k run_alias method_kind back.index t back.here o x before heavy owes root
+      to_result root' = value_is ∙ argument_is_result p ac h fr caller st args covered i s q here is (returns edge) run.0 run.1 k run_alias method_kind back.index t back.here o x before heavy owes root'
 
       to_operand : root_of K V ≡ Some o → root_of h (operand_of caller.locals t.action k) ≡ Some o
-      to_operand root = result_is_argument p ac h fr caller st args covered i s q here is (returns edge) run.0 run.1 k run_alias method_kind back.index t back.here o x before heavy owes receives (sym value_is ∙ root)
+      to_operand root' = result_is_argument p ac h fr caller st args covered i s q here is (returns edge) run.0 run.1 k run_alias method_kind back.index t back.here o x before heavy owes receives (sym value_is ∙ root')
 
   -- an alias of the object of a fact has that object for its root
   aliased : (z : Place) (o : ℕ) (x : Object) (c : Covers p h caller z o x) → object_at h o ≡ Some x → is_heavy_class p x.class ≡ true → may_owe x ≡ true
@@ -293,43 +449,48 @@ module _ (p : Program) (ac : Accept p) (forms : HasPlainForms p) (runs' : HasPla
       let operand = gives_operand p t.action t.edge c.fact.places gives' in
       let k = operand.1.0 in
       let position : named_there.0.sig.alias ≡ Some k = ap alias_in (sym same_callee) ∙ operand.1.1 in
-      to_result k position operand.0 o x before heavy owes
-      (operand_holds p h caller.method caller.locals t.action o k c.fact.places local.small (operand_has_position p t.action c.fact.places k local.small operand.1.2) c.places operand.1.2)
+      let root' = operand_holds p h caller.method caller.locals t.action o k c.fact.places local.small (operand_has_position p t.action c.fact.places k local.small operand.1.2) c.places operand.1.2 in
+      elim (alias_kind k position) [
+        | inl new ↦ new_to_result k position (normal operand.0) new o root'
+        | inr called' ↦ to_result k position operand.0 called'.0 called'.1 called'.2 o x before heavy owes root'
+      ]
 
   -- what the call gives is covered by its birth, or comes from the operand of which it is an alias
   made : (place : Place) (o : ℕ) (y : Object) → IsSmall place → is_local place ≡ true → is_made (made_place t.action) place ≡ true → place_value p K caller.method after.locals place ≡ V → root_of K V ≡ Some o
       → object_at K o ≡ Some y → is_heavy_class p y.class ≡ true → may_owe y ≡ true → Covers p K after place o y ⊎ IsFromPlace p h caller below t place o
-  made place o y small local' there value root now heavy owes = by named_there.0.sig.alias refl
+  made place o y small local' there value root' now heavy owes = by named_there.0.sig.alias refl
     where
       was : (n : ℕ) (x : Object) → object_at K n ≡ Some x → IsCarried h n x
-      was = end_was p at fr.locals.this caller.locals t.action (method_at p fr.method) m v e h links no_reset no_alias unmade
+      was = end_was p at fr.locals.this caller.locals t.action (method_at p fr.method) m v e h links no_reset unmade
 
       by_end : (k : ℕ) → named_there.0.sig.alias ≡ Some k → (x : Option ClassId) → e ≡ x → Covers p K after place o y ⊎ IsFromPlace p h caller below t place o
       by_end k some (Some c) thrown' =
-          absurd (thrown_light p ac forms runs' texts h links apart fr caller st below keeps gives mine' covered i s q here is t named back named_there.0 named_there.1 call may makes at roots unmade was place o y small there value root now
-          heavy owes c thrown' (ap (λ (x : Option ClassId). root_of K (answered fr.locals.this t.action v x)) (sym thrown') ∙ root))
+          absurd (thrown_light p ac forms runs' texts h links apart fr caller st below keeps gives mine' covered i s q here is t named back named_there.0 named_there.1 call may makes at (roots_thrown c thrown') unmade was place o y small there value root'
+          now heavy owes c thrown' (ap (λ (x : Option ClassId). root_of K (answered fr.locals.this t.action v x)) (sym thrown') ∙ root'))
       by_end k some None none =
           let old = was o y now in
           let edge = back.normal none in
-          inr (from_operand p h caller below t local place o small local' there edge k (ap alias_in same_callee ∙ some)
-          (to_operand k some edge o old.0 old.1 (ap (is_heavy_class p) (sym old.2) ∙ heavy) (owed_before old.0 y old.3 owes) root))
+          inr (from_operand p h caller below t local place o small local' there edge k (ap alias_in same_callee ∙ some) (elim (alias_kind k some) [
+            | inl new ↦ new_to_operand k some none new o y root' now owes
+            | inr called' ↦ to_operand k some edge called'.0 called'.1 called'.2 o old.0 old.1 (ap (is_heavy_class p) (sym old.2) ∙ heavy) (owed_before old.0 y old.3 owes) root'
+          ]))
 
       by : (a : Option ℕ) → named_there.0.sig.alias ≡ a → Covers p K after place o y ⊎ IsFromPlace p h caller below t place o
       by None none =
-          inl (given p ac forms runs' texts h links apart fr caller st below keeps gives mine' covered i s q here is t named back named_there.0 named_there.1 call may makes at roots unmade was place o y small there value root now heavy owes
-          none)
+          inl (given p ac forms runs' texts h links apart fr caller st below keeps gives mine' covered i s q here is t named back named_there.0 named_there.1 call may makes at (roots_plain none) unmade was place o y small there value root' now heavy
+          owes none)
       by (Some k) some = by_end k some e refl
 
   pub ended_covered : (rest : List Frame) → IsUnheld p h fr caller rest → LocalsIn h (caller ∷ rest) → AreCovered p h (caller ∷ rest) → AreCovered p K (after ∷ rest)
   ended_covered rest unheld in' covered' =
-      let carries = end_carries p at fr.locals.this caller.locals t.action (method_at p fr.method) m v e h links no_reset no_alias unmade in
-      let fields = end_keeps p at fr.locals.this caller.locals t.action (method_at p fr.method) m v e h links no_reset no_alias unmade in (
-        call_covered p ac h K links roots carries fields caller below back.index t back.here local (holds_there p h ranges caller (All-head (λ (x : Frame). LocalsInRange h x.locals) caller rest in')) V back.row
+      let carries = end_carries p at fr.locals.this caller.locals t.action (method_at p fr.method) m v e h links no_reset unmade in
+      let fields = end_keeps p at fr.locals.this caller.locals t.action (method_at p fr.method) m v e h links no_reset unmade in (
+        call_covered p ac h K links carries fields caller below back.index t back.here local (holds_there p h ranges caller (All-head (λ (x : Frame). LocalsInRange h x.locals) caller rest in')) (all_roots rest unheld in').0 V back.row
             (plain_no_reset p t.action form) covered'.0 (ready rest unheld).0 (noted (All-head (λ (x : Frame). LocalsInRange h x.locals) caller rest in'))
             (λ z o x y c before now g more trusted done goes wide heavy owes.
             promises_kept p ac forms h fr caller st below targets args (All-head (λ (u : Frame). LocalsInRange h u.locals) caller rest in') covered i s q here is back.index t back.here back.row named named_there.0 back.calls
             named_there.1 call may dispatched returns thrown z o x y c before g more trusted done goes wide heavy owes)
             aliased
             (λ place o y small local' none there value root now heavy owes. made place o y small local' there value root now heavy owes),
-        all_wait p h K links roots carries rest (all_keep p h K fields rest) (all_there p h ranges rest (All-tail (λ (x : Frame). LocalsInRange h x.locals) caller rest in')) (ready rest unheld).1 covered'.1,
+        all_wait_on p h K links carries rest (all_roots rest unheld in').1 (all_keep p h K fields rest) (all_there p h ranges rest (All-tail (λ (x : Frame). LocalsInRange h x.locals) caller rest in')) (ready rest unheld).1 covered'.1,
       )

@@ -18,9 +18,9 @@ use Rattle.program_model.specs.Overrides.{is_library}
 use Rattle.program_model.specs.SuperTests.{is_under}
 use Rattle.program_model.specs.Validity.{is_class_type}
 use Rattle.program_conditions.specs.Conditions.{MakesNoString}
-use Rattle.must_call_sets.specs.Bodies.{alias_in, alias_position, method_in, method_of}
-use Rattle.must_call_sets.specs.MustCallSets.{Names, fits, fits_type, is_empty, is_heavy_as, is_heavy_class, must_of, must_of_optional, no_names}
-use Rattle.must_call_sets.specs.OverrideCases.{differ}
+use Rattle.value_type_laws.specs.Bodies.{alias_in, alias_position, method_in, method_of}
+use Rattle.value_type_laws.specs.MustCallSets.{Names, fits, fits_type, is_empty, is_heavy_as, is_heavy_class, must_of, must_of_optional, no_names}
+use Rattle.value_type_laws.specs.OverrideCases.{differ}
 use Rattle.java_control.specs.Calls.{called_method, completion_temp}
 use Rattle.java_control.specs.Control.{Step}
 use Rattle.java_control.specs.PlaceNumbers.{IsSmall}
@@ -40,10 +40,10 @@ use Rattle.java_control.specs.declared.fact.Rule.{Rule}
 use Rattle.java_control.specs.declared.fact.Rule.TheVariants as rules
 use Rattle.java_control.specs.declared.place.Place.{Place}
 use Rattle.java_control.specs.declared.place.Place.TheVariants as places
-use Rattle.obligation_facts.specs.Facts.{has, is_own}
-use Rattle.must_call_sets.specs.Signatures.{is_present}
+use Rattle.target_laws.specs.Facts.{has, is_own}
+use Rattle.value_type_laws.specs.Signatures.{is_present}
 use Rattle.ownership_rules.specs.Heavy.{is_owned}
-use Rattle.obligation_facts.specs.SmallActions.{IsSmallAction, IsSmallTemp}
+use Rattle.target_laws.specs.SmallActions.{IsSmallAction, IsSmallTemp}
 use Rattle.ownership_rules.specs.Births.{fact_at, origin_of}
 use Rattle.ownership_rules.specs.MovesAtReturns.{heavy_result, kept_alias, moved_at_return, owned_result, owning_result_in, result_type}
 use Rattle.ownership_rules.specs.MovesAtReturns as at_returns
@@ -52,7 +52,7 @@ use Rattle.ownership_rules.specs.declared.moved.Moved.TheVariants as moves
 use Rattle.flow_rules.specs.Ends.{after_return}
 use Rattle.flow_rules.specs.Flow.{flow}
 use Rattle.flow_rules.specs.Paths.{Reach, move_of, relation_of}
-use Rattle.accepted_programs.specs.Accept.{Accept}
+use Rattle.target_laws.specs.Accept.{Accept}
 use Rattle.ledger_state.specs.Classes.{class_in, runtime_class}
 use Rattle.ledger_state.specs.Contents.{HeapContents}
 use Rattle.ledger_state.specs.Heaps.{object_at, root, root_of, unfinished}
@@ -63,30 +63,30 @@ use Rattle.ledger_state.specs.declared.object.Object.{Object}
 use Rattle.ledger_state.specs.declared.value.Value.{Value}
 use Rattle.ledger_state.specs.declared.value.Value.TheVariants as values
 use Rattle.ledger_obligations.specs.Obligations.{first_set}
-use Rattle.ledger_operations.specs.Places.{class_of_method, place_value}
-use Rattle.ledger_calls.specs.Calls as calls
-use Rattle.ledger_calls.specs.Configuration.{Frame}
-use Rattle.ledger_frames.specs.Choosing.{body_id, frame_steps}
-use Rattle.ledger_frames.specs.Frames.{frame_after, is_made, made_place}
+use Rattle.program_call_laws.specs.Places.{class_of_method, place_value}
+use Rattle.program_call_laws.specs.Calls as calls
+use Rattle.program_call_laws.specs.Configuration.{Frame}
+use Rattle.target_laws.specs.Choosing.{body_id, frame_steps}
+use Rattle.target_laws.specs.Frames.{frame_after, is_made, made_place}
 use Rattle.ledger_steps.specs.Ends.{answered, exception_class, result_value, returned_heap, thrown_in}
-use Rattle.heap_laws.specs.Heaps.{HasLibraryLinks}
-use Rattle.heap_laws.proofs.Laws.{roots_of_links-itself}
-use Rattle.place_laws.proofs.Laws.{single_place-same}
-use Rattle.owned_fact_laws.specs.Outcomes.{IsCallRow, IsFault}
-use Rattle.agreement.specs.Agreement.{IsMade, IsMadeBy, Stands}
-use Rattle.agreement.specs.PlainForms.{HasPlainForms, IsPlainCall, MayRun, RunsFor}
+use Rattle.program_call_laws.specs.Heaps.{HasEarlierLinks}
+use Rattle.program_call_laws.proofs.Laws.{roots_of_links-itself}
+use Rattle.field_place_laws.proofs.Laws.{single_place-same}
+use Rattle.tracking_laws.specs.Outcomes.{IsCallRow, IsFault}
+use Rattle.tracking_laws.specs.Agreement.{IsMade, IsMadeBy, Stands}
+use Rattle.tracking_laws.specs.PlainForms.{HasPlainForms, IsPlainCall, MayRun, RunsFor}
 use Rattle.range_laws.specs.Nexts.{IsBackStep}
-use Rattle.operand_type_laws.specs.Operands.{NoObject, result_of}
+use Rattle.operand_source_laws.specs.Operands.{NoObject, result_of}
 use Rattle.tracking_laws.proofs.CallNames.{object_with_root}
 use Rattle.tracking_laws.proofs.Chains.{object_there}
-use Rattle.typed_step_laws.specs.Typed.{GivesResult, NamesMembers}
+use Rattle.kept_argument_laws.specs.Typed.{GivesResult, NamesMembers}
 use Rattle.value_type_laws.specs.Types.{GivesAsNamed, KeepsTypes}
 use Rattle.value_type_laws.proofs.Laws.{returned_value_is_no_object}
-use Rattle.covered_field_laws.specs.FieldContents.{is_new}
-use Rattle.covered_field_laws.specs.PlaceFacts.{Covers, IsCovered, IsTrueOf, may_owe}
-use Rattle.covered_field_laws.specs.Ranges.{LocalsInRange}
-use Rattle.covered_field_laws.proofs.Following.{breaks_nothing, same_body, step_there}
-use Rattle.covered_field_laws.proofs.HeavyFields.{own_claims}
+use Rattle.kept_argument_laws.specs.FieldContents.{is_new}
+use Rattle.kept_argument_laws.specs.PlaceFacts.{Covers, IsCovered, IsTrueOf, may_owe}
+use Rattle.kept_argument_laws.specs.Ranges.{LocalsInRange}
+use Rattle.kept_argument_laws.proofs.Following.{breaks_nothing, same_body, step_there}
+use Rattle.kept_argument_laws.proofs.HeavyFields.{own_claims}
 use Rattle.covering_laws.specs.Running.{HasPlainRuns, IsAlike}
 use Rattle.covering_laws.specs.Throws.{ExceptionsAreUnlinked}
 use Rattle.covering_laws.proofs.AliasResults.{default_no_root}
@@ -133,7 +133,7 @@ no_number : (k : HeapContents) (v : Value) (o : ℕ) → number_of v ≡ None �
 no_number k (values.Object n) o none is = absurd (let never : Some n ≡ None = none in cc)
 no_number k v o none is = cc
 
-module _ (p : Program) (ac : Accept p) (forms' : HasPlainForms p) (runs' : HasPlainRuns p) (texts : MakesNoString p) (h : HeapContents) (links : HasLibraryLinks h) (apart : ExceptionsAreUnlinked p h) (fr caller : Frame) (st : Stands p fr) (below : Stands p caller)
+module _ (p : Program) (ac : Accept p) (forms' : HasPlainForms p) (runs' : HasPlainRuns p) (texts : MakesNoString p) (h : HeapContents) (links : HasEarlierLinks h) (apart : ExceptionsAreUnlinked p h) (fr caller : Frame) (st : Stands p fr) (below : Stands p caller)
     (keeps : KeepsTypes p fr) (gives : GivesAsNamed p caller fr) (mine' : LocalsInRange h fr.locals) (covered : IsCovered p h fr) (i : ℕ) (s : Step) (q : Completion) (here : slice_get (frame_steps p fr) i ≡ Some s) (is : s.action ≡ actions.End q)
     (t : Step) (named : MethodId) (back : IsBackStep p (frame_steps p caller) (exception_class p h (thrown_in fr.locals q)) named t) (n : Method) (named_at : method_at p named ≡ Some n) (call : IsPlainCall p named)
     (may : MayRun p named fr.method) (makes : IsMadeBy p h t.action fr.locals.this) (at : ℕ) where
@@ -289,7 +289,7 @@ module _ (p : Program) (ac : Accept p) (forms' : HasPlainForms p) (runs' : HasPl
         owned r result owning heavy' =
             let type : result_type p st.number ≡ Some result_there.0 = ap at_returns.result_in body_method ∙ result_there.1 in
             let mine = result_is_owned p st.number cover.origin d pos s.edge cover.fact result_there.0 type (ap alias_in body_method ∙ fit.alias ∙ plain) (ap owning_result_in body_method ∙ owning_run owning) cover.here heavy_as fine in
-            let truth = cover.true' (own_claims p cover.origin cover.fact mine.0 mine.1) in
+            let truth = cover.true' (own_claims p (method_at p fr.method) cover.origin cover.fact mine.0 mine.1) in
             true_of_result p old.0 y cover.origin cover.fact kinds.Result t.pos r (places.Temp d) truth (old.3 truth.finished)
             (within_trans (must_of p cover.origin.class) (must_of_optional p (Some result_there.0)) (must_of p r) mine.2 wider)
           where

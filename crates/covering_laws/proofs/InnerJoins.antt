@@ -12,8 +12,8 @@ use Rattle.program_model.specs.Lookups.{method_at}
 use Rattle.program_model.specs.SuperTests.{is_class}
 use Rattle.program_model.specs.Validity.{is_class_type}
 use Rattle.program_conditions.specs.Conditions.{MakesNoString}
-use Rattle.must_call_sets.specs.MustCallSets.{is_heavy_class, must_of, no_names}
-use Rattle.must_call_sets.specs.Signatures as signatures
+use Rattle.value_type_laws.specs.MustCallSets.{is_heavy_class, must_of, no_names}
+use Rattle.value_type_laws.specs.Signatures as signatures
 use Rattle.java_control.specs.Control.{Step}
 use Rattle.java_control.specs.Sources.{emptied, is_null_pointer, is_temp, source}
 use Rattle.java_control.specs.declared.action.Action.{Action}
@@ -29,7 +29,7 @@ use Rattle.java_control.specs.declared.place.Place.{Place}
 use Rattle.java_control.specs.declared.place.Place.TheVariants as places
 use Rattle.ownership_rules.specs.Births.{birth_on, fact_at, origin_of, read_birth}
 use Rattle.flow_rules.specs.Paths.{move_of}
-use Rattle.accepted_programs.specs.Accept.{Accept}
+use Rattle.target_laws.specs.Accept.{Accept}
 use Rattle.ledger_state.specs.Contents.{HeapContents}
 use Rattle.ledger_state.specs.Heaps as heaps
 use Rattle.ledger_state.specs.Heaps.{append, next_number, object_at, only_at}
@@ -38,27 +38,27 @@ use Rattle.ledger_state.specs.declared.entry.Owner.TheVariants as owners
 use Rattle.ledger_state.specs.declared.object.Object.{Object}
 use Rattle.ledger_state.specs.declared.value.Value.{Value}
 use Rattle.ledger_obligations.specs.Obligations.{finished}
-use Rattle.ledger_operations.specs.Operations.{made_value, next_choice, thrown_by_operation}
-use Rattle.ledger_calls.specs.Configuration.{Config, Frame}
-use Rattle.ledger_frames.specs.Choosing.{agrees_with, edge_of_class, frame_steps, operation_edge, same_edge}
-use Rattle.ledger_frames.specs.Frames.{frame_after, is_made, made_place}
+use Rattle.program_call_laws.specs.Operations.{made_value, next_choice, thrown_by_operation}
+use Rattle.program_call_laws.specs.Configuration.{Config, Frame}
+use Rattle.target_laws.specs.Choosing.{agrees_with, edge_of_class, frame_steps, operation_edge, same_edge}
+use Rattle.target_laws.specs.Frames.{frame_after, is_made, made_place}
 use Rattle.ledger_steps.specs.InnerSteps.{heap_stored, store_of, store_unless, thrown_heap, with_exception}
-use Rattle.heap_laws.specs.Heaps.{HasLibraryLinks}
-use Rattle.heap_laws.proofs.Laws.{appended_object_at-object, changed_object_at-object}
-use Rattle.agreement.specs.Agreement.{Stands}
-use Rattle.agreement.specs.PlainForms.{HasPlainForms}
-use Rattle.owned_fact_laws.specs.Outcomes.{IsPlainRow}
-use Rattle.place_laws.proofs.Laws.{single_place-same}
-use Rattle.operand_type_laws.specs.Operands as operand_types
-use Rattle.operand_type_laws.specs.Operands.{NoObject}
+use Rattle.program_call_laws.specs.Heaps.{HasEarlierLinks}
+use Rattle.program_call_laws.proofs.Laws.{appended_object_at-object, changed_object_at-object}
+use Rattle.tracking_laws.specs.Agreement.{Stands}
+use Rattle.tracking_laws.specs.PlainForms.{HasPlainForms}
+use Rattle.tracking_laws.specs.Outcomes.{IsPlainRow}
+use Rattle.field_place_laws.proofs.Laws.{single_place-same}
+use Rattle.operand_source_laws.specs.Operands as operand_types
+use Rattle.operand_source_laws.specs.Operands.{NoObject}
 use Rattle.operand_source_laws.specs.Origins.{MakesNone}
 use Rattle.range_laws.specs.Nexts.{IsPlainStep}
 use Rattle.tracking_laws.proofs.Ready.{plain_step, row_sets, step_there}
-use Rattle.typed_step_laws.specs.Typed.{HasField, NamesMembers}
+use Rattle.kept_argument_laws.specs.Typed.{HasField, NamesMembers}
 use Rattle.value_type_laws.specs.Types.{HaveTypes, KeepsTypes}
 use Rattle.value_type_laws.proofs.Laws.{made_value_is_no_object}
-use Rattle.covered_field_laws.specs.PlaceFacts.{AreCovered}
-use Rattle.covered_field_laws.specs.Ranges.{FieldsInRange, LocalsInRange}
+use Rattle.kept_argument_laws.specs.PlaceFacts.{AreCovered}
+use Rattle.kept_argument_laws.specs.Ranges.{FieldsInRange, LocalsInRange}
 use Rattle.covering_laws.specs.Throws.{ExceptionsAreUnlinked, ThrowsNoNullPointer}
 use Rattle.covering_laws.proofs.InnerSteps.{carries, fields, heap, inner_covered, linked_were, roots, unfinished, value}
 use Rattle.covering_laws.proofs.LightExceptions.{operation_is_light}
@@ -108,7 +108,7 @@ emptied_by : (b c : Bool) (q : Place) → emptied (b && c) q ≡ None → b ≡ 
 emptied_by true c q is = refl
 emptied_by false c q is = absurd (let never : Some q ≡ None = is in cc)
 
-module _ (p : Program) (ac : Accept p) (forms : HasPlainForms p) (others : ThrowsNoNullPointer p) (texts : MakesNoString p) (c : Config) (types' : HaveTypes p c) (links : HasLibraryLinks c.heap) (ranges : FieldsInRange c.heap)
+module _ (p : Program) (ac : Accept p) (forms : HasPlainForms p) (others : ThrowsNoNullPointer p) (texts : MakesNoString p) (c : Config) (types' : HaveTypes p c) (links : HasEarlierLinks c.heap) (ranges : FieldsInRange c.heap)
     (fr : Frame) (st : Stands p fr) (keeps : KeepsTypes p fr) (i : ℕ) (s : Step) (here : slice_get (frame_steps p fr) i ≡ Some s) (e : Option ClassId)
     (step : IsPlainStep p c.heap c.arrays fr.method fr.locals e s) where
   abbrev h : HeapContents

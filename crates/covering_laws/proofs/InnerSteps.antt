@@ -7,7 +7,7 @@ use Rattle.program_model.specs.declared.kinds.FieldId.{FieldId}
 use Rattle.program_model.specs.declared.program.Method.{Method}
 use Rattle.program_model.specs.declared.program.Program.{Program}
 use Rattle.program_model.specs.Lookups.{method_at}
-use Rattle.must_call_sets.specs.MustCallSets.{Names, is_heavy_class, no_names}
+use Rattle.value_type_laws.specs.MustCallSets.{Names, is_heavy_class, no_names}
 use Rattle.java_control.specs.Control.{Step}
 use Rattle.java_control.specs.Owned.{is_owning}
 use Rattle.java_control.specs.PlaceNumbers.{IsSmall}
@@ -22,12 +22,12 @@ use Rattle.java_control.specs.declared.fact.Origin.{Origin}
 use Rattle.java_control.specs.declared.fact.OriginKind.TheVariants as kinds
 use Rattle.java_control.specs.declared.place.Place.{Place}
 use Rattle.java_control.specs.declared.place.Place.TheVariants as places
-use Rattle.obligation_facts.specs.Facts.{has}
-use Rattle.obligation_facts.specs.SmallActions.{IsSmallAction}
+use Rattle.target_laws.specs.Facts.{has}
+use Rattle.target_laws.specs.SmallActions.{IsSmallAction}
 use Rattle.called_methods.specs.CalledRows.{called_after}
 use Rattle.ownership_rules.specs.Births.{birth_on, fact_at}
 use Rattle.program_model.specs.declared.kinds.BodyId.{BodyId}
-use Rattle.accepted_programs.specs.Accept.{Accept}
+use Rattle.target_laws.specs.Accept.{Accept}
 use Rattle.ledger_state.specs.Contents.{HeapContents}
 use Rattle.ledger_state.specs.Fields.{field_value}
 use Rattle.ledger_state.specs.Heaps.{next_number, object_at, root, root_of}
@@ -37,28 +37,28 @@ use Rattle.ledger_state.specs.declared.locals.Locals.{Locals}
 use Rattle.ledger_state.specs.declared.object.Object.{Object}
 use Rattle.ledger_state.specs.declared.value.Value.{Value}
 use Rattle.ledger_state.specs.declared.value.Value.TheVariants as values
-use Rattle.ledger_operations.specs.Places.{place_value}
-use Rattle.ledger_calls.specs.Configuration.{Frame}
-use Rattle.ledger_frames.specs.Choosing.{frame_steps}
-use Rattle.ledger_frames.specs.Frames.{frame_after, is_made, made_place}
+use Rattle.program_call_laws.specs.Places.{place_value}
+use Rattle.program_call_laws.specs.Configuration.{Frame}
+use Rattle.target_laws.specs.Choosing.{frame_steps}
+use Rattle.target_laws.specs.Frames.{frame_after, is_made, made_place}
 use Rattle.ledger_steps.specs.declared.store.Store.{Store}
 use Rattle.ledger_steps.specs.InnerSteps.{heap_stored, store_into, store_of, store_unless, thrown_heap, thrown_value}
-use Rattle.heap_laws.specs.Heaps.{GoesOn, HasLibraryLinks}
-use Rattle.heap_laws.proofs.Laws.{numbers_are_in_range}
-use Rattle.library_call_laws.proofs.Laws.{exceptions_are_the_librarys, exceptions_keep_links-evolves}
-use Rattle.place_laws.specs.Places.{is_local}
-use Rattle.agreement.specs.Agreement.{Stands}
-use Rattle.agreement.specs.PlainForms.{HasPlainForms, IsPlainAction}
-use Rattle.owned_fact_laws.specs.Outcomes.{IsNotNull, IsPlainRow}
+use Rattle.program_call_laws.specs.Heaps.{GoesOn, HasEarlierLinks}
+use Rattle.program_call_laws.proofs.Laws.{numbers_are_in_range}
+use Rattle.tracking_laws.proofs.Laws.{exceptions_are_the_librarys, exceptions_keep_links-evolves}
+use Rattle.field_place_laws.specs.Places.{is_local}
+use Rattle.tracking_laws.specs.Agreement.{Stands}
+use Rattle.tracking_laws.specs.PlainForms.{HasPlainForms, IsPlainAction}
+use Rattle.tracking_laws.specs.Outcomes.{IsNotNull, IsPlainRow}
 use Rattle.store_laws.proofs.Fields.{plain_holds}
 use Rattle.fact_step_laws.proofs.Going.{other_steps}
 use Rattle.tracking_laws.specs.Steps.{IsTrueTest}
-use Rattle.covered_field_laws.specs.PlaceFacts.{AllHold, Covers, IsCovered, is_lent}
+use Rattle.kept_argument_laws.specs.PlaceFacts.{AllHold, Covers, IsCovered, is_lent}
 use Rattle.covering_laws.proofs.Births.{born_covers}
-use Rattle.covered_field_laws.proofs.Following.{plain_step}
+use Rattle.kept_argument_laws.proofs.Following.{plain_step}
 use Rattle.tracking_laws.proofs.Ready.{row_gives_none}
 use Rattle.covering_laws.proofs.TopSteps.{IsLocalStep, top_covered, after_as}
-use Rattle.covering_laws.proofs.Waiting.{Carries, HoldsThere, KeepsFields, KeepsRoots, KeepsUnfinished, all_ready, linked_roots, new_root, no_other}
+use Rattle.covering_laws.proofs.Waiting.{Carries, HoldsThere, KeepsFields, KeepsRoots, KeepsUnfinished, all_ready, keeps_roots, linked_roots, new_root, no_other}
 use Rattle.covering_laws.proofs.LinkedExceptions.{LinkedWere}
 use Rattle.covering_laws.proofs.BornTruths.{read_unlent}
 use Rattle.fact_step_laws.specs.Going.{GoesAs}
@@ -135,7 +135,7 @@ same_names p b a e f row safe = refl
 
 -- ---- the step
 
-module _ (p : Program) (ac : Accept p) (forms : HasPlainForms p) (h : HeapContents) (links : HasLibraryLinks h) (fr : Frame) (st : Stands p fr) (i : ℕ) (s : Step) (here : slice_get (frame_steps p fr) i ≡ Some s)
+module _ (p : Program) (ac : Accept p) (forms : HasPlainForms p) (h : HeapContents) (links : HasEarlierLinks h) (fr : Frame) (st : Stands p fr) (i : ℕ) (s : Step) (here : slice_get (frame_steps p fr) i ≡ Some s)
     (r : IsLocalStep p fr st s) (row : IsPlainRow s.action) (test : IsTrueTest fr.locals s.action s.edge) (e : Option ClassId) (made : Value) where
   abbrev store : Option Store
   store = store_unless e (store_of fr.locals s.action)
@@ -177,7 +177,7 @@ module _ (p : Program) (ac : Accept p) (forms : HasPlainForms p) (h : HeapConten
 
   pub carries : Carries h heap
   carries o y at below = elim (was_there o y at) [
-    | inl old ↦ (y, old, refl, (λ is. same_goes_on y), refl)
+    | inl old ↦ (y, old, refl, (λ is. same_goes_on y))
     | inr new ↦ absurd (let number = new.0 in omega (arith, number, below))
   ]
 
@@ -215,7 +215,7 @@ module _ (p : Program) (ac : Accept p) (forms : HasPlainForms p) (h : HeapConten
             unclaimed false = refl
 
     pub inner_covered : IsCovered p heap (frame_after p h fr s value)
-    inner_covered = top_covered p ac h heap links roots carries fields fr st i s here r inside value covered (all_ready p h heap unfinished fr)
+    inner_covered = top_covered p ac h heap links carries fields fr st i s here r inside (keeps_roots p h heap roots fr inside) value covered (all_ready p h heap unfinished fr)
         (λ o f g. Unit {0})
         (λ z o x c q is. after_as (GoesAs c.fact (places_after p st.number s.action s.edge c.fact.places) (called_after p st.number s.action s.edge c.fact))
         (λ (g : Fact). GoesAs c.fact (places_after p st.number s.action s.edge c.fact.places) (called_after p st.number s.action s.edge c.fact) g × Unit {0})

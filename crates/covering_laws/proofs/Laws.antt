@@ -1,7 +1,7 @@
 -- The laws, each under its name.
 pub use Rattle.argument_laws.proofs.Laws.{arguments_at_start, arguments_step}
 pub use Rattle.value_type_laws.proofs.Laws.{types_at_start, types_step}
-pub use Rattle.covered_field_laws.proofs.Laws.{contents_are_met_at_throw, overwritten_is_met}
+pub use Rattle.kept_argument_laws.proofs.Laws.{contents_are_met_at_throw, overwritten_is_met}
 pub use Rattle.range_laws.proofs.Laws.{ranges_at_start, ranges_step}
 use Rattle.std.proofs.Common.{◌≡◌, true, Some}
 use Rattle.program_model.specs.declared.kinds.MethodId.{MethodId}
@@ -9,21 +9,21 @@ use Rattle.program_model.specs.declared.program.Method.{Method}
 use Rattle.program_model.specs.declared.program.Program.{Program}
 use Rattle.program_model.specs.Lookups.{method_at}
 use Rattle.program_conditions.specs.Conditions.{MakesNoString}
-use Rattle.must_call_sets.specs.WellFormed.{HasSmallInterests}
-use Rattle.accepted_programs.specs.Accept.{Accept}
+use Rattle.value_type_laws.specs.WellFormed.{HasSmallInterests}
+use Rattle.target_laws.specs.Accept.{Accept}
 use Rattle.stub_conduct.specs.declared.choice.Choices.{Choices}
-use Rattle.ledger_calls.specs.Configuration.{Config}
-use Rattle.ledger_moves.specs.Moves.{has_body}
-use Rattle.ledger_runs.specs.Outcomes.{went}
-use Rattle.ledger_runs.specs.Starts.{start_config}
-use Rattle.ledger_runs.specs.Steps.{step}
-use Rattle.agreement.specs.Agreement.{Agree}
-use Rattle.agreement.specs.PlainForms.{HasPlainForms}
+use Rattle.program_call_laws.specs.Configuration.{Config}
+use Rattle.target_laws.specs.Moves.{has_body}
+use Rattle.target_laws.specs.Outcomes.{went}
+use Rattle.target_laws.specs.Starts.{start_config}
+use Rattle.target_laws.specs.Steps.{step}
+use Rattle.tracking_laws.specs.Agreement.{Agree}
+use Rattle.tracking_laws.specs.PlainForms.{HasPlainForms}
 use Rattle.target_laws.specs.Frames.{HaveTargets}
 use Rattle.value_type_laws.specs.Types.{HaveTypes}
-use Rattle.covered_field_laws.specs.FieldContents.{FieldsHold}
-use Rattle.covered_field_laws.specs.PlaceFacts.{AreCovered}
-use Rattle.covered_field_laws.specs.Ranges.{AreInRange}
+use Rattle.kept_argument_laws.specs.FieldContents.{FieldsHold}
+use Rattle.kept_argument_laws.specs.PlaceFacts.{AreCovered}
+use Rattle.kept_argument_laws.specs.Ranges.{AreInRange}
 use Rattle.covering_laws.specs.Making.{AreBeingMade}
 use Rattle.covering_laws.specs.Running.{HasPlainRuns}
 use Rattle.covering_laws.specs.Throws.{ExceptionsAreUnlinked, ThrowsNoNullPointer, TopEndsByException}

@@ -16,6 +16,7 @@ pub mod EntryBirths
 pub mod LightExceptions
 pub mod Bodies
 pub mod PromisedFields
+pub mod OwnMethods
 pub mod ExistingResults
 pub mod LinkedExceptions
 pub mod LocalSteps
@@ -24,6 +25,7 @@ pub mod InnerJoins
 pub mod NullCalls
 pub mod StoreJoins
 pub mod MadeObjects
+pub mod LibraryNames
 pub mod LibraryPromises
 pub mod LibraryJoins
 pub mod StartHeaps
@@ -31,6 +33,7 @@ pub mod StartJoins
 pub mod EndHeaps
 pub mod ParameterEnds
 pub mod EndNames
+pub mod OwnNames
 pub mod AliasResults
 pub mod EndResults
 pub mod EndJoins
@@ -56,3 +59,8 @@ pub use Rattle.tracking_laws.proofs.Stores
 pub use Rattle.tracking_laws.proofs.Tracking
 pub use Rattle.tracking_laws.proofs.Unmet
 pub use Rattle.tracking_laws.proofs.SignedPromises
+pub use Rattle.kept_argument_laws.proofs.Constructors
+pub use Rattle.tracking_laws.proofs.AliasConducts
+pub use Rattle.program_call_laws.proofs.Begun
+pub use Rattle.program_call_laws.proofs.EndLinks
+pub use Rattle.program_call_laws.proofs.Returned

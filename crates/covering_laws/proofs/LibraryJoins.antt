@@ -1,6 +1,6 @@
 -- A call of the library, or a read of its constant, begins and ends in one step of the top frame.
 use Rattle.std.specs.Prelude.{MatchBool, not, ℤ}
-use Rattle.std.proofs.Common.{Bool, List, None, Option, Some, ap, arith, false, inl, inr, refl, subst, suc, sym, true, true≢false, zero, ℕ, ◌∙◌, ◌∷◌, ◌≡◌, ◌⊎◌}
+use Rattle.std.proofs.Common.{Bool, List, None, Option, Some, ap, arith, false, inl, inr, refl, subst, suc, sym, true, true≢false, zero, ℕ, ◌<◌, ◌∙◌, ◌∷◌, ◌≡◌, ◌⊎◌}
 use Rattle.std.proofs.lemmas.List.Elements.{All-tail}
 use Rattle.std.specs.FinSet as set
 use Rattle.rlc_base.specs.declared.name_id.NameId.{NameId}
@@ -15,9 +15,9 @@ use Rattle.program_model.specs.declared.program.Method.{Method}
 use Rattle.program_model.specs.declared.program.Program.{Program}
 use Rattle.program_model.specs.Lookups.{method_at}
 use Rattle.program_model.specs.Validity.{IsOfKind}
-use Rattle.must_call_sets.specs.Bodies.{alias_in, constructs, is_constructor_kind}
-use Rattle.must_call_sets.specs.MustCallSets.{Names, fits, is_empty, is_heavy_class, must_of, no_names}
-use Rattle.must_call_sets.specs.WellFormed.{HasSmallInterests}
+use Rattle.value_type_laws.specs.Bodies.{alias_in, constructs, is_constructor_kind}
+use Rattle.value_type_laws.specs.MustCallSets.{Names, fits, is_empty, is_heavy_class, must_of, no_names}
+use Rattle.value_type_laws.specs.WellFormed.{HasSmallInterests}
 use Rattle.java_control.specs.Calls.{called_method, operand_at}
 use Rattle.java_control.specs.Control.{Step}
 use Rattle.java_control.specs.PlaceNumbers.{IsSmall}
@@ -31,15 +31,15 @@ use Rattle.java_control.specs.declared.fact.Mode.TheVariants as modes
 use Rattle.java_control.specs.declared.fact.OriginKind.TheVariants as kinds
 use Rattle.java_control.specs.declared.place.Place.{Place}
 use Rattle.java_control.specs.declared.place.Place.TheVariants as places
-use Rattle.obligation_facts.specs.Callees.{callee, callee_in, is_super_target}
+use Rattle.target_laws.specs.Callees.{callee, callee_in, is_super_target}
 use Rattle.called_methods.specs.CalledRows.{interest_in, called_after}
 use Rattle.ownership_rules.specs.Births.{birth_on, fact_at, origin_of, read_birth}
 use Rattle.ownership_rules.specs.MovesAtReturns as returns
 use Rattle.flow_rules.specs.Paths.{move_of}
-use Rattle.accepted_programs.specs.Accept.{Accept}
+use Rattle.target_laws.specs.Accept.{Accept}
 use Rattle.stub_conduct.specs.declared.choice.Conduct.{Conduct}
 use Rattle.stub_conduct.specs.declared.choice.Conduct.TheVariants as conducts
-use Rattle.conduct_laws.specs.Fitting.{FitsMethod}
+use Rattle.tracking_laws.specs.Fitting.{FitsMethod}
 use Rattle.ledger_state.specs.Contents.{HeapContents}
 use Rattle.ledger_state.specs.Heaps.{next_number, object_at, root, root_of}
 use Rattle.ledger_state.specs.declared.array.ArrayObject.{ArrayObject}
@@ -48,34 +48,37 @@ use Rattle.ledger_state.specs.declared.object.Object.{Object}
 use Rattle.ledger_state.specs.declared.value.Value.{Value}
 use Rattle.ledger_state.specs.declared.value.Value.TheVariants as values
 use Rattle.ledger_obligations.specs.Obligations.{first_set, note}
-use Rattle.ledger_operations.specs.Places.{place_value}
-use Rattle.ledger_calls.specs.Calls.{alias_position, operand_of, position_object, position_of, reset_position}
-use Rattle.ledger_calls.specs.Conducts.{argument_of, conduct_value, first_in, given_value, made_by_new, positions, result_in, value_at}
-use Rattle.ledger_calls.specs.Configuration.{Frame}
-use Rattle.ledger_frames.specs.Choosing.{frame_steps}
-use Rattle.ledger_frames.specs.Frames.{frame_after, is_made, made_place}
+use Rattle.program_call_laws.specs.Places.{place_value}
+use Rattle.program_call_laws.specs.Calls as ledger_calls
+use Rattle.program_call_laws.specs.Calls.{alias_position, operand_of, position_object, position_of, reset_position}
+use Rattle.program_call_laws.specs.Conducts.{argument_of, conduct_value, first_in, given_value, made_by_new, positions, result_in, value_at}
+use Rattle.program_call_laws.specs.Configuration.{Frame}
+use Rattle.target_laws.specs.Choosing.{frame_steps}
+use Rattle.target_laws.specs.Frames.{frame_after, is_made, made_place}
 use Rattle.ledger_steps.specs.CallSteps.{library_heap}
-use Rattle.heap_laws.specs.Heaps.{HasLibraryLinks, IsOlder}
-use Rattle.heap_laws.proofs.Laws.{numbers_are_in_range, roots_of_links-absent}
-use Rattle.library_call_laws.specs.LibraryCalls.{IsAliasMadeAs, IsAliasOf, IsMadeAs}
-use Rattle.library_call_laws.proofs.Laws.{library_aliases_are_older_or_made, library_objects_are_older_or_made, receiver_is_called}
-use Rattle.place_laws.specs.Places.{IsWay, SetsLocals, is_local}
-use Rattle.place_laws.proofs.Laws.{single_place-same}
-use Rattle.named_step_laws.specs.Naming.{IsOfItsKind}
-use Rattle.named_step_laws.proofs.Reached.{names_what_is_there}
-use Rattle.agreement.specs.Agreement.{Stands}
-use Rattle.agreement.specs.PlainForms.{HasPlainForms, IsPlainAction, IsPlainSignature}
-use Rattle.owned_fact_laws.specs.Outcomes.{IsCallRow, IsPlainRow}
+use Rattle.program_call_laws.specs.Heaps.{GoesOn, HasEarlierLinks, IsOlder}
+use Rattle.program_call_laws.specs.Leading.{Leads}
+use Rattle.program_call_laws.proofs.Laws.{numbers_are_in_range, roots_of_links-absent}
+use Rattle.tracking_laws.specs.LibraryCalls.{HasSmallInterest, IsAliasMadeAs, IsAliasOf, IsMadeAs}
+use Rattle.tracking_laws.proofs.Laws.{library_aliases_are_older_or_made, library_objects_are_older_or_made, receiver_is_called}
+use Rattle.field_place_laws.specs.Places.{IsWay, SetsLocals, is_local}
+use Rattle.field_place_laws.proofs.Laws.{single_place-same}
+use Rattle.tracking_laws.specs.Naming.{IsOfItsKind}
+use Rattle.tracking_laws.proofs.Reached.{names_what_is_there}
+use Rattle.tracking_laws.specs.Agreement.{Stands}
+use Rattle.tracking_laws.specs.PlainForms.{HasPlainForms, IsPlainAction, IsPlainSignature}
+use Rattle.tracking_laws.specs.Outcomes.{IsCallRow, IsPlainRow}
 use Rattle.fact_step_laws.proofs.Going.{other_steps}
 use Rattle.range_laws.specs.Nexts.{IsLibraryMove}
 use Rattle.tracking_laws.specs.Steps.{IsTrueTest, is_super}
-use Rattle.tracking_laws.proofs.CallNames.{IsReceiver, plain_no_reset, same_interest, small_name}
+use Rattle.tracking_laws.proofs.CallNames.{IsReceiver, plain_no_reset, same_interest}
 use Rattle.tracking_laws.proofs.Ready.{call_sets, plain_step, row_gives_none, step_there}
 use Rattle.tracking_laws.proofs.Unmet.{way_of_call}
-use Rattle.typed_step_laws.specs.Typed.{IsLibraryConstant, NamesMembers}
+use Rattle.kept_argument_laws.specs.Typed.{IsLibraryConstant, NamesMembers}
 use Rattle.value_type_laws.proofs.Moved.{IsConstantRead}
-use Rattle.covered_field_laws.specs.PlaceFacts.{AreCovered, Covers, IsCovered, IsTrueOf, may_owe}
-use Rattle.covered_field_laws.specs.Ranges.{FieldsInRange, LocalsInRange}
+use Rattle.kept_argument_laws.specs.FieldContents.{LinksLead}
+use Rattle.kept_argument_laws.specs.PlaceFacts.{AreCovered, Covers, IsCovered, IsTrueOf, may_owe}
+use Rattle.kept_argument_laws.specs.Ranges.{FieldsInRange, LocalsInRange}
 use Rattle.std.proofs.lemmas.Bool.{and_from}
 use Rattle.ledger_state.specs.Values.{number_of}
 use Rattle.ledger_state.specs.declared.entry.Owner.TheVariants as owners
@@ -92,12 +95,13 @@ use Rattle.covering_laws.proofs.CallSteps.{call_covered}
 use Rattle.covering_laws.proofs.ExistingResults.{GivesUnowned, MayGive, library_may_give}
 use Rattle.covering_laws.proofs.InnerSteps.{not_null, same_names}
 use Rattle.covering_laws.proofs.KnownNames.{operand_holds, operand_temp}
+use Rattle.covering_laws.proofs.LibraryNames.{library_name_goes_on}
 use Rattle.covering_laws.proofs.LibraryPromises.{library_keeps_promises}
 use Rattle.covering_laws.proofs.LightExceptions.{leaving_is_light}
 use Rattle.covering_laws.proofs.LocalSteps.{LocalsIn, all_there, holds_there, local_step, names_members}
 use Rattle.covering_laws.proofs.MadeObjects.{fresh_finished, library_carries, library_keeps, library_roots, library_unfinished, thrown_class}
 use Rattle.covering_laws.proofs.TopSteps.{ComesFrom, IsLocalStep, top_covered, after_as}
-use Rattle.covering_laws.proofs.Waiting.{AllHeldBefore, Carries, HoldsThere, KeepsRoots, KeepsUnfinished, all_held_before, all_keep, all_ready, all_wait, frames_ready, new_root, no_other, value_root}
+use Rattle.covering_laws.proofs.Waiting.{AllHeldBefore, Carries, HoldsThere, KeepsRoots, KeepsUnfinished, all_held_before, all_keep, all_ready, all_wait, frames_ready, keeps_roots, new_root, no_other, value_root}
 use Rattle.covering_laws.proofs.LinkedExceptions.{alias_no_exception}
 use Rattle.covering_laws.specs.Throws.{ExceptionsAreUnlinked}
 use Rattle.program_model.specs.SuperTests.{is_under}
@@ -160,10 +164,15 @@ constant_sets actions.Skip named is = tt
 constant_sets (actions.Plain x v) named is = tt
 constant_sets a named is = absurd is
 
+small_interest : (p : Program) → HasSmallInterests p → (named : MethodId) (n : NameId) (x : Option Method) → method_at p named ≡ x → ledger_calls.interest_in x ≡ Some n → n.0 < 128
+small_interest p small named n None at is = absurd (let never : None ≡ Some n = is in cc)
+small_interest p small named n (Some x) at is = small named x n at is
+
 -- ---- the call
 
-module _ (p : Program) (ac : Accept p) (forms : HasPlainForms p) (names : HasSmallInterests p) (h : HeapContents) (links : HasLibraryLinks h) (ranges : FieldsInRange h) (fr : Frame) (st : Stands p fr)
-    (mine : LocalsInRange h fr.locals) (arrays : List ArrayObject) (named : MethodId) (d : Conduct) (s : Step) (next : IsLibraryMove p h arrays fr.locals (frame_steps p fr) named named d s) (at count : ℕ) where
+module _ (p : Program) (ac : Accept p) (forms : HasPlainForms p) (names : HasSmallInterests p) (h : HeapContents) (links : HasEarlierLinks h) (ranges : FieldsInRange h) (fr : Frame) (st : Stands p fr)
+    (mine : LocalsInRange h fr.locals) (arrays : List ArrayObject) (named : MethodId) (d : Conduct) (s : Step) (next : IsLibraryMove p h arrays fr.locals (frame_steps p fr) named named d s) (at count : ℕ)
+    (leads : LinksLead p h) where
   abbrev m : Option Method
   m = method_at p named
 
@@ -181,6 +190,9 @@ module _ (p : Program) (ac : Accept p) (forms : HasPlainForms p) (names : HasSma
 
   no_reset : reset_position m ≡ None
   no_reset = signature_resets p m next.signature
+
+  interests : HasSmallInterest m
+  interests n is = small_interest p names named n (method_at p named) refl is
 
   roots : KeepsRoots h K
   roots = library_roots p l s.action m at h no_reset links d
@@ -346,16 +358,18 @@ module _ (p : Program) (ac : Accept p) (forms : HasPlainForms p) (names : HasSma
     form = plain_step p ac forms fr st next.index s next.here
 
     noted : (o : ℕ) (x y : Object) (n : NameId) → object_at h o ≡ Some x → object_at K o ≡ Some y → root_of h (operand_of l s.action 0) ≡ Some o → is_super_target s.action ≡ false
-        → interest_in (callee p s.action) ≡ Some n → set.contains y.called n.0 ≡ true
-    noted o x y n before now root' other interest =
+        → interest_in (callee p s.action) ≡ Some n → x.finished ≡ true → GoesOn x y → is_heavy_class p x.class ≡ true → may_owe x ≡ true → set.contains y.called n.0 ≡ true
+    noted o x y n before now root' other interest done goes heavy owes =
         let r = subst (λ (z : Option Method). IsReceiver h l s.action z o n) same_callee (noted_at p ac h l o n s.action form row other root' (same_interest (callee p s.action) ∙ interest)) in
         let number = operands_there 0 r.object (ap number_of r.value) in
         let object = object_there h r.object x number.0 number.1 in
-        receiver_is_called p l s.action m m d at h (note false r.object n) object.0 y links no_reset r.noted (small_name p s.action n names interest) object.1 (ap (object_at K) r.root ∙ now)
+        let way : Leads p h r.object o = leads r.object o object.0 x object.1 r.root before heavy owes in
+        receiver_is_called p l s.action m m d at h (note false r.object n) o object.0 y links interests no_reset r.noted object.1
+        (library_name_goes_on p ac forms h arrays l s.action named (next.ran called).0 (next.ran called).1 r.object n object.0 r.noted object.1 o way) way now
 
     -- a place that gives an alias its object
     abbrev Comes : Place → ℕ → Type 0
-    Comes q o = ComesFrom p ac h K links roots carries (library_keeps p l s.action m at h no_reset links d) fr st next.index s next.here local inside v q o
+    Comes q o = ComesFrom p ac h K links carries (library_keeps p l s.action m at h no_reset links d) fr st next.index s next.here local inside (keeps_roots p h K roots fr inside) v q o
 
     comes : (q : Place) (o : ℕ) → IsSmall q → is_local q ≡ true → is_made (made_place s.action) q ≡ true → s.edge ≡ edges.Go → (k : ℕ) → alias_position m ≡ Some k → root_of h (operand_of l s.action k) ≡ Some o
         → Comes q o
@@ -451,9 +465,9 @@ module _ (p : Program) (ac : Accept p) (forms : HasPlainForms p) (names : HasSma
 
     call_top : IsCovered p h fr → IsCovered p K after
     call_top covered =
-        call_covered p ac h K links roots carries (library_keeps p l s.action m at h no_reset links d) fr st next.index s next.here local inside v row (plain_no_reset p s.action form) covered
+        call_covered p ac h K links carries (library_keeps p l s.action m at h no_reset links d) fr st next.index s next.here local inside (keeps_roots p h K roots fr inside) v row (plain_no_reset p s.action form) covered
         (all_ready p h K (library_unfinished p l s.action m at h no_reset links d) fr) noted
-        (λ z o x y c before now g more trusted done goes wide some owes. library_keeps_promises p ac h links fr st arrays named d s next at no_reset called local.small z o x y c before now)
+        (λ z o x y c before now g more trusted done goes wide some owes. library_keeps_promises p ac h links fr st arrays named d s next at no_reset called local.small interests leads mine z o x y c before now some owes)
         (λ z o x c before some owes gives.
         library_alias p ac h links arrays l s.action s.edge c.fact.places named d at count o local.small form same_callee no_reset operands_there next.by (λ e is. let way = next.thrown e is in (way.0, way.2))
         (λ k below held. operand_holds p h fr.method l s.action o k c.fact.places local.small below c.places held) gives)
@@ -482,7 +496,7 @@ module _ (p : Program) (ac : Accept p) (forms : HasPlainForms p) (names : HasSma
             (ap (λ (a : Action). birth_on p a s.edge s.pos) is' ∙ ap (λ (e : Edge). birth_on p (actions.Plain x (plain_values.LibraryConstant k)) e s.pos) edge
             ∙ ap (λ (u : Option Method). read_birth p x s.pos (returns.result_in u)) (ap (method_at p) it ∙ named_at) ∙ ap (read_birth p x s.pos) result
             ∙ ap (λ (u : Place). Some (origin_of p kinds.Read s.pos r None, fact_at u modes.None no_names true)) (single_place-same x q (ap (λ (a : Action). is_made (made_place a) q) (sym is') ∙ there)))
-            (ap (root_of K) is ∙ root') (read_unlent p) (λ claimed. absurd (unclaimed p (origin_of p kinds.Read s.pos r None) q claimed))
+            (ap (root_of K) is ∙ root') (read_unlent p) (λ claimed. absurd (unclaimed p (method_at p fr.method) (origin_of p kinds.Read s.pos r None) q claimed))
 
         constant : (x : Place) (k : MethodId) → s.action ≡ actions.Plain x (plain_values.LibraryConstant k) → IsLibraryConstant p k
         constant x k is' = subst (NamesMembers p st.body) is' (names_members p ac forms fr st next.index s next.here)
@@ -506,7 +520,7 @@ module _ (p : Program) (ac : Accept p) (forms : HasPlainForms p) (names : HasSma
 
     read_top : IsCovered p h fr → IsCovered p K after
     read_top covered =
-        top_covered p ac h K links roots carries (library_keeps p l s.action m at h no_reset links d) fr st next.index s next.here local_read inside v covered
+        top_covered p ac h K links carries (library_keeps p l s.action m at h no_reset links d) fr st next.index s next.here local_read inside (keeps_roots p h K roots fr inside) v covered
         (all_ready p h K (library_unfinished p l s.action m at h no_reset links d) fr)
         (λ o f g. Unit {0})
         (λ z o x c q is. after_as (GoesAs c.fact (places_after p st.number s.action s.edge c.fact.places) (called_after p st.number s.action s.edge c.fact))

@@ -11,10 +11,10 @@ use Rattle.program_model.specs.declared.program.Method.{Method}
 use Rattle.program_model.specs.declared.program.Program.{Program}
 use Rattle.program_model.specs.Lookups.{class_at, method_at}
 use Rattle.program_model.specs.SuperTests.{classes_above, has_class, is_class, is_under}
-use Rattle.must_call_sets.specs.AliasCases.{has_exception_under, is_exception_under, may_be_exception}
-use Rattle.must_call_sets.specs.MustCallSets.{is_heavy_class}
-use Rattle.must_call_sets.specs.Signatures.{is_present}
-use Rattle.accepted_programs.specs.Accept.{Accept}
+use Rattle.value_type_laws.specs.AliasCases.{has_exception_under, is_exception_under, may_be_exception}
+use Rattle.value_type_laws.specs.MustCallSets.{is_heavy_class}
+use Rattle.value_type_laws.specs.Signatures.{is_present}
+use Rattle.target_laws.specs.Accept.{Accept}
 use Rattle.ledger_state.specs.Contents.{HeapContents}
 use Rattle.ledger_state.specs.Heaps.{object_at}
 use Rattle.ledger_state.specs.declared.object.Link.{Link}
@@ -22,7 +22,7 @@ use Rattle.ledger_state.specs.declared.object.Object.{Object}
 use Rattle.tracking_laws.proofs.AliasConducts.{GivesObject, IsAliasClass, gives_object, no_exception}
 use Rattle.range_laws.proofs.Cases.{same_class}
 use Rattle.covering_laws.specs.Throws.{ExceptionsAreUnlinked}
-use Rattle.covering_laws.proofs.LightExceptions.{exceptions_are_light, under_itself}
+use Rattle.covering_laws.proofs.LightExceptions.{exceptions_are_light}
 
 -- a linked object of the heap `k` was linked so in the heap `h`
 abbrev pub LinkedWere : HeapContents → HeapContents → Type 0

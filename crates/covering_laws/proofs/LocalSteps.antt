@@ -1,44 +1,25 @@
 -- What the laws on places ask of a step, of a frame that stands at a reached control of an accepted program of the plain forms.
-use Rattle.std.specs.Prelude.{◌&&◌}
 use Rattle.std.specs.List.{All}
-use Rattle.std.proofs.Common.{◌≡◌, ℕ, Bool, true, false, Option, Some, None, List, [], ◌∷◌, slice_get, refl, subst}
+use Rattle.std.proofs.Common.{◌≡◌, ℕ, Some, List, [], ◌∷◌, slice_get, subst}
 use Rattle.std.proofs.lemmas.List.Elements.{All-head, All-tail}
-use Rattle.program_model.specs.declared.program.Method.{Method}
 use Rattle.program_model.specs.declared.program.Program.{Program}
-use Rattle.program_model.specs.Lookups.{method_at}
-use Rattle.java_control.specs.Calls.{is_reset_of_this, is_this_form, resets_receiver}
 use Rattle.java_control.specs.Control.{Step}
-use Rattle.java_control.specs.declared.action.Action.{Action}
-use Rattle.java_control.specs.declared.action.Action.TheVariants as actions
 use Rattle.flow_rules.specs.Paths.{move_of}
-use Rattle.accepted_programs.specs.Accept.{Accept}
+use Rattle.target_laws.specs.Accept.{Accept}
 use Rattle.ledger_state.specs.Contents.{HeapContents}
-use Rattle.ledger_calls.specs.Configuration.{Frame}
-use Rattle.ledger_frames.specs.Choosing.{frame_steps}
-use Rattle.place_laws.specs.Places.{IsWay, SetsLocals}
-use Rattle.agreement.specs.Agreement.{Stands}
-use Rattle.agreement.specs.PlainForms.{HasPlainForms, IsPlainAction, IsPlainSignature}
-use Rattle.covered_field_laws.specs.Ranges.{FieldsInRange, LocalsInRange}
+use Rattle.program_call_laws.specs.Configuration.{Frame}
+use Rattle.target_laws.specs.Choosing.{frame_steps}
+use Rattle.field_place_laws.specs.Places.{IsWay, SetsLocals}
+use Rattle.tracking_laws.specs.Agreement.{Stands}
+use Rattle.tracking_laws.specs.PlainForms.{HasPlainForms}
+use Rattle.kept_argument_laws.specs.Ranges.{FieldsInRange, LocalsInRange}
 use Rattle.range_laws.proofs.Values.{place_in_range}
 use Rattle.tracking_laws.proofs.Ready.{plain_step, ready, step_there}
-use Rattle.typed_step_laws.specs.Typed.{MovesLocals, NamesMembers}
-use Rattle.typed_step_laws.proofs.Reached.{typed_step}
+use Rattle.kept_argument_laws.specs.Typed.{MovesLocals, NamesMembers}
+use Rattle.kept_argument_laws.proofs.Reached.{typed_step}
+pub use Rattle.kept_argument_laws.proofs.Resets.{resets_nothing}
 use Rattle.covering_laws.proofs.TopSteps.{IsLocalStep}
 use Rattle.covering_laws.proofs.Waiting.{AllThere, HoldsThere}
-
-none_reset : (p : Program) (m : Option Method) → IsPlainSignature p m → resets_receiver m ≡ false
-none_reset p None plain = refl
-none_reset p (Some m) plain = rw (plain.1) refl
-
-and_false : (a b : Bool) → b ≡ false → (a && b) ≡ false
-and_false true b none = none
-and_false false b none = refl
-
--- no call of the plain forms creates the obligation of `this` anew
-pub resets_nothing : (p : Program) (a : Action) → IsPlainAction p a → is_reset_of_this p a ≡ false
-resets_nothing p actions.Skip plain = refl
-resets_nothing p (actions.Call m d n form) plain = and_false (is_this_form form) (resets_receiver (method_at p m)) (none_reset p (method_at p m) plain.signature)
-resets_nothing p a plain = refl
 
 module _ (p : Program) (ac : Accept p) (forms : HasPlainForms p) (fr : Frame) (st : Stands p fr) (i : ℕ) (s : Step) (here : slice_get (frame_steps p fr) i ≡ Some s) where
   typed : MovesLocals s.action × NamesMembers p st.body s.action

@@ -9,14 +9,14 @@ use Rattle.ledger_state.specs.declared.entry.Owner.TheVariants as owners
 use Rattle.ledger_state.specs.declared.object.Object.{Object}
 use Rattle.ledger_state.specs.declared.value.Value.{Value}
 use Rattle.ledger_state.specs.declared.value.Value.TheVariants as values
-use Rattle.ledger_operations.specs.Places.{place_value}
+use Rattle.program_call_laws.specs.Places.{place_value}
 use Rattle.ledger_obligations.specs.Obligations.{with_owner}
 use Rattle.ledger_obligations.specs.Obligations.{end_frame, is_frame, is_unmet, lose, lost_object, owner_holds}
-use Rattle.ledger_calls.specs.Configuration.{Frame}
-use Rattle.heap_laws.specs.Heaps.{GoesOn}
-use Rattle.heap_laws.proofs.EndLaws.{changed_back, frame_back, kept_goes_on}
-use Rattle.heap_laws.proofs.Laws.{root_of_changed}
-use Rattle.covered_field_laws.specs.PlaceFacts.{AreCovered}
+use Rattle.program_call_laws.specs.Configuration.{Frame}
+use Rattle.program_call_laws.specs.Heaps.{GoesOn}
+use Rattle.program_call_laws.proofs.EndLaws.{changed_back, frame_back, kept_goes_on}
+use Rattle.program_call_laws.proofs.Laws.{root_of_changed}
+use Rattle.kept_argument_laws.specs.PlaceFacts.{AreCovered}
 use Rattle.covering_laws.proofs.Waiting.{AllHeldBefore, IsCarried, KeepsReady, KeepsUnfinished, same_place, stays_covered}
 use Rattle.covering_laws.proofs.LinkedExceptions.{LinkedWere}
 
@@ -43,7 +43,7 @@ module _ (p : Program) (k : HeapContents) (held : List (List Value)) where
   lost_linked n y l at some = let x = was_there n y at in (x.0, x.1, sym x.2.link ∙ some, x.2.class)
 
   carried : (n : ℕ) (y : Object) → object_at left n ≡ Some y → IsCarried k n y
-  carried n y at = let x = was_there n y at in (x.0, x.1, x.2.class, (λ done. x.2), x.2.link)
+  carried n y at = let x = was_there n y at in (x.0, x.1, x.2.class, (λ done. x.2))
 
   pub lost_unfinished : (h : HeapContents) (apart : ℕ → Type 0) → KeepsUnfinished h k apart → KeepsUnfinished h left apart
   lost_unfinished h apart keeps o x y other before now none = let z = was_there o y now in z.2.finished ∙ keeps o x z.0 other before z.1 none

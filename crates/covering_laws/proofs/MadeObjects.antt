@@ -16,13 +16,13 @@ use Rattle.ledger_state.specs.declared.locals.Locals.{Locals}
 use Rattle.ledger_state.specs.declared.object.Object.{Object}
 use Rattle.ledger_state.specs.declared.object.StoredField.{StoredField}
 use Rattle.ledger_obligations.specs.Obligations.{alias_born, all_notes, finished, first_set, noted_object, reset_in}
-use Rattle.ledger_calls.specs.Calls.{alias_position, alias_target, arguments_moved, is_alias, operand_of, params_in, position_of, reset_position}
-use Rattle.ledger_calls.specs.Conducts.{first_in, fresh_born, library_notes, result_owner}
+use Rattle.program_call_laws.specs.Calls.{alias_position, alias_target, arguments_moved, is_alias, operand_of, params_in, position_of, reset_position}
+use Rattle.program_call_laws.specs.Conducts.{first_in, fresh_born, library_notes, result_owner}
 use Rattle.ledger_steps.specs.CallSteps.{library_called, library_heap, library_made, library_reset}
-use Rattle.heap_laws.specs.Heaps.{HasLibraryLinks, IsOlder}
-use Rattle.heap_laws.proofs.EndLaws.{changed_back}
-use Rattle.heap_laws.proofs.Laws.{appended_object_at-object, evolving_heaps-links, moves_make_nothing, numbers_are_in_range, notes_add_names-object, nothing_is_changed}
-use Rattle.library_call_laws.proofs.Laws.{library_aliases_are_older_or_made, library_objects_are_older_or_made, library_objects_go_on}
+use Rattle.program_call_laws.specs.Heaps.{HasEarlierLinks, IsOlder}
+use Rattle.program_call_laws.proofs.EndLaws.{changed_back}
+use Rattle.program_call_laws.proofs.Laws.{appended_object_at-object, evolving_heaps-links, moves_make_nothing, numbers_are_in_range, notes_add_names-object, nothing_is_changed}
+use Rattle.tracking_laws.proofs.Laws.{library_aliases_are_older_or_made, library_objects_are_older_or_made, library_objects_go_on}
 use Rattle.program_model.specs.Lookups.{field_at}
 use Rattle.range_laws.proofs.Growth.{Grows, library_grows}
 use Rattle.covering_laws.proofs.Waiting.{Carries, KeepsFields, KeepsRoots, KeepsUnfinished, linked_roots, no_other}
@@ -75,7 +75,7 @@ module _ (p : Program) (l : Locals) (a : Action) (named : Option Method) (i : �
       by true (Some k) z = refl
       by false k z = refl
 
-  module _ (links : HasLibraryLinks h) (d : Conduct) where
+  module _ (links : HasEarlierLinks h) (d : Conduct) where
     abbrev after : HeapContents
     after = library_heap p l a named named d i h
 
@@ -92,7 +92,7 @@ module _ (p : Program) (l : Locals) (a : Action) (named : Option Method) (i : �
 
     pub library_carries : Carries h after
     library_carries n y at below = elim (older_or_new n y at) [
-      | inl old ↦ (old.before, old.at, old.goes_on.class, (λ done. old.goes_on), old.goes_on.link)
+      | inl old ↦ (old.before, old.at, old.goes_on.class, (λ done. old.goes_on))
       | inr new ↦ absurd (omega (arith, new, below))
     ]
 

@@ -4,39 +4,39 @@ use Rattle.std.proofs.lemmas.List.Elements.{All-head, All-tail}
 use Rattle.program_model.specs.declared.kinds.ClassId.{ClassId}
 use Rattle.program_model.specs.declared.program.Program.{Program}
 use Rattle.program_model.specs.declared.program.Promise.{Promise}
-use Rattle.must_call_sets.specs.MustCallSets.{Names, is_heavy_class}
+use Rattle.value_type_laws.specs.MustCallSets.{Names, is_heavy_class}
 use Rattle.java_control.specs.Control.{Step}
 use Rattle.java_control.specs.declared.action.Action.{Action}
 use Rattle.java_control.specs.declared.action.Edge.{Edge}
 use Rattle.java_control.specs.declared.action.Edge.TheVariants as edges
 use Rattle.java_control.specs.declared.place.Place.{Place}
-use Rattle.obligation_facts.specs.Callees.{may_be_null_target}
-use Rattle.obligation_facts.specs.Facts.{PlaceSet}
+use Rattle.target_laws.specs.Callees.{may_be_null_target}
+use Rattle.target_laws.specs.Facts.{PlaceSet}
 use Rattle.alias_sets.specs.Aliases.{gives_alias}
 use Rattle.called_methods.specs.CalledRows.{promises_at}
-use Rattle.accepted_programs.specs.Accept.{Accept}
+use Rattle.target_laws.specs.Accept.{Accept}
 use Rattle.ledger_state.specs.Contents.{HeapContents}
 use Rattle.ledger_state.specs.Heaps.{next_number, object_at, root, root_of}
 use Rattle.ledger_state.specs.declared.object.Object.{Object}
 use Rattle.ledger_state.specs.declared.value.Value.{Value}
 use Rattle.ledger_state.specs.declared.value.Value.TheVariants as values
-use Rattle.ledger_operations.specs.Places.{place_value}
-use Rattle.ledger_calls.specs.Calls.{operand_of}
-use Rattle.ledger_calls.specs.Configuration.{Frame}
-use Rattle.ledger_frames.specs.Choosing.{frame_steps}
-use Rattle.ledger_frames.specs.Frames.{frame_after}
+use Rattle.program_call_laws.specs.Places.{place_value}
+use Rattle.program_call_laws.specs.Calls.{operand_of}
+use Rattle.program_call_laws.specs.Configuration.{Frame}
+use Rattle.target_laws.specs.Choosing.{frame_steps}
+use Rattle.target_laws.specs.Frames.{frame_after}
 use Rattle.ledger_steps.specs.InnerSteps.{with_exception}
-use Rattle.heap_laws.specs.Heaps.{HasLibraryLinks}
-use Rattle.heap_laws.proofs.Laws.{evolving_heaps-links, numbers_are_in_range}
-use Rattle.library_call_laws.proofs.Laws.{exceptions_are_the_librarys, exceptions_keep_links-evolves}
-use Rattle.agreement.specs.Agreement.{Stands}
-use Rattle.agreement.specs.PlainForms.{HasPlainForms}
+use Rattle.program_call_laws.specs.Heaps.{HasEarlierLinks}
+use Rattle.program_call_laws.proofs.Laws.{evolving_heaps-links, numbers_are_in_range}
+use Rattle.tracking_laws.proofs.Laws.{exceptions_are_the_librarys, exceptions_keep_links-evolves}
+use Rattle.tracking_laws.specs.Agreement.{Stands}
+use Rattle.tracking_laws.specs.PlainForms.{HasPlainForms}
 use Rattle.range_laws.specs.Nexts.{IsNullCall}
 use Rattle.tracking_laws.proofs.CallNames.{plain_no_reset}
 use Rattle.tracking_laws.proofs.Ready.{call_sets, plain_step}
 use Rattle.tracking_laws.proofs.Unmet.{way_of_call}
-use Rattle.covered_field_laws.specs.PlaceFacts.{AreCovered, Covers}
-use Rattle.covered_field_laws.specs.Ranges.{FieldsInRange, LocalsInRange}
+use Rattle.kept_argument_laws.specs.PlaceFacts.{AreCovered, Covers}
+use Rattle.kept_argument_laws.specs.Ranges.{FieldsInRange, LocalsInRange}
 use Rattle.covering_laws.proofs.CallSteps.{call_covered}
 use Rattle.covering_laws.proofs.InnerJoins.{exception_class_is}
 use Rattle.covering_laws.proofs.InnerSteps.{no_object, same_goes_on}
@@ -44,12 +44,12 @@ use Rattle.covering_laws.proofs.KnownNames.{AreKept}
 use Rattle.covering_laws.proofs.LightExceptions.{null_pointer_is_light}
 use Rattle.covering_laws.proofs.LocalSteps.{LocalsIn, all_there, holds_there, local_step}
 use Rattle.covering_laws.proofs.TopSteps.{IsLocalStep}
-use Rattle.covering_laws.proofs.Waiting.{AllHeldBefore, Carries, KeepsFields, KeepsRoots, KeepsUnfinished, all_held_before, all_keep, all_ready, all_wait, frames_ready, linked_roots, new_root, no_other}
+use Rattle.covering_laws.proofs.Waiting.{AllHeldBefore, Carries, KeepsFields, KeepsRoots, KeepsUnfinished, all_held_before, all_keep, all_ready, all_wait, frames_ready, keeps_roots, linked_roots, new_root, no_other}
 use Rattle.covering_laws.proofs.LinkedExceptions.{LinkedWere}
 
 -- ---- the heap with an exception
 
-module _ (p : Program) (h : HeapContents) (links : HasLibraryLinks h) (e : ClassId) where
+module _ (p : Program) (h : HeapContents) (links : HasEarlierLinks h) (e : ClassId) where
   pub thrown_roots : KeepsRoots h (with_exception p e h)
   thrown_roots = linked_roots h (with_exception p e h) links (evolving_heaps-links h (with_exception p e h) (exceptions_keep_links-evolves p (Some e) h))
 
@@ -71,7 +71,7 @@ module _ (p : Program) (h : HeapContents) (links : HasLibraryLinks h) (e : Class
 
   pub thrown_carries : Carries h (with_exception p e h)
   thrown_carries o y at below = elim (exceptions_are_the_librarys p (Some e) h o y at) [
-    | inl old ↦ (y, old, refl, (λ is. same_goes_on y), refl)
+    | inl old ↦ (y, old, refl, (λ is. same_goes_on y))
     | inr new ↦ absurd (let number = new.0 in omega (arith, number, below))
   ]
 
@@ -96,7 +96,7 @@ null_gives_none p a edges.True held null = refl
 null_gives_none p a edges.False held null = refl
 null_gives_none p a (edges.Throws t) held null = refl
 
-module _ (p : Program) (ac : Accept p) (forms : HasPlainForms p) (h : HeapContents) (links : HasLibraryLinks h) (ranges : FieldsInRange h) (fr : Frame) (st : Stands p fr) (i : ℕ) (s : Step)
+module _ (p : Program) (ac : Accept p) (forms : HasPlainForms p) (h : HeapContents) (links : HasEarlierLinks h) (ranges : FieldsInRange h) (fr : Frame) (st : Stands p fr) (i : ℕ) (s : Step)
     (here : slice_get (frame_steps p fr) i ≡ Some s) (e : Option ClassId) (call : IsNullCall p fr.locals e s) where
   abbrev npe : ClassId
   npe = p.core.null_pointer_exception
@@ -124,9 +124,10 @@ module _ (p : Program) (ac : Accept p) (forms : HasPlainForms p) (h : HeapConten
 
   pub null_covered : (frs : List Frame) → LocalsIn h (fr ∷ frs) → AreCovered p h (fr ∷ frs) → AreCovered p k (after ∷ frs)
   null_covered frs in' covered = (
-    call_covered p ac h k links (thrown_roots p h links npe) (thrown_carries p h links npe) (thrown_fields p h links npe) fr st i s here local
-        (holds_there p h ranges fr (All-head (λ (x : Frame). LocalsInRange h x.locals) fr frs in')) v call.row (plain_no_reset p s.action (plain_step p ac forms fr st i s here)) covered.0 (all_ready p h k (thrown_unfinished p h links npe) fr)
-        (λ o x y n before at root' other interest. absurd (no_object h (operand_of fr.locals s.action 0) o call.null root'))
+    call_covered p ac h k links (thrown_carries p h links npe) (thrown_fields p h links npe) fr st i s here local
+        (holds_there p h ranges fr (All-head (λ (x : Frame). LocalsInRange h x.locals) fr frs in'))
+        (keeps_roots p h k (thrown_roots p h links npe) fr (holds_there p h ranges fr (All-head (λ (x : Frame). LocalsInRange h x.locals) fr frs in'))) v call.row (plain_no_reset p s.action (plain_step p ac forms fr st i s here)) covered.0 (all_ready p h k (thrown_unfinished p h links npe) fr)
+        (λ o x y n before at root' other interest done goes heavy owes. absurd (no_object h (operand_of fr.locals s.action 0) o call.null root'))
         (λ z o x y c before at g more trusted done goes wide some owes. none_kept c.fact.places y.called)
         (λ z o x c before some owes gives. absurd (true≢false (sym gives ∙ null_gives_none p s.action s.edge c.fact.places call.target)))
         (λ q o y small local' none there is root' at heavy owes. inl (made q o y is root' at heavy)),

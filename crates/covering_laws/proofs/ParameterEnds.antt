@@ -1,6 +1,6 @@
 -- As a frame ends, what its method promises was called on what the places of a fact hold: on a parameter or on `this`, where callers lend it, and
 -- on owning fields.
-use Rattle.std.specs.Prelude.{if◌then◌else◌, ◌||◌, ◌&&◌}
+use Rattle.std.specs.Prelude.{if◌then◌else◌, ◌&&◌}
 use Rattle.std.proofs.Common.{◌≡◌, ℕ, zero, suc, Bool, true, false, true≢false, Some, None, List, [], ◌∷◌, slice_get, refl, sym, ap, ◌∙◌, subst, inl, inr}
 use Rattle.std.specs.FinSet as set
 use Rattle.rlc_base.proofs.SetLaws.{within_self, within_trans, within_union_left, within_union_right}
@@ -9,9 +9,9 @@ use Rattle.program_model.specs.declared.kinds.FieldId.{FieldId}
 use Rattle.program_model.specs.declared.kinds.Target.TheVariants as promised
 use Rattle.program_model.specs.declared.program.Program.{Program}
 use Rattle.program_model.specs.declared.program.Promise.{Promise}
-use Rattle.must_call_sets.specs.Bodies.{alias_position, method_of, promises_in, throwing_promises_in}
-use Rattle.must_call_sets.specs.MustCallSets.{is_heavy_as, is_heavy_class}
-use Rattle.must_call_sets.specs.Signatures.{is_present, when}
+use Rattle.value_type_laws.specs.Bodies.{alias_position, method_of, promises_in, throwing_promises_in}
+use Rattle.value_type_laws.specs.MustCallSets.{is_heavy_as, is_heavy_class}
+use Rattle.value_type_laws.specs.Signatures.{is_present, when}
 use Rattle.java_control.specs.Control.{Step}
 use Rattle.java_control.specs.declared.action.Action.{Action}
 use Rattle.java_control.specs.declared.action.Action.TheVariants as actions
@@ -25,7 +25,7 @@ use Rattle.java_control.specs.declared.fact.OriginKind.{OriginKind}
 use Rattle.java_control.specs.declared.fact.Rule.TheVariants as rules
 use Rattle.java_control.specs.declared.place.Place.{Place}
 use Rattle.java_control.specs.declared.place.Place.TheVariants as places
-use Rattle.obligation_facts.specs.Facts.{PlaceSet, has, is_alias, is_held, is_origin_at, is_own}
+use Rattle.target_laws.specs.Facts.{PlaceSet, has, is_alias, is_origin_at, is_own}
 use Rattle.called_methods.specs.CalledRows.{holds_field}
 use Rattle.called_methods.specs.Promises.{is_of_held_field, is_of_origin, promised_by_end, promised_on_both, promised_on_fields, promised_on_position}
 use Rattle.ownership_rules.specs.Heavy.{is_owned}
@@ -34,22 +34,18 @@ use Rattle.ownership_rules.specs.declared.moved.Moved.TheVariants as moves
 use Rattle.flow_rules.specs.Ends.{is_throw}
 use Rattle.flow_rules.specs.Flow.{flow}
 use Rattle.flow_rules.specs.Paths.{Reach, move_of, relation_of}
-use Rattle.accepted_programs.specs.Accept.{Accept}
+use Rattle.target_laws.specs.Accept.{Accept}
 use Rattle.ledger_state.specs.Contents.{HeapContents}
 use Rattle.ledger_state.specs.declared.object.Object.{Object}
-use Rattle.ledger_calls.specs.Configuration.{Frame}
-use Rattle.ledger_frames.specs.Choosing.{body_id, frame_steps}
-use Rattle.agreement.specs.Agreement.{Stands}
-use Rattle.owned_fact_laws.specs.Outcomes.{IsFault}
+use Rattle.program_call_laws.specs.Configuration.{Frame}
+use Rattle.target_laws.specs.Choosing.{body_id, frame_steps}
+use Rattle.tracking_laws.specs.Agreement.{Stands}
+use Rattle.tracking_laws.specs.Outcomes.{IsFault}
 use Rattle.fact_step_laws.proofs.Ending as at_ends
-use Rattle.covered_field_laws.specs.PlaceFacts.{Covers}
-use Rattle.covered_field_laws.proofs.Following.{breaks_nothing, same_body, step_there}
+use Rattle.kept_argument_laws.specs.PlaceFacts.{Covers}
+use Rattle.kept_argument_laws.proofs.Following.{breaks_nothing, same_body, step_there}
 
 -- ---- what is not owned is no result, but an alias
-
-or_none : (a b : Bool) → (a || b) ≡ false → a ≡ false
-or_none true b is = absurd (true≢false is)
-or_none false b is = refl
 
 and_none : (a : Bool) → (a && false) ≡ false
 and_none true = refl
@@ -62,9 +58,9 @@ alias_mode modes.Held is = absurd (let never : moves.Bad rules.AliasKept ≡ mov
 alias_mode modes.Lent is = absurd (let never : moves.Bad rules.AliasKept ≡ moves.Moves = is in cc)
 alias_mode modes.Alias is = refl
 
-module _ (p : Program) (b : BodyId) (o : Origin) (f : Fact) (none : (is_own f.mode || is_held f.mode) ≡ false) where
+module _ (p : Program) (b : BodyId) (o : Origin) (f : Fact) (none : is_own f.mode ≡ false) where
   not_owned : is_owned p o f ≡ false
-  not_owned = ap (λ (x : Bool). is_heavy_class p o.class && x) (or_none (is_own f.mode) (is_held f.mode) none) ∙ and_none (is_heavy_class p o.class)
+  not_owned = ap (λ (x : Bool). is_heavy_class p o.class && x) none ∙ and_none (is_heavy_class p o.class)
 
   heavy_moves : heavy_result p b o f ≡ moves.Moves → f.mode ≡ modes.Alias
   heavy_moves is = go (is_present (alias_position p b)) (owning_result_in (method_of p b)) is

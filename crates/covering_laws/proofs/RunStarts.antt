@@ -4,13 +4,13 @@ use Rattle.program_model.specs.declared.kinds.MethodId.{MethodId}
 use Rattle.program_model.specs.declared.program.Method.{Method}
 use Rattle.program_model.specs.declared.program.Program.{Program}
 use Rattle.program_model.specs.Lookups.{method_at}
-use Rattle.accepted_programs.specs.Accept.{Accept}
+use Rattle.target_laws.specs.Accept.{Accept}
 use Rattle.stub_conduct.specs.declared.choice.Choices.{Choices}
 use Rattle.ledger_state.specs.Heaps.{object_in}
 use Rattle.ledger_state.specs.declared.object.Object.{Object}
-use Rattle.ledger_runs.specs.Starts.{start_config}
-use Rattle.ledger_moves.specs.Moves.{has_body}
-use Rattle.covered_field_laws.specs.PlaceFacts.{AreCovered}
+use Rattle.target_laws.specs.Starts.{start_config}
+use Rattle.target_laws.specs.Moves.{has_body}
+use Rattle.kept_argument_laws.specs.PlaceFacts.{AreCovered}
 use Rattle.covering_laws.specs.Making.{AreBeingMade}
 use Rattle.covering_laws.specs.Throws.{ExceptionsAreUnlinked}
 

@@ -8,13 +8,13 @@ use Rattle.program_model.specs.declared.kinds.MethodId.{MethodId}
 use Rattle.program_model.specs.declared.program.Program.{Program}
 use Rattle.program_model.specs.Lookups.{method_at}
 use Rattle.program_conditions.specs.Conditions.{MakesNoString}
-use Rattle.must_call_sets.specs.WellFormed.{HasSmallInterests}
+use Rattle.value_type_laws.specs.WellFormed.{HasSmallInterests}
 use Rattle.java_control.specs.Calls.{called_method}
 use Rattle.java_control.specs.Control.{Step, next_of}
 use Rattle.java_control.specs.declared.action.Action.{Action}
 use Rattle.java_control.specs.declared.action.Action.TheVariants as actions
 use Rattle.java_control.specs.declared.action.Completion.{Completion}
-use Rattle.accepted_programs.specs.Accept.{Accept}
+use Rattle.target_laws.specs.Accept.{Accept}
 use Rattle.stub_conduct.specs.declared.choice.Conduct.{Conduct}
 use Rattle.ledger_state.specs.Contents.{HeapContents}
 use Rattle.ledger_obligations.specs.Obligations.{end_frame}
@@ -23,41 +23,41 @@ use Rattle.ledger_state.specs.declared.locals.Locals.{Locals}
 use Rattle.ledger_state.specs.declared.value.Value.{Value}
 use Rattle.ledger_state.specs.declared.value.Value.TheVariants as values
 use Rattle.ledger_obligations.specs.Obligations.{lose}
-use Rattle.ledger_operations.specs.Operations.{made_value, next_choice}
-use Rattle.ledger_calls.specs.Calls.{argument_values, begun}
-use Rattle.ledger_calls.specs.Conducts.{arguments_shared, conduct_value, positions}
-use Rattle.ledger_calls.specs.Configuration.{Config, Frame, held_by}
-use Rattle.ledger_frames.specs.Choosing.{frame_steps, steps_by}
-use Rattle.ledger_frames.specs.Frames.{frame_after}
-use Rattle.ledger_moves.specs.Moves.{Move, Inner, Start, Library, End, Stray, Rest, next_move, standing}
-use Rattle.ledger_moves.specs.Moves.{Return, Back, StrayBack, NoWay, return_move}
+use Rattle.program_call_laws.specs.Operations.{made_value, next_choice}
+use Rattle.program_call_laws.specs.Calls.{argument_values, begun}
+use Rattle.program_call_laws.specs.Conducts.{arguments_shared, conduct_value, positions}
+use Rattle.program_call_laws.specs.Configuration.{Config, Frame, held_by}
+use Rattle.target_laws.specs.Choosing.{frame_steps, steps_by}
+use Rattle.target_laws.specs.Frames.{frame_after}
+use Rattle.target_laws.specs.Moves.{Move, Inner, Start, Library, End, Stray, Rest, next_move, standing}
+use Rattle.target_laws.specs.Moves.{Return, Back, StrayBack, NoWay, return_move}
 use Rattle.ledger_steps.specs.CallSteps.{began_heap, library_heap, self_begun}
 use Rattle.ledger_steps.specs.Ends.{answered, exception_class, result_value, returned_heap, thrown_in}
 use Rattle.ledger_steps.specs.InnerSteps.{thrown_value, with_exception}
-use Rattle.ledger_runs.specs.Outcomes.{went, ended, stray}
-use Rattle.ledger_runs.specs.Steps.{began, end, library_went, main_ended, moved, moved_by, returned, returned_by, step, top_move, within}
-use Rattle.heap_laws.specs.Heaps.{HasLibraryLinks}
-use Rattle.call_step_laws.proofs.Ways.{one_action}
-use Rattle.agreement.specs.Agreement.{Agree, Agrees, IsMadeBy, Stands, WaitsFor, RunsItself}
-use Rattle.agreement.specs.PlainForms.{HasPlainForms, MayRun}
+use Rattle.target_laws.specs.Outcomes.{went, ended, stray}
+use Rattle.target_laws.specs.Steps.{began, end, library_went, main_ended, moved, moved_by, returned, returned_by, step, top_move, within}
+use Rattle.program_call_laws.specs.Heaps.{HasEarlierLinks}
+use Rattle.tracking_laws.proofs.Ways.{one_action}
+use Rattle.tracking_laws.specs.Agreement.{Agree, Agrees, IsMadeAfter, IsMadeBy, Stands, WaitsFor, RunsItself}
+use Rattle.tracking_laws.specs.PlainForms.{HasPlainForms, MayRun}
 use Rattle.range_laws.specs.Nexts.{IsBack, IsBackStep, IsInnerStep, IsLibraryMove, IsNext, IsNullCall, IsOwningStore, IsPlainStep, IsStartMove}
 use Rattle.range_laws.proofs.Cases.{next_is}
 use Rattle.range_laws.proofs.Returns.{back_is}
 use Rattle.target_laws.specs.Frames.{HaveTargets}
 use Rattle.tracking_laws.proofs.Ready.{plain_step, step_here}
 use Rattle.tracking_laws.proofs.Unmet.{call_may, row_of}
-use Rattle.owned_fact_laws.specs.Outcomes.{IsCallRow}
+use Rattle.tracking_laws.specs.Outcomes.{IsCallRow}
 use Rattle.value_type_laws.specs.Types.{AreCalled, HaveTypes, KeepAll}
 use Rattle.value_type_laws.proofs.Moved as typed_moves
 use Rattle.value_type_laws.proofs.Moved.{IsConstantRead}
-use Rattle.covered_field_laws.specs.FieldContents.{FieldsHold, IsBeingMade, is_new}
-use Rattle.covered_field_laws.specs.PlaceFacts.{AreCovered}
-use Rattle.covered_field_laws.specs.Ranges.{AreInRange, FieldsInRange, LocalsInRange}
+use Rattle.kept_argument_laws.specs.FieldContents.{FieldsHold, IsBeingMade, is_new}
+use Rattle.kept_argument_laws.specs.PlaceFacts.{AreCovered}
+use Rattle.kept_argument_laws.specs.Ranges.{AreInRange, FieldsInRange, LocalsInRange}
 use Rattle.covering_laws.specs.Making.{AreBeingMade, HoldNone, IsUnheld}
 use Rattle.covering_laws.specs.Running.{HasPlainRuns}
 use Rattle.covering_laws.specs.Throws.{ExceptionsAreUnlinked, ThrowsNoNullPointer, EndsByException, TopEndsByException}
 use Rattle.covering_laws.proofs.BeingMade.{all_apart, apart_from, making_on}
-use Rattle.covering_laws.proofs.EndJoins.{ended_covered, ended_held_before, ended_linked, ended_unfinished}
+use Rattle.covering_laws.proofs.EndJoins.{ended_apart, ended_covered, ended_held_before, ended_unfinished}
 use Rattle.covering_laws.proofs.InnerJoins.{plain_covered, plain_held_before, plain_linked, plain_unfinished}
 use Rattle.covering_laws.proofs.LibraryJoins.{library_after_unfinished, library_covered, library_held_before, library_linked}
 use Rattle.covering_laws.proofs.LocalSteps.{LocalsIn, all_there}
@@ -88,7 +88,7 @@ module _ (p : Program) (ac : Accept p) (forms : HasPlainForms p) (raises : Throw
   st : Stands p fr
   st = agrees.standing.0
 
-  links : HasLibraryLinks h
+  links : HasEarlierLinks h
   links = agrees.links
 
   others_in : LocalsIn h frs
@@ -162,36 +162,36 @@ module _ (p : Program) (ac : Accept p) (forms : HasPlainForms p) (raises : Throw
     k = began_heap p fr.locals s.action (method_at p named) (length frames) h
 
     later : KeepsUnfinished h (lose held k) no_other
-    later = lost_unfinished p k held h no_other (started_unfinished p ac forms runs texts h links ranges types.fields hold.fit fr st keeps.0 top covered.0 c.arrays named r a next (length frames))
+    later = lost_unfinished p k held h no_other (started_unfinished p ac forms runs texts h links ranges types.fields fr st keeps.0 top covered.0 c.arrays named r a next (length frames))
 
     -- the object of a `new` that begins
     begins : IsBeingMade p (lose held k) callee fr
     begins j u w y at new this now =
         let one : u.action ≡ s.action = one_action p st.number fr.control next.index j s u (step_here p fr st next.index s next.here) (step_here p fr st j u at) (call_may s.action (subst IsCallRow (sym next.same) next.row)) in
-        let self : values.Object w ≡ values.Object (next_number h) = sym this ∙ callee_this p ac forms runs texts h links ranges types.fields hold.fit fr st keeps.0 top covered.0 c.arrays named r a next (length frames)
+        let self : values.Object w ≡ values.Object (next_number h) = sym this ∙ callee_this p ac forms runs texts h links ranges types.fields fr st keeps.0 top covered.0 c.arrays named r a next (length frames)
         ∙ new_self fr.locals s.action h (ap is_new (sym one) ∙ new) in
         let z = was_there p k held w y now in
         z.2.finished ∙ new_unfinished p fr.locals s.action (method_at p named) (length frames) h links z.0 (ap (object_at k) (let number : next_number h ≡ w = cc in number) ∙ z.1)
 
     held_before : AllHeldBefore p h (lose held k) (fr ∷ frs)
     held_before = held_before_further p h k (lose held k) (fr ∷ frs)
-        (start_held_before p ac forms runs texts h links ranges types.fields hold.fit fr st keeps.0 top covered.0 c.arrays named r a next (length frames) (fr ∷ frs) in') (lost_held_before p k held (fr ∷ frs))
+        (start_held_before p ac forms runs texts h links ranges types.fields fr st keeps.0 top covered.0 c.arrays named r a next (length frames) (fr ∷ frs) in') (lost_held_before p k held (fr ∷ frs))
 
     -- which no frame holds yet
     unheld : IsUnheld p (lose held k) callee fr frs
     unheld j u w at new this =
         let one : u.action ≡ s.action = one_action p st.number fr.control next.index j s u (step_here p fr st next.index s next.here) (step_here p fr st j u at) (call_may s.action (subst IsCallRow (sym next.same) next.row)) in
-        let self : values.Object w ≡ values.Object (next_number h) = sym this ∙ callee_this p ac forms runs texts h links ranges types.fields hold.fit fr st keeps.0 top covered.0 c.arrays named r a next (length frames)
+        let self : values.Object w ≡ values.Object (next_number h) = sym this ∙ callee_this p ac forms runs texts h links ranges types.fields fr st keeps.0 top covered.0 c.arrays named r a next (length frames)
         ∙ new_self fr.locals s.action h (ap is_new (sym one) ∙ new) in
         subst (λ (n : ℕ). HoldNone p (lose held k) n (fr ∷ frs)) (let number : next_number h ≡ w = cc in number)
         (none_held_on p h (lose held k) (next_number h) (fr ∷ frs) held_before (next_not_held p h links (fr ∷ frs) (all_there p h ranges (fr ∷ frs) in')))
 
     began_kept : AreKept p (began p c fr frs named r a pos)
     began_kept = subst (λ (b : Action). AreKept p (began p c fr frs named r b pos)) next.same (
-      all_lost p k held frames (start_covered p ac forms runs texts h links ranges types.fields hold.fit fr st keeps.0 top covered.0 c.arrays named r a next (length frames) frs in' covered),
+      all_lost p k held frames (start_covered p ac forms runs texts h links ranges types.fields fr st keeps.0 top covered.0 c.arrays named r a next (length frames) frs in' covered),
       (begins, unheld, making_on p h (lose held k) no_other later fr fr frs refl in' (all_apart (fr ∷ frs)) held_before.1 making),
       still_unlinked p k (lose held k) (lost_linked p k held)
-          (still_unlinked p h k (started_linked p ac forms runs texts h links ranges types.fields hold.fit fr st keeps.0 top covered.0 c.arrays named r a next (length frames)) linked),
+          (still_unlinked p h k (started_linked p ac forms runs texts h links ranges types.fields fr st keeps.0 top covered.0 c.arrays named r a next (length frames)) linked),
     )
 
   -- ---- calls of the library
@@ -201,10 +201,10 @@ module _ (p : Program) (ac : Accept p) (forms : HasPlainForms p) (raises : Throw
   library_kept named m x s next row = subst (λ (z : MethodId). AreKept p (library_went p c fr frs named z x s)) (sym next.same)
       (goes (library_heap p fr.locals s.action (method_at p named) (method_at p named) x (length frs + 1) h)
       (frame_after p h fr s (conduct_value count (method_at p named) (positions fr.locals s.action (next_number h) x) (next_number h) x)) refl
-      (library_after_unfinished p ac forms names h links ranges fr st mine c.arrays named x s named_next (length frs + 1) count)
-      (library_held_before p ac forms names h links ranges fr st mine c.arrays named x s named_next (length frs + 1) count frs others_in)
-      (library_linked p ac forms names h links ranges fr st mine c.arrays named x s named_next (length frs + 1) count linked)
-      (library_covered p ac forms names h links ranges fr st mine c.arrays named x s named_next (length frs + 1) count row frs in' covered))
+      (library_after_unfinished p ac forms names h links ranges fr st mine c.arrays named x s named_next (length frs + 1) count hold.leads)
+      (library_held_before p ac forms names h links ranges fr st mine c.arrays named x s named_next (length frs + 1) count hold.leads frs others_in)
+      (library_linked p ac forms names h links ranges fr st mine c.arrays named x s named_next (length frs + 1) count hold.leads linked)
+      (library_covered p ac forms names h links ranges fr st mine c.arrays named x s named_next (length frs + 1) count hold.leads row frs in' covered))
     where
       named_next : IsLibraryMove p h c.arrays fr.locals (frame_steps p fr) named named x s
       named_next = subst (λ (z : MethodId). IsLibraryMove p h c.arrays fr.locals (frame_steps p fr) named z x s) next.same next
@@ -247,6 +247,9 @@ module _ (p : Program) (ac : Accept p) (forms : HasPlainForms p) (raises : Throw
     itself : RunsItself t.action named fr.method
     itself = subst (λ (a : Action). RunsItself a named fr.method) (sym same_action) (subst (λ (z : MethodId). RunsItself waits.step.action z fr.method) (sym same) waits.itself)
 
+    made_after : IsMadeAfter p caller.locals t.action fr.locals.this
+    made_after = subst (λ (a : Action). IsMadeAfter p caller.locals a fr.locals.this) (sym same_action) waits.after
+
     abbrev ended_heap : HeapContents
     ended_heap = returned_heap p (length rest + 1) fr.locals.this caller.locals t.action (method_at p fr.method) (method_at p named) (result_value fr.locals (method_at p fr.method) q) e c.heap
 
@@ -265,15 +268,15 @@ module _ (p : Program) (ac : Accept p) (forms : HasPlainForms p) (raises : Throw
     returned_kept : AreKept p (returned p c fr caller rest pos q e named t)
     returned_kept = (
       all_lost p ended_heap held_after (after ∷ rest) (ended_covered p ac forms runs names texts c.heap agrees.links linked ranges fr caller agrees.standing.0 below targets.1.0 keeps.0 called.0 hold.dispatched.0 making.0 mine covered.0 i s q here is t named back
-          may makes itself (length rest + 1) args exits rest making.1 below_in covered.1),
+          may makes itself (length rest + 1) args exits hold.leads agrees.ends made_after rest making.1 below_in covered.1),
       making_on p c.heap (lose held_after ended_heap) apart (lost_unfinished p ended_heap held_after c.heap apart (ended_unfinished p ac forms runs names texts c.heap agrees.links linked ranges fr caller agrees.standing.0 below targets.1.0 keeps.0 called.0 hold.dispatched.0 making.0
-          mine covered.0 i s q here is t named back may makes itself (length rest + 1) args exits)) caller after rest refl below_in
+          mine covered.0 i s q here is t named back may makes itself (length rest + 1) args exits hold.leads agrees.ends made_after)) caller after rest refl below_in
           (apart_from apart (caller ∷ rest) (λ w other. hold.fresh.0 back.index t w back.here other.1 other.0))
           (held_before_further p c.heap ended_heap (lose held_after ended_heap) rest (ended_held_before p ac forms runs names texts c.heap agrees.links linked ranges fr caller agrees.standing.0 below targets.1.0 keeps.0 called.0 hold.dispatched.0 making.0
-          mine covered.0 i s q here is t named back may makes itself (length rest + 1) args exits rest (All-tail (λ (x : Frame). LocalsInRange c.heap x.locals) caller rest below_in)) (lost_held_before p ended_heap held_after rest)) making.2,
+          mine covered.0 i s q here is t named back may makes itself (length rest + 1) args exits hold.leads agrees.ends made_after rest making.1 below_in) (lost_held_before p ended_heap held_after rest)) making.2,
       still_unlinked p ended_heap (lose held_after ended_heap) (lost_linked p ended_heap held_after)
-          (still_unlinked p c.heap ended_heap (ended_linked p ac forms runs names texts c.heap agrees.links linked ranges fr caller agrees.standing.0 below targets.1.0 keeps.0 called.0 hold.dispatched.0 making.0 mine covered.0 i s q here is t named back may makes itself
-          (length rest + 1) args exits) linked),
+          (ended_apart p ac forms runs names texts c.heap agrees.links linked ranges fr caller agrees.standing.0 below targets.1.0 keeps.0 called.0 hold.dispatched.0 making.0 mine covered.0 i s q here is t named back may makes itself (length rest + 1) args exits
+          hold.leads agrees.ends made_after),
     )
 
   back_kept : c.frames ≡ fr ∷ caller ∷ rest → (pos : Pos) (r : Return) → IsBack p (frame_steps p caller) e waits.named r → returned_by p c fr caller rest pos q r ≡ went d → AreKept p d

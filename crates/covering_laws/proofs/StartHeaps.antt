@@ -20,27 +20,30 @@ use Rattle.ledger_state.specs.declared.locals.Locals.{Locals}
 use Rattle.ledger_state.specs.declared.object.Object.{Object}
 use Rattle.ledger_state.specs.declared.object.StoredField.{StoredField}
 use Rattle.ledger_steps.specs.CallSteps.{began_heap}
-use Rattle.heap_laws.specs.Heaps.{HasLibraryLinks}
-use Rattle.heap_laws.proofs.Laws.{numbers_are_in_range}
-use Rattle.covered_field_laws.specs.Ranges.{FieldsInRange, IsStoredInRange}
+use Rattle.program_call_laws.specs.Heaps.{HasEarlierLinks}
+use Rattle.program_call_laws.proofs.Laws.{numbers_are_in_range}
+use Rattle.kept_argument_laws.specs.Ranges.{FieldsInRange, IsStoredInRange}
 use Rattle.program_call_laws.proofs.Begun.{begun_from}
 use Rattle.range_laws.proofs.Growth.{began_grows}
 use Rattle.covering_laws.proofs.MadeObjects.{grown_fields}
 use Rattle.covering_laws.proofs.Waiting.{Carries, KeepsFields, KeepsRoots, KeepsUnfinished, carried_roots, no_other}
 use Rattle.covering_laws.proofs.LinkedExceptions.{LinkedWere}
 
-module _ (p : Program) (l : Locals) (a : Action) (named : Option Method) (j : ℕ) (h : HeapContents) (links : HasLibraryLinks h) where
+module _ (p : Program) (l : Locals) (a : Action) (named : Option Method) (j : ℕ) (h : HeapContents) (links : HasEarlierLinks h) where
   abbrev begun : HeapContents
   begun = began_heap p l a named j h
 
   pub start_carries : Carries h begun
   start_carries n y at below = elim (begun_from p l a named j h links n y at) [
     | inl new ↦ absurd (let number = new.number in omega (arith, number, below))
-    | inr old ↦ (old.before, old.at, old.goes_on.class, (λ done. old.goes_on), old.goes_on.link)
+    | inr old ↦ (old.before, old.at, old.goes_on.class, (λ done. old.goes_on))
   ]
 
   pub start_roots : KeepsRoots h begun
-  start_roots = carried_roots h begun links (began_grows p l a named j h).count start_carries
+  start_roots = carried_roots h begun links (began_grows p l a named j h).count (λ n y at below. elim (begun_from p l a named j h links n y at) [
+    | inl new ↦ absurd (let number = new.number in omega (arith, number, below))
+    | inr old ↦ (old.before, old.at, old.goes_on.link)
+  ])
 
   pub start_linked : LinkedWere h begun
   start_linked n y k at some = elim (begun_from p l a named j h links n y at) [

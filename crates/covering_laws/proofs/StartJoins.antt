@@ -1,12 +1,12 @@
 -- A call of a method of the program begins a frame: what its places hold is in facts of the body's entry.
 use Rattle.std.specs.Prelude.{◌-◌, ◌<◌, ◌||◌, ◌&&◌, not, replicate, if◌then◌else◌}
 use Rattle.std.specs.FinSet as set
-use Rattle.std.proofs.Common.{◌≡◌, ◌⊎◌, inl, inr, ℕ, zero, suc, ◌+◌, ◌≤◌, Bool, true, false, Option, Some, None, List, [], ◌∷◌, ◌++◌, length, IsSomeAnd, slice_get, nat_le, nat_lt, refl, sym, ap, ◌∙◌, subst, true≢false, eqb-true, eq-eqb, arith}
-use Rattle.std.proofs.lemmas.Bool.{and_parts, not-true}
+use Rattle.std.proofs.Common.{◌≡◌, ◌⊎◌, inl, inr, ℕ, zero, suc, ◌+◌, ◌≤◌, Bool, true, false, not, Option, Some, None, List, [], ◌∷◌, ◌++◌, length, IsSomeAnd, slice_get, nat_le, nat_lt, refl, sym, ap, ◌∙◌, subst, true≢false, eqb-true, eq-eqb, arith}
+use Rattle.std.proofs.lemmas.Bool.{and_parts}
 use Rattle.std.proofs.lemmas.Bool.Decides.{nat_tests}
 use Rattle.std.proofs.lemmas.List.FromFn.{length-map-range_with_len}
 use Rattle.std.proofs.lemmas.Option.{slice_get-get_or, slice_get_within}
-use Rattle.rlc_base.proofs.SetLaws.{empty_within, within_trans, within_self}
+use Rattle.rlc_base.proofs.SetLaws.{within_self}
 use Rattle.program_model.specs.declared.kinds.BodyId.{BodyId}
 use Rattle.program_model.specs.declared.kinds.ClassId.{ClassId}
 use Rattle.program_model.specs.declared.kinds.FieldId.{FieldId}
@@ -26,11 +26,11 @@ use Rattle.program_model.specs.Lookups.{field_at, method_at}
 use Rattle.program_model.specs.Overrides.{is_type}
 use Rattle.program_model.specs.SuperTests.{is_class}
 use Rattle.program_model.specs.Validity.{HasParameters, IsBodyOf, is_class_type}
-use Rattle.must_call_sets.specs.OverrideCases.{differ}
+use Rattle.value_type_laws.specs.OverrideCases.{differ}
 use Rattle.program_conditions.specs.Conditions.{MakesNoString}
-use Rattle.must_call_sets.specs.Bodies.{constructs, fields_in, fields_of, fields_of_method, has_field_place, is_class_of, is_constructor_kind, is_field_in, method_in, method_of}
-use Rattle.must_call_sets.specs.MustCallSets.{Names, is_empty, is_heavy_class, must_of, must_of_optional, must_of_type, no_names}
-use Rattle.must_call_sets.specs.Signatures.{type_of_field}
+use Rattle.value_type_laws.specs.Bodies.{alias_in, constructs, fields_in, fields_of, fields_of_method, has_field_place, is_class_of, is_constructor_kind, is_field_in, method_in, method_of}
+use Rattle.value_type_laws.specs.MustCallSets.{Names, is_empty, is_heavy_class, must_of, must_of_optional, must_of_type, no_names}
+use Rattle.value_type_laws.specs.Signatures.{is_present, type_of_field}
 use Rattle.java_control.specs.Calls.{called_method, operand_at, temp_at}
 use Rattle.java_control.specs.Control.{Step}
 use Rattle.java_control.specs.Owned.{is_owning_field}
@@ -44,13 +44,13 @@ use Rattle.java_control.specs.declared.fact.Origin.{Origin}
 use Rattle.java_control.specs.declared.fact.OriginKind.TheVariants as kinds
 use Rattle.java_control.specs.declared.place.Place.{Place}
 use Rattle.java_control.specs.declared.place.Place.TheVariants as places
-use Rattle.obligation_facts.specs.Callees.{callee_in}
-use Rattle.obligation_facts.specs.Facts.{has_temp, is_held, is_own}
-use Rattle.obligation_facts.specs.SmallActions.{IsSmallAction, IsSmallTemp}
-use Rattle.obligation_facts.proofs.SmallOperands.{operand_has_room}
+use Rattle.target_laws.specs.Callees.{callee_in}
+use Rattle.target_laws.specs.Facts.{has_temp, is_held, is_own}
+use Rattle.target_laws.specs.SmallActions.{IsSmallAction, IsSmallTemp}
+use Rattle.target_laws.proofs.SmallOperands.{operand_has_room}
 use Rattle.ownership_rules.specs.Births.{births_at_entry, fact_at, field_birth, has_this, origin_of, owning_field_birth, parameter_mode, this_birth, this_mode}
 use Rattle.flow_rules.specs.Paths.{move_of}
-use Rattle.accepted_programs.specs.Accept.{Accept}
+use Rattle.target_laws.specs.Accept.{Accept}
 use Rattle.ledger_state.specs.Contents.{HeapContents}
 use Rattle.ledger_state.specs.Fields.{field_of, field_value}
 use Rattle.ledger_state.specs.Heaps.{next_number, object_at, root_of}
@@ -61,30 +61,31 @@ use Rattle.ledger_state.specs.declared.locals.Locals.{Locals}
 use Rattle.ledger_state.specs.declared.object.Object.{Object}
 use Rattle.ledger_state.specs.declared.value.Value.{Value}
 use Rattle.ledger_state.specs.declared.value.Value.TheVariants as values
-use Rattle.ledger_operations.specs.Places.{field_place_value, owning_field_beside}
-use Rattle.ledger_calls.specs.Calls.{argument_values, begun, body_of, control_in, operand_of, params_in, running, variable_count}
-use Rattle.ledger_calls.specs.Configuration.{Frame}
-use Rattle.ledger_frames.specs.Choosing.{frame_steps}
+use Rattle.program_call_laws.specs.Places.{field_place_value, owning_field_beside}
+use Rattle.program_call_laws.specs.Calls.{argument_values, begun, body_of, control_in, operand_of, params_in, running, variable_count}
+use Rattle.program_call_laws.specs.Configuration.{Frame}
+use Rattle.target_laws.specs.Choosing.{frame_steps}
 use Rattle.ledger_steps.specs.CallSteps.{began_heap, self_begun}
-use Rattle.heap_laws.specs.Heaps.{HasLibraryLinks}
+use Rattle.program_call_laws.specs.Heaps.{HasEarlierLinks}
 use Rattle.field_place_laws.proofs.FieldPlaces.{IsBeside, place_of_beside}
-use Rattle.named_step_laws.specs.Naming.{IsOfItsKind}
-use Rattle.named_step_laws.proofs.Reached.{names_what_is_there}
-use Rattle.owned_fact_laws.specs.Outcomes.{IsCallRow}
-use Rattle.agreement.specs.Agreement.{Stands}
-use Rattle.agreement.specs.PlainForms.{HasPlainForms, IsPlainAction, calls_constructor, is_lent_parameter}
+use Rattle.tracking_laws.specs.Naming.{IsOfItsKind}
+use Rattle.tracking_laws.proofs.Reached.{names_what_is_there}
+use Rattle.tracking_laws.specs.Outcomes.{IsCallRow}
+use Rattle.tracking_laws.specs.Agreement.{Stands}
+use Rattle.tracking_laws.specs.PlainForms.{HasPlainForms, IsPlainAction, calls_constructor, is_lent_parameter}
 use Rattle.range_laws.specs.Nexts.{IsStartMove}
-use Rattle.operand_type_laws.specs.Operands as operand_types
-use Rattle.operand_type_laws.specs.Operands.{NoObject}
-use Rattle.tracking_laws.proofs.Entries.{HasBegun, argument_at, asks_nothing, has_begun, same_count}
+use Rattle.operand_source_laws.specs.Operands as operand_types
+use Rattle.operand_source_laws.specs.Operands.{NoObject}
+use Rattle.tracking_laws.proofs.Entries.{HasBegun, argument_at, has_begun, same_count}
 use Rattle.tracking_laws.proofs.Ready.{plain_step, ready, step_there}
 use Rattle.tracking_laws.proofs.Unmet.{way_of_call}
 use Rattle.value_type_laws.specs.Types.{KeepsTypes, StoredHoldNone}
 use Rattle.value_type_laws.proofs.Fields.{field_is_none}
 use Rattle.value_type_laws.proofs.Laws.{argument_is_no_object}
-use Rattle.covered_field_laws.specs.FieldContents.{FieldsFit, FitsField}
-use Rattle.covered_field_laws.specs.PlaceFacts.{AreCovered, Covers, IsCovered, IsTrueOf, claims, is_heavy_field, is_heavy_in, may_owe, is_lent}
-use Rattle.covered_field_laws.specs.Ranges.{FieldsInRange, IsInRange, IsNumber, LocalsInRange}
+use Rattle.kept_argument_laws.specs.PlaceFacts.{AreCovered, Covers, IsCovered, IsTrueOf, claims, fits_field, fits_in, is_heavy_field, is_heavy_in, makes_alone, may_owe, is_lent}
+use Rattle.kept_argument_laws.proofs.HeavyFields.{claims_alone, claims_owned}
+use Rattle.kept_argument_laws.proofs.KeptFacts.{parameter_unheld}
+use Rattle.kept_argument_laws.specs.Ranges.{FieldsInRange, IsInRange, IsNumber, LocalsInRange}
 use Rattle.range_laws.proofs.Values.{field_in_range, operand_in_range}
 use Rattle.covering_laws.specs.Running.{HasPlainRuns, is_on_object}
 use Rattle.covering_laws.proofs.Bodies.{body_is_of_program}
@@ -120,12 +121,8 @@ class_type_is (types.Arr u) c is = absurd (true≢false (sym is))
 class_type_is types.NullType c is = absurd (true≢false (sym is))
 
 -- a fact in such a mode claims nothing
-unclaimed_mode : (p : Program) (g : Origin) (q : Place) (m : Mode) (names : Names) (full : Bool) → (is_own m || is_held m) ≡ false → claims p g (fact_at q m names full) ≡ true → ⊥
-unclaimed_mode p g q m names full none claimed = true≢false (sym claimed ∙ ap (λ (b : Bool). is_heavy_class p g.class && b) none ∙ no_and (is_heavy_class p g.class))
-  where
-    no_and : (b : Bool) → (b && false) ≡ false
-    no_and true = refl
-    no_and false = refl
+unclaimed_mode : (p : Program) (k : Option Method) (g : Origin) (q : Place) (m : Mode) (names : Names) (full : Bool) → (is_own m || is_held m) ≡ false → claims p k g (fact_at q m names full) ≡ true → ⊥
+unclaimed_mode p k g q m names full none claimed = true≢false (sym (claims_owned p k g (fact_at q m names full) claimed).1 ∙ none)
 
 lent_or_none : (a b : Bool) → (is_own (if a then modes.Alias else (if b then modes.Lent else modes.None)) || is_held (if a then modes.Alias else (if b then modes.Lent else modes.None))) ≡ false
 lent_or_none true b = refl
@@ -185,8 +182,8 @@ not_back : (b : Bool) → not b ≡ true → b ≡ false
 not_back true is = absurd (true≢false (sym is))
 not_back false is = refl
 
-module _ (p : Program) (ac : Accept p) (forms' : HasPlainForms p) (plain : HasPlainRuns p) (texts : MakesNoString p) (h : HeapContents) (links : HasLibraryLinks h) (ranges : FieldsInRange h) (stored : StoredHoldNone p h)
-    (fit : FieldsFit p h) (fr : Frame) (st : Stands p fr) (keeps : KeepsTypes p fr) (in' : LocalsInRange h fr.locals) (covered : IsCovered p h fr) (arrays : List ArrayObject) (named runs : MethodId) (a : Action)
+module _ (p : Program) (ac : Accept p) (forms' : HasPlainForms p) (plain : HasPlainRuns p) (texts : MakesNoString p) (h : HeapContents) (links : HasEarlierLinks h) (ranges : FieldsInRange h) (stored : StoredHoldNone p h)
+    (fr : Frame) (st : Stands p fr) (keeps : KeepsTypes p fr) (in' : LocalsInRange h fr.locals) (covered : IsCovered p h fr) (arrays : List ArrayObject) (named runs : MethodId) (a : Action)
     (next : IsStartMove p h arrays fr.locals (frame_steps p fr) named runs a) (j : ℕ) where
   abbrev s : Step
   s = next.step
@@ -309,8 +306,9 @@ module _ (p : Program) (ac : Accept p) (forms' : HasPlainForms p) (plain : HasPl
             let n = parameter_born p begun'.stands.body run.sig 0 i i run.sig.params.items like.0 var.0 c (omega arith) like.1 var.1 type' in
             of_parameter p begun'.stands.number begun'.stands.body run begun'.stands.at own_method n.0 ((origin_of p (kinds.Param i) var.0.pos c None), fact_at (places.Var i) (parameter_mode run.sig (i + 1) like.0) like.0.before true) n.1
 
-        covers : (claims p (origin_of p (kinds.Param i) var.0.pos c None) (fact_at (places.Var i) (parameter_mode run.sig (i + 1) like.0) like.0.before true) ≡ true → IsTrueOf p y (origin_of p (kinds.Param i) var.0.pos c None) (fact_at (places.Var i) (parameter_mode run.sig (i + 1) like.0) like.0.before true)) → Covered (places.Var i) o y
+        covers : (claims p (method_at p begun_frame.method) (origin_of p (kinds.Param i) var.0.pos c None) (fact_at (places.Var i) (parameter_mode run.sig (i + 1) like.0) like.0.before true) ≡ true → IsTrueOf p y (origin_of p (kinds.Param i) var.0.pos c None) (fact_at (places.Var i) (parameter_mode run.sig (i + 1) like.0) like.0.before true)) → Covered (places.Var i) o y
         covers truth = entered_covers p K begun_frame begun'.stands begun'.starts (places.Var i) o y (origin_of p (kinds.Param i) var.0.pos c None) (parameter_mode run.sig (i + 1) like.0) like.0.before true birth.0 room birth.1 root truth lent'
+            (λ held. absurd (true≢false (sym held ∙ parameter_unheld run.sig (i + 1) like.0)))
             (λ k same claimed. absurd (let never : places.Var i ≡ places.Field k = same in cc)) (λ k same heavy'. absurd (let never : places.Var i ≡ places.Field k = same in cc))
           where
             is_lent_here : is_lent p (method_at p begun_frame.method) (kinds.Param i) ≡ is_lent_parameter p (Some like.0)
@@ -337,12 +335,12 @@ module _ (p : Program) (ac : Accept p) (forms' : HasPlainForms p) (plain : HasPl
         given owning heavy' =
             given_is_true p ac h fr st next.index s next.here row (places.Temp temp.0) o carried.0 y cover next.method i param.0 (ap (callee_in p) calls' ∙ next.named_at) param_at
             (same_mark like.0.owning param.0.owning like.3 owning) (ap (has_temp cover.fact.places) temp.1 ∙ cover.here) c type heavy' carried.3 (kinds.Param i) var.0.pos (places.Var i) like.0.before
-            (asks_nothing run.sig.params.items i like.0 next.fit.asks like.1 owning)
+            (next.fit.asks i like.0 param.0 like.1 param_at)
 
         by : (b : Bool) → like.0.owning ≡ b → Covered (places.Var i) o y
-        by true owning = covers (subst (λ (m : Mode). claims p (origin_of p (kinds.Param i) var.0.pos c None) (fact_at (places.Var i) m like.0.before true) ≡ true → IsTrueOf p y (origin_of p (kinds.Param i) var.0.pos c None) (fact_at (places.Var i) m like.0.before true)) (sym (rw owning refl))
+        by true owning = covers (subst (λ (m : Mode). claims p (method_at p begun_frame.method) (origin_of p (kinds.Param i) var.0.pos c None) (fact_at (places.Var i) m like.0.before true) ≡ true → IsTrueOf p y (origin_of p (kinds.Param i) var.0.pos c None) (fact_at (places.Var i) m like.0.before true)) (sym (rw owning refl))
             (λ claimed. given owning (and_parts (is_heavy_class p c) true claimed).0))
-        by false other = covers (λ claimed. absurd (unclaimed_mode p (origin_of p (kinds.Param i) var.0.pos c None) (places.Var i) (parameter_mode run.sig (i + 1) like.0) like.0.before true (rw other (lent_or_none _ _)) claimed))
+        by false other = covers (λ claimed. absurd (unclaimed_mode p (method_at p begun_frame.method) (origin_of p (kinds.Param i) var.0.pos c None) (places.Var i) (parameter_mode run.sig (i + 1) like.0) like.0.before true (rw other (lent_or_none _ _)) claimed))
 
     of_none : is_class_type param.0.vtype ≡ false → ⊥
     of_none none = no_number h (operand_of l s.action (i + 1)) o (argument_is_no_object p ac texts fr keeps next.index s named i param.0 next.here calls' param.1 none) operand_root
@@ -388,8 +386,8 @@ module _ (p : Program) (ac : Accept p) (forms' : HasPlainForms p) (plain : HasPl
       let g : Origin = origin_of p kinds.ThisRef run.pos run.class None in
       let n = of_this p begun'.stands.number begun'.stands.body run begun'.stands.at own_method (g, fact_at places.This (this_mode run.sig run.kind) no_names true) born in
       entered_covers p K begun_frame begun'.stands begun'.starts places.This o y g (this_mode run.sig run.kind) no_names true n.0 tt n.1 root
-      (λ claimed. absurd (unclaimed_mode p g places.This (this_mode run.sig run.kind) no_names true (this_unowned run.sig run.kind) claimed))
-      (λ lent. (this_unowned run.sig run.kind, ap (λ (m : Option Method). is_lent p m kinds.ThisRef) (sym (ap (method_at p) begun'.method ∙ begun'.named)) ∙ lent, within_self no_names))
+      (λ claimed. absurd (unclaimed_mode p (method_at p begun_frame.method) g places.This (this_mode run.sig run.kind) no_names true (this_unowned run.sig run.kind) claimed))
+      (λ lent. (this_unowned run.sig run.kind, ap (λ (m : Option Method). is_lent p m kinds.ThisRef) (sym (ap (method_at p) begun'.method ∙ begun'.named)) ∙ lent, within_self no_names)) (λ held. within_self no_names)
       (λ k same claimed. absurd (let never : places.This ≡ places.Field k = same in cc)) (λ k same heavy'. absurd (let never : places.This ≡ places.Field k = same in cc))
 
   -- ---- owning fields of `this`
@@ -413,9 +411,6 @@ module _ (p : Program) (ac : Accept p) (forms' : HasPlainForms p) (plain : HasPl
     held_root : root_of h (field_value p h w f) ≡ Some o
     held_root = root_before (field_value p h w f) o (field_in_range p h ranges (values.Object w) f) (ap (root_of K) (sym (start_keeps p l s.action (method_at p named) j h links w f (ap is_owning_field field.at ∙ field.owning)))
         ∙ ap (λ (u : Value). root_of K (field_of p K u f)) (sym holder.1) ∙ root)
-
-    carried_field : IsCarried h o y
-    carried_field = was (field_value p h w f) o y held_root (numbered h links (field_value p h w f) o held_root (field_in_range p h ranges (values.Object w) f)) at
 
     -- the object of a `new` has nothing in its fields, and a super constructor runs in no class with owning fields
     instance : run.kind ≡ methods.Ctor → ⊥
@@ -456,9 +451,9 @@ module _ (p : Program) (ac : Accept p) (forms' : HasPlainForms p) (plain : HasPl
 
     of_field_class : (c : ClassId) → field.field.vtype ≡ types.Obj c → Covered (places.Field n) o y
     of_field_class c type = entered_covers p K begun_frame begun'.stands begun'.starts (places.Field n) o y (origin_of p (kinds.FieldAt f) field.field.pos c None) modes.Held no_names true birth.0 room birth.1
-        (ap (λ (x : Option FieldId). root_of K (field_place_value p K begun_frame.locals.this x)) beside ∙ root) (λ claimed. truth (and_parts (is_heavy_class p c) true claimed).0)
-        (λ lent. absurd (true≢false (sym lent ∙ field_unlent p f (method_at p begun_frame.method))))
-        (λ k same wide. heavy_here ∙ wide) (λ k same heavy'. (refl, sym heavy_here ∙ heavy'))
+        (ap (λ (x : Option FieldId). root_of K (field_place_value p K begun_frame.locals.this x)) beside ∙ root) (λ claimed. absurd (unmade (claims_alone p (method_at p begun_frame.method) (origin_of p (kinds.FieldAt f) field.field.pos c None) (fact_at (places.Field n) modes.Held no_names true) refl claimed)))
+        (λ lent. absurd (true≢false (sym lent ∙ field_unlent p f (method_at p begun_frame.method)))) (λ held. within_self no_names)
+        (λ k same wide. subst (λ (j : ℕ). fits_field p begun_frame.method j c ≡ true) (let is : places.Field n ≡ places.Field k = same in (let one : n ≡ k = cc in one)) fits_here) (λ k same heavy'. (refl, sym heavy_here ∙ heavy'))
       where
         born : field_birth p begun'.stands.number None f ≡ Some ((origin_of p (kinds.FieldAt f) field.field.pos c None), fact_at (places.Field n) modes.Held no_names true)
         born = ap (λ (b : Bool). if b then owning_field_birth p f None (field_at p f) else None) has_place ∙ ap (owning_field_birth p f None) field.at
@@ -470,22 +465,16 @@ module _ (p : Program) (ac : Accept p) (forms' : HasPlainForms p) (plain : HasPl
         heavy_here : is_heavy_field p begun_frame.method (places.Field n) ≡ is_heavy_class p c
         heavy_here = ap (is_heavy_in p) beside ∙ ap (λ (x : Option Field). not (is_empty (must_of_optional p (type_of_field x)))) field.at ∙ ap (λ (t : VType). not (is_empty (must_of_type p t))) type
 
-        truth : is_heavy_class p c ≡ true → IsTrueOf p y (origin_of p (kinds.FieldAt f) field.field.pos c None) (fact_at (places.Field n) modes.Held no_names true)
-        truth heavy' =
-            let kind_heavy : is_empty (must_of_type p field.field.vtype) ≡ false = ap (λ (t : VType). is_empty (must_of_type p t)) type ∙ not-true (is_empty (must_of p c)) heavy' in
-            let fits' : FitsField p field.field carried_field.0 = fit w f field.field o carried_field.0 field.at field.owning kind_heavy held_root carried_field.1 (ap (is_heavy_class p) (sym carried_field.2) ∙ heavy) (owed_before carried_field.0 y carried_field.3 owes) in
-            let on = carried_field.3 fits'.finished in
-            let class : set.is_subset (must_of p y.class) (must_of p c) ≡ true = ap (λ (k : ClassId). set.is_subset (must_of p k) (must_of p c)) on.class
-            ∙ ap (λ (t : VType). set.is_subset (must_of p carried_field.0.class) (must_of_type p t)) (sym type) ∙ fits'.bounded in
-            let bounded : set.is_subset y.must (must_of p y.class) ≡ true = ap (λ (t : Names). set.is_subset t (must_of p y.class)) on.must
-            ∙ ap (λ (k : ClassId). set.is_subset carried_field.0.must (must_of p k)) on.class ∙ fits'.own in
-            record {
-              finished = on.finished ∙ fits'.finished;
-              class = class;
-              bounded = bounded;
-              need = within_trans y.must (must_of p y.class) (must_of p c) bounded class;
-              called = empty_within y.called;
-            }
+        fits_here : fits_field p begun_frame.method n c ≡ true
+        fits_here =
+            ap (fits_in p c) beside ∙ ap (λ (x : Option Field). set.is_subset (must_of p c) (must_of_optional p (type_of_field x))) field.at
+            ∙ ap (λ (t : VType). set.is_subset (must_of p c) (must_of_type p t)) type ∙ within_self (must_of p c)
+
+        -- an instance method runs
+        unmade : makes_alone (method_at p begun_frame.method) ≡ true → ⊥
+        unmade alone =
+            let makes = (and_parts (constructs (method_at p begun_frame.method)) (not (is_present (alias_in (method_at p begun_frame.method)))) alone).0 in
+            true≢false (sym makes ∙ ap constructs (ap (method_at p) begun'.method ∙ begun'.named) ∙ ap is_constructor_kind is_instance)
 
     of_no_class : is_class_type field.field.vtype ≡ false → ⊥
     of_no_class none = no_number h (field_value p h w f) o (field_is_none p h w f stored (subst (λ (x : Option Field). NoObject (operand_types.type_of_field x)) (sym field.at) none)) held_root

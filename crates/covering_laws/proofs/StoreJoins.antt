@@ -6,75 +6,58 @@ use Rattle.program_model.specs.declared.kinds.ClassId.{ClassId}
 use Rattle.program_model.specs.declared.kinds.FieldId.{FieldId}
 use Rattle.program_model.specs.declared.kinds.MethodId.{MethodId}
 use Rattle.program_model.specs.declared.program.Field.{Field}
-use Rattle.program_model.specs.declared.program.Method.{Method}
 use Rattle.program_model.specs.declared.program.Program.{Program}
-use Rattle.program_model.specs.Overrides.{is_library}
 use Rattle.program_model.specs.Lookups.{field_at, method_at}
-use Rattle.must_call_sets.specs.Bodies.{alias_in, alias_position, constructs, is_class_of, is_field_in, method_in, method_of}
+use Rattle.value_type_laws.specs.Bodies.{constructs, is_class_of, is_field_in, method_in, method_of}
 use Rattle.java_control.specs.Calls.{called_method}
 use Rattle.java_control.specs.Control.{Step}
 use Rattle.java_control.specs.Owned.{is_owning, is_owning_field}
 use Rattle.java_control.specs.declared.action.Action.{Action}
 use Rattle.java_control.specs.declared.action.Action.TheVariants as actions
 use Rattle.flow_rules.specs.Paths.{move_of}
-use Rattle.accepted_programs.specs.Accept.{Accept}
+use Rattle.target_laws.specs.Accept.{Accept}
 use Rattle.ledger_state.specs.Contents.{HeapContents}
 use Rattle.ledger_state.specs.Fields.{field_of}
 use Rattle.ledger_state.specs.Heaps.{object_at, unfinished}
 use Rattle.ledger_state.specs.Locals.{temp_value}
 use Rattle.ledger_state.specs.Values.{number_of}
-use Rattle.ledger_state.specs.declared.locals.Locals.{Locals}
 use Rattle.ledger_state.specs.declared.object.Object.{Object}
 use Rattle.ledger_state.specs.declared.value.Value.{Value}
 use Rattle.ledger_state.specs.declared.value.Value.TheVariants as values
 use Rattle.ledger_obligations.specs.Obligations.{finished_in, resets_holder, stored_owning}
-use Rattle.ledger_calls.specs.Calls as calls
-use Rattle.ledger_calls.specs.Configuration.{Frame}
-use Rattle.ledger_frames.specs.Choosing.{frame_steps}
-use Rattle.ledger_frames.specs.Frames.{frame_after}
+use Rattle.program_call_laws.specs.Configuration.{Frame}
+use Rattle.target_laws.specs.Choosing.{frame_steps}
+use Rattle.target_laws.specs.Frames.{frame_after}
 use Rattle.ledger_steps.specs.InnerSteps.{heap_stored, is_bound, store_into, store_of, store_unless, thrown_heap}
-use Rattle.heap_laws.specs.Heaps.{HasLibraryLinks}
-use Rattle.named_step_laws.specs.Naming.{IsOfItsKind}
-use Rattle.named_step_laws.proofs.Reached.{names_what_is_there}
-use Rattle.owned_fact_laws.specs.Outcomes.{IsCallRow}
-use Rattle.agreement.specs.Agreement.{AllStand, IsCalledFrom, IsMadeBy, RunsItself, Stands}
-use Rattle.agreement.specs.PlainForms.{HasPlainForms, calls_constructor}
+use Rattle.program_call_laws.specs.Heaps.{HasEarlierLinks}
+use Rattle.tracking_laws.specs.Naming.{IsOfItsKind}
+use Rattle.tracking_laws.proofs.Reached.{names_what_is_there}
+use Rattle.tracking_laws.specs.Outcomes.{IsCallRow}
+use Rattle.tracking_laws.specs.Agreement.{AllStand, IsCalledFrom, IsMadeBy, RunsItself, Stands}
+use Rattle.tracking_laws.specs.PlainForms.{HasPlainForms, IsPlainSignature, calls_constructor}
 use Rattle.store_laws.proofs.Fields.{holds_here, holds_other}
 use Rattle.store_laws.proofs.Objects.{stored_back, stored_forward, stored_goes_on, unfinished_stays}
 use Rattle.tracking_laws.proofs.Chains.{object_there}
 use Rattle.tracking_laws.proofs.Ready.{plain_call, plain_step, step_there}
-use Rattle.covered_field_laws.specs.FieldContents.{DeclaresOwning, FieldsHold}
-use Rattle.covered_field_laws.specs.PlaceFacts.{AreCovered, IsCovered}
-use Rattle.covered_field_laws.specs.Ranges.{FieldsInRange, LocalsInRange}
+use Rattle.kept_argument_laws.specs.FieldContents.{DeclaresOwning, FieldsHold}
+use Rattle.kept_argument_laws.specs.PlaceFacts.{AreCovered, IsCovered}
+use Rattle.kept_argument_laws.specs.Ranges.{FieldsInRange, LocalsInRange}
 use Rattle.covering_laws.specs.Throws.{ExceptionsAreUnlinked}
 use Rattle.covering_laws.proofs.LocalSteps.{LocalsIn, all_there, holds_there}
-use Rattle.covering_laws.proofs.StoreSteps.{others_stay, store_covered}
-use Rattle.covering_laws.proofs.Bodies.{constructor_has_no_alias, running_method}
+use Rattle.covering_laws.proofs.StoreSteps.{ArgumentIsLent, others_stay, store_covered}
+use Rattle.covering_laws.proofs.Bodies.{argument_is_lent}
 use Rattle.covering_laws.proofs.Waiting.{AllHeldBefore, AllKeep, Carries, KeepsRoots, KeepsUnfinished, all_held_before, all_ready, all_wait, frames_ready, linked_roots, no_other}
 use Rattle.covering_laws.proofs.LinkedExceptions.{LinkedWere, still_unlinked}
 
--- a constructor that runs for a `new`: `this` is the object, and it is that of no alias
+-- a constructor that runs for a `new`: `this` is the object, and its signature is plain
 pub record RunsForNew (p : Program) (h : HeapContents) (fr : Frame) : Type 0 where
   pub holder : ℕ
   pub this : fr.locals.this ≡ values.Object holder
   pub object : Object
   pub there : object_at h holder ≡ Some object
-  pub alias : alias_in (method_at p fr.method) ≡ None
+  pub plain : IsPlainSignature p (method_at p fr.method)
 
--- the method of no alias binds no value
-unbound_by : (m : Option Method) (h : HeapContents) (l : Locals) (v : Value) → alias_in m ≡ None → is_bound h m l v ≡ false
-unbound_by None h l v none = refl
-unbound_by (Some m) h l v none = no_and (constructs (Some m)) (calls.is_alias (Some m)) _ (ap is_there none)
-  where
-    is_there : Option ℕ → Bool
-    is_there None = false
-    is_there (Some k) = true
-
-    no_and : (a b c : Bool) → b ≡ false → (a && b && c) ≡ false
-    no_and true b c none' = ap (λ (x : Bool). x && c) none'
-    no_and false b c none' = refl
-
-module _ (p : Program) (ac : Accept p) (forms : HasPlainForms p) (h : HeapContents) (links : HasLibraryLinks h) (ranges : FieldsInRange h) (fr : Frame) (frs : List Frame) (st : Stands p fr)
+module _ (p : Program) (ac : Accept p) (forms : HasPlainForms p) (h : HeapContents) (links : HasEarlierLinks h) (ranges : FieldsInRange h) (fr : Frame) (frs : List Frame) (st : Stands p fr)
     (standing : AllStand p frs) (called : IsCalledFrom p h fr frs) (hold : FieldsHold p (fr ∷ frs) h) (i : ℕ) (s : Step) (here : slice_get (frame_steps p fr) i ≡ Some s) (f : FieldId) (d : ℕ)
     (is : s.action ≡ actions.PutOwn f d) (made : Value) where
   body_method : method_of p st.number ≡ method_at p fr.method
@@ -106,13 +89,9 @@ module _ (p : Program) (ac : Accept p) (forms : HasPlainForms p) (h : HeapConten
       named_is : (m : MethodId) → called_method call.0.step.action ≡ Some m → m ≡ call.0.named
       named_is m it = let both : Some m ≡ Some call.0.named = sym it ∙ call.0.calls in (let one : m ≡ call.0.named = cc in one)
 
-      run : (x : Method) × (method_at p fr.method ≡ Some x) × (is_library p x.class ≡ false)
-      run = running_method p ac fr st
-
-      no_alias : IsCallRow call.0.step.action → fr.method ≡ call.0.named → alias_in (method_at p fr.method) ≡ None
-      no_alias row itself =
-          let plain' = plain_call p call.0.step.action call.0.named (plain_step p ac forms caller stand.0 call.0.index call.0.step call.0.here) row call.0.calls in
-          ap alias_in run.1 ∙ constructor_has_no_alias p (method_at p call.0.named) run.0 plain'.signature (ap (method_at p) (sym itself) ∙ run.1) run.2 (ap constructs (sym run.1) ∙ constructor)
+      plainly : IsCallRow call.0.step.action → fr.method ≡ call.0.named → IsPlainSignature p (method_at p fr.method)
+      plainly row itself = subst (λ (z : MethodId). IsPlainSignature p (method_at p z)) (sym itself)
+          (plain_call p call.0.step.action call.0.named (plain_step p ac forms caller stand.0 call.0.index call.0.step call.0.here) row call.0.calls).signature
 
       go : (a : Action) → call.0.step.action ≡ a → RunsItself a call.0.named fr.method → IsMadeBy p h a fr.locals.this → RunsForNew p h fr
       go actions.Skip it itself makes = absurd (let never : None ≡ Some call.0.named = sym (ap called_method it) ∙ call.0.calls in cc)
@@ -124,7 +103,7 @@ module _ (p : Program) (ac : Accept p) (forms : HasPlainForms p) (h : HeapConten
             this = makes.1;
             object = object.0;
             there = object.1;
-            alias = no_alias (subst IsCallRow (sym it) tt) itself;
+            plain = plainly (subst IsCallRow (sym it) tt) itself;
           }
       go (actions.Super m e n) it itself makes =
           absurd (true≢false (sym owned_here.3 ∙ ap (λ (z : MethodId). is_class_of owned_here.0.class (method_at p z)) itself
@@ -147,8 +126,12 @@ module _ (p : Program) (ac : Accept p) (forms : HasPlainForms p) (h : HeapConten
   abbrev v : Value
   v = temp_value fr.locals d
 
+  -- the value is the aliased argument
+  abbrev bound : Bool
+  bound = is_bound h (method_at p fr.method) fr.locals v
+
   abbrev stored : HeapContents
-  stored = stored_owning p h w f false v
+  stored = stored_owning p h w f bound v
 
   abbrev after : Frame
   after = frame_after p h fr s made
@@ -156,17 +139,17 @@ module _ (p : Program) (ac : Accept p) (forms : HasPlainForms p) (h : HeapConten
   unfinished' : new.object.finished ≡ false
   unfinished' = hold.unfinished.0 w new.object declared constructor new.this new.there
 
-  still : resets_holder p h w f false (field_of p h (values.Object w) f) v ≡ false
-  still = unfinished_stays p h w f v false (field_of p h (values.Object w) f) (ap finished_in new.there ∙ unfinished')
+  still : resets_holder p h w f bound (field_of p h (values.Object w) f) v ≡ false
+  still = unfinished_stays p h w f v bound (field_of p h (values.Object w) f) (ap finished_in new.there ∙ unfinished')
 
   carries : Carries h stored
-  carries n y at below = let x = stored_back p h w f v false n y still at in let on = stored_goes_on p h w f v n x.0 y x.2 in (x.0, x.1, on.class, (λ done. on), on.link)
+  carries n y at below = let x = stored_back p h w f v bound n y still at in let on = stored_goes_on p h w f v n x.0 y x.2 in (x.0, x.1, on.class, (λ done. on))
 
   stored_roots : KeepsRoots h stored
-  stored_roots = linked_roots h stored links (λ n x at. let y = stored_forward p h w f v false n x still at in (y.0, y.1, (stored_goes_on p h w f v n x y.0 y.2).link))
+  stored_roots = linked_roots h stored links (λ n x at. let y = stored_forward p h w f v bound n x still at in (y.0, y.1, (stored_goes_on p h w f v n x y.0 y.2).link))
 
-  plain : alias_position p st.number ≡ None
-  plain = ap alias_in body_method ∙ new.alias
+  lent : ArgumentIsLent p fr st
+  lent aliased kind at = argument_is_lent p ac fr st new.plain aliased kind at
 
   owning : is_owning p f ≡ true
   owning = ap is_owning_field owned_here.1 ∙ owned_here.2
@@ -179,16 +162,16 @@ module _ (p : Program) (ac : Accept p) (forms : HasPlainForms p) (h : HeapConten
   heap_is =
       ap (λ (a : Action). heap_stored p (method_at p fr.method) fr.locals (store_of fr.locals a) h) is
       ∙ ap (λ (u : Value). heap_stored p (method_at p fr.method) fr.locals (store_into (number_of u) f v) h) new.this
-      ∙ rw (owning, unbound_by (method_at p fr.method) h fr.locals v new.alias) refl
+      ∙ rw owning refl
 
   stored_unfinished : KeepsUnfinished h stored no_other
   stored_unfinished o x y apart before now none =
-      let z = stored_back p h w f v false o y still now in
+      let z = stored_back p h w f v bound o y still now in
       (stored_goes_on p h w f v o z.0 y z.2).finished ∙ ap (λ (u : Object). u.finished) (let both : Some z.0 ≡ Some x = sym z.1 ∙ before in (let one : z.0 ≡ x = cc in one)) ∙ none
 
   stored_linked : LinkedWere h stored
   stored_linked n y l at some =
-      let x = stored_back p h w f v false n y still at in
+      let x = stored_back p h w f v bound n y still at in
       let on = stored_goes_on p h w f v n x.0 y x.2 in
       (x.0, x.1, sym on.link ∙ some, on.class)
 
@@ -200,7 +183,7 @@ module _ (p : Program) (ac : Accept p) (forms : HasPlainForms p) (h : HeapConten
 
   others : LocalsIn h (fr ∷ frs) → IsCovered p h fr → AllKeep p h stored frs
   others in' covered =
-      others_stay p ac forms h stored links stored_roots carries fr st covered plain i d s f here is w new.this (holds_here p h w f false v) (holds_other p h w f false v)
+      others_stay p ac forms h stored links stored_roots carries fr st covered lent i d s f here is w new.this (holds_here p h w f bound v) (holds_other p h w f bound v)
       (holds_there p h ranges fr (All-head (λ (x : Frame). LocalsInRange h x.locals) fr frs in')) (all_ready p h stored stored_unfinished fr) made frs (hold.new.0 w declared constructor new.this)
 
   pub store_held_before : LocalsIn h (fr ∷ frs) → IsCovered p h fr → AllHeldBefore p h store_heap frs
@@ -209,7 +192,7 @@ module _ (p : Program) (ac : Accept p) (forms : HasPlainForms p) (h : HeapConten
 
   pub stores_covered : LocalsIn h (fr ∷ frs) → AreCovered p h (fr ∷ frs) → AreCovered p store_heap (after ∷ frs)
   stores_covered in' covered = subst (λ (k : HeapContents). AreCovered p k (after ∷ frs)) (sym heap_is) (
-    store_covered p ac forms h stored links stored_roots carries fr st covered.0 plain i d s f here is w new.this (holds_here p h w f false v) (holds_other p h w f false v)
+    store_covered p ac forms h stored links stored_roots carries fr st covered.0 lent i d s f here is w new.this (holds_here p h w f bound v) (holds_other p h w f bound v)
         (holds_there p h ranges fr (All-head (λ (x : Frame). LocalsInRange h x.locals) fr frs in')) (all_ready p h stored stored_unfinished fr) made,
     all_wait p h stored links stored_roots carries frs
         (others in' covered.0) (all_there p h ranges frs (All-tail (λ (x : Frame). LocalsInRange h x.locals) fr frs in')) (frames_ready p h stored stored_unfinished frs) covered.1,

@@ -1,14 +1,14 @@
 -- The top frame, a constructor, stores into an owning field of `this`: what the places of the frames hold stays covered.
 use Rattle.std.proofs.Common.{◌≡◌, ◌⊎◌, inl, inr, ℕ, ◌+◌, ◌<◌, Bool, true, false, not, cond, Option, Some, None, List, [], ◌∷◌, slice_get, nat_eq, eq-eqb, eqb-true, refl, sym, ap, ◌∙◌, subst, true≢false, if◌then◌else◌}
 use Rattle.std.specs.FinSet as set
-use Rattle.std.proofs.lemmas.Bool.{and_from, or_left, or_right, not-true}
+use Rattle.std.proofs.lemmas.Bool.{and_parts, or_left, or_right, not-true}
 use Rattle.rlc_base.proofs.SetLaws.{within_trans}
-use Rattle.program_model.specs.declared.kinds.ClassId.{ClassId}
 use Rattle.program_model.specs.declared.kinds.FieldId.{FieldId}
+use Rattle.program_model.specs.declared.program.Method.{Method}
 use Rattle.program_model.specs.declared.program.Program.{Program}
-use Rattle.must_call_sets.specs.Bodies.{alias_position}
-use Rattle.must_call_sets.specs.MustCallSets.{Names, fits_type, is_empty, is_heavy_class, must_of, must_of_optional, no_names}
-use Rattle.must_call_sets.specs.Signatures.{field_type}
+use Rattle.value_type_laws.specs.Bodies.{alias_in, alias_position, constructs, is_alias_constructor, is_constructor}
+use Rattle.value_type_laws.specs.MustCallSets.{Names, fits_type, is_heavy_class}
+use Rattle.value_type_laws.specs.Signatures.{field_type, is_present}
 use Rattle.java_control.specs.Control.{Step}
 use Rattle.java_control.specs.Owned.{field_number, place_of_field}
 use Rattle.java_control.specs.PlaceNumbers.{IsSmall, number_of}
@@ -16,16 +16,16 @@ use Rattle.java_control.specs.Sources.{is_place, source}
 use Rattle.java_control.specs.declared.action.Action.{Action}
 use Rattle.java_control.specs.declared.action.Action.TheVariants as actions
 use Rattle.java_control.specs.declared.fact.Fact.{Fact}
-use Rattle.java_control.specs.declared.fact.Mode.{Mode}
 use Rattle.java_control.specs.declared.fact.Mode.TheVariants as modes
 use Rattle.java_control.specs.declared.fact.Origin.{Origin}
+use Rattle.java_control.specs.declared.fact.OriginKind.{OriginKind}
 use Rattle.java_control.specs.declared.place.Place.{Place}
 use Rattle.java_control.specs.declared.place.Place.TheVariants as places
-use Rattle.obligation_facts.specs.Facts.{PlaceSet, has, is_held, is_own}
-use Rattle.obligation_facts.specs.SmallActions.{IsSmallAction}
-use Rattle.owning_fields.specs.Stores.{is_heavy_store}
+use Rattle.target_laws.specs.Facts.{PlaceSet, has, is_held, is_origin_at, is_own}
+use Rattle.target_laws.specs.SmallActions.{IsSmallAction}
+use Rattle.tracking_laws.specs.Stores.{is_heavy_store}
 use Rattle.flow_rules.specs.Paths.{Reach, relation_of}
-use Rattle.accepted_programs.specs.Accept.{Accept}
+use Rattle.target_laws.specs.Accept.{Accept}
 use Rattle.ledger_state.specs.Contents.{HeapContents}
 use Rattle.ledger_state.specs.Fields.{field_of, field_value}
 use Rattle.ledger_state.specs.Heaps.{root_of}
@@ -33,35 +33,27 @@ use Rattle.ledger_state.specs.Locals.{temp_value}
 use Rattle.ledger_state.specs.declared.object.Object.{Object}
 use Rattle.ledger_state.specs.declared.value.Value.{Value}
 use Rattle.ledger_state.specs.declared.value.Value.TheVariants as values
-use Rattle.ledger_operations.specs.Places.{field_place_value, owning_field_beside, place_value}
-use Rattle.ledger_calls.specs.Configuration.{Frame}
-use Rattle.ledger_frames.specs.Choosing.{body_by, frame_steps, method_body}
-use Rattle.ledger_frames.specs.Frames.{frame_after}
-use Rattle.heap_laws.specs.Heaps.{GoesOn, HasLibraryLinks}
-use Rattle.place_laws.specs.Places.{HasTarget, is_local}
-use Rattle.place_laws.proofs.Laws.{places_stay_in_range, single_place-same, value_comes_from_source}
-use Rattle.place_laws.proofs.SetLaws.{has_copied}
-use Rattle.agreement.specs.Agreement.{Stands}
-use Rattle.agreement.specs.PlainForms.{HasPlainForms}
-use Rattle.fact_step_laws.specs.Going.{ArePlaces, IsLeft, IsTaken, StoresAs, is_owned_in, left, taken}
-use Rattle.covered_field_laws.specs.FieldContents.{RunOnOthers}
-use Rattle.covered_field_laws.specs.PlaceFacts.{Covers, IsCovered, IsTrueOf, claims, is_heavy_field, is_heavy_in, is_lent}
+use Rattle.program_call_laws.specs.Places.{field_place_value, owning_field_beside, place_value}
+use Rattle.program_call_laws.specs.Configuration.{Frame}
+use Rattle.target_laws.specs.Choosing.{body_by, frame_steps, method_body}
+use Rattle.target_laws.specs.Frames.{frame_after}
+use Rattle.program_call_laws.specs.Heaps.{GoesOn, HasEarlierLinks}
+use Rattle.field_place_laws.specs.Places.{HasTarget, is_local}
+use Rattle.field_place_laws.proofs.Laws.{places_stay_in_range, single_place-same, value_comes_from_source}
+use Rattle.field_place_laws.proofs.SetLaws.{has_copied}
+use Rattle.tracking_laws.specs.Agreement.{Stands}
+use Rattle.tracking_laws.specs.PlainForms.{HasPlainForms}
+use Rattle.fact_step_laws.specs.Going.{ArePlaces, IsLeft, IsTaken, StoresAs, left, taken}
+use Rattle.kept_argument_laws.specs.FieldContents.{RunOnOthers}
+use Rattle.kept_argument_laws.specs.PlaceFacts.{Covers, IsCovered, IsTrueOf, claims, fits_field, fits_in, is_heavy_field, is_heavy_in, is_lent, makes_alone, tells_calls}
 use Rattle.field_place_laws.proofs.FieldPlaces.{place_of_beside}
 use Rattle.field_place_laws.proofs.ValuesAfter.{IsFrom, value_is_from}
-use Rattle.covered_field_laws.proofs.HeavyFields.{HasPlace, own_claims}
-use Rattle.covered_field_laws.proofs.Storing.{Goes, goes, now, small, there}
-use Rattle.covering_laws.proofs.TopSteps.{claims_owned, in_this}
+use Rattle.kept_argument_laws.proofs.HeavyFields.{HasPlace, claims_alone, claims_as, claims_owned, held_mode, held_tells, lent_tells, own_claims, tells_by}
+use Rattle.kept_argument_laws.proofs.Following.{method_here}
+use Rattle.kept_argument_laws.proofs.Storing.{Goes, goes, now, small, there}
+use Rattle.covering_laws.proofs.TopSteps.{in_this}
 use Rattle.covering_laws.proofs.Waiting.{AllKeep, Carries, HoldsThere, IsCarried, KeepsReady, KeepsRoots, numbered, owed_before, still_true, value_root, stays_unowned}
 use Rattle.program_model.specs.Lookups.{method_at}
-use Rattle.std.specs.Prelude.{◌||◌}
-
--- the type of a field into which an object of a class with an obligation fits has one
-heavy_by_fit : (p : Program) (c : ClassId) (f : FieldId) → is_heavy_class p c ≡ true → fits_type p c (field_type p f) ≡ true → is_heavy_in p (Some f) ≡ true
-heavy_by_fit p c f heavy fit = go (is_empty (must_of_optional p (field_type p f))) refl
-  where
-    go : (b : Bool) → is_empty (must_of_optional p (field_type p f)) ≡ b → not b ≡ true
-    go true none = absurd (true≢false (sym (within_trans (must_of p c) (must_of_optional p (field_type p f)) no_names fit none) ∙ not-true (is_empty (must_of p c)) heavy))
-    go false some = refl
 
 -- where the store is one of what has an obligation, the class or the field's type has one
 light_class : (p : Program) (o : Origin) (f : FieldId) → is_heavy_store p o f ≡ false → is_heavy_class p o.class ≡ true → ⊥
@@ -70,11 +62,12 @@ light_class p o f light heavy = true≢false (sym (or_left (is_heavy_class p o.c
 light_type : (p : Program) (o : Origin) (f : FieldId) → is_heavy_store p o f ≡ false → is_heavy_in p (Some f) ≡ true → ⊥
 light_type p o f light heavy = true≢false (sym (or_right (is_heavy_class p o.class) (is_heavy_in p (Some f)) heavy) ∙ light)
 
-not_held : (m : Mode) → m ≡ modes.Own → m ≡ modes.Held → ⊥
-not_held m own held = let never : modes.Own ≡ modes.Held = sym own ∙ held in cc
+-- the aliased argument of a constructor is lent to it
+abbrev pub ArgumentIsLent : (p : Program) → (fr : Frame) → Stands p fr → Type 0
+ArgumentIsLent p fr st = is_alias_constructor p st.number ≡ true → (kind : OriginKind) → is_origin_at kind (alias_position p st.number) ≡ true → is_lent p (method_at p fr.method) kind ≡ true
 
-module _ (p : Program) (ac : Accept p) (forms : HasPlainForms p) (h k : HeapContents) (links : HasLibraryLinks h) (roots : KeepsRoots h k) (carries : Carries h k)
-    (fr : Frame) (st : Stands p fr) (covered : IsCovered p h fr) (plain : alias_position p st.number ≡ None)
+module _ (p : Program) (ac : Accept p) (forms : HasPlainForms p) (h k : HeapContents) (links : HasEarlierLinks h) (roots : KeepsRoots h k) (carries : Carries h k)
+    (fr : Frame) (st : Stands p fr) (covered : IsCovered p h fr) (lent' : ArgumentIsLent p fr st)
     (i d : ℕ) (s : Step) (f : FieldId) (here : slice_get (frame_steps p fr) i ≡ Some s) (is : s.action ≡ actions.PutOwn f d) (w : ℕ) (this : fr.locals.this ≡ values.Object w)
     (holds_here : field_value p k w f ≡ temp_value fr.locals d)
     (holds_other : (u : ℕ) (g : FieldId) → ((u ≡ w) × (g ≡ f) → ⊥) → field_value p k u g ≡ field_value p h u g)
@@ -83,10 +76,10 @@ module _ (p : Program) (ac : Accept p) (forms : HasPlainForms p) (h k : HeapCont
   after = frame_after p h fr s v
 
   mine : HasPlace p fr f
-  mine = there p ac forms h fr st covered plain i d s f here is
+  mine = there p ac forms h fr st covered i d s f here is
 
   room : IsSmallAction p (actions.PutOwn f d)
-  room = small p ac forms h fr st covered plain i d s f here is
+  room = small p ac forms h fr st covered i d s f here is
 
   body_here : method_body p fr.method ≡ Some st.body
   body_here = ap (body_by p) st.id ∙ st.at
@@ -153,11 +146,18 @@ module _ (p : Program) (ac : Accept p) (forms : HasPlainForms p) (h k : HeapCont
       go (places.Field n) less' apart' now' = back (places.Field n) less' (at_other n less' apart') now'
       go places.Super less' apart' now' = back places.Super less' refl now'
 
+  -- a constructor without an aliased argument has none
+  not_alone : is_alias_constructor p st.number ≡ true → makes_alone (method_at p fr.method) ≡ true → ⊥
+  not_alone aliased alone =
+      let here' = (and_parts (is_constructor p st.number) (is_present (alias_position p st.number)) aliased).1 in
+      let none = (and_parts (constructs (method_at p fr.method)) (not (is_present (alias_in (method_at p fr.method)))) alone).1 in
+      true≢false (sym here' ∙ ap (λ (m : Option Method). is_present (alias_in m)) (method_here p fr st) ∙ not-true (is_present (alias_in (method_at p fr.method))) none)
+
   -- ---- a fact over the store
 
   module _ (z : Place) (o : ℕ) (x y : Object) (goes_on : x.finished ≡ true → GoesOn x y) (done : y.finished ≡ true → x.finished ≡ true) (c : Covers p h fr z o x) where
     abbrev later : PlaceSet
-    later = now p ac forms h fr st covered plain i d s f here is z o x c
+    later = now p ac forms h fr st covered i d s f here is z o x c
 
     has_later : (q : Place) → IsSmall q → has later q ≡ (if is_place (place_of_field p f) q then has c.fact.places (places.Temp d) else has c.fact.places q)
     has_later q less = has_copied c.fact.places (place_of_field p f) (places.Temp d) q room.1 less
@@ -178,7 +178,7 @@ module _ (p : Program) (ac : Accept p) (forms : HasPlainForms p) (h k : HeapCont
       | inr other ↦ keeps_root q o less other.0 (c.places q less other.1)
     ]
 
-    truth : (g : Fact) → g.called ≡ c.fact.called → g.full ≡ c.fact.full → claims p c.origin c.fact ≡ true → IsTrueOf p y c.origin g
+    truth : (g : Fact) → g.called ≡ c.fact.called → g.full ≡ c.fact.full → claims p (method_at p fr.method) c.origin c.fact ≡ true → IsTrueOf p y c.origin g
     truth g called full claimed =
         let was = c.true' claimed in
         let still = still_true p x y c.origin c.fact (goes_on was.finished) was in
@@ -190,12 +190,15 @@ module _ (p : Program) (ac : Accept p) (forms : HasPlainForms p) (h k : HeapCont
           called = ap (λ (t : Names). set.is_subset t y.called) called ∙ still.called;
         }
 
-    names : (g : Fact) → g.called ≡ c.fact.called → y.finished ≡ true → is_lent p (method_at p fr.method) c.origin.kind ≡ true → set.is_subset g.called y.called ≡ true
-    names g called finished' lent =
-        ap (λ (t : Names). set.is_subset t y.called) called ∙ within_trans c.fact.called x.called y.called (c.known (done finished') lent) (goes_on (done finished')).called
+    names : (g : Fact) → g.called ≡ c.fact.called → y.finished ≡ true → (x.finished ≡ true → set.is_subset c.fact.called x.called ≡ true) → set.is_subset g.called y.called ≡ true
+    names g called finished' known =
+        ap (λ (t : Names). set.is_subset t y.called) called ∙ within_trans c.fact.called x.called y.called (known (done finished')) (goes_on (done finished')).called
 
     same_number : (n : ℕ) → is_place (place_of_field p f) (places.Field n) ≡ true → is_heavy_field p fr.method (places.Field n) ≡ is_heavy_in p (Some f)
     same_number n e = ap (λ (j : ℕ). is_heavy_in p (owning_field_beside p fr.method j)) (sym (eqb-true (field_number p f) n e)) ∙ ap (is_heavy_in p) mine.beside
+
+    same_fit : (n : ℕ) → is_place (place_of_field p f) (places.Field n) ≡ true → fits_field p fr.method n c.origin.class ≡ fits_type p c.origin.class (field_type p f)
+    same_fit n e = ap (λ (j : ℕ). fits_in p c.origin.class (owning_field_beside p fr.method j)) (sym (eqb-true (field_number p f) n e)) ∙ ap (fits_in p c.origin.class) mine.beside
 
     module _ (g : Fact) (reach : Reach p st.number (relation_of p st.number) c.origin s.to g) (same : ArePlaces g.places later) where
       in_later : (n : ℕ) → has g.places (places.Field n) ≡ true → has later (places.Field n) ≡ true
@@ -204,7 +207,7 @@ module _ (p : Program) (ac : Accept p) (forms : HasPlainForms p) (h k : HeapCont
       abbrev Result : Place → Type 0
       Result q = has later q ≡ true → Covers p k after q o y
 
-      by_taken : g.called ≡ c.fact.called → g.full ≡ c.fact.full → IsTaken p c.origin f d c.fact g → (q : Place) → Result q
+      by_taken : g.called ≡ c.fact.called → g.full ≡ c.fact.full → IsTaken p st.number c.origin f d c.fact g → (q : Place) → Result q
       by_taken called full t q in' = record {
         body = st.number;
         id = st.id;
@@ -214,15 +217,23 @@ module _ (p : Program) (ac : Accept p) (forms : HasPlainForms p) (h k : HeapCont
         alone = λ n one. places_stay_in_range p st.number (actions.PutOwn f d) s.edge c.fact.places room c.alone n (sym (same n) ∙ one);
         here = same (number_of q) ∙ in';
         places = λ u less one. holds_later u less (sym (same (number_of u)) ∙ one);
-        true' = λ claimed. truth g called full (own_claims p c.origin c.fact t.own t.heavy);
-        lent = λ lent. absurd (true≢false (ap (λ (m : Mode). is_own m || is_held m) (sym t.own) ∙ (c.lent lent).0));
-        known = names g called;
+        true' = λ claimed. taken_truth t.may claimed;
+        lent = λ lent. (ap is_own t.mode, t.heavy);
+        known = λ finished' tells. names g called finished' (λ was. taken_known t.may was);
         fields = λ n less wide one. elim (was_in (places.Field n) less (in_later n one)) [
-          | inl field ↦ same_number n field.0 ∙ heavy_by_fit p c.origin.class f t.heavy t.fits
+          | inl field ↦ same_fit n field.0 ∙ t.fits
           | inr other ↦ c.fields n less t.heavy other.1
         ];
         held = λ n less one heavy. (t.mode, t.heavy);
       }
+        where
+          taken_truth : (c.fact.mode ≡ modes.Own) ⊎ ((is_alias_constructor p st.number ≡ true) × (c.fact.mode ≡ modes.Alias)) → claims p (method_at p fr.method) c.origin g ≡ true → IsTrueOf p y c.origin g
+          taken_truth (inl own) claimed = truth g called full (own_claims p (method_at p fr.method) c.origin c.fact own t.heavy)
+          taken_truth (inr alias) claimed = absurd (not_alone alias.0 (claims_alone p (method_at p fr.method) c.origin g t.mode claimed))
+
+          taken_known : (c.fact.mode ≡ modes.Own) ⊎ ((is_alias_constructor p st.number ≡ true) × (c.fact.mode ≡ modes.Alias)) → x.finished ≡ true → set.is_subset c.fact.called x.called ≡ true
+          taken_known (inl own) was = (c.true' (own_claims p (method_at p fr.method) c.origin c.fact own t.heavy)).called
+          taken_known (inr alias) was = c.known was (lent_tells p fr.method c.origin c.fact (lent' alias.0 c.origin.kind (t.alias alias.0)))
 
       by_left : g.called ≡ c.fact.called → g.full ≡ c.fact.full → IsLeft p c.origin f d c.fact g → (q : Place) → Result q
       by_left called full l q in' = record {
@@ -234,9 +245,9 @@ module _ (p : Program) (ac : Accept p) (forms : HasPlainForms p) (h k : HeapCont
         alone = λ n one. places_stay_in_range p st.number (actions.PutOwn f d) s.edge c.fact.places room c.alone n (sym (same n) ∙ one);
         here = same (number_of q) ∙ in';
         places = λ u less one. holds_later u less (sym (same (number_of u)) ∙ one);
-        true' = λ claimed. truth g called full (before (claims_owned p c.origin g claimed));
+        true' = λ claimed. truth g called full (claims_as p (method_at p fr.method) c.origin c.fact g (l.mode (claims_owned p (method_at p fr.method) c.origin g claimed).1) claimed);
         lent = λ lent. (stays_unowned c.fact.mode g.mode l.mode (c.lent lent).0, (c.lent lent).1);
-        known = names g called;
+        known = λ finished' tells. names g called finished' (λ was. c.known was (told (tells_by p fr.method c.origin g tells)));
         fields = λ n less wide one. elim (was_in (places.Field n) less (in_later n one)) [
           | inl field ↦ field_claimed n less wide field.0 field.1 (has c.fact.places (place_of_field p f)) refl
           | inr other ↦ c.fields n less wide other.1
@@ -247,12 +258,15 @@ module _ (p : Program) (ac : Accept p) (forms : HasPlainForms p) (h k : HeapCont
         ];
       }
         where
-          before : (is_heavy_class p c.origin.class ≡ true) × (is_owned_in g.mode ≡ true) → claims p c.origin c.fact ≡ true
-          before (heavy, owned) = and_from (is_heavy_class p c.origin.class) (is_owned_in c.fact.mode) heavy (ap is_owned_in (sym (l.mode owned)) ∙ owned)
+          told : (is_lent p (method_at p fr.method) c.origin.kind ≡ true) ⊎ ((is_heavy_class p c.origin.class ≡ true) × (is_held g.mode ≡ true)) → tells_calls p fr.method c.origin c.fact ≡ true
+          told (inl lent) = lent_tells p fr.method c.origin c.fact lent
+          told (inr held) =
+              let same : g.mode ≡ c.fact.mode = l.mode (or_right (is_own g.mode) (is_held g.mode) held.1) in
+              held_tells p fr.method c.origin c.fact (sym same ∙ held_mode g.mode held.1) held.0
 
           field_claimed : (n : ℕ) → n < 16 → is_heavy_class p c.origin.class ≡ true → is_place (place_of_field p f) (places.Field n) ≡ true → has c.fact.places (places.Temp d) ≡ true
-              → (b : Bool) → has c.fact.places (place_of_field p f) ≡ b → is_heavy_field p fr.method (places.Field n) ≡ true
-          field_claimed n less wide e temp true one = same_number n e ∙ (sym (ap (is_heavy_in p) mine.beside) ∙ c.fields (field_number p f) mine.small wide one)
+              → (b : Bool) → has c.fact.places (place_of_field p f) ≡ b → fits_field p fr.method n c.origin.class ≡ true
+          field_claimed n less wide e temp true one = same_fit n e ∙ (sym (ap (fits_in p c.origin.class) mine.beside) ∙ c.fields (field_number p f) mine.small wide one)
           field_claimed n less wide e temp false out = absurd (light_class p c.origin f (l.light temp out) wide)
 
           field_held : (n : ℕ) → n < 16 → has g.places (places.Field n) ≡ true → is_heavy_field p fr.method (places.Field n) ≡ true → is_place (place_of_field p f) (places.Field n) ≡ true
@@ -267,9 +281,9 @@ module _ (p : Program) (ac : Accept p) (forms : HasPlainForms p) (h k : HeapCont
       by_row (left reset called full l) q in' = by_left called full l q in'
 
     store_covers : (q : Place) → has later q ≡ true → Covers p k after q o y
-    store_covers q in' = by (goes p ac forms h fr st covered plain i d s f here is z o x c q in')
+    store_covers q in' = by (goes p ac forms h fr st covered i d s f here is z o x c q in')
       where
-        by : (g : Fact) × Reach p st.number (relation_of p st.number) c.origin s.to g × Goes p ac forms h fr st covered plain i d s f here is z o x c g → Covers p k after q o y
+        by : (g : Fact) × Reach p st.number (relation_of p st.number) c.origin s.to g × Goes p ac forms h fr st covered i d s f here is z o x c g → Covers p k after q o y
         by g = by_row g.0 g.1 g.2.0 g.2.1 q in'
 
   -- ---- the top frame
@@ -282,7 +296,7 @@ module _ (p : Program) (ac : Accept p) (forms : HasPlainForms p) (h k : HeapCont
       on z less' was joins = by (carries o y at (numbered h links (place_value p h fr.method fr.locals z) o was (inside z less')).1)
         where
           by : IsCarried h o y → Covers p k after q o y
-          by (x, before, class, goes_on, link) =
+          by (x, before, class, goes_on) =
               let c : Covers p h fr z o x = covered z o x less' was before (ap (is_heavy_class p) (sym class) ∙ heavy) (owed_before x y goes_on owes) in
               let done : y.finished ≡ true → x.finished ≡ true = ready z o x y less' was before at in
               store_covers z o x y goes_on done c q (has_later z o x y goes_on done c q less ∙ joins x c)

@@ -3,10 +3,10 @@
 use Rattle.std.proofs.Common.{◌≡◌, ◌⊎◌, inl, inr, ℕ, zero, suc, ◌+◌, ◌<◌, ◌≤◌, Bool, cond, true, false, ◌||◌, Option, Some, None, slice_get, nat_eq, eqb-true, refl, sym, ap, ◌∙◌, subst, true≢false, arith}
 use Rattle.std.specs.FinSet as set
 use Rattle.std.proofs.lemmas.Bool.Decides.{nat_tests}
-use Rattle.std.proofs.lemmas.Bool.{and_from, and_parts, or_left, or_right}
+use Rattle.std.proofs.lemmas.Bool.{and_parts, or_left, or_right}
 use Rattle.program_model.specs.declared.kinds.BodyId.{BodyId}
 use Rattle.program_model.specs.declared.program.Program.{Program}
-use Rattle.must_call_sets.specs.MustCallSets.{Names, is_heavy_class}
+use Rattle.value_type_laws.specs.MustCallSets.{Names, is_heavy_class}
 use Rattle.java_control.specs.Calls.{is_reset_of_this}
 use Rattle.java_control.specs.Control.{Step}
 use Rattle.java_control.specs.PlaceNumbers.{IsSmall, number_of}
@@ -17,33 +17,34 @@ use Rattle.java_control.specs.declared.fact.Fact.{Fact}
 use Rattle.java_control.specs.declared.fact.Origin.{Origin}
 use Rattle.java_control.specs.declared.place.Place.{Place}
 use Rattle.java_control.specs.declared.place.Place.TheVariants as places
-use Rattle.obligation_facts.specs.Facts.{PlaceSet, has, has_field, has_field_from, has_part, is_held, is_own}
-use Rattle.obligation_facts.specs.SmallActions.{IsSmallAction}
+use Rattle.target_laws.specs.Facts.{PlaceSet, has, has_field, has_field_from, has_part, is_held, is_own}
+use Rattle.target_laws.specs.SmallActions.{IsSmallAction}
 use Rattle.alias_sets.specs.Aliases.{gives_alias}
 use Rattle.alias_sets.specs.PlaceRows.{places_after}
 use Rattle.called_methods.specs.CalledRows.{called_after}
 use Rattle.flow_rules.specs.Flow.{flow}
 use Rattle.flow_rules.specs.Paths.{Reach, move_of, relation_of}
-use Rattle.accepted_programs.specs.Accept.{Accept}
+use Rattle.target_laws.specs.Accept.{Accept}
 use Rattle.ledger_state.specs.Contents.{HeapContents}
 use Rattle.ledger_state.specs.Heaps.{object_at, root_of}
 use Rattle.ledger_state.specs.declared.object.Object.{Object}
 use Rattle.ledger_state.specs.declared.value.Value.{Value}
-use Rattle.ledger_operations.specs.Places.{place_value}
-use Rattle.ledger_calls.specs.Configuration.{Frame}
-use Rattle.ledger_frames.specs.Choosing.{body_by, body_id, frame_steps, method_body}
-use Rattle.ledger_frames.specs.Frames.{frame_after, is_made, made_place}
-use Rattle.heap_laws.specs.Heaps.{GoesOn, HasLibraryLinks}
-use Rattle.place_laws.specs.Places.{HasTarget, IsWay, SetsLocals, has_source, is_local, takes_alias}
-use Rattle.place_laws.proofs.Laws.{alias_stands, places_come_from_sources, places_stay_in_range, source_is_small, value_comes_from_source}
-use Rattle.agreement.specs.Agreement.{Stands}
-use Rattle.owned_fact_laws.specs.Outcomes.{After}
+use Rattle.program_call_laws.specs.Places.{place_value}
+use Rattle.program_call_laws.specs.Configuration.{Frame}
+use Rattle.target_laws.specs.Choosing.{body_by, body_id, frame_steps, method_body}
+use Rattle.target_laws.specs.Frames.{frame_after, is_made, made_place}
+use Rattle.program_call_laws.specs.Heaps.{GoesOn, HasEarlierLinks}
+use Rattle.field_place_laws.specs.Places.{HasTarget, IsWay, SetsLocals, has_source, is_local, takes_alias}
+use Rattle.field_place_laws.proofs.Laws.{alias_stands, places_come_from_sources, places_stay_in_range, source_is_small, value_comes_from_source}
+use Rattle.tracking_laws.specs.Agreement.{Stands}
+use Rattle.tracking_laws.specs.Outcomes.{After}
 use Rattle.fact_step_laws.specs.Going.{GoesAs, is_in_this, is_owned_in}
-use Rattle.covered_field_laws.specs.PlaceFacts.{Covers, IsCovered, IsTrueOf, claims, may_owe, is_lent}
+use Rattle.kept_argument_laws.specs.PlaceFacts.{Covers, IsCovered, IsTrueOf, claims, may_owe, is_lent}
+use Rattle.kept_argument_laws.proofs.HeavyFields.{claims_as, claims_owned, held_mode, held_tells, lent_tells, tells_by}
 use Rattle.field_place_laws.proofs.OtherPlaces.{stays_aside}
 use Rattle.field_place_laws.proofs.ValuesAfter.{IsFrom, value_is_from}
-use Rattle.covered_field_laws.proofs.Following.{followed, same_body, step_there}
-use Rattle.covering_laws.proofs.Waiting.{Carries, HoldsThere, IsCarried, KeepsFields, KeepsReady, KeepsRoots, numbered, owed_before, same_place, still_true, value_root, stays_unowned}
+use Rattle.kept_argument_laws.proofs.Following.{followed, same_body, step_there}
+use Rattle.covering_laws.proofs.Waiting.{Carries, HoldsThere, IsCarried, KeepsFields, KeepsReady, KeepsRootsOf, numbered, owed_before, same_place, still_true, stays_unowned}
 use Rattle.rlc_base.proofs.SetLaws.{within_trans}
 use Rattle.program_model.specs.Lookups.{method_at}
 use Rattle.java_control.specs.declared.fact.Outcome.{Outcome}
@@ -78,10 +79,6 @@ after_both P Q (Next g) A is more = (is, more)
 after_both P Q Gone A is more = is
 after_both P Q (Fault rule names) A is more = tt
 
--- a fact claims only where it says that the object is owned
-pub claims_owned : (p : Program) (o : Origin) (f : Fact) → claims p o f ≡ true → (is_heavy_class p o.class ≡ true) × (is_owned_in f.mode ≡ true)
-claims_owned p o f claimed = and_parts (is_heavy_class p o.class) (is_own f.mode || is_held f.mode) claimed
-
 -- what the laws on places ask of a step that stores into no owning field
 pub record IsLocalStep (p : Program) (fr : Frame) (st : Stands p fr) (s : Step) : Type 0 where
   pub small : IsSmallAction p s.action
@@ -92,8 +89,8 @@ pub record IsLocalStep (p : Program) (fr : Frame) (st : Stands p fr) (s : Step) 
   pub no_reset : is_reset_of_this p s.action ≡ false
   pub way : IsWay s.action s.edge
 
-module _ (p : Program) (ac : Accept p) (h k : HeapContents) (links : HasLibraryLinks h) (roots : KeepsRoots h k) (carries : Carries h k) (fields : KeepsFields p h k)
-    (fr : Frame) (st : Stands p fr) (i : ℕ) (s : Step) (here : slice_get (frame_steps p fr) i ≡ Some s) (r : IsLocalStep p fr st s) (inside : HoldsThere p h fr) (v : Value) where
+module _ (p : Program) (ac : Accept p) (h k : HeapContents) (links : HasEarlierLinks h) (carries : Carries h k) (fields : KeepsFields p h k)
+    (fr : Frame) (st : Stands p fr) (i : ℕ) (s : Step) (here : slice_get (frame_steps p fr) i ≡ Some s) (r : IsLocalStep p fr st s) (inside : HoldsThere p h fr) (roots : KeepsRootsOf p h k fr) (v : Value) where
   abbrev after : Frame
   after = frame_after p h fr s v
 
@@ -113,10 +110,10 @@ module _ (p : Program) (ac : Accept p) (h k : HeapContents) (links : HasLibraryL
 
   -- a place has the root that it had
   root_later : (z : Place) (o : ℕ) → IsSmall z → root_of h (place_value p h fr.method fr.locals z) ≡ Some o → root_of k (place_value p h fr.method fr.locals z) ≡ Some o
-  root_later z o small was = value_root h k roots (place_value p h fr.method fr.locals z) (inside z small) ∙ was
+  root_later z o small was = roots z small ∙ was
 
   root_earlier : (z : Place) (o : ℕ) → IsSmall z → root_of k (place_value p h fr.method fr.locals z) ≡ Some o → root_of h (place_value p h fr.method fr.locals z) ≡ Some o
-  root_earlier z o small now = sym (value_root h k roots (place_value p h fr.method fr.locals z) (inside z small)) ∙ now
+  root_earlier z o small now = sym (roots z small) ∙ now
 
   -- the step gives the object where it is a call that gives an alias of the fact's object
   abbrev pub GivesIt : PlaceSet → ℕ → Type 0
@@ -179,23 +176,28 @@ module _ (p : Program) (ac : Accept p) (h k : HeapContents) (links : HasLibraryL
           alone = λ n inside. places_stay_in_range p st.number s.action s.edge c.fact.places r.small c.alone n (sym (on.places n) ∙ inside);
           here = on.places (number_of q) ∙ is;
           places = λ z' small' inside. still_holds c.fact.places o c.places alias z' small' (sym (on.places (number_of z')) ∙ inside);
-          true' = λ claimed. truth (claims_owned p c.origin g claimed);
+          true' = λ claimed. truth claimed (claims_owned p (method_at p fr.method) c.origin g claimed);
           lent = λ lent. (stays_unowned c.fact.mode g.mode on.mode (c.lent lent).0, (c.lent lent).1);
-          known = λ done lent. within_trans g.called (called_after p st.number s.action s.edge c.fact) y.called on.known
-              (known g more (inr lent) (ready done) (c.lent lent).1 (within_trans c.fact.called x.called y.called (c.known (ready done) lent) (goes (ready done)).called));
+          known = λ done tells. within_trans g.called (called_after p st.number s.action s.edge c.fact) y.called on.known (told (ready done) (tells_by p fr.method c.origin g tells));
           fields = λ n inside wide there. c.fields n inside wide (sym (aside n inside) ∙ sym (on.places (161 + n)) ∙ there);
           held = λ n inside there heavy.
               let was = c.held n inside (sym (aside n inside) ∙ sym (on.places (161 + n)) ∙ there) heavy in
               (on.held was.0 (in_this (later c.fact.places) n inside (sym (on.places (161 + n)) ∙ there)), was.1);
         }
           where
-            before : (is_heavy_class p c.origin.class ≡ true) × (is_owned_in g.mode ≡ true) → claims p c.origin c.fact ≡ true
-            before (heavy, owned) = and_from (is_heavy_class p c.origin.class) (is_owned_in c.fact.mode) heavy (ap is_owned_in (sym (on.mode owned)) ∙ owned)
+            -- what the fact knew goes on to be true
+            told : x.finished ≡ true → (is_lent p (method_at p fr.method) c.origin.kind ≡ true) ⊎ ((is_heavy_class p c.origin.class ≡ true) × (is_held g.mode ≡ true))
+                → set.is_subset (called_after p st.number s.action s.edge c.fact) y.called ≡ true
+            told done (inl lent) =
+                known g more (inr lent) done (c.lent lent).1 (within_trans c.fact.called x.called y.called (c.known done (lent_tells p fr.method c.origin c.fact lent)) (goes done).called)
+            told done (inr held) =
+                let owned : is_owned_in g.mode ≡ true = or_right (is_own g.mode) (is_held g.mode) held.1 in
+                let was : is_held c.fact.mode ≡ true = ap is_held (sym (on.mode owned)) ∙ held.1 in
+                known g more (inl owned) done held.0 (within_trans c.fact.called x.called y.called (c.known done (held_tells p fr.method c.origin c.fact (held_mode c.fact.mode was) held.0)) (goes done).called)
 
-            truth : (is_heavy_class p c.origin.class ≡ true) × (is_owned_in g.mode ≡ true) → IsTrueOf p y c.origin g
-            truth (heavy, owned) =
-                let claimed = before (heavy, owned) in
-                let was = c.true' claimed in
+            truth : claims p (method_at p fr.method) c.origin g ≡ true → (is_heavy_class p c.origin.class ≡ true) × (is_owned_in g.mode ≡ true) → IsTrueOf p y c.origin g
+            truth claimed (heavy, owned) =
+                let was = c.true' (claims_as p (method_at p fr.method) c.origin c.fact g (on.mode owned) claimed) in
                 let still = still_true p x y c.origin c.fact (goes was.finished) was in
                 record {
                   finished = still.finished;
@@ -225,7 +227,7 @@ module _ (p : Program) (ac : Accept p) (h k : HeapContents) (links : HasLibraryL
     held_before z q o y small small' root at heavy owes goes_to = by (carries o y at (numbered h links (place_value p h fr.method fr.locals z) o root (inside z small)).1)
       where
         by : IsCarried h o y → Covers p k after q o y
-        by (x, before, class, goes, link) =
+        by (x, before, class, goes) =
             let heavy' : is_heavy_class p x.class ≡ true = ap (is_heavy_class p) (sym class) ∙ heavy in
             let owes' = owed_before x y goes owes in
             let c : Covers p h fr z o x = covered z o x small root before heavy' owes' in

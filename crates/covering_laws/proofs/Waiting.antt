@@ -1,20 +1,20 @@
 -- A frame whose places stay as they are goes on to be covered, where the objects that they hold go on.
 use Rattle.std.proofs.Common.{◌≡◌, ℕ, ◌<◌, ◌≤◌, Bool, true, false, not, ◌&&◌, true≢false, Option, Some, None, List, [], ◌∷◌, refl, sym, ap, ◌∙◌, arith, ◌||◌}
-use Rattle.std.proofs.lemmas.Bool.{and_from, and_parts}
+use Rattle.std.proofs.lemmas.Bool.{and_from, and_parts, or_left}
 use Rattle.std.specs.FinSet as set
 use Rattle.rlc_base.proofs.SetLaws.{within_trans}
 use Rattle.program_model.specs.declared.kinds.ClassId.{ClassId}
 use Rattle.program_model.specs.declared.kinds.FieldId.{FieldId}
 use Rattle.program_model.specs.declared.kinds.MethodId.{MethodId}
 use Rattle.program_model.specs.declared.program.Program.{Program}
-use Rattle.must_call_sets.specs.MustCallSets.{Names, fits, is_empty, is_heavy_class, must_of}
+use Rattle.value_type_laws.specs.MustCallSets.{Names, fits, is_empty, is_heavy_class, must_of}
 use Rattle.java_control.specs.Owned.{is_owning}
 use Rattle.java_control.specs.PlaceNumbers.{IsSmall}
 use Rattle.java_control.specs.declared.fact.Fact.{Fact}
 use Rattle.java_control.specs.declared.fact.Origin.{Origin}
 use Rattle.java_control.specs.declared.place.Place.{Place}
 use Rattle.java_control.specs.declared.place.Place.TheVariants as places
-use Rattle.obligation_facts.specs.Facts.{need, is_held, is_own}
+use Rattle.target_laws.specs.Facts.{need, is_held, is_own}
 use Rattle.ledger_state.specs.Contents.{HeapContents}
 use Rattle.ledger_state.specs.Fields.{field_of, field_value}
 use Rattle.ledger_state.specs.Heaps.{next_number, object_at, root, root_of, unfinished}
@@ -22,22 +22,22 @@ use Rattle.ledger_state.specs.declared.locals.Locals.{Locals}
 use Rattle.ledger_state.specs.declared.object.Object.{Object}
 use Rattle.ledger_state.specs.declared.value.Value.{Value}
 use Rattle.ledger_state.specs.declared.value.Value.TheVariants as values
-use Rattle.ledger_operations.specs.Places.{class_by, class_of_method, field_place_value, owning_field_beside, place_value}
-use Rattle.ledger_calls.specs.Configuration.{Frame}
+use Rattle.program_call_laws.specs.Places.{class_by, class_of_method, field_place_value, owning_field_beside, place_value}
+use Rattle.program_call_laws.specs.Configuration.{Frame}
 use Rattle.program_model.specs.Lookups.{method_at}
 use Rattle.java_control.specs.Owned.{fields_in}
-use Rattle.heap_laws.specs.Heaps.{GoesOn, HasLibraryLinks, KeepsLinks}
-use Rattle.heap_laws.proofs.Laws.{numbers_are_in_range, roots_go_on-number, roots_of_links-absent, roots_of_links-itself, roots_of_links-there}
-use Rattle.covered_field_laws.specs.PlaceFacts.{AreCovered, Covers, IsCovered, IsTrueOf, may_owe}
-use Rattle.covered_field_laws.specs.Ranges.{IsInRange, IsNumber}
+use Rattle.program_call_laws.specs.Heaps.{GoesOn, HasEarlierLinks, KeepsLinks}
+use Rattle.program_call_laws.proofs.Laws.{numbers_are_in_range, roots_go_on-number, roots_of_links-absent, roots_of_links-itself, roots_of_links-there}
+use Rattle.kept_argument_laws.specs.PlaceFacts.{AreCovered, Covers, IsCovered, IsTrueOf, may_owe}
+use Rattle.kept_argument_laws.specs.Ranges.{IsInRange, IsNumber}
 use Rattle.covering_laws.specs.Making.{HoldNone}
 use Rattle.tracking_laws.proofs.Chains.{object_there}
 use Rattle.field_place_laws.proofs.FieldPlaces.{passes}
 use Rattle.java_control.specs.declared.fact.Mode.{Mode}
 
--- the object of this number was there: it is of its class, and linked as it was, and where it was finished it goes on
+-- the object of this number was there: it is of its class, and where it was finished it goes on
 abbrev pub IsCarried : HeapContents → ℕ → Object → Type 0
-IsCarried h o y = (x : Object) × (object_at h o ≡ Some x) × (y.class ≡ x.class) × (x.finished ≡ true → GoesOn x y) × (y.link ≡ x.link)
+IsCarried h o y = (x : Object) × (object_at h o ≡ Some x) × (y.class ≡ x.class) × (x.finished ≡ true → GoesOn x y)
 
 -- what may owe a call might before
 pub owed_before : (x y : Object) → (x.finished ≡ true → GoesOn x y) → may_owe y ≡ true → may_owe x ≡ true
@@ -83,7 +83,7 @@ value_root h k roots (values.Object n) in' = ap Some (roots n (in' n refl))
 value_root h k roots v in' = refl
 
 -- the root of a value is there
-pub root_there : (h : HeapContents) → HasLibraryLinks h → (v : Value) (o : ℕ) → IsInRange h v → root_of h v ≡ Some o → (x : Object) × (object_at h o ≡ Some x)
+pub root_there : (h : HeapContents) → HasEarlierLinks h → (v : Value) (o : ℕ) → IsInRange h v → root_of h v ≡ Some o → (x : Object) × (object_at h o ≡ Some x)
 root_there h links values.Nothing o in' is = absurd (let never : None ≡ Some o = is in cc)
 root_there h links (values.Object n) o in' is =
     let number = in' n refl in
@@ -93,7 +93,7 @@ root_there h links (values.Object n) o in' is =
     (y.0, ap (object_at h) (let both : Some o ≡ Some (root h n) = sym is in (let one : o ≡ root h n = cc in one)) ∙ y.1)
 root_there h links v o in' is = absurd (let never : None ≡ Some o = is in cc)
 
-pub numbered : (h : HeapContents) → HasLibraryLinks h → (v : Value) (o : ℕ) → root_of h v ≡ Some o → IsInRange h v → IsNumber h o
+pub numbered : (h : HeapContents) → HasEarlierLinks h → (v : Value) (o : ℕ) → root_of h v ≡ Some o → IsInRange h v → IsNumber h o
 numbered h links v o is in' = let x = root_there h links v o in' is in numbers_are_in_range h o x.0 x.1
 
 -- the next object has itself for its root, where it is not linked
@@ -105,14 +105,18 @@ new_root h k unlinked = go (object_at k (next_number h)) refl
     go (Some y) at = roots_of_links-itself k (next_number h) y at (unlinked y at)
 
 -- where all objects keep their links, no root changes
-pub linked_roots : (h k : HeapContents) → HasLibraryLinks h → KeepsLinks h k → KeepsRoots h k
+pub linked_roots : (h k : HeapContents) → HasEarlierLinks h → KeepsLinks h k → KeepsRoots h k
 linked_roots h k links keeps n number =
     let class : ClassId = record { 0 = 0 } in
     let x = object_there h n (unfinished class) number.0 number.1 in
     roots_go_on-number h k n x.0 links keeps x.1
 
-pub carried_roots : (h k : HeapContents) → HasLibraryLinks h → next_number h ≤ next_number k → Carries h k → KeepsRoots h k
-carried_roots h k links count carries = linked_roots h k links keeps
+-- the objects that were there are linked as they were
+abbrev pub AreLinked : HeapContents → HeapContents → Type 0
+AreLinked h k = (n : ℕ) (y : Object) → object_at k n ≡ Some y → n < next_number h → (x : Object) × (object_at h n ≡ Some x) × (y.link ≡ x.link)
+
+pub carried_roots : (h k : HeapContents) → HasEarlierLinks h → next_number h ≤ next_number k → AreLinked h k → KeepsRoots h k
+carried_roots h k links count linked = linked_roots h k links keeps
   where
     keeps : KeepsLinks h k
     keeps m x at =
@@ -120,8 +124,17 @@ carried_roots h k links count carries = linked_roots h k links keeps
         let some = range.0 in
         let below = range.1 in
         let y = object_there k m x some (omega (arith, below, count)) in
-        let c = carries m y.0 y.1 below in
-        (y.0, y.1, c.4 ∙ ap (λ (z : Object). z.link) (let both : Some c.0 ≡ Some x = sym c.1 ∙ at in (let one : c.0 ≡ x = cc in one)))
+        let c = linked m y.0 y.1 below in
+        (y.0, y.1, c.2 ∙ ap (λ (z : Object). z.link) (let both : Some c.0 ≡ Some x = sym c.1 ∙ at in (let one : c.0 ≡ x = cc in one)))
+
+-- all that had another root than object `w` has the root that it had
+abbrev pub KeepsOtherRoots : HeapContents → HeapContents → ℕ → Type 0
+KeepsOtherRoots h k w = (n : ℕ) → IsNumber h n → (root h n ≡ w → ⊥) → root k n ≡ root h n
+
+pub other_value_root : (h k : HeapContents) (w : ℕ) → KeepsOtherRoots h k w → (v : Value) → IsInRange h v → (root_of h v ≡ Some w → ⊥) → root_of k v ≡ root_of h v
+other_value_root h k w roots values.Nothing in' other = refl
+other_value_root h k w roots (values.Object n) in' other = ap Some (roots n (in' n refl) (λ is. other (ap Some is)))
+other_value_root h k w roots v in' other = refl
 
 -- ---- fields
 
@@ -191,7 +204,7 @@ module _ (p : Program) (h k : HeapContents) (fr : Frame) (roots : KeepsRootsOf p
   stays_covered covered q o y small root at heavy owes = by (was q o y small (root_before q o small root) at)
     where
       by : IsCarried h o y → Covers p k fr q o y
-      by (x, before, class, goes, link) =
+      by (x, before, class, goes) =
           let c : Covers p h fr q o x = covered q o x small (root_before q o small root) before (ap (is_heavy_class p) (sym class) ∙ heavy) (owed_before x y goes owes) in
           record {
             body = c.body;
@@ -226,15 +239,40 @@ abbrev pub AllThere : Program → HeapContents → List Frame → Type 0
 AllThere p h [] = Unit {0}
 AllThere p h (fr ∷ frs) = HoldsThere p h fr × AllThere p h frs
 
-module _ (p : Program) (h k : HeapContents) (links : HasLibraryLinks h) (roots : KeepsRoots h k) (carries : Carries h k) where
-  pub waits : (fr : Frame) → KeepsPlaces p h k fr → HoldsThere p h fr → KeepsReady p h k fr → IsCovered p h fr → IsCovered p k fr
-  waits fr same inside ready covered = stays_covered p h k fr (λ q small. value_root h k roots (place_value p h fr.method fr.locals q) (inside q small)) same
+-- the places of all frames have the roots that they had
+abbrev pub AllKeepRoots : Program → HeapContents → HeapContents → List Frame → Type 0
+AllKeepRoots p h k [] = Unit {0}
+AllKeepRoots p h k (fr ∷ frs) = KeepsRootsOf p h k fr × AllKeepRoots p h k frs
+
+pub keeps_roots : (p : Program) (h k : HeapContents) → KeepsRoots h k → (fr : Frame) → HoldsThere p h fr → KeepsRootsOf p h k fr
+keeps_roots p h k roots fr inside q small = value_root h k roots (place_value p h fr.method fr.locals q) (inside q small)
+
+pub all_keep_roots : (p : Program) (h k : HeapContents) → KeepsRoots h k → (frs : List Frame) → AllThere p h frs → AllKeepRoots p h k frs
+all_keep_roots p h k roots [] inside = tt
+all_keep_roots p h k roots (fr ∷ frs) inside = (keeps_roots p h k roots fr inside.0, all_keep_roots p h k roots frs inside.1)
+
+-- so have those of frames that do not hold object `w`
+pub all_keep_other_roots : (p : Program) (h k : HeapContents) (w : ℕ) → KeepsOtherRoots h k w → (frs : List Frame) → AllThere p h frs → HoldNone p h w frs → AllKeepRoots p h k frs
+all_keep_other_roots p h k w roots [] inside none = tt
+all_keep_other_roots p h k w roots (fr ∷ frs) inside none = (
+  (λ q small. other_value_root h k w roots (place_value p h fr.method fr.locals q) (inside.0 q small) (none.0 q small)),
+  all_keep_other_roots p h k w roots frs inside.1 none.1,
+)
+
+module _ (p : Program) (h k : HeapContents) (links : HasEarlierLinks h) (carries : Carries h k) where
+  waits_on : (fr : Frame) → KeepsRootsOf p h k fr → KeepsPlaces p h k fr → HoldsThere p h fr → KeepsReady p h k fr → IsCovered p h fr → IsCovered p k fr
+  waits_on fr roots same inside ready covered = stays_covered p h k fr roots same
       (λ q o y small root at. carries o y at (numbered h links (place_value p h fr.method fr.locals q) o root (inside q small)).1) ready covered
 
-  -- so do all frames that wait
+  -- frames that wait stay covered
+  pub all_wait_on : (frs : List Frame) → AllKeepRoots p h k frs → AllKeep p h k frs → AllThere p h frs → AllReady p h k frs → AreCovered p h frs → AreCovered p k frs
+  all_wait_on [] roots same inside ready covered = tt
+  all_wait_on (fr ∷ frs) roots same inside ready covered = (waits_on fr roots.0 same.0 inside.0 ready.0 covered.0, all_wait_on frs roots.1 same.1 inside.1 ready.1 covered.1)
+
+module _ (p : Program) (h k : HeapContents) (links : HasEarlierLinks h) (roots : KeepsRoots h k) (carries : Carries h k) where
+  -- where all roots stay
   pub all_wait : (frs : List Frame) → AllKeep p h k frs → AllThere p h frs → AllReady p h k frs → AreCovered p h frs → AreCovered p k frs
-  all_wait [] same inside ready covered = tt
-  all_wait (fr ∷ frs) same inside ready covered = (waits fr same.0 inside.0 ready.0 covered.0, all_wait frs same.1 inside.1 ready.1 covered.1)
+  all_wait frs same inside = all_wait_on p h k links carries frs (all_keep_roots p h k roots frs inside) same inside
 
 -- all frames keep their places where owning fields hold what they held
 pub all_keep : (p : Program) (h k : HeapContents) → KeepsFields p h k → (frs : List Frame) → AllKeep p h k frs
@@ -243,12 +281,12 @@ all_keep p h k fields (fr ∷ frs) = ((λ q small. same_place p h k fields fr.me
 
 -- ---- lent facts
 
--- a fact that goes on in its mode, where it says that the object is owned, is not owned where it was not
-pub stays_unowned : (f g : Mode) → ((is_own g || is_held g) ≡ true → g ≡ f) → (is_own f || is_held f) ≡ false → (is_own g || is_held g) ≡ false
-stays_unowned f g same none = go (is_own g || is_held g) refl
+-- a fact that goes on in its mode, where it says that the object is owned, is not the frame's own where it was not
+pub stays_unowned : (f g : Mode) → ((is_own g || is_held g) ≡ true → g ≡ f) → is_own f ≡ false → is_own g ≡ false
+stays_unowned f g same none = go (is_own g) refl
   where
-    go : (b : Bool) → (is_own g || is_held g) ≡ b → (is_own g || is_held g) ≡ false
-    go true is = absurd (true≢false (sym is ∙ ap (λ (m : Mode). is_own m || is_held m) (same is) ∙ none))
+    go : (b : Bool) → is_own g ≡ b → is_own g ≡ false
+    go true is = absurd (true≢false (sym is ∙ ap is_own (same (or_left (is_own g) (is_held g) is)) ∙ none))
     go false is = is
 
 -- ---- objects that no place of a frame holds
@@ -261,12 +299,12 @@ abbrev pub AllHeldBefore : Program → HeapContents → HeapContents → List Fr
 AllHeldBefore p h k [] = Unit {0}
 AllHeldBefore p h k (fr ∷ frs) = HeldBefore p h k fr × AllHeldBefore p h k frs
 
+pub all_held_before_on : (p : Program) (h k : HeapContents) → (frs : List Frame) → AllKeepRoots p h k frs → AllKeep p h k frs → AllHeldBefore p h k frs
+all_held_before_on p h k [] roots same = tt
+all_held_before_on p h k (fr ∷ frs) roots same = ((λ q w small is. sym (roots.0 q small) ∙ ap (root_of k) (sym (same.0 q small)) ∙ is), all_held_before_on p h k frs roots.1 same.1)
+
 pub all_held_before : (p : Program) (h k : HeapContents) → KeepsRoots h k → (frs : List Frame) → AllKeep p h k frs → AllThere p h frs → AllHeldBefore p h k frs
-all_held_before p h k roots [] same inside = tt
-all_held_before p h k roots (fr ∷ frs) same inside = (
-  (λ q w small is. sym (value_root h k roots (place_value p h fr.method fr.locals q) (inside.0 q small)) ∙ ap (root_of k) (sym (same.0 q small)) ∙ is),
-  all_held_before p h k roots frs same.1 inside.1,
-)
+all_held_before p h k roots frs same inside = all_held_before_on p h k frs (all_keep_roots p h k roots frs inside) same
 
 pub held_before_further : (p : Program) (h k j : HeapContents) (frs : List Frame) → AllHeldBefore p h k frs → AllHeldBefore p k j frs → AllHeldBefore p h j frs
 held_before_further p h k j [] first then' = tt
@@ -277,7 +315,7 @@ none_held_on p h k w [] before none = tt
 none_held_on p h k w (fr ∷ frs) before none = ((λ q small is. none.0 q small (before.0 q w small is)), none_held_on p h k w frs before.1 none.1)
 
 -- what is there is not the next object
-pub next_not_held : (p : Program) (h : HeapContents) → HasLibraryLinks h → (frs : List Frame) → AllThere p h frs → HoldNone p h (next_number h) frs
+pub next_not_held : (p : Program) (h : HeapContents) → HasEarlierLinks h → (frs : List Frame) → AllThere p h frs → HoldNone p h (next_number h) frs
 next_not_held p h links [] inside = tt
 next_not_held p h links (fr ∷ frs) inside = (
   (λ q small is. (let range = numbered h links (place_value p h fr.method fr.locals q) (next_number h) is (inside.0 q small) in let below = range.1 in omega (arith, below))),

@@ -1,7 +1,9 @@
 pub mod Throws
 pub mod Making
 pub mod Running
-pub use Rattle.covered_field_laws.specs.Covering
+pub use Rattle.kept_argument_laws.specs.Covering
 pub use Rattle.tracking_laws.specs.Steps
 pub use Rattle.value_type_laws.specs.Types
 pub use Rattle.argument_laws.specs.Arguments
+pub use Rattle.program_call_laws.specs.ProgramCalls
+pub use Rattle.program_conditions.specs.Conditions

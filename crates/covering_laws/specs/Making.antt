@@ -7,10 +7,10 @@ use Rattle.java_control.specs.declared.place.Place.{Place}
 use Rattle.ledger_state.specs.Contents.{HeapContents}
 use Rattle.ledger_state.specs.Heaps.{root_of}
 use Rattle.ledger_state.specs.declared.value.Value.TheVariants as values
-use Rattle.ledger_operations.specs.Places.{place_value}
-use Rattle.ledger_calls.specs.Configuration.{Frame}
-use Rattle.ledger_frames.specs.Choosing.{frame_steps}
-use Rattle.covered_field_laws.specs.FieldContents.{IsBeingMade, is_new}
+use Rattle.program_call_laws.specs.Places.{place_value}
+use Rattle.program_call_laws.specs.Configuration.{Frame}
+use Rattle.target_laws.specs.Choosing.{frame_steps}
+use Rattle.kept_argument_laws.specs.FieldContents.{IsBeingMade, is_new}
 
 -- no place of these frames holds object `w`
 abbrev pub HoldNone : Program → HeapContents → ℕ → List Frame → Type 0

@@ -1,5 +1,5 @@
 -- What runs at a call of a method of the program, beside the method that the call names.
-use Rattle.std.specs.Prelude.{◌≡◌, ◌⊎◌, ℕ, Bool, true, false, Some, None, List, [], slice_get}
+use Rattle.std.specs.Prelude.{◌≡◌, ℕ, Bool, true, false, Some, None, List, slice_get}
 use Rattle.program_model.specs.declared.kinds.BodyId.{BodyId}
 use Rattle.program_model.specs.declared.kinds.MethodId.{MethodId}
 use Rattle.program_model.specs.declared.kinds.MethodKind.TheVariants as methods
@@ -7,14 +7,14 @@ use Rattle.program_model.specs.declared.program.Method.{Method}
 use Rattle.program_model.specs.declared.program.Program.{Program}
 use Rattle.program_model.specs.Lookups.{method_at}
 use Rattle.program_model.specs.Overrides.{is_library}
-use Rattle.must_call_sets.specs.MustCallSets.{is_empty, must_of_optional}
+use Rattle.value_type_laws.specs.MustCallSets.{is_empty, must_of_optional}
 use Rattle.java_control.specs.Calls.{called_method}
 use Rattle.java_control.specs.Remaining.{Todo}
 use Rattle.java_control.specs.declared.action.Action.{Action}
 use Rattle.java_control.specs.declared.action.Action.TheVariants as actions
 use Rattle.java_control.specs.declared.action.TargetForm.TheVariants as forms
 use Rattle.flow_rules.specs.Paths.{Comes, Move, relation_of}
-use Rattle.agreement.specs.PlainForms.{MayRun}
+use Rattle.tracking_laws.specs.PlainForms.{MayRun}
 
 -- a call that has a target
 abbrev pub is_on_object : Action → Bool

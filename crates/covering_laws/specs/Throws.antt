@@ -13,8 +13,8 @@ use Rattle.ledger_state.specs.declared.object.Object.{Object}
 use Rattle.flow_rules.specs.Paths.{Comes, Move, relation_of}
 use Rattle.rlc_base.specs.declared.place.Pos.{Pos}
 use Rattle.java_control.specs.Control.{Step}
-use Rattle.ledger_calls.specs.Configuration.{Frame}
-use Rattle.ledger_frames.specs.Choosing.{frame_steps}
+use Rattle.program_call_laws.specs.Configuration.{Frame}
+use Rattle.target_laws.specs.Choosing.{frame_steps}
 use Rattle.ledger_steps.specs.Ends.{exception_class, thrown_in}
 use Rattle.java_control.specs.declared.action.Completion.TheVariants as completions
 

@@ -1,5 +1,6 @@
 -- Where numbers can stand while a body runs: an expression whose type is that of exceptions gives no number, and neither a variable,
 -- a field nor a result of such a type takes one (JLS 5.2, 11.1.1, 14.17, 14.18, 15.12.2, 15.26).
+pub use Rattle.operand_type_laws.specs.Operands.{below_and_at, dropped, field_type, moved, params_of, result_of, thrown_after, type_of_field}
 use Rattle.std.specs.Prelude.{◌≡◌, ℕ, ◌+◌, true, false, Option, Some, None, List, [], ◌∷◌}
 use Rattle.program_model.specs.declared.kinds.ExprId.{ExprId}
 use Rattle.program_model.specs.declared.kinds.FieldId.{FieldId}
@@ -24,7 +25,7 @@ use Rattle.java_control.specs.declared.place.Place.{Place}
 use Rattle.java_control.specs.declared.place.Place.TheVariants as places
 use Rattle.java_control.specs.Owned.{declares_field, is_owning, place_of_field}
 use Rattle.java_control.specs.Remaining.{Todo, Todos, nil, cons, Do, Ev, Act, Cond, NullFork, BoolFork, LoopEnd, For, Leave, Catch, Fin, Close, Finish, Supp, Out, Ended}
-use Rattle.operand_type_laws.specs.Operands.{ClosesPlainly, below, below_and_at, dropped, field_type, first_argument, leaves_names, moved, params_of, passes, put_at, rests, result_of, thrown_after, throws_past}
+use Rattle.operand_type_laws.specs.Operands.{ClosesPlainly, below, first_argument, leaves_names, passes, put_at, rests, throws_past}
 
 -- ---- types
 

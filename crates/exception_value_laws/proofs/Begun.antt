@@ -18,9 +18,9 @@ use Rattle.program_model.specs.Overrides.{are_types, is_type}
 use Rattle.program_model.specs.Validity.{HasParameters, IsBodyOf, OwnsBody}
 use Rattle.java_control.specs.Control.{Step, next_of}
 use Rattle.java_control.specs.Sources.{is_throws}
-use Rattle.obligation_facts.specs.SmallActions.{IsSmallAction}
-use Rattle.accepted_programs.specs.Accept.{Accept}
-use Rattle.flow_rules.specs.Paths.{move_of, on, relation_of, start}
+use Rattle.owned_fact_laws.specs.SmallActions.{IsSmallAction}
+use Rattle.value_type_laws.specs.Accept.{Accept}
+use Rattle.owned_fact_laws.specs.Paths.{move_of, on, relation_of, start}
 use Rattle.ledger_state.specs.Contents.{HeapContents}
 use Rattle.ledger_state.specs.Locals.{temp_value}
 use Rattle.ledger_state.specs.Values.{value_or_nothing}
@@ -30,7 +30,7 @@ use Rattle.ledger_calls.specs.Calls.{begun, body_of, control_in, variable_count}
 use Rattle.ledger_calls.specs.Configuration.{Frame}
 use Rattle.ledger_frames.specs.Choosing.{body_by, frame_steps, method_body, steps_by}
 use Rattle.ledger_frames.specs.Frames.{frame_after}
-use Rattle.ledger_moves.specs.Moves.{has_body}
+use Rattle.next_step_laws.specs.Moves.{has_body}
 use Rattle.exception_operand_laws.specs.Operands.{FindsExceptions, Fits, TextsAreNoExceptions, IsException, OfException, left_held}
 use Rattle.exception_operand_laws.proofs.Items.{finds_more}
 use Rattle.exception_operand_laws.proofs.Ways.{start_finds, step_finds}

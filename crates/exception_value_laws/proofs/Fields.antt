@@ -28,10 +28,10 @@ use Rattle.ledger_state.specs.Fields.{default_in, field_of, field_value}
 use Rattle.ledger_state.specs.Heaps.{change_some, is_field_of, put_at, put_field, root_of, stored, value_stored}
 use Rattle.ledger_state.specs.Locals.{temp_value}
 use Rattle.ledger_state.specs.Values.{number_of}
-use Rattle.ledger_obligations.specs.Obligations.{displaced, displaces, given_up, holder_roots, moved_in, moved_where, moves_in, released_where, reset_roots, stored_owning, with_owner}
+use Rattle.owned_fact_laws.specs.Obligations.{displaced, displaces, given_up, holder_roots, moved_in, moved_where, moves_in, released_where, reset_roots, stored_owning, with_owner}
 use Rattle.ledger_steps.specs.declared.store.Store.{Store}
 use Rattle.ledger_steps.specs.InnerSteps.{heap_stored, inner, is_bound, store_into, store_of, store_unless, stored_by, thrown_heap}
-use Rattle.operand_type_laws.specs.Operands.{field_type, type_of_field}
+use Rattle.exception_operand_laws.specs.Operands.{field_type, type_of_field}
 use Rattle.exception_operand_laws.specs.Operands.{Fits, OfException}
 use Rattle.exception_value_laws.specs.Values.{IsNoNumber, temp_holds_no_number}
 use Rattle.exception_value_laws.specs.Exceptions.{IsStoredNoNumber, StoredHoldNoNumber}

@@ -13,7 +13,7 @@ use Rattle.program_model.specs.declared.program.Sig.{Sig}
 use Rattle.program_model.specs.Lookups.{method_at}
 use Rattle.java_control.specs.declared.action.Action.{Action}
 use Rattle.java_control.specs.declared.action.Action.TheVariants as actions
-use Rattle.must_call_sets.specs.Bodies.{constructs, is_constructor_kind}
+use Rattle.owned_fact_laws.specs.Bodies.{constructs, is_constructor_kind}
 use Rattle.stub_conduct.specs.declared.choice.Choice.{Choice}
 use Rattle.stub_conduct.specs.declared.choice.Conduct.{Conduct}
 use Rattle.stub_conduct.specs.declared.choice.Conduct.TheVariants as conducts
@@ -26,7 +26,7 @@ use Rattle.ledger_state.specs.Classes.{is_instance}
 use Rattle.ledger_state.specs.Contents.{HeapContents}
 use Rattle.ledger_calls.specs.Calls.{alias_position, position_of}
 use Rattle.ledger_calls.specs.Conducts.{argument_of, conduct_value, fits_type, made_by_new, on_this, plainly, positions, result_in, settled, settled_by, value_at}
-use Rattle.operand_type_laws.specs.Operands.{result_of}
+use Rattle.exception_operand_laws.specs.Operands.{result_of}
 use Rattle.exception_operand_laws.specs.Operands.{IsException, OfException}
 use Rattle.exception_value_laws.specs.Values.{IsNoNumber}
 

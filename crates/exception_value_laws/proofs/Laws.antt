@@ -19,8 +19,8 @@ use Rattle.java_control.specs.declared.action.Action.TheVariants as actions
 use Rattle.java_control.specs.declared.action.Completion.{Completion}
 use Rattle.java_control.specs.declared.action.Edge.{Edge}
 use Rattle.java_control.specs.declared.action.Edge.TheVariants as edges
-use Rattle.accepted_programs.specs.Accept.{Accept}
-use Rattle.flow_rules.specs.Paths.{move_of}
+use Rattle.value_type_laws.specs.Accept.{Accept}
+use Rattle.owned_fact_laws.specs.Paths.{move_of}
 use Rattle.stub_conduct.specs.declared.choice.Choices.{Choices}
 use Rattle.stub_conduct.specs.declared.choice.Conduct.{Conduct}
 use Rattle.ledger_state.specs.Contents.{HeapContents}
@@ -30,7 +30,7 @@ use Rattle.ledger_state.specs.Values.{value_or_nothing}
 use Rattle.ledger_state.specs.declared.array.ArrayObject.{ArrayObject}
 use Rattle.ledger_state.specs.declared.value.Value.{Value}
 use Rattle.ledger_state.specs.declared.value.Value.TheVariants as values
-use Rattle.ledger_operations.specs.Operations.{made_value, next_choice}
+use Rattle.value_type_laws.specs.Operations.{made_value, next_choice}
 use Rattle.ledger_calls.specs.Calls.{argument_values, begun, body_of, operand_of, params_in}
 use Rattle.ledger_calls.specs.Conducts.{arguments_shared, conduct_value, positions}
 use Rattle.ledger_calls.specs.Configuration.{Config, Frame, held_by}
@@ -39,23 +39,23 @@ use Rattle.ledger_frames.specs.Frames.{frame_after}
 use Rattle.ledger_steps.specs.CallSteps.{self_begun}
 use Rattle.ledger_steps.specs.Ends.{answered, answered_normally, exception_class, result_value, thrown_in}
 use Rattle.ledger_steps.specs.InnerSteps.{thrown_value}
-use Rattle.ledger_moves.specs.Moves.{Move, Inner, Start, Library, End, Stray, Rest, has_body, next_move, standing}
-use Rattle.ledger_moves.specs.Moves.{Return, Back, StrayBack, NoWay, return_move}
-use Rattle.ledger_runs.specs.Outcomes.{went, ended, stray}
-use Rattle.ledger_runs.specs.Starts.{start_config}
-use Rattle.ledger_runs.specs.Steps.{began, end, library_went, main_ended, moved, moved_by, returned, returned_by, step, top_move, within}
-use Rattle.agreement.specs.Agreement.{Agree, AllStand, IsCalledFrom, IsStacked, Stands, WaitsFor}
-use Rattle.agreement.specs.PlainForms.{HasPlainForms, IsPlainAction}
+use Rattle.next_step_laws.specs.Moves.{Move, Inner, Start, Library, End, Stray, Rest, has_body, next_move, standing}
+use Rattle.next_step_laws.specs.Moves.{Return, Back, StrayBack, NoWay, return_move}
+use Rattle.value_type_laws.specs.Outcomes.{went, ended, stray}
+use Rattle.value_type_laws.specs.Starts.{start_config}
+use Rattle.value_type_laws.specs.Steps.{began, end, library_went, main_ended, moved, moved_by, returned, returned_by, step, top_move, within}
+use Rattle.value_type_laws.specs.Agreement.{Agree, AllStand, IsCalledFrom, IsStacked, Stands, WaitsFor}
+use Rattle.value_type_laws.specs.PlainForms.{HasPlainForms, IsPlainAction}
 use Rattle.owned_fact_laws.specs.Outcomes.{IsCallRow}
-use Rattle.target_laws.specs.Frames.{HaveTargets, KeepsTargets}
+use Rattle.next_step_laws.specs.Frames.{HaveTargets, KeepsTargets}
 use Rattle.target_step_laws.specs.Targets.{this_operand}
-use Rattle.target_laws.proofs.Laws.{target_is_this}
+use Rattle.next_step_laws.proofs.Laws.{target_is_this}
 use Rattle.named_step_laws.specs.Naming.{IsOfItsKind}
 use Rattle.named_step_laws.proofs.Reached.{names_what_is_there}
 use Rattle.next_step_laws.specs.Nexts.{IsBack, IsBackStep, IsInnerStep, IsNext, IsStartMove}
 use Rattle.next_step_laws.proofs.Cases.{next_is}
 use Rattle.next_step_laws.proofs.Returns.{back_is}
-use Rattle.operand_type_laws.specs.Operands.{params_of, result_of}
+use Rattle.exception_operand_laws.specs.Operands.{params_of, result_of}
 use Rattle.exception_operand_laws.specs.Operands.{Fits, OfException, Returns}
 use Rattle.value_type_laws.proofs.Fields.{library_fields, returned_fields, started_fields}
 use Rattle.value_type_laws.proofs.Moved.{IsLibraryNext}

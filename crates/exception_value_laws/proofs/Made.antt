@@ -32,12 +32,12 @@ use Rattle.ledger_state.specs.declared.locals.Locals.{Locals}
 use Rattle.ledger_state.specs.declared.object.StoredStatic.{StoredStatic}
 use Rattle.ledger_state.specs.declared.value.Value.{Value}
 use Rattle.ledger_state.specs.declared.value.Value.TheVariants as values
-use Rattle.ledger_operations.specs.Operations.{is_cast_refused, made_value, plain_value, thrown_where}
+use Rattle.value_type_laws.specs.Operations.{is_cast_refused, made_value, plain_value, thrown_where}
 use Rattle.ledger_calls.specs.Calls.{form_of, operand_of}
 use Rattle.ledger_frames.specs.Choosing.{agrees_with, is_taken, operation_edge, same_edge}
 use Rattle.ledger_steps.specs.CallSteps.{self_begun}
 use Rattle.ledger_steps.specs.InnerSteps.{thrown_value}
-use Rattle.ledger_moves.specs.Moves.{fits_target, is_target_of}
+use Rattle.next_step_laws.specs.Moves.{fits_target, is_target_of}
 use Rattle.named_step_laws.specs.Naming.{IsOfItsKind}
 use Rattle.next_step_laws.specs.Nexts.{IsInnerStep}
 use Rattle.owned_fact_laws.specs.Outcomes.{IsCallRow}

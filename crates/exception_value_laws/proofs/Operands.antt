@@ -25,14 +25,14 @@ use Rattle.java_control.specs.declared.action.Scope.TheVariants as scopes
 use Rattle.java_control.specs.declared.action.TargetForm.TheVariants as forms
 use Rattle.java_control.specs.declared.place.Place.{Place}
 use Rattle.java_control.specs.declared.place.Place.TheVariants as places
-use Rattle.obligation_facts.specs.SmallActions.{IsSmallAction}
+use Rattle.owned_fact_laws.specs.SmallActions.{IsSmallAction}
 use Rattle.ledger_state.specs.declared.locals.Locals.{Locals}
 use Rattle.ledger_state.specs.Locals.{temp_in}
 use Rattle.ledger_state.specs.Values.{default_of}
 use Rattle.ledger_calls.specs.Calls.{operand_of}
 use Rattle.ledger_calls.specs.Conducts.{result_in}
 use Rattle.ledger_steps.specs.Ends.{default_result, result_value}
-use Rattle.operand_type_laws.specs.Operands.{below_and_at, dropped, moved, params_of, result_of, thrown_after}
+use Rattle.exception_operand_laws.specs.Operands.{below_and_at, dropped, moved, params_of, result_of, thrown_after}
 use Rattle.exception_operand_laws.specs.Operands.{CopyFits, Fits, GivesNoNumber, IsException, OfException, Returns, TakesAll, after, copied, left_held, made_at}
 use Rattle.exception_value_laws.specs.Values.{IsNoNumber, temp_holds_no_number}
 use Rattle.exception_value_laws.specs.Origins.{ComesFromNoNumber, MakesNoNumber, TakesNoNumber}

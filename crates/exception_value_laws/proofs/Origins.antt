@@ -18,7 +18,7 @@ use Rattle.java_control.specs.declared.place.Place.{Place}
 use Rattle.java_control.specs.declared.place.Place.TheVariants as places
 use Rattle.java_control.specs.Calls.{completion_temp, is_reset_of_this}
 use Rattle.java_control.specs.Sources.{emptied, is_null_pointer, is_temp_among, is_throws, next_depth, source, source_or_itself, temp_of}
-use Rattle.operand_type_laws.specs.Operands.{below_and_at, dropped, moved, thrown_after}
+use Rattle.exception_operand_laws.specs.Operands.{below_and_at, dropped, moved, thrown_after}
 use Rattle.exception_operand_laws.specs.Operands.{GivesNoNumber, GivesNoNumberAt, after, copied, left_held}
 use Rattle.exception_value_laws.specs.Origins.{ComesFromNoNumber, MakesNoNumber, TakesNoNumber}
 

@@ -19,11 +19,11 @@ use Rattle.java_control.specs.PlaceNumbers.{IsSmall}
 use Rattle.java_control.specs.Owned.{fields_beside, fields_in, field_number, is_beside_method, is_owning, is_owning_field, owning_before, place_of_field}
 use Rattle.java_control.specs.declared.place.Place.{Place}
 use Rattle.java_control.specs.declared.place.Place.TheVariants as places
-use Rattle.must_call_sets.specs.Bodies.{has_field_place, is_class_of, is_field_in, method_in}
-use Rattle.ownership_rules.specs.Room.{HasRoom}
+use Rattle.owned_fact_laws.specs.Bodies.{has_field_place, is_class_of, is_field_in, method_in}
+use Rattle.owned_fact_laws.specs.Room.{HasRoom}
 use Rattle.ledger_state.specs.declared.locals.Locals.{Locals}
 use Rattle.ledger_state.specs.Contents.{HeapContents}
-use Rattle.ledger_operations.specs.Places.{class_by, class_of_method, field_place_value, owning_field, owning_field_beside}
+use Rattle.value_type_laws.specs.Places.{class_by, class_of_method, field_place_value, owning_field, owning_field_beside}
 use Rattle.exception_value_laws.specs.Values.{IsNoNumber}
 use Rattle.exception_value_laws.specs.Exceptions.{FieldsHoldNoNumber, StoredHoldNoNumber}
 use Rattle.exception_value_laws.proofs.Fields.{field_of_no_number}

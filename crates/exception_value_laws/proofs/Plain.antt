@@ -2,7 +2,7 @@
 use Rattle.std.proofs.Common.{ℕ, zero, suc, List, [], ◌∷◌, slice_get}
 use Rattle.program_model.specs.declared.program.Method.{Method}
 use Rattle.program_model.specs.declared.program.Program.{Program}
-use Rattle.operand_type_laws.specs.Operands.{result_of}
+use Rattle.exception_operand_laws.specs.Operands.{result_of}
 use Rattle.exception_operand_laws.specs.Operands.{OfException, TextsAreNoExceptions}
 use Rattle.exception_value_laws.specs.Exceptions.{HasPlainExceptions, NoneGivesExceptions}
 

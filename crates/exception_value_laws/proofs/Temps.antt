@@ -22,7 +22,7 @@ use Rattle.ledger_state.specs.declared.value.Value.{Value}
 use Rattle.ledger_state.specs.declared.value.Value.TheVariants as values
 use Rattle.ledger_frames.specs.Choosing.{method_body}
 use Rattle.ledger_frames.specs.Frames.{depth_of, is_made, locals_after, made_place, sourced, source_by, value_after}
-use Rattle.ledger_operations.specs.Places.{place_value}
+use Rattle.value_type_laws.specs.Places.{place_value}
 use Rattle.exception_operand_laws.specs.Operands.{GivesNoNumber}
 use Rattle.exception_value_laws.specs.Values.{IsNoNumber, temp_holds_no_number}
 use Rattle.exception_value_laws.specs.Origins.{ComesFromNoNumber, IsCastToException, MakesNoNumber, TakesNoNumber}

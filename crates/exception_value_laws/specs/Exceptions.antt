@@ -12,16 +12,16 @@ use Rattle.java_control.specs.Control.{Step}
 use Rattle.java_control.specs.declared.action.Action.TheVariants as actions
 use Rattle.java_control.specs.declared.action.Completion.TheVariants as completions
 use Rattle.java_control.specs.declared.place.Place.TheVariants as places
-use Rattle.flow_rules.specs.Paths.{Comes, relation_of}
+use Rattle.owned_fact_laws.specs.Paths.{Comes, relation_of}
 use Rattle.ledger_state.specs.declared.locals.Locals.{Locals}
 use Rattle.ledger_state.specs.declared.object.StoredField.{StoredField}
 use Rattle.ledger_state.specs.Contents.{HeapContents}
 use Rattle.ledger_state.specs.Locals.{variable_value}
-use Rattle.ledger_operations.specs.Places.{place_value}
+use Rattle.value_type_laws.specs.Places.{place_value}
 use Rattle.ledger_calls.specs.Configuration.{Config, Frame}
 use Rattle.ledger_frames.specs.Choosing.{body_id, frame_steps}
-use Rattle.agreement.specs.PlainForms.{MayRun}
-use Rattle.operand_type_laws.specs.Operands.{field_type, result_of}
+use Rattle.value_type_laws.specs.PlainForms.{MayRun}
+use Rattle.exception_operand_laws.specs.Operands.{field_type, result_of}
 use Rattle.exception_operand_laws.specs.Operands.{FindsExceptions, HasExceptionAt, TextsAreNoExceptions, OfException}
 use Rattle.exception_value_laws.specs.Values.{IsNoNumber, temp_holds_no_number}
 

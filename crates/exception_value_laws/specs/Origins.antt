@@ -9,7 +9,7 @@ use Rattle.java_control.specs.declared.action.Edge.{Edge}
 use Rattle.java_control.specs.declared.place.Place.{Place}
 use Rattle.java_control.specs.declared.place.Place.TheVariants as places
 use Rattle.java_control.specs.Sources.{is_throws, source}
-use Rattle.operand_type_laws.specs.Operands.{field_type, result_of}
+use Rattle.exception_operand_laws.specs.Operands.{field_type, result_of}
 use Rattle.exception_operand_laws.specs.Operands.{GivesNoNumber, GivesOwnType, IsException, OfException}
 
 -- what the action makes, where it throws nothing, is no number

@@ -4,9 +4,9 @@ use Rattle.std.specs.FinSet as set
 use Rattle.rlc_base.proofs.SetLaws.{within_empty, within_from_minus}
 use Rattle.program_model.specs.declared.kinds.BodyId.{BodyId}
 use Rattle.program_model.specs.declared.program.Program.{Program}
-use Rattle.must_call_sets.specs.Bodies.{alias_position, method_of}
-use Rattle.must_call_sets.specs.MustCallSets.{is_empty, is_heavy_as, must_of}
-use Rattle.must_call_sets.specs.Signatures.{is_present}
+use Rattle.owned_fact_laws.specs.Bodies.{alias_position, method_of}
+use Rattle.owned_fact_laws.specs.MustCallSets.{is_empty, is_heavy_as, must_of}
+use Rattle.owned_fact_laws.specs.Signatures.{is_present}
 use Rattle.java_control.specs.declared.action.Action.TheVariants as actions
 use Rattle.java_control.specs.declared.action.Completion.{Completion}
 use Rattle.java_control.specs.declared.action.Completion.TheVariants as completions
@@ -17,13 +17,13 @@ use Rattle.java_control.specs.declared.fact.Origin.{Origin}
 use Rattle.java_control.specs.declared.fact.Outcome.TheVariants.{Fault, Gone}
 use Rattle.java_control.specs.declared.fact.Rule.TheVariants as rules
 use Rattle.java_control.specs.declared.place.Place.TheVariants as places
-use Rattle.obligation_facts.specs.Facts.{Names, has, is_alias, missing, owes}
-use Rattle.called_methods.specs.Promises.{broken_promise, promised_at_end}
+use Rattle.owned_fact_laws.specs.Facts.{Names, has, is_alias, missing, owes}
+use Rattle.owned_fact_laws.specs.Promises.{broken_promise, promised_at_end}
 use Rattle.ownership_rules.specs.MovesAtReturns.{heavy_result, kept_alias, moved_at_return, owned_result, owning_result_in, result_type}
 use Rattle.ownership_rules.specs.declared.moved.Moved.{Moved}
 use Rattle.ownership_rules.specs.declared.moved.Moved.TheVariants as moves
-use Rattle.flow_rules.specs.Ends.{after_return, alias_never_returned, constructor_throws, exit_rule, promise_at_end}
-use Rattle.flow_rules.specs.Flow.{flow}
+use Rattle.owned_fact_laws.specs.Ends.{after_return, alias_never_returned, constructor_throws, exit_rule, promise_at_end}
+use Rattle.owned_fact_laws.specs.Flow.{flow}
 use Rattle.owned_fact_laws.specs.Outcomes.{IsFault}
 use Rattle.fact_step_laws.proofs.Going.{held_is_other}
 

@@ -8,8 +8,8 @@ use Rattle.program_model.specs.declared.kinds.BodyId.{BodyId}
 use Rattle.program_model.specs.declared.kinds.ClassId.{ClassId}
 use Rattle.program_model.specs.declared.program.Program.{Program}
 use Rattle.program_model.specs.declared.kinds.VType.{VType}
-use Rattle.must_call_sets.specs.Bodies.{reset_in}
-use Rattle.must_call_sets.specs.MustCallSets.{fits_type, is_heavy_as, is_heavy_class, no_names}
+use Rattle.owned_fact_laws.specs.Bodies.{reset_in}
+use Rattle.owned_fact_laws.specs.MustCallSets.{fits_type, is_heavy_as, is_heavy_class, no_names}
 use Rattle.java_control.specs.PlaceNumbers.{number_of}
 use Rattle.java_control.specs.Sources.{is_null_pointer}
 use Rattle.java_control.specs.declared.action.Action.{Action}
@@ -23,17 +23,17 @@ use Rattle.java_control.specs.declared.fact.Origin.{Origin}
 use Rattle.java_control.specs.declared.place.Place.{Place}
 use Rattle.java_control.specs.declared.place.Place.TheVariants as places
 use Rattle.java_control.specs.declared.fact.Rule.TheVariants as rules
-use Rattle.obligation_facts.specs.Callees.{callee, may_be_null_target}
-use Rattle.obligation_facts.specs.Facts.{Names, PlaceSet, has, is_met, is_nowhere, leave, mode_at, without}
-use Rattle.alias_sets.specs.PlaceRows.{places_after}
-use Rattle.called_methods.specs.CalledRows.{called_after, called_at_call, called_by, holds_receiver, interest_in, is_emptied, promised_at, promises_at, with_name}
-use Rattle.called_methods.specs.Preconditions.{precondition_missing}
+use Rattle.owned_fact_laws.specs.Callees.{callee, may_be_null_target}
+use Rattle.owned_fact_laws.specs.Facts.{Names, PlaceSet, has, is_met, is_nowhere, leave, mode_at, without}
+use Rattle.owned_fact_laws.specs.PlaceRows.{places_after}
+use Rattle.owned_fact_laws.specs.CalledRows.{called_after, called_at_call, called_by, holds_receiver, interest_in, is_emptied, promised_at, promises_at, with_name}
+use Rattle.owned_fact_laws.specs.Preconditions.{precondition_missing}
 use Rattle.ownership_rules.specs.Heavy.{is_owned}
 use Rattle.ownership_rules.specs.MovesAtCalls.{first_of, has_two_owners, moved_at_call, moved_to_first, owners}
 use Rattle.ownership_rules.specs.declared.moved.Moved.{Moved}
 use Rattle.ownership_rules.specs.declared.moved.Moved.TheVariants as moves
-use Rattle.flow_rules.specs.Calls.{at_move, at_precondition, called, given_away, with_called}
-use Rattle.flow_rules.specs.Flow.{flow, placed, raised, turned}
+use Rattle.owned_fact_laws.specs.Calls.{at_move, at_precondition, called, given_away, with_called}
+use Rattle.owned_fact_laws.specs.Flow.{flow, placed, raised, turned}
 use Rattle.owned_fact_laws.specs.Outcomes.{After, IsCallRow, IsNotNull, IsPlainRow}
 use Rattle.fact_step_laws.specs.Going.{ArePlaces, GoesAs, is_in_this, is_owned_in}
 use Rattle.rlc_base.specs.declared.name_id.NameId.{NameId}

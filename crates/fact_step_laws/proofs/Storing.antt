@@ -1,5 +1,5 @@
 -- A store into an owning field lets a fact go on, or a rule is broken.
-use Rattle.std.proofs.Common.{◌≡◌, ℕ, Bool, true, false, not, ◌&&◌, ◌||◌, Option, None, refl, sym, ap, ◌∙◌, true≢false, eqb, eqb-true, arith, if◌then◌else◌}
+use Rattle.std.proofs.Common.{◌≡◌, ◌⊎◌, inl, inr, ℕ, Bool, true, false, not, ◌&&◌, ◌||◌, refl, sym, ap, ◌∙◌, true≢false, eqb, eqb-true, arith, if◌then◌else◌}
 use Rattle.std.specs.FinSet as set
 use Rattle.std.proofs.lemmas.Cmp.{nat_cmp_total}
 use Rattle.std.proofs.lemmas.Grind.{common_steps}
@@ -7,9 +7,9 @@ use Rattle.rlc_base.proofs.SetLaws.{member_of-insert}
 use Rattle.program_model.specs.declared.kinds.BodyId.{BodyId}
 use Rattle.program_model.specs.declared.kinds.FieldId.{FieldId}
 use Rattle.program_model.specs.declared.program.Program.{Program}
-use Rattle.must_call_sets.specs.Bodies.{alias_position, is_alias_constructor, is_constructor}
-use Rattle.must_call_sets.specs.MustCallSets.{beyond_type, fits_type, is_heavy_class, must_of}
-use Rattle.must_call_sets.specs.Signatures.{field_type, is_present}
+use Rattle.owned_fact_laws.specs.Bodies.{alias_position, is_alias_constructor}
+use Rattle.owned_fact_laws.specs.MustCallSets.{beyond_type, fits_type, is_heavy_class, must_of}
+use Rattle.owned_fact_laws.specs.Signatures.{field_type}
 use Rattle.java_control.specs.Owned.{place_of_field}
 use Rattle.java_control.specs.PlaceNumbers.{number_of}
 use Rattle.java_control.specs.declared.action.Action.TheVariants as actions
@@ -22,10 +22,10 @@ use Rattle.java_control.specs.declared.fact.Rule.TheVariants as rules
 use Rattle.java_control.specs.declared.fact.Outcome.TheVariants.{Next, Fault}
 use Rattle.java_control.specs.declared.place.Place.{Place}
 use Rattle.java_control.specs.declared.place.Place.TheVariants as places
-use Rattle.obligation_facts.specs.Facts.{PlaceSet, has, is_alias, is_held, is_met, is_own, leave, missing, mode_at, with_place, without}
-use Rattle.alias_sets.specs.PlaceRows.{copied, places_after}
+use Rattle.owned_fact_laws.specs.Facts.{PlaceSet, has, is_alias, is_held, is_met, is_origin_at, is_own, leave, missing, mode_at, with_place, without}
+use Rattle.owned_fact_laws.specs.PlaceRows.{copied, places_after}
 use Rattle.owning_fields.specs.Stores.{heavy_stored, is_heavy_store, keeps_other, lacks_reset, may_store, object_stored, overwritten, stored, with_field}
-use Rattle.flow_rules.specs.Flow.{flow}
+use Rattle.owned_fact_laws.specs.Flow.{flow}
 use Rattle.owned_fact_laws.specs.Outcomes.{After}
 use Rattle.fact_step_laws.specs.Going.{ArePlaces, StoresAs, left, taken}
 use Rattle.fact_step_laws.proofs.Going.{held_stays, left_as, mode_stays}
@@ -53,24 +53,33 @@ own_mode modes.Held is = absurd (true≢false (sym is))
 own_mode modes.Lent is = absurd (true≢false (sym is))
 own_mode modes.Alias is = absurd (true≢false (sym is))
 
-no_alias : (c : Bool) (k : Option ℕ) → k ≡ None → (c && is_present k) ≡ false
-no_alias true k none = rw none refl
-no_alias false k none = refl
+alias_mode : (m : Mode) → is_alias m ≡ true → m ≡ modes.Alias
+alias_mode modes.Own is = absurd (true≢false (sym is))
+alias_mode modes.None is = absurd (true≢false (sym is))
+alias_mode modes.Held is = absurd (true≢false (sym is))
+alias_mode modes.Lent is = absurd (true≢false (sym is))
+alias_mode modes.Alias is = refl
 
-module _ (p : Program) (b : BodyId) (o : Origin) (x : FieldId) (d : ℕ) (e : Edge) (f : Fact) (q : Place) (plain : alias_position p b ≡ None) where
+module _ (p : Program) (b : BodyId) (o : Origin) (x : FieldId) (d : ℕ) (e : Edge) (f : Fact) (q : Place) where
   abbrev now : PlaceSet
   now = copied f.places (place_of_field p x) (places.Temp d)
 
   abbrev Goal : Fact → Type 0
   Goal g = ArePlaces g.places now × StoresAs p b o x d f g
 
-  no_alias_constructor : is_alias_constructor p b ≡ false
-  no_alias_constructor = no_alias (is_constructor p b) (alias_position p b) plain
+  -- the frame owns it, or it is the aliased argument of a constructor
+  stores_own : (h m n l : Bool) → (h && (m || n && l)) ≡ true → (h ≡ true) × ((m ≡ true) ⊎ ((n ≡ true) × (l ≡ true)))
+  stores_own true true n l is = (refl, inl refl)
+  stores_own true false true true is = (refl, inr (refl, refl))
+  stores_own true false true false is = absurd (true≢false (sym is))
+  stores_own true false false l is = absurd (true≢false (sym is))
+  stores_own false m n l is = absurd (true≢false (sym is))
 
-  stores_own : (h m n : Bool) → n ≡ false → (h && (m || n && is_alias f.mode)) ≡ true → (h ≡ true) × (m ≡ true)
-  stores_own true true n none is = (refl, refl)
-  stores_own true false n none is = absurd (true≢false (sym is ∙ (rw none refl)))
-  stores_own false m n none is = absurd (true≢false (sym is))
+  -- in an alias constructor no other is stored
+  no_other : (c l : Bool) → (c && not l) ≡ false → c ≡ true → l ≡ true
+  no_other true true is one = refl
+  no_other true false is one = absurd (true≢false is)
+  no_other false l is one = absurd (true≢false (sym one))
 
   module _ (in_ctor : lacks_reset p b f ≡ false) (there : has f.places (places.Temp d) ≡ true) where
     joined : now ≡ with_place f.places (place_of_field p x)
@@ -98,31 +107,39 @@ module _ (p : Program) (b : BodyId) (o : Origin) (x : FieldId) (d : ℕ) (e : Ed
       }),
     )
 
-    moved : has f.places (place_of_field p x) ≡ false → is_heavy_class p o.class ≡ true → f.mode ≡ modes.Own → fits_type p o.class (field_type p x) ≡ true → Goal (with_field p x modes.Held f)
-    moved absent heavy own fits = (
+    abbrev MayGo : Type 0
+    MayGo = (f.mode ≡ modes.Own) ⊎ ((is_alias_constructor p b ≡ true) × (f.mode ≡ modes.Alias))
+
+    moved : has f.places (place_of_field p x) ≡ false → is_heavy_class p o.class ≡ true → MayGo → (is_alias_constructor p b ≡ true → is_origin_at o.kind (alias_position p b) ≡ true)
+        → fits_type p o.class (field_type p x) ≡ true → Goal (with_field p x modes.Held f)
+    moved absent heavy may alias fits = (
       λ n. ap (λ (s : PlaceSet). set.contains s n) (sym joined),
-      taken in_ctor refl refl (record { there = there; absent = absent; heavy = heavy; own = own; fits = fits; mode = refl }),
+      taken in_ctor refl refl (record { there = there; absent = absent; heavy = heavy; may = may; alias = alias; fits = fits; mode = refl }),
     )
 
     heavy_goes : has f.places (place_of_field p x) ≡ false → After Goal (heavy_stored p b o x f)
-    heavy_goes absent = keeps (keeps_other p b o)
+    heavy_goes absent = keeps (keeps_other p b o) refl
       where
-        fit : is_heavy_class p o.class ≡ true → f.mode ≡ modes.Own → (z : Bool) → fits_type p o.class (field_type p x) ≡ z
+        fit : is_heavy_class p o.class ≡ true → MayGo → (is_alias_constructor p b ≡ true → is_origin_at o.kind (alias_position p b) ≡ true) → (z : Bool) → fits_type p o.class (field_type p x) ≡ z
             → After Goal (if not z then Fault rules.Narrow (beyond_type p o.class (field_type p x)) else Next (with_field p x modes.Held f))
-        fit heavy own true is = moved absent heavy own is
-        fit heavy own false is = tt
+        fit heavy may alias true is = moved absent heavy may alias is
+        fit heavy may alias false is = tt
 
-        may : (z : Bool) → may_store p b o f ≡ z → After Goal (if not z then Fault rules.NotOwned (must_of p o.class)
+        by_mode : (is_own f.mode ≡ true) ⊎ ((is_alias_constructor p b ≡ true) × (is_alias f.mode ≡ true)) → MayGo
+        by_mode (inl own) = inl (own_mode f.mode own)
+        by_mode (inr alias) = inr (alias.0, alias_mode f.mode alias.1)
+
+        may : (is_alias_constructor p b ≡ true → is_origin_at o.kind (alias_position p b) ≡ true) → (z : Bool) → may_store p b o f ≡ z → After Goal (if not z then Fault rules.NotOwned (must_of p o.class)
             else (if not (fits_type p o.class (field_type p x)) then Fault rules.Narrow (beyond_type p o.class (field_type p x)) else Next (with_field p x modes.Held f)))
-        may true is =
-            let parts = stores_own (is_heavy_class p o.class) (is_own f.mode) (is_alias_constructor p b) no_alias_constructor is in
-            fit parts.0 (own_mode f.mode parts.1) (fits_type p o.class (field_type p x)) refl
-        may false is = tt
+        may alias true is =
+            let parts = stores_own (is_heavy_class p o.class) (is_own f.mode) (is_alias_constructor p b) (is_alias f.mode) is in
+            fit parts.0 (by_mode parts.1) alias (fits_type p o.class (field_type p x)) refl
+        may alias false is = tt
 
-        keeps : (z : Bool) → After Goal (if z then Fault rules.AliasKept (must_of p o.class) else (if not (may_store p b o f) then Fault rules.NotOwned (must_of p o.class)
+        keeps : (z : Bool) → keeps_other p b o ≡ z → After Goal (if z then Fault rules.AliasKept (must_of p o.class) else (if not (may_store p b o f) then Fault rules.NotOwned (must_of p o.class)
             else (if not (fits_type p o.class (field_type p x)) then Fault rules.Narrow (beyond_type p o.class (field_type p x)) else Next (with_field p x modes.Held f))))
-        keeps true = tt
-        keeps false = may (may_store p b o f) refl
+        keeps true is = tt
+        keeps false is = may (no_other (is_alias_constructor p b) (is_origin_at o.kind (alias_position p b)) is) (may_store p b o f) refl
 
     object_goes : After Goal (object_stored p b o x f)
     object_goes = go (has f.places (place_of_field p x)) refl
@@ -193,7 +210,7 @@ module _ (p : Program) (b : BodyId) (o : Origin) (x : FieldId) (d : ℕ) (e : Ed
       go true one = tt
       go false one = at one (has f.places (places.Temp d)) refl
 
-pub stores : (p : Program) (b : BodyId) (o : Origin) (x : FieldId) (d : ℕ) (e : Edge) (f : Fact) (q : Place) → alias_position p b ≡ None
+pub stores : (p : Program) (b : BodyId) (o : Origin) (x : FieldId) (d : ℕ) (e : Edge) (f : Fact) (q : Place)
     → has (places_after p b (actions.PutOwn x d) e f.places) q ≡ true
     → After (λ g. ArePlaces g.places (places_after p b (actions.PutOwn x d) e f.places) × StoresAs p b o x d f g) (flow p b o (actions.PutOwn x d) e f)
-stores p b o x d e f q plain is = store_goes p b o x d e f q plain is
+stores p b o x d e f q is = store_goes p b o x d e f q is

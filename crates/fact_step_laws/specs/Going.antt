@@ -1,18 +1,19 @@
 -- What a step makes of a fact in any mode, where it leaves the fact a place: what goes on, and what is known of it.
-use Rattle.std.specs.Prelude.{◌≡◌, ℕ, Bool, true, false, ◌||◌}
+use Rattle.std.specs.Prelude.{◌≡◌, ◌⊎◌, ℕ, Bool, true, false, ◌||◌}
 use Rattle.std.specs.FinSet as set
 use Rattle.program_model.specs.declared.kinds.BodyId.{BodyId}
 use Rattle.program_model.specs.declared.kinds.FieldId.{FieldId}
 use Rattle.program_model.specs.declared.program.Program.{Program}
-use Rattle.must_call_sets.specs.MustCallSets.{Names, fits_type, is_heavy_class}
-use Rattle.must_call_sets.specs.Signatures.{field_type}
+use Rattle.owned_fact_laws.specs.Bodies.{alias_position, is_alias_constructor}
+use Rattle.owned_fact_laws.specs.MustCallSets.{Names, fits_type, is_heavy_class}
+use Rattle.owned_fact_laws.specs.Signatures.{field_type}
 use Rattle.java_control.specs.Owned.{place_of_field}
 use Rattle.java_control.specs.declared.fact.Fact.{Fact}
 use Rattle.java_control.specs.declared.fact.Mode.{Mode}
 use Rattle.java_control.specs.declared.fact.Mode.TheVariants as modes
 use Rattle.java_control.specs.declared.fact.Origin.{Origin}
 use Rattle.java_control.specs.declared.place.Place.TheVariants as places
-use Rattle.obligation_facts.specs.Facts.{PlaceSet, has, has_part, is_held, is_met, is_own}
+use Rattle.owned_fact_laws.specs.Facts.{PlaceSet, has, has_part, is_held, is_met, is_origin_at, is_own}
 use Rattle.owning_fields.specs.Stores.{is_heavy_store, lacks_reset}
 
 -- the two sets of places are the same
@@ -38,12 +39,13 @@ pub record GoesAs (f : Fact) (kept : PlaceSet) (names : Names) (g : Fact) : Type
   pub held : f.mode ≡ modes.Held → is_in_this kept ≡ true → g.mode ≡ modes.Held
 
 -- The object in t(d), of a class or for a field's type that has an obligation, is stored into the field, which did not hold it: the
--- frame owned it, and the field's type bounds its obligation. Now the field owns it.
-pub record IsTaken (p : Program) (o : Origin) (x : FieldId) (d : ℕ) (f g : Fact) : Type 0 where
+-- frame owned it, or in an alias constructor it is the aliased argument, and the field's type bounds its obligation. Now the field holds it.
+pub record IsTaken (p : Program) (b : BodyId) (o : Origin) (x : FieldId) (d : ℕ) (f g : Fact) : Type 0 where
   pub there : has f.places (places.Temp d) ≡ true
   pub absent : has f.places (place_of_field p x) ≡ false
   pub heavy : is_heavy_class p o.class ≡ true
-  pub own : f.mode ≡ modes.Own
+  pub may : (f.mode ≡ modes.Own) ⊎ ((is_alias_constructor p b ≡ true) × (f.mode ≡ modes.Alias))
+  pub alias : is_alias_constructor p b ≡ true → is_origin_at o.kind (alias_position p b) ≡ true
   pub fits : fits_type p o.class (field_type p x) ≡ true
   pub mode : g.mode ≡ modes.Held
 
@@ -57,5 +59,5 @@ pub record IsLeft (p : Program) (o : Origin) (x : FieldId) (d : ℕ) (f g : Fact
 
 -- what the store of t(d) into the field makes of a fact
 pub data StoresAs (p : Program) (b : BodyId) (o : Origin) (x : FieldId) (d : ℕ) (f g : Fact) : Type 0 where
-  taken : lacks_reset p b f ≡ false → g.called ≡ f.called → g.full ≡ f.full → IsTaken p o x d f g → StoresAs p b o x d f g
+  taken : lacks_reset p b f ≡ false → g.called ≡ f.called → g.full ≡ f.full → IsTaken p b o x d f g → StoresAs p b o x d f g
   left : lacks_reset p b f ≡ false → g.called ≡ f.called → g.full ≡ f.full → IsLeft p o x d f g → StoresAs p b o x d f g

@@ -5,7 +5,7 @@ ghost use Rattle.std.specs.FinSet as set;
 ghost use Rattle.program_model.specs.declared.kinds.BodyId.{BodyId};
 ghost use Rattle.program_model.specs.declared.kinds.FieldId.{FieldId};
 ghost use Rattle.program_model.specs.declared.program.Program.{Program};
-ghost use Rattle.must_call_sets.specs.Bodies.{alias_position, reset_in};
+ghost use Rattle.owned_fact_laws.specs.Bodies.{reset_in};
 ghost use Rattle.java_control.specs.declared.action.Action.{Action};
 ghost use Rattle.java_control.specs.declared.action.Action.TheVariants as actions;
 ghost use Rattle.java_control.specs.declared.action.Completion.{Completion};
@@ -14,15 +14,15 @@ ghost use Rattle.java_control.specs.declared.fact.Fact.{Fact};
 ghost use Rattle.java_control.specs.declared.fact.Mode.TheVariants as modes;
 ghost use Rattle.java_control.specs.declared.fact.Origin.{Origin};
 ghost use Rattle.java_control.specs.declared.place.Place.{Place};
-ghost use Rattle.obligation_facts.specs.Callees.{callee};
-ghost use Rattle.obligation_facts.specs.Facts.{has, owes};
-ghost use Rattle.alias_sets.specs.PlaceRows.{places_after};
-ghost use Rattle.called_methods.specs.CalledRows.{called_after};
-ghost use Rattle.called_methods.specs.Promises.{promised_at_end};
+ghost use Rattle.owned_fact_laws.specs.Callees.{callee};
+ghost use Rattle.owned_fact_laws.specs.Facts.{has, owes};
+ghost use Rattle.owned_fact_laws.specs.PlaceRows.{places_after};
+ghost use Rattle.owned_fact_laws.specs.CalledRows.{called_after};
+ghost use Rattle.owned_fact_laws.specs.Promises.{promised_at_end};
 ghost use Rattle.ownership_rules.specs.MovesAtReturns.{moved_at_return};
 ghost use Rattle.ownership_rules.specs.declared.moved.Moved.TheVariants as moves;
-ghost use Rattle.flow_rules.specs.Ends.{constructor_throws};
-ghost use Rattle.flow_rules.specs.Flow.{flow};
+ghost use Rattle.owned_fact_laws.specs.Ends.{constructor_throws};
+ghost use Rattle.owned_fact_laws.specs.Flow.{flow};
 ghost use Rattle.owned_fact_laws.specs.Outcomes.{After, IsCallRow, IsFault, IsNotNull, IsPlainRow};
 ghost use Rattle.fact_step_laws.specs.Going.{ArePlaces, GoesAs, StoresAs};
 
@@ -43,7 +43,7 @@ pub fn fact_at_calls()
 
 /// The store into an owning field lets a fact go on that has a place after it.
 pub fn fact_at_stores()
-    ensures { (p : Program) (b : BodyId) (o : Origin) (x : FieldId) (d : ℕ) (e : Edge) (f : Fact) (q : Place) → alias_position p b ≡ None
+    ensures { (p : Program) (b : BodyId) (o : Origin) (x : FieldId) (d : ℕ) (e : Edge) (f : Fact) (q : Place)
         → has (places_after p b (actions.PutOwn x d) e f.places) q ≡ true
         → After (λ g. ArePlaces g.places (places_after p b (actions.PutOwn x d) e f.places) × StoresAs p b o x d f g) (flow p b o (actions.PutOwn x d) e f) }
 {}

@@ -14,7 +14,7 @@ use Rattle.program_model.specs.declared.program.Program.{Program}
 use Rattle.program_model.specs.Lookups.{class_at, field_at, method_at}
 use Rattle.program_model.specs.Validity.{HasMembers, IsFieldOf, IsTypedProgram}
 use Rattle.java_control.specs.Owned.{field_number, fields_in, fields_beside, is_owning, is_owning_field, owning_before}
-use Rattle.ledger_operations.specs.Places.{class_by, class_of_method, owning_field, owning_field_beside}
+use Rattle.place_laws.specs.Places.{class_by, class_of_method, owning_field, owning_field_beside}
 
 same_field : (f g : FieldId) → nat_eq f.0 g.0 ≡ true → f ≡ g
 same_field f g is = ap (λ (n : ℕ). (let z : FieldId = record { 0 = n } in z)) (eqb-true f.0 g.0 is)

@@ -17,10 +17,10 @@ use Rattle.java_control.specs.declared.place.Place.TheVariants as places
 use Rattle.java_control.specs.Calls.{completion_temp, is_reset_of_this}
 use Rattle.java_control.specs.PlaceNumbers.{IsSmall}
 use Rattle.java_control.specs.Sources.{is_null_pointer, is_place, is_temp_among}
-use Rattle.obligation_facts.specs.Facts.{PlaceSet, has, has_temp, with_place, without, without_parts, without_scope, without_temps}
-use Rattle.obligation_facts.specs.SmallActions.{IsSmallAction, IsSmallScope}
-use Rattle.alias_sets.specs.Aliases.{called_places, gives_alias, without_operands, without_reset}
-use Rattle.alias_sets.specs.PlaceRows.{below, cast, copied, dropped, places_after, stored}
+use Rattle.place_laws.specs.Facts.{PlaceSet, has, has_temp, with_place, without, without_parts, without_scope, without_temps}
+use Rattle.place_laws.specs.SmallActions.{IsSmallAction, IsSmallScope}
+use Rattle.place_laws.specs.Aliases.{called_places, gives_alias, without_operands, without_reset}
+use Rattle.place_laws.specs.PlaceRows.{below, cast, copied, dropped, places_after, stored}
 use Rattle.place_laws.specs.Places.{SetsLocals, is_local}
 use Rattle.place_laws.proofs.SetLaws.{has_copied, has_temps, has_with, has_without, variable_aside}
 

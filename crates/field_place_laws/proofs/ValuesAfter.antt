@@ -18,9 +18,9 @@ use Rattle.ledger_state.specs.Values.{value_or_nothing}
 use Rattle.ledger_state.specs.declared.locals.Locals.{Locals}
 use Rattle.ledger_state.specs.declared.value.Value.{Value}
 use Rattle.ledger_state.specs.declared.value.Value.TheVariants as values
-use Rattle.ledger_operations.specs.Places.{place_value}
-use Rattle.ledger_frames.specs.Choosing.{method_body}
-use Rattle.ledger_frames.specs.Frames.{depth_of, is_made, locals_after, made_place, source_by, sourced, value_after}
+use Rattle.place_laws.specs.Places.{place_value}
+use Rattle.place_laws.specs.Choosing.{method_body}
+use Rattle.place_laws.specs.Frames.{depth_of, is_made, locals_after, made_place, source_by, sourced, value_after}
 use Rattle.place_laws.specs.Places.{is_local}
 
 fits_range : (n i : ℕ) → i < 4294967296 → i < n → i < min n 4294967296

@@ -1,0 +1,1 @@
+pub use Rattle.place_laws.specs.Places

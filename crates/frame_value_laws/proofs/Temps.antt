@@ -22,8 +22,8 @@ use Rattle.ledger_state.specs.declared.value.Value.{Value}
 use Rattle.ledger_state.specs.declared.value.Value.TheVariants as values
 use Rattle.ledger_frames.specs.Choosing.{method_body}
 use Rattle.ledger_frames.specs.Frames.{depth_of, is_made, locals_after, made_place, sourced, source_by, value_after}
-use Rattle.ledger_operations.specs.Places.{place_value}
-use Rattle.operand_type_laws.specs.Operands.{GivesNone, left_held}
+use Rattle.operation_type_laws.specs.Places.{place_value}
+use Rattle.operand_source_laws.specs.Operands.{GivesNone, left_held}
 use Rattle.operand_source_laws.specs.Origins.{ComesFromNone, IsCastToNone, MakesNone, TakesNone}
 use Rattle.operand_source_laws.proofs.Origins.{left}
 use Rattle.operation_type_laws.specs.Values.{IsNoObject, temp_holds_none}

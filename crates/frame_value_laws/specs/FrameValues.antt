@@ -8,8 +8,8 @@ use Rattle.java_control.specs.declared.place.Place.TheVariants as places
 use Rattle.ledger_state.specs.declared.locals.Locals.{Locals}
 use Rattle.ledger_state.specs.Contents.{HeapContents}
 use Rattle.ledger_state.specs.Locals.{variable_value}
-use Rattle.ledger_operations.specs.Places.{place_value}
-use Rattle.operand_type_laws.specs.Operands.{HasNoObjectAt, NoObject}
+use Rattle.operation_type_laws.specs.Places.{place_value}
+use Rattle.operand_source_laws.specs.Operands.{HasNoObjectAt, NoObject}
 use Rattle.operation_type_laws.specs.Values.{IsNoObject}
 
 -- no variable of a type of no class holds an object

@@ -13,7 +13,7 @@ ghost use Rattle.ledger_state.specs.Contents.{HeapContents};
 ghost use Rattle.ledger_state.specs.Locals.{temp_value};
 ghost use Rattle.ledger_frames.specs.Choosing.{method_body};
 ghost use Rattle.ledger_frames.specs.Frames.{locals_after};
-ghost use Rattle.operand_type_laws.specs.Operands.{left_held};
+ghost use Rattle.operand_source_laws.specs.Operands.{left_held};
 ghost use Rattle.operand_source_laws.specs.Origins.{IsCastToNone, MakesNone};
 ghost use Rattle.operation_type_laws.specs.Values.{IsNoObject, temp_holds_none};
 ghost use Rattle.frame_value_laws.specs.FrameValues.{FieldsHoldNone, VariablesHoldNone};

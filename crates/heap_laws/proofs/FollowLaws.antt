@@ -1,5 +1,5 @@
 -- What follows from notes that stand stands too, and which names come of them.
-use Rattle.std.proofs.Common.{◌≡◌, ◌⊎◌, inl, inr, ℕ, zero, suc, ◌+◌, ◌*◌, ◌<◌, Bool, true, false, ◌||◌, Option, Some, None, List, [], ◌∷◌, length, option_map, slice_get, refl, sym, ap, ◌∙◌, subst, true≢false, arith, eqb-true}
+use Rattle.std.proofs.Common.{◌≡◌, ◌⊎◌, inl, inr, ℕ, zero, suc, ◌+◌, ◌*◌, ◌<◌, Bool, true, false, not, ◌||◌, Option, Some, None, List, [], ◌∷◌, length, option_map, slice_get, refl, sym, ap, ◌∙◌, subst, true≢false, arith, eqb-true}
 use Rattle.std.proofs.lemmas.Bool.{or_left, or_right}
 use Rattle.std.specs.FinSet as set
 use Rattle.std.specs.List.{All, flat_map, range_with_len}
@@ -11,28 +11,35 @@ use Rattle.program_model.specs.declared.program.Program.{Program}
 use Rattle.program_model.specs.declared.program.Promise.{Promise}
 use Rattle.program_model.specs.Lookups.{optional}
 use Rattle.program_model.specs.NameSets.{when}
+use Rattle.must_call_sets.specs.MustCallSets.{must_of}
 use Rattle.must_call_sets.specs.Signatures.{is_of_field, promised_names}
 use Rattle.ledger_state.specs.Classes.{class_in}
 use Rattle.ledger_state.specs.Contents.{HeapContents}
 use Rattle.ledger_state.specs.Fields.{field_value}
-use Rattle.ledger_state.specs.Heaps.{object_at, root, root_of, root_within}
+use Rattle.ledger_state.specs.Heaps.{object_at}
 use Rattle.ledger_state.specs.Values.{number_of}
-use Rattle.ledger_state.specs.declared.object.Link.{Link}
 use Rattle.ledger_state.specs.declared.object.Object.{Object}
 use Rattle.ledger_state.specs.declared.value.Value.{Value}
 use Rattle.ledger_state.specs.declared.value.Value.TheVariants as values
 use Rattle.ledger_obligations.specs.declared.note.Note.{Note}
-use Rattle.ledger_obligations.specs.Obligations.{all_notes, follows, has_note, joined, keep_all, keep_field, keep_own, kept_fields, kept_name, name_of, note, noted, noted_object, own_promises, same_note, spread, through_in}
-use Rattle.heap_laws.specs.Heaps.{HasLibraryLinks, HasSmallName}
+use Rattle.ledger_obligations.specs.Obligations.{all_notes, follows, goes_on, has_note, is_the_one, joined, keep_all, keep_field, keep_own, kept_fields, kept_name, name_of, note, noted, noted_object, own_promises, same_note, spread, through_in}
+use Rattle.heap_laws.specs.Heaps.{HasSmallName}
+use Rattle.heap_laws.specs.Leading.{Leads, by_library, by_program, goes_on_from, here, is_passed_on}
 use Rattle.heap_laws.proofs.NoteCounts.{count, count_grows, count_small}
 use Rattle.heap_laws.proofs.NoteLaws.{joined_add, joined_keep, one_note, spread_keep, stands_noted}
 use Rattle.heap_laws.proofs.NoteLists.{HasNamed, flat_from, flat_has, follower, has_right, joined_from, joined_stays, link_follows, name_from_all, name_from_notes, name_where, no_follower, note_at, range_has, same_note_self, small_follower, small_names, stands_at}
 use Rattle.heap_laws.proofs.ObjectLaws.{changed_at, in_range}
-use Rattle.heap_laws.proofs.RootLaws.{end_here, enough, further, has_object, linked_to_object, none_here}
+use Rattle.heap_laws.proofs.RootLaws.{one_object}
 
 -- the first note that stands nowhere yet, on an object
 abbrev pub IsFirst : HeapContents → List Note → List Note → Note → Type 0
 IsFirst h ns xs b = (has_note xs b ≡ true) × ((x : Object) × (object_at h b.object ≡ Some x)) × (has_note ns b ≡ false)
+
+-- a name that no link by the library stops is the one name
+stopped_name : (library one : Bool) → (library || not one) ≡ false → one ≡ true
+stopped_name true one off = absurd (true≢false off)
+stopped_name false true off = refl
+stopped_name false false off = absurd (true≢false off)
 
 -- each note on an object stands already
 abbrev pub StandAlready : HeapContents → List Note → List Note → Type 0
@@ -182,106 +189,97 @@ module _ (p : Program) (h : HeapContents) where
       by_kept true new kind = inr (ap (has_note (all_notes p h notes)) (sym (as_it_is true new.0 kind new.2 new.3)) ∙ new.1)
       by_kept false new kind = inl (ap (has_note notes) (sym (as_it_is false new.0 kind new.2 new.3)) ∙ unkept_first notes new.0 kind new.1)
 
+  -- ---- contents
+
+  -- a kept name notes what its method promises on what the field holds
+  content_follows : (w v i : ℕ) (n : NameId) (x : Object) (f : FieldId) → object_at h w ≡ Some x → set.contains (promised_names (λ t. is_of_field t f) (own_promises p x.class n)) i ≡ true → i < 128
+      → field_value p h w f ≡ values.Object v → has_note (follows p h (note true w n)) (note true v (name_of i)) ≡ true
+  content_follows w v i n x f at has small held =
+      has_right (optional (through_in p n (object_at h w))) (kept_fields p h w n (class_in (object_at h w))) (note true v (name_of i))
+      (ap (λ (o : Option Object). has_note (kept_fields p h w n (class_in o)) (note true v (name_of i))) at
+      ∙ flat_has (keep_own p h (values.Object w)) (own_promises p x.class n) from.1 from.0 (note true v (name_of i)) from.2 (by_target from.0.target refl from.3))
+    where
+      from : (q : Promise) × (j : ℕ) × (slice_get (own_promises p x.class n) j ≡ Some q) × (set.contains (when (is_of_field q.target f) q.names) i ≡ true)
+      from = name_from_all (λ (q : Promise). when (is_of_field q.target f) q.names) (own_promises p x.class n) i has
+
+      named : set.contains from.0.names i ≡ true → has_note (keep_all (Some v) from.0.names) (note true v (name_of i)) ≡ true
+      named is = flat_has (kept_name v from.0.names) (range_with_len 0 128) i i (note true v (name_of i)) (range_has 0 128 i small ∙ (let same : 0 + i ≡ i = omega arith in ap Some same))
+          (rw is (or_left (same_note (note true v (name_of i)) (note true v (name_of i))) false (same_note_self (note true v (name_of i)))))
+
+      by_target : (t : Target) → from.0.target ≡ t → set.contains (when (is_of_field from.0.target f) from.0.names) i ≡ true → has_note (keep_own p h (values.Object w) from.0) (note true v (name_of i)) ≡ true
+      by_target (targets.At k) is one =
+          absurd (true≢false (sym (name_where (is_of_field (targets.At k) f) from.0.names i (ap (λ (t : Target). set.contains (when (is_of_field t f) from.0.names) i) (sym is) ∙ one)).0))
+      by_target (targets.OfField g) is one =
+          let both = name_where (is_of_field (targets.OfField g) f) from.0.names i (ap (λ (t : Target). set.contains (when (is_of_field t f) from.0.names) i) (sym is) ∙ one) in
+          let same : g ≡ f = (let number = eqb-true g.0 f.0 both.0 in ap (λ (k : ℕ). (let z : FieldId = record { 0 = k } in z)) number) in
+          ap (λ (t : Target). has_note (keep_field p h (values.Object w) from.0 t) (note true v (name_of i))) is
+          ∙ ap (λ (e : FieldId). has_note (keep_all (number_of (field_value p h w e)) from.0.names) (note true v (name_of i))) same
+          ∙ ap (λ (u : Value). has_note (keep_all (number_of u) from.0.names) (note true v (name_of i))) held
+          ∙ named both.1
+
   -- ---- the way to the root
 
-  module _ (links : HasLibraryLinks h) where
-    -- a name goes on as the notes spread
-    goes_up : (n : ℕ) (ns : List Note) (kept : Bool) (k : ℕ) (name : NameId) (x : Object) → object_at h k ≡ Some x → has_note ns (note kept k name) ≡ true
-        → (c : Bool) × (has_note (spread n p h ns) (note c (root_within n h k) name) ≡ true)
-    goes_up zero ns kept k name x at has = (kept, has)
-    goes_up (suc n) ns kept k name x at has = go x.link refl (λ j y there more. goes_up n (turn ns) true j name y there more)
-      where
-        go : (l : Option Link) → x.link ≡ l
-            → ((j : ℕ) (y : Object) → object_at h j ≡ Some y → has_note (turn ns) (note true j name) ≡ true → (c : Bool) × (has_note (spread n p h (turn ns)) (note c (root_within n h j) name) ≡ true))
-            → (c : Bool) × (has_note (spread (suc n) p h ns) (note c (root_within (suc n) h k) name) ≡ true)
-        go None none on =
-            (kept, ap (λ (j : ℕ). has_note (spread (suc n) p h ns) (note kept j name)) (end_here h (suc n) k (none_here h k x at none)) ∙ spread_keep (suc n) p h ns (note kept k name) has)
-        go (Some l) some on =
-            let next = linked_to_object h k x l links at some in
-            let more = follower_joins ns (note kept k name) (note true l.to name) has (link_follows p h kept k name x l at some (links k x l at some).by_library) in
-            let end = on l.to next.0 next.1 more in
-            (end.0, ap (λ (j : ℕ). has_note (spread (suc n) p h ns) (note end.0 j name)) (further h n k x l at some) ∙ end.1)
+  -- a kept name is at the end of the way, where all that follows stands
+  climbs : (ns : List Note) → IsClosed ns → (k r : ℕ) (name : NameId) → name.0 < 128 → Leads p h k r → has_note ns (note true k name) ≡ true → has_note ns (note true r name) ≡ true
+  climbs ns closed _ _ name small (here k x at none) has = has
+  climbs ns closed _ _ name small (by_library k r x l at some library rest) has =
+      climbs ns closed l.to r name small rest (closed (note true k name) (note true l.to name) has (link_follows p h true k name x l at some (rw library refl)))
+  climbs ns closed _ _ name small (by_program k c r x l f field at some declared owning calls held rest inner) has =
+      go (goes_on p name x l) refl (climbs ns closed l.to r name small rest) (climbs ns closed c r name small inner)
+    where
+      go : (b : Bool) → goes_on p name x l ≡ b → (has_note ns (note true l.to name) ≡ true → has_note ns (note true r name) ≡ true)
+          → (has_note ns (note true c name) ≡ true → has_note ns (note true r name) ≡ true) → has_note ns (note true r name) ≡ true
+      go true on through' inside = through' (closed (note true k name) (note true l.to name) has (link_follows p h true k name x l at some on))
+      go false off through' inside =
+          inside (closed (note true k name) (note true c name) has (content_follows k c name.0 name x f at (calls.1 name (stopped_name l.by_library (is_the_one (must_of p x.class) name) off)) small held))
 
-    -- a kept name is at the root, where all that follows stands
-    climbs : (ns : List Note) → IsClosed ns → (n k : ℕ) (name : NameId) (x : Object) → object_at h k ≡ Some x → has_note ns (note true k name) ≡ true
-        → has_note ns (note true (root_within n h k) name) ≡ true
-    climbs ns closed zero k name x at has = has
-    climbs ns closed (suc n) k name x at has = go x.link refl (λ j y there more. climbs ns closed n j name y there more)
-      where
-        go : (l : Option Link) → x.link ≡ l → ((j : ℕ) (y : Object) → object_at h j ≡ Some y → has_note ns (note true j name) ≡ true → has_note ns (note true (root_within n h j) name) ≡ true)
-            → has_note ns (note true (root_within (suc n) h k) name) ≡ true
-        go None none on = ap (λ (j : ℕ). has_note ns (note true j name)) (end_here h (suc n) k (none_here h k x at none)) ∙ has
-        go (Some l) some on =
-            let next = linked_to_object h k x l links at some in
-            let more = closed (note true k name) (note true l.to name) has (link_follows p h true k name x l at some (links k x l at some).by_library) in
-            ap (λ (j : ℕ). has_note ns (note true j name)) (further h n k x l at some) ∙ on l.to next.0 next.1 more
+  -- a note that no link stops is at the end of the way too, and kept, where there is a way
+  goes_up : (ns : List Note) → IsClosed ns → (k r : ℕ) (name : NameId) (x : Object) → name.0 < 128 → Leads p h k r → object_at h k ≡ Some x → goes_on_from p name x x.link ≡ true
+      → has_note ns (note false k name) ≡ true → (c : Bool) × (has_note ns (note c r name) ≡ true)
+  goes_up ns closed _ _ name x small (here k y at none) there on has = (false, has)
+  goes_up ns closed _ _ name x small (by_library k r y l at some library rest) there on has =
+      (true, climbs ns closed l.to r name small rest (closed (note false k name) (note true l.to name) has (link_follows p h false k name y l at some (rw library refl))))
+  goes_up ns closed _ _ name x small (by_program k c r y l f field at some declared owning calls held rest inner) there on has =
+      let same : x ≡ y = one_object x y (object_at h k) there at in
+      let goes : goes_on p name y l ≡ true =
+      ap (goes_on_from p name y) (sym some) ∙ ap (λ (z : Object). goes_on_from p name z z.link) (sym same) ∙ on in
+      (true, climbs ns closed l.to r name small rest (closed (note false k name) (note true l.to name) has (link_follows p h false k name y l at some goes)))
 
-    -- a note that stands is called on its object
-    called_in : (notes : List Note) (kept : Bool) (k : ℕ) (name : NameId) (y : Object) → has_note (all_notes p h notes) (note kept k name) ≡ true → name.0 < 128
-        → object_at (noted p notes h) k ≡ Some y → set.contains y.called name.0 ≡ true
-    called_in notes kept k name y has small at = go (object_at h k) refl (sym (changed_at (noted_object (all_notes p h notes)) h k) ∙ at)
-      where
-        go : (o : Option Object) → object_at h k ≡ o → option_map (noted_object (all_notes p h notes) k) o ≡ Some y → set.contains y.called name.0 ≡ true
-        go None none is = absurd (let never : None ≡ Some y = is in cc)
-        go (Some x) there is =
-            let same : noted_object (all_notes p h notes) k x ≡ y = (let both : Some (noted_object (all_notes p h notes) k x) ≡ Some y = is in cc) in
-            ap (λ (z : Object). set.contains z.called name.0) (sym same) ∙ stands_noted p notes h (note kept k name) x has small
+  -- a note that stands is called on its object
+  called_in : (notes : List Note) (kept : Bool) (k : ℕ) (name : NameId) (y : Object) → has_note (all_notes p h notes) (note kept k name) ≡ true → name.0 < 128
+      → object_at (noted p notes h) k ≡ Some y → set.contains y.called name.0 ≡ true
+  called_in notes kept k name y has small at = go (object_at h k) refl (sym (changed_at (noted_object (all_notes p h notes)) h k) ∙ at)
+    where
+      go : (o : Option Object) → object_at h k ≡ o → option_map (noted_object (all_notes p h notes) k) o ≡ Some y → set.contains y.called name.0 ≡ true
+      go None none is = absurd (let never : None ≡ Some y = is in cc)
+      go (Some x) there is =
+          let same : noted_object (all_notes p h notes) k x ≡ y = (let both : Some (noted_object (all_notes p h notes) k x) ≡ Some y = is in cc) in
+          ap (λ (z : Object). set.contains z.called name.0) (sym same) ∙ stands_noted p notes h (note kept k name) x has small
 
-    pub root_noted : (notes : List Note) (a : Note) (x y : Object) → has_note notes a ≡ true → a.name.0 < 128 → object_at h a.object ≡ Some x
-        → object_at (noted p notes h) (root h a.object) ≡ Some y → set.contains y.called a.name.0 ≡ true
-    root_noted notes a x y has small at there =
-        let below = (in_range h a.object x at).1 in
-        let up = goes_up (256 * length h.objects) (joined [] notes) a.kept a.object a.name x at (joined_add [] notes a has) in
-        let same : root_within (256 * length h.objects) h a.object ≡ root h a.object = enough h links (256 * length h.objects) (length h.objects) a.object (omega (arith, below)) (omega (arith, below)) in
-        called_in notes up.0 (root h a.object) a.name y (ap (λ (j : ℕ). has_note (all_notes p h notes) (note up.0 j a.name)) (sym same) ∙ up.1) small there
+  pub root_noted : (notes : List Note) (a : Note) (r : ℕ) (x y : Object) → All HasSmallName notes → has_note notes a ≡ true → object_at h a.object ≡ Some x → is_passed_on p a x ≡ true
+      → Leads p h a.object r → object_at (noted p notes h) r ≡ Some y → set.contains y.called a.name.0 ≡ true
+  root_noted notes a r x y small has at on leads there = go a.kept refl on
+    where
+      low : a.name.0 < 128
+      low = small_names notes small a has
 
-    -- ---- contents
+      stands : has_note (all_notes p h notes) a ≡ true
+      stands = spread_keep (256 * length h.objects) p h (joined [] notes) a (joined_add [] notes a has)
 
-    -- a kept name notes what its method promises on what the field holds
-    content_follows : (w v i : ℕ) (n : NameId) (x : Object) (f : FieldId) → object_at h w ≡ Some x → set.contains (promised_names (λ t. is_of_field t f) (own_promises p x.class n)) i ≡ true → i < 128
-        → field_value p h w f ≡ values.Object v → has_note (follows p h (note true w n)) (note true v (name_of i)) ≡ true
-    content_follows w v i n x f at has small held =
-        has_right (optional (through_in p n (object_at h w))) (kept_fields p h w n (class_in (object_at h w))) (note true v (name_of i))
-        (ap (λ (o : Option Object). has_note (kept_fields p h w n (class_in o)) (note true v (name_of i))) at
-        ∙ flat_has (keep_own p h (values.Object w)) (own_promises p x.class n) from.1 from.0 (note true v (name_of i)) from.2 (by_target from.0.target refl from.3))
-      where
-        from : (q : Promise) × (j : ℕ) × (slice_get (own_promises p x.class n) j ≡ Some q) × (set.contains (when (is_of_field q.target f) q.names) i ≡ true)
-        from = name_from_all (λ (q : Promise). when (is_of_field q.target f) q.names) (own_promises p x.class n) i has
+      as_it_is : (b : Bool) → a.kept ≡ b → has_note (all_notes p h notes) (note b a.object a.name) ≡ true
+      as_it_is b is = ap (λ (c : Bool). has_note (all_notes p h notes) (note c a.object a.name)) (sym is) ∙ stands
 
-        named : set.contains from.0.names i ≡ true → has_note (keep_all (Some v) from.0.names) (note true v (name_of i)) ≡ true
-        named is = flat_has (kept_name v from.0.names) (range_with_len 0 128) i i (note true v (name_of i)) (range_has 0 128 i small ∙ (let same : 0 + i ≡ i = omega arith in ap Some same))
-            (rw is (or_left (same_note (note true v (name_of i)) (note true v (name_of i))) false (same_note_self (note true v (name_of i)))))
+      go : (b : Bool) → a.kept ≡ b → (b || goes_on_from p a.name x x.link) ≡ true → set.contains y.called a.name.0 ≡ true
+      go true is one =
+          called_in notes true r a.name y (climbs (all_notes p h notes) (all_closed notes small) a.object r a.name low leads (as_it_is true is)) low there
+      go false is one =
+          let up = goes_up (all_notes p h notes) (all_closed notes small) a.object r a.name x low leads at one (as_it_is false is) in
+          called_in notes up.0 r a.name y up.1 low there
 
-        by_target : (t : Target) → from.0.target ≡ t → set.contains (when (is_of_field from.0.target f) from.0.names) i ≡ true → has_note (keep_own p h (values.Object w) from.0) (note true v (name_of i)) ≡ true
-        by_target (targets.At k) is one =
-            absurd (true≢false (sym (name_where (is_of_field (targets.At k) f) from.0.names i (ap (λ (t : Target). set.contains (when (is_of_field t f) from.0.names) i) (sym is) ∙ one)).0))
-        by_target (targets.OfField g) is one =
-            let both = name_where (is_of_field (targets.OfField g) f) from.0.names i (ap (λ (t : Target). set.contains (when (is_of_field t f) from.0.names) i) (sym is) ∙ one) in
-            let same : g ≡ f = (let number = eqb-true g.0 f.0 both.0 in ap (λ (k : ℕ). (let z : FieldId = record { 0 = k } in z)) number) in
-            ap (λ (t : Target). has_note (keep_field p h (values.Object w) from.0 t) (note true v (name_of i))) is
-            ∙ ap (λ (e : FieldId). has_note (keep_all (number_of (field_value p h w e)) from.0.names) (note true v (name_of i))) same
-            ∙ ap (λ (u : Value). has_note (keep_all (number_of u) from.0.names) (note true v (name_of i))) held
-            ∙ named both.1
-
-    pub content_noted : (notes : List Note) (w o i : ℕ) (n : NameId) (x y : Object) (f : FieldId) → All HasSmallName notes → has_note (all_notes p h notes) (note true w n) ≡ true → object_at h w ≡ Some x
-        → set.contains (promised_names (λ t. is_of_field t f) (own_promises p x.class n)) i ≡ true → i < 128 → root_of h (field_value p h w f) ≡ Some o
-        → object_at (noted p notes h) o ≡ Some y → set.contains y.called i ≡ true
-    content_noted notes w o i n x y f small has at promised below held there = go (field_value p h w f) refl held
-      where
-        was : (z : Object) × (object_at h o ≡ Some z)
-        was = on (object_at h o) refl (sym (changed_at (noted_object (all_notes p h notes)) h o) ∙ there)
-          where
-            on : (q : Option Object) → object_at h o ≡ q → option_map (noted_object (all_notes p h notes) o) q ≡ Some y → (z : Object) × (object_at h o ≡ Some z)
-            on None none is = absurd (let never : None ≡ Some y = is in cc)
-            on (Some z) here is = (z, here)
-
-        go : (u : Value) → field_value p h w f ≡ u → root_of h u ≡ Some o → set.contains y.called i ≡ true
-        go values.Nothing is root' = absurd (let never : None ≡ Some o = root' in cc)
-        go (values.Object v) is root' =
-            let end : root h v ≡ o = (let both : Some (root h v) ≡ Some o = root' in cc) in
-            let z = has_object h v o was.0 end was.1 in
-            let closed = all_closed notes small in
-            let first = closed (note true w n) (note true v (name_of i)) has (content_follows w v i n x f at promised below is) in
-            let last = climbs (all_notes p h notes) closed (length h.objects) v (name_of i) z.0 z.1 first in
-            called_in notes true o (name_of i) y (ap (λ (j : ℕ). has_note (all_notes p h notes) (note true j (name_of i))) (sym end) ∙ last) below there
-        go u is root' = absurd (let never : None ≡ Some o = root' in cc)
+  pub content_noted : (notes : List Note) (w v o i : ℕ) (n : NameId) (x y : Object) (f : FieldId) → All HasSmallName notes → has_note (all_notes p h notes) (note true w n) ≡ true → object_at h w ≡ Some x
+      → set.contains (promised_names (λ t. is_of_field t f) (own_promises p x.class n)) i ≡ true → i < 128 → field_value p h w f ≡ values.Object v → Leads p h v o
+      → object_at (noted p notes h) o ≡ Some y → set.contains y.called i ≡ true
+  content_noted notes w v o i n x y f small has at promised below held leads there =
+      let closed = all_closed notes small in
+      let first = closed (note true w n) (note true v (name_of i)) has (content_follows w v i n x f at promised below held) in
+      called_in notes true o (name_of i) y (climbs (all_notes p h notes) closed v o (name_of i) below leads first) below there

@@ -1,7 +1,8 @@
 -- The laws, under their names, for the crates above.
 use Rattle.std.specs.FinSet as set
 use Rattle.std.specs.Option.{option_map}
-use Rattle.heap_laws.specs.Heaps.{Evolves, GoesOn, HasLibraryLinks, HasSmallName, IsGiven, IsKeptOr, IsMovedFrom, IsOlder, KeepsLinks}
+use Rattle.heap_laws.specs.Heaps.{Evolves, GoesOn, HasEarlierLinks, HasSmallName, IsGiven, IsKeptOr, IsMovedFrom, IsOlder, KeepsLinks}
+use Rattle.heap_laws.specs.Leading.{KeepsContents, Leads, LinksOne, is_passed_on}
 use Rattle.ledger_steps.specs.Calls.{move_params}
 use Rattle.ledger_entries.specs.Entries.{birth_entries, called_entries, leak_entries, owner_entries, reset_entries}
 use Rattle.ledger_obligations.specs.Obligations.{all_notes, end_frame, end_holder, follows, has_note, is_frame, is_held_by, is_unmet, lose, may_move, move, name_of, note, noted, noted_object, own_promises, owner_holds}
@@ -18,6 +19,7 @@ use Rattle.ledger_state.specs.declared.entry.LeakWord.{LeakWord}
 use Rattle.ledger_state.specs.declared.entry.Owner.{Owner}
 use Rattle.ledger_state.specs.declared.object.Object.{Object}
 use Rattle.ledger_state.specs.declared.value.Value.{Value}
+use Rattle.ledger_state.specs.declared.value.Value.TheVariants as values
 use Rattle.ledger_steps.specs.Effects.{left}
 use Rattle.program_model.specs.declared.kinds.ClassId.{ClassId}
 use Rattle.program_model.specs.declared.kinds.VType.{VType}
@@ -28,6 +30,7 @@ use Rattle.ledger_state.specs.Leaks.{is_leak}
 use Rattle.std.specs.List.{All, list_any}
 use Rattle.std.proofs.Common.{refl}
 use Rattle.std.specs.Prelude.{Option, if◌then◌else◌, List, Some, [], false, nat_eq, None, slice_get, true, ℕ, ◌+◌, ◌<◌, ◌≡◌, ◌⊎◌}
+use Rattle.heap_laws.proofs.LeadLaws.{fields_keep, leads_end, leads_go_on, leads_itself, leads_over, leads_root, linked_root, number_over, value_before, value_over}
 use Rattle.heap_laws.proofs.LinkLaws.{appended_evolves, appended_links, frame_evolves, frame_links, holder_evolves, holder_links, lost_evolves, lost_links, moved_links, noted_links, value_evolves, value_links}
 use Rattle.heap_laws.proofs.EndLaws.{frame_back, holder_back}
 use Rattle.heap_laws.proofs.LineLaws.{birth_none, called_none, end_none, holder_none, leaks_unchanged, owner_none, reset_none, step_none}
@@ -35,7 +38,7 @@ use Rattle.heap_laws.proofs.MoveLaws.{moved_back, moved_takes, params_caused, pa
 use Rattle.heap_laws.proofs.NoteLaws.{noted_evolves, noted_goes_on, noted_has}
 use Rattle.heap_laws.proofs.ObjectLaws.{appended_at, appended_count, changed_at, changed_count, evolves_further, evolves_self, in_range, not_lost, root_changed, unchanged}
 use Rattle.heap_laws.proofs.FollowLaws.{all_closed, content_noted, names_noted, root_noted}
-use Rattle.heap_laws.proofs.RootLaws.{evolves_links, library_links_go_on, root_absent, root_goes_on, root_is_not_linked, root_itself, root_linked, root_of_goes_on, root_there}
+use Rattle.heap_laws.proofs.RootLaws.{evolves_links, earlier_links_go_on, root_absent, root_goes_on, root_is_not_linked, root_itself, root_linked, root_of_goes_on, root_there}
 
 pub changed_object_at-object : (change : ℕ → Object → Object) (h : HeapContents) (k : ℕ) → object_at (change_each change h) k ≡ option_map (change k) (object_at h k)
 changed_object_at-object = changed_at
@@ -70,28 +73,28 @@ evolving_heaps-links = evolves_links
 pub roots_of_links-itself : (h : HeapContents) (k : ℕ) (x : Object) → object_at h k ≡ Some x → x.link ≡ None → root h k ≡ k
 roots_of_links-itself = root_itself
 
-pub roots_of_links-there : (h : HeapContents) (k : ℕ) (x : Object) → HasLibraryLinks h → object_at h k ≡ Some x → (y : Object) × (object_at h (root h k) ≡ Some y) × (y.link ≡ None)
+pub roots_of_links-there : (h : HeapContents) (k : ℕ) (x : Object) → HasEarlierLinks h → object_at h k ≡ Some x → (y : Object) × (object_at h (root h k) ≡ Some y) × (y.link ≡ None)
 roots_of_links-there = root_there
 
-pub roots_of_links-linked : (h : HeapContents) (k : ℕ) (x : Object) (l : Link) → HasLibraryLinks h → object_at h k ≡ Some x → x.link ≡ Some l → root h k ≡ root h l.to
+pub roots_of_links-linked : (h : HeapContents) (k : ℕ) (x : Object) (l : Link) → HasEarlierLinks h → object_at h k ≡ Some x → x.link ≡ Some l → root h k ≡ root h l.to
 roots_of_links-linked = root_linked
 
 pub roots_of_links-absent : (h : HeapContents) (k : ℕ) → object_at h k ≡ None → root h k ≡ k
 roots_of_links-absent = root_absent
 
-pub roots_go_on-number : (h k : HeapContents) (n : ℕ) (x : Object) → HasLibraryLinks h → KeepsLinks h k → object_at h n ≡ Some x → root k n ≡ root h n
+pub roots_go_on-number : (h k : HeapContents) (n : ℕ) (x : Object) → HasEarlierLinks h → KeepsLinks h k → object_at h n ≡ Some x → root k n ≡ root h n
 roots_go_on-number = root_goes_on
 
-pub roots_go_on-value : (h k : HeapContents) (v : Value) (o : ℕ) (x : Object) → HasLibraryLinks h → KeepsLinks h k → root_of h v ≡ Some o → object_at h o ≡ Some x → root_of k v ≡ Some o
+pub roots_go_on-value : (h k : HeapContents) (v : Value) (o : ℕ) (x : Object) → HasEarlierLinks h → KeepsLinks h k → root_of h v ≡ Some o → object_at h o ≡ Some x → root_of k v ≡ Some o
 roots_go_on-value = root_of_goes_on
 
-pub roots_go_on-root : (h : HeapContents) (v : Value) (o : ℕ) (x : Object) → HasLibraryLinks h → root_of h v ≡ Some o → object_at h o ≡ Some x → x.link ≡ None
+pub roots_go_on-root : (h : HeapContents) (v : Value) (o : ℕ) (x : Object) → HasEarlierLinks h → root_of h v ≡ Some o → object_at h o ≡ Some x → x.link ≡ None
 roots_go_on-root = root_is_not_linked
 
-pub links_go_on : (h k : HeapContents) → HasLibraryLinks h
+pub links_go_on : (h k : HeapContents) → HasEarlierLinks h
     → ((n : ℕ) (y : Object) (l : Link) → object_at k n ≡ Some y → y.link ≡ Some l → (x : Object) × (object_at h n ≡ Some x) × (x.link ≡ Some l) × (y.owner ≡ x.owner) × (y.finished ≡ x.finished))
-    → HasLibraryLinks k
-links_go_on = library_links_go_on
+    → HasEarlierLinks k
+links_go_on = earlier_links_go_on
 
 pub root_of_changed : (change : ℕ → Object → Object) (h : HeapContents) (k : ℕ) → ((n : ℕ) (x : Object) → (change n x).link ≡ x.link) → root (change_each change h) k ≡ root h k
 root_of_changed = root_changed
@@ -127,15 +130,49 @@ pub called_names_are_noted : (p : Program) (notes : List Note) (h : HeapContents
     → (set.contains x.called i ≡ true) ⊎ ((has_note notes (note false k (name_of i)) ≡ true) ⊎ (has_note (all_notes p h notes) (note true k (name_of i)) ≡ true))
 called_names_are_noted p notes h k i x = names_noted p h notes k i x
 
-pub noted_names_reach_roots : (p : Program) (notes : List Note) (h : HeapContents) (a : Note) (x y : Object) → HasLibraryLinks h → has_note notes a ≡ true → a.name.0 < 128 → object_at h a.object ≡ Some x
-    → object_at (noted p notes h) (root h a.object) ≡ Some y → set.contains y.called a.name.0 ≡ true
-noted_names_reach_roots p notes h a x y links = root_noted p h links notes a x y
+pub noted_names_reach_roots : (p : Program) (notes : List Note) (h : HeapContents) (a : Note) (r : ℕ) (x y : Object) → All HasSmallName notes → has_note notes a ≡ true → object_at h a.object ≡ Some x
+    → is_passed_on p a x ≡ true → Leads p h a.object r → object_at (noted p notes h) r ≡ Some y → set.contains y.called a.name.0 ≡ true
+noted_names_reach_roots p notes h = root_noted p h notes
 
-pub kept_names_reach_contents : (p : Program) (notes : List Note) (h : HeapContents) (w o i : ℕ) (n : NameId) (x y : Object) (f : FieldId) → HasLibraryLinks h → All HasSmallName notes
+pub kept_names_reach_contents : (p : Program) (notes : List Note) (h : HeapContents) (w v o i : ℕ) (n : NameId) (x y : Object) (f : FieldId) → All HasSmallName notes
     → has_note (all_notes p h notes) (note true w n) ≡ true → object_at h w ≡ Some x
     → set.contains (promised_names (λ t. is_of_field t f) (own_promises p x.class n)) i ≡ true → i < 128
-    → root_of h (field_value p h w f) ≡ Some o → object_at (noted p notes h) o ≡ Some y → set.contains y.called i ≡ true
-kept_names_reach_contents p notes h w o i n x y f links = content_noted p h links notes w o i n x y f
+    → field_value p h w f ≡ values.Object v → Leads p h v o → object_at (noted p notes h) o ≡ Some y → set.contains y.called i ≡ true
+kept_names_reach_contents p notes h = content_noted p h notes
+
+pub leading_links-root : (p : Program) (h : HeapContents) (k r : ℕ) → HasEarlierLinks h → Leads p h k r → root h k ≡ r
+leading_links-root = leads_root
+
+pub leading_links-end : (p : Program) (h : HeapContents) (k r : ℕ) → Leads p h k r → (y : Object) × (object_at h r ≡ Some y) × (y.link ≡ None)
+leading_links-end = leads_end
+
+pub leading_links-itself : (p : Program) (h : HeapContents) (k r : ℕ) (x : Object) → root h k ≡ r → object_at h k ≡ Some x → x.link ≡ None → Leads p h k r
+leading_links-itself = leads_itself
+
+pub leading_links-on : (p : Program) (h j : HeapContents) (k r : ℕ) → HasEarlierLinks h → Evolves h j → KeepsContents p h j → Leads p h k r → Leads p j k r
+leading_links-on = leads_go_on
+
+pub unchanged_fields_keep_contents : (p : Program) (h j : HeapContents) → j.fields ≡ h.fields → KeepsContents p h j
+unchanged_fields_keep_contents = fields_keep
+
+pub leading_links_over_a_link : (h j : HeapContents) (w : ℕ) (l : Link) → HasEarlierLinks h → LinksOne w l h j → (p : Program) → KeepsContents p h j → (o : ℕ) → Leads p j w o
+    → (k r : ℕ) → Leads p h k r → (r ≡ w → Leads p j k o) × ((r ≡ w → ⊥) → Leads p j k r)
+leading_links_over_a_link = leads_over
+
+pub roots_over_a_link-linked : (h j : HeapContents) (w : ℕ) (l : Link) → HasEarlierLinks h → LinksOne w l h j → HasEarlierLinks j → root j w ≡ root h l.to
+roots_over_a_link-linked = linked_root
+
+pub roots_over_a_link-number : (h j : HeapContents) (w : ℕ) (l : Link) → HasEarlierLinks h → LinksOne w l h j → HasEarlierLinks j → (k : ℕ) (x : Object) → object_at h k ≡ Some x
+    → (root h k ≡ w → root j k ≡ root h l.to) × ((root h k ≡ w → ⊥) → root j k ≡ root h k)
+roots_over_a_link-number = number_over
+
+pub roots_over_a_link-value : (h j : HeapContents) (w : ℕ) (l : Link) → HasEarlierLinks h → LinksOne w l h j → HasEarlierLinks j → (v : Value) (r : ℕ) (x : Object) → root_of h v ≡ Some r
+    → object_at h r ≡ Some x → (r ≡ w → root_of j v ≡ Some (root h l.to)) × ((r ≡ w → ⊥) → root_of j v ≡ Some r)
+roots_over_a_link-value = value_over
+
+pub roots_over_a_link-before : (h j : HeapContents) (w : ℕ) (l : Link) → HasEarlierLinks h → LinksOne w l h j → HasEarlierLinks j → (v : Value) (o : ℕ) (y : Object) → root_of j v ≡ Some o
+    → object_at j o ≡ Some y → (root_of h v ≡ Some o) ⊎ ((root_of h v ≡ Some w) × (root h l.to ≡ o))
+roots_over_a_link-before = value_before
 
 pub owner_lines_leak_nothing : (p : Program) (pos : Pos) (h k : HeapContents) → list_any is_leak (owner_entries p pos h k) ≡ false
 owner_lines_leak_nothing = owner_none
@@ -180,25 +217,25 @@ pub end_of_holder_leaks_nothing : (p : Program) (word : LeakWord) (pos : Pos) (w
     → leak_entries p word pos h (end_holder w h) ≡ []
 end_of_holder_leaks_nothing = holder_none
 
-pub links_stay-moved : (p : Program) (o : Owner) (arguments : ℕ → Value) (k : ℕ) (params : List ParamSig) (h : HeapContents) → HasLibraryLinks h → HasLibraryLinks (move_params p o arguments k params h)
+pub links_stay-moved : (p : Program) (o : Owner) (arguments : ℕ → Value) (k : ℕ) (params : List ParamSig) (h : HeapContents) → HasEarlierLinks h → HasEarlierLinks (move_params p o arguments k params h)
 links_stay-moved = moved_links
 
-pub links_stay-value : (p : Program) (t : VType) (o : Owner) (v : Value) (h : HeapContents) → HasLibraryLinks h → HasLibraryLinks (move p t o v h)
+pub links_stay-value : (p : Program) (t : VType) (o : Owner) (v : Value) (h : HeapContents) → HasEarlierLinks h → HasEarlierLinks (move p t o v h)
 links_stay-value = value_links
 
-pub links_stay-made : (h : HeapContents) (c : ClassId) → HasLibraryLinks h → HasLibraryLinks (append h c)
+pub links_stay-made : (h : HeapContents) (c : ClassId) → HasEarlierLinks h → HasEarlierLinks (append h c)
 links_stay-made = appended_links
 
-pub links_stay-noted : (p : Program) (notes : List Note) (h : HeapContents) → HasLibraryLinks h → HasLibraryLinks (noted p notes h)
+pub links_stay-noted : (p : Program) (notes : List Note) (h : HeapContents) → HasEarlierLinks h → HasEarlierLinks (noted p notes h)
 links_stay-noted = noted_links
 
-pub links_stay-frame : (j : ℕ) (h : HeapContents) → HasLibraryLinks h → HasLibraryLinks (end_frame j h)
+pub links_stay-frame : (j : ℕ) (h : HeapContents) → HasEarlierLinks h → HasEarlierLinks (end_frame j h)
 links_stay-frame = frame_links
 
-pub links_stay-holder : (w : Option ℕ) (h : HeapContents) → HasLibraryLinks h → HasLibraryLinks (end_holder w h)
+pub links_stay-holder : (w : Option ℕ) (h : HeapContents) → HasEarlierLinks h → HasEarlierLinks (end_holder w h)
 links_stay-holder = holder_links
 
-pub links_stay-lost : (held : List (List Value)) (h : HeapContents) → HasLibraryLinks h → HasLibraryLinks (lose held h)
+pub links_stay-lost : (held : List (List Value)) (h : HeapContents) → HasEarlierLinks h → HasEarlierLinks (lose held h)
 links_stay-lost = lost_links
 
 pub objects_go_on-value : (p : Program) (t : VType) (o : Owner) (v : Value) (h : HeapContents) → Evolves h (move p t o v h)

@@ -9,3 +9,4 @@ pub mod LineLaws
 pub mod EndLaws
 pub mod Laws
 pub mod LinkLaws
+pub mod LeadLaws

@@ -14,20 +14,20 @@ use Rattle.ledger_state.specs.declared.value.Value.{Value}
 use Rattle.ledger_obligations.specs.declared.note.Note.{Note}
 use Rattle.ledger_obligations.specs.Obligations.{all_notes, end_frame, end_holder, given_up, given_up_by_frame, given_up_by_holder, is_frame, is_held_by, is_unmet, lose, lost_object, may_move, move, moved_to, noted, noted_object, owner_holds, with_owner}
 use Rattle.ledger_steps.specs.Calls.{move_params}
-use Rattle.heap_laws.specs.Heaps.{Evolves, GoesOn, HasLibraryLinks}
+use Rattle.heap_laws.specs.Heaps.{Evolves, GoesOn, HasEarlierLinks}
 use Rattle.heap_laws.proofs.EndLaws.{changed_back, given_up_goes_on}
 use Rattle.heap_laws.proofs.MoveLaws.{moved_back, params_caused, params_older}
 use Rattle.heap_laws.proofs.NoteLaws.{noted_goes_on}
 use Rattle.heap_laws.proofs.ObjectLaws.{appended_at, changed_at, goes_on_self, in_range}
-use Rattle.heap_laws.proofs.RootLaws.{library_links_go_on, root_is_not_linked}
+use Rattle.heap_laws.proofs.RootLaws.{earlier_links_go_on, root_is_not_linked}
 
 unlinked_is_not : (x : Object) (l : Link) → x.link ≡ None → x.link ≡ Some l → ⊥
 unlinked_is_not x l none some = let never : None ≡ Some l = sym none ∙ some in cc
 
 -- ---- moves
 
-pub moved_links : (p : Program) (o : Owner) (arguments : ℕ → Value) (k : ℕ) (params : List ParamSig) (h : HeapContents) → HasLibraryLinks h → HasLibraryLinks (move_params p o arguments k params h)
-moved_links p o arguments k params h links = library_links_go_on h (move_params p o arguments k params h) links (λ n y l at link.
+pub moved_links : (p : Program) (o : Owner) (arguments : ℕ → Value) (k : ℕ) (params : List ParamSig) (h : HeapContents) → HasEarlierLinks h → HasEarlierLinks (move_params p o arguments k params h)
+moved_links p o arguments k params h links = earlier_links_go_on h (move_params p o arguments k params h) links (λ n y l at link.
     (let old = params_older p o arguments k params h n y at in
     let was : old.before.link ≡ Some l = sym old.goes_on.link ∙ link in
     (old.before, old.at, was, owner n old.before y l old.at at was, old.goes_on.finished)))
@@ -38,8 +38,8 @@ moved_links p o arguments k params h links = library_links_go_on h (move_params 
       | inr given ↦ absurd (unlinked_is_not x l (root_is_not_linked h (arguments (k + given.index)) n x links given.root before) link)
     ]
 
-pub value_links : (p : Program) (t : VType) (o : Owner) (v : Value) (h : HeapContents) → HasLibraryLinks h → HasLibraryLinks (move p t o v h)
-value_links p t o v h links = library_links_go_on h (move p t o v h) links (λ n y l at link.
+pub value_links : (p : Program) (t : VType) (o : Owner) (v : Value) (h : HeapContents) → HasEarlierLinks h → HasEarlierLinks (move p t o v h)
+value_links p t o v h links = earlier_links_go_on h (move p t o v h) links (λ n y l at link.
     (let old = moved_back p t o v h n y at in
     let was : old.0.link ≡ Some l = sym old.2.0.link ∙ link in (
       old.0,
@@ -62,7 +62,7 @@ appended_back h c n x at = go (nat_eq n (next_number h)) refl (sym (appended_at 
     go true is same = inl (eqb-true n (next_number h) is, (let one : x ≡ unfinished c = cc in one))
     go false is same = inr same
 
-pub appended_links : (h : HeapContents) (c : ClassId) → HasLibraryLinks h → HasLibraryLinks (append h c)
+pub appended_links : (h : HeapContents) (c : ClassId) → HasEarlierLinks h → HasEarlierLinks (append h c)
 appended_links h c links n y l at link = elim (appended_back h c n y at) [
   | inl new ↦ absurd (unlinked_is_not y l (ap (λ (z : Object). z.link) new.1) link)
   | inr old ↦ links n y l old link
@@ -81,7 +81,7 @@ appended_evolves h c n x at = (x, appended_at h c n ∙ go (nat_eq n (next_numbe
 abbrev pub LeavesUnowned : (ℕ → Object → Object) → Type 0
 LeavesUnowned f = (n : ℕ) (x : Object) → GoesOn x (f n x) × (x.owner ≡ owners.Unowned → (f n x).owner ≡ owners.Unowned)
 
-pub each_links : (f : ℕ → Object → Object) (h : HeapContents) → LeavesUnowned f → HasLibraryLinks h → HasLibraryLinks (change_each f h)
+pub each_links : (f : ℕ → Object → Object) (h : HeapContents) → LeavesUnowned f → HasEarlierLinks h → HasEarlierLinks (change_each f h)
 each_links f h leaves links n y l at link =
     let x = changed_back f h n y at in
     let was : x.0.link ≡ Some l = sym (leaves n x.0).0.link ∙ ap (λ (z : Object). z.link) x.2 ∙ link in
@@ -89,7 +89,6 @@ each_links f h leaves links n y l at link =
     record {
       there = is.there;
       before = is.before;
-      by_library = is.by_library;
       owner = ap (λ (z : Object). z.owner) (sym x.2) ∙ (leaves n x.0).1 is.owner;
       finished = ap (λ (z : Object). z.finished) (sym x.2) ∙ (leaves n x.0).0.finished ∙ is.finished;
     }
@@ -119,16 +118,16 @@ lost_leaves h held n x = go (is_unmet x) (owner_holds h held x.owner n) (λ none
     go true false held' = (record { class = refl; link = refl; finished = refl; must = refl; called = (goes_on_self x).called }, λ none. absurd (true≢false (sym (held' none))))
     go false c held' = (goes_on_self x, λ none. none)
 
-pub noted_links : (p : Program) (notes : List Note) (h : HeapContents) → HasLibraryLinks h → HasLibraryLinks (noted p notes h)
+pub noted_links : (p : Program) (notes : List Note) (h : HeapContents) → HasEarlierLinks h → HasEarlierLinks (noted p notes h)
 noted_links p notes h = each_links (noted_object (all_notes p h notes)) h (noted_leaves (all_notes p h notes))
 
-pub frame_links : (j : ℕ) (h : HeapContents) → HasLibraryLinks h → HasLibraryLinks (end_frame j h)
+pub frame_links : (j : ℕ) (h : HeapContents) → HasEarlierLinks h → HasEarlierLinks (end_frame j h)
 frame_links j h = each_links (given_up_by_frame j) h (frame_leaves j)
 
 pub frame_evolves : (j : ℕ) (h : HeapContents) → Evolves h (end_frame j h)
 frame_evolves j h = each_evolves (given_up_by_frame j) h (frame_leaves j)
 
-pub holder_links : (w : Option ℕ) (h : HeapContents) → HasLibraryLinks h → HasLibraryLinks (end_holder w h)
+pub holder_links : (w : Option ℕ) (h : HeapContents) → HasEarlierLinks h → HasEarlierLinks (end_holder w h)
 holder_links None h links = links
 holder_links (Some w) h links = each_links (given_up_by_holder w) h (holder_leaves w) links
 
@@ -136,7 +135,7 @@ pub holder_evolves : (w : Option ℕ) (h : HeapContents) → Evolves h (end_hold
 holder_evolves None h n x at = (x, at, goes_on_self x)
 holder_evolves (Some w) h n x at = each_evolves (given_up_by_holder w) h (holder_leaves w) n x at
 
-pub lost_links : (held : List (List Value)) (h : HeapContents) → HasLibraryLinks h → HasLibraryLinks (lose held h)
+pub lost_links : (held : List (List Value)) (h : HeapContents) → HasEarlierLinks h → HasEarlierLinks (lose held h)
 lost_links held h = each_links (lost_object h held) h (lost_leaves h held)
 
 pub lost_evolves : (held : List (List Value)) (h : HeapContents) → Evolves h (lose held h)

@@ -211,14 +211,14 @@ no_follower p h a none = ap (λ (x : Option Object). optional (through_in p a.na
     by_kept true = ap (λ (x : Option Object). kept_fields p h a.object a.name (class_in x)) none
     by_kept false = refl
 
--- a name that the library's link takes on
-pub link_follows : (p : Program) (h : HeapContents) (kept : Bool) (k : ℕ) (n : NameId) (x : Object) (l : Link) → object_at h k ≡ Some x → x.link ≡ Some l → l.by_library ≡ true
+-- a name that the link takes on
+pub link_follows : (p : Program) (h : HeapContents) (kept : Bool) (k : ℕ) (n : NameId) (x : Object) (l : Link) → object_at h k ≡ Some x → x.link ≡ Some l → goes_on p n x l ≡ true
     → has_note (follows p h (note kept k n)) (note true l.to n) ≡ true
-link_follows p h kept k n x l at link library =
+link_follows p h kept k n x l at link on =
     has_left (optional (through_in p n (object_at h k))) (contents p h (note kept k n) kept) (note true l.to n)
     (ap (λ (y : Option Object). has_note (optional (through_in p n y)) (note true l.to n)) at
     ∙ ap (λ (m : Option Link). has_note (optional (through p n x m)) (note true l.to n)) link
-    ∙ rw library (or_left (same_note (note true l.to n) (note true l.to n)) false (same_note_self (note true l.to n))))
+    ∙ rw on (or_left (same_note (note true l.to n) (note true l.to n)) false (same_note_self (note true l.to n))))
 
 -- ---- names of all
 

@@ -14,18 +14,17 @@ use Rattle.ledger_state.specs.declared.value.Value.{Value}
 use Rattle.ledger_obligations.specs.declared.note.Note.{Note}
 use Rattle.ledger_obligations.specs.Obligations.{given_up, may_move}
 
--- Object `k`, here `x`, is linked to one that was made before: a call of the library made the link, `x` is finished, and nobody owns it, since the
--- end of its links, its root, has the obligation.
-pub record IsLibraryLink (k : ℕ) (x : Object) (l : Link) : Type 0 where
+-- Object `k`, here `x`, is linked to one that was made before it: `x` is finished, and nobody owns it, since the end of its links, its root, has
+-- the obligation.
+pub record IsEarlierLink (k : ℕ) (x : Object) (l : Link) : Type 0 where
   pub there : 0 < l.to
   pub before : l.to < k
-  pub by_library : l.by_library ≡ true
   pub owner : x.owner ≡ owners.Unowned
   pub finished : x.finished ≡ true
 
 -- each object that is linked is linked so
-abbrev pub HasLibraryLinks : HeapContents → Type 0
-HasLibraryLinks h = (k : ℕ) (x : Object) (l : Link) → object_at h k ≡ Some x → x.link ≡ Some l → IsLibraryLink k x l
+abbrev pub HasEarlierLinks : HeapContents → Type 0
+HasEarlierLinks h = (k : ℕ) (x : Object) (l : Link) → object_at h k ≡ Some x → x.link ≡ Some l → IsEarlierLink k x l
 
 -- The object `x` goes on as `y`: all stays but its owner, and more names may have been called on it. (A reset is none of this.)
 pub record GoesOn (x y : Object) : Type 0 where

@@ -1,1 +1,11 @@
 pub mod Heaps
+pub mod Leading
+pub use Rattle.ledger_steps.specs.CallSteps
+pub use Rattle.ledger_steps.specs.InnerSteps
+pub use Rattle.ledger_steps.specs.Ends
+pub use Rattle.ledger_entries.specs.Entries
+pub use Rattle.must_call_sets.specs.Bodies
+pub use Rattle.must_call_sets.specs.MustCallSets
+pub use Rattle.must_call_sets.specs.OverrideCases
+pub use Rattle.must_call_sets.specs.Signatures
+pub use Rattle.ledger_obligations.specs.Obligations

@@ -2,6 +2,7 @@
 #![tactic(auto)]
 
 mod ends;
+mod leading;
 mod lines;
 mod moves;
 mod notes;
@@ -9,6 +10,9 @@ mod objects;
 mod roots;
 
 pub use ends::{ended_frame_gives_up, ended_holder_gives_up};
+pub use leading::{
+    leading_links, leading_links_over_a_link, roots_over_a_link, unchanged_fields_keep_contents,
+};
 pub use lines::{
     birth_lines_leak_nothing, called_lines_leak_nothing, end_of_frame_leaks_nothing,
     end_of_holder_leaks_nothing, owner_lines_leak_nothing, reset_lines_leak_nothing,

@@ -14,41 +14,41 @@ ghost use Rattle.ledger_state.specs.declared.value.Value.{Value};
 ghost use Rattle.ledger_obligations.specs.declared.note.Note.{Note};
 ghost use Rattle.ledger_obligations.specs.Obligations.{end_frame, end_holder, lose, move, noted};
 ghost use Rattle.ledger_steps.specs.Calls.{move_params};
-ghost use Rattle.heap_laws.specs.Heaps.{Evolves, HasLibraryLinks, KeepsLinks};
+ghost use Rattle.heap_laws.specs.Heaps.{Evolves, HasEarlierLinks, KeepsLinks};
 
 /// The end of the links of an object: it is an object that is not linked.
 pub fn roots_of_links()
     ensures itself { (h : HeapContents) (k : ℕ) (x : Object) → object_at h k ≡ Some x → x.link ≡ None → root h k ≡ k }
-    ensures there { (h : HeapContents) (k : ℕ) (x : Object) → HasLibraryLinks h → object_at h k ≡ Some x → (y : Object) × (object_at h (root h k) ≡ Some y) × (y.link ≡ None) }
-    ensures linked { (h : HeapContents) (k : ℕ) (x : Object) (l : Link) → HasLibraryLinks h → object_at h k ≡ Some x → x.link ≡ Some l → root h k ≡ root h l.to }
+    ensures there { (h : HeapContents) (k : ℕ) (x : Object) → HasEarlierLinks h → object_at h k ≡ Some x → (y : Object) × (object_at h (root h k) ≡ Some y) × (y.link ≡ None) }
+    ensures linked { (h : HeapContents) (k : ℕ) (x : Object) (l : Link) → HasEarlierLinks h → object_at h k ≡ Some x → x.link ≡ Some l → root h k ≡ root h l.to }
     ensures absent { (h : HeapContents) (k : ℕ) → object_at h k ≡ None → root h k ≡ k }
 {}
 
 /// Objects that keep their links keep their roots, and the root of a value is not linked.
 pub fn roots_go_on()
-    ensures number { (h k : HeapContents) (n : ℕ) (x : Object) → HasLibraryLinks h → KeepsLinks h k → object_at h n ≡ Some x → root k n ≡ root h n }
-    ensures value { (h k : HeapContents) (v : Value) (o : ℕ) (x : Object) → HasLibraryLinks h → KeepsLinks h k → root_of h v ≡ Some o → object_at h o ≡ Some x → root_of k v ≡ Some o }
-    ensures root { (h : HeapContents) (v : Value) (o : ℕ) (x : Object) → HasLibraryLinks h → root_of h v ≡ Some o → object_at h o ≡ Some x → x.link ≡ None }
+    ensures number { (h k : HeapContents) (n : ℕ) (x : Object) → HasEarlierLinks h → KeepsLinks h k → object_at h n ≡ Some x → root k n ≡ root h n }
+    ensures value { (h k : HeapContents) (v : Value) (o : ℕ) (x : Object) → HasEarlierLinks h → KeepsLinks h k → root_of h v ≡ Some o → object_at h o ≡ Some x → root_of k v ≡ Some o }
+    ensures root { (h : HeapContents) (v : Value) (o : ℕ) (x : Object) → HasEarlierLinks h → root_of h v ≡ Some o → object_at h o ≡ Some x → x.link ≡ None }
 {}
 
-/// The links stay the library's where each object that is linked was linked so, with the same owner.
+/// Links lead to earlier objects where each object that is linked was linked so, with the same owner.
 pub fn links_go_on()
-    ensures { (h k : HeapContents) → HasLibraryLinks h
+    ensures { (h k : HeapContents) → HasEarlierLinks h
         → ((n : ℕ) (y : Object) (l : Link) → object_at k n ≡ Some y → y.link ≡ Some l → (x : Object) × (object_at h n ≡ Some x) × (x.link ≡ Some l) × (y.owner ≡ x.owner) × (y.finished ≡ x.finished))
-        → HasLibraryLinks k }
+        → HasEarlierLinks k }
 {}
 
-/// The links stay the library's where arguments move, a value moves, an object is made, calls are noted, a frame or an object ends, and what
+/// Links lead to earlier objects still where arguments move, a value moves, an object is made, calls are noted, a frame or an object ends, and what
 /// no place holds is lost.
 pub fn links_stay()
-    ensures moved { (p : Program) (o : Owner) (arguments : ℕ → Value) (k : ℕ) (params : List ParamSig) (h : HeapContents) → HasLibraryLinks h
-        → HasLibraryLinks (move_params p o arguments k params h) }
-    ensures value { (p : Program) (t : VType) (o : Owner) (v : Value) (h : HeapContents) → HasLibraryLinks h → HasLibraryLinks (move p t o v h) }
-    ensures made { (h : HeapContents) (c : ClassId) → HasLibraryLinks h → HasLibraryLinks (append h c) }
-    ensures noted { (p : Program) (notes : List Note) (h : HeapContents) → HasLibraryLinks h → HasLibraryLinks (noted p notes h) }
-    ensures frame { (j : ℕ) (h : HeapContents) → HasLibraryLinks h → HasLibraryLinks (end_frame j h) }
-    ensures holder { (w : Option ℕ) (h : HeapContents) → HasLibraryLinks h → HasLibraryLinks (end_holder w h) }
-    ensures lost { (held : List (List Value)) (h : HeapContents) → HasLibraryLinks h → HasLibraryLinks (lose held h) }
+    ensures moved { (p : Program) (o : Owner) (arguments : ℕ → Value) (k : ℕ) (params : List ParamSig) (h : HeapContents) → HasEarlierLinks h
+        → HasEarlierLinks (move_params p o arguments k params h) }
+    ensures value { (p : Program) (t : VType) (o : Owner) (v : Value) (h : HeapContents) → HasEarlierLinks h → HasEarlierLinks (move p t o v h) }
+    ensures made { (h : HeapContents) (c : ClassId) → HasEarlierLinks h → HasEarlierLinks (append h c) }
+    ensures noted { (p : Program) (notes : List Note) (h : HeapContents) → HasEarlierLinks h → HasEarlierLinks (noted p notes h) }
+    ensures frame { (j : ℕ) (h : HeapContents) → HasEarlierLinks h → HasEarlierLinks (end_frame j h) }
+    ensures holder { (w : Option ℕ) (h : HeapContents) → HasEarlierLinks h → HasEarlierLinks (end_holder w h) }
+    ensures lost { (held : List (List Value)) (h : HeapContents) → HasEarlierLinks h → HasEarlierLinks (lose held h) }
 {}
 
 /// Each object goes on in these changes.

@@ -1,12 +1,14 @@
 //! The steps of the machine.
 
-ghost use Rattle.std.specs.Prelude.{◌≡◌, ◌∷◌, ◌<◌, ◌≤◌, [], length, map, reverse, true, vec_len, IfOk, OnErr, OnOk};
+ghost use Rattle.std.specs.Prelude.{◌≡◌, ◌∷◌, ◌<◌, ◌≤◌, [], length, map, reverse, true, vec_len, IfOk, IfSome, OnErr, OnOk};
+ghost use Rattle.frame_owners.specs.FrameOwners.{Listed, lists_in};
 ghost use Rattle.ledger_machine.specs.Configurations.{configuration};
 ghost use Rattle.machine_state.specs.RunStates.{HasNothingToLose, config_of};
 ghost use Rattle.ledger_moves.specs.Frames.{control_left, highest_control, move_seen};
 ghost use Rattle.ledger_runs.specs.Outcomes.{config_after};
 ghost use Rattle.ledger_machine.specs.Turns.{turn_of};
 ghost use Rattle.ledger_obligations.specs.Obligations.{held_in};
+ghost use Rattle.object_index.specs.ObjectIndexes.{Indexed};
 ghost use Rattle.settled_heaps.specs.Settled.{Settled};
 ghost use Rattle.ledger_runs.specs.Starts.{start_config};
 ghost use Rattle.ledger_runs.specs.Steps.{has_ended, moved_by, step, top_move};
@@ -22,6 +24,7 @@ use ledger_state::{Entry, Heap, Value, library_array};
 use machine_calls::{run_library, run_start};
 use machine_state::RunState;
 use machine_steps::run_inner;
+use object_index::{ObjectIndex, heap_index};
 use program_model::{ClassId, ElementType, MethodId, Program};
 use rlc_base::NoMemory;
 use settled_heaps::is_settled_heap;
@@ -142,8 +145,37 @@ fn is_settled_run(m: &RunState) -> bool
     }
 }
 
-// Looks whether an object is left to lose, and which objects the frames own, where that is not known. Where memory runs out it stays
-// unknown.
+// Which objects the frames own, and the index of the heap.
+#[derive(Drop)]
+struct RunLists {
+    owned: Vec<Vec<u64>>,
+    index: ObjectIndex,
+}
+
+fn both_lists(owned: Vec<Vec<u64>>, index: ObjectIndex) -> Option<RunLists>
+    ensures owned { IfSome result (λ r. r.owned ≡ owned) }
+    ensures index { IfSome result (λ r. r.index ≡ index) }
+{
+    Some(RunLists { owned, index })
+}
+
+// Looks which objects so many frames own, and for each object which others its fields own and which are linked to it. It walks all
+// objects.
+fn run_lists(alloc: Global, heap: &Heap, count: usize) -> Result<Option<RunLists>, NoMemory>
+    ensures owned { IfOk result (λ o. IfSome o (λ r. Listed (lists_in r.owned.items) heap.now)) }
+    ensures index { IfOk result (λ o. IfSome o (λ r. Indexed r.index heap.now)) }
+{
+    match owner_lists(alloc, heap, count)? {
+        None => Ok(None),
+        Some(owned) => match heap_index(alloc, heap)? {
+            None => Ok(None),
+            Some(index) => Ok(both_lists(owned, index)),
+        },
+    }
+}
+
+// Looks whether an object is left to lose, which objects the frames own, and which belong to or are linked to others, where that is not
+// known. Where memory runs out it stays unknown.
 fn settle(alloc: Global, m: &mut RunState)
     requires bounded { highest_control m.old.frames.items ≤ length m.old.lists.cells.keys }
     requires settled { HasNothingToLose m.old }
@@ -157,9 +189,11 @@ fn settle(alloc: Global, m: &mut RunState)
     if !is_settled_run(m) {
         return;
     }
-    match owner_lists(alloc, &m.heap, m.frames.len()) {
-        Ok(Some(lists)) => {
-            m.owned = lists;
+    match run_lists(alloc, &m.heap, m.frames.len()) {
+        Ok(Some(found)) => {
+            let RunLists { owned, index } = found;
+            m.owned = owned;
+            m.index = index;
             m.settled = true;
         }
         Ok(None) | Err(_) => {}
@@ -234,6 +268,7 @@ pub fn start_machine(
             ended: None,
             settled: false,
             owned: Vec::new(alloc),
+            index: ObjectIndex::new(alloc),
         },
     })
 }

@@ -1,11 +1,11 @@
 //! The heap: the class objects of a run, and what their fields hold.
 
-ghost use Rattle.std.specs.Prelude.{◌≡◌, ◌<◌, [], length, find, IfOk, IfSome, OnOk, OnErr};
-ghost use Rattle.std.specs.List.{position_from};
-ghost use Rattle.ledger_state.specs.Heaps.{append, change_one, changed_from, is_field_of, link_of, next_number, object_at, object_in, only_at, put_at, put_field, root, root_of, same_root, stored_field, unfinished};
+ghost use Rattle.std.specs.Prelude.{◌≡◌, [], IfOk, OnOk, OnErr};
+ghost use Rattle.ledger_state.specs.Heaps.{append, change_one, changed_from, link_of, next_number, object_at, object_in, only_at, put_field, root, root_of, same_root, stored_field, unfinished};
 
 use crate::entry::Owner;
-use crate::object::{Object, StoredField};
+use crate::object::Object;
+use crate::stored_fields::{ObjectField, StoredFields};
 use crate::value::Value;
 use program_model::{ClassId, FieldId};
 use rlc_base::{NameSet, NoMemory};
@@ -13,10 +13,9 @@ use std::alloc::Global;
 use std::marker::Model;
 
 /// The class objects, of which that with number k stands at k - 1, and what their fields hold, where that was stored.
-#[derive(Drop)]
 pub struct Heap {
     pub objects: Vec<Object>,
-    pub fields: Vec<StoredField>,
+    fields: StoredFields,
 }
 
 impl Model for Heap {
@@ -32,7 +31,16 @@ impl Model for Heap {
 
     ghost coded = { code_by (List Object × List StoredField) (coded× (coded_list object_contract.the_row.coded) (coded_list field_contract.the_row.coded)) (λ h. (h.objects, h.fields)) (λ p. record { objects = p.0; fields = p.1 }) (λ _. refl) };
 
-    ghost view = { λ h. record { objects = h.objects.items; fields = h.fields.items } };
+    ghost view = { λ h. record { objects = h.objects.items; fields = h.fields } };
+}
+
+// Written out, so that a function that lets a heap go has one call and not the parts of the index.
+impl Drop for Heap {
+    fn drop(self) {
+        let Heap { objects, fields } = self;
+        drop(fields);
+        drop(objects);
+    }
 }
 
 impl Heap {
@@ -43,7 +51,7 @@ impl Heap {
     {
         Heap {
             objects: Vec::new(alloc),
-            fields: Vec::new(alloc),
+            fields: StoredFields::new(alloc),
         }
     }
 
@@ -52,7 +60,7 @@ impl Heap {
         ensures { IfOk result (λ h. h ≡ self.now) }
     {
         let objects = Vec::from_slice(alloc, self.objects.as_slice())?;
-        let fields = Vec::from_slice(alloc, self.fields.as_slice())?;
+        let fields = self.fields.copy()?;
         Ok(Heap { objects, fields })
     }
 
@@ -126,10 +134,7 @@ impl Heap {
     pub fn stored_field(&self, holder: u64, field: FieldId) -> Option<Value>
         ensures { result ≡ stored_field self.now holder field }
     {
-        match field_found(&self.fields, holder, field) {
-            None => None,
-            Some(stored) => Some(stored.value),
-        }
+        self.fields.value(ObjectField { holder, field })
     }
 
     /// Puts a value into the field of the object with number `holder`. Where memory runs out the heap stays as it was.
@@ -137,12 +142,7 @@ impl Heap {
         ensures ok { OnOk result (self.new ≡ put_field holder field value self.old) }
         ensures err { OnErr result (self.new ≡ self.old) }
     {
-        let stored = StoredField {
-            holder,
-            field,
-            value,
-        };
-        put_stored(&mut self.fields, stored)
+        self.fields.put(ObjectField { holder, field }, value)
     }
 }
 
@@ -178,44 +178,6 @@ pub fn unfinished(class: ClassId) -> Object
         must: NameSet::empty(),
         called: NameSet::empty(),
         owner: Owner::Unowned,
-    }
-}
-
-fn is_field_of(stored: StoredField, holder: u64, field: FieldId) -> bool
-    ensures { result ≡ is_field_of holder field stored }
-{
-    stored.holder == holder && stored.field == field
-}
-
-fn field_found(fields: &[StoredField], holder: u64, field: FieldId) -> Option<StoredField>
-    ensures { result ≡ find (is_field_of holder field) fields.now }
-{
-    fields
-        .iter()
-        .copied()
-        .find(|s| is_field_of(*s, holder, field))
-}
-
-fn field_place(fields: &[StoredField], holder: u64, field: FieldId) -> Option<usize>
-    ensures place { result ≡ position_from (is_field_of holder field) 0 fields.now }
-    ensures within { IfSome result (λ i. i < length fields.now) }
-{
-    fields.iter().position(|s| is_field_of(*s, holder, field))
-}
-
-fn put_stored(fields: &mut Vec<StoredField>, stored: StoredField) -> Result<(), NoMemory>
-    ensures ok { OnOk result (fields.new.items ≡ put_at (position_from (is_field_of stored.holder stored.field) 0 fields.old.items) stored fields.old.items) }
-    ensures err { OnErr result (fields.new.items ≡ fields.old.items) }
-{
-    match field_place(fields, stored.holder, stored.field) {
-        None => {
-            fields.push(stored)?;
-            Ok(())
-        }
-        Some(place) => {
-            fields[place] = stored;
-            Ok(())
-        }
     }
 }
 

@@ -9,6 +9,7 @@ mod fields;
 mod heap;
 mod locals;
 mod object;
+mod stored_fields;
 mod value;
 mod values;
 

@@ -1,6 +1,6 @@
 -- The calls of the program: each runs the method that it names.
 use Rattle.std.specs.Prelude.{◌||◌, ◌&&◌, nat_eq, unwrap_or}
-use Rattle.std.specs.List.{list_any}
+use Rattle.std.specs.FinSet as set
 use Rattle.std.proofs.Common.{◌≡◌, ◌⊎◌, ℕ, zero, suc, Bool, true, false, true≢false, not, Option, Some, None, [], ◌∷◌, refl, sym, ap, ◌∙◌, subst, inl, inr, if◌then◌else◌, eqb-true}
 use Rattle.program_model.specs.declared.kinds.ClassId.{ClassId}
 use Rattle.program_model.specs.declared.kinds.MethodId.{MethodId}
@@ -15,7 +15,7 @@ use Rattle.program_model.specs.SuperTests.{classes_above, has_class, is_under}
 use Rattle.owner_examples.specs.MustCallSets.{must_of_optional}
 use Rattle.owner_examples.specs.OverrideCases.{has_other_owning, has_other_result, has_wider_result}
 use Rattle.owner_examples.specs.Obligations.{is_library_method}
-use Rattle.owner_examples.specs.PlainForms.{IsPlainCall, IsPlainSignature, IsPromisedPlainly, MayRun, PromisesPlainly, RunsFor, asks_on_owned, by_class, by_name, is_lent_parameter, run_by}
+use Rattle.owner_examples.specs.PlainForms.{IsPlainCall, IsPlainSignature, IsPromisedPlainly, MayRun, PromisesPlainly, RunsFor, by_class, by_name, is_lent_parameter, run_by}
 use Rattle.owner_examples.specs.Programs.{method_number, no_names}
 use Rattle.owner_examples.specs.Programs.{parameter_closed, resource, resource_close, resource_close_declared, resource_constructor, resource_constructor_declared, resource_parameter}
 use Rattle.lending_examples.specs.Programs.{lending, main_class, shut, shut_declared}
@@ -99,12 +99,15 @@ wider_itself s = ap (λ b. s.owning_result && not b) (within_itself (must_of_opt
     and_false true = refl
     and_false false = refl
 
-as_itself : (x : Method) → are_types x.sig.params.items x.sig.params.items ≡ true → has_other_owning x.sig.params.items x.sig.params.items ≡ false → list_any asks_on_owned x.sig.params.items ≡ false
+same_before : (a b : ParamSig) → Some a ≡ Some b → set.is_subset a.before b.before ≡ true
+same_before a b same = subst (λ (z : ParamSig). set.is_subset a.before z.before ≡ true) (let one : a ≡ b = cc in one) (within_itself a.before)
+
+as_itself : (x : Method) → are_types x.sig.params.items x.sig.params.items ≡ true → has_other_owning x.sig.params.items x.sig.params.items ≡ false
     → has_other_result x.sig x.sig ≡ false → x.sig.first ≡ None → RunsFor lending x x
-as_itself x types owning asks result first = record {
+as_itself x types owning result first = record {
   types = types;
   owning = owning;
-  asks = asks;
+  asks = λ k a b at_a at_b. same_before a b (sym at_a ∙ at_b);
   result = result;
   wider = wider_itself x.sig;
   kind = λ t is other. is;
@@ -116,7 +119,7 @@ as_itself x types owning asks result first = record {
 runs_as_itself : (m : MethodId) (x : Method) → method_at lending m ≡ Some x → RunsFor lending x x
 runs_as_itself m x at =
     holds_at (λ i (y : Method). RunsFor lending y y) lending.methods.items m.0 x
-    (as_itself _ refl refl refl refl refl, (as_itself _ refl refl refl refl refl, (as_itself _ refl refl refl refl refl, (as_itself _ refl refl refl refl refl, tt)))) at
+    (as_itself _ refl refl refl refl, (as_itself _ refl refl refl refl, (as_itself _ refl refl refl refl, (as_itself _ refl refl refl refl, tt)))) at
 
 -- ---- calls
 

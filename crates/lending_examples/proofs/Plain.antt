@@ -22,8 +22,9 @@ use Rattle.owner_examples.specs.Paths.{Comes, Move, relation_of}
 use Rattle.owner_examples.specs.PlainForms.{IsPlainAction, MayRun, calls_constructor}
 use Rattle.owner_examples.specs.Owners.{HasConcreteOwners}
 use Rattle.owner_examples.specs.Running.{HasPlainRuns, IsAlike, is_on_object}
+use Rattle.filled_field_laws.proofs.Storing.{no_supers}
 use Rattle.owner_examples.specs.Plain.{IsPlain}
-use Rattle.exception_value_laws.proofs.Plain.{methods_give_no_exceptions}
+use Rattle.owner_examples.proofs.Plain.{methods_give_no_exceptions}
 use Rattle.lending_examples.specs.Controls.{main_controls, shut_controls}
 use Rattle.lending_examples.specs.Programs.{lending, main_body, running, shut_body, shutting}
 use Rattle.owner_examples.proofs.Tests.{all_of, holds_at}
@@ -130,7 +131,7 @@ pub lending_plain : IsPlain lending
 lending_plain = record {
   steps = λ b {k} i t comes at. (mild_step b k i t comes at).0;
   stores = λ b {k} i t f d comes at is. absurd (true≢false (sym (mild_step b k i t comes at).1 ∙ ap is_mild is));
-  supers = λ b {k} i t f comes at calls. absurd (no_super t.action (mild_step b k i t comes at).1 calls);
+  supers = no_supers lending (λ b k i t comes at calls. no_super t.action (mild_step b k i t comes at).1 calls);
   owners = owners;
   runs = runs;
   texts = texts;

@@ -3,7 +3,7 @@ use Rattle.std.proofs.Common.{◌≡◌, ℕ, ◌≤◌, Option, Some, None, ref
 use Rattle.program_model.specs.declared.kinds.ClassId.{ClassId}
 use Rattle.program_model.specs.declared.program.Method.{Method}
 use Rattle.program_model.specs.declared.program.Program.{Program}
-use Rattle.must_call_sets.specs.MustCallSets.{must_of}
+use Rattle.heap_laws.specs.MustCallSets.{must_of}
 use Rattle.java_control.specs.declared.action.Action.{Action}
 use Rattle.stub_conduct.specs.declared.choice.Conduct.{Conduct}
 use Rattle.stub_conduct.specs.declared.choice.Conduct.TheVariants as conducts
@@ -14,8 +14,8 @@ use Rattle.ledger_state.specs.declared.locals.Locals.{Locals}
 use Rattle.ledger_obligations.specs.Obligations.{all_notes, finished, first_set, noted_object, reset_in}
 use Rattle.ledger_calls.specs.Calls.{arguments_moved, operand_of, params_in, position_of}
 use Rattle.ledger_calls.specs.Conducts.{fresh_born, library_birth, library_notes, object_made}
-use Rattle.ledger_steps.specs.CallSteps.{library_called, library_heap, library_made, library_reset, library_roots}
-use Rattle.ledger_steps.specs.InnerSteps.{thrown_heap}
+use Rattle.heap_laws.specs.CallSteps.{library_called, library_heap, library_made, library_reset, library_roots}
+use Rattle.heap_laws.specs.InnerSteps.{thrown_heap}
 use Rattle.heap_laws.proofs.MoveLaws.{params_count}
 use Rattle.heap_laws.proofs.ObjectLaws.{appended_count, changed_count}
 

@@ -3,3 +3,8 @@ pub mod Links
 pub mod Promises
 pub mod Laws
 pub mod Counts
+pub mod CallNotes
+pub use Rattle.heap_laws.proofs.EndLaws
+pub use Rattle.heap_laws.proofs.NoteLists
+pub use Rattle.heap_laws.proofs.ObjectLaws
+pub use Rattle.heap_laws.proofs.RootLaws

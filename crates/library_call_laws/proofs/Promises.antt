@@ -1,5 +1,5 @@
 -- What the signature promises at a call of the library is noted on the operand, or on what a field of the receiver holds.
-use Rattle.std.proofs.Common.{◌≡◌, ℕ, zero, suc, ◌+◌, ◌<◌, Bool, true, false, Option, Some, None, List, [], ◌∷◌, slice_get, refl, sym, ap, ◌∙◌, if◌then◌else◌, arith}
+use Rattle.std.proofs.Common.{◌≡◌, ℕ, zero, suc, ◌+◌, ◌<◌, true, false, Option, Some, None, List, slice_get, refl, sym, ap, ◌∙◌, arith}
 use Rattle.std.specs.Prelude.{unwrap_or}
 use Rattle.std.specs.List.{find, range_with_len}
 use Rattle.std.specs.FinSet as set
@@ -8,35 +8,33 @@ use Rattle.program_model.specs.declared.kinds.FieldId.{FieldId}
 use Rattle.program_model.specs.declared.kinds.Target.{Target}
 use Rattle.program_model.specs.declared.kinds.Target.TheVariants as promised
 use Rattle.program_model.specs.declared.program.Method.{Method}
-use Rattle.program_model.specs.declared.program.ParamSig.{ParamSig}
 use Rattle.program_model.specs.declared.program.Program.{Program}
 use Rattle.program_model.specs.declared.program.Promise.{Promise}
 use Rattle.program_model.specs.Lookups.{field_at}
-use Rattle.must_call_sets.specs.MustCallSets.{Names}
+use Rattle.heap_laws.specs.MustCallSets.{Names}
 use Rattle.java_control.specs.declared.action.Action.{Action}
 use Rattle.java_control.specs.declared.action.Action.TheVariants as actions
 use Rattle.stub_conduct.specs.declared.choice.Conduct.{Conduct}
-use Rattle.stub_conduct.specs.declared.choice.Conduct.TheVariants as conducts
 use Rattle.ledger_state.specs.Contents.{HeapContents}
 use Rattle.ledger_state.specs.Fields.{default_in, field_of}
-use Rattle.ledger_state.specs.Heaps.{change_some, is_field_of, next_number, object_at, root, root_of, value_stored}
+use Rattle.ledger_state.specs.Heaps.{is_field_of, next_number, object_at, root, root_of, value_stored}
 use Rattle.ledger_state.specs.Values.{number_of}
-use Rattle.ledger_state.specs.declared.entry.Owner.{Owner}
-use Rattle.ledger_state.specs.declared.entry.Owner.TheVariants as owners
 use Rattle.ledger_state.specs.declared.locals.Locals.{Locals}
 use Rattle.ledger_state.specs.declared.object.Object.{Object}
 use Rattle.ledger_state.specs.declared.object.StoredField.{StoredField}
 use Rattle.ledger_state.specs.declared.value.Value.{Value}
 use Rattle.ledger_state.specs.declared.value.Value.TheVariants as values
 use Rattle.ledger_obligations.specs.declared.note.Note.{Note}
-use Rattle.ledger_obligations.specs.Obligations.{has_note, keep_all, kept_name, move, moved_to, name_of, note, same_note}
-use Rattle.ledger_calls.specs.Calls.{arguments_moved, keep_promise, kept_promise, kept_promises, move_param, move_params, operand_of, params_in, receiver_note, reset_position}
-use Rattle.ledger_calls.specs.Conducts.{object_made, positions, promises_by}
-use Rattle.ledger_steps.specs.CallSteps.{library_heap, library_made}
-use Rattle.heap_laws.specs.Heaps.{HasLibraryLinks}
+use Rattle.ledger_obligations.specs.Obligations.{has_note, keep_all, kept_name, name_of, note, same_note}
+use Rattle.ledger_calls.specs.Calls.{keep_promise, kept_promise, kept_promises, operand_of, receiver_note, reset_position}
+use Rattle.ledger_calls.specs.Conducts.{positions, promises_by}
+use Rattle.heap_laws.specs.CallSteps.{library_heap, library_made}
+use Rattle.heap_laws.specs.Heaps.{HasEarlierLinks}
+use Rattle.heap_laws.specs.Leading.{Leads}
 use Rattle.heap_laws.proofs.NoteLists.{flat_has, has_right, range_has, same_note_self}
 use Rattle.heap_laws.proofs.RootLaws.{has_object}
-use Rattle.library_call_laws.proofs.Links.{noted_on_root}
+use Rattle.library_call_laws.specs.LibraryCalls.{HasSmallInterest}
+use Rattle.library_call_laws.proofs.Links.{fields_stay, noted_on_root}
 
 -- ---- what is noted
 
@@ -83,27 +81,6 @@ operand_position l a made d (suc k) w is = is
 
 -- ---- the fields
 
-some_fields : (r : Option ℕ) (change : Object → Object) (h : HeapContents) → (change_some r change h).fields ≡ h.fields
-some_fields None change h = refl
-some_fields (Some k) change h = refl
-
-param_fields : (p : Program) (o : Owner) (v : Value) (q : ParamSig) (h : HeapContents) → (move_param p o v q h).fields ≡ h.fields
-param_fields p o v q h = go q.owning
-  where
-    go : (b : Bool) → (if b then move p q.vtype o v h else h).fields ≡ h.fields
-    go true = some_fields (root_of h v) (moved_to p q.vtype o) h
-    go false = refl
-
-params_fields : (p : Program) (o : Owner) (at : ℕ → Value) (k : ℕ) (qs : List ParamSig) (h : HeapContents) → (move_params p o at k qs h).fields ≡ h.fields
-params_fields p o at k [] h = refl
-params_fields p o at k (q ∷ qs) h = params_fields p o at (k + 1) qs (move_param p o (at k) q h) ∙ param_fields p o (at k) q h
-
-made_fields : (d : Conduct) (h : HeapContents) → (object_made d h).fields ≡ h.fields
-made_fields conducts.Null h = refl
-made_fields (conducts.Throws e) h = refl
-made_fields (conducts.Fresh e) h = refl
-made_fields d h = refl
-
 -- the same fields hold the same
 field_stays : (p : Program) (g h : HeapContents) (v : Value) (f : FieldId) → g.fields ≡ h.fields → field_of p g v f ≡ field_of p h v f
 field_stays p g h (values.Object w) f same = ap (λ (fields : List StoredField). unwrap_or (value_stored (find (is_field_of w f) fields)) (default_in (field_at p f))) same
@@ -116,41 +93,41 @@ module _ (p : Program) (l : Locals) (a : Action) (named m : Option Method) (d : 
   abbrev made : HeapContents
   made = library_made p l a named d h
 
-  fields_stay : made.fields ≡ h.fields
-  fields_stay = made_fields d (arguments_moved p owners.Library l a named h) ∙ params_fields p owners.Library (operand_of l a) 1 (params_in named) h
-
   abbrev promises : List Note
   promises = kept_promises p made (positions l a (next_number h) d) (promises_by m d)
 
-  reaches : (w n o : ℕ) (x y : Object) → HasLibraryLinks h → reset_position named ≡ None → has_note promises (note true w (name_of n)) ≡ true → n < 128 → root h w ≡ o → object_at h o ≡ Some x
-      → object_at (library_heap p l a named m d i h) o ≡ Some y → set.contains y.called n ≡ true
-  reaches w n o x y links none has small end before at =
+  -- calls on what the value is lead to the object
+  abbrev pub ValueLeads : Value → ℕ → Type 0
+  ValueLeads v o = (w : ℕ) → v ≡ values.Object w → Leads p h w o
+
+  reaches : (w n o : ℕ) (x y : Object) → HasEarlierLinks h → HasSmallInterest named → reset_position named ≡ None → has_note promises (note true w (name_of n)) ≡ true → root h w ≡ o → object_at h o ≡ Some x
+      → Leads p h w o → object_at (library_heap p l a named m d i h) o ≡ Some y → set.contains y.called n ≡ true
+  reaches w n o x y links small none has end before leads at =
       let first = has_object h w o x end before in
-      noted_on_root p l a named m d i h (note true w (name_of n)) first.0 y links none (has_right (receiver_note l a named) promises (note true w (name_of n)) has) small first.1
-      (ap (object_at (library_heap p l a named m d i h)) end ∙ at)
+      noted_on_root p l a named m d i h (note true w (name_of n)) o first.0 y links small none (has_right (receiver_note l a named) promises (note true w (name_of n)) has) first.1 refl leads at
 
-  pub called_at : (j : ℕ) (q : Promise) (k n o : ℕ) (x y : Object) → HasLibraryLinks h → reset_position named ≡ None → slice_get (promises_by m d) j ≡ Some q → q.target ≡ promised.At k
-      → set.contains q.names n ≡ true → n < 128 → root_of h (operand_of l a k) ≡ Some o → object_at h o ≡ Some x → object_at (library_heap p l a named m d i h) o ≡ Some y
-      → set.contains y.called n ≡ true
-  called_at j q k n o x y links none there target has small holds before at =
-      let it = object_of_root h (operand_of l a k) o holds in
-      reaches it.0 n o x y links none
-      (kept_at p made (positions l a (next_number h) d) (promises_by m d) j q it.0 n there has small k target (operand_position l a (next_number h) d k it.0 it.1))
-      small it.2 before at
-
-  pub called_in_field : (j : ℕ) (q : Promise) (f : FieldId) (n o : ℕ) (x y : Object) → HasLibraryLinks h → reset_position named ≡ None → slice_get (promises_by m d) j ≡ Some q
-      → q.target ≡ promised.OfField f → set.contains q.names n ≡ true → n < 128 → root_of h (field_of p h (operand_of l a 0) f) ≡ Some o → object_at h o ≡ Some x
+  pub called_at : (j : ℕ) (q : Promise) (k n o : ℕ) (x y : Object) → HasEarlierLinks h → HasSmallInterest named → reset_position named ≡ None → slice_get (promises_by m d) j ≡ Some q → q.target ≡ promised.At k
+      → set.contains q.names n ≡ true → n < 128 → root_of h (operand_of l a k) ≡ Some o → object_at h o ≡ Some x → ValueLeads (operand_of l a k) o
       → object_at (library_heap p l a named m d i h) o ≡ Some y → set.contains y.called n ≡ true
-  called_in_field j q f n o x y links none there target has small holds before at =
+  called_at j q k n o x y links small none there target has low holds before leads at =
+      let it = object_of_root h (operand_of l a k) o holds in
+      reaches it.0 n o x y links small none
+      (kept_at p made (positions l a (next_number h) d) (promises_by m d) j q it.0 n there has low k target (operand_position l a (next_number h) d k it.0 it.1))
+      it.2 before (leads it.0 it.1) at
+
+  pub called_in_field : (j : ℕ) (q : Promise) (f : FieldId) (n o : ℕ) (x y : Object) → HasEarlierLinks h → HasSmallInterest named → reset_position named ≡ None → slice_get (promises_by m d) j ≡ Some q
+      → q.target ≡ promised.OfField f → set.contains q.names n ≡ true → n < 128 → root_of h (field_of p h (operand_of l a 0) f) ≡ Some o → object_at h o ≡ Some x
+      → ValueLeads (field_of p h (operand_of l a 0) f) o → object_at (library_heap p l a named m d i h) o ≡ Some y → set.contains y.called n ≡ true
+  called_in_field j q f n o x y links small none there target has low holds before leads at =
       let it = object_of_root h (field_of p h (operand_of l a 0) f) o holds in
       let holder = holder_of (operand_of l a 0) it.1 in
-      reaches it.0 n o x y links none
-      (kept_of_field p made (positions l a (next_number h) d) (promises_by m d) j q it.0 n there has small f target
+      reaches it.0 n o x y links small none
+      (kept_of_field p made (positions l a (next_number h) d) (promises_by m d) j q it.0 n there has low f target
       (ap (λ (v : Value). field_of p made v f) (receiver_position l a (next_number h) d holder.0 holder.1)
-      ∙ field_stays p made h (values.Object holder.0) f fields_stay
+      ∙ field_stays p made h (values.Object holder.0) f (fields_stay p l a named m d i h)
       ∙ ap (λ (v : Value). field_of p h v f) (sym holder.1)
       ∙ it.1))
-      small it.2 before at
+      it.2 before (leads it.0 it.1) at
     where
       holder_of : (v : Value) {w : ℕ} → field_of p h v f ≡ values.Object w → (u : ℕ) × (v ≡ values.Object u)
       holder_of (values.Object u) is = (u, refl)

@@ -1,13 +1,16 @@
 -- Where an object after a call of the library comes from: it was there when the arguments had moved, and notes were added; or the
 -- call made it.
-use Rattle.std.proofs.Common.{◌≡◌, ◌⊎◌, inl, inr, ℕ, ◌+◌, Bool, true, false, Option, Some, None, List, [], ◌++◌, slice_get, option_map, nat_eq, refl, sym, ap, ◌∙◌, subst, true≢false, if◌then◌else◌, arith, eqb-true, eq-eqb}
+use Rattle.std.proofs.Common.{◌≡◌, ◌⊎◌, inl, inr, ℕ, ◌+◌, Bool, true, false, not, ◌&&◌, Option, Some, None, List, [], ◌++◌, slice_get, option_map, nat_eq, refl, sym, ap, ◌∙◌, subst, true≢false, if◌then◌else◌, arith, eqb-true, eq-eqb}
+use Rattle.std.specs.FinSet as set
 use Rattle.std.specs.List.{list_any}
+use Rattle.std.proofs.lemmas.Bool.{and_parts}
 use Rattle.rlc_base.specs.declared.place.Pos.{Pos}
 use Rattle.program_model.specs.declared.kinds.ClassId.{ClassId}
+use Rattle.program_model.specs.declared.kinds.VType.{VType}
 use Rattle.program_model.specs.declared.program.Method.{Method}
 use Rattle.program_model.specs.declared.program.ParamSig.{ParamSig}
 use Rattle.program_model.specs.declared.program.Program.{Program}
-use Rattle.must_call_sets.specs.MustCallSets.{must_of}
+use Rattle.heap_laws.specs.MustCallSets.{must_of, must_of_type}
 use Rattle.java_control.specs.declared.action.Action.{Action}
 use Rattle.stub_conduct.specs.declared.choice.Conduct.{Conduct}
 use Rattle.stub_conduct.specs.declared.choice.Conduct.TheVariants as conducts
@@ -16,17 +19,18 @@ use Rattle.ledger_state.specs.Heaps.{append, change_each, change_one, next_numbe
 use Rattle.ledger_state.specs.declared.entry.Owner.TheVariants as owners
 use Rattle.ledger_state.specs.declared.locals.Locals.{Locals}
 use Rattle.ledger_state.specs.declared.object.Object.{Object}
+use Rattle.ledger_state.specs.declared.value.Value.{Value}
 use Rattle.ledger_obligations.specs.declared.note.Note.{Note}
-use Rattle.ledger_obligations.specs.Obligations.{alias_born, all_notes, finished, first_set, may_move, noted_object, reset_in}
-use Rattle.ledger_calls.specs.Calls.{alias_position, arguments_moved, operand_of, params_in, position_object, position_of, reset_position}
-use Rattle.ledger_calls.specs.Conducts.{fresh_born, library_notes}
-use Rattle.ledger_steps.specs.CallSteps.{library_called, library_entries, library_heap, library_made, library_reset, library_roots}
-use Rattle.ledger_steps.specs.InnerSteps.{thrown_heap}
-use Rattle.ledger_entries.specs.Entries.{birth_entries, called_entries, owner_entries, reset_entries}
+use Rattle.ledger_obligations.specs.Obligations.{alias_born, all_notes, finished, first_set, is_library_owner, may_move, noted_object, reset_in}
+use Rattle.ledger_calls.specs.Calls.{alias_position, alias_target, arguments_moved, is_alias, operand_of, params_in, position_object, position_of, reset_position}
+use Rattle.ledger_calls.specs.Conducts.{first_in, fresh_born, library_notes, result_owner}
+use Rattle.heap_laws.specs.CallSteps.{library_called, library_entries, library_heap, library_made, library_reset, library_roots}
+use Rattle.heap_laws.specs.InnerSteps.{thrown_heap}
+use Rattle.heap_laws.specs.Entries.{birth_entries, called_entries, owner_entries, reset_entries}
 use Rattle.ledger_state.specs.Leaks.{is_leak}
 use Rattle.heap_laws.specs.Heaps.{GoesOn, IsOlder}
 use Rattle.heap_laws.proofs.LineLaws.{any_in_both, birth_none, called_none, owner_none, reset_none}
-use Rattle.heap_laws.proofs.MoveLaws.{params_count, params_given, params_older}
+use Rattle.heap_laws.proofs.MoveLaws.{params_caused, params_count, params_given, params_older}
 use Rattle.heap_laws.proofs.NoteLaws.{noted_goes_on}
 use Rattle.heap_laws.proofs.ObjectLaws.{appended_at, changed_at, goes_on_further, in_range, unchanged}
 use Rattle.library_call_laws.specs.LibraryCalls.{IsAliasMadeAs, IsAliasOf, IsMadeAs}
@@ -198,6 +202,57 @@ given_stays p l a named m d i j q h n x y none there owning root before may at =
     let same : w.0 ≡ z.0 = (let both : Some w.0 ≡ Some z.0 = sym w.1 ∙ z.1 in cc) in
     sym (ap (λ (u : Object). u.owner) z.2) ∙ sym (ap (λ (u : Object). u.owner) same) ∙ w.2
 
+-- ---- what is not finished
+
+alias_finished : (p : Program) (t : Option ℕ) (x : Object) → (alias_born p true t x).finished ≡ true
+alias_finished p None x = refl
+alias_finished p (Some w) x = refl
+
+fresh_finished : (p : Program) (e : ClassId) (m : Option Method) (a : Action) (i : ℕ) (at : ℕ → Value) (x : Object) → (fresh_born p e m a i at x).finished ≡ true
+fresh_finished p e m a i at x = go (is_alias m)
+  where
+    go : (b : Bool) → (if b then alias_born p true (alias_target at m) x else finished (first_set p e (first_in m)) (result_owner a m i) x).finished ≡ true
+    go true = alias_finished p (alias_target at m) x
+    go false = refl
+
+made_or_old : {X : Type 0} (n k : ℕ) (y : Object) → X ⊎ ((n ≡ k) × (y.finished ≡ true)) → y.finished ≡ false → X
+made_or_old n k y (inl old) unmade = old
+made_or_old n k y (inr new) unmade = absurd (true≢false (sym new.1 ∙ unmade))
+
+-- what is not finished was there
+unfinished_trace : (p : Program) (l : Locals) (a : Action) (named m : Option Method) (d : Conduct) (i : ℕ) (h : HeapContents) (n : ℕ) (y : Object) → reset_position named ≡ None
+    → object_at (library_heap p l a named m d i h) n ≡ Some y → y.finished ≡ false → IsOld p l a named m d i h n y
+unfinished_trace p l a named m (conducts.Throws e) i h n y none at unmade =
+    made_or_old n (next_number h) y (making_trace p l a named m (conducts.Throws e) i h (λ (z : Object). z.finished ≡ true) (finished (first_set p e None) owners.Library) e n y refl refl none
+    (λ x class link owner. refl) at) unmade
+unfinished_trace p l a named m (conducts.Fresh e) i h n y none at unmade =
+    made_or_old n (next_number h) y (making_trace p l a named m (conducts.Fresh e) i h (λ (z : Object). z.finished ≡ true) (fresh_born p e m a i (position_of None l a)) e n y refl refl none
+    (λ x class link owner. fresh_finished p e m a i (position_of None l a) x) at) unmade
+unfinished_trace p l a named m conducts.Null i h n y none at unmade = plain_trace p l a named m conducts.Null i h n y refl refl none at
+unfinished_trace p l a named m (conducts.Existing k) i h n y none at unmade = plain_trace p l a named m (conducts.Existing k) i h n y refl refl none at
+unfinished_trace p l a named m conducts.Argument i h n y none at unmade = plain_trace p l a named m conducts.Argument i h n y refl refl none at
+unfinished_trace p l a named m (conducts.Value z) i h n y none at unmade = plain_trace p l a named m (conducts.Value z) i h n y refl refl none at
+unfinished_trace p l a named m conducts.Nothing i h n y none at unmade = plain_trace p l a named m conducts.Nothing i h n y refl refl none at
+
+-- what may move is finished
+may_finished : (p : Program) (t : VType) (x : Object) → may_move p t x ≡ true → x.finished ≡ true
+may_finished p t x may =
+    let parts = and_parts (x.finished && not (is_library_owner x.owner)) (set.is_subset (must_of p x.class) (must_of_type p t)) may in
+    (and_parts x.finished (not (is_library_owner x.owner)) parts.0).0
+
+-- and nobody owns it, where that was so
+pub unowned_stays : (p : Program) (l : Locals) (a : Action) (named m : Option Method) (d : Conduct) (i : ℕ) (h : HeapContents) (n : ℕ) (y : Object) → reset_position named ≡ None
+    → ((k : ℕ) (x : Object) → object_at h k ≡ Some x → x.finished ≡ false → x.owner ≡ owners.Unowned)
+    → object_at (library_heap p l a named m d i h) n ≡ Some y → y.finished ≡ false → y.owner ≡ owners.Unowned
+unowned_stays p l a named m d i h n y none unowned at unmade =
+    let x = unfinished_trace p l a named m d i h n y none at unmade in
+    let old = params_older p owners.Library (operand_of l a) 1 (params_in named) h n x.0 x.1 in
+    let before : old.before.finished ≡ false = sym old.goes_on.finished ∙ ap (λ (u : Object). u.finished) x.2 ∙ unmade in
+    sym (ap (λ (u : Object). u.owner) x.2) ∙ elim (params_caused p owners.Library (operand_of l a) 1 (params_in named) h n old.before x.0 old.at x.1) [
+      | inl same ↦ same ∙ unowned n old.before old.at before
+      | inr given ↦ absurd (true≢false (sym (may_finished p given.param.vtype old.before given.may) ∙ before))
+    ]
+
 pub leaks_nothing : (p : Program) (pos : Pos) (l : Locals) (a : Action) (named m : Option Method) (d : Conduct) (i : ℕ) (h : HeapContents)
     → list_any is_leak (library_entries p pos l a named m d i h) ≡ false
 leaks_nothing p pos l a named m d i h =
@@ -226,3 +281,16 @@ thrown_is_librarys p (Some e) h n y at =
     go x true is new (inr (out, last)) = absurd (out (eqb-true n (next_number h) is))
     go x false is old (inl (here, last)) = absurd (true≢false (sym (eq-eqb n (next_number h) here) ∙ is))
     go x false is old (inr (out, last)) = inl (old ∙ ap Some last)
+
+-- an exception is finished
+pub thrown_unfinished : (p : Program) (e : Option ClassId) (h : HeapContents) (n : ℕ) (y : Object) → object_at (thrown_heap p e h) n ≡ Some y → y.finished ≡ false → object_at h n ≡ Some y
+thrown_unfinished p None h n y at unmade = at
+thrown_unfinished p (Some e) h n y at unmade =
+    let x = one_back (next_number h) (finished (must_of p e) owners.Library) (append h e) n y at in
+    go x.0 (nat_eq n (next_number h)) refl (sym (appended_at h e n) ∙ x.1) x.2
+  where
+    go : (x : Object) (b : Bool) → nat_eq n (next_number h) ≡ b → (if b then Some (unfinished e) else object_at h n) ≡ Some x
+        → ((n ≡ next_number h) × (finished (must_of p e) owners.Library x ≡ y)) ⊎ (((n ≡ next_number h) → ⊥) × (x ≡ y)) → object_at h n ≡ Some y
+    go x b is at' (inl (here, last)) = absurd (true≢false (ap (λ (u : Object). u.finished) last ∙ unmade))
+    go x true is new (inr (out, last)) = absurd (out (eqb-true n (next_number h) is))
+    go x false is old (inr (out, last)) = old ∙ ap Some last

@@ -1,6 +1,7 @@
 -- What a call of the library makes.
-use Rattle.std.specs.Prelude.{◌≡◌, ℕ, true, Option, None, Some}
+use Rattle.std.specs.Prelude.{◌≡◌, ℕ, ◌<◌, true, Option, None, Some}
 use Rattle.std.specs.FinSet as set
+use Rattle.rlc_base.specs.declared.name_id.NameId.{NameId}
 use Rattle.program_model.specs.declared.program.Method.{Method}
 use Rattle.program_model.specs.declared.program.Program.{Program}
 use Rattle.java_control.specs.declared.action.Action.{Action}
@@ -10,8 +11,12 @@ use Rattle.ledger_state.specs.declared.entry.Owner.TheVariants as owners
 use Rattle.ledger_state.specs.declared.locals.Locals.{Locals}
 use Rattle.ledger_state.specs.declared.object.Object.{Object}
 use Rattle.ledger_obligations.specs.Obligations.{first_set}
-use Rattle.ledger_calls.specs.Calls.{position_object, position_of}
+use Rattle.ledger_calls.specs.Calls.{interest_in, position_object, position_of}
 use Rattle.ledger_calls.specs.Conducts.{first_in, result_owner}
+
+-- the name of interest of the method, where it has one, is one of the table, which has 128 names at most
+abbrev pub HasSmallInterest : Option Method → Type 0
+HasSmallInterest named = (n : NameId) → interest_in named ≡ Some n → n.0 < 128
 
 -- The call makes this object: an exception is the library's, and a result has the set and the owner that the signature gives. `i` is
 -- the position of the caller.

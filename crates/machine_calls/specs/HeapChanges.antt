@@ -1,5 +1,5 @@
 -- What the start or the end of a call leaves of the heap.
-use Rattle.std.specs.Prelude.{ℕ, ◌+◌, ◌≡◌, Some, List, length}
+use Rattle.std.specs.Prelude.{ℕ, ◌+◌, ◌≡◌, None, Some, List, length}
 use Rattle.frame_owners.specs.FrameOwners.{Listed}
 use Rattle.ledger_state.specs.Contents.{HeapContents}
 use Rattle.owned_returns.specs.declared.returns.ReturnChange.{ReturnChange}
@@ -21,6 +21,7 @@ heap_left (changes.Spread c) h = left_by_each c.noted.items c.made h
 abbrev pub heap_returned : HeapReturn → ℕ → HeapContents → HeapContents
 heap_returned (returns.Whole g) i h = g
 heap_returned (returns.Owned c) i h = put_noted c.noted (left_by_frame i c.moved h)
+heap_returned (returns.Drafted c) i h = left_by_each c.noted.items c.made h
 
 -- the objects that a return changes stand in the lists of their owners, and the frame that ends is the one of the last list
 pub record HasChange (i : ℕ) (lists : List (List ℕ)) (h : HeapContents) (c : ReturnChange) : Type 0 where
@@ -33,3 +34,4 @@ pub record HasChange (i : ℕ) (lists : List (List ℕ)) (h : HeapContents) (c :
 abbrev pub CanReturn : HeapReturn → ℕ → List (List ℕ) → HeapContents → Type 0
 CanReturn (returns.Whole g) i lists h = Unit {0}
 CanReturn (returns.Owned c) i lists h = HasChange i lists h c
+CanReturn (returns.Drafted c) i lists h = Listed lists h × (c.made ≡ None)

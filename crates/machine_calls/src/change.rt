@@ -1,18 +1,22 @@
 //! What the start or the end of a call leaves.
 
-ghost use Rattle.std.specs.Prelude.{◌≡◌, Some, false, true, IfOk, OnErr, OnOk};
+ghost use Rattle.std.specs.Prelude.{ℕ, ◌≡◌, Some, false, true, IfOk, OnErr, OnOk};
 ghost use Rattle.frame_owners.specs.FrameOwners.{HasAll, Listed, is_listed, lists_in};
-ghost use Rattle.machine_calls.specs.HeapChanges.{heap_left};
+ghost use Rattle.machine_calls.specs.HeapChanges.{heap_left, heap_returned};
+ghost use Rattle.object_index.specs.ObjectIndexes.{Indexed};
 ghost use Rattle.plain_calls.specs.PlainCalls.{left_by, put_noted};
 
 use frame_owners::add_owned;
+use indexed_changes::{index_call, index_given, index_return, index_spread};
 use ledger_obligations::ActiveFrame;
 use ledger_state::{Entry, Heap, Locals};
+use object_index::ObjectIndex;
 use owned_arguments::GivenChange;
 use owned_returns::{ReturnChange, list_change};
 use plain_calls::{Numbered, PlainChange, apply_change};
 use rlc_base::NoMemory;
 use spread_calls::{SpreadChange, apply_spread, list_spread};
+use std::alloc::Global;
 
 /// What the start or the end of a call leaves of the heap.
 #[derive(Drop)]
@@ -23,7 +27,7 @@ pub enum HeapChange {
     Plain(PlainChange),
     /// The same, where an object moves besides: to the library, or to the frame that begins.
     Given(GivenChange),
-    /// The same heap, which is changed at the objects that the notes of a call reach and has one object more.
+    /// The same heap, which is changed at some objects, as those that the notes of a call reach, and has one object more.
     Spread(SpreadChange),
 }
 
@@ -54,6 +58,8 @@ pub enum HeapReturn {
     Whole(Heap),
     /// The same heap, in which the frame gave up what it owned, and which is changed at two objects at most.
     Owned(ReturnChange),
+    /// The same heap, which is changed at some objects; none is made.
+    Drafted(SpreadChange),
 }
 
 /// What a return leaves: the values of the caller, the heap, and the lines of the ledger that the step writes. Where `settled` is true,
@@ -143,5 +149,85 @@ pub(crate) fn list_change_of(
         HeapChange::Plain(found) => list_change(lists, heap, found),
         HeapChange::Given(found) => list_given(lists, heap, found),
         HeapChange::Spread(found) => list_spread(lists, heap, found),
+    }
+}
+
+// Puts the objects into the index that a call changes and makes. Says whether the index is that of the heap then.
+fn index_of_change(
+    alloc: Global,
+    index: &mut ObjectIndex,
+    heap: &Heap,
+    change: &HeapChange,
+) -> Result<bool, NoMemory>
+    requires { Indexed index.old heap.now }
+    ensures kept { Indexed index.new heap.now }
+    ensures indexed { IfOk result (λ b. b ≡ true → Indexed index.new (heap_left change.now heap.now)) }
+{
+    match change {
+        HeapChange::Whole(_) => Ok(false),
+        HeapChange::Plain(found) => index_call(alloc, index, heap, found),
+        HeapChange::Given(found) => index_given(alloc, index, heap, found),
+        HeapChange::Spread(found) => index_spread(alloc, index, heap, found),
+    }
+}
+
+/// The same for the index, where that is the heap's, as `known` says; where memory runs out it is not that of the heap which the call
+/// leaves.
+pub(crate) fn index_change_of(
+    alloc: Global,
+    index: &mut ObjectIndex,
+    heap: &Heap,
+    change: &HeapChange,
+    known: bool,
+) -> bool
+    requires { known ≡ true → Indexed index.old heap.now }
+    ensures kept { Indexed index.old heap.now → Indexed index.new heap.now }
+    ensures indexed { result ≡ true → Indexed index.new (heap_left change.now heap.now) }
+{
+    if !known {
+        return false;
+    }
+    match index_of_change(alloc, index, heap, change) {
+        Ok(indexed) => indexed,
+        Err(_) => false,
+    }
+}
+
+// Puts the objects into the index that a return changes. Says whether the index is that of the heap then.
+fn index_of_return(
+    alloc: Global,
+    index: &mut ObjectIndex,
+    heap: &Heap,
+    change: &HeapReturn,
+) -> Result<bool, NoMemory>
+    requires { Indexed index.old heap.now }
+    ensures kept { Indexed index.new heap.now }
+    ensures indexed { IfOk result (λ b. b ≡ true → (i : ℕ) → Indexed index.new (heap_returned change.now i heap.now)) }
+{
+    match change {
+        HeapReturn::Whole(_) => Ok(false),
+        HeapReturn::Owned(found) => index_return(alloc, index, heap, found),
+        HeapReturn::Drafted(found) => index_spread(alloc, index, heap, found),
+    }
+}
+
+/// The same for a return.
+pub(crate) fn index_return_of(
+    alloc: Global,
+    index: &mut ObjectIndex,
+    heap: &Heap,
+    change: &HeapReturn,
+    known: bool,
+) -> bool
+    requires { known ≡ true → Indexed index.old heap.now }
+    ensures kept { Indexed index.old heap.now → Indexed index.new heap.now }
+    ensures indexed { result ≡ true → (i : ℕ) → Indexed index.new (heap_returned change.now i heap.now) }
+{
+    if !known {
+        return false;
+    }
+    match index_of_return(alloc, index, heap, change) {
+        Ok(indexed) => indexed,
+        Err(_) => false,
     }
 }

@@ -1,6 +1,7 @@
 //! Steps that call the library.
 
-ghost use Rattle.std.specs.Prelude.{◌≡◌, ◌+◌, ◌∷◌, ◌++◌, ◌<◌, ◌≤◌, List, Some, length, map, reverse, vec_capacity, vec_len, IfOk, IfSome, OnErr, OnOk, false, true};
+ghost use Rattle.std.specs.Prelude.{◌≡◌, ◌+◌, ◌∷◌, ◌++◌, ◌<◌, ◌≤◌, List, None, Some, length, map, reverse, vec_capacity, vec_len, IfOk, IfSome, OnErr, OnOk, false, true};
+ghost use Rattle.draft_steps.specs.Steps.{IsDraft};
 ghost use Rattle.java_control.specs.Changes.{step_in};
 ghost use Rattle.ledger_calls.specs.Conducts.{arguments_shared, arrays_given, conduct_value, positions, result_in};
 ghost use Rattle.ledger_frames.specs.Frames.{locals_after};
@@ -10,6 +11,7 @@ ghost use Rattle.ledger_obligations.specs.Obligations.{held_in};
 ghost use Rattle.ledger_runs.specs.Outcomes.{went};
 ghost use Rattle.ledger_runs.specs.Steps.{moved_by};
 ghost use Rattle.ledger_state.specs.declared.array.ArrayObject.{ArrayObject};
+ghost use Rattle.ledger_state.specs.Contents.{HeapContents};
 ghost use Rattle.ledger_state.specs.Heaps.{next_number};
 ghost use Rattle.ledger_state.specs.Locals.{held};
 ghost use Rattle.ledger_steps.specs.CallSteps.{library_done};
@@ -17,10 +19,13 @@ ghost use Rattle.machine_calls.specs.HeapChanges.{heap_left};
 ghost use Rattle.machine_state.specs.RunStates.{HasNothingToLose, config_of};
 ghost use Rattle.plain_calls.specs.PlainCalls.{left_by, put_noted};
 ghost use Rattle.program_model.specs.Lookups.{method_at, optional};
+ghost use Rattle.object_index.specs.ObjectIndexes.{Indexed};
 ghost use Rattle.settled_heaps.specs.Settled.{Settled, drops_any};
 ghost use Rattle.spread_calls.specs.SpreadCalls.{left_by_each};
 
-use crate::change::{CallResult, HeapChange, list_change_of, take_change};
+use crate::change::{CallResult, HeapChange, index_change_of, list_change_of, take_change};
+use draft_calls::{LibraryCall, draft_library};
+use draft_steps::DraftStep;
 use java_control::{Action, Triple};
 use ledger_calls::{conduct_value, result_of, share_arguments};
 use ledger_frames::locals_after;
@@ -29,12 +34,13 @@ use ledger_operations::one_more_used;
 use ledger_state::{ArrayObject, Heap, Locals, Value, library_array};
 use ledger_steps::{StepEffect, library_effect};
 use machine_state::{RunState, add_array, add_lines, both, put_top};
+use object_index::ObjectIndex;
 use owned_arguments::{GivenCall, owned_call};
 use plain_calls::{PlainCall, plain_call};
 use program_model::{MethodId, Program, VType};
 use rlc_base::NoMemory;
 use settled_heaps::drops_any;
-use spread_calls::{SpreadCall, spread_call};
+use spread_calls::{SpreadCall, SpreadChange, spread_call};
 use std::alloc::Global;
 use stub_conduct::Conduct;
 
@@ -276,11 +282,70 @@ fn whole_end(locals: Locals, effect: StepEffect) -> CallResult
     }
 }
 
-// What a call of the library leaves to which no argument moves in place. `locals` are the values of the caller after it.
-fn spread_result(
+// What a call of the library changes, whatever it is, where the heap is `settled`. `locals` are the values of the caller after it.
+fn library_drafted(
     alloc: Global,
     p: &Program,
-    heap: &Heap,
+    heap: &mut Heap,
+    top: &ActiveFrame,
+    below: &[ActiveFrame],
+    named: MethodId,
+    method: MethodId,
+    conduct: Conduct,
+    s: Triple,
+    locals: &Locals,
+    settled: bool,
+    index: &ObjectIndex,
+) -> Result<Option<DraftStep>, NoMemory>
+    requires indexed { settled ≡ true → Indexed index.now heap.old }
+    requires settled { settled ≡ true → Settled heap.old (held top.now.locals ∷ map held_in (reverse below.now)) }
+    ensures same { heap.new ≡ heap.old }
+    ensures draft { IfOk result (λ o. IfSome o (λ d. IsDraft d heap.old (held locals.now ∷ map held_in (reverse below.now)) (library_done p.now heap.old top.now.locals s.action (method_at p.now named) (method_at p.now method) conduct (length below.now + 1) s.pos (held locals.now ∷ map held_in (reverse below.now))))) }
+    ensures stored { IfOk result (λ o. IfSome o (λ d. d.stored ≡ None)) }
+{
+    if !settled {
+        return Ok(None);
+    }
+    let call = LibraryCall {
+        pos: s.pos,
+        action: s.action,
+        named,
+        method,
+        conduct,
+        position: below.len() as u64 + 1,
+    };
+    draft_library(alloc, p, &top.locals, call, heap, index, locals, below)
+}
+
+// What a call of the library leaves that changes these objects.
+fn drafted_end(locals: Locals, found: DraftStep) -> CallResult
+    ensures locals { result.locals ≡ locals }
+    ensures heap { (h : HeapContents) → heap_left result.change h ≡ left_by_each found.changes.items found.made h }
+    ensures lines { result.lines.items ≡ found.lines.items }
+{
+    let DraftStep {
+        changes,
+        made,
+        stored: _,
+        lines,
+    } = found;
+    let change = HeapChange::Spread(SpreadChange {
+        noted: changes,
+        made,
+    });
+    CallResult {
+        locals,
+        change,
+        lines,
+        settled: true,
+    }
+}
+
+// What a call of the library leaves that none of the ways above takes. `locals` are the values of the caller after it.
+fn drafted_result(
+    alloc: Global,
+    p: &Program,
+    heap: &mut Heap,
     top: &ActiveFrame,
     below: &[ActiveFrame],
     named: MethodId,
@@ -289,20 +354,57 @@ fn spread_result(
     s: Triple,
     locals: Locals,
     settled: bool,
+    index: &ObjectIndex,
 ) -> Result<CallResult, NoMemory>
-    requires { settled ≡ true → Settled heap.now (held top.now.locals ∷ map held_in (reverse below.now)) }
+    requires indexed { settled ≡ true → Indexed index.now heap.old }
+    requires settled { settled ≡ true → Settled heap.old (held top.now.locals ∷ map held_in (reverse below.now)) }
+    ensures same { heap.new ≡ heap.old }
     ensures locals { IfOk result (λ r. r.locals ≡ locals) }
-    ensures heap { IfOk result (λ r. heap_left r.change heap.now ≡ (library_done p.now heap.now top.now.locals s.action (method_at p.now named) (method_at p.now method) conduct (length below.now + 1) s.pos (held locals ∷ map held_in (reverse below.now))).heap) }
-    ensures lines { IfOk result (λ r. r.lines.items ≡ (library_done p.now heap.now top.now.locals s.action (method_at p.now named) (method_at p.now method) conduct (length below.now + 1) s.pos (held locals ∷ map held_in (reverse below.now))).lines) }
-    ensures settled { IfOk result (λ r. r.settled ≡ true → Settled (heap_left r.change heap.now) (held locals ∷ map held_in (reverse below.now))) }
+    ensures heap { IfOk result (λ r. heap_left r.change heap.old ≡ (library_done p.now heap.old top.now.locals s.action (method_at p.now named) (method_at p.now method) conduct (length below.now + 1) s.pos (held locals ∷ map held_in (reverse below.now))).heap) }
+    ensures lines { IfOk result (λ r. r.lines.items ≡ (library_done p.now heap.old top.now.locals s.action (method_at p.now named) (method_at p.now method) conduct (length below.now + 1) s.pos (held locals ∷ map held_in (reverse below.now))).lines) }
+    ensures settled { IfOk result (λ r. r.settled ≡ true → Settled (heap_left r.change heap.old) (held locals ∷ map held_in (reverse below.now))) }
+{
+    let found = library_drafted(
+        alloc, p, heap, top, below, named, method, conduct, s, &locals, settled, index,
+    )?;
+    match found {
+        Some(step) => Ok(drafted_end(locals, step)),
+        None => whole_result(
+            alloc, p, heap, top, below, named, method, conduct, s, locals,
+        ),
+    }
+}
+
+// What a call of the library leaves to which no argument moves in place. `locals` are the values of the caller after it.
+fn spread_result(
+    alloc: Global,
+    p: &Program,
+    heap: &mut Heap,
+    top: &ActiveFrame,
+    below: &[ActiveFrame],
+    named: MethodId,
+    method: MethodId,
+    conduct: Conduct,
+    s: Triple,
+    locals: Locals,
+    settled: bool,
+    index: &ObjectIndex,
+) -> Result<CallResult, NoMemory>
+    requires indexed { settled ≡ true → Indexed index.now heap.old }
+    requires settled { settled ≡ true → Settled heap.old (held top.now.locals ∷ map held_in (reverse below.now)) }
+    ensures same { heap.new ≡ heap.old }
+    ensures locals { IfOk result (λ r. r.locals ≡ locals) }
+    ensures heap { IfOk result (λ r. heap_left r.change heap.old ≡ (library_done p.now heap.old top.now.locals s.action (method_at p.now named) (method_at p.now method) conduct (length below.now + 1) s.pos (held locals ∷ map held_in (reverse below.now))).heap) }
+    ensures lines { IfOk result (λ r. r.lines.items ≡ (library_done p.now heap.old top.now.locals s.action (method_at p.now named) (method_at p.now method) conduct (length below.now + 1) s.pos (held locals ∷ map held_in (reverse below.now))).lines) }
+    ensures settled { IfOk result (λ r. r.settled ≡ true → Settled (heap_left r.change heap.old) (held locals ∷ map held_in (reverse below.now))) }
 {
     let found = library_spread(
         alloc, p, heap, top, below, named, method, conduct, s, &locals, settled,
     )?;
     match found {
         Some(call) => Ok(spread_end(locals, call)),
-        None => whole_result(
-            alloc, p, heap, top, below, named, method, conduct, s, locals,
+        None => drafted_result(
+            alloc, p, heap, top, below, named, method, conduct, s, locals, settled, index,
         ),
     }
 }
@@ -311,7 +413,7 @@ fn spread_result(
 fn moving_result(
     alloc: Global,
     p: &Program,
-    heap: &Heap,
+    heap: &mut Heap,
     top: &ActiveFrame,
     below: &[ActiveFrame],
     named: MethodId,
@@ -320,12 +422,15 @@ fn moving_result(
     s: Triple,
     locals: Locals,
     settled: bool,
+    index: &ObjectIndex,
 ) -> Result<CallResult, NoMemory>
-    requires { settled ≡ true → Settled heap.now (held top.now.locals ∷ map held_in (reverse below.now)) }
+    requires indexed { settled ≡ true → Indexed index.now heap.old }
+    requires settled { settled ≡ true → Settled heap.old (held top.now.locals ∷ map held_in (reverse below.now)) }
+    ensures same { heap.new ≡ heap.old }
     ensures locals { IfOk result (λ r. r.locals ≡ locals) }
-    ensures heap { IfOk result (λ r. heap_left r.change heap.now ≡ (library_done p.now heap.now top.now.locals s.action (method_at p.now named) (method_at p.now method) conduct (length below.now + 1) s.pos (held locals ∷ map held_in (reverse below.now))).heap) }
-    ensures lines { IfOk result (λ r. r.lines.items ≡ (library_done p.now heap.now top.now.locals s.action (method_at p.now named) (method_at p.now method) conduct (length below.now + 1) s.pos (held locals ∷ map held_in (reverse below.now))).lines) }
-    ensures settled { IfOk result (λ r. r.settled ≡ true → Settled (heap_left r.change heap.now) (held locals ∷ map held_in (reverse below.now))) }
+    ensures heap { IfOk result (λ r. heap_left r.change heap.old ≡ (library_done p.now heap.old top.now.locals s.action (method_at p.now named) (method_at p.now method) conduct (length below.now + 1) s.pos (held locals ∷ map held_in (reverse below.now))).heap) }
+    ensures lines { IfOk result (λ r. r.lines.items ≡ (library_done p.now heap.old top.now.locals s.action (method_at p.now named) (method_at p.now method) conduct (length below.now + 1) s.pos (held locals ∷ map held_in (reverse below.now))).lines) }
+    ensures settled { IfOk result (λ r. r.settled ≡ true → Settled (heap_left r.change heap.old) (held locals ∷ map held_in (reverse below.now))) }
 {
     let found = library_given(
         alloc, p, heap, top, below, named, method, conduct, s, &locals, settled,
@@ -333,7 +438,7 @@ fn moving_result(
     match found {
         Some(call) => Ok(given_end(locals, call)),
         None => spread_result(
-            alloc, p, heap, top, below, named, method, conduct, s, locals, settled,
+            alloc, p, heap, top, below, named, method, conduct, s, locals, settled, index,
         ),
     }
 }
@@ -342,7 +447,7 @@ fn moving_result(
 fn library_result(
     alloc: Global,
     p: &Program,
-    heap: &Heap,
+    heap: &mut Heap,
     value: Value,
     top: &ActiveFrame,
     below: &[ActiveFrame],
@@ -351,12 +456,15 @@ fn library_result(
     conduct: Conduct,
     s: Triple,
     settled: bool,
+    index: &ObjectIndex,
 ) -> Result<CallResult, NoMemory>
-    requires { settled ≡ true → Settled heap.now (held top.now.locals ∷ map held_in (reverse below.now)) }
-    ensures locals { IfOk result (λ r. r.locals ≡ locals_after p.now heap.now top.now.method top.now.locals s.action s.edge value) }
-    ensures heap { IfOk result (λ r. heap_left r.change heap.now ≡ (library_done p.now heap.now top.now.locals s.action (method_at p.now named) (method_at p.now method) conduct (length below.now + 1) s.pos (held r.locals ∷ map held_in (reverse below.now))).heap) }
-    ensures lines { IfOk result (λ r. r.lines.items ≡ (library_done p.now heap.now top.now.locals s.action (method_at p.now named) (method_at p.now method) conduct (length below.now + 1) s.pos (held r.locals ∷ map held_in (reverse below.now))).lines) }
-    ensures settled { IfOk result (λ r. r.settled ≡ true → Settled (heap_left r.change heap.now) (held r.locals ∷ map held_in (reverse below.now))) }
+    requires indexed { settled ≡ true → Indexed index.now heap.old }
+    requires settled { settled ≡ true → Settled heap.old (held top.now.locals ∷ map held_in (reverse below.now)) }
+    ensures same { heap.new ≡ heap.old }
+    ensures locals { IfOk result (λ r. r.locals ≡ locals_after p.now heap.old top.now.method top.now.locals s.action s.edge value) }
+    ensures heap { IfOk result (λ r. heap_left r.change heap.old ≡ (library_done p.now heap.old top.now.locals s.action (method_at p.now named) (method_at p.now method) conduct (length below.now + 1) s.pos (held r.locals ∷ map held_in (reverse below.now))).heap) }
+    ensures lines { IfOk result (λ r. r.lines.items ≡ (library_done p.now heap.old top.now.locals s.action (method_at p.now named) (method_at p.now method) conduct (length below.now + 1) s.pos (held r.locals ∷ map held_in (reverse below.now))).lines) }
+    ensures settled { IfOk result (λ r. r.settled ≡ true → Settled (heap_left r.change heap.old) (held r.locals ∷ map held_in (reverse below.now))) }
 {
     let locals = locals_after(
         alloc,
@@ -374,7 +482,7 @@ fn library_result(
     match found {
         Some(call) => Ok(plain_end(locals, call)),
         None => moving_result(
-            alloc, p, heap, top, below, named, method, conduct, s, locals, settled,
+            alloc, p, heap, top, below, named, method, conduct, s, locals, settled, index,
         ),
     }
 }
@@ -437,7 +545,18 @@ pub fn run_library(
         let count = m.arrays.len();
         let value = conduct_value(p, count, method, &top.locals, s.action, number, conduct);
         let taken = library_result(
-            alloc, p, &m.heap, value, top, below, named, method, conduct, s, m.settled,
+            alloc,
+            p,
+            &mut m.heap,
+            value,
+            top,
+            below,
+            named,
+            method,
+            conduct,
+            s,
+            m.settled,
+            &m.index,
         )?;
         let CallResult {
             locals,
@@ -447,6 +566,7 @@ pub fn run_library(
         } = taken;
         m.entries.reserve(lines.len())?;
         let listed = list_change_of(&mut m.owned, &m.heap, &change, m.settled)?;
+        let indexed = index_change_of(alloc, &mut m.index, &m.heap, &change, m.settled);
         take_change(&mut m.heap, change)?;
         add_lines(&mut m.entries, &lines);
         give_arrays(
@@ -460,7 +580,8 @@ pub fn run_library(
             conduct,
         );
         m.used = one_more_used(&m.choices, m.used);
-        m.settled = both(settled, listed);
+        let known = both(listed, indexed);
+        m.settled = both(settled, known);
         put_top(
             &mut m.frames,
             ActiveFrame {

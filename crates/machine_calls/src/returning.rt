@@ -1,6 +1,7 @@
 //! Steps that end frames.
 
-ghost use Rattle.std.specs.Prelude.{◌≡◌, ◌+◌, ◌-◌, ◌∷◌, ◌++◌, ◌<◌, ◌≤◌, List, length, map, reverse, take, vec_len, ℕ, IfOk, IfSome, OnErr, OnOk, false, true};
+ghost use Rattle.std.specs.Prelude.{◌≡◌, ◌+◌, ◌-◌, ◌∷◌, ◌++◌, ◌<◌, ◌≤◌, List, None, length, map, reverse, take, vec_len, ℕ, IfOk, IfSome, OnErr, OnOk, false, true};
+ghost use Rattle.draft_steps.specs.Steps.{IsDraft};
 ghost use Rattle.java_control.specs.Changes.{step_in};
 ghost use Rattle.ledger_calls.specs.Configuration.{Frame};
 ghost use Rattle.ledger_frames.specs.Choosing.{frame_steps};
@@ -18,10 +19,16 @@ ghost use Rattle.frame_owners.specs.FrameOwners.{Listed, lists_in};
 ghost use Rattle.machine_calls.specs.HeapChanges.{CanReturn, HasChange, heap_returned};
 ghost use Rattle.owned_returns.specs.OwnedReturns.{left_by_frame};
 ghost use Rattle.plain_calls.specs.PlainCalls.{put_noted};
+ghost use Rattle.ledger_state.specs.Contents.{HeapContents};
+ghost use Rattle.object_index.specs.ObjectIndexes.{Indexed};
 ghost use Rattle.settled_heaps.specs.Settled.{Settled};
+ghost use Rattle.spread_notes.specs.SpreadNotes.{put_each};
 ghost use Rattle.program_model.specs.Lookups.{method_at};
 
-use crate::change::{HeapReturn, ReturnResult};
+use crate::change::{HeapReturn, ReturnResult, index_return_of};
+use draft_returns::draft_returned;
+use draft_steps::DraftStep;
+use drafted_heaps::return_draft;
 use java_control::{Completion, Triple};
 use ledger_frames::locals_after;
 use ledger_moves::{CallEnd, call_end};
@@ -31,9 +38,11 @@ use ledger_steps::{
     FrameEnd, StepEffect, answered, exception_class, main_effect, result_value, return_effect,
 };
 use machine_state::{RunState, add_lines, both, put_top};
+use object_index::ObjectIndex;
 use owned_returns::{OwnedReturn, owned_return, return_objects};
 use program_model::{ClassId, MethodId, Program};
 use rlc_base::{NoMemory, Pos};
+use spread_calls::SpreadChange;
 use std::alloc::Global;
 
 // What the end of the top frame and of its call change, where nothing but the frame's own objects and two more change, and the heap is
@@ -146,11 +155,119 @@ fn whole_return(
     Ok(changed_end(locals, effect))
 }
 
+// What the end of the top frame and of its call change, whatever it is, where the heap is `settled`. `locals` are the values of the caller
+// after it, and `ended` those of the frame that ends.
+fn return_drafted(
+    alloc: Global,
+    p: &Program,
+    heap: &mut Heap,
+    end: FrameEnd,
+    ended: &Locals,
+    caller: &ActiveFrame,
+    below: &[ActiveFrame],
+    named: MethodId,
+    t: Triple,
+    locals: &Locals,
+    settled: bool,
+    lists: &[Vec<u64>],
+    index: &ObjectIndex,
+) -> Result<Option<DraftStep>, NoMemory>
+    requires indexed { settled ≡ true → Indexed index.now heap.old }
+    requires listed { settled ≡ true → Listed (lists_in lists.now) heap.old }
+    requires settled { settled ≡ true → Settled heap.old (held ended.now ∷ held caller.now.locals ∷ map held_in (reverse below.now)) }
+    ensures same { heap.new ≡ heap.old }
+    ensures draft { IfOk result (λ o. IfSome o (λ d. IsDraft d heap.old (held locals.now ∷ map held_in (reverse below.now)) (ends.returned p.now heap.old (length below.now + 1) end.this caller.now.locals t.action (method_at p.now end.method) (method_at p.now named) end.value end.thrown end.pos t.pos (held locals.now ∷ map held_in (reverse below.now))))) }
+    ensures made { IfOk result (λ o. IfSome o (λ d. d.made ≡ None)) }
+    ensures stored { IfOk result (λ o. IfSome o (λ d. d.stored ≡ None)) }
+    ensures known { IfOk result (λ o. IfSome o (λ d. settled ≡ true)) }
+{
+    if !settled {
+        return Ok(None);
+    }
+    let position = below.len() as u64 + 1;
+    draft_returned(
+        alloc,
+        p,
+        t.pos,
+        position,
+        &caller.locals,
+        t.action,
+        named,
+        end,
+        heap,
+        ended,
+        locals,
+        below,
+        lists,
+        index,
+    )
+}
+
+// What a return leaves that changes these objects.
+fn drafted_end(locals: Locals, found: DraftStep) -> ReturnResult
+    ensures locals { result.locals ≡ locals }
+    ensures heap { (i : ℕ) (h : HeapContents) → heap_returned result.change i h ≡ put_each found.changes.items h }
+    ensures lines { result.lines.items ≡ found.lines.items }
+    ensures change { (i : ℕ) (lists : List (List ℕ)) (h : HeapContents) → Listed lists h → CanReturn result.change i lists h }
+{
+    let DraftStep {
+        changes,
+        made: _,
+        stored: _,
+        lines,
+    } = found;
+    let change = HeapReturn::Drafted(SpreadChange {
+        noted: changes,
+        made: None,
+    });
+    ReturnResult {
+        locals,
+        change,
+        lines,
+        settled: true,
+    }
+}
+
+// What the end of the top frame and of its call leave that the way above does not take. `locals` are the values of the caller after it.
+fn drafted_return(
+    alloc: Global,
+    p: &Program,
+    heap: &mut Heap,
+    end: FrameEnd,
+    ended: &Locals,
+    caller: &ActiveFrame,
+    below: &[ActiveFrame],
+    named: MethodId,
+    t: Triple,
+    locals: Locals,
+    settled: bool,
+    lists: &[Vec<u64>],
+    index: &ObjectIndex,
+) -> Result<ReturnResult, NoMemory>
+    requires indexed { settled ≡ true → Indexed index.now heap.old }
+    requires listed { settled ≡ true → Listed (lists_in lists.now) heap.old }
+    requires settled { settled ≡ true → Settled heap.old (held ended.now ∷ held caller.now.locals ∷ map held_in (reverse below.now)) }
+    ensures same { heap.new ≡ heap.old }
+    ensures locals { IfOk result (λ r. r.locals ≡ locals) }
+    ensures heap { IfOk result (λ r. heap_returned r.change (length below.now + 1) heap.old ≡ (ends.returned p.now heap.old (length below.now + 1) end.this caller.now.locals t.action (method_at p.now end.method) (method_at p.now named) end.value end.thrown end.pos t.pos (held locals ∷ map held_in (reverse below.now))).heap) }
+    ensures lines { IfOk result (λ r. r.lines.items ≡ (ends.returned p.now heap.old (length below.now + 1) end.this caller.now.locals t.action (method_at p.now end.method) (method_at p.now named) end.value end.thrown end.pos t.pos (held locals ∷ map held_in (reverse below.now))).lines) }
+    ensures settled { IfOk result (λ r. r.settled ≡ true → Settled (heap_returned r.change (length below.now + 1) heap.old) (held locals ∷ map held_in (reverse below.now))) }
+    ensures change { IfOk result (λ r. CanReturn r.change (length below.now + 1) (lists_in lists.now) heap.old) }
+{
+    let found = return_drafted(
+        alloc, p, heap, end, ended, caller, below, named, t, &locals, settled, lists, index,
+    )?;
+    match found {
+        Some(step) => Ok(drafted_end(locals, step)),
+        None => whole_return(alloc, p, heap, end, caller, below, named, t, locals),
+    }
+}
+
 // What the end of the top frame, which held `ended`, and of its call leave of the caller's frame and of the heap.
 fn return_result(
     alloc: Global,
     p: &Program,
-    heap: &Heap,
+    heap: &mut Heap,
     end: FrameEnd,
     ended: &Locals,
     caller: &ActiveFrame,
@@ -159,14 +276,17 @@ fn return_result(
     t: Triple,
     settled: bool,
     lists: &mut Vec<Vec<u64>>,
+    index: &ObjectIndex,
 ) -> Result<ReturnResult, NoMemory>
-    requires { settled ≡ true → NothingToLose heap.now (held ended.now ∷ held caller.now.locals ∷ map held_in (reverse below.now)) (lists_in lists.old.items) }
-    ensures locals { IfOk result (λ r. r.locals ≡ locals_after p.now heap.now caller.now.method caller.now.locals t.action t.edge (answered end.this t.action end.value end.thrown)) }
-    ensures heap { IfOk result (λ r. heap_returned r.change (length below.now + 1) heap.now ≡ (ends.returned p.now heap.now (length below.now + 1) end.this caller.now.locals t.action (method_at p.now end.method) (method_at p.now named) end.value end.thrown end.pos t.pos (held r.locals ∷ map held_in (reverse below.now))).heap) }
-    ensures lines { IfOk result (λ r. r.lines.items ≡ (ends.returned p.now heap.now (length below.now + 1) end.this caller.now.locals t.action (method_at p.now end.method) (method_at p.now named) end.value end.thrown end.pos t.pos (held r.locals ∷ map held_in (reverse below.now))).lines) }
-    ensures settled { IfOk result (λ r. r.settled ≡ true → Settled (heap_returned r.change (length below.now + 1) heap.now) (held r.locals ∷ map held_in (reverse below.now))) }
-    ensures change { IfOk result (λ r. CanReturn r.change (length below.now + 1) (lists_in lists.new.items) heap.now) }
-    ensures kept { settled ≡ true → Listed (lists_in lists.new.items) heap.now }
+    requires indexed { settled ≡ true → Indexed index.now heap.old }
+    requires settled { settled ≡ true → NothingToLose heap.old (held ended.now ∷ held caller.now.locals ∷ map held_in (reverse below.now)) (lists_in lists.old.items) }
+    ensures same { heap.new ≡ heap.old }
+    ensures locals { IfOk result (λ r. r.locals ≡ locals_after p.now heap.old caller.now.method caller.now.locals t.action t.edge (answered end.this t.action end.value end.thrown)) }
+    ensures heap { IfOk result (λ r. heap_returned r.change (length below.now + 1) heap.old ≡ (ends.returned p.now heap.old (length below.now + 1) end.this caller.now.locals t.action (method_at p.now end.method) (method_at p.now named) end.value end.thrown end.pos t.pos (held r.locals ∷ map held_in (reverse below.now))).heap) }
+    ensures lines { IfOk result (λ r. r.lines.items ≡ (ends.returned p.now heap.old (length below.now + 1) end.this caller.now.locals t.action (method_at p.now end.method) (method_at p.now named) end.value end.thrown end.pos t.pos (held r.locals ∷ map held_in (reverse below.now))).lines) }
+    ensures settled { IfOk result (λ r. r.settled ≡ true → Settled (heap_returned r.change (length below.now + 1) heap.old) (held r.locals ∷ map held_in (reverse below.now))) }
+    ensures change { IfOk result (λ r. CanReturn r.change (length below.now + 1) (lists_in lists.new.items) heap.old) }
+    ensures kept { settled ≡ true → Listed (lists_in lists.new.items) heap.old }
 {
     let value = answered(end.this, t.action, end.value, end.thrown);
     let locals = locals_after(
@@ -184,7 +304,9 @@ fn return_result(
     )?;
     match found {
         Some(result) => Ok(owned_end(locals, result)),
-        None => whole_return(alloc, p, heap, end, caller, below, named, t, locals),
+        None => drafted_return(
+            alloc, p, heap, end, ended, caller, below, named, t, locals, settled, lists, index,
+        ),
     }
 }
 
@@ -209,6 +331,7 @@ fn take_return(
             return_objects(heap, lists, position, found.moved, found.noted);
             true
         }
+        HeapReturn::Drafted(found) => return_draft(heap, lists, &found),
     }
 }
 
@@ -254,7 +377,7 @@ pub fn run_return(
             let taken = return_result(
                 alloc,
                 p,
-                &m.heap,
+                &mut m.heap,
                 end,
                 &top.locals,
                 caller,
@@ -263,6 +386,7 @@ pub fn run_return(
                 t,
                 m.settled,
                 &mut m.owned,
+                &m.index,
             )?;
             let ReturnResult {
                 locals,
@@ -271,9 +395,11 @@ pub fn run_return(
                 settled,
             } = taken;
             m.entries.reserve(lines.len())?;
+            let indexed = index_return_of(alloc, &mut m.index, &m.heap, &change, m.settled);
             let listed = take_return(&mut m.heap, &mut m.owned, below, change);
             add_lines(&mut m.entries, &lines);
-            m.settled = both(settled, listed);
+            let known = both(listed, indexed);
+            m.settled = both(settled, known);
             drop_top(&mut m.frames);
             put_top(
                 &mut m.frames,

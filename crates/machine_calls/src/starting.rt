@@ -1,6 +1,7 @@
 //! Steps that begin calls of the program's methods.
 
-ghost use Rattle.std.specs.Prelude.{◌≡◌, ◌+◌, ◌∷◌, ◌++◌, ◌<◌, ◌≤◌, [], Some, length, map, reverse, vec_capacity, vec_len, IfOk, IfSome, OnErr, OnOk, false, true};
+ghost use Rattle.std.specs.Prelude.{◌≡◌, ◌+◌, ◌∷◌, ◌++◌, ◌<◌, ◌≤◌, [], None, Some, length, map, reverse, vec_capacity, vec_len, IfOk, IfSome, OnErr, OnOk, false, true};
+ghost use Rattle.draft_steps.specs.Steps.{IsDraft};
 ghost use Rattle.java_control.specs.Tables.{Keeps};
 ghost use Rattle.ledger_calls.specs.Calls.{argument_values, begun};
 ghost use Rattle.ledger_moves.specs.Frames.{frame_seen, highest_control};
@@ -8,6 +9,7 @@ ghost use Rattle.ledger_moves.specs.Moves.{Start};
 ghost use Rattle.ledger_obligations.specs.Obligations.{held_in};
 ghost use Rattle.ledger_runs.specs.Outcomes.{went};
 ghost use Rattle.ledger_runs.specs.Steps.{moved_by};
+ghost use Rattle.ledger_state.specs.Contents.{HeapContents};
 ghost use Rattle.ledger_state.specs.Locals.{held};
 ghost use Rattle.ledger_steps.specs.CallSteps.{self_begun, started};
 ghost use Rattle.machine_calls.specs.HeapChanges.{heap_left};
@@ -15,8 +17,11 @@ ghost use Rattle.machine_state.specs.RunStates.{HasNothingToLose, config_of};
 ghost use Rattle.plain_calls.specs.PlainCalls.{left_by, put_noted};
 ghost use Rattle.program_model.specs.Lookups.{method_at};
 ghost use Rattle.settled_heaps.specs.Settled.{Settled};
+ghost use Rattle.spread_calls.specs.SpreadCalls.{left_by_each};
 
-use crate::change::{HeapChange, StartResult, list_change_of, take_change};
+use crate::change::{HeapChange, StartResult, index_change_of, list_change_of, take_change};
+use draft_starts::draft_start;
+use draft_steps::DraftStep;
 use frame_owners::add_list;
 use java_control::{Action, Lists};
 use ledger_calls::argument_values;
@@ -29,6 +34,7 @@ use owned_arguments::{GivenCall, owned_start, paired_start};
 use plain_calls::PlainCall;
 use program_model::{MethodId, Program};
 use rlc_base::{NoMemory, Pos};
+use spread_calls::SpreadChange;
 use std::alloc::Global;
 
 // What a call of the program's method changes to which one argument moves at most, where the heap is `settled`. `locals` are the values
@@ -175,11 +181,72 @@ fn given_start(frame: ActiveFrame, found: GivenCall) -> StartResult
     }
 }
 
-// What the start of a call leaves of the heap to which more than one argument moves, with the frame that it begins.
-fn moving_start(
+// What a call of the program's method changes, whatever it is, where the heap is `settled`. `locals` are the values of the frame that
+// begins.
+fn start_drafted(
     alloc: Global,
     p: &Program,
-    heap: &Heap,
+    heap: &mut Heap,
+    top: &ActiveFrame,
+    frames: &[ActiveFrame],
+    named: MethodId,
+    action: Action,
+    pos: Pos,
+    locals: &Locals,
+    settled: bool,
+) -> Result<Option<DraftStep>, NoMemory>
+    requires settled { settled ≡ true → Settled heap.old (map held_in (reverse frames.now)) }
+    ensures same { heap.new ≡ heap.old }
+    ensures draft { IfOk result (λ o. IfSome o (λ d. IsDraft d heap.old (held locals.now ∷ map held_in (reverse frames.now)) (started p.now heap.old top.now.locals action (method_at p.now named) (length frames.now + 1) pos (held locals.now ∷ map held_in (reverse frames.now))))) }
+    ensures stored { IfOk result (λ o. IfSome o (λ d. d.stored ≡ None)) }
+{
+    if !settled {
+        return Ok(None);
+    }
+    let position = frames.len() as u64 + 1;
+    draft_start(
+        alloc,
+        p,
+        pos,
+        &top.locals,
+        action,
+        named,
+        position,
+        heap,
+        locals,
+        frames,
+    )
+}
+
+// What a call of the program's method leaves that changes these objects.
+fn drafted_end(frame: ActiveFrame, found: DraftStep) -> StartResult
+    ensures frame { result.frame ≡ frame }
+    ensures heap { (h : HeapContents) → heap_left result.change h ≡ left_by_each found.changes.items found.made h }
+    ensures lines { result.lines.items ≡ found.lines.items }
+{
+    let DraftStep {
+        changes,
+        made,
+        stored: _,
+        lines,
+    } = found;
+    let change = HeapChange::Spread(SpreadChange {
+        noted: changes,
+        made,
+    });
+    StartResult {
+        frame,
+        change,
+        lines,
+        settled: true,
+    }
+}
+
+// What the start of a call leaves of the heap that none of the ways above takes, with the frame that it begins.
+fn drafted_start(
+    alloc: Global,
+    p: &Program,
+    heap: &mut Heap,
     top: &ActiveFrame,
     frames: &[ActiveFrame],
     named: MethodId,
@@ -188,11 +255,50 @@ fn moving_start(
     frame: ActiveFrame,
     settled: bool,
 ) -> Result<StartResult, NoMemory>
-    requires { settled ≡ true → Settled heap.now (map held_in (reverse frames.now)) }
+    requires settled { settled ≡ true → Settled heap.old (map held_in (reverse frames.now)) }
+    ensures same { heap.new ≡ heap.old }
     ensures frame { IfOk result (λ r. r.frame ≡ frame) }
-    ensures heap { IfOk result (λ r. heap_left r.change heap.now ≡ (started p.now heap.now top.now.locals action (method_at p.now named) (length frames.now + 1) pos (held frame.locals ∷ map held_in (reverse frames.now))).heap) }
-    ensures lines { IfOk result (λ r. r.lines.items ≡ (started p.now heap.now top.now.locals action (method_at p.now named) (length frames.now + 1) pos (held frame.locals ∷ map held_in (reverse frames.now))).lines) }
-    ensures settled { IfOk result (λ r. r.settled ≡ true → Settled (heap_left r.change heap.now) (held frame.locals ∷ map held_in (reverse frames.now))) }
+    ensures heap { IfOk result (λ r. heap_left r.change heap.old ≡ (started p.now heap.old top.now.locals action (method_at p.now named) (length frames.now + 1) pos (held frame.locals ∷ map held_in (reverse frames.now))).heap) }
+    ensures lines { IfOk result (λ r. r.lines.items ≡ (started p.now heap.old top.now.locals action (method_at p.now named) (length frames.now + 1) pos (held frame.locals ∷ map held_in (reverse frames.now))).lines) }
+    ensures settled { IfOk result (λ r. r.settled ≡ true → Settled (heap_left r.change heap.old) (held frame.locals ∷ map held_in (reverse frames.now))) }
+{
+    let found = start_drafted(
+        alloc,
+        p,
+        heap,
+        top,
+        frames,
+        named,
+        action,
+        pos,
+        &frame.locals,
+        settled,
+    )?;
+    match found {
+        Some(step) => Ok(drafted_end(frame, step)),
+        None => whole_start(alloc, p, heap, top, frames, named, action, pos, frame),
+    }
+}
+
+// What the start of a call leaves of the heap to which more than one argument moves, with the frame that it begins.
+fn moving_start(
+    alloc: Global,
+    p: &Program,
+    heap: &mut Heap,
+    top: &ActiveFrame,
+    frames: &[ActiveFrame],
+    named: MethodId,
+    action: Action,
+    pos: Pos,
+    frame: ActiveFrame,
+    settled: bool,
+) -> Result<StartResult, NoMemory>
+    requires settled { settled ≡ true → Settled heap.old (map held_in (reverse frames.now)) }
+    ensures same { heap.new ≡ heap.old }
+    ensures frame { IfOk result (λ r. r.frame ≡ frame) }
+    ensures heap { IfOk result (λ r. heap_left r.change heap.old ≡ (started p.now heap.old top.now.locals action (method_at p.now named) (length frames.now + 1) pos (held frame.locals ∷ map held_in (reverse frames.now))).heap) }
+    ensures lines { IfOk result (λ r. r.lines.items ≡ (started p.now heap.old top.now.locals action (method_at p.now named) (length frames.now + 1) pos (held frame.locals ∷ map held_in (reverse frames.now))).lines) }
+    ensures settled { IfOk result (λ r. r.settled ≡ true → Settled (heap_left r.change heap.old) (held frame.locals ∷ map held_in (reverse frames.now))) }
 {
     let found = pair_found(
         alloc,
@@ -208,7 +314,9 @@ fn moving_start(
     )?;
     match found {
         Some(call) => Ok(given_start(frame, call)),
-        None => whole_start(alloc, p, heap, top, frames, named, action, pos, frame),
+        None => drafted_start(
+            alloc, p, heap, top, frames, named, action, pos, frame, settled,
+        ),
     }
 }
 
@@ -216,7 +324,7 @@ fn moving_start(
 fn start_change(
     alloc: Global,
     p: &Program,
-    heap: &Heap,
+    heap: &mut Heap,
     top: &ActiveFrame,
     frames: &[ActiveFrame],
     named: MethodId,
@@ -225,11 +333,12 @@ fn start_change(
     frame: ActiveFrame,
     settled: bool,
 ) -> Result<StartResult, NoMemory>
-    requires { settled ≡ true → Settled heap.now (map held_in (reverse frames.now)) }
+    requires settled { settled ≡ true → Settled heap.old (map held_in (reverse frames.now)) }
+    ensures same { heap.new ≡ heap.old }
     ensures frame { IfOk result (λ r. r.frame ≡ frame) }
-    ensures heap { IfOk result (λ r. heap_left r.change heap.now ≡ (started p.now heap.now top.now.locals action (method_at p.now named) (length frames.now + 1) pos (held frame.locals ∷ map held_in (reverse frames.now))).heap) }
-    ensures lines { IfOk result (λ r. r.lines.items ≡ (started p.now heap.now top.now.locals action (method_at p.now named) (length frames.now + 1) pos (held frame.locals ∷ map held_in (reverse frames.now))).lines) }
-    ensures settled { IfOk result (λ r. r.settled ≡ true → Settled (heap_left r.change heap.now) (held frame.locals ∷ map held_in (reverse frames.now))) }
+    ensures heap { IfOk result (λ r. heap_left r.change heap.old ≡ (started p.now heap.old top.now.locals action (method_at p.now named) (length frames.now + 1) pos (held frame.locals ∷ map held_in (reverse frames.now))).heap) }
+    ensures lines { IfOk result (λ r. r.lines.items ≡ (started p.now heap.old top.now.locals action (method_at p.now named) (length frames.now + 1) pos (held frame.locals ∷ map held_in (reverse frames.now))).lines) }
+    ensures settled { IfOk result (λ r. r.settled ≡ true → Settled (heap_left r.change heap.old) (held frame.locals ∷ map held_in (reverse frames.now))) }
 {
     let found = start_found(
         alloc,
@@ -277,7 +386,7 @@ fn start_result(
     alloc: Global,
     p: &Program,
     lists: &mut Lists,
-    heap: &Heap,
+    heap: &mut Heap,
     top: &ActiveFrame,
     frames: &[ActiveFrame],
     named: MethodId,
@@ -286,11 +395,12 @@ fn start_result(
     pos: Pos,
     settled: bool,
 ) -> Result<StartResult, NoMemory>
-    requires { settled ≡ true → Settled heap.now (map held_in (reverse frames.now)) }
-    ensures frame { IfOk result (λ r. frame_seen lists.new.cells.keys r.frame ≡ begun p.now runs (self_begun top.now.locals action heap.now) (argument_values top.now.locals action (method_at p.now named))) }
-    ensures heap { IfOk result (λ r. heap_left r.change heap.now ≡ (started p.now heap.now top.now.locals action (method_at p.now named) (length frames.now + 1) pos (held r.frame.locals ∷ map held_in (reverse frames.now))).heap) }
-    ensures lines { IfOk result (λ r. r.lines.items ≡ (started p.now heap.now top.now.locals action (method_at p.now named) (length frames.now + 1) pos (held r.frame.locals ∷ map held_in (reverse frames.now))).lines) }
-    ensures settled { IfOk result (λ r. r.settled ≡ true → Settled (heap_left r.change heap.now) (held r.frame.locals ∷ map held_in (reverse frames.now))) }
+    requires settled { settled ≡ true → Settled heap.old (map held_in (reverse frames.now)) }
+    ensures same { heap.new ≡ heap.old }
+    ensures frame { IfOk result (λ r. frame_seen lists.new.cells.keys r.frame ≡ begun p.now runs (self_begun top.now.locals action heap.old) (argument_values top.now.locals action (method_at p.now named))) }
+    ensures heap { IfOk result (λ r. heap_left r.change heap.old ≡ (started p.now heap.old top.now.locals action (method_at p.now named) (length frames.now + 1) pos (held r.frame.locals ∷ map held_in (reverse frames.now))).heap) }
+    ensures lines { IfOk result (λ r. r.lines.items ≡ (started p.now heap.old top.now.locals action (method_at p.now named) (length frames.now + 1) pos (held r.frame.locals ∷ map held_in (reverse frames.now))).lines) }
+    ensures settled { IfOk result (λ r. r.settled ≡ true → Settled (heap_left r.change heap.old) (held r.frame.locals ∷ map held_in (reverse frames.now))) }
     ensures within { IfOk result (λ r. r.frame.control ≤ length lists.new.cells.keys) }
     ensures kept { Keeps lists.old.cells.keys lists.new.cells.keys }
 {
@@ -335,7 +445,7 @@ pub fn run_start(
             alloc,
             p,
             &mut m.lists,
-            &m.heap,
+            &mut m.heap,
             top,
             &m.frames,
             named,
@@ -353,9 +463,11 @@ pub fn run_start(
         m.entries.reserve(lines.len())?;
         add_list(alloc, &mut m.owned)?;
         let listed = list_change_of(&mut m.owned, &m.heap, &change, m.settled)?;
+        let indexed = index_change_of(alloc, &mut m.index, &m.heap, &change, m.settled);
         take_change(&mut m.heap, change)?;
         add_lines(&mut m.entries, &lines);
-        m.settled = both(settled, listed);
+        let known = both(listed, indexed);
+        m.settled = both(settled, known);
         add_frame(&mut m.frames, frame);
     }
     Ok(())

@@ -7,6 +7,7 @@ use Rattle.ledger_moves.specs.Frames.{frames_seen}
 use Rattle.ledger_obligations.specs.Obligations.{held_in}
 use Rattle.ledger_state.specs.declared.value.Value.{Value}
 use Rattle.ledger_state.specs.Contents.{HeapContents}
+use Rattle.object_index.specs.ObjectIndexes.{Indexed}
 use Rattle.settled_heaps.specs.Settled.{Settled}
 
 -- the configuration of a run
@@ -26,6 +27,6 @@ config_of m = record {
 abbrev pub NothingToLose : HeapContents → List (List Value) → List (List ℕ) → Type 0
 NothingToLose h held lists = Settled h held × Listed lists h
 
--- where the run says so, no object is left to lose
+-- where the run says so, no object is left to lose, and the index is that of the heap
 abbrev pub HasNothingToLose : RunState → Type 0
-HasNothingToLose m = m.settled ≡ true → NothingToLose m.heap (map held_in (reverse m.frames.items)) (lists_in m.owned.items)
+HasNothingToLose m = m.settled ≡ true → NothingToLose m.heap (map held_in (reverse m.frames.items)) (lists_in m.owned.items) × Indexed m.index m.heap

@@ -3,6 +3,7 @@
 use java_control::Lists;
 use ledger_obligations::ActiveFrame;
 use ledger_state::{ArrayObject, Entry, Heap, StoredStatic};
+use object_index::ObjectIndex;
 use program_model::ClassId;
 use stub_conduct::Choice;
 
@@ -27,4 +28,6 @@ pub struct RunState {
     pub settled: bool,
     /// For each frame, that of `main` first, the objects that it may own: where `settled` is true, at least those which it owns.
     pub owned: Vec<Vec<u64>>,
+    /// Which objects the fields of an object may own, and which may be linked to it: where `settled` is true, it is the index of the heap.
+    pub index: ObjectIndex,
 }

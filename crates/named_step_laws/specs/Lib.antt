@@ -1,1 +1,10 @@
 pub mod Naming
+pub use Rattle.flow_rules.specs.Paths
+pub use Rattle.flow_rules.specs.Ends
+pub use Rattle.flow_rules.specs.Calls
+pub use Rattle.flow_rules.specs.Flow
+pub use Rattle.must_call_sets.specs.AliasCases
+pub use Rattle.must_call_sets.specs.Bodies
+pub use Rattle.must_call_sets.specs.MustCallSets
+pub use Rattle.must_call_sets.specs.OwningCases
+pub use Rattle.must_call_sets.specs.Signatures

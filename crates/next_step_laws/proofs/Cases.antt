@@ -19,8 +19,8 @@ use Rattle.java_control.specs.declared.action.PlainValue.{PlainValue}
 use Rattle.java_control.specs.declared.action.PlainValue.TheVariants as plain
 use Rattle.java_control.specs.declared.action.TargetForm.TheVariants as target_form
 use Rattle.java_control.specs.declared.place.Place.{Place}
-use Rattle.obligation_facts.specs.Callees.{may_be_null_target, may_have_null_target}
-use Rattle.accepted_programs.specs.Accept.{Accept}
+use Rattle.place_laws.specs.Callees.{may_be_null_target, may_have_null_target}
+use Rattle.target_laws.specs.Accept.{Accept}
 use Rattle.stub_conduct.specs.declared.choice.Choice.{Choice}
 use Rattle.stub_conduct.specs.declared.choice.Conduct.{Conduct}
 use Rattle.stub_conduct.specs.declared.choice.Conduct.TheVariants as conducts
@@ -29,30 +29,30 @@ use Rattle.ledger_state.specs.Contents.{HeapContents}
 use Rattle.ledger_state.specs.Values.{is_null}
 use Rattle.ledger_state.specs.declared.array.ArrayObject.{ArrayObject}
 use Rattle.ledger_state.specs.declared.locals.Locals.{Locals}
-use Rattle.ledger_obligations.specs.Obligations.{is_library_method}
-use Rattle.ledger_operations.specs.Operations.{thrown_by_operation}
-use Rattle.ledger_calls.specs.Calls.{body_of, form_of, has_null_target, is_stray_from, leaves_by, operand_of, overriding_by, position_of, running}
-use Rattle.ledger_calls.specs.Conducts.{library_method, on_this, settled}
-use Rattle.ledger_calls.specs.Configuration.{Frame}
-use Rattle.ledger_frames.specs.Choosing.{agrees, agrees_with, edge_of_class, frame_steps, goes_by, operation_edge, same_edge}
+use Rattle.place_laws.specs.Obligations.{is_library_method}
+use Rattle.place_laws.specs.Operations.{thrown_by_operation}
+use Rattle.target_laws.specs.Calls.{body_of, form_of, has_null_target, is_stray_from, leaves_by, operand_of, overriding_by, position_of, running}
+use Rattle.target_laws.specs.Conducts.{library_method, on_this, settled}
+use Rattle.target_laws.specs.Configuration.{Frame}
+use Rattle.place_laws.specs.Choosing.{agrees, agrees_with, edge_of_class, frame_steps, goes_by, operation_edge, same_edge}
 use Rattle.ledger_moves.specs.declared.standing.FirstAction.{FirstAction}
 use Rattle.ledger_moves.specs.Moves.{Move, Inner, Start, Library, Stray, Rest, by_class, by_edge, call, call_of, chosen_of, fits_target, has_body, inner_by, library_as, library_by, library_call, next_move, null_target, operate, program_call, standing, take, take_chosen, take_plain}
 use Rattle.place_laws.specs.Places.{IsWay}
 use Rattle.tracking_laws.specs.Agreement.{Stands}
 use Rattle.tracking_laws.specs.PlainForms.{HasPlainForms, IsPlainAction, IsPlainCall, IsPlainSignature, MayRun, RunsFor, by_name, run_by}
 use Rattle.tracking_laws.specs.PlainForms as plain_forms
-use Rattle.conduct_laws.specs.Fitting.{FitsMethod}
-use Rattle.conduct_laws.proofs.Conducts.{made_object_fits}
+use Rattle.tracking_laws.specs.Fitting.{FitsMethod}
+use Rattle.tracking_laws.proofs.Conducts.{made_object_fits}
 use Rattle.tracking_laws.specs.Outcomes.{IsCallRow, IsPlainRow}
 use Rattle.next_step_laws.specs.Nexts.{IsConstantRead, IsInnerStep, IsNext, IsStartMove}
 use Rattle.next_step_laws.proofs.First.{IsAfterFirst, step_after_first, throws_nothing}
 use Rattle.target_laws.specs.Frames.{KeepsTargets}
 use Rattle.target_laws.proofs.Laws.{target_is_there}
-use Rattle.target_step_laws.specs.Targets.{this_operand}
+use Rattle.target_laws.specs.Targets.{this_operand}
 use Rattle.tracking_laws.specs.Steps.{IsTrueTest, is_super}
 use Rattle.tracking_laws.proofs.Unmet.{call_may}
-use Rattle.call_step_laws.specs.Calling.{may_call}
-use Rattle.call_step_laws.proofs.Ways.{one_action}
+use Rattle.tracking_laws.specs.Calling.{may_call}
+use Rattle.tracking_laws.proofs.Ways.{one_action}
 use Rattle.tracking_laws.proofs.Ready.{plain_call, plain_step, step_here}
 
 -- an element that is found stands somewhere and passes the test

@@ -23,7 +23,7 @@ use Rattle.java_control.specs.declared.action.Completion.TheVariants as completi
 use Rattle.ledger_state.specs.Contents.{HeapContents}
 use Rattle.ledger_state.specs.declared.array.ArrayObject.{ArrayObject}
 use Rattle.ledger_state.specs.declared.locals.Locals.{Locals}
-use Rattle.ledger_operations.specs.Operations.{thrown_by_operation}
+use Rattle.place_laws.specs.Operations.{thrown_by_operation}
 use Rattle.ledger_moves.specs.declared.standing.FirstAction.{FirstAction}
 use Rattle.ledger_moves.specs.Moves.{standing}
 

@@ -8,3 +8,5 @@ pub use Rattle.tracking_laws.proofs.Stacks
 pub use Rattle.tracking_laws.proofs.Unmet
 pub use Rattle.tracking_laws.proofs.Entries
 pub use Rattle.tracking_laws.proofs.SignedPromises
+pub use Rattle.target_laws.proofs.Moved
+pub use Rattle.target_laws.proofs.Laws

@@ -9,12 +9,12 @@ use Rattle.java_control.specs.Calls.{called_method}
 use Rattle.java_control.specs.Control.{Step}
 use Rattle.java_control.specs.declared.action.Edge.{Edge}
 use Rattle.java_control.specs.declared.action.Edge.TheVariants as edges
-use Rattle.ledger_calls.specs.Calls.{is_stray_from, leaves_by}
-use Rattle.ledger_calls.specs.Configuration.{Frame}
-use Rattle.ledger_frames.specs.Choosing.{frame_steps, goes_by, same_edge}
+use Rattle.target_laws.specs.Calls.{is_stray_from, leaves_by}
+use Rattle.target_laws.specs.Configuration.{Frame}
+use Rattle.place_laws.specs.Choosing.{frame_steps, goes_by, same_edge}
 use Rattle.ledger_moves.specs.Moves.{StrayBack, back_as, back_by, back_from, back_to, by_class, by_edge, return_move}
 use Rattle.tracking_laws.specs.Agreement.{Stands}
-use Rattle.call_step_laws.proofs.Ways.{one_action}
+use Rattle.tracking_laws.proofs.Ways.{one_action}
 use Rattle.tracking_laws.specs.Outcomes.{IsCallRow}
 use Rattle.tracking_laws.proofs.Ready.{step_here}
 use Rattle.tracking_laws.proofs.Unmet.{call_may, row_of}

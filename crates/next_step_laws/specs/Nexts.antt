@@ -12,7 +12,7 @@ use Rattle.java_control.specs.declared.action.Action.{Action}
 use Rattle.java_control.specs.declared.action.Action.TheVariants as actions
 use Rattle.java_control.specs.declared.action.Edge.TheVariants as edges
 use Rattle.java_control.specs.declared.action.PlainValue.TheVariants as plain
-use Rattle.obligation_facts.specs.Callees.{may_be_null_target}
+use Rattle.place_laws.specs.Callees.{may_be_null_target}
 use Rattle.stub_conduct.specs.declared.choice.Choice.{Choice}
 use Rattle.stub_conduct.specs.declared.choice.Conduct.{Conduct}
 use Rattle.stub_conduct.specs.declared.choice.Conduct.TheVariants as conducts
@@ -20,15 +20,15 @@ use Rattle.ledger_state.specs.Contents.{HeapContents}
 use Rattle.ledger_state.specs.Values.{is_null}
 use Rattle.ledger_state.specs.declared.array.ArrayObject.{ArrayObject}
 use Rattle.ledger_state.specs.declared.locals.Locals.{Locals}
-use Rattle.ledger_obligations.specs.Obligations.{is_library_method}
-use Rattle.ledger_operations.specs.Operations.{thrown_by_operation}
-use Rattle.ledger_calls.specs.Calls.{form_of, has_null_target, leaves_by, operand_of, position_of, running}
-use Rattle.ledger_calls.specs.Conducts.{on_this, settled}
-use Rattle.ledger_frames.specs.Choosing.{agrees_with}
+use Rattle.place_laws.specs.Obligations.{is_library_method}
+use Rattle.place_laws.specs.Operations.{thrown_by_operation}
+use Rattle.target_laws.specs.Calls.{form_of, has_null_target, leaves_by, operand_of, position_of, running}
+use Rattle.target_laws.specs.Conducts.{on_this, settled}
+use Rattle.place_laws.specs.Choosing.{agrees_with}
 use Rattle.ledger_moves.specs.Moves.{Move, Inner, Start, Library, End, Stray, Rest, Return, Back, StrayBack, NoWay, fits_target, has_body}
 use Rattle.place_laws.specs.Places.{IsWay}
 use Rattle.tracking_laws.specs.PlainForms.{IsPlainCall, IsPlainSignature, MayRun, RunsFor}
-use Rattle.conduct_laws.specs.Fitting.{FitsMethod}
+use Rattle.tracking_laws.specs.Fitting.{FitsMethod}
 use Rattle.tracking_laws.specs.Outcomes.{IsCallRow, IsPlainRow}
 use Rattle.tracking_laws.specs.Steps.{IsTrueTest, is_super}
 

@@ -1,1 +1,2 @@
 pub mod Origins
+pub use Rattle.operand_type_laws.specs.Operands

@@ -1,1 +1,2 @@
 pub mod Operands
+pub use Rattle.program_conditions.specs.Conditions

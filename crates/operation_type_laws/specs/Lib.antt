@@ -1,1 +1,2 @@
 pub mod Values
+pub use Rattle.ledger_operations.specs.Places

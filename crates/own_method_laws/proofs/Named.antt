@@ -16,7 +16,7 @@ use Rattle.program_model.specs.Overrides.{chain_behind, chain_of, methods_of, su
 use Rattle.program_model.specs.SuperTests.{classes_above, has_class, is_under}
 use Rattle.program_model.specs.Validity.{IsTypedProgram}
 use Rattle.program_model.proofs.HierarchyLaws.{is_under_law}
-use Rattle.must_call_sets.specs.MustCallSets.{must_in, must_of}
+use Rattle.overriding_call_laws.specs.MustCallSets.{must_in, must_of}
 use Rattle.ledger_obligations.specs.Obligations.{is_name, is_named, is_named_in, method_named}
 use Rattle.overriding_call_laws.proofs.Runs.{class_of_declared, declared_there, declaring_class}
 use Rattle.accepted_programs.specs.Accept.{Accept}

@@ -21,11 +21,11 @@ use Rattle.program_model.specs.declared.program.Program.{Program}
 use Rattle.program_model.specs.Lookups.{class_at, method_at}
 use Rattle.program_model.specs.Overrides.{are_alike, are_types, is_method_kind, is_static_kind}
 use Rattle.program_model.specs.SuperTests.{has_class}
-use Rattle.program_conditions.proofs.Alike.{alike_from, alike_parts, text_itself}
+use Rattle.overriding_call_laws.proofs.Alike.{alike_from, alike_parts, text_itself}
 use Rattle.annotation_rules.specs.AnnotationCases.{body_cases, class_cases, field_cases, is_needed, method_cases, place_cases, private_cases, value_cases}
-use Rattle.must_call_sets.specs.Bodies.{is_instance_kind}
-use Rattle.must_call_sets.specs.WellFormed.{IsWellFormed, interest_of, is_plain}
-use Rattle.class_members.proofs.Elements.{contains-cases, contains-none}
+use Rattle.overriding_call_laws.specs.Bodies.{is_instance_kind}
+use Rattle.overriding_call_laws.specs.WellFormed.{IsWellFormed, interest_of, is_plain}
+use Rattle.overriding_call_laws.proofs.Elements.{contains-cases, contains-none}
 use Rattle.overriding_call_laws.proofs.Lists.{contains_at, nil_left, nil_right, none_gathered, none_is_some, not_refused, some_is}
 use Rattle.accepted_programs.specs.Accept.{Accept}
 

@@ -16,11 +16,11 @@ use Rattle.program_model.specs.Overrides.{has_code, has_code_in, is_abstract, is
 use Rattle.program_model.specs.SuperTests.{classes_above, has_class, is_under}
 use Rattle.program_model.specs.Validity.{IsTypedProgram}
 use Rattle.program_model.proofs.HierarchyLaws.{is_under_law}
-use Rattle.program_conditions.proofs.Alike.{alike_at, alike_there}
-use Rattle.class_members.proofs.Elements.{none-has}
-use Rattle.class_overrides.specs.Cases.{body_case, body_cases, is_abstract_method, is_instance_kind, lacks, lacks_by, lacks_of, override_cases}
-use Rattle.must_call_sets.specs.MustCallSets.{must_in}
-use Rattle.ledger_calls.specs.Calls.{overriding, overriding_in}
+use Rattle.overriding_call_laws.proofs.Alike.{alike_at, alike_there}
+use Rattle.overriding_call_laws.proofs.Elements.{none-has}
+use Rattle.overriding_call_laws.specs.Cases.{body_case, body_cases, is_abstract_method, is_instance_kind, lacks, lacks_by, lacks_of, override_cases}
+use Rattle.overriding_call_laws.specs.MustCallSets.{must_in}
+use Rattle.overriding_call_laws.specs.Calls.{overriding, overriding_in}
 use Rattle.overriding_call_laws.proofs.Lists.{nil_right, not_refused}
 use Rattle.overriding_call_laws.proofs.Runs.{class_of_declared, declared_there, declaring_class, listed_class}
 use Rattle.accepted_programs.specs.Accept.{Accept}

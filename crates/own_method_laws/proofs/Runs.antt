@@ -11,8 +11,8 @@ use Rattle.program_model.specs.declared.program.Method.{Method}
 use Rattle.program_model.specs.declared.program.Program.{Program}
 use Rattle.program_model.specs.Lookups.{class_at}
 use Rattle.program_model.specs.Overrides.{carried_methods, chain_behind, chain_of, has_code, is_alike, method_run, methods_of, run_of, super_in}
-use Rattle.class_members.proofs.Elements.{find-among, find-none}
-use Rattle.class_overrides.proofs.Walks.{run_found, runs_found}
+use Rattle.overriding_call_laws.proofs.Elements.{find-among, find-none}
+use Rattle.overriding_call_laws.proofs.Walks.{run_found, runs_found}
 use Rattle.overriding_call_laws.proofs.Lists.{found_first}
 
 -- the methods that the class declares and that are alike to the named one are this one alone

@@ -10,8 +10,8 @@ use Rattle.program_model.specs.declared.program.Program.{Program}
 use Rattle.program_model.specs.Lookups.{field_at, method_at}
 use Rattle.program_model.specs.Overrides.{is_abstract}
 use Rattle.program_model.specs.SuperTests.{is_under}
-use Rattle.must_call_sets.specs.MustCallSets.{must_of}
-use Rattle.ledger_calls.specs.Calls.{overriding_in}
+use Rattle.overriding_call_laws.specs.MustCallSets.{must_of}
+use Rattle.overriding_call_laws.specs.Calls.{overriding_in}
 
 -- no class with owning fields is abstract
 abbrev pub HasConcreteOwners : Program → Type 0

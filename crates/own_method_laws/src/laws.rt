@@ -7,7 +7,7 @@ ghost use Rattle.program_model.specs.declared.kinds.MethodId.{MethodId};
 ghost use Rattle.program_model.specs.declared.program.Method.{Method};
 ghost use Rattle.program_model.specs.declared.program.Program.{Program};
 ghost use Rattle.program_model.specs.Lookups.{method_at};
-ghost use Rattle.must_call_sets.specs.MustCallSets.{must_of};
+ghost use Rattle.overriding_call_laws.specs.MustCallSets.{must_of};
 ghost use Rattle.ledger_obligations.specs.Obligations.{method_named};
 ghost use Rattle.accepted_programs.specs.Accept.{Accept};
 ghost use Rattle.own_method_laws.specs.Owners.{HasConcreteOwners, RunsOwnMethods};

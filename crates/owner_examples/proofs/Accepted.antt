@@ -5,11 +5,11 @@ use Rattle.java_control.specs.Owned.{place_of_field}
 use Rattle.java_control.specs.PlaceNumbers.{IsSmall}
 use Rattle.java_control.specs.declared.action.Action.{Action}
 use Rattle.must_call_sets.specs.Bodies.{has_field_place}
-use Rattle.obligation_facts.specs.SmallActions.{IsSmallAction}
-use Rattle.ownership_rules.specs.Room.{HasRoom}
+use Rattle.soundness_laws.specs.SmallActions.{IsSmallAction}
+use Rattle.agreement.specs.Room.{HasRoom}
 use Rattle.accepted_programs.specs.Accept.{Accept}
-use Rattle.flow_rules.specs.Paths.{FitsPlaces, relation_of}
-use Rattle.safety.specs.Safety.{IsMain}
+use Rattle.agreement.specs.Paths.{FitsPlaces, relation_of}
+use Rattle.soundness_laws.specs.Safety.{IsMain}
 use Rattle.owner_examples.specs.Programs.{holding, main_method}
 use Rattle.owner_examples.proofs.ClosePaths.{close_small}
 use Rattle.owner_examples.proofs.ConstructorPaths.{constructor_small}

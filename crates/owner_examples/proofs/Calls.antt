@@ -1,7 +1,8 @@
 -- The calls of the program: each runs the method that it names.
 use Rattle.std.specs.Prelude.{◌||◌, ◌&&◌, nat_eq, unwrap_or}
-use Rattle.std.specs.List.{list_any}
+use Rattle.std.specs.FinSet as set
 use Rattle.std.proofs.Common.{◌≡◌, ℕ, zero, suc, Bool, true, false, true≢false, not, Option, Some, None, [], ◌∷◌, refl, sym, ap, ◌∙◌, subst, inl, inr, if◌then◌else◌, eqb-true}
+use Rattle.program_model.specs.declared.program.ParamSig.{ParamSig}
 use Rattle.program_model.specs.declared.kinds.ClassId.{ClassId}
 use Rattle.program_model.specs.declared.kinds.MethodId.{MethodId}
 use Rattle.program_model.specs.declared.program.Class.{Class}
@@ -13,8 +14,8 @@ use Rattle.program_model.specs.Overrides.{are_types, method_run}
 use Rattle.program_model.specs.SuperTests.{classes_above, has_class, is_under}
 use Rattle.must_call_sets.specs.MustCallSets.{must_of_optional}
 use Rattle.must_call_sets.specs.OverrideCases.{has_other_owning, has_other_result, has_wider_result}
-use Rattle.ledger_obligations.specs.Obligations.{is_library_method}
-use Rattle.agreement.specs.PlainForms.{IsPlainCall, IsPlainSignature, IsPromisedPlainly, MayRun, PromisesPlainly, RunsFor, asks_on_owned, by_class, by_name, run_by}
+use Rattle.soundness_laws.specs.Obligations.{is_library_method}
+use Rattle.agreement.specs.PlainForms.{IsPlainCall, IsPlainSignature, IsPromisedPlainly, MayRun, PromisesPlainly, RunsFor, by_class, by_name, run_by}
 use Rattle.safety_examples.specs.Programs.{method_number, no_names}
 use Rattle.owner_examples.specs.Programs.{close_quietly, close_quietly_declared, field_closed, holder, holder_close, holder_close_declared, holder_constructor, holder_constructor_declared, holding, resource, resource_constructor, resource_constructor_declared}
 use Rattle.safety_examples.proofs.Sets.{within_itself}
@@ -110,12 +111,15 @@ wider_itself s = ap (λ b. s.owning_result && not b) (within_itself (must_of_opt
     and_false true = refl
     and_false false = refl
 
-as_itself : (x : Method) → are_types x.sig.params.items x.sig.params.items ≡ true → has_other_owning x.sig.params.items x.sig.params.items ≡ false → list_any asks_on_owned x.sig.params.items ≡ false
+same_before : (a b : ParamSig) → Some a ≡ Some b → set.is_subset a.before b.before ≡ true
+same_before a b same = subst (λ (z : ParamSig). set.is_subset a.before z.before ≡ true) (let one : a ≡ b = cc in one) (within_itself a.before)
+
+as_itself : (x : Method) → are_types x.sig.params.items x.sig.params.items ≡ true → has_other_owning x.sig.params.items x.sig.params.items ≡ false
     → has_other_result x.sig x.sig ≡ false → x.sig.first ≡ None → RunsFor holding x x
-as_itself x types owning asks result first = record {
+as_itself x types owning result first = record {
   types = types;
   owning = owning;
-  asks = asks;
+  asks = λ k a b at_a at_b. same_before a b (sym at_a ∙ at_b);
   result = result;
   wider = wider_itself x.sig;
   kind = λ t is other. is;
@@ -127,7 +131,7 @@ as_itself x types owning asks result first = record {
 runs_as_itself : (m : MethodId) (x : Method) → method_at holding m ≡ Some x → RunsFor holding x x
 runs_as_itself m x at =
     holds_at (λ i (y : Method). RunsFor holding y y) holding.methods.items m.0 x
-    (as_itself _ refl refl refl refl refl, (as_itself _ refl refl refl refl refl, (as_itself _ refl refl refl refl refl, (as_itself holder_constructor_declared refl refl (simp (within_itself no_names) refl) refl refl, (as_itself _ refl refl refl refl refl, (as_itself _ refl refl refl refl refl, tt)))))) at
+    (as_itself _ refl refl refl refl, (as_itself _ refl refl refl refl, (as_itself _ refl refl refl refl, (as_itself holder_constructor_declared refl refl refl refl, (as_itself _ refl refl refl refl, (as_itself _ refl refl refl refl, tt)))))) at
 
 -- ---- calls
 

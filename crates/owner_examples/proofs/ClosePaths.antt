@@ -3,8 +3,8 @@ use Rattle.std.proofs.Common.{List, [], ◌∷◌, All, refl, sym, subst, lit<, 
 use Rattle.java_control.specs.Control.{next_of, start_of}
 use Rattle.java_control.specs.Remaining.{Todo}
 use Rattle.java_control.specs.declared.fact.Mode.TheVariants as modes
-use Rattle.obligation_facts.specs.SmallActions.{IsSmallAction}
-use Rattle.ownership_rules.specs.Births.{births_at_entry}
+use Rattle.soundness_laws.specs.SmallActions.{IsSmallAction}
+use Rattle.agreement.specs.Births.{births_at_entry}
 use Rattle.safety_examples.specs.Certificates.{IsCertificate, IsFollowed, IsListed, Placed, placed}
 use Rattle.safety_examples.specs.Programs.{no_names}
 use Rattle.owner_examples.specs.Controls.{close_controls}

@@ -13,8 +13,8 @@ use Rattle.java_control.specs.declared.fact.Origin.{Origin}
 use Rattle.java_control.specs.declared.fact.OriginKind.TheVariants as kinds
 use Rattle.java_control.specs.declared.fact.Outcome.TheVariants.{Next, Gone}
 use Rattle.java_control.specs.declared.place.Place.TheVariants as places
-use Rattle.obligation_facts.specs.Facts.{PlaceSet}
-use Rattle.flow_rules.specs.Flow.{flow}
+use Rattle.soundness_laws.specs.Facts.{PlaceSet}
+use Rattle.agreement.specs.Flow.{flow}
 use Rattle.safety_examples.specs.Programs.{close_alone, in_source, no_names}
 use Rattle.owner_examples.specs.Programs.{constructor_body, held, holder, holding, resource}
 use Rattle.safety_examples.proofs.Sets.{close_not_none, within_itself}

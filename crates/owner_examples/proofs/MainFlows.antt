@@ -14,8 +14,8 @@ use Rattle.java_control.specs.declared.fact.Origin.{Origin}
 use Rattle.java_control.specs.declared.fact.OriginKind.TheVariants as kinds
 use Rattle.java_control.specs.declared.fact.Outcome.TheVariants.{Next, Gone}
 use Rattle.java_control.specs.declared.place.Place.TheVariants as places
-use Rattle.obligation_facts.specs.Facts.{Names, PlaceSet, without_temps}
-use Rattle.flow_rules.specs.Flow.{flow}
+use Rattle.soundness_laws.specs.Facts.{Names, PlaceSet, without_temps}
+use Rattle.agreement.specs.Flow.{flow}
 use Rattle.safety_examples.specs.Programs.{close_alone, in_source, no_names}
 use Rattle.owner_examples.specs.Programs.{holder, holder_close, holder_constructor, holding, main_body, resource}
 use Rattle.safety_examples.proofs.Sets.{close_not_none, within_itself}

@@ -4,8 +4,8 @@ use Rattle.java_control.specs.Control.{next_of, start_of}
 use Rattle.java_control.specs.Remaining.{Todo}
 use Rattle.java_control.specs.declared.action.Action.TheVariants as actions
 use Rattle.java_control.specs.declared.action.Edge.TheVariants as edges
-use Rattle.obligation_facts.specs.SmallActions.{IsSmallAction}
-use Rattle.ownership_rules.specs.Births.{births_of_step}
+use Rattle.soundness_laws.specs.SmallActions.{IsSmallAction}
+use Rattle.agreement.specs.Births.{births_of_step}
 use Rattle.safety_examples.specs.Certificates.{IsCertificate, IsFollowed, IsListed, Placed, placed}
 use Rattle.safety_examples.specs.Programs.{in_source, no_names}
 use Rattle.owner_examples.specs.Controls.{main_controls}

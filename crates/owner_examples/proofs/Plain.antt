@@ -1,4 +1,7 @@
 -- The program is plain.
+pub use Rattle.exception_value_laws.proofs.Plain.{methods_give_no_exceptions}
+pub use Rattle.exception_value_laws.proofs.Plain.{methods_give_no_exceptions}
+pub use Rattle.exception_value_laws.proofs.Plain.{methods_give_no_exceptions}
 use Rattle.std.specs.Prelude.{◌||◌}
 use Rattle.std.proofs.Common.{◌≡◌, ℕ, Bool, true, false, true≢false, not, Option, Some, None, List, slice_get, refl, sym, ap, ◌∙◌, subst, arith, All}
 use Rattle.program_model.specs.declared.kinds.BodyId.{BodyId}
@@ -19,13 +22,13 @@ use Rattle.java_control.specs.Control.{next_of}
 use Rattle.java_control.specs.Remaining.{Todo}
 use Rattle.java_control.specs.declared.action.Action.{Action}
 use Rattle.java_control.specs.declared.action.Action.TheVariants as actions
-use Rattle.obligation_facts.specs.Callees.{callee_in}
-use Rattle.flow_rules.specs.Paths.{Comes, Move, relation_of}
+use Rattle.soundness_laws.specs.Callees.{callee_in}
+use Rattle.agreement.specs.Paths.{Comes, Move, relation_of}
 use Rattle.agreement.specs.PlainForms.{IsPlainAction, MayRun, calls_constructor}
-use Rattle.own_method_laws.specs.Owners.{HasConcreteOwners}
+use Rattle.soundness_laws.specs.Owners.{HasConcreteOwners}
 use Rattle.soundness_laws.specs.Running.{HasPlainRuns, IsAlike, is_on_object}
+use Rattle.soundness_laws.proofs.Storing.{no_supers}
 use Rattle.soundness_laws.specs.Plain.{IsPlain}
-use Rattle.exception_value_laws.proofs.Plain.{methods_give_no_exceptions}
 use Rattle.owner_examples.specs.Controls.{close_controls, constructor_controls, main_controls}
 use Rattle.owner_examples.specs.Programs.{close_body, closing, constructing, constructor_body, holding, main_body, running}
 use Rattle.safety_examples.proofs.Tests.{all_of, holds_at}
@@ -138,7 +141,7 @@ pub holding_plain : IsPlain holding
 holding_plain = record {
   steps = λ b {k} i t comes at. (mild_step b k i t comes at).0;
   stores = λ b {k} i t f d comes at is. sym (ap (is_mild b) is) ∙ (mild_step b k i t comes at).1;
-  supers = λ b {k} i t f comes at calls. absurd (no_super b t.action (mild_step b k i t comes at).1 calls);
+  supers = no_supers holding (λ b k i t comes at calls. no_super b t.action (mild_step b k i t comes at).1 calls);
   owners = owners;
   runs = runs;
   texts = texts;

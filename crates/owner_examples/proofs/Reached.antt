@@ -8,8 +8,8 @@ use Rattle.java_control.specs.Remaining.{Todo}
 use Rattle.java_control.specs.declared.action.Action.{Action}
 use Rattle.java_control.specs.declared.fact.Origin.{Origin}
 use Rattle.java_control.specs.declared.fact.Rule.{Rule}
-use Rattle.obligation_facts.specs.Facts.{Names}
-use Rattle.flow_rules.specs.Paths.{Comes, Faulty, Move, relation_of}
+use Rattle.soundness_laws.specs.Facts.{Names}
+use Rattle.agreement.specs.Paths.{Comes, Faulty, Move, relation_of}
 use Rattle.safety_examples.specs.Certificates.{IsCertificate, Placed}
 use Rattle.owner_examples.specs.Controls.{close_controls, constructor_controls, main_controls}
 use Rattle.owner_examples.specs.Programs.{close_body, constructor_body, holding, main_body}

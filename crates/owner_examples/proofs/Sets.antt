@@ -1,4 +1,5 @@
 -- Sets of places and of names, as the flow rules ask for them.
+pub use Rattle.safety_examples.proofs.Sets.{contains_close}
 pub use Rattle.safety_examples.proofs.Sets.{close_not_none, within_itself}
 use Rattle.std.proofs.Common.{◌≡◌, ℕ, Bool, true, false, not, ◌&&◌, ◌||◌, ◌==◌, refl, sym, ap, ◌∙◌, true≢false}
 use Rattle.std.specs.Cmp.{nat_cmp_total, unsigned_tied}
@@ -7,7 +8,7 @@ use Rattle.std.specs.Ordering.{nat_cmp}
 use Rattle.rlc_base.specs.NameSet.{inserted}
 use Rattle.program_model.proofs.NameLaws.{union_none}
 use Rattle.program_model.specs.NameSets.{Names}
-use Rattle.obligation_facts.specs.Facts.{PlaceSet, has_field_from}
+use Rattle.soundness_laws.specs.Facts.{PlaceSet, has_field_from}
 use Rattle.safety_examples.specs.Programs.{no_names}
 use Rattle.safety_examples.proofs.Sets.{contains_none}
 

@@ -4,9 +4,9 @@ use Rattle.std.specs.List.{AllByRecursion}
 use Rattle.program_model.specs.declared.kinds.BodyId.{BodyId}
 use Rattle.java_control.specs.Remaining.{Todo}
 use Rattle.java_control.specs.declared.action.Action.{Action}
-use Rattle.ownership_rules.specs.Births.{births_of_step}
-use Rattle.flow_rules.specs.Flow.{flow}
-use Rattle.flow_rules.specs.Paths.{Move, Relation, relation_of}
+use Rattle.agreement.specs.Births.{births_of_step}
+use Rattle.agreement.specs.Flow.{flow}
+use Rattle.agreement.specs.Paths.{Move, Relation, relation_of}
 use Rattle.safety_examples.specs.Certificates.{IsFollowed, IsListed, Placed}
 use Rattle.owner_examples.specs.Programs.{holding}
 use Rattle.safety_examples.proofs.Tests.{all_of}

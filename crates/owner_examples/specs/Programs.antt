@@ -12,6 +12,7 @@
 --             h.close();
 --         }
 --     }
+pub use Rattle.safety_examples.specs.Programs.{close_name}
 pub use Rattle.safety_examples.specs.Programs.{class_number, close_alone, core_classes, error, exception, expression_number, in_source, in_stub, main_parameter, method_number, no_names, none, object, one, plain_class, plain_method, plain_signature, runtime_exception, statement_number, throwable, two, unchecked, vector}
 use Rattle.std.specs.Prelude.{ℕ, true, false, Some, None, List, [], ◌∷◌, codes}
 use Rattle.std.proofs.Common.{lit<}
@@ -42,7 +43,7 @@ use Rattle.program_model.specs.declared.tree.TExpr.{TExpr}
 use Rattle.program_model.specs.declared.tree.TStmt.{TStmt}
 use Rattle.program_model.specs.declared.tree.Var.{Var}
 use Rattle.rlc_base.specs.declared.place.Pos.{Pos}
-use Rattle.safety_examples.specs.Programs.{close_name, must_call_close, parameter}
+use Rattle.safety_examples.specs.Programs.{must_call_close, parameter}
 
 -- ---- numbers
 

@@ -1,7 +1,7 @@
 //! The laws. Each is the contract of a function that does nothing.
 
 ghost use Rattle.accepted_programs.specs.Accept.{Accept};
-ghost use Rattle.safety.specs.Safety.{IsMain, IsSafe};
+ghost use Rattle.soundness_laws.specs.Safety.{IsMain, IsSafe};
 ghost use Rattle.soundness_laws.specs.Plain.{IsPlain};
 ghost use Rattle.owner_examples.specs.Programs.{holding, main_method};
 

@@ -1,5 +1,5 @@
 -- A fact in mode Alias that a path brings to a control is that of the aliased parameter, and holds in it. A parameter's fact is of the class of its declared type.
-use Rattle.std.proofs.Common.{◌≡◌, ap, refl, sym, subst, arith, ℕ, suc, ◌+◌, ◌<◌, ◌≤◌, Bool, true, false, true≢false, ◌&&◌, ◌||◌, lt-ltb, nat_lt, Option, Some, List, length, slice_get, IsSomeAnd, ◌∙◌}
+use Rattle.std.proofs.Common.{◌≡◌, ap, refl, sym, subst, arith, ℕ, suc, ◌+◌, ◌<◌, ◌≤◌, Bool, true, false, true≢false, ◌||◌, lt-ltb, nat_lt, Option, Some, List, length, slice_get, IsSomeAnd, ◌∙◌}
 use Rattle.std.specs.List.{list_any}
 use Rattle.std.proofs.lemmas.Bool.{and_from, eq-eqb}
 use Rattle.program_model.specs.declared.kinds.BodyId.{BodyId}
@@ -11,8 +11,8 @@ use Rattle.program_model.specs.declared.program.Promise.{Promise}
 use Rattle.program_model.specs.declared.tree.Body.{Body}
 use Rattle.program_model.specs.Lookups.{body_at, method_at}
 use Rattle.program_model.specs.Validity.{IfPosition, IsBodyOf}
-use Rattle.must_call_sets.specs.Assigned.{is_spoken_of, is_spoken_variable}
-use Rattle.must_call_sets.specs.Signatures.{is_at, is_position}
+use Rattle.assigned_step_laws.specs.Assigned.{is_spoken_of, is_spoken_variable}
+use Rattle.assigned_step_laws.specs.Signatures.{is_at, is_position}
 use Rattle.java_control.specs.PlaceNumbers.{IsSmall, number_of}
 use Rattle.java_control.specs.Remaining.{Todo}
 use Rattle.java_control.specs.Scopes.{drops_variable}
@@ -25,8 +25,8 @@ use Rattle.java_control.specs.declared.fact.Origin.{Origin}
 use Rattle.java_control.specs.declared.fact.OriginKind.{OriginKind}
 use Rattle.java_control.specs.declared.fact.OriginKind.TheVariants as kinds
 use Rattle.java_control.specs.declared.place.Place.TheVariants as places
-use Rattle.obligation_facts.specs.Facts.{has, is_alias}
-use Rattle.flow_rules.specs.Paths.{Comes, Move, Reach, born, entered, flowed, relation_of}
+use Rattle.place_laws.specs.Facts.{has, is_alias}
+use Rattle.assigned_step_laws.specs.Paths.{Comes, Move, Reach, born, entered, flowed, relation_of}
 use Rattle.accepted_programs.specs.Accept.{Accept}
 use Rattle.assigned_step_laws.specs.Setting.{sets_this, sets_variable}
 use Rattle.assigned_step_laws.proofs.Reached.{spoken_stay, this_stay}
@@ -38,7 +38,7 @@ use Rattle.parameter_fact_laws.proofs.Staying.{LeavesIt}
 
 -- ---- steps that leave the place alone
 
-unset_leaves : (b : Body) (a : Action) (v : ℕ) → sets_variable b a v ≡ false → LeavesIt b a (places.Var v)
+pub unset_leaves : (b : Body) (a : Action) (v : ℕ) → sets_variable b a v ≡ false → LeavesIt b a (places.Var v)
 unset_leaves b actions.Skip v stays = tt
 unset_leaves b (actions.Copy x y) v stays = stays
 unset_leaves b (actions.Move x y) v stays = (second_false (is_place y (places.Var v)) (is_place x (places.Var v)) stays, first_false (is_place y (places.Var v)) (is_place x (places.Var v)) stays)
@@ -47,7 +47,7 @@ unset_leaves b (actions.Drop s) v stays = λ i inside same. ap (drops_variable b
 unset_leaves b (actions.Enter clause x first d) v stays = stays
 unset_leaves b a v stays = tt
 
-this_leaves : (b : Body) (a : Action) → sets_this a ≡ false → LeavesIt b a places.This
+pub this_leaves : (b : Body) (a : Action) → sets_this a ≡ false → LeavesIt b a places.This
 this_leaves b actions.Skip stays = tt
 this_leaves b (actions.Copy x y) stays = not_this x stays
 this_leaves b (actions.Move x y) stays = (not_this x (second_false (is_this_place y) (is_this_place x) stays), not_this y (first_false (is_this_place y) (is_this_place x) stays))
@@ -72,7 +72,7 @@ module _ (p : Program) (ac : Accept p) (b : BodyId) (x : Body) (m : Method) (at 
     holds o _ g (flowed {k = c} {f = f} i t before here is) mode =
         let reached = comes p ac b x at o c f before in
         let stays = next_stays (place_at p m k) low p b o f x t.action t.edge g at small ((ac.fits b).steps i t reached here) (leaves c i t reached here) is in
-        stays.1 (holds o c f before (stays.0 mode))
+        stays.1 (holds o c f before (stays.0.0 mode))
 
 -- ---- the laws
 

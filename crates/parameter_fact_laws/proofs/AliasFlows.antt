@@ -1,5 +1,6 @@
--- A fact that goes on is in mode Alias only where it was so before, and stays in a place that the step leaves alone.
-use Rattle.std.proofs.Common.{◌≡◌, ℕ, ◌<◌, Bool, true, false, not, ◌&&◌, ◌||◌, true≢false, Option, Some, None, refl, sym, subst}
+-- A fact that goes on is in mode Alias only where it was so before, and stays in a place that the step leaves alone. In an alias constructor it is held
+-- in a field of `this` only where it was so before, or where it is that of the aliased argument.
+use Rattle.std.proofs.Common.{◌≡◌, ◌⊎◌, inl, inr, ℕ, ◌<◌, Bool, true, false, not, ◌&&◌, ◌||◌, true≢false, Option, Some, None, refl, sym, subst, ap, ◌∙◌}
 use Rattle.std.specs.Prelude.{if◌then◌else◌}
 use Rattle.program_model.specs.declared.kinds.BodyId.{BodyId}
 use Rattle.program_model.specs.declared.kinds.FieldId.{FieldId}
@@ -22,14 +23,15 @@ use Rattle.java_control.specs.declared.fact.Outcome.TheVariants.{Next, Gone, Fau
 use Rattle.java_control.specs.declared.fact.Rule.TheVariants as rules
 use Rattle.java_control.specs.declared.place.Place.{Place}
 use Rattle.java_control.specs.declared.place.Place.TheVariants as places
-use Rattle.must_call_sets.specs.MustCallSets.{beyond_type, fits_type, must_of}
-use Rattle.must_call_sets.specs.Signatures.{field_type}
+use Rattle.assigned_step_laws.specs.Bodies.{alias_position, is_alias_constructor}
+use Rattle.assigned_step_laws.specs.MustCallSets.{beyond_type, fits_type, must_of}
+use Rattle.assigned_step_laws.specs.Signatures.{field_type}
 use Rattle.must_call_reset.specs.Resets.{reset_of}
 use Rattle.must_call_reset.specs.declared.reset_move.ResetMove.{ResetMove}
 use Rattle.must_call_reset.specs.declared.reset_move.ResetMove.TheVariants as resets
-use Rattle.obligation_facts.specs.Facts.{Names, PlaceSet, has, has_part, is_alias, is_held, is_met, is_nowhere, leave, missing, mode_at, owes, without}
-use Rattle.obligation_facts.specs.SmallActions.{IsSmallAction}
-use Rattle.alias_sets.specs.PlaceRows.{places_after}
+use Rattle.place_laws.specs.Facts.{Names, PlaceSet, has, has_part, is_alias, is_held, is_met, is_nowhere, is_origin_at, leave, missing, mode_at, owes, without}
+use Rattle.place_laws.specs.SmallActions.{IsSmallAction}
+use Rattle.place_laws.specs.PlaceRows.{places_after}
 use Rattle.called_methods.specs.CalledRows.{called_after}
 use Rattle.called_methods.specs.Preconditions.{precondition_missing}
 use Rattle.owning_fields.specs.Stores.{heavy_stored, is_heavy_store, keeps_other, lacks_reset, may_store, object_stored, stored, stored_over, with_field}
@@ -37,8 +39,8 @@ use Rattle.ownership_rules.specs.MovesAtCalls.{moved_at_call}
 use Rattle.ownership_rules.specs.MovesAtReturns.{moved_at_return}
 use Rattle.ownership_rules.specs.declared.moved.Moved.{Moved}
 use Rattle.ownership_rules.specs.declared.moved.Moved.TheVariants.{Stays, Moves, Bad}
-use Rattle.flow_rules.specs.Calls.{after_move, after_reset, at_move, at_precondition, called, given_away, with_called}
-use Rattle.flow_rules.specs.Flow.{cast, flow, null_tested, placed, raised, tested, turn, turned}
+use Rattle.assigned_step_laws.specs.Calls.{after_move, after_reset, at_move, at_precondition, called, given_away, with_called}
+use Rattle.assigned_step_laws.specs.Flow.{cast, flow, null_tested, placed, raised, tested, turn, turned}
 use Rattle.parameter_fact_laws.proofs.Flows.{IfNext, end_none}
 use Rattle.parameter_fact_laws.proofs.Places.{no_field}
 use Rattle.parameter_fact_laws.proofs.Staying.{IsStill, LeavesIt, joined_still, left_still, places_still}
@@ -54,17 +56,37 @@ mode_left modes.Held held is = go (has held places.This || has_part held) is
 mode_left modes.Lent held is = is
 mode_left modes.Alias held is = is
 
+held_left : (m : Mode) (held : PlaceSet) → is_held (mode_at m held) ≡ true → is_held m ≡ true
+held_left modes.Own held is = is
+held_left modes.None held is = is
+held_left modes.Held held is = refl
+held_left modes.Lent held is = is
+held_left modes.Alias held is = is
+
+no_other : (c l : Bool) → (c && not l) ≡ false → c ≡ true → l ≡ true
+no_other true true is one = refl
+no_other true false is one = absurd (true≢false is)
+no_other false l is one = absurd (true≢false (sym one))
+
 module _ (q : Place) (low : number_of q < 161) (p : Program) (b : BodyId) (o : Origin) (f : Fact) where
+  -- in an alias constructor it is held in a field of `this` only where `f` is, or it is that of the aliased argument
+  abbrev pub HeldSo : Fact → Type 0
+  HeldSo g = is_alias_constructor p b ≡ true → is_held g.mode ≡ true → (is_held f.mode ≡ true) ⊎ (is_origin_at o.kind (alias_position p b) ≡ true)
+
   -- it is in mode Alias only where `f` is
   abbrev InMode : Fact → Type 0
-  InMode g = is_alias g.mode ≡ true → is_alias f.mode ≡ true
+  InMode g = (is_alias g.mode ≡ true → is_alias f.mode ≡ true) × HeldSo g
+
+  -- a fact in the same mode
+  same_mode : (g : Fact) → g.mode ≡ f.mode → InMode g
+  same_mode g same = ((λ is. ap is_alias (sym same) ∙ is), (λ in' is. inl (ap is_held (sym same) ∙ is)))
 
   -- and it is in the place where `f` is
   abbrev StaysSo : Fact → Type 0
   StaysSo g = InMode g × IsStill q low f.places g.places
 
   itself : StaysSo f
-  itself = (λ is. is, λ is. is)
+  itself = (same_mode f refl, λ is. is)
 
   at_places : (g : Fact) (held : PlaceSet) → IsStill q low f.places held → InMode g → IfNext StaysSo (leave o g held)
   at_places g held still mode = go (is_nowhere held) (owes o g)
@@ -72,7 +94,7 @@ module _ (q : Place) (low : number_of q < 161) (p : Program) (b : BodyId) (o : O
       go : (x y : Bool) → IfNext StaysSo (if x then (if y then Fault rules.Lost (missing o g) else Gone) else Next (record g { places = held; mode = mode_at g.mode held }))
       go true true = tt
       go true false = tt
-      go false y = (λ is. mode (mode_left g.mode held is), still)
+      go false y = (((λ is. mode.0 (mode_left g.mode held is)), (λ in' is. mode.1 in' (held_left g.mode held is))), still)
 
   -- ---- calls
 
@@ -85,8 +107,8 @@ module _ (q : Place) (low : number_of q < 161) (p : Program) (b : BodyId) (o : O
   move_mode a e g mode = reset_mode (with_called g (called_after p b a e g)) mode (reset_of p b o a (with_called g (called_after p b a e g)))
 
   moved_mode : (a : Action) (e : Edge) (m : Moved) → IfNext InMode (at_move p b o a e f m)
-  moved_mode a e Stays = move_mode a e f (λ is. is)
-  moved_mode a e Moves = move_mode a e (given_away f) (λ is. absurd (true≢false (sym is)))
+  moved_mode a e Stays = move_mode a e f (same_mode f refl)
+  moved_mode a e Moves = move_mode a e (given_away f) ((λ is. absurd (true≢false (sym is))), (λ in' is. absurd (true≢false (sym is))))
   moved_mode a e (Bad rule) = tt
 
   called_mode : (a : Action) (e : Edge) → IfNext InMode (called p b o a e f)
@@ -99,14 +121,17 @@ module _ (q : Place) (low : number_of q < 161) (p : Program) (b : BodyId) (o : O
   -- ---- stores into owning fields
 
   heavy_stays : (g : FieldId) → IfNext StaysSo (heavy_stored p b o g f)
-  heavy_stays g = go (keeps_other p b o) (not (may_store p b o f)) (not (fits_type p o.class (field_type p g)))
+  heavy_stays g = go (keeps_other p b o) refl (not (may_store p b o f)) (not (fits_type p o.class (field_type p g)))
     where
-      go : (x y z : Bool) → IfNext StaysSo (if x then Fault rules.AliasKept (must_of p o.class) else (if y then Fault rules.NotOwned (must_of p o.class)
+      go : (x : Bool) → keeps_other p b o ≡ x → (y z : Bool) → IfNext StaysSo (if x then Fault rules.AliasKept (must_of p o.class) else (if y then Fault rules.NotOwned (must_of p o.class)
           else (if z then Fault rules.Narrow (beyond_type p o.class (field_type p g)) else Next (with_field p g modes.Held f))))
-      go true y z = tt
-      go false true z = tt
-      go false false true = tt
-      go false false false = (λ is. absurd (true≢false (sym is)), joined_still q low f.places (place_of_field p g))
+      go true is y z = tt
+      go false is true z = tt
+      go false is false true = tt
+      go false is false false = (
+        ((λ one. absurd (true≢false (sym one))), (λ in' one. inr (no_other (is_alias_constructor p b) (is_origin_at o.kind (alias_position p b)) is in'))),
+        joined_still q low f.places (place_of_field p g),
+      )
 
   object_stays : (g : FieldId) → IfNext StaysSo (object_stored p b o g f)
   object_stays g = go (has f.places (place_of_field p g)) (is_heavy_store p o g)
@@ -114,14 +139,14 @@ module _ (q : Place) (low : number_of q < 161) (p : Program) (b : BodyId) (o : O
       go : (x y : Bool) → IfNext StaysSo (if x then Next f else (if y then heavy_stored p b o g f else Next (with_field p g f.mode f)))
       go true y = itself
       go false true = heavy_stays g
-      go false false = (λ is. is, joined_still q low f.places (place_of_field p g))
+      go false false = (same_mode f refl, joined_still q low f.places (place_of_field p g))
 
   over_stays : (g : FieldId) → IfNext StaysSo (stored_over p o g f)
   over_stays g = go (has f.places (place_of_field p g)) (is_held f.mode && not (is_met o f))
     where
       go : (x y : Bool) → IfNext StaysSo (if x then (if y then Fault rules.Overwritten (missing o f) else leave o f (without f.places (place_of_field p g))) else Next f)
       go true true = tt
-      go true false = at_places f (without f.places (place_of_field p g)) (left_still q low f.places (place_of_field p g) (no_field q low (field_number p g))) (λ is. is)
+      go true false = at_places f (without f.places (place_of_field p g)) (left_still q low f.places (place_of_field p g) (no_field q low (field_number p g))) (same_mode f refl)
       go false y = itself
 
   stored_stays : (g : FieldId) (d : ℕ) → IfNext StaysSo (stored p b o g d f)
@@ -136,7 +161,7 @@ module _ (q : Place) (low : number_of q < 161) (p : Program) (b : BodyId) (o : O
 
   module _ (held : PlaceSet) (still : IsStill q low f.places held) where
     here : IfNext StaysSo (leave o f held)
-    here = at_places f held still (λ is. is)
+    here = at_places f held still (same_mode f refl)
 
     turned_stays : (x : Outcome) → IfNext InMode x → IfNext StaysSo (placed o f held (turned x))
     turned_stays (Next g) mode = at_places g held still mode
@@ -148,7 +173,7 @@ module _ (q : Place) (low : number_of q < 161) (p : Program) (b : BodyId) (o : O
       where
         go : (x y : Bool) → not (has f.places (places.Temp d)) ≡ x → is_held f.mode ≡ y → IfNext StaysSo (placed o f held (null_tested p b d f))
         go true y elsewhere mode = rw elsewhere itself
-        go false true there mode = rw (there, mode) (at_places (with_called f _) held still (λ is. is))
+        go false true there mode = rw (there, mode) (at_places (with_called f _) held still (same_mode f refl))
         go false false there mode = rw (there, mode) tt
 
     tested_stays : (d : ℕ) (e : Edge) → IfNext StaysSo (placed o f held (tested p b d e f))
@@ -195,6 +220,6 @@ module _ (q : Place) (low : number_of q < 161) (p : Program) (b : BodyId) (o : O
 
   -- a step that neither sets nor empties the place
   pub next_stays : (x : Body) (a : Action) (e : Edge) (g : Fact) → body_at p b ≡ Some x → IsSmall q → IsSmallAction p a → LeavesIt x a q → flow p b o a e f ≡ Next g
-      → (is_alias g.mode ≡ true → is_alias f.mode ≡ true) × (has f.places q ≡ true → has g.places q ≡ true)
+      → ((is_alias g.mode ≡ true → is_alias f.mode ≡ true) × HeldSo g) × (has f.places q ≡ true → has g.places q ≡ true)
   next_stays x a e g at small fits leaves next =
       subst (IfNext StaysSo) next (row_stays (places_after p b a e f.places) (places_still q low p b x at e f.places small a fits leaves) a e)

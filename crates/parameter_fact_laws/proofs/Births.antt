@@ -40,11 +40,11 @@ use Rattle.java_control.specs.declared.fact.OriginKind.{OriginKind}
 use Rattle.java_control.specs.declared.fact.OriginKind.TheVariants as kinds
 use Rattle.java_control.specs.declared.place.Place.{Place}
 use Rattle.java_control.specs.declared.place.Place.TheVariants as places
-use Rattle.must_call_sets.specs.Bodies.{fields_of, has_field_place}
-use Rattle.must_call_sets.specs.MustCallSets.{Names, is_heavy_class, no_names}
-use Rattle.must_call_sets.specs.Signatures.{field_type, is_present}
-use Rattle.obligation_facts.specs.Facts.{has}
-use Rattle.obligation_facts.specs.SmallActions.{IsSmallAction}
+use Rattle.assigned_step_laws.specs.Bodies.{fields_of, has_field_place}
+use Rattle.assigned_step_laws.specs.MustCallSets.{Names, is_heavy_class, no_names}
+use Rattle.assigned_step_laws.specs.Signatures.{field_type, is_present}
+use Rattle.place_laws.specs.Facts.{has}
+use Rattle.place_laws.specs.SmallActions.{IsSmallAction}
 use Rattle.ownership_rules.specs.Births.{Birth, birth_on, birth_on_go, births_at_entry, births_of_step, born, born_in, class_of, constant_birth, entry_births_in, entry_births_of, fact_at, field_birth, field_birth_place, field_births, has_this, held_births, new_birth, owning_field_birth, parameter_birth, parameter_births, parameter_mode, reset_births, result_birth, result_fact, this_birth, this_mode}
 use Rattle.ownership_rules.specs.MovesAtReturns.{result_in}
 use Rattle.parameter_fact_laws.proofs.Places.{Avoids, apart, no_field, no_temp}

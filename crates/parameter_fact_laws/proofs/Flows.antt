@@ -20,19 +20,19 @@ use Rattle.java_control.specs.declared.fact.Outcome.TheVariants.{Next, Gone, Fau
 use Rattle.java_control.specs.declared.fact.Rule.TheVariants as rules
 use Rattle.java_control.specs.declared.place.Place.{Place}
 use Rattle.java_control.specs.declared.place.Place.TheVariants as places
-use Rattle.must_call_sets.specs.MustCallSets.{beyond_type, fits_type, must_of}
-use Rattle.must_call_sets.specs.Signatures.{field_type}
-use Rattle.obligation_facts.specs.Facts.{Names, PlaceSet, has, is_alias, is_held, is_met, is_nowhere, leave, missing, mode_at, owes, without}
-use Rattle.obligation_facts.specs.SmallActions.{IsSmallAction}
-use Rattle.alias_sets.specs.PlaceRows.{places_after}
+use Rattle.assigned_step_laws.specs.MustCallSets.{beyond_type, fits_type, must_of}
+use Rattle.assigned_step_laws.specs.Signatures.{field_type}
+use Rattle.place_laws.specs.Facts.{Names, PlaceSet, has, is_alias, is_held, is_met, is_nowhere, leave, missing, mode_at, owes, without}
+use Rattle.place_laws.specs.SmallActions.{IsSmallAction}
+use Rattle.place_laws.specs.PlaceRows.{places_after}
 use Rattle.called_methods.specs.Promises.{broken_promise}
 use Rattle.owning_fields.specs.Stores.{heavy_stored, is_heavy_store, keeps_other, lacks_reset, may_store, object_stored, stored, stored_over, with_field}
 use Rattle.ownership_rules.specs.MovesAtReturns.{moved_at_return}
 use Rattle.ownership_rules.specs.declared.moved.Moved.{Moved}
 use Rattle.ownership_rules.specs.declared.moved.Moved.TheVariants.{Stays, Moves, Bad}
-use Rattle.flow_rules.specs.Calls.{called, with_called}
-use Rattle.flow_rules.specs.Ends.{after_return, alias_never_returned, constructor_throws, exit_rule, left_at_end, moved_away, promise_at_end}
-use Rattle.flow_rules.specs.Flow.{cast, flow, null_tested, placed, raised, tested, turn, turned}
+use Rattle.assigned_step_laws.specs.Calls.{called, with_called}
+use Rattle.assigned_step_laws.specs.Ends.{after_return, alias_never_returned, constructor_throws, exit_rule, left_at_end, moved_away, promise_at_end}
+use Rattle.assigned_step_laws.specs.Flow.{cast, flow, null_tested, placed, raised, tested, turn, turned}
 use Rattle.parameter_fact_laws.proofs.Places.{Avoids, IsKept, joined, left, no_field, places_kept}
 
 -- where the fact goes on, this holds of it

@@ -6,3 +6,6 @@ pub mod Staying
 pub mod AliasFlows
 pub mod EntryFacts
 pub mod AliasFacts
+pub mod KeptFacts
+pub use Rattle.place_laws.proofs.SetLaws
+pub use Rattle.place_laws.proofs.Laws

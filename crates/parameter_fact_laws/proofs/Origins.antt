@@ -9,7 +9,7 @@ use Rattle.program_model.specs.declared.tree.Body.{Body}
 use Rattle.program_model.specs.declared.tree.Var.{Var}
 use Rattle.program_model.specs.Lookups.{body_at, method_at}
 use Rattle.program_model.specs.Validity.{HasParameters, IsBodyOf}
-use Rattle.must_call_sets.specs.Assigned.{is_spoken_variable}
+use Rattle.assigned_step_laws.specs.Assigned.{is_spoken_variable}
 use Rattle.java_control.specs.PlaceNumbers.{IsSmall, number_of}
 use Rattle.java_control.specs.Remaining.{Todo}
 use Rattle.java_control.specs.Sources.{is_place, is_this_place}
@@ -21,9 +21,9 @@ use Rattle.java_control.specs.declared.fact.OriginKind.{OriginKind}
 use Rattle.java_control.specs.declared.fact.OriginKind.TheVariants as kinds
 use Rattle.java_control.specs.declared.place.Place.{Place}
 use Rattle.java_control.specs.declared.place.Place.TheVariants as places
-use Rattle.obligation_facts.specs.Facts.{has, is_origin_at}
+use Rattle.place_laws.specs.Facts.{has, is_origin_at}
 use Rattle.ownership_rules.specs.Room.{variables_in}
-use Rattle.flow_rules.specs.Paths.{Comes, Move, Reach, born, entered, flowed, on, relation_of, start}
+use Rattle.assigned_step_laws.specs.Paths.{Comes, Move, Reach, born, entered, flowed, on, relation_of, start}
 use Rattle.accepted_programs.specs.Accept.{Accept}
 use Rattle.assigned_step_laws.specs.Setting.{sets_this, sets_variable}
 use Rattle.assigned_step_laws.proofs.Reached.{spoken_stay, this_stay}

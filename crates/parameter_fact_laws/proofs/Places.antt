@@ -18,10 +18,10 @@ use Rattle.java_control.specs.declared.action.Scope.{Scope}
 use Rattle.java_control.specs.declared.action.Scope.TheVariants as scopes
 use Rattle.java_control.specs.declared.place.Place.{Place}
 use Rattle.java_control.specs.declared.place.Place.TheVariants as places
-use Rattle.obligation_facts.specs.Facts.{PlaceSet, has, has_temp, with_place, without, without_parts, without_scope, without_temps}
-use Rattle.obligation_facts.specs.SmallActions.{IsSmallAction}
-use Rattle.alias_sets.specs.Aliases.{called_places, gives_alias, without_operands, without_reset}
-use Rattle.alias_sets.specs.PlaceRows.{below, cast, copied, dropped, places_after, stored}
+use Rattle.place_laws.specs.Facts.{PlaceSet, has, has_temp, with_place, without, without_parts, without_scope, without_temps}
+use Rattle.place_laws.specs.SmallActions.{IsSmallAction}
+use Rattle.place_laws.specs.Aliases.{called_places, gives_alias, without_operands, without_reset}
+use Rattle.place_laws.specs.PlaceRows.{below, cast, copied, dropped, places_after, stored}
 use Rattle.place_laws.proofs.Numbers.{same_number}
 use Rattle.place_laws.proofs.SetLaws.{parts_within, temps_within, variables_within, with_within, without_within}
 

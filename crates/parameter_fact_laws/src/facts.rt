@@ -1,6 +1,6 @@
 //! Of which origin the facts at parameters and at `this` are. Each law is the contract of a function that does nothing.
 
-ghost use Rattle.std.specs.Prelude.{◌≡◌, ◌+◌, ℕ, suc, true, Some, List, slice_get};
+ghost use Rattle.std.specs.Prelude.{◌≡◌, ◌+◌, ℕ, suc, true, false, Some, List, slice_get};
 ghost use Rattle.program_model.specs.declared.kinds.BodyId.{BodyId};
 ghost use Rattle.program_model.specs.declared.kinds.VType.TheVariants as types;
 ghost use Rattle.program_model.specs.declared.program.Method.{Method};
@@ -8,15 +8,17 @@ ghost use Rattle.program_model.specs.declared.program.ParamSig.{ParamSig};
 ghost use Rattle.program_model.specs.declared.program.Program.{Program};
 ghost use Rattle.program_model.specs.declared.tree.Body.{Body};
 ghost use Rattle.program_model.specs.Lookups.{body_at, method_at};
-ghost use Rattle.must_call_sets.specs.Assigned.{is_spoken_variable};
+ghost use Rattle.assigned_step_laws.specs.Assigned.{is_spoken_variable};
+ghost use Rattle.assigned_step_laws.specs.Bodies.{alias_position, is_alias_constructor};
+ghost use Rattle.java_control.specs.Calls.{is_reset_of_this};
 ghost use Rattle.java_control.specs.Remaining.{Todo};
 ghost use Rattle.java_control.specs.declared.fact.Fact.{Fact};
 ghost use Rattle.java_control.specs.declared.fact.Mode.TheVariants as modes;
 ghost use Rattle.java_control.specs.declared.fact.Origin.{Origin};
 ghost use Rattle.java_control.specs.declared.fact.OriginKind.TheVariants as kinds;
 ghost use Rattle.java_control.specs.declared.place.Place.TheVariants as places;
-ghost use Rattle.obligation_facts.specs.Facts.{has, is_origin_at};
-ghost use Rattle.flow_rules.specs.Paths.{Reach, relation_of};
+ghost use Rattle.place_laws.specs.Facts.{has, is_origin_at};
+ghost use Rattle.assigned_step_laws.specs.Paths.{Comes, Move, Reach, relation_of};
 ghost use Rattle.accepted_programs.specs.Accept.{Accept};
 
 /// A fact that a path brings to a control, and that holds in a parameter of which the signature of the body's method speaks, is that of the
@@ -46,4 +48,18 @@ pub fn parameter_facts_have_declared_classes()
         → (o : Origin) (k : List Todo) (f : Fact) → Reach p b (relation_of p b) o k f → o.kind ≡ kinds.Param v → q.vtype ≡ types.Obj o.class }
     ensures this { (p : Program) → Accept p → (b : BodyId) (x : Body) (m : Method) → body_at p b ≡ Some x → method_at p x.method ≡ Some m
         → (o : Origin) (k : List Todo) (f : Fact) → Reach p b (relation_of p b) o k f → o.kind ≡ kinds.ThisRef → o.class ≡ m.class }
+{}
+
+/// A fact of a parameter of which the signature of the body's method speaks holds in the parameter.
+pub fn spoken_parameters_keep_their_facts()
+    ensures { (p : Program) → Accept p → (b : BodyId) (x : Body) (m : Method) (v : ℕ) → body_at p b ≡ Some x → method_at p x.method ≡ Some m → is_spoken_variable m v ≡ true
+        → (o : Origin) (k : List Todo) (f : Fact) → Reach p b (relation_of p b) o k f → is_origin_at o.kind (Some (v + 1)) ≡ true → has f.places (places.Var v) ≡ true }
+{}
+
+/// In a constructor with an aliased argument that creates the obligation of `this` never anew, a fact that says that a field of `this` holds its object
+/// is that of the aliased parameter.
+pub fn held_facts_are_those_of_the_argument()
+    ensures { (p : Program) → Accept p → (b : BodyId) (x : Body) (m : Method) → body_at p b ≡ Some x → method_at p x.method ≡ Some m → is_alias_constructor p b ≡ true
+        → ((c : List Todo) (i : ℕ) (t : Move (List Todo)) → Comes (relation_of p b) c → slice_get ((relation_of p b).next c) i ≡ Some t → is_reset_of_this p t.action ≡ false)
+        → (o : Origin) (k : List Todo) (f : Fact) → Reach p b (relation_of p b) o k f → f.mode ≡ modes.Held → is_origin_at o.kind (alias_position p b) ≡ true }
 {}

@@ -5,6 +5,7 @@
 mod facts;
 
 pub use facts::{
-    alias_facts_hold_in_their_parameter, parameter_facts_have_declared_classes,
-    spoken_parameters_have_their_own_facts, this_has_its_own_fact,
+    alias_facts_hold_in_their_parameter, held_facts_are_those_of_the_argument,
+    parameter_facts_have_declared_classes, spoken_parameters_have_their_own_facts,
+    spoken_parameters_keep_their_facts, this_has_its_own_fact,
 };

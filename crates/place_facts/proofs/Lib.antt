@@ -1,0 +1,1 @@
+pub use Rattle.rlc_base.proofs.SetLaws

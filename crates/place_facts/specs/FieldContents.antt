@@ -1,5 +1,5 @@
 -- What owning fields hold and own.
-use Rattle.std.specs.Prelude.{◌≡◌, ℕ, Bool, true, false, ◌&&◌, Some, None, List, [], ◌∷◌, slice_get}
+use Rattle.std.specs.Prelude.{◌≡◌, ℕ, Bool, true, false, not, ◌&&◌, Some, None, List, [], ◌∷◌, slice_get}
 use Rattle.std.specs.List.{list_any}
 use Rattle.std.specs.FinSet as set
 use Rattle.rlc_base.specs.declared.name_id.NameId.{NameId}
@@ -14,11 +14,11 @@ use Rattle.program_model.specs.Lookups.{field_at, method_at}
 use Rattle.program_model.specs.Overrides.{is_library}
 use Rattle.program_model.specs.SuperTests.{is_under}
 use Rattle.must_call_sets.specs.Bodies.{constructs, is_class_of}
-use Rattle.must_call_sets.specs.MustCallSets.{is_empty, is_heavy_class, must_of, must_of_type}
+use Rattle.must_call_sets.specs.MustCallSets.{is_heavy_class, must_of, must_of_type}
 use Rattle.must_call_sets.specs.Signatures.{is_of_field, promised_names}
 use Rattle.ledger_state.specs.Contents.{HeapContents}
 use Rattle.ledger_state.specs.Fields.{field_value}
-use Rattle.ledger_state.specs.Heaps.{object_at, root_of}
+use Rattle.ledger_state.specs.Heaps.{object_at, root, root_of}
 use Rattle.ledger_state.specs.declared.entry.Owner.TheVariants as owners
 use Rattle.ledger_state.specs.declared.object.Object.{Object}
 use Rattle.ledger_state.specs.declared.value.Value.TheVariants as values
@@ -29,9 +29,10 @@ use Rattle.java_control.specs.declared.action.Action.{Action}
 use Rattle.java_control.specs.declared.action.Action.TheVariants as actions
 use Rattle.java_control.specs.declared.action.TargetForm.{TargetForm}
 use Rattle.java_control.specs.declared.action.TargetForm.TheVariants as forms
-use Rattle.ledger_calls.specs.Calls.{form_of, operand_of}
-use Rattle.ledger_calls.specs.Configuration.{Frame}
+use Rattle.agreement.specs.Calls.{form_of, is_alias, operand_of}
+use Rattle.agreement.specs.Configuration.{Frame}
 use Rattle.ledger_frames.specs.Choosing.{frame_steps}
+use Rattle.agreement.specs.Leading.{Leads}
 use Rattle.agreement.specs.PlainForms.{run_by}
 use Rattle.place_facts.specs.PlaceFacts.{may_owe}
 use Rattle.safety.specs.Safety.{constructs_object}
@@ -50,13 +51,17 @@ IsKept p y f x = (m : MethodId) (d : Method) (n : NameId) → method_at p m ≡ 
 abbrev pub makes_object : Program → ℕ → ClassId → Frame → Bool
 makes_object p w c fr = constructs_object p w fr && is_class_of c (method_at p fr.method)
 
+-- it is one that makes no alias
+abbrev pub makes_holder : Program → ℕ → ClassId → Frame → Bool
+makes_holder p w c fr = makes_object p w c fr && not (is_alias (method_at p fr.method))
+
 -- such a frame is among these
 abbrev pub is_made_in : Program → ℕ → ClassId → List Frame → Bool
-is_made_in p w c frs = list_any (makes_object p w c) frs
+is_made_in p w c frs = list_any (makes_holder p w c) frs
 
 -- Field `f` of object `w` owns object `o`, which is `x`: the class of the holder, one of the program, declares the field, which holds the object and whose
 -- type bounds its obligation; the holder is linked to none; where it is finished, what was called on it was done to the object, and where
--- it is not, its constructor runs.
+-- it is not, its constructor runs, which makes no alias.
 pub record IsContent (p : Program) (frs : List Frame) (h : HeapContents) (o : ℕ) (x : Object) (w : ℕ) (f : FieldId) : Type 0 where
   pub holder : Object
   pub at : object_at h w ≡ Some holder
@@ -77,17 +82,9 @@ pub record IsContent (p : Program) (frs : List Frame) (h : HeapContents) (o : �
 abbrev pub HaveContents : Program → List Frame → HeapContents → Type 0
 HaveContents p frs h = (o : ℕ) (x : Object) (w : ℕ) (f : FieldId) → object_at h o ≡ Some x → is_unmet x ≡ true → x.owner ≡ owners.Field w f → IsContent p frs h o x w f
 
--- what an owning field holds whose type has an obligation, and that may owe a call, is finished, and the type bounds its obligation,
--- where its class has one
-pub record FitsField (p : Program) (field : Field) (x : Object) : Type 0 where
-  pub finished : x.finished ≡ true
-  pub bounded : set.is_subset (must_of p x.class) (must_of_type p field.vtype) ≡ true
-  pub own : set.is_subset x.must (must_of p x.class) ≡ true
-
-abbrev pub FieldsFit : Program → HeapContents → Type 0
-FieldsFit p h = (w : ℕ) (f : FieldId) (field : Field) (o : ℕ) (x : Object) → field_at p f ≡ Some field → field.owning ≡ true
-    → is_empty (must_of_type p field.vtype) ≡ false → root_of h (field_value p h w f) ≡ Some o → object_at h o ≡ Some x → is_heavy_class p x.class ≡ true
-    → may_owe x ≡ true → FitsField p field x
+-- calls on each object reach its root, where that is one whose class has an obligation, and that may owe a call
+abbrev pub LinksLead : Program → HeapContents → Type 0
+LinksLead p h = (k o : ℕ) (x y : Object) → object_at h k ≡ Some x → root h k ≡ o → object_at h o ≡ Some y → is_heavy_class p y.class ≡ true → may_owe y ≡ true → Leads p h k o
 
 -- ---- a constructor's object is new
 
@@ -157,10 +154,10 @@ AreDispatched p h (fr ∷ caller ∷ frs) = IsDispatched p h fr caller × RunsNa
 
 -- ---- all of it
 
--- what owning fields hold and own in a run, and the frames that this rests on
+-- what owning fields hold and own in a run, where links lead, and the frames that this rests on
 pub record FieldsHold (p : Program) (frs : List Frame) (h : HeapContents) : Type 0 where
   pub contents : HaveContents p frs h
-  pub fit : FieldsFit p h
+  pub leads : LinksLead p h
   pub new : AreNew p frs
   pub fresh : AreFresh p frs
   pub unfinished : AreUnfinished p h frs

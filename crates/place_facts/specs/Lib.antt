@@ -3,3 +3,13 @@ pub mod FieldContents
 pub mod Ranges
 pub use Rattle.agreement.specs.Agreement
 pub use Rattle.agreement.specs.PlainForms
+pub use Rattle.ledger_frames.specs.Choosing
+pub use Rattle.ledger_frames.specs.Frames
+pub use Rattle.ledger_operations.specs.Operations
+pub use Rattle.ledger_operations.specs.Places
+pub use Rattle.ledger_obligations.specs.Obligations
+pub use Rattle.obligation_facts.specs.Facts
+pub use Rattle.obligation_facts.specs.SmallActions
+pub use Rattle.must_call_sets.specs.Bodies
+pub use Rattle.must_call_sets.specs.MustCallSets
+pub use Rattle.must_call_sets.specs.Signatures

@@ -4,13 +4,15 @@
 use Rattle.std.specs.Prelude.{◌≡◌, ℕ, ◌<◌, Bool, true, false, not, ◌&&◌, ◌||◌, Option, Some, None, List, [], ◌∷◌, slice_get}
 use Rattle.std.specs.FinSet as set
 use Rattle.program_model.specs.declared.kinds.BodyId.{BodyId}
+use Rattle.program_model.specs.declared.kinds.ClassId.{ClassId}
 use Rattle.program_model.specs.declared.kinds.FieldId.{FieldId}
 use Rattle.program_model.specs.declared.kinds.MethodId.{MethodId}
 use Rattle.program_model.specs.declared.program.Method.{Method}
 use Rattle.program_model.specs.declared.program.Program.{Program}
 use Rattle.program_model.specs.Lookups.{method_at}
-use Rattle.must_call_sets.specs.MustCallSets.{fits, is_empty, is_heavy_class, must_of, must_of_optional}
-use Rattle.must_call_sets.specs.Signatures.{field_type}
+use Rattle.must_call_sets.specs.Bodies.{alias_in, constructs}
+use Rattle.must_call_sets.specs.MustCallSets.{fits, fits_type, is_empty, is_heavy_class, must_of, must_of_optional}
+use Rattle.must_call_sets.specs.Signatures.{field_type, is_present}
 use Rattle.java_control.specs.PlaceNumbers.{IsSmall}
 use Rattle.java_control.specs.declared.fact.Fact.{Fact}
 use Rattle.java_control.specs.declared.fact.Mode.TheVariants as modes
@@ -20,25 +22,30 @@ use Rattle.java_control.specs.declared.fact.OriginKind.TheVariants as kinds
 use Rattle.java_control.specs.declared.place.Place.{Place}
 use Rattle.java_control.specs.declared.place.Place.TheVariants as place
 use Rattle.obligation_facts.specs.Facts.{PlaceSet, has, is_held, is_own, need}
-use Rattle.flow_rules.specs.Paths.{Reach, relation_of}
+use Rattle.agreement.specs.Paths.{Reach, relation_of}
 use Rattle.ledger_state.specs.Contents.{HeapContents}
 use Rattle.ledger_state.specs.Heaps.{object_at, root_of}
 use Rattle.ledger_state.specs.declared.locals.Locals.{Locals}
 use Rattle.ledger_state.specs.declared.object.Object.{Object}
 use Rattle.ledger_operations.specs.Places.{owning_field_beside, place_value}
-use Rattle.ledger_calls.specs.Configuration.{Frame}
+use Rattle.agreement.specs.Configuration.{Frame}
 use Rattle.ledger_frames.specs.Choosing.{body_id}
-use Rattle.place_laws.specs.Places.{HasPlacesAlone}
+use Rattle.agreement.specs.Places.{HasPlacesAlone}
 use Rattle.agreement.specs.PlainForms.{is_lent_parameter}
 
 -- the object is not finished yet, or something must be called on it. (An alias of null is finished, and nothing must be called on it.)
 abbrev pub may_owe : Object → Bool
 may_owe x = not (x.finished && is_empty x.must)
 
--- The fact says that the object is owned, by the frame or by a field of `this`, and that it has an obligation. A fact whose class has
--- none counts as not owned.
-abbrev pub claims : Program → Origin → Fact → Bool
-claims p o f = is_heavy_class p o.class && (is_own f.mode || is_held f.mode)
+-- the method is a constructor without an aliased argument
+abbrev pub makes_alone : Option Method → Bool
+makes_alone m = constructs m && not (is_present (alias_in m))
+
+-- The fact says that the object is owned, and that it has an obligation: the frame owns it, or, in a constructor without an aliased argument, a
+-- field of `this`. (Elsewhere a field may hold what it does not own, such as an aliased argument that a constructor has kept.) A fact whose class
+-- has none counts as not owned.
+abbrev pub claims : Program → Option Method → Origin → Fact → Bool
+claims p m o f = is_heavy_class p o.class && (is_own f.mode || is_held f.mode && makes_alone m)
 
 -- what such a fact says is true of the object: it is finished, it is of the class as far as obligations go, all that must be called on
 -- it is needed by the fact, and all that the fact knows was called
@@ -66,6 +73,15 @@ is_heavy_field p m place.This = false
 is_heavy_field p m (place.Temp d) = false
 is_heavy_field p m place.Super = false
 
+-- all that must be called on objects of the class must be called on what the owning field is declared to hold
+abbrev pub fits_in : Program → ClassId → Option FieldId → Bool
+fits_in p c None = false
+fits_in p c (Some f) = fits_type p c (field_type p f)
+
+-- such is the owning field of `this` with this number
+abbrev pub fits_field : Program → MethodId → ℕ → ClassId → Bool
+fits_field p m k c = fits_in p c (owning_field_beside p m k)
+
 -- the origin is a lent parameter of the method, or `this` in a class that has an obligation
 abbrev pub is_lent_kind : Program → Method → OriginKind → Bool
 is_lent_kind p m (kinds.Param k) = is_lent_parameter p (slice_get m.sig.params.items k)
@@ -76,10 +92,15 @@ abbrev pub is_lent : Program → Option Method → OriginKind → Bool
 is_lent p None kind = false
 is_lent p (Some m) kind = is_lent_kind p m kind
 
+-- the fact is that of a lent parameter, or of `this`, or it says that a field of `this` holds an object that has an obligation
+abbrev pub tells_calls : Program → MethodId → Origin → Fact → Bool
+tells_calls p m o f = is_lent p (method_at p m) o.kind || is_heavy_class p o.class && is_held f.mode
+
 -- The place of the frame, which holds object `o`, which is `x`, is in a fact that a path brings to the frame's control. All places of
 -- the fact hold the object. Where the fact says that the object is owned, that is true. Where it is that of a lent parameter, or of `this`, it
--- says so never, and what it knows to be called on a finished object was called. Where its class has an obligation, it is in no owning field
--- whose type has none. Where it is in an owning field whose type has one, it says that the field owns it.
+-- says never that the frame owns it. What it then knows to be called on a finished object was called, and also where it says that a field holds it.
+-- Where its class has an obligation, it is in owning fields alone whose types bound this. Where it is in an owning field whose type has one, it says that
+-- the field holds it.
 pub record Covers (p : Program) (h : HeapContents) (fr : Frame) (q : Place) (o : ℕ) (x : Object) : Type 0 where
   pub body : BodyId
   pub id : body_id p fr.method ≡ Some body
@@ -89,10 +110,10 @@ pub record Covers (p : Program) (h : HeapContents) (fr : Frame) (q : Place) (o :
   pub alone : HasPlacesAlone fact.places
   pub here : has fact.places q ≡ true
   pub places : AllHold p h fr.method fr.locals o fact.places
-  pub true' : claims p origin fact ≡ true → IsTrueOf p x origin fact
-  pub lent : is_lent p (method_at p fr.method) origin.kind ≡ true → ((is_own fact.mode || is_held fact.mode) ≡ false) × (is_heavy_class p origin.class ≡ true)
-  pub known : x.finished ≡ true → is_lent p (method_at p fr.method) origin.kind ≡ true → set.is_subset fact.called x.called ≡ true
-  pub fields : (k : ℕ) → k < 16 → is_heavy_class p origin.class ≡ true → has fact.places (place.Field k) ≡ true → is_heavy_field p fr.method (place.Field k) ≡ true
+  pub true' : claims p (method_at p fr.method) origin fact ≡ true → IsTrueOf p x origin fact
+  pub lent : is_lent p (method_at p fr.method) origin.kind ≡ true → (is_own fact.mode ≡ false) × (is_heavy_class p origin.class ≡ true)
+  pub known : x.finished ≡ true → tells_calls p fr.method origin fact ≡ true → set.is_subset fact.called x.called ≡ true
+  pub fields : (k : ℕ) → k < 16 → is_heavy_class p origin.class ≡ true → has fact.places (place.Field k) ≡ true → fits_field p fr.method k origin.class ≡ true
   pub held : (k : ℕ) → k < 16 → has fact.places (place.Field k) ≡ true → is_heavy_field p fr.method (place.Field k) ≡ true
       → (fact.mode ≡ modes.Held) × (is_heavy_class p origin.class ≡ true)
 

@@ -10,7 +10,7 @@ use Rattle.ledger_state.specs.declared.locals.Locals.{Locals}
 use Rattle.ledger_state.specs.declared.object.StoredField.{StoredField}
 use Rattle.ledger_state.specs.declared.object.StoredStatic.{StoredStatic}
 use Rattle.ledger_state.specs.declared.value.Value.{Value}
-use Rattle.ledger_calls.specs.Configuration.{Config, Frame}
+use Rattle.agreement.specs.Configuration.{Config, Frame}
 
 -- the number is that of an object
 abbrev pub IsNumber : HeapContents → ℕ → Type 0

@@ -1,1 +1,10 @@
 pub mod Places
+pub use Rattle.ledger_frames.specs.Choosing
+pub use Rattle.ledger_obligations.specs.Obligations
+pub use Rattle.ledger_frames.specs.Frames
+pub use Rattle.obligation_facts.specs.Facts
+pub use Rattle.alias_sets.specs.Aliases
+pub use Rattle.alias_sets.specs.PlaceRows
+pub use Rattle.ledger_operations.specs.Operations
+pub use Rattle.obligation_facts.specs.Callees
+pub use Rattle.obligation_facts.specs.SmallActions

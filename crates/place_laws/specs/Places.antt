@@ -1,4 +1,6 @@
 -- Words for the laws on places: which are a frame's own, where a place of a fact comes from, and what a step sets.
+pub use Rattle.ledger_operations.specs.Places.{class_by, class_of_method, owning_field, owning_field_beside, place_value}
+pub use Rattle.ledger_operations.specs.Places.{class_of_method, place_value}
 use Rattle.std.specs.Prelude.{◌≡◌, ℕ, ◌<◌, Bool, true, false, ◌&&◌, Option, Some, None, length}
 use Rattle.std.specs.FinSet as set
 use Rattle.program_model.specs.declared.program.Program.{Program}

@@ -9,10 +9,10 @@ use Rattle.java_control.specs.Owned.{place_of_field}
 use Rattle.java_control.specs.PlaceNumbers.{IsSmall}
 use Rattle.java_control.specs.Remaining.{Todo}
 use Rattle.must_call_sets.specs.Bodies.{has_field_place}
-use Rattle.obligation_facts.specs.SmallActions.{IsSmallAction}
-use Rattle.ownership_rules.specs.Room.{HasRoom}
+use Rattle.soundness_laws.specs.SmallActions.{IsSmallAction}
+use Rattle.agreement.specs.Room.{HasRoom}
 use Rattle.accepted_programs.specs.Accept.{Accept}
-use Rattle.flow_rules.specs.Paths.{Comes, FitsPlaces, Move, relation_of}
+use Rattle.agreement.specs.Paths.{Comes, FitsPlaces, Move, relation_of}
 use Rattle.plain_examples.specs.Controls.{controls}
 use Rattle.plain_examples.specs.Programs.{streaming}
 use Rattle.plain_examples.proofs.Faults.{streaming_no_fault, certificate, control, facts, no_step, relation}

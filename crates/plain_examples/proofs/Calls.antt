@@ -8,7 +8,7 @@ use Rattle.program_model.specs.declared.program.Method.{Method}
 use Rattle.program_model.specs.Lookups.{class_at, method_at}
 use Rattle.program_model.specs.Overrides.{is_library, method_run}
 use Rattle.program_model.specs.SuperTests.{classes_above, has_class, is_under}
-use Rattle.ledger_obligations.specs.Obligations.{is_library_method}
+use Rattle.soundness_laws.specs.Obligations.{is_library_method}
 use Rattle.agreement.specs.PlainForms.{IsPlainCall, IsPlainSignature, MayRun, by_class, by_name, run_by}
 use Rattle.safety_examples.specs.Programs.{method_number}
 use Rattle.plain_examples.specs.Programs.{constructor_declared, get_stream, get_stream_declared, input_stream, socket, socket_constructor, stream_close, stream_close_declared, streaming}

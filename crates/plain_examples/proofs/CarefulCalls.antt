@@ -9,7 +9,7 @@ use Rattle.program_model.specs.declared.program.Method.{Method}
 use Rattle.program_model.specs.Lookups.{class_at, method_at}
 use Rattle.program_model.specs.Overrides.{is_library, method_run}
 use Rattle.program_model.specs.SuperTests.{classes_above, has_class, is_under}
-use Rattle.ledger_obligations.specs.Obligations.{is_library_method}
+use Rattle.soundness_laws.specs.Obligations.{is_library_method}
 use Rattle.agreement.specs.PlainForms.{IsPlainCall, MayRun, by_class, by_name, run_by}
 use Rattle.safety_examples.specs.Programs.{careful, close_declared, constructor_declared, method_number, socket, socket_close, socket_constructor}
 use Rattle.safety_examples.proofs.Tests.{holds_at, passes_at}

@@ -13,10 +13,11 @@ use Rattle.java_control.specs.Control.{next_of}
 use Rattle.java_control.specs.Remaining.{Todo}
 use Rattle.java_control.specs.declared.action.Action.{Action}
 use Rattle.java_control.specs.declared.action.Action.TheVariants as actions
-use Rattle.flow_rules.specs.Paths.{Comes, Move, relation_of}
-use Rattle.own_method_laws.specs.Owners.{HasConcreteOwners}
+use Rattle.agreement.specs.Paths.{Comes, Move, relation_of}
+use Rattle.soundness_laws.specs.Owners.{HasConcreteOwners}
 use Rattle.soundness_laws.specs.Running.{HasPlainRuns}
 use Rattle.agreement.specs.PlainForms.{IsPlainAction, calls_constructor}
+use Rattle.soundness_laws.proofs.Storing.{no_supers}
 use Rattle.soundness_laws.specs.Plain.{IsPlain}
 use Rattle.exception_value_laws.proofs.Plain.{methods_give_no_exceptions}
 use Rattle.safety_examples.specs.Controls.{controls}
@@ -89,7 +90,7 @@ pub careful_plain : IsPlain careful
 careful_plain = record {
   steps = λ b {k} i t comes at. (mild_step b.0 k i t comes at).0;
   stores = λ b {k} i t f d comes at is. absurd (true≢false (sym (mild_step b.0 k i t comes at).1 ∙ ap is_mild is));
-  supers = λ b {k} i t f comes at calls. absurd (no_super t.action (mild_step b.0 k i t comes at).1 calls);
+  supers = no_supers careful (λ b k i t comes at calls. no_super t.action (mild_step b.0 k i t comes at).1 calls);
   owners = owners;
   runs = runs;
   texts = texts;

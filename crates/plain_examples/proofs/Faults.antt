@@ -9,10 +9,10 @@ use Rattle.java_control.specs.declared.action.Action.TheVariants as actions
 use Rattle.java_control.specs.declared.action.Edge.TheVariants as edges
 use Rattle.java_control.specs.declared.fact.Origin.{Origin}
 use Rattle.java_control.specs.declared.fact.Rule.{Rule}
-use Rattle.obligation_facts.specs.Facts.{Names}
-use Rattle.ownership_rules.specs.Births.{births_of_step}
-use Rattle.flow_rules.specs.Flow.{flow}
-use Rattle.flow_rules.specs.Paths.{Faulty, Move, Relation, relation_of}
+use Rattle.soundness_laws.specs.Facts.{Names}
+use Rattle.agreement.specs.Births.{births_of_step}
+use Rattle.agreement.specs.Flow.{flow}
+use Rattle.agreement.specs.Paths.{Faulty, Move, Relation, relation_of}
 use Rattle.safety_examples.specs.Certificates.{IsCertificate, IsFollowed, IsListed, Placed, placed}
 use Rattle.plain_examples.specs.Controls.{controls}
 use Rattle.safety_examples.specs.Programs.{in_source, no_names}

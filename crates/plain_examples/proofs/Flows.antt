@@ -18,8 +18,8 @@ use Rattle.java_control.specs.declared.fact.Origin.{Origin}
 use Rattle.java_control.specs.declared.fact.OriginKind.TheVariants as kinds
 use Rattle.java_control.specs.declared.fact.Outcome.TheVariants.{Next, Gone}
 use Rattle.java_control.specs.declared.place.Place.TheVariants as places
-use Rattle.obligation_facts.specs.Facts.{PlaceSet, without_temps}
-use Rattle.flow_rules.specs.Flow.{flow}
+use Rattle.soundness_laws.specs.Facts.{PlaceSet, without_temps}
+use Rattle.agreement.specs.Flow.{flow}
 use Rattle.plain_examples.specs.Controls.{thrown}
 use Rattle.safety_examples.specs.Programs.{close_alone, in_source, io_exception, no_names}
 use Rattle.plain_examples.specs.Programs.{get_stream, socket, stream_close, streaming}

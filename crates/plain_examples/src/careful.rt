@@ -1,6 +1,6 @@
 //! The laws. Each is the contract of a function that does nothing.
 
-ghost use Rattle.safety.specs.Safety.{IsSafe};
+ghost use Rattle.soundness_laws.specs.Safety.{IsSafe};
 ghost use Rattle.soundness_laws.specs.Plain.{IsPlain};
 ghost use Rattle.safety_examples.specs.Programs.{careful};
 

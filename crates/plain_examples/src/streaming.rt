@@ -1,7 +1,7 @@
 //! The laws. Each is the contract of a function that does nothing.
 
 ghost use Rattle.accepted_programs.specs.Accept.{Accept};
-ghost use Rattle.safety.specs.Safety.{IsSafe};
+ghost use Rattle.soundness_laws.specs.Safety.{IsSafe};
 ghost use Rattle.soundness_laws.specs.Plain.{IsPlain};
 ghost use Rattle.plain_examples.specs.Programs.{streaming};
 

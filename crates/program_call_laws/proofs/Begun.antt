@@ -18,9 +18,9 @@ use Rattle.ledger_state.specs.declared.value.Value.TheVariants as values
 use Rattle.ledger_obligations.specs.Obligations.{may_move}
 use Rattle.ledger_operations.specs.Places.{class_of_method}
 use Rattle.ledger_calls.specs.Calls.{operand_of, params_in}
-use Rattle.ledger_steps.specs.CallSteps.{began_entries, began_heap, object_begun, object_of_new}
+use Rattle.heap_laws.specs.CallSteps.{began_entries, began_heap, object_begun, object_of_new}
 use Rattle.ledger_state.specs.Leaks.{is_leak}
-use Rattle.heap_laws.specs.Heaps.{Evolves, HasLibraryLinks, IsGiven}
+use Rattle.heap_laws.specs.Heaps.{Evolves, HasEarlierLinks, IsGiven}
 use Rattle.heap_laws.proofs.LineLaws.{owner_none}
 use Rattle.heap_laws.proofs.MoveLaws.{params_caused, params_count, params_given, params_older}
 use Rattle.heap_laws.proofs.ObjectLaws.{appended_at, appended_count, in_range}
@@ -71,7 +71,7 @@ no_fewer (actions.New m d c) None h = omega arith
 no_fewer (actions.New m d c) (Some k) h = let more = appended_count h k.class in omega (arith, more)
 no_fewer a named h = omega arith
 
-module _ (p : Program) (l : Locals) (a : Action) (named : Option Method) (j : ℕ) (h : HeapContents) (links : HasLibraryLinks h) where
+module _ (p : Program) (l : Locals) (a : Action) (named : Option Method) (j : ℕ) (h : HeapContents) (links : HasEarlierLinks h) where
   -- an object that was there has the root that it had, and the new one is its own
   root_before : (k n : ℕ) (x : Object) → object_at h n ≡ Some x → root (object_of_new a named h) k ≡ n → root h k ≡ n
   root_before k n x at is = go (object_at h k) refl
@@ -142,14 +142,14 @@ module _ (p : Program) (l : Locals) (a : Action) (named : Option Method) (j : �
       omega (arith, same, more)
 
   -- the links stay the library's
-  pub begun_links : HasLibraryLinks (began_heap p l a named j h)
+  pub begun_links : HasEarlierLinks (began_heap p l a named j h)
   begun_links = links_stay-moved p (owners.Frame j) (operand_of l a) 1 (params_in named) (object_of_new a named h) (by_action a)
     where
-      of_method : (k : Option Method) → HasLibraryLinks (object_begun k h)
+      of_method : (k : Option Method) → HasEarlierLinks (object_begun k h)
       of_method None = links
       of_method (Some k) = links_stay-made h k.class links
 
-      by_action : (b : Action) → HasLibraryLinks (object_of_new b named h)
+      by_action : (b : Action) → HasEarlierLinks (object_of_new b named h)
       by_action actions.Skip = links
       by_action (actions.New m d c) = of_method named
       by_action b = links

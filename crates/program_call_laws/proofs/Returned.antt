@@ -1,5 +1,6 @@
 -- Where an object comes from when a frame has ended and its call has.
 use Rattle.std.proofs.Common.{◌≡◌, ◌⊎◌, inl, inr, ℕ, ◌+◌, Bool, true, false, not, ◌&&◌, Option, Some, None, List, [], ◌++◌, nat_eq, refl, sym, ap, ◌∙◌, subst, true≢false, if◌then◌else◌, eqb-true}
+use Rattle.std.specs.FinSet as set
 use Rattle.std.specs.List.{list_any}
 use Rattle.std.proofs.lemmas.Bool.{and_parts, not-true}
 use Rattle.rlc_base.specs.declared.place.Pos.{Pos}
@@ -7,7 +8,8 @@ use Rattle.program_model.specs.declared.kinds.ClassId.{ClassId}
 use Rattle.program_model.specs.declared.kinds.VType.{VType}
 use Rattle.program_model.specs.declared.program.Method.{Method}
 use Rattle.program_model.specs.declared.program.Program.{Program}
-use Rattle.must_call_sets.specs.Bodies.{constructs}
+use Rattle.heap_laws.specs.Bodies.{constructs}
+use Rattle.heap_laws.specs.MustCallSets.{must_of, must_of_type}
 use Rattle.java_control.specs.declared.action.Action.{Action}
 use Rattle.java_control.specs.declared.action.Action.TheVariants as actions
 use Rattle.ledger_state.specs.Contents.{HeapContents}
@@ -15,22 +17,25 @@ use Rattle.ledger_state.specs.Heaps.{next_number, object_at, only_at, root_of}
 use Rattle.ledger_state.specs.Values.{number_of}
 use Rattle.ledger_state.specs.declared.entry.Entry.{Entry}
 use Rattle.ledger_state.specs.declared.entry.LeakWord.TheVariants as words
+use Rattle.ledger_state.specs.declared.entry.Owner.{Owner}
 use Rattle.ledger_state.specs.declared.entry.Owner.TheVariants as owners
 use Rattle.ledger_state.specs.declared.locals.Locals.{Locals}
 use Rattle.ledger_state.specs.declared.object.Object.{Object}
 use Rattle.ledger_state.specs.declared.value.Value.{Value}
-use Rattle.ledger_obligations.specs.Obligations.{all_notes, end_holder, is_frame, is_held_by, is_unmet, may_move, noted_object, reset_in}
+use Rattle.ledger_obligations.specs.declared.note.Note.{Note}
+use Rattle.ledger_obligations.specs.Obligations.{all_notes, end_holder, is_frame, is_held_by, is_library_owner, is_unmet, may_move, noted_object, reset_in}
 use Rattle.ledger_calls.specs.Calls.{alias_position, alias_target, is_alias, operand_of, receiver_note, reset_position}
 use Rattle.ledger_calls.specs.Conducts.{owning_in, result_in}
-use Rattle.ledger_entries.specs.Entries.{birth_entries, called_entries, leak_entries, owner_entries, reset_entries}
-use Rattle.ledger_steps.specs.Ends.{call_end_entries, call_ended, constructor_ended, finished_by_new, frame_end_leaks, frame_ended, frame_gone, moved_as, object_finished, program_birth, result_moved, returned_called, returned_reset, returned_roots, self_finished}
+use Rattle.heap_laws.specs.Entries.{birth_entries, called_entries, leak_entries, owner_entries, reset_entries}
+use Rattle.heap_laws.specs.Ends.{call_end_entries, call_ended, constructor_ended, finished_by_new, frame_end_leaks, frame_ended, frame_gone, moved_as, object_finished, program_birth, result_moved, returned_called, returned_reset, returned_roots, self_finished}
 use Rattle.ledger_state.specs.Leaks.{is_leak}
 use Rattle.heap_laws.specs.Heaps.{GoesOn, IsKeptOr}
 use Rattle.heap_laws.proofs.EndLaws.{changed_back, frame_back, frame_count, holder_back, holder_count, is_held, kept_goes_on}
 use Rattle.heap_laws.proofs.LineLaws.{any_in_both, birth_none, called_none, end_none, holder_none, leaks_unchanged, owner_none, reset_none}
 use Rattle.heap_laws.proofs.MoveLaws.{moved_back, moved_count, moved_takes}
 use Rattle.heap_laws.proofs.ObjectLaws.{changed_count, goes_on_further, goes_on_self, unchanged}
-use Rattle.program_call_laws.specs.ProgramCalls.{IsFinished, IsOlderAtResult, is_new}
+use Rattle.heap_laws.proofs.RootLaws.{one_object}
+use Rattle.program_call_laws.specs.ProgramCalls.{IsFinished, IsMadeAlias, IsOlderAtResult, is_new}
 
 not_true : (b : Bool) → (b ≡ true → ⊥) → b ≡ false
 not_true true never = absurd (never refl)
@@ -116,6 +121,20 @@ held_by_some : (w : Option ℕ) (x : Object) → is_held w x ≡ true → (k : �
 held_by_some None x is = absurd (true≢false (sym is))
 held_by_some (Some w) x is = (w, is)
 
+-- what may move is finished
+pub finished_by : (p : Program) (t : VType) (x : Object) → may_move p t x ≡ true → x.finished ≡ true
+finished_by p t x may =
+    let parts = and_parts (x.finished && not (is_library_owner x.owner)) (set.is_subset (must_of p x.class) (must_of_type p t)) may in
+    (and_parts x.finished (not (is_library_owner x.owner)) parts.0).0
+
+unowned_kept : (test : Bool) (x y : Object) → IsKeptOr test x y → test ≡ false → y ≡ x
+unowned_kept test x y (inl same) never = same
+unowned_kept test x y (inr given) never = absurd (true≢false (sym given.0 ∙ never))
+
+held_none : (w : Option ℕ) (x : Object) → x.owner ≡ owners.Unowned → is_held w x ≡ false
+held_none None x none = refl
+held_none (Some k) x none = ap (λ (o : Owner). is_held_by o k) none
+
 module _ (p : Program) (i : ℕ) (self : Value) (runs : Option Method) (v : Value) (e : Option ClassId) (h : HeapContents) where
   pub gone_back : (n : ℕ) (y : Object) → object_at (frame_gone p i self runs v e h) n ≡ Some y → (x : Object) × (object_at (result_moved p i runs v e h) n ≡ Some x) × GoesOn x y
   gone_back n y at =
@@ -126,6 +145,25 @@ module _ (p : Program) (i : ℕ) (self : Value) (runs : Option Method) (v : Valu
   pub gone_count : next_number (frame_gone p i self runs v e h) ≡ next_number h
   gone_count =
       constructor_count self runs e (frame_ended p i runs v e h) ∙ frame_count (i + 1) (result_moved p i runs v e h) ∙ result_count p i runs v h e
+
+  -- an object that is not finished, and that nobody owns, stays so
+  pub gone_unowned : (n : ℕ) (x y : Object) → object_at h n ≡ Some x → x.finished ≡ false → x.owner ≡ owners.Unowned → object_at (frame_gone p i self runs v e h) n ≡ Some y
+      → (y.finished ≡ false) × (y.owner ≡ owners.Unowned)
+  gone_unowned n x y before unmade none at =
+      let z = constructor_back self runs e (frame_ended p i runs v e h) n y at in
+      let u = frame_back (i + 1) (result_moved p i runs v e h) n z.0 z.1 in
+      let old = result_back p i runs v h e n u.0 u.1 in
+      let same : old.before ≡ x = one_object old.before x (object_at h n) old.at before in
+      let unmade' : old.before.finished ≡ false = ap (λ (w : Object). w.finished) same ∙ unmade in
+      let none' : old.before.owner ≡ owners.Unowned = ap (λ (w : Object). w.owner) same ∙ none in
+      let owner : u.0.owner ≡ owners.Unowned = elim old.owner [
+        | inl kept ↦ kept ∙ none'
+        | inr returned ↦ absurd (true≢false (sym (finished_by p returned.type old.before returned.may) ∙ unmade'))
+      ] in
+      let first : z.0 ≡ u.0 = unowned_kept (is_frame u.0.owner (i + 1)) u.0 z.0 u.2 (ap (λ (o : Owner). is_frame o (i + 1)) owner) in
+      let owner' : z.0.owner ≡ owners.Unowned = ap (λ (w : Object). w.owner) first ∙ owner in
+      let second : y ≡ z.0 = unowned_kept (is_held (number_of self) z.0) z.0 y z.2 (held_none (number_of self) z.0 owner') in
+      (ap (λ (w : Object). w.finished) (second ∙ first) ∙ old.goes_on.finished ∙ unmade', ap (λ (w : Object). w.owner) second ∙ owner')
 
   -- where the frame owns nothing unmet when its result has moved, and no field does, nothing unmet is given up
   module _ (none : (n : ℕ) (x : Object) → object_at (result_moved p i runs v e h) n ≡ Some x → is_unmet x ≡ true → is_frame x.owner (i + 1) ≡ true → ⊥)
@@ -158,6 +196,45 @@ module _ (p : Program) (i : ℕ) (self : Value) (runs : Option Method) (v : Valu
 
 -- ---- the call
 
+-- the object of a `new` that is no alias
+made_own : (p : Program) (i : ℕ) (self : Value) (a : Action) (named : Option Method) (argument : Option ℕ) (n : ℕ) (notes : List Note) (z : Object) → is_new a ≡ true → number_of self ≡ Some n
+    → is_alias named ≡ false → IsFinished p i self a named None n z (object_finished p i named argument (noted_object notes n z))
+made_own p i self a named argument n notes z new is plain = record {
+  normal = refl;
+  new = new;
+  own = plain;
+  self = is;
+  class = rw plain refl;
+  finished = rw plain refl;
+  link = rw plain refl;
+  must = rw plain refl;
+  owner = rw plain refl;
+}
+
+-- and of one that is
+made_alias : (p : Program) (i : ℕ) (self : Value) (a : Action) (named : Option Method) (argument : Option ℕ) (n : ℕ) (notes : List Note) (z : Object) → is_new a ≡ true → number_of self ≡ Some n
+    → is_alias named ≡ true → IsMadeAlias p self a named argument None n z (object_finished p i named argument (noted_object notes n z))
+made_alias p i self a named None n notes z new is alias = record {
+  normal = refl;
+  new = new;
+  alias = alias;
+  self = is;
+  class = rw alias refl;
+  finished = rw alias refl;
+  called = rw alias refl;
+  linked = rw alias (refl, refl, refl);
+}
+made_alias p i self a named (Some w) n notes z new is alias = record {
+  normal = refl;
+  new = new;
+  alias = alias;
+  self = is;
+  class = rw alias refl;
+  finished = rw alias refl;
+  called = rw alias refl;
+  linked = rw alias (refl, refl, refl);
+}
+
 module _ (p : Program) (i : ℕ) (self : Value) (l : Locals) (a : Action) (named : Option Method) (g : HeapContents) (no_reset : reset_position named ≡ None) where
   abbrev pub AllNotes : HeapContents → ℕ → Object → Object → Type 0
   AllNotes k n x y = noted_object (all_notes p k (receiver_note l a named)) n x ≡ y
@@ -172,39 +249,47 @@ module _ (p : Program) (i : ℕ) (self : Value) (l : Locals) (a : Action) (named
   pub noted_back : (n : ℕ) (y : Object) → object_at (returned_reset p l a named g) n ≡ Some y → IsNoted n y
   noted_back n y at = changed_back (noted_object (all_notes p g (receiver_note l a named))) g n y (subst (λ (k : HeapContents). object_at k n ≡ Some y) reset_nothing at)
 
-  -- the constructor of a `new` has no aliased argument
-  module _ (no_alias : is_new a ≡ true → alias_position named ≡ None) where
-    abbrev alias : Option ℕ
-    alias = alias_target (operand_of l a) named
+  abbrev pub argument : Option ℕ
+  argument = alias_target (operand_of l a) named
 
-    finish : (n : ℕ) (x y : Object) → is_new a ≡ true → number_of self ≡ Some n → IsNoted n x → object_finished p i named alias x ≡ y
-        → (z : Object) × (object_at g n ≡ Some z) × IsFinished p i self a None n z y
-    finish n x y new is z same = (z.0, z.1, subst (IsFinished p i self a None n z.0) same (subst (λ (w : Object). IsFinished p i self a None n z.0 (object_finished p i named alias w)) z.2 (done z.0)))
-      where
-        done : (z : Object) → IsFinished p i self a None n z (object_finished p i named alias (noted_object (all_notes p g (receiver_note l a named)) n z))
-        done z = rw (no_alias new) (record { normal = refl; new = new; self = is; class = refl; link = refl; must = refl; owner = refl })
+  abbrev pub IsFrom : Option ClassId → ℕ → Object → Type 0
+  IsFrom e n y = ((z : Object) × (object_at g n ≡ Some z) × IsFinished p i self a named e n z y) ⊎ (((z : Object) × (object_at g n ≡ Some z) × IsMadeAlias p self a named argument e n z y) ⊎ IsNoted n y)
 
-    abbrev pub IsFrom : Option ClassId → ℕ → Object → Type 0
-    IsFrom e n y = ((z : Object) × (object_at g n ≡ Some z) × IsFinished p i self a e n z y) ⊎ IsNoted n y
+  finish : (n : ℕ) (x y : Object) → is_new a ≡ true → number_of self ≡ Some n → IsNoted n x → object_finished p i named argument x ≡ y → IsFrom None n y
+  finish n x y new is z same = go (is_alias named) refl
+    where
+      go : (b : Bool) → is_alias named ≡ b → IsFrom None n y
+      go true alias = inr (inl (
+        z.0,
+        z.1,
+        subst (IsMadeAlias p self a named argument None n z.0) same
+            (subst (λ (w : Object). IsMadeAlias p self a named argument None n z.0 (object_finished p i named argument w)) z.2 (made_alias p i self a named argument n (all_notes p g (receiver_note l a named)) z.0 new is alias)),
+      ))
+      go false plain = inl (
+        z.0,
+        z.1,
+        subst (IsFinished p i self a named None n z.0) same
+            (subst (λ (w : Object). IsFinished p i self a named None n z.0 (object_finished p i named argument w)) z.2 (made_own p i self a named argument n (all_notes p g (receiver_note l a named)) z.0 new is plain)),
+      )
 
-    by_self : (w : Option ℕ) → number_of self ≡ w → is_new a ≡ true → (n : ℕ) (y : Object) → object_at (self_finished p i named w alias (returned_reset p l a named g)) n ≡ Some y → IsFrom None n y
-    by_self None is new n y at = inr (noted_back n y at)
-    by_self (Some k) is new n y at =
-        let x = changed_back (only_at k (object_finished p i named alias)) (returned_reset p l a named g) n y at in
-        go x.0 (noted_back n x.0 x.1) (nat_eq n k) refl x.2
-      where
-        go : (x : Object) → IsNoted n x → (b : Bool) → nat_eq n k ≡ b → (if b then object_finished p i named alias x else x) ≡ y → IsFrom None n y
-        go x z true here same = inl (finish n x y new (is ∙ ap Some (sym (eqb-true n k here))) z same)
-        go x z false other same = inr (subst (IsNoted n) same z)
+  by_self : (w : Option ℕ) → number_of self ≡ w → is_new a ≡ true → (n : ℕ) (y : Object) → object_at (self_finished p i named w argument (returned_reset p l a named g)) n ≡ Some y → IsFrom None n y
+  by_self None is new n y at = inr (inr (noted_back n y at))
+  by_self (Some k) is new n y at =
+      let x = changed_back (only_at k (object_finished p i named argument)) (returned_reset p l a named g) n y at in
+      go x.0 (noted_back n x.0 x.1) (nat_eq n k) refl x.2
+    where
+      go : (x : Object) → IsNoted n x → (b : Bool) → nat_eq n k ≡ b → (if b then object_finished p i named argument x else x) ≡ y → IsFrom None n y
+      go x z true here same = finish n x y new (is ∙ ap Some (sym (eqb-true n k here))) z same
+      go x z false other same = inr (inr (subst (IsNoted n) same z))
 
-    by_action : (b : Action) → a ≡ b → (n : ℕ) (y : Object) → object_at (finished_by_new p i b named (number_of self) alias (returned_reset p l a named g)) n ≡ Some y → IsFrom None n y
-    by_action actions.Skip is n y at = inr (noted_back n y at)
-    by_action (actions.New m d c) is n y at = by_self (number_of self) refl (ap is_new is) n y at
-    by_action b is n y at = inr (noted_back n y at)
+  by_action : (b : Action) → a ≡ b → (n : ℕ) (y : Object) → object_at (finished_by_new p i b named (number_of self) argument (returned_reset p l a named g)) n ≡ Some y → IsFrom None n y
+  by_action actions.Skip is n y at = inr (inr (noted_back n y at))
+  by_action (actions.New m d c) is n y at = by_self (number_of self) refl (ap is_new is) n y at
+  by_action b is n y at = inr (inr (noted_back n y at))
 
-    pub end_back : (e : Option ClassId) (n : ℕ) (y : Object) → object_at (call_ended p i self l a named e g) n ≡ Some y → IsFrom e n y
-    end_back None n y at = by_action a refl n y at
-    end_back (Some c) n y at = inr (noted_back n y at)
+  pub end_back : (e : Option ClassId) (n : ℕ) (y : Object) → object_at (call_ended p i self l a named e g) n ≡ Some y → IsFrom e n y
+  end_back None n y at = by_action a refl n y at
+  end_back (Some c) n y at = inr (inr (noted_back n y at))
 
   self_count : (w alias : Option ℕ) (k : HeapContents) → next_number (self_finished p i named w alias k) ≡ next_number k
   self_count None alias k = refl

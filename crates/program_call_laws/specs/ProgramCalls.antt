@@ -1,10 +1,11 @@
 -- What a call of a method of the program leaves of each object.
 use Rattle.std.specs.Prelude.{◌≡◌, ◌⊎◌, ℕ, Bool, true, false, Option, Some, None}
+use Rattle.std.specs.FinSet as set
 use Rattle.program_model.specs.declared.kinds.ClassId.{ClassId}
 use Rattle.program_model.specs.declared.kinds.VType.{VType}
 use Rattle.program_model.specs.declared.program.Method.{Method}
 use Rattle.program_model.specs.declared.program.Program.{Program}
-use Rattle.must_call_sets.specs.MustCallSets.{must_of}
+use Rattle.heap_laws.specs.MustCallSets.{must_of}
 use Rattle.java_control.specs.declared.action.Action.{Action}
 use Rattle.java_control.specs.declared.action.Action.TheVariants as actions
 use Rattle.ledger_state.specs.Contents.{HeapContents}
@@ -61,12 +62,31 @@ abbrev pub is_new : Action → Bool
 is_new (actions.New m d n) = true
 is_new a = false
 
--- a `new` ends normally, and object `n`, here `y`, is the one that its constructor ran on, which was `x`
-pub record IsFinished (p : Program) (i : ℕ) (this : Value) (a : Action) (e : Option ClassId) (n : ℕ) (x y : Object) : Type 0 where
+-- a `new` ends normally whose constructor has no aliased argument, and object `n`, here `y`, is the one that it ran on, which was `x`
+pub record IsFinished (p : Program) (i : ℕ) (this : Value) (a : Action) (named : Option Method) (e : Option ClassId) (n : ℕ) (x y : Object) : Type 0 where
   pub normal : e ≡ None
   pub new : is_new a ≡ true
+  pub own : is_alias named ≡ false
   pub self : number_of this ≡ Some n
   pub class : y.class ≡ x.class
+  pub finished : y.finished ≡ true
   pub link : y.link ≡ x.link
   pub must : y.must ≡ must_of p x.class
   pub owner : y.owner ≡ owners.Frame i
+
+-- The object `x` is linked as `y` by a constructor to the argument with this number, which then has the obligation: its owner stays. An alias of null is
+-- the library's, and nothing must be called on it.
+abbrev pub IsLinkedTo : Program → Option ℕ → Object → Object → Type 0
+IsLinkedTo p None x y = (y.must ≡ set.empty) × (y.owner ≡ owners.Library) × (y.link ≡ x.link)
+IsLinkedTo p (Some w) x y = (y.must ≡ must_of p x.class) × (y.owner ≡ x.owner) × (y.link ≡ Some (record { to = w; by_library = false }))
+
+-- a `new` ends normally whose constructor has an aliased argument, with this number, and object `n`, here `y`, is the one that it ran on, which was `x`
+pub record IsMadeAlias (p : Program) (this : Value) (a : Action) (named : Option Method) (argument : Option ℕ) (e : Option ClassId) (n : ℕ) (x y : Object) : Type 0 where
+  pub normal : e ≡ None
+  pub new : is_new a ≡ true
+  pub alias : is_alias named ≡ true
+  pub self : number_of this ≡ Some n
+  pub class : y.class ≡ x.class
+  pub finished : y.finished ≡ true
+  pub called : y.called ≡ set.empty
+  pub linked : IsLinkedTo p argument x y

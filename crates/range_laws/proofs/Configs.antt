@@ -23,12 +23,12 @@ use Rattle.ledger_state.specs.declared.array.ArrayObject.{ArrayObject}
 use Rattle.ledger_state.specs.declared.object.StoredStatic.{StoredStatic}
 use Rattle.ledger_state.specs.declared.value.Value.{Value}
 use Rattle.ledger_state.specs.declared.value.Value.TheVariants as values
-use Rattle.ledger_obligations.specs.Obligations.{end_frame, given_up_by_frame, lose, lost_object}
-use Rattle.ledger_operations.specs.Operations.{arrays_after, made_value, next_choice, statics_after}
+use Rattle.heap_laws.specs.Obligations.{end_frame, given_up_by_frame, lose, lost_object}
+use Rattle.place_facts.specs.Operations.{arrays_after, made_value, next_choice, statics_after}
 use Rattle.ledger_calls.specs.Calls.{argument_values, begun, operand_of, params_in}
 use Rattle.ledger_calls.specs.Configuration.{Config, Frame, held_by}
 use Rattle.ledger_calls.specs.Conducts.{array_given, arguments_shared, arrays_given, conduct_value, positions, result_in, share, share_all, share_value}
-use Rattle.ledger_frames.specs.Frames.{frame_after}
+use Rattle.place_facts.specs.Frames.{frame_after}
 use Rattle.ledger_steps.specs.CallSteps.{began_heap, library_heap, self_begun}
 use Rattle.ledger_steps.specs.Ends.{answered, result_value, returned_heap}
 use Rattle.ledger_steps.specs.InnerSteps.{heap_stored, store_of, store_unless, thrown_heap, thrown_value}

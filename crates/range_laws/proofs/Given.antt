@@ -12,7 +12,7 @@ use Rattle.program_model.specs.declared.program.Program.{Program}
 use Rattle.program_model.specs.Lookups.{method_at}
 use Rattle.java_control.specs.declared.action.Action.{Action}
 use Rattle.java_control.specs.declared.action.Action.TheVariants as actions
-use Rattle.must_call_sets.specs.Bodies.{constructs, is_constructor_kind}
+use Rattle.heap_laws.specs.Bodies.{constructs, is_constructor_kind}
 use Rattle.stub_conduct.specs.Conducts.{beyond, by_way, conduct, conduct_in, existing_way, given, given_result, null_way, plain, throw_or, thrown}
 use Rattle.stub_conduct.specs.declared.choice.Choice.{Choice}
 use Rattle.stub_conduct.specs.declared.choice.Conduct.{Conduct}

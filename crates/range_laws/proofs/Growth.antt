@@ -7,7 +7,7 @@ use Rattle.program_model.specs.declared.kinds.VType.{VType}
 use Rattle.program_model.specs.declared.program.Method.{Method}
 use Rattle.program_model.specs.declared.program.ParamSig.{ParamSig}
 use Rattle.program_model.specs.declared.program.Program.{Program}
-use Rattle.must_call_sets.specs.Bodies.{constructs}
+use Rattle.heap_laws.specs.Bodies.{constructs}
 use Rattle.java_control.specs.declared.action.Action.{Action}
 use Rattle.java_control.specs.declared.action.Action.TheVariants as actions
 use Rattle.stub_conduct.specs.declared.choice.Conduct.{Conduct}
@@ -22,8 +22,8 @@ use Rattle.ledger_state.specs.declared.locals.Locals.{Locals}
 use Rattle.ledger_state.specs.declared.object.Object.{Object}
 use Rattle.ledger_state.specs.declared.value.Value.{Value}
 use Rattle.ledger_state.specs.declared.value.Value.TheVariants as values
-use Rattle.ledger_obligations.specs.Obligations.{displaced, displaces, end_holder, lose, lost_object, moved_in, moved_where, moves_in, released_where}
-use Rattle.ledger_obligations.specs.Obligations.{holder_roots, move, reset_roots}
+use Rattle.heap_laws.specs.Obligations.{displaced, displaces, end_holder, lose, lost_object, moved_in, moved_where, moves_in, released_where}
+use Rattle.heap_laws.specs.Obligations.{holder_roots, move, reset_roots}
 use Rattle.ledger_calls.specs.Calls.{alias_target, arguments_moved, is_alias, move_param, move_params, operand_of, params_in}
 use Rattle.ledger_calls.specs.Conducts.{library_birth, object_made, owning_in, result_in}
 use Rattle.ledger_steps.specs.CallSteps.{began_heap, library_called, library_heap, library_made, library_reset, object_begun, object_of_new}
@@ -134,7 +134,7 @@ constructor_grows self runs (Some e) h = go (constructs runs)
     go true = holder_grows (number_of self) h
     go false = grows_self h
 
-gone_grows : (p : Program) (i : ℕ) (self : Value) (runs : Option Method) (v : Value) (e : Option ClassId) (h : HeapContents) → Grows h (frame_gone p i self runs v e h)
+pub gone_grows : (p : Program) (i : ℕ) (self : Value) (runs : Option Method) (v : Value) (e : Option ClassId) (h : HeapContents) → Grows h (frame_gone p i self runs v e h)
 gone_grows p i self runs v e h =
     let result = result_grows p i runs v e h in
     let ended = grows_further h (result_moved p i runs v e h) (frame_ended p i runs v e h) result (each_grows _ (result_moved p i runs v e h)) in

@@ -9,14 +9,14 @@ use Rattle.program_model.specs.Lookups.{method_at}
 use Rattle.rlc_base.specs.declared.place.Pos.{Pos}
 use Rattle.std.specs.Prelude.{pos, ◌≤◌, ◌<◌}
 use Rattle.std.proofs.Common.{arith}
-use Rattle.must_call_sets.specs.Bodies.{constructs}
+use Rattle.heap_laws.specs.Bodies.{constructs}
 use Rattle.java_control.specs.Calls.{called_method}
 use Rattle.java_control.specs.Control.{Step}
 use Rattle.java_control.specs.declared.action.Action.{Action}
 use Rattle.java_control.specs.declared.action.Action.TheVariants as actions
 use Rattle.java_control.specs.declared.action.Completion.{Completion}
 use Rattle.accepted_programs.specs.Accept.{Accept}
-use Rattle.flow_rules.specs.Paths.{move_of}
+use Rattle.named_step_laws.specs.Paths.{move_of}
 use Rattle.named_step_laws.specs.Naming.{IsOfItsKind}
 use Rattle.named_step_laws.proofs.Reached.{names_what_is_there}
 use Rattle.stub_conduct.specs.declared.choice.Choices.{Choices}
@@ -29,14 +29,14 @@ use Rattle.ledger_state.specs.declared.array.ArrayObject.{ArrayObject}
 use Rattle.ledger_state.specs.declared.locals.Locals.{Locals}
 use Rattle.ledger_state.specs.declared.object.StoredStatic.{StoredStatic}
 use Rattle.ledger_state.specs.declared.value.Value.TheVariants as values
-use Rattle.ledger_operations.specs.Operations.{next_choice}
+use Rattle.place_facts.specs.Operations.{next_choice}
 use Rattle.ledger_calls.specs.Calls.{position_of}
 use Rattle.ledger_calls.specs.Conducts.{arguments_shared, conduct_value, made_by_new, positions}
 use Rattle.ledger_calls.specs.Configuration.{Config, Frame}
-use Rattle.ledger_frames.specs.Choosing.{frame_steps}
+use Rattle.place_facts.specs.Choosing.{frame_steps}
 use Rattle.ledger_steps.specs.Ends.{exception_class, thrown_in}
-use Rattle.ledger_moves.specs.Moves.{Move, Inner, Start, Library, End, Stray, Rest}
-use Rattle.ledger_moves.specs.Moves.{Return, Back, StrayBack, NoWay, return_move}
+use Rattle.next_step_laws.specs.Moves.{Move, Inner, Start, Library, End, Stray, Rest}
+use Rattle.next_step_laws.specs.Moves.{Return, Back, StrayBack, NoWay, return_move}
 use Rattle.ledger_runs.specs.Outcomes.{went, ended, stray}
 use Rattle.ledger_runs.specs.Starts.{start_config}
 use Rattle.ledger_runs.specs.Steps.{began, end, library_went, main_ended, moved, moved_by, returned, returned_by, step, top_move, within}

@@ -7,3 +7,4 @@ pub mod Configs
 pub mod Laws
 pub use Rattle.next_step_laws.proofs.Cases
 pub use Rattle.next_step_laws.proofs.Returns
+pub use Rattle.next_step_laws.proofs.Ready

@@ -36,7 +36,7 @@ use Rattle.ledger_state.specs.Contents.{HeapContents}
 use Rattle.ledger_state.specs.Fields.{initial_in, initial_of, is_static, static, value_put}
 use Rattle.ledger_state.specs.Heaps.{put_at}
 use Rattle.ledger_state.specs.Values.{default_element, default_of, literal_value, number_in, truth_value, value_or_nothing}
-use Rattle.ledger_operations.specs.Operations.{array_by_operator, array_by_type, arrays_after, by_operand_type, by_reference, chosen_element, converted_to, element_in, elements_by_operator, number_or_nothing, operand, operator_value, plain_value, same_reference, static_by_operator, statics_after, statics_with, store_element, with_array, with_element}
+use Rattle.place_facts.specs.Operations.{array_by_operator, array_by_type, arrays_after, by_operand_type, by_reference, chosen_element, converted_to, element_in, elements_by_operator, number_or_nothing, operand, operator_value, plain_value, same_reference, static_by_operator, statics_after, statics_with, store_element, with_array, with_element}
 use Rattle.place_facts.specs.Ranges.{IsInRange, LocalsInRange}
 use Rattle.range_laws.proofs.Values.{nothing_in_range}
 

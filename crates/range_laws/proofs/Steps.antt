@@ -23,8 +23,8 @@ use Rattle.ledger_state.specs.declared.locals.Locals.{Locals}
 use Rattle.ledger_state.specs.declared.object.StoredField.{StoredField}
 use Rattle.ledger_state.specs.declared.object.StoredStatic.{StoredStatic}
 use Rattle.ledger_state.specs.declared.value.Value.{Value}
-use Rattle.ledger_obligations.specs.Obligations.{holder_roots, lose, lost_object, moved_in, reset_roots, stored_owning}
-use Rattle.ledger_operations.specs.Operations.{made_value}
+use Rattle.heap_laws.specs.Obligations.{holder_roots, lose, lost_object, moved_in, reset_roots, stored_owning}
+use Rattle.place_facts.specs.Operations.{made_value}
 use Rattle.ledger_calls.specs.Conducts.{result_in}
 use Rattle.ledger_steps.specs.CallSteps.{self_begun}
 use Rattle.ledger_steps.specs.Ends.{answered, default_result, result_value}

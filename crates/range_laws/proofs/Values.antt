@@ -25,11 +25,11 @@ use Rattle.ledger_state.specs.declared.locals.Locals.{Locals}
 use Rattle.ledger_state.specs.declared.object.StoredField.{StoredField}
 use Rattle.ledger_state.specs.declared.value.Value.{Value}
 use Rattle.ledger_state.specs.declared.value.Value.TheVariants as values
-use Rattle.ledger_operations.specs.Places.{field_place_value, owning_field_beside, place_value}
+use Rattle.place_facts.specs.Places.{field_place_value, owning_field_beside, place_value}
 use Rattle.ledger_calls.specs.Calls.{argument_values, begun, body_of, control_in, depth_at, operand_of, params_in, variable_count}
 use Rattle.ledger_calls.specs.Configuration.{Frame}
-use Rattle.ledger_frames.specs.Choosing.{method_body}
-use Rattle.ledger_frames.specs.Frames.{depth_of, is_made, locals_after, made_place, numbers_below, source_by, sourced, value_after}
+use Rattle.place_facts.specs.Choosing.{method_body}
+use Rattle.place_facts.specs.Frames.{depth_of, is_made, locals_after, made_place, numbers_below, source_by, sourced, value_after}
 use Rattle.place_facts.specs.Ranges.{FieldsInRange, IsInRange, IsStoredInRange, LocalsInRange}
 use Rattle.range_laws.proofs.Growth.{Grows}
 

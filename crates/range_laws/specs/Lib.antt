@@ -2,3 +2,10 @@ pub use Rattle.next_step_laws.specs.Nexts
 pub use Rattle.place_facts.specs.FieldContents
 pub use Rattle.place_facts.specs.PlaceFacts
 pub use Rattle.place_facts.specs.Ranges
+pub use Rattle.accepted_programs.specs.Accept
+pub use Rattle.ledger_runs.specs.Outcomes
+pub use Rattle.ledger_runs.specs.Starts
+pub use Rattle.ledger_runs.specs.Steps
+pub use Rattle.ledger_steps.specs.CallSteps
+pub use Rattle.ledger_steps.specs.Ends
+pub use Rattle.ledger_steps.specs.InnerSteps

@@ -7,12 +7,12 @@ use Rattle.program_model.specs.declared.program.Program.{Program}
 use Rattle.program_model.specs.Lookups.{method_at}
 use Rattle.command_answers.specs.declared.answers.Outcome.TheVariants as outcomes
 use Rattle.ledger_calls.specs.Calls.{body_of}
-use Rattle.ledger_runs.specs.Runs.{run}
+use Rattle.soundness_laws.specs.Runs.{run}
 use Rattle.ledger_moves.specs.Moves.{has_body}
-use Rattle.ledger_runs.specs.Mains.{class_named, is_main_in, main_in, main_of}
+use Rattle.soundness_laws.specs.Mains.{class_named, is_main_in, main_in, main_of}
 use Rattle.run_command.specs.RunAnswers.{answer_outcome, outcome_with, run_outcome}
 use Rattle.stub_conduct.specs.declared.choice.Choices.{Choices}
-use Rattle.safety.specs.Safety.{IsSafe}
+use Rattle.soundness_laws.specs.Safety.{IsSafe}
 use Rattle.safe_run_laws.proofs.Runs.{leaks_nothing}
 use Rattle.safe_run_laws.proofs.BodilessRuns.{bodiless_leaks_nothing}
 

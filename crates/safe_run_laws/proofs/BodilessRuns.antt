@@ -13,10 +13,10 @@ use Rattle.ledger_calls.specs.Configuration.{Config, Frame}
 use Rattle.ledger_frames.specs.Choosing.{steps_by}
 use Rattle.ledger_moves.specs.Moves.{Rest, next_move, standing}
 use Rattle.ledger_operations.specs.Operations.{next_choice}
-use Rattle.ledger_runs.specs.Runs.{go_on, run, run_from}
-use Rattle.ledger_runs.specs.Outcomes.{went}
-use Rattle.ledger_runs.specs.Starts.{start_config}
-use Rattle.ledger_runs.specs.Steps.{moved, moved_by, step, top_move}
+use Rattle.soundness_laws.specs.Runs.{go_on, run, run_from}
+use Rattle.soundness_laws.specs.Outcomes.{went}
+use Rattle.soundness_laws.specs.Starts.{start_config}
+use Rattle.soundness_laws.specs.Steps.{moved, moved_by, step, top_move}
 use Rattle.ledger_state.specs.Leaks.{is_leak}
 use Rattle.run_command.specs.RunAnswers.{outcome_of, run_outcome}
 use Rattle.stub_conduct.specs.declared.choice.Choices.{Choices}

@@ -5,10 +5,10 @@ use Rattle.program_model.specs.declared.program.Program.{Program}
 use Rattle.command_answers.specs.declared.answers.Outcome.TheVariants as outcomes
 use Rattle.ledger_text.specs.declared.how.How.{How}
 use Rattle.ledger_text.specs.declared.how.How.TheVariants as hows
-use Rattle.ledger_runs.specs.Runs.{run}
+use Rattle.soundness_laws.specs.Runs.{run}
 use Rattle.run_command.specs.RunAnswers.{outcome_of, run_outcome}
 use Rattle.stub_conduct.specs.declared.choice.Choices.{Choices}
-use Rattle.safety.specs.Safety.{IsMain, IsSafe}
+use Rattle.soundness_laws.specs.Safety.{IsMain, IsSafe}
 use Rattle.accepted_programs.specs.Accept.{Accept}
 use Rattle.soundness_laws.specs.Plain.{IsPlain}
 pub use Rattle.soundness_laws.proofs.Runs.{accepted_is_safe}

@@ -6,9 +6,9 @@ ghost use Rattle.program_model.specs.declared.program.Program.{Program};
 ghost use Rattle.command_answers.specs.declared.answers.Outcome.TheVariants as outcomes;
 ghost use Rattle.stub_conduct.specs.declared.choice.Choices.{Choices};
 ghost use Rattle.accepted_programs.specs.Accept.{Accept};
-ghost use Rattle.ledger_runs.specs.Runs.{run};
+ghost use Rattle.soundness_laws.specs.Runs.{run};
 ghost use Rattle.run_command.specs.RunAnswers.{answer_outcome, run_outcome};
-ghost use Rattle.safety.specs.Safety.{IsMain, IsSafe};
+ghost use Rattle.soundness_laws.specs.Safety.{IsMain, IsSafe};
 ghost use Rattle.soundness_laws.specs.Plain.{IsPlain};
 
 /// No run of a safe program answers that it leaks.

@@ -13,10 +13,10 @@ use Rattle.program_model.specs.declared.program.Program.{Program}
 use Rattle.program_model.specs.declared.program.Sig.{Sig}
 use Rattle.program_model.specs.Lookups.{method_at}
 use Rattle.program_model.specs.Validity.{IsOfKind}
-use Rattle.must_call_sets.specs.Bodies.{constructs, is_constructor_kind}
-use Rattle.must_call_sets.specs.MustCallSets.{Names, fits, must_of, must_of_optional, must_of_type}
-use Rattle.must_call_sets.specs.OverrideCases.{differ}
-use Rattle.must_call_sets.specs.Signatures.{is_present}
+use Rattle.conduct_laws.specs.Bodies.{constructs, is_constructor_kind}
+use Rattle.conduct_laws.specs.MustCallSets.{Names, fits, must_of, must_of_optional, must_of_type}
+use Rattle.conduct_laws.specs.OverrideCases.{differ}
+use Rattle.conduct_laws.specs.Signatures.{is_present}
 use Rattle.java_control.specs.Calls.{called_method}
 use Rattle.java_control.specs.Control.{Step}
 use Rattle.java_control.specs.declared.action.Action.{Action}
@@ -26,8 +26,8 @@ use Rattle.java_control.specs.declared.action.Edge.TheVariants as edges
 use Rattle.java_control.specs.declared.action.TargetForm.{TargetForm}
 use Rattle.java_control.specs.declared.fact.OriginKind.TheVariants as kinds
 use Rattle.ownership_rules.specs.Births.{origin_of}
-use Rattle.accepted_programs.specs.Accept.{Accept}
-use Rattle.flow_rules.specs.Paths.{move_of}
+use Rattle.parameter_fact_laws.specs.Accept.{Accept}
+use Rattle.named_step_laws.specs.Paths.{move_of}
 use Rattle.ledger_state.specs.Contents.{HeapContents}
 use Rattle.ledger_state.specs.Heaps.{object_at, root_of}
 use Rattle.ledger_state.specs.Values.{number_of}
@@ -35,20 +35,20 @@ use Rattle.ledger_state.specs.declared.object.Object.{Object}
 use Rattle.ledger_state.specs.declared.value.Value.{Value}
 use Rattle.ledger_state.specs.declared.value.Value.TheVariants as values
 use Rattle.ledger_obligations.specs.Obligations.{is_unmet}
-use Rattle.ledger_operations.specs.Places.{class_of_method}
-use Rattle.ledger_calls.specs.Calls.{alias_position, is_alias, reset_position}
-use Rattle.ledger_calls.specs.Conducts as conducts
-use Rattle.ledger_calls.specs.Configuration.{Frame}
-use Rattle.ledger_frames.specs.Choosing.{frame_steps}
-use Rattle.ledger_frames.specs.Frames.{frame_after}
+use Rattle.filled_field_laws.specs.Places.{class_of_method}
+use Rattle.conduct_laws.specs.Calls.{is_alias, reset_position}
+use Rattle.conduct_laws.specs.Conducts as conducts
+use Rattle.conduct_laws.specs.Configuration.{Frame}
+use Rattle.content_heap_laws.specs.Choosing.{frame_steps}
+use Rattle.content_heap_laws.specs.Frames.{frame_after}
 use Rattle.ledger_steps.specs.Ends.{answered, exception_class, result_value, thrown_in}
-use Rattle.heap_laws.specs.Heaps.{GoesOn}
-use Rattle.program_call_laws.specs.ProgramCalls.{IsFinished, IsReturned, is_new}
+use Rattle.library_call_laws.specs.Heaps.{GoesOn}
+use Rattle.covering_laws.specs.ProgramCalls.{IsFinished, IsReturned, is_new}
 use Rattle.named_step_laws.specs.Naming.{IsOfItsKind}
 use Rattle.named_step_laws.proofs.Reached.{names_what_is_there}
-use Rattle.agreement.specs.Agreement.{IsMade, IsMadeBy, Stands, Tracks}
-use Rattle.agreement.specs.PlainForms.{HasPlainForms, IsPlainAction, RunsFor}
-use Rattle.owned_fact_laws.specs.Outcomes.{IsCallRow}
+use Rattle.content_heap_laws.specs.Agreement.{IsMade, IsMadeAfter, IsMadeBy, Stands, Tracks}
+use Rattle.content_heap_laws.specs.PlainForms.{HasPlainForms, IsPlainAction, RunsFor}
+use Rattle.content_heap_laws.specs.Outcomes.{IsCallRow}
 use Rattle.covering_laws.specs.Steps.{RootsStay}
 use Rattle.covering_laws.proofs.Births.{heavy_by_unmet, new_tracks, result_tracks}
 use Rattle.covering_laws.proofs.Carried.{still_bounded}
@@ -65,10 +65,10 @@ pub record IsAnswered (p : Program) (h : HeapContents) (fr caller : Frame) (q : 
   pub running_at : method_at p fr.method ≡ Some running
   pub fit : RunsFor p method running
   pub no_reset : reset_position (method_at p named) ≡ None
-  pub no_alias : is_new t.action ≡ true → alias_position (method_at p named) ≡ None
   pub normal : exception_class p h (thrown_in fr.locals q) ≡ None → t.edge ≡ edges.Go
   pub thrown : (c : ClassId) → exception_class p h (thrown_in fr.locals q) ≡ Some c → (k : ClassId) × (t.edge ≡ edges.Throws k)
   pub makes : IsMadeBy p h t.action fr.locals.this
+  pub later : IsMadeAfter p caller.locals t.action fr.locals.this
 
 and_false : (a b : Bool) → (a && b) ≡ false → a ≡ true → b ≡ false
 and_false true b same is = same
@@ -111,7 +111,7 @@ module _ (p : Program) (ac : Accept p) (forms : HasPlainForms p) (h k : HeapCont
 
   -- ---- the object of a `new`
 
-  module _ (z x y : Object) (before : object_at h n ≡ Some z) (goes : GoesOn z x) (unmet : is_unmet y ≡ true) (made : IsFinished p at fr.locals.this t.action e n x y)
+  module _ (z x y : Object) (before : object_at h n ≡ Some z) (goes : GoesOn z x) (unmet : is_unmet y ≡ true) (made : IsFinished p at fr.locals.this t.action (method_at p named) e n x y)
       (itself : root_of k (values.Object n) ≡ Some n) where
     by_new : (m : MethodId) (d c : ℕ) → t.action ≡ actions.New m d c → IsMade p h m fr.locals.this → Tracks p k (frame_after p h caller t given) n y
     by_new m d c is object =
@@ -125,7 +125,7 @@ module _ (p : Program) (ac : Accept p) (forms : HasPlainForms p) (h k : HeapCont
         ap (λ (a : Action). answered fr.locals.this a v e) is ∙ ap (answered fr.locals.this (actions.New m d c) v) made.normal ∙ object.1 ∙ ap values.Object number in
         subst (λ (w : Value). Tracks p k (frame_after p h caller t w) n y) (sym value)
         (new_tracks p ac forms h k caller below j t there (way_of_call t answer.row) n y (values.Object n) itself m d c answer.method is (answer.normal made.normal) (at_named m (ap called_method is))
-        (sym (ap alias_position answer.named_at) ∙ answer.no_alias (ap is_new is))
+        (none_there answer.method.sig.alias (subst (λ (m' : Option Method). is_alias m' ≡ false) answer.named_at made.own))
         (heavy_by_unmet p answer.method.class y unmet within)
         (ap (λ (u : ClassId). fits p u answer.method.class) now ∙ within_self (must_of p answer.method.class))
         (ap (λ (f : Option Names). set.is_subset y.must (origin_of p kinds.New t.pos answer.method.class f).first) answer.fit.first ∙ within)

@@ -10,12 +10,13 @@ use Rattle.rlc_base.proofs.SetLaws.{within_trans}
 use Rattle.program_model.specs.declared.kinds.ClassId.{ClassId}
 use Rattle.program_model.specs.declared.kinds.MethodId.{MethodId}
 use Rattle.program_model.specs.declared.kinds.VType.{VType}
+use Rattle.program_model.specs.declared.kinds.VType.TheVariants as types
 use Rattle.program_model.specs.declared.program.Method.{Method}
 use Rattle.program_model.specs.declared.program.ParamSig.{ParamSig}
 use Rattle.program_model.specs.declared.program.Program.{Program}
 use Rattle.program_model.specs.Lookups.{method_at}
-use Rattle.must_call_sets.specs.Bodies.{constructs}
-use Rattle.must_call_sets.specs.MustCallSets.{Names, fits, must_of, must_of_type}
+use Rattle.conduct_laws.specs.Bodies.{constructs}
+use Rattle.conduct_laws.specs.MustCallSets.{Names, fits, is_empty, is_heavy_class, must_of, must_of_type}
 use Rattle.java_control.specs.Calls.{called_method, temp_at}
 use Rattle.java_control.specs.Control.{Step}
 use Rattle.java_control.specs.declared.action.Action.{Action}
@@ -24,7 +25,7 @@ use Rattle.obligation_facts.specs.Callees as callees
 use Rattle.obligation_facts.specs.Callees.{callee_in}
 use Rattle.ownership_rules.specs.MovesAtCalls.{moved_at_call}
 use Rattle.ownership_rules.specs.declared.moved.Moved.TheVariants as moves
-use Rattle.accepted_programs.specs.Accept.{Accept}
+use Rattle.parameter_fact_laws.specs.Accept.{Accept}
 use Rattle.ledger_state.specs.Contents.{HeapContents}
 use Rattle.ledger_state.specs.Heaps.{next_number, object_at, root_of, unfinished}
 use Rattle.ledger_state.specs.Locals.{temp_in, temp_value, variable_value}
@@ -34,34 +35,41 @@ use Rattle.ledger_state.specs.declared.locals.Locals.{Locals}
 use Rattle.ledger_state.specs.declared.object.Object.{Object}
 use Rattle.ledger_state.specs.declared.value.Value.TheVariants as values
 use Rattle.ledger_obligations.specs.Obligations.{is_unmet, may_move}
-use Rattle.ledger_operations.specs.Places.{class_of_method}
-use Rattle.ledger_calls.specs.Calls.{argument_values, operand_of, params_in}
-use Rattle.ledger_calls.specs.Configuration.{Frame, held_by}
-use Rattle.ledger_frames.specs.Choosing.{frame_steps}
+use Rattle.filled_field_laws.specs.Places.{class_of_method}
+use Rattle.conduct_laws.specs.Calls.{alias_position, argument_values, object_by, operand_of, params_in}
+use Rattle.conduct_laws.specs.Configuration.{Frame, held_by}
+use Rattle.content_heap_laws.specs.Choosing.{frame_steps}
 use Rattle.ledger_steps.specs.CallSteps.{began_entries, began_heap, object_of_new, self_begun, started}
 use Rattle.call_step_laws.proofs.Ways.{one_action}
-use Rattle.heap_laws.specs.Heaps.{GoesOn, HasLibraryLinks, IsGiven, KeepsLinks}
-use Rattle.heap_laws.proofs.Laws.{appended_object_at-object, moved_arguments_are_older-older, evolving_heaps-links, numbers_are_in_range, roots_go_on-root, roots_go_on-value}
-use Rattle.program_call_laws.specs.ProgramCalls.{IsNewAtStart, IsOlderAtStart}
-use Rattle.program_call_laws.proofs.Begun.{begun_count, begun_evolves, begun_from, begun_given, begun_leaks_nothing, begun_links, begun_makes}
-use Rattle.agreement.specs.Chains.{HaveEnds, IsLast}
-use Rattle.agreement.specs.Agreement.{Agrees, Awaits, IsAwaited, IsMade, IsMadeBy, IsTracked, RunsItself, RunsOnSame, Tracks, WaitsFor, is_answering}
-use Rattle.agreement.specs.PlainForms.{HasPlainForms, MayRun, RunsFor}
-use Rattle.owned_fact_laws.specs.Outcomes.{IsCallRow}
+use Rattle.library_call_laws.specs.Heaps.{GoesOn, HasEarlierLinks, IsGiven, KeepsLinks}
+use Rattle.library_call_laws.proofs.Laws.{appended_object_at-object, moved_arguments_are_given, moved_arguments_are_older-older, evolving_heaps-links, numbers_are_in_range, roots_go_on-root, roots_go_on-value}
+use Rattle.covering_laws.specs.ProgramCalls.{IsNewAtStart, IsOlderAtStart}
+use Rattle.covering_laws.proofs.Begun.{begun_count, begun_evolves, begun_from, begun_given, begun_leaks_nothing, begun_links, begun_makes}
+use Rattle.content_heap_laws.specs.Chains.{HaveEnds, IsLast}
+use Rattle.content_heap_laws.specs.Agreement.{Agrees, Awaits, IsAwaited, IsMade, IsMadeAfter, IsMadeBy, IsTracked, RunsItself, RunsOnSame, Tracks, WaitsFor, is_answering}
+use Rattle.content_heap_laws.specs.PlainForms.{HasPlainForms, MayRun, RunsFor}
+use Rattle.content_heap_laws.specs.Outcomes.{IsCallRow}
 use Rattle.soundness_laws.specs.Supports.{Supports}
+use Rattle.soundness_laws.proofs.Supporting.{not_true}
 use Rattle.target_step_laws.specs.Targets.{FindsIt}
-use Rattle.target_laws.specs.Frames.{KeepsTargets, holds_this}
-use Rattle.target_laws.proofs.Begun.{finds}
+use Rattle.thrown_value_laws.specs.Frames.{KeepsTargets, holds_this}
+use Rattle.thrown_value_laws.proofs.Begun.{finds}
 use Rattle.obligation_facts.specs.SmallActions.{IsSmallAction}
 use Rattle.covering_laws.specs.Steps.{RootsStay}
 use Rattle.covering_laws.proofs.Carried.{still_awaited, tracks_on}
-use Rattle.covering_laws.proofs.Entries.{HasBegun, argument_at, asks_nothing, entered_tracks, like_parameter}
+use Rattle.covering_laws.proofs.Entries.{HasBegun, argument_at, entered_tracks, like_parameter}
+use Rattle.covering_laws.proofs.Births.{heavy_by_unmet}
 use Rattle.covering_laws.proofs.Given.{given_argument}
+use Rattle.covering_laws.proofs.GivenArguments.{asked_of_operand}
 use Rattle.covering_laws.proofs.Chains.{IsOwnedAs, ends_on}
 use Rattle.covering_laws.proofs.Landing.{landed}
+use Rattle.thrown_value_laws.specs.PlaceFacts.{IsCovered, may_owe}
+use Rattle.thrown_value_laws.specs.Ranges.{LocalsInRange}
+use Rattle.covering_laws.proofs.Values.{operand_in_range}
+use Rattle.covering_laws.proofs.Returned.{finished_by}
 use Rattle.covering_laws.proofs.Ready.{ready, step_here}
 use Rattle.covering_laws.proofs.Stacks.{KeepsClasses, called_on, tracked_bounded, tracked_within}
-use Rattle.covering_laws.proofs.Unmet.{call_may, owner_of, may_lies, object_type_of, unmet_before, way_of_call}
+use Rattle.covering_laws.proofs.Unmet.{call_may, nothing_to_call, owner_of, may_lies, object_type_of, unmet_before, way_of_call}
 
 -- the frame of a call that the machine begins
 pub record IsStarted (p : Program) (fr callee : Frame) (h : HeapContents) (s : Step) (named runs : MethodId) : Type 0 where
@@ -84,7 +92,7 @@ first_value l d n some small =
     ap (λ (t : Bool). temp_in l (if t then Some (d + 0) else None)) (is_there d n some small) ∙ ap (temp_value l) (let same : d + 0 ≡ d = omega arith in same)
 
 module _ (p : Program) (ac : Accept p) (forms : HasPlainForms p) (fr callee : Frame) (frs : List Frame) (h : HeapContents) (es : List Entry) (agrees : Agrees p (fr ∷ frs) h es)
-    (i : ℕ) (s : Step) (here : slice_get (frame_steps p fr) i ≡ Some s) (named runs : MethodId) (start : IsStarted p fr callee h s named runs) (sup : Supports p h fr) (targets : KeepsTargets p fr) where
+    (i : ℕ) (s : Step) (here : slice_get (frame_steps p fr) i ≡ Some s) (named runs : MethodId) (start : IsStarted p fr callee h s named runs) (sup : Supports p h fr) (targets : KeepsTargets p fr) (ranges : LocalsInRange h fr.locals) (covered : IsCovered p h fr) where
   abbrev frames : List Frame
   frames = callee ∷ fr ∷ frs
 
@@ -94,7 +102,7 @@ module _ (p : Program) (ac : Accept p) (forms : HasPlainForms p) (fr callee : Fr
   from : (o : ℕ) (y : Object) → object_at heap o ≡ Some y → IsNewAtStart (method_at p named) h o y ⊎ IsOlderAtStart p fr.locals s.action (method_at p named) (length frames) h o y
   from o y at = begun_from p fr.locals s.action (method_at p named) (length frames) h agrees.links o y at
 
-  links : HasLibraryLinks heap
+  links : HasEarlierLinks heap
   links = begun_links p fr.locals s.action (method_at p named) (length frames) h agrees.links
 
   keeps_links : KeepsLinks h heap
@@ -177,11 +185,23 @@ module _ (p : Program) (ac : Accept p) (forms : HasPlainForms p) (fr callee : Fr
       let q = like.0 in
       let fit : fits p x.class type.0 ≡ true = ap (λ (u : VType). set.is_subset (must_of p x.class) (must_of_type p u)) (sym type.1) ∙ lies in
       entered_tracks p ac heap callee runs start.running (self_begun fr.locals s.action h) (argument_values fr.locals s.action (method_at p named)) start.begun
-      g.index q type.0 o y like.1 like.2 like.3 (asks_nothing start.running.sig.params.items g.index q start.fit.asks like.1 like.2)
+      g.index q type.0 o y like.1 like.2 like.3 (asked type.0 type.1 q like.1 lies unmet' at)
       (ap (λ (c : ClassId). fits p c type.0) goes.class ∙ fit)
       (ap (λ (u : Names). set.is_subset u (must_of p y.class)) goes.must ∙ ap (λ (c : ClassId). set.is_subset x.must (must_of p c)) goes.class ∙ bound)
       (root_now g.index (count g.index g.param g.at) g.root)
     where
+      -- what the parameter asks for before was called
+      asked : (c : ClassId) → g.param.vtype ≡ types.Obj c → (q : ParamSig) → slice_get start.running.sig.params.items g.index ≡ Some q → set.is_subset (must_of p x.class) (must_of_type p g.param.vtype) ≡ true → is_unmet x ≡ true
+          → slice_get start.method.sig.params.items g.index ≡ Some g.param → set.is_subset q.before y.called ≡ true
+      asked c type q q_at lies unmet' at =
+          let owes : may_owe x ≡ true = ap not (not_true (x.finished && is_empty x.must) (λ both. nothing_to_call x unmet' (and_parts x.finished (is_empty x.must) both).1)) in
+          let heavy : is_heavy_class p c ≡ true =
+          heavy_by_unmet p c x unmet' (subst (λ (t : VType). set.is_subset x.must (must_of_type p t) ≡ true) type (within_trans x.must (must_of p x.class) (must_of_type p g.param.vtype) bound lies)) in
+          let here_root : root_of h (operand_of fr.locals s.action (g.index + 1)) ≡ Some o = ap (λ (k : ℕ). root_of h (operand_of fr.locals s.action k)) (let same : g.index + 1 ≡ 1 + g.index = omega arith in same) ∙ g.root in
+          within_trans q.before g.param.before y.called (start.fit.asks g.index q g.param q_at at)
+          (within_trans g.param.before x.called y.called
+          (asked_of_operand p ac h fr agrees.standing.0 i s here start.row covered o x before (heavy_by_unmet p x.class x unmet' bound) owes start.method g.index g.param (same_callee ∙ start.named_at) at g.owning c type heavy here_root) goes.called)
+
       count : (k : ℕ) (q : ParamSig) → slice_get (params_in (method_at p named)) k ≡ Some q → k < length (params_in (method_at p named))
       count k q at = slice_get_within (params_in (method_at p named)) k q at
 
@@ -238,6 +258,21 @@ module _ (p : Program) (ac : Accept p) (forms : HasPlainForms p) (fr callee : Fr
       (begun_makes p fr.locals (actions.New m d n) start.method (length frames) h tt)))
   made_by a is = tt
 
+  -- it is made after the arguments
+  made_after : (a : Action) → s.action ≡ a → IsMadeAfter p fr.locals a (self_begun fr.locals a h)
+  made_after actions.Skip is = tt
+  made_after (actions.New m d n) is = λ k w number to. by_position k w number (alias_position (method_at p m)) to
+    where
+      by_position : (k w : ℕ) → Some (next_number h) ≡ Some k → (q : Option ℕ) → object_by (operand_of fr.locals (actions.New m d n)) q ≡ Some w → (0 < w) × (w < k)
+      by_position k w number None to = absurd (let never : None ≡ Some w = to in cc)
+      by_position k w number (Some q) to =
+          let same : next_number h ≡ k = cc in
+          let range = operand_in_range h fr.locals ranges (actions.New m d n) q w to in
+          let above = range.0 in
+          let below = range.1 in
+          (above, omega (arith, same, below))
+  made_after a is = tt
+
   -- a super constructor runs on `this`
   same_this : (a : Action) → s.action ≡ a → RunsOnSame a fr.locals.this (self_begun fr.locals a h)
   same_this actions.Skip is = tt
@@ -259,18 +294,19 @@ module _ (p : Program) (ac : Accept p) (forms : HasPlainForms p) (fr callee : Fr
     kind = ap (λ (m : MethodId). constructs (method_at p m)) start.begun.method ∙ ap constructs start.begun.named ∙ start.fit.makes ∙ sym (ap constructs start.named_at);
     on_same = subst (RunsOnSame s.action fr.locals.this) (sym start.begun.this) (same_this s.action refl);
     makes = subst (IsMadeBy p heap s.action) (sym start.begun.this) (made_by s.action refl);
+    after = subst (IsMadeAfter p fr.locals s.action) (sym start.begun.this) (made_after s.action refl);
   }
 
-  -- what the call makes is owned by no field
-  made_last : (a : Action) (o : ℕ) (x : Object) → object_at (object_of_new a (method_at p named) h) o ≡ Some x → IsLast x.owner ⊎ (object_at h o ≡ Some x)
+  -- what the call makes is owned by nobody
+  made_last : (a : Action) (o : ℕ) (x : Object) → object_at (object_of_new a (method_at p named) h) o ≡ Some x → (x.owner ≡ owners.Unowned) ⊎ (object_at h o ≡ Some x)
   made_last actions.Skip o x at = inr at
   made_last (actions.New m d n) o x at = go (method_at p named) at
     where
-      appended : (c : ClassId) (b : Bool) → nat_eq o (next_number h) ≡ b → (if b then Some (unfinished c) else object_at h o) ≡ Some x → IsLast x.owner ⊎ (object_at h o ≡ Some x)
-      appended c true here same = inl (subst (λ (z : Object). IsLast z.owner) (let one : unfinished c ≡ x = cc in one) tt)
+      appended : (c : ClassId) (b : Bool) → nat_eq o (next_number h) ≡ b → (if b then Some (unfinished c) else object_at h o) ≡ Some x → (x.owner ≡ owners.Unowned) ⊎ (object_at h o ≡ Some x)
+      appended c true here same = inl (sym (ap (λ (z : Object). z.owner) (let one : unfinished c ≡ x = cc in one)))
       appended c false here same = inr same
 
-      go : (k : Option Method) → object_at (object_of_new (actions.New m d n) k h) o ≡ Some x → IsLast x.owner ⊎ (object_at h o ≡ Some x)
+      go : (k : Option Method) → object_at (object_of_new (actions.New m d n) k h) o ≡ Some x → (x.owner ≡ owners.Unowned) ⊎ (object_at h o ≡ Some x)
       go None at' = inr at'
       go (Some k) at' = appended k.class (nat_eq o (next_number h)) refl (sym (appended_object_at-object h k.class o) ∙ at')
   made_last a o x at = inr at
@@ -278,12 +314,20 @@ module _ (p : Program) (ac : Accept p) (forms : HasPlainForms p) (fr callee : Fr
   owned : (o : ℕ) (y : Object) → object_at heap o ≡ Some y → IsOwnedAs h heap o y
   owned o y at =
       let old = moved_arguments_are_older-older p (owners.Frame (length frames)) (operand_of fr.locals s.action) 1 (params_in (method_at p named)) (object_of_new s.action (method_at p named) h) o y at in
-      elim old.owner [
+      let caused = moved_arguments_are_given p (owners.Frame (length frames)) (operand_of fr.locals s.action) 1 (params_in (method_at p named)) (object_of_new s.action (method_at p named) h) o old.before y old.at at in
+      elim caused [
         | inl same ↦ elim (made_last s.action o old.before old.at) [
-          | inl new ↦ inl (subst IsLast (sym same) new)
+          | inl none ↦ inl (subst IsLast (sym (same ∙ none)) tt, inr (same ∙ none))
           | inr was ↦ inr (inl (old.before, was, (same, old.goes_on.finished)))
         ]
-        | inr given ↦ inl (subst IsLast (sym given) tt)
+        | inr given ↦ (let done : y.finished ≡ true = old.goes_on.finished ∙ finished_by p given.param.vtype old.before given.may in
+            elim old.owner [
+              | inl same ↦ elim (made_last s.action o old.before old.at) [
+                | inl none ↦ inl (subst IsLast (sym (same ∙ none)) tt, inl done)
+                | inr was ↦ inr (inl (old.before, was, (same, old.goes_on.finished)))
+              ]
+              | inr moved ↦ inl (subst IsLast (sym moved) tt, inl done)
+            ])
       ]
 
   ends : HaveEnds heap

@@ -1,5 +1,5 @@
 -- A step within a frame: an operation, a store into a field that is not owning, or an exception.
-use Rattle.std.proofs.Common.{◌≡◌, ◌⊎◌, inl, inr, ℕ, ◌+◌, true, false, Option, Some, None, List, [], ◌∷◌, ◌++◌, slice_get, refl, sym, ap, ◌∙◌, subst, true≢false, arith}
+use Rattle.std.proofs.Common.{◌≡◌, ◌⊎◌, inl, inr, ℕ, Bool, ◌+◌, true, false, Option, Some, None, List, [], ◌∷◌, ◌++◌, slice_get, refl, sym, ap, ◌∙◌, subst, true≢false, arith}
 use Rattle.program_model.specs.declared.kinds.ClassId.{ClassId}
 use Rattle.program_model.specs.declared.kinds.FieldId.{FieldId}
 use Rattle.program_model.specs.declared.program.Method.{Method}
@@ -14,8 +14,8 @@ use Rattle.java_control.specs.declared.action.Edge.{Edge}
 use Rattle.java_control.specs.declared.action.Edge.TheVariants as edges
 use Rattle.obligation_facts.specs.Callees.{may_be_null_target}
 use Rattle.obligation_facts.specs.Facts.{PlaceSet}
-use Rattle.alias_sets.specs.Aliases.{gives_alias}
-use Rattle.accepted_programs.specs.Accept.{Accept}
+use Rattle.covered_field_laws.specs.Aliases.{gives_alias}
+use Rattle.parameter_fact_laws.specs.Accept.{Accept}
 use Rattle.ledger_state.specs.Contents.{HeapContents}
 use Rattle.ledger_state.specs.Heaps.{next_number, object_at}
 use Rattle.ledger_state.specs.Values.{number_of}
@@ -27,19 +27,19 @@ use Rattle.ledger_state.specs.declared.locals.Locals.{Locals}
 use Rattle.ledger_state.specs.declared.object.Object.{Object}
 use Rattle.ledger_state.specs.declared.value.Value.{Value}
 use Rattle.ledger_obligations.specs.Obligations.{is_unmet}
-use Rattle.ledger_calls.specs.Calls.{operand_of}
-use Rattle.ledger_calls.specs.Configuration.{Frame, held_by}
-use Rattle.ledger_frames.specs.Choosing.{frame_steps}
-use Rattle.ledger_frames.specs.Frames.{frame_after}
+use Rattle.conduct_laws.specs.Calls.{operand_of}
+use Rattle.conduct_laws.specs.Configuration.{Frame, held_by}
+use Rattle.content_heap_laws.specs.Choosing.{frame_steps}
+use Rattle.content_heap_laws.specs.Frames.{frame_after}
 use Rattle.ledger_steps.specs.declared.store.Store.{Store}
 use Rattle.ledger_steps.specs.InnerSteps.{displaced_entries, heap_stored, inner, store_entries, store_into, store_of, store_unless, thrown_heap}
 use Rattle.rlc_base.proofs.SetLaws.{within_self}
-use Rattle.heap_laws.specs.Heaps.{GoesOn, HasLibraryLinks, KeepsLinks}
-use Rattle.agreement.specs.Chains.{HaveEnds, IsLast}
-use Rattle.agreement.specs.Agreement.{Agrees, IsTracked, Stands, Tracks, is_answering}
-use Rattle.agreement.specs.PlainForms.{HasPlainForms, IsPlainAction}
-use Rattle.owned_fact_laws.specs.Outcomes.{IsCallRow, IsPlainRow}
-use Rattle.content_laws.specs.Nexts.{IsNullCall, IsPlainStep}
+use Rattle.library_call_laws.specs.Heaps.{GoesOn, HasEarlierLinks, KeepsLinks}
+use Rattle.content_heap_laws.specs.Chains.{HaveEnds, IsLast}
+use Rattle.content_heap_laws.specs.Agreement.{Agrees, IsTracked, Stands, Tracks, is_answering}
+use Rattle.content_heap_laws.specs.PlainForms.{HasPlainForms, IsPlainAction}
+use Rattle.content_heap_laws.specs.Outcomes.{IsCallRow, IsPlainRow}
+use Rattle.filled_field_laws.specs.Nexts.{IsNullCall, IsPlainStep}
 use Rattle.covering_laws.specs.Steps.{RootsStay}
 use Rattle.covering_laws.proofs.CallNames.{operand_of_fact, receiver_operand}
 use Rattle.covering_laws.proofs.KnownNames.{known_after_call}
@@ -48,8 +48,8 @@ use Rattle.soundness_laws.proofs.KeptPromises.{null_target_promises}
 use Rattle.covering_laws.proofs.Chains.{ends_on}
 use Rattle.covering_laws.proofs.Landing.{landed}
 use Rattle.library_call_laws.proofs.Counts.{thrown_count}
-use Rattle.heap_laws.proofs.Laws.{roots_go_on-value}
-use Rattle.library_call_laws.proofs.Laws.{exceptions_are_the_librarys, exceptions_keep_links-evolves}
+use Rattle.library_call_laws.proofs.Laws.{roots_go_on-value}
+use Rattle.library_call_laws.proofs.Laws.{exceptions_are_the_librarys, exceptions_keep_links-evolves, unfinished_objects_stay_unowned-exception}
 use Rattle.covering_laws.proofs.Stacks.{KeepsClasses, called_on}
 use Rattle.covering_laws.proofs.Unmet.{way_of_call}
 use Rattle.covering_laws.proofs.Moving.{moved_is_given}
@@ -131,7 +131,7 @@ module _ (p : Program) (ac : Accept p) (forms : HasPlainForms p) (fr : Frame) (f
   was_there : (o : ℕ) (y : Object) → object_at heap o ≡ Some y → (object_at h o ≡ Some y) ⊎ ((o ≡ next_number h) × (y.owner ≡ owners.Library) × (y.link ≡ None))
   was_there o y at = exceptions_are_the_librarys p e h o y (sym (plain_stored p (method_at p fr.method) fr.locals store (thrown_heap p e h) o is_plain) ∙ at)
 
-  links : HasLibraryLinks heap
+  links : HasEarlierLinks heap
   links o y l at link = elim (was_there o y at) [
     | inl old ↦ agrees.links o y l old link
     | inr new ↦ absurd (let never : None ≡ Some l = sym new.2 ∙ link in cc)
@@ -184,7 +184,12 @@ module _ (p : Program) (ac : Accept p) (forms : HasPlainForms p) (fr : Frame) (f
   }
 
   ends : HaveEnds heap
-  ends = ends_on h heap agrees.ends keeps.count (λ o y at. elim (was_there o y at) [ inl old ↦ inr (inl (y, old, (refl, refl))) | inr new ↦ inl (subst IsLast (sym new.1) tt) ])
+  ends = ends_on h heap agrees.ends keeps.count (λ o y at. elim (was_there o y at) [ inl old ↦ inr (inl (y, old, (refl, refl))) | inr new ↦ inl (subst IsLast (sym new.1) tt, by_finished o y at y.finished refl) ])
+    where
+      by_finished : (o : ℕ) (y : Object) → object_at heap o ≡ Some y → (b : Bool) → y.finished ≡ b → (y.finished ≡ true) ⊎ (y.owner ≡ owners.Unowned)
+      by_finished o y at true made = inl made
+      by_finished o y at false unmade = inr (agrees.ends.unfinished o y
+          (unfinished_objects_stay_unowned-exception p e h o y (sym (plain_stored p (method_at p fr.method) fr.locals store (thrown_heap p e h) o is_plain) ∙ at) unmade) unmade)
 
   pub inner_agrees : Stands p after
       → Agrees p (after ∷ frs) (inner p h fr.method fr.locals e s.action s.pos (held_by (after ∷ frs))).heap

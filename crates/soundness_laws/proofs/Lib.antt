@@ -5,6 +5,8 @@ pub mod PlainPrograms
 pub mod KeptPromises
 pub mod InnerSteps
 pub mod StoreSteps
+pub mod OwnedFacts
+pub mod StoredFacts
 pub mod LibrarySteps
 pub mod CallStarts
 pub mod Answered
@@ -16,3 +18,4 @@ pub mod PromisedOperands
 pub mod Starts
 pub mod Safe
 pub mod Runs
+pub use Rattle.filled_field_laws.proofs.Storing

@@ -8,17 +8,18 @@ use Rattle.program_model.specs.declared.kinds.MethodId.{MethodId}
 use Rattle.program_model.specs.declared.program.Method.{Method}
 use Rattle.program_model.specs.declared.program.Program.{Program}
 use Rattle.program_model.specs.Lookups.{method_at}
-use Rattle.must_call_sets.specs.Bodies.{alias_in}
-use Rattle.must_call_sets.specs.WellFormed.{HasSmallInterests}
+use Rattle.conduct_laws.specs.Bodies.{alias_in}
+use Rattle.conduct_laws.specs.WellFormed.{HasSmallInterests}
 use Rattle.java_control.specs.Calls.{called_method}
 use Rattle.java_control.specs.Control.{Step}
 use Rattle.java_control.specs.declared.action.Action.{Action}
 use Rattle.java_control.specs.declared.action.Action.TheVariants as actions
 use Rattle.java_control.specs.declared.action.Edge.TheVariants as edges
 use Rattle.obligation_facts.specs.Callees.{callee, callee_in}
-use Rattle.called_methods.specs.CalledRows.{holds_receiver, interest_in, promises_at}
-use Rattle.accepted_programs.specs.Accept.{Accept}
-use Rattle.alias_sets.specs.Aliases.{gives_alias}
+use Rattle.parameter_fact_laws.specs.CalledRows.{holds_receiver, interest_in, promises_at}
+use Rattle.parameter_fact_laws.specs.Accept.{Accept}
+use Rattle.covered_field_laws.specs.Aliases.{gives_alias}
+use Rattle.conduct_laws.specs.MustCallSets.{is_heavy_class}
 use Rattle.stub_conduct.specs.declared.choice.Choice.{Choice}
 use Rattle.stub_conduct.specs.declared.choice.Conduct.{Conduct}
 use Rattle.stub_conduct.specs.declared.choice.Conduct.TheVariants as conducts
@@ -31,23 +32,24 @@ use Rattle.ledger_state.specs.declared.entry.Owner.TheVariants as owners
 use Rattle.ledger_state.specs.declared.object.Object.{Object}
 use Rattle.ledger_state.specs.declared.value.Value.{Value}
 use Rattle.ledger_state.specs.declared.value.Value.TheVariants as values
-use Rattle.ledger_obligations.specs.Obligations.{has_note, is_unmet, note}
-use Rattle.ledger_calls.specs.Calls.{alias_position, params_in, position_object, position_of, receiver_note, reset_position}
-use Rattle.ledger_calls.specs.Configuration.{Frame, held_by}
-use Rattle.ledger_calls.specs.Conducts.{conduct_value, on_this, owning_in, positions, result_owner, settled}
-use Rattle.ledger_frames.specs.Choosing.{frame_steps}
-use Rattle.ledger_frames.specs.Frames.{frame_after}
+use Rattle.ledger_obligations.specs.Obligations.{has_note, is_library_method, is_unmet, note}
+use Rattle.conduct_laws.specs.Calls.{alias_position, form_of, operand_of, params_in, position_object, position_of, receiver_note, reset_position, running}
+use Rattle.filled_field_laws.specs.Moves.{fits_target}
+use Rattle.conduct_laws.specs.Configuration.{Frame, held_by}
+use Rattle.conduct_laws.specs.Conducts.{conduct_value, on_this, owning_in, positions, result_owner, settled}
+use Rattle.content_heap_laws.specs.Choosing.{frame_steps}
+use Rattle.content_heap_laws.specs.Frames.{frame_after}
 use Rattle.ledger_steps.specs.CallSteps.{library_done, library_entries, library_heap}
-use Rattle.heap_laws.specs.Heaps.{GoesOn, HasLibraryLinks, IsOlder, KeepsLinks}
-use Rattle.place_laws.specs.Places.{IsWay}
-use Rattle.agreement.specs.Chains.{HaveEnds, IsLast}
-use Rattle.agreement.specs.Agreement.{Agrees, IsTracked, Stands, Tracks, is_answering}
-use Rattle.agreement.specs.PlainForms.{HasPlainForms, IsPlainAction, IsPlainSignature}
+use Rattle.library_call_laws.specs.Heaps.{GoesOn, HasEarlierLinks, IsOlder, KeepsLinks}
+use Rattle.parameter_fact_laws.specs.Places.{IsWay}
+use Rattle.content_heap_laws.specs.Chains.{HaveEnds, IsLast}
+use Rattle.content_heap_laws.specs.Agreement.{Agrees, IsTracked, Stands, Tracks, is_answering}
+use Rattle.content_heap_laws.specs.PlainForms.{HasPlainForms, IsPlainAction, IsPlainSignature}
 use Rattle.conduct_laws.specs.Fitting.{FitsMethod}
-use Rattle.heap_laws.proofs.Laws.{evolving_heaps-links, roots_go_on-value, roots_of_links-itself}
-use Rattle.heap_laws.proofs.RootLaws.{has_object}
-use Rattle.library_call_laws.specs.LibraryCalls.{IsAliasMadeAs, IsAliasOf, IsMadeAs}
-use Rattle.owned_fact_laws.specs.Outcomes.{IsCallRow, IsPlainRow}
+use Rattle.library_call_laws.proofs.Laws.{evolving_heaps-links, roots_go_on-value, roots_of_links-itself}
+use Rattle.library_call_laws.proofs.RootLaws.{has_object}
+use Rattle.library_call_laws.specs.LibraryCalls.{HasSmallInterest, IsAliasMadeAs, IsAliasOf, IsMadeAs}
+use Rattle.content_heap_laws.specs.Outcomes.{IsCallRow, IsPlainRow}
 use Rattle.obligation_facts.specs.SmallActions.{IsSmallAction}
 use Rattle.ownership_rules.specs.MovesAtCalls.{moved_at_call}
 use Rattle.ownership_rules.specs.declared.moved.Moved.TheVariants as moves
@@ -55,11 +57,14 @@ use Rattle.ledger_state.specs.declared.locals.Locals.{Locals}
 use Rattle.java_control.specs.declared.action.Edge.{Edge}
 use Rattle.covering_laws.specs.Steps.{IsTrueTest, RootsStay, is_super}
 use Rattle.covering_laws.proofs.AliasRoots.{OperandsAreThere, library_alias}
-use Rattle.covering_laws.proofs.Births.{made_tracks}
-use Rattle.content_laws.specs.Nexts.{IsConstantRead}
-use Rattle.place_facts.specs.Ranges.{LocalsInRange}
+use Rattle.covering_laws.proofs.Births.{heavy_by_unmet, made_tracks}
+use Rattle.covering_laws.proofs.LibraryNames.{library_name_goes_on}
+use Rattle.content_heap_laws.proofs.Goes.{unmet_owes}
+use Rattle.thrown_value_laws.specs.FieldContents.{LinksLead}
+use Rattle.filled_field_laws.specs.Nexts.{IsConstantRead}
+use Rattle.thrown_value_laws.specs.Ranges.{LocalsInRange}
 use Rattle.covering_laws.proofs.Values.{operand_in_range}
-use Rattle.covering_laws.proofs.CallNames.{noted_receiver, operand_of_fact, small_name}
+use Rattle.covering_laws.proofs.CallNames.{noted_receiver, operand_of_fact, same_interest, small_name}
 use Rattle.covering_laws.proofs.KnownNames.{AreKept, known_after_call}
 use Rattle.covering_laws.proofs.LocalSteps.{resets_nothing}
 use Rattle.soundness_laws.proofs.KeptPromises.{library_promises_kept}
@@ -67,9 +72,9 @@ use Rattle.covering_laws.proofs.Unmet.{unmet_before, way_of_call}
 use Rattle.covering_laws.proofs.Stacks.{KeepsClasses, called_on}
 use Rattle.covering_laws.proofs.Given.{given_argument}
 use Rattle.library_call_laws.proofs.Counts.{library_count}
-use Rattle.covering_laws.proofs.Chains.{IsOwnedAs, ends_on}
+use Rattle.covering_laws.proofs.Chains.{IsLastOwned, IsOwnedAs, ends_on}
 use Rattle.covering_laws.proofs.Landing.{landed}
-use Rattle.library_call_laws.proofs.Laws.{given_arguments_stay_given, library_aliases_are_older_or_made, library_calls_leak_nothing, library_links_stay, library_objects_are_older_or_made, library_objects_go_on, receiver_is_called}
+use Rattle.library_call_laws.proofs.Laws.{given_arguments_stay_given, library_aliases_are_older_or_made, library_calls_leak_nothing, library_links_stay, library_objects_are_older_or_made, library_objects_go_on, receiver_is_called, unfinished_objects_stay_unowned-call}
 use Rattle.covering_laws.proofs.Ready.{plain_step, ready}
 use Rattle.covering_laws.proofs.Tracking.{stack_tracks, tracks_call, tracks_plain}
 
@@ -125,12 +130,14 @@ pub record IsLibraryStep (p : Program) (h : HeapContents) (arrays : List ArrayOb
   pub thrown : (e : ClassId) → d ≡ conducts.Throws e → (c : ClassId) × (s.edge ≡ edges.Throws c)
   pub normal : ((e : ClassId) → d ≡ conducts.Throws e → ⊥) → s.edge ≡ edges.Go
   pub by : (choice : Choice) × (d ≡ on_this s.action (settled p h arrays named choice (position_of None l s.action)))
+  pub ran : called_method s.action ≡ Some named → (is_library_method p (method_at p (running p h l s.action named)) ≡ true)
+      × (fits_target p h arrays (method_at p named) (form_of s.action) (operand_of l s.action 0) ≡ true)
   pub count : ℕ
   pub value : v ≡ conduct_value count (method_at p named) (positions l s.action (next_number h) d) (next_number h) d
 
 module _ (p : Program) (ac : Accept p) (forms : HasPlainForms p) (names : HasSmallInterests p) (fr : Frame) (frs : List Frame) (h : HeapContents)
     (es : List Entry) (agrees : Agrees p (fr ∷ frs) h es) (i : ℕ) (s : Step) (here : slice_get (frame_steps p fr) i ≡ Some s) (named : MethodId) (d : Conduct) (v : Value)
-    (arrays : List ArrayObject) (step : IsLibraryStep p h arrays fr.locals s named d v) (ranges : LocalsInRange h fr.locals) where
+    (arrays : List ArrayObject) (step : IsLibraryStep p h arrays fr.locals s named d v) (ranges : LocalsInRange h fr.locals) (led : LinksLead p h) where
   abbrev after : Frame
   after = frame_after p h fr s v
 
@@ -161,7 +168,7 @@ module _ (p : Program) (ac : Accept p) (forms : HasPlainForms p) (names : HasSma
   there : OperandsAreThere h fr.locals s.action
   there k w number = operand_in_range h fr.locals ranges s.action k w number
 
-  links : HasLibraryLinks heap
+  links : HasEarlierLinks heap
   links = library_links_stay p fr.locals s.action (method_at p named) (method_at p named) d (length frs + 1) h agrees.links no_reset (λ k w alias number. there k w number)
 
   keeps_links : KeepsLinks h heap
@@ -229,17 +236,29 @@ module _ (p : Program) (ac : Accept p) (forms : HasPlainForms p) (names : HasSma
     same_callee : callee p s.action ≡ method_at p named
     same_callee = ap (callee_in p) called
 
+    was_unmet : is_unmet x ≡ true
+    was_unmet = unmet_before x y goes unmet
+
+    heavy : is_heavy_class p x.class ≡ true
+    heavy = heavy_by_unmet p x.class x was_unmet t.follows.bounded
+
+    few : HasSmallInterest (method_at p named)
+    few n is = small_name p s.action n names (ap interest_in same_callee ∙ sym (same_interest (method_at p named)) ∙ is)
+
+    -- the name of the call goes on from its receiver to the object
     noted : (n : NameId) → holds_receiver s.action t.fact.places ≡ true → interest_in (callee p s.action) ≡ Some n → set.contains y.called n.0 ≡ true
     noted n held interest =
         let is = noted_receiver p ac h fr.method fr.locals s.action o t.fact.places n form small t.follows.places held interest in
         let first = has_object h is.object o x is.root before in
-        receiver_is_called p fr.locals s.action (method_at p named) (method_at p named) d (length frs + 1) h (note false is.object n) first.0 y agrees.links no_reset
-        (subst (λ (m : Option Method). has_note (receiver_note fr.locals s.action m) (note false is.object n) ≡ true) same_callee is.noted)
-        (small_name p s.action n names interest) first.1 (ap (object_at heap) is.root ∙ now)
+        let leads = led is.object o first.0 x first.1 is.root before heavy (unmet_owes x was_unmet) in
+        let has = subst (λ (m : Option Method). has_note (receiver_note fr.locals s.action m) (note false is.object n) ≡ true) same_callee is.noted in
+        let ran = step.ran called in
+        receiver_is_called p fr.locals s.action (method_at p named) (method_at p named) d (length frs + 1) h (note false is.object n) o first.0 y agrees.links few no_reset has first.1
+        (library_name_goes_on p ac forms h arrays fr.locals s.action named ran.0 ran.1 is.object n first.0 has first.1 o leads) leads now
 
     kept : AreKept p st.number s.action t.fact.places y.called (promises_at p s.action s.edge)
-    kept = library_promises_kept p ac h agrees.links fr.method fr.locals s.action named d (length frs + 1) no_reset small t.fact.places o t.follows.places x y before now st.number s.edge same_callee
-        step.thrown step.normal
+    kept = library_promises_kept p ac h agrees.links led fr.method fr.locals s.action named d (length frs + 1) no_reset small t.fact.places o t.follows.places x y before heavy (unmet_owes x was_unmet) now
+        st.number s.edge same_callee step.thrown step.normal
 
     stays : moved_at_call p t.origin s.action s.edge t.fact ≡ moves.Moves → ⊥
     stays moved =
@@ -369,16 +388,25 @@ module _ (p : Program) (ac : Accept p) (forms : HasPlainForms p) (names : HasSma
   alias_last y k (conducts.Value z) made = absurd made
   alias_last y k conducts.Nothing made = absurd made
 
-  owned : (o : ℕ) (y : Object) → IsOlder h o y owners.Library ⊎ IsMade o y → IsOwnedAs h heap o y
-  owned o y (inl old) = elim old.owner [
+  -- nobody owns what is not finished
+  last_owned : (o : ℕ) (y : Object) → object_at heap o ≡ Some y → IsLast y.owner → IsLastOwned y
+  last_owned o y at last = (last, go y.finished refl)
+    where
+      go : (b : Bool) → y.finished ≡ b → (y.finished ≡ true) ⊎ (y.owner ≡ owners.Unowned)
+      go true made = inl made
+      go false unmade =
+          inr (unfinished_objects_stay_unowned-call p fr.locals s.action (method_at p named) (method_at p named) d (length frs + 1) h o y no_reset agrees.ends.unfinished at unmade)
+
+  owned : (o : ℕ) (y : Object) → object_at heap o ≡ Some y → IsOlder h o y owners.Library ⊎ IsMade o y → IsOwnedAs h heap o y
+  owned o y at (inl old) = elim old.owner [
     | inl same ↦ inr (inl (old.before, old.at, (same, old.goes_on.finished)))
-    | inr given ↦ inl (subst IsLast (sym given) tt)
+    | inr given ↦ inl (last_owned o y at (subst IsLast (sym given) tt))
   ]
-  owned o y (inr (here', inl plain)) = inl (made_last y d plain.1)
-  owned o y (inr (here', inr alias)) = inl (alias_last y alias.0 d alias.2)
+  owned o y at (inr (here', inl plain)) = inl (last_owned o y at (made_last y d plain.1))
+  owned o y at (inr (here', inr alias)) = inl (last_owned o y at (alias_last y alias.0 d alias.2))
 
   ends : HaveEnds heap
-  ends = ends_on h heap agrees.ends keeps.count (λ o y at. owned o y (was_there o y at))
+  ends = ends_on h heap agrees.ends keeps.count (λ o y at. owned o y at (was_there o y at))
 
   pub library_agrees : Stands p after
       → Agrees p (after ∷ frs) (library_done p h fr.locals s.action (method_at p named) (method_at p named) d (length frs + 1) s.pos (held_by (after ∷ frs))).heap

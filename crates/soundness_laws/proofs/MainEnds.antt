@@ -8,15 +8,15 @@ use Rattle.program_model.specs.declared.program.Program.{Program}
 use Rattle.program_model.specs.declared.tree.Body.{Body}
 use Rattle.program_model.specs.Lookups.{method_at}
 use Rattle.rlc_base.specs.declared.place.Pos.{Pos}
-use Rattle.must_call_sets.specs.Bodies.{method_in}
+use Rattle.conduct_laws.specs.Bodies.{method_in}
 use Rattle.java_control.specs.Control.{Step}
 use Rattle.java_control.specs.declared.action.Action.{Action}
 use Rattle.java_control.specs.declared.action.Action.TheVariants as actions
 use Rattle.java_control.specs.declared.action.Completion.{Completion}
 use Rattle.ownership_rules.specs.MovesAtReturns.{result_in, result_type}
-use Rattle.flow_rules.specs.Flow.{flow}
-use Rattle.accepted_programs.specs.Accept.{Accept}
-use Rattle.flow_rules.specs.Paths.{Reach, move_of, relation_of}
+use Rattle.named_step_laws.specs.Flow.{flow}
+use Rattle.parameter_fact_laws.specs.Accept.{Accept}
+use Rattle.named_step_laws.specs.Paths.{Reach, move_of, relation_of}
 use Rattle.ledger_state.specs.Contents.{HeapContents}
 use Rattle.ledger_state.specs.Heaps.{object_at}
 use Rattle.ledger_state.specs.declared.entry.Entry.{Entry}
@@ -25,20 +25,20 @@ use Rattle.ledger_state.specs.declared.entry.Owner.{Owner}
 use Rattle.ledger_state.specs.declared.entry.Owner.TheVariants as owners
 use Rattle.ledger_state.specs.declared.object.Object.{Object}
 use Rattle.ledger_obligations.specs.Obligations.{end_frame, given_up, given_up_by_frame, is_frame, is_unmet}
-use Rattle.ledger_calls.specs.Configuration.{Frame}
-use Rattle.ledger_frames.specs.Choosing.{body_id, frame_steps}
+use Rattle.conduct_laws.specs.Configuration.{Frame}
+use Rattle.content_heap_laws.specs.Choosing.{body_id, frame_steps}
 use Rattle.ledger_steps.specs.Ends.{main_gone}
 use Rattle.ledger_state.specs.Leaks.{is_leak}
-use Rattle.heap_laws.specs.Heaps.{HasLibraryLinks}
-use Rattle.agreement.specs.Chains.{HaveEnds, IsLast}
-use Rattle.agreement.specs.Agreement.{Agrees, Stands, Tracks}
-use Rattle.owned_fact_laws.specs.Outcomes.{IsFault}
-use Rattle.owned_fact_laws.proofs.Ends.{end_row, result_stays}
-use Rattle.owned_fact_laws.proofs.OwedFacts.{owed}
+use Rattle.library_call_laws.specs.Heaps.{HasEarlierLinks}
+use Rattle.content_heap_laws.specs.Chains.{HaveEnds, IsLast}
+use Rattle.content_heap_laws.specs.Agreement.{Agrees, Stands, Tracks}
+use Rattle.content_heap_laws.specs.Outcomes.{IsFault}
+use Rattle.content_heap_laws.proofs.Ends.{end_row, result_stays}
+use Rattle.content_heap_laws.proofs.OwedFacts.{owed}
 use Rattle.covering_laws.proofs.Following.{breaks_nothing}
-use Rattle.covering_laws.proofs.Chains.{IsOwnedAs, ends_on, given_up_last}
+use Rattle.covering_laws.proofs.Chains.{IsOwnedAs, ends_on, given_up_last, owned_is_finished}
 use Rattle.covering_laws.proofs.Landing.{no_leak_in_both}
-use Rattle.heap_laws.proofs.Laws.{changed_object_at-count, changed_object_at-object, end_of_frame_leaks_nothing, links_stay-frame}
+use Rattle.library_call_laws.proofs.Laws.{changed_object_at-count, changed_object_at-object, end_of_frame_leaks_nothing, links_stay-frame}
 use Rattle.covering_laws.proofs.Ready.{step_there}
 use Rattle.covering_laws.proofs.Tracking.{same_body}
 
@@ -95,7 +95,7 @@ module _ (p : Program) (ac : Accept p) (fr : Frame) (h : HeapContents) (es : Lis
         | inr same ↦ was.1 ∙ ap Some (sym same)
       ]
 
-  links : HasLibraryLinks heap
+  links : HasEarlierLinks heap
   links = links_stay-frame 1 h agrees.links
 
   no_frame : (o : ℕ) (y : Object) (j : ℕ) → object_at h o ≡ Some y → is_unmet y ≡ true → y.owner ≡ owners.Frame j → ⊥
@@ -109,7 +109,10 @@ module _ (p : Program) (ac : Accept p) (fr : Frame) (h : HeapContents) (es : Lis
   ends = ends_on h heap agrees.ends (let same = changed_object_at-count (given_up_by_frame 1) h in omega (arith, same)) (λ o y at. owned o y (was_there o y at))
     where
       owned : (o : ℕ) (y : Object) → (x : Object) × (object_at h o ≡ Some x) × (((is_frame x.owner 1 ≡ true) × (y ≡ given_up x)) ⊎ (y ≡ x)) → IsOwnedAs h heap o y
-      owned o y (x, before, inl gone) = inl (subst (λ (z : Object). IsLast z.owner) (sym gone.1) (given_up_last x))
+      owned o y (x, before, inl gone) = inl (
+        subst (λ (z : Object). IsLast z.owner) (sym gone.1) (given_up_last x),
+        inl (ap (λ (z : Object). z.finished) gone.1 ∙ owned_is_finished h agrees.ends o x (λ w. is_frame w 1) refl before gone.0),
+      )
       owned o y (x, before, inr same) = inr (inl (x, before, (ap (λ (z : Object). z.owner) same, ap (λ (z : Object). z.finished) same)))
 
   pub main_agrees : (pos : Pos) → Agrees p [] (main_gone p h pos).heap (es ++ (main_gone p h pos).lines)

@@ -7,27 +7,29 @@ use Rattle.program_model.specs.declared.program.Field.{Field}
 use Rattle.program_model.specs.declared.program.Method.{Method}
 use Rattle.program_model.specs.declared.program.Program.{Program}
 use Rattle.program_model.specs.Lookups.{field_at, method_at}
-use Rattle.program_model.specs.Overrides.{is_library}
 use Rattle.program_model.specs.SuperTests.{is_class}
-use Rattle.must_call_sets.specs.Bodies.{alias_in, constructs, is_class_of, is_field_in, method_in, method_of}
+use Rattle.conduct_laws.specs.Bodies.{constructs, is_class_of, is_field_in, method_in, method_of}
 use Rattle.java_control.specs.Calls.{called_method}
 use Rattle.java_control.specs.declared.action.Action.{Action}
 use Rattle.java_control.specs.declared.action.Action.TheVariants as actions
-use Rattle.accepted_programs.specs.Accept.{Accept}
-use Rattle.flow_rules.specs.Paths.{move_of}
+use Rattle.parameter_fact_laws.specs.Accept.{Accept}
+use Rattle.named_step_laws.specs.Paths.{move_of}
 use Rattle.ledger_state.specs.Contents.{HeapContents}
 use Rattle.ledger_state.specs.Heaps.{object_at}
 use Rattle.ledger_state.specs.declared.object.Object.{Object}
 use Rattle.ledger_state.specs.declared.value.Value.TheVariants as values
-use Rattle.ledger_operations.specs.Places.{class_of_method}
-use Rattle.ledger_calls.specs.Calls.{body_of}
-use Rattle.ledger_calls.specs.Configuration.{Frame}
-use Rattle.program_call_laws.specs.ProgramCalls.{is_new}
-use Rattle.agreement.specs.Agreement.{AllStand, IsCalledFrom, IsMade, IsMadeBy, RunsItself, RunsOnSame, Stands, WaitsFor}
-use Rattle.agreement.specs.PlainForms.{AliasesPlainly, HasPlainForms, IsPlainCall, IsPlainSignature, RunsFor, calls_constructor}
+use Rattle.filled_field_laws.specs.Places.{class_of_method}
+use Rattle.conduct_laws.specs.Calls.{body_of}
+use Rattle.conduct_laws.specs.Configuration.{Frame}
+use Rattle.covering_laws.specs.ProgramCalls.{is_new}
+use Rattle.content_heap_laws.specs.Agreement.{AllStand, IsCalledFrom, IsMade, IsMadeBy, RunsItself, RunsOnSame, Stands, WaitsFor}
+use Rattle.ledger_state.specs.Fields.{field_value}
+use Rattle.filled_field_laws.specs.Filled.{AreFilled}
+use Rattle.content_heap_laws.specs.PlainForms.{HasPlainForms, IsPlainCall, IsPlainSignature, RunsFor, calls_constructor}
 use Rattle.named_step_laws.specs.Naming.{IsOfItsKind}
 use Rattle.named_step_laws.proofs.Reached.{names_what_is_there}
-use Rattle.content_laws.proofs.Cases.{none_runs}
+use Rattle.filled_field_laws.proofs.Cases.{none_runs}
+use Rattle.filled_field_laws.proofs.Stores.{IsAliasForm, own_alias_form}
 use Rattle.covering_laws.proofs.Ready.{plain_call, plain_step, step_there}
 use Rattle.covering_laws.proofs.Unmet.{row_of}
 use Rattle.soundness_laws.proofs.Programs.{is_programs}
@@ -108,28 +110,10 @@ module _ (p : Program) (ac : Accept p) (forms : HasPlainForms p) where
             absurd (true≢false (sym names_new ∙ sym (ap (λ (k : MethodId). constructs (method_at p k)) one) ∙ subst (IsOfItsKind p) is kind))
         go a is = absurd (no_call w.named (ap called_method (sym is) ∙ w.calls))
 
-    -- so it has no aliased argument
-    pub constructor_no_alias : alias_in (method_at p fr.method) ≡ None
-    constructor_no_alias = elim aliases [
-      | inl none ↦ here none
-      | inr more ↦ elim more [
-        | inl library ↦ absurd (true≢false (sym library ∙ ap (λ (m : Method). is_library p m.class) one ∙ is_programs p ac fr.method run.running st.number run.running_at st.id))
-        | inr other ↦ absurd (true≢false (sym names_new ∙ ap constructs run.named_at ∙ other))
-      ]
-    ]
-      where
-        run : IsRunBelow p fr w.named
-        run = run_below h fr caller st below w
-
-        aliases : AliasesPlainly p run.method
-        aliases = (subst (IsPlainSignature p) run.named_at
-            (plain_call p w.step.action w.named (plain_step p ac forms caller below w.index w.step w.here) (row_of w.step.action w.named w.calls) w.calls).signature).0
-
-        one : run.method ≡ run.running
-        one = let both : Some run.method ≡ Some run.running = sym run.named_at ∙ ap (method_at p) (sym begun_by.0) ∙ run.running_at in (let same : run.method ≡ run.running = cc in same)
-
-        here : run.method.sig.alias ≡ None → alias_in (method_at p fr.method) ≡ None
-        here none = ap alias_in run.running_at ∙ ap (λ (m : Method). m.sig.alias) (sym one) ∙ none
+    -- so its aliased argument is that of a parameter, if it has one
+    pub constructor_alias : IsAliasForm (method_at p fr.method)
+    constructor_alias = own_alias_form p ac fr st new (subst (λ (m : MethodId). IsPlainSignature p (method_at p m)) (sym begun_by.0)
+        (plain_call p w.step.action w.named (plain_step p ac forms caller below w.index w.step w.here) (row_of w.step.action w.named w.calls) w.calls).signature)
 
   -- the method that runs for a `new` is a constructor
   pub new_constructs : (h : HeapContents) (fr caller : Frame) (below : Stands p caller) (w : WaitsFor p h caller fr) → is_new w.step.action ≡ true → constructs (method_at p fr.method) ≡ true
@@ -158,12 +142,12 @@ module _ (p : Program) (ac : Accept p) (forms : HasPlainForms p) where
           let none = forms.parents rest.0.number called.0.index (move_of called.0.step) called.0.named f x rest.0.control (step_there p caller rest.0 called.0.index called.0.step called.0.here) super called.0.calls at owning in
           absurd (true≢false (sym class ∙ ap (λ (m : MethodId). is_class_of x.class (method_at p m)) itself ∙ none))
 
-  -- a constructor of the object of a class with owning fields is one of the class itself
+  -- a constructor of an object whose owning field holds an object is one of the class that declares the field
   pub class_of_maker : (h : HeapContents) (fr : Frame) (frs : List Frame) → Stands p fr → AllStand p frs → IsCalledFrom p h fr frs → constructs (method_at p fr.method) ≡ true
-      → (w : ℕ) (y : Object) (f : FieldId) (x : Field) → fr.locals.this ≡ values.Object w → object_at h w ≡ Some y → field_at p f ≡ Some x → x.owning ≡ true → y.class ≡ x.class
-      → is_class_of x.class (method_at p fr.method) ≡ true
-  class_of_maker h fr [] st rest called new w y f x this there at owning class = absurd (true≢false (sym new ∙ called.1))
-  class_of_maker h fr (caller ∷ frs) st rest called new w y f x this there at owning class =
+      → (w c : ℕ) (y : Object) (f : FieldId) (x : Field) → fr.locals.this ≡ values.Object w → object_at h w ≡ Some y → field_at p f ≡ Some x → x.owning ≡ true → y.class ≡ x.class
+      → field_value p h w f ≡ values.Object c → AreFilled p h frs → is_class_of x.class (method_at p fr.method) ≡ true
+  class_of_maker h fr [] st rest called new w c y f x this there at owning class value filled = absurd (true≢false (sym new ∙ called.1))
+  class_of_maker h fr (caller ∷ frs) st rest called new w c y f x this there at owning class value filled =
       go (begun_by h fr caller st rest.0 called.0 new) (class_of_maker h caller frs rest.0 rest.1 called.1)
     where
       of_class : (m : Option Method) → class_of_method m ≡ Some x.class → is_class_of x.class m ≡ true
@@ -171,8 +155,8 @@ module _ (p : Program) (ac : Accept p) (forms : HasPlainForms p) where
       of_class (Some m) is = let same : m.class ≡ x.class = cc in ap (λ (c : ClassId). is_class x.class c) same ∙ eq-eqb x.class.0 x.class.0 refl
 
       go : IsBegun p h fr caller called.0.step.action called.0.named
-          → (constructs (method_at p caller.method) ≡ true → (w : ℕ) (y : Object) (f : FieldId) (x : Field) → caller.locals.this ≡ values.Object w → object_at h w ≡ Some y
-          → field_at p f ≡ Some x → x.owning ≡ true → y.class ≡ x.class → is_class_of x.class (method_at p caller.method) ≡ true)
+          → (constructs (method_at p caller.method) ≡ true → (w c : ℕ) (y : Object) (f : FieldId) (x : Field) → caller.locals.this ≡ values.Object w → object_at h w ≡ Some y
+          → field_at p f ≡ Some x → x.owning ≡ true → y.class ≡ x.class → field_value p h w f ≡ values.Object c → AreFilled p h frs → is_class_of x.class (method_at p caller.method) ≡ true)
           → is_class_of x.class (method_at p fr.method) ≡ true
       go (itself, inl made) further =
           let one : made.0 ≡ w = (let same : values.Object made.0 ≡ values.Object w = sym made.1 ∙ this in cc) in
@@ -180,7 +164,7 @@ module _ (p : Program) (ac : Accept p) (forms : HasPlainForms p) where
       go (itself, inr (super, same)) further =
           let step = step_there p caller rest.0 called.0.index called.0.step called.0.here in
           let makes = forms.super_calls rest.0.number called.0.index (move_of called.0.step) rest.0.control step super in
-          let own = further (sym (ap constructs (body_method caller rest.0)) ∙ makes) w y f x (sym same ∙ this) there at owning class in
-          let none = forms.supers rest.0.number called.0.index (move_of called.0.step) f rest.0.control step super in
-          absurd (true≢false (sym (ap (is_field_in p rest.0.number) at ∙ ap (λ (b : Bool). b && is_class_of x.class (method_of p rest.0.number)) owning
-          ∙ ap (is_class_of x.class) (body_method caller rest.0) ∙ own) ∙ none))
+          let constructor = sym (ap constructs (body_method caller rest.0)) ∙ makes in
+          let own = further constructor w c y f x (sym same ∙ this) there at owning class value filled.1 in
+          let stored = filled.0 rest.0.number w c f x rest.0.id constructor (sym same ∙ this) at owning own value in
+          absurd (true≢false (sym super ∙ forms.supers rest.0.number called.0.index (move_of called.0.step) stored step))

@@ -14,8 +14,8 @@ use Rattle.program_model.specs.declared.program.Program.{Program}
 use Rattle.program_model.specs.declared.tree.Body.{Body}
 use Rattle.program_model.specs.Lookups.{body_at, class_at, field_at, method_at}
 use Rattle.program_model.specs.SuperTests.{is_class}
-use Rattle.must_call_sets.specs.Bodies.{constructs, has_field_place, is_class_of, is_constructor, is_constructor_kind, is_extended, is_field_in, is_super, method_in, method_of}
-use Rattle.must_call_sets.specs.OwningCases.{field_ids, has_no_finalizer, is_assigned_from_outside, is_class_type, is_misshapen, may_hold_unseen_reset, owning_cases_in, owning_cases_of}
+use Rattle.conduct_laws.specs.Bodies.{constructs, has_field_place, is_class_of, is_constructor, is_constructor_kind, is_extended, is_field_in, is_super, method_in, method_of}
+use Rattle.conduct_laws.specs.OwningCases.{field_ids, has_no_finalizer, is_assigned_from_outside, is_class_type, is_misshapen, may_hold_unseen_reset, owning_cases_in, owning_cases_of}
 use Rattle.rlc_base.specs.declared.code.Code.TheVariants as refused
 use Rattle.rlc_base.specs.declared.faults.Refusal.{Refusal}
 use Rattle.refusal_order.specs.Refusals.{refused_at, where_true}
@@ -25,15 +25,15 @@ use Rattle.java_control.specs.Owned.{is_beside_method, is_owning, is_owning_fiel
 use Rattle.java_control.specs.Remaining.{Todo}
 use Rattle.java_control.specs.declared.action.Action.{Action}
 use Rattle.java_control.specs.declared.action.Action.TheVariants as actions
-use Rattle.flow_rules.specs.Paths.{Comes, Move, move_of, relation_of}
-use Rattle.accepted_programs.specs.Accept.{Accept}
+use Rattle.named_step_laws.specs.Paths.{Comes, Move, move_of, relation_of}
+use Rattle.parameter_fact_laws.specs.Accept.{Accept}
 use Rattle.own_method_laws.specs.Owners.{HasConcreteOwners}
 use Rattle.own_method_laws.proofs.Owners.{runs_own}
 use Rattle.constructor_step_laws.specs.Constructors.{CallsSuperClass, IsOfSuperClass, StoresOwnField}
 use Rattle.constructor_step_laws.proofs.Reached.{has_its_place}
-use Rattle.agreement.specs.PlainForms.{HasPlainForms, RunsOwnMethods, calls_constructor, run_by}
+use Rattle.content_heap_laws.specs.PlainForms.{HasPlainForms, RunsOwnMethods, calls_constructor, run_by}
 use Rattle.soundness_laws.specs.Plain.{IsPlain}
-use Rattle.soundness_laws.proofs.Finalizers.{listed, none_at, parts_empty}
+use Rattle.filled_field_laws.proofs.Finalizers.{listed, none_at, parts_empty}
 
 -- ---- lists
 

@@ -7,9 +7,10 @@ use Rattle.std.specs.List.{All}
 use Rattle.std.specs.FinSet as set
 use Rattle.std.proofs.lemmas.Bool.{and_parts, or_left}
 use Rattle.std.proofs.lemmas.List.Elements.{All-head, All-tail}
-use Rattle.rlc_base.proofs.SetLaws.{within_trans}
+use Rattle.rlc_base.proofs.SetLaws.{within_at, within_from, within_trans}
 use Rattle.program_model.specs.declared.kinds.BodyId.{BodyId}
 use Rattle.program_model.specs.declared.kinds.ClassId.{ClassId}
+use Rattle.program_model.specs.declared.kinds.FieldId.{FieldId}
 use Rattle.program_model.specs.declared.kinds.MethodId.{MethodId}
 use Rattle.program_model.specs.declared.kinds.Target.{Target}
 use Rattle.program_model.specs.declared.kinds.Target.TheVariants as promised
@@ -20,9 +21,10 @@ use Rattle.program_model.specs.declared.program.Promise.{Promise}
 use Rattle.program_model.specs.Lookups.{method_at}
 use Rattle.program_model.specs.Overrides.{is_library}
 use Rattle.program_model.specs.Validity.{IsBodyOf, IsPromised, IsValidSig}
-use Rattle.must_call_sets.specs.Assigned.{is_spoken_variable}
-use Rattle.must_call_sets.specs.Bodies.{alias_in, constructs, is_constructor_kind, method_of, promises_in, throwing_promises_in}
-use Rattle.must_call_sets.specs.MustCallSets.{is_empty, is_heavy_class, must_of, must_of_type, no_names}
+use Rattle.conduct_laws.specs.Assigned.{is_spoken_variable}
+use Rattle.conduct_laws.specs.Bodies.{constructs, method_of, promises_in, throwing_promises_in}
+use Rattle.conduct_laws.specs.MustCallSets.{Names, is_empty, is_heavy_class, must_of, must_of_type, no_names}
+use Rattle.conduct_laws.specs.Signatures.{is_at, promised_names, when}
 use Rattle.java_control.specs.Calls.{called_method}
 use Rattle.java_control.specs.Control.{Step}
 use Rattle.java_control.specs.PlaceNumbers.{IsSmall}
@@ -37,34 +39,34 @@ use Rattle.java_control.specs.declared.fact.OriginKind.TheVariants as kinds
 use Rattle.java_control.specs.declared.place.Place.{Place}
 use Rattle.java_control.specs.declared.place.Place.TheVariants as places
 use Rattle.obligation_facts.specs.Callees.{callee, callee_in, holds_operand, may_be_null_target}
-use Rattle.obligation_facts.specs.Facts.{is_origin_at}
+use Rattle.obligation_facts.specs.Facts.{is_held, is_origin_at}
 use Rattle.obligation_facts.specs.SmallActions.{IsSmallAction}
 use Rattle.ownership_rules.specs.MovesAtCalls.{moved_at_call}
 use Rattle.ownership_rules.specs.Room.{variable_count, variables_in}
 use Rattle.ownership_rules.specs.declared.moved.Moved.TheVariants as moves
-use Rattle.called_methods.specs.CalledRows.{holds_target, promises_at}
-use Rattle.alias_sets.specs.Aliases.{gives_alias}
-use Rattle.flow_rules.specs.Ends.{is_throw}
-use Rattle.flow_rules.specs.Paths.{Reach, move_of, relation_of}
-use Rattle.accepted_programs.specs.Accept.{Accept}
+use Rattle.parameter_fact_laws.specs.CalledRows.{holds_target, promises_at}
+use Rattle.covered_field_laws.specs.Aliases.{gives_alias}
+use Rattle.named_step_laws.specs.Ends.{is_throw}
+use Rattle.named_step_laws.specs.Paths.{Reach, move_of, relation_of}
+use Rattle.parameter_fact_laws.specs.Accept.{Accept}
 use Rattle.ledger_state.specs.Contents.{HeapContents}
 use Rattle.ledger_state.specs.Heaps.{object_at, root_of}
 use Rattle.ledger_state.specs.Locals.{variable_value}
 use Rattle.ledger_state.specs.declared.object.Object.{Object}
 use Rattle.ledger_state.specs.declared.value.Value.TheVariants as values
 use Rattle.ledger_obligations.specs.Obligations.{is_unmet}
-use Rattle.ledger_operations.specs.Places.{place_value}
-use Rattle.ledger_calls.specs.Calls.{operand_of}
-use Rattle.ledger_calls.specs.Configuration.{Frame}
-use Rattle.ledger_frames.specs.Choosing.{body_id, frame_steps}
-use Rattle.ledger_steps.specs.Ends.{answered, answered_normally, exception_class, result_value, thrown_in}
-use Rattle.program_call_laws.specs.ProgramCalls.{is_new}
-use Rattle.heap_laws.specs.Heaps.{GoesOn}
+use Rattle.filled_field_laws.specs.Places.{place_value}
+use Rattle.conduct_laws.specs.Calls.{alias_position, operand_of}
+use Rattle.conduct_laws.specs.Configuration.{Frame}
+use Rattle.content_heap_laws.specs.Choosing.{body_id, frame_steps}
+use Rattle.ledger_steps.specs.Ends.{answered, exception_class, result_value, thrown_in}
+use Rattle.library_call_laws.specs.Heaps.{GoesOn}
+use Rattle.library_call_laws.proofs.NoteLists.{name_from_all, name_where}
 use Rattle.call_step_laws.proofs.Ways.{one_action}
-use Rattle.owned_fact_laws.specs.Outcomes.{IsCallRow}
-use Rattle.agreement.specs.Agreement.{Stands, Tracks, WaitsFor}
-use Rattle.agreement.specs.PlainForms.{HasPlainForms, IsPlainAction, IsPlainCall, IsPlainSignature, IsPromisedPlainly, PromisesPlainly, is_lent_parameter}
-use Rattle.place_facts.specs.PlaceFacts.{Covers, IsCovered, is_lent, may_owe}
+use Rattle.content_heap_laws.specs.Outcomes.{IsCallRow}
+use Rattle.content_heap_laws.specs.Agreement.{Stands, Tracks, WaitsFor}
+use Rattle.content_heap_laws.specs.PlainForms.{HasPlainForms, IsPlainAction, IsKeptBy, IsPlainCall, IsPlainSignature, IsPromisedPlainly, KeepsPromises, PromisesPlainly, is_lent_parameter}
+use Rattle.thrown_value_laws.specs.PlaceFacts.{Covers, IsCovered, is_lent, may_owe}
 use Rattle.covering_laws.specs.Arguments.{HasArguments}
 use Rattle.parameter_fact_laws.proofs.Origins.{parameters_own, this_own}
 use Rattle.covering_laws.proofs.SignedPromises.{Promises}
@@ -74,14 +76,16 @@ use Rattle.covering_laws.proofs.AliasRoots.{GivesOperand, gives_operand}
 use Rattle.covering_laws.proofs.Arguments.{argument_is_given}
 use Rattle.covering_laws.proofs.Births.{heavy_by_unmet}
 use Rattle.covering_laws.proofs.CallNames.{no_target, object_with_root, operand_has_position, operand_of_fact}
-use Rattle.covering_laws.proofs.EndNames.{element_there, parameter_origin, parameters_fit, spoken, zero_origin}
-use Rattle.covering_laws.proofs.KnownNames.{AreKept, all_kept, none_promised}
+use Rattle.covering_laws.proofs.EndNames.{HasAlike, at_target, element_there, named_parameter, parameter_origin, parameters_fit, spoken, zero_origin}
+use Rattle.covering_laws.proofs.KnownNames.{AreKept, all_kept}
 use Rattle.covering_laws.proofs.ParameterEnds.{AsksFor, return_asks, shown_on_position, throw_asks, unowned_moves}
 use Rattle.covering_laws.proofs.Ready.{named_gives_none, plain_call, plain_step, step_here, step_there}
 use Rattle.covering_laws.proofs.Unmet.{call_may, nothing_to_call, row_of}
 use Rattle.covered_field_laws.proofs.Following.{breaks_nothing, same_body}
-use Rattle.soundness_laws.proofs.KeptPromises.{ReturnsAlias}
-use Rattle.soundness_laws.proofs.Makers.{IsRunBelow, body_method, constructor_no_alias, new_constructs, run_below}
+use Rattle.named_step_laws.specs.Naming.{IsOfItsKind}
+use Rattle.named_step_laws.proofs.Reached.{names_what_is_there}
+use Rattle.soundness_laws.proofs.KeptPromises.{GivesRoot, ReturnsAlias}
+use Rattle.soundness_laws.proofs.Makers.{IsRunBelow, body_method, run_below}
 use Rattle.soundness_laws.proofs.Programs.{is_programs}
 use Rattle.soundness_laws.proofs.Supporting.{not_true, throws_by}
 
@@ -183,10 +187,8 @@ module _ (p : Program) (ac : Accept p) (forms : HasPlainForms p) (h : HeapConten
     reached : Reach p below.number (relation_of p below.number) w.origin caller.control w.fact
     reached = subst (λ (b : BodyId). Reach p b (relation_of p b) w.origin caller.control w.fact) (same_body w.body below.number (body_id p caller.method) w.id below.id) w.reached
 
-    module _ (same : fr.method ≡ named) (xs : List Promise) (asks : AsksFor p st.number q xs) (k : ℕ) (u : Promise) (at : slice_get xs k ≡ Some u) (promises : Promises n u) where
-      own_method : method_at p fr.method ≡ Some n
-      own_method = ap (method_at p) same ∙ run.named_at
-
+    module _ (r : Method) (own_method : method_at p fr.method ≡ Some r) (alike : HasAlike r n) (xs : List Promise) (asks : AsksFor p st.number q xs) (k : ℕ) (u : Promise) (at : slice_get xs k ≡ Some u)
+        (promises : Promises r u) where
       -- what is lent shows its names
       of_lent : (place : Place) (v : ℕ) → IsSmall place → root_of h (place_value p h fr.method fr.locals place) ≡ Some o → u.target ≡ promised.At v
           → ((cover : Covers p h fr place o x) → (is_origin_at cover.origin.kind (Some v) ≡ true) × (is_lent p (method_at p fr.method) cover.origin.kind ≡ true)) → set.is_subset u.names y.called ≡ true
@@ -194,15 +196,15 @@ module _ (p : Program) (ac : Accept p) (forms : HasPlainForms p) (h : HeapConten
           let cover : Covers p h fr place o x = covered place o x room root before heavy owes in
           let lent = its cover in
           within_trans u.names x.called y.called
-          (shown_on_position p ac h fr st i s q here is place o x cover (unowned_moves p st.number cover.origin cover.fact (cover.lent lent.1).0 q) (cover.known done lent.1) xs asks v k u at target lent.0) goes.called
+          (shown_on_position p ac h fr st i s q here is place o x cover (unowned_moves p st.number cover.origin cover.fact (cover.lent lent.1).0 q) (cover.known done (or_left (is_lent p (method_at p fr.method) cover.origin.kind) (is_heavy_class p cover.origin.class && is_held cover.fact.mode) lent.1)) xs asks v k u at target lent.0) goes.called
 
       reached_here : (place : Place) (cover : Covers p h fr place o x) → Reach p st.number (relation_of p st.number) cover.origin fr.control cover.fact
       reached_here place cover = subst (λ (b : BodyId). Reach p b (relation_of p b) cover.origin fr.control cover.fact) (same_body cover.body st.number (body_id p fr.method) cover.id st.id) cover.reached
 
-      lent_here : (kind f : OriginKind) → kind ≡ f → is_lent p (Some n) f ≡ true → is_lent p (method_at p fr.method) kind ≡ true
+      lent_here : (kind f : OriginKind) → kind ≡ f → is_lent p (Some r) f ≡ true → is_lent p (method_at p fr.method) kind ≡ true
       lent_here kind f is' lent = ap (is_lent p (method_at p fr.method)) is' ∙ ap (λ (m : Option Method). is_lent p m f) own_method ∙ lent
 
-      on_receiver : u.target ≡ promised.At 0 → is_heavy_class p n.class ≡ true → holds_operand t.action w.fact.places 0 ≡ true → set.is_subset u.names y.called ≡ true
+      on_receiver : u.target ≡ promised.At 0 → is_heavy_class p r.class ≡ true → holds_operand t.action w.fact.places 0 ≡ true → set.is_subset u.names y.called ≡ true
       on_receiver target class holds =
           let v = object_with_root h (operand_of caller.locals t.action 0) o (operand 0 holds) in
           let this : fr.locals.this ≡ values.Object v.0 = args.receiver j t v.0 there v.1 in
@@ -211,50 +213,64 @@ module _ (p : Program) (ac : Accept p) (forms : HasPlainForms p) (h : HeapConten
           (own, lent_here cover.origin.kind kinds.ThisRef (zero_origin cover.origin.kind own) class)))
 
       -- an owning parameter takes the object, which then does not stay
-      never_owning : (v : ℕ) (param : ParamSig) → slice_get n.sig.params.items v ≡ Some param → param.owning ≡ true → holds_operand t.action w.fact.places (v + 1) ≡ true → ⊥
-      never_owning v param param_at owning holds = stays
-          (argument_is_given p below.number w.origin t.edge w.fact t.action row (breaks_nothing p ac below.number w.origin j (move_of t) w.fact reached (step_there p caller below j t there)) n v param same_callee param_at owning
-          holds (or_left (is_heavy_class p w.origin.class) (not (is_empty (must_of_type p param.vtype))) wide)).1
+      never_owning : (v : ℕ) (param : ParamSig) → slice_get r.sig.params.items v ≡ Some param → param.owning ≡ true → holds_operand t.action w.fact.places (v + 1) ≡ true → ⊥
+      never_owning v param param_at owning holds =
+          let named' = alike v param param_at owning in
+          stays (argument_is_given p below.number w.origin t.edge w.fact t.action row (breaks_nothing p ac below.number w.origin j (move_of t) w.fact reached (step_there p caller below j t there)) n v named'.0 same_callee named'.1
+          named'.2 holds (or_left (is_heavy_class p w.origin.class) (not (is_empty (must_of_type p named'.0.vtype))) wide)).1
 
-      on_parameter : (v : ℕ) → u.target ≡ promised.At (v + 1) → IsPromisedPlainly p n (promised.At (v + 1)) → v < length n.sig.params.items → holds_operand t.action w.fact.places (v + 1) ≡ true
+      on_parameter : (v : ℕ) → u.target ≡ promised.At (v + 1) → IsPromisedPlainly p r (promised.At (v + 1)) → v < length r.sig.params.items → holds_operand t.action w.fact.places (v + 1) ≡ true
           → set.is_subset u.names y.called ≡ true
-      on_parameter v target plainly inside holds = by (element_there n.sig.params.items v inside)
+      on_parameter v target plainly inside holds = by (element_there r.sig.params.items v inside)
         where
-          parameter : is_spoken_variable n v ≡ true
-          parameter = spoken n v u promises target inside
+          parameter : is_spoken_variable r v ≡ true
+          parameter = spoken r v u promises target inside
 
-          at_suc : IsPromisedPlainly p n (promised.At (suc v))
-          at_suc = subst (λ (m : ℕ). IsPromisedPlainly p n (promised.At m)) (let next : v + 1 ≡ suc v = omega arith in next) plainly
+          at_suc : IsPromisedPlainly p r (promised.At (suc v))
+          at_suc = subst (λ (m : ℕ). IsPromisedPlainly p r (promised.At m)) (let next : v + 1 ≡ suc v = omega arith in next) plainly
 
           root : root_of h (variable_value fr.locals v) ≡ Some o
-          root = ap (root_of h) (args.parameters j t n v there own_method parameter) ∙ ap (λ (m : ℕ). root_of h (operand_of caller.locals t.action m)) (let next : suc v ≡ v + 1 = omega arith in next) ∙ operand (v + 1) holds
+          root = ap (root_of h) (args.parameters j t r v there own_method parameter) ∙ ap (λ (m : ℕ). root_of h (operand_of caller.locals t.action m)) (let next : suc v ≡ v + 1 = omega arith in next) ∙ operand (v + 1) holds
 
           room : v < 160
           room =
               let few = (ac.fits st.number).room.variables in
               let count : variable_count p st.number ≡ length st.body.vars.items = ap variables_in st.at in
-              let more = parameters_fit st.body.vars.items n.sig.params.items
+              let more = parameters_fit st.body.vars.items r.sig.params.items
               (subst (λ (m : Option Method). IsSomeAnd m (IsBodyOf st.number st.body)) (ap (method_at p) st.method ∙ own_method) (ac.well_formed.valid.typed.bodies st.number st.body st.at).method).1 in
               omega (arith, few, count, more, inside)
 
-          of_param : (param : ParamSig) → slice_get n.sig.params.items v ≡ Some param → is_lent_parameter p (Some param) ≡ true → set.is_subset u.names y.called ≡ true
+          of_param : (param : ParamSig) → slice_get r.sig.params.items v ≡ Some param → is_lent_parameter p (Some param) ≡ true → set.is_subset u.names y.called ≡ true
           of_param param param_at lent = of_lent (places.Var v) (v + 1) room root target
-              (λ cover. (let own = parameters_own p ac st.number st.body n v st.at (ap (method_at p) st.method ∙ own_method) parameter cover.origin fr.control cover.fact (reached_here (places.Var v) cover) cover.here in
+              (λ cover. (let own = parameters_own p ac st.number st.body r v st.at (ap (method_at p) st.method ∙ own_method) parameter cover.origin fr.control cover.fact (reached_here (places.Var v) cover) cover.here in
               (own, lent_here cover.origin.kind (kinds.Param v) (parameter_origin v cover.origin.kind own) (ap (is_lent_parameter p) param_at ∙ lent))))
 
-          by : (param : ParamSig) × (slice_get n.sig.params.items v ≡ Some param) → set.is_subset u.names y.called ≡ true
+          by : (param : ParamSig) × (slice_get r.sig.params.items v ≡ Some param) → set.is_subset u.names y.called ≡ true
           by (param, param_at) = elim (at_suc param param_at) [
             | inl owning ↦ absurd (never_owning v param param_at owning holds)
             | inr lent ↦ of_param param param_at lent
           ]
 
-      on_target : (v : Target) → u.target ≡ v → IsPromisedPlainly p n v → IsPromised p n.sig v → holds_target p below.number t.action w.fact.places v ≡ true → set.is_subset u.names y.called ≡ true
-      on_target (promised.At zero) target plainly valid holds = on_receiver target plainly holds
-      on_target (promised.At (suc v)) target plainly valid holds =
+      -- a position whose operand the fact has
+      on_position : (v : ℕ) → u.target ≡ promised.At v → IsPromisedPlainly p r (promised.At v) → IsPromised p r.sig (promised.At v) → holds_operand t.action w.fact.places v ≡ true → set.is_subset u.names y.called ≡ true
+      on_position zero target plainly valid holds = on_receiver target plainly holds
+      on_position (suc v) target plainly valid holds =
           let next : suc v ≡ v + 1 = omega arith in
-          on_parameter v (target ∙ ap promised.At next) (subst (λ (m : ℕ). IsPromisedPlainly p n (promised.At m)) next plainly) (omega (arith, valid)) (ap (holds_operand t.action w.fact.places) (sym next) ∙ holds)
-      on_target (promised.OfField f) target plainly valid holds =
-          absurd (true≢false (sym holds ∙ no_target p ac below.number t.action w.fact.places (promised.OfField f) (λ z room one. (w.follows.places z room one).0) tt))
+          on_parameter v (target ∙ ap promised.At next) (subst (λ (m : ℕ). IsPromisedPlainly p r (promised.At m)) next plainly) (omega (arith, valid)) (ap (holds_operand t.action w.fact.places) (sym next) ∙ holds)
+
+    -- a fact that tracks an object has no field
+    no_field : (f : FieldId) → holds_target p below.number t.action w.fact.places (promised.OfField f) ≡ true → ⊥
+    no_field f holds = true≢false (sym holds ∙ no_target p ac below.number t.action w.fact.places (promised.OfField f) (λ z room one. (w.follows.places z room one).0) tt)
+
+    on_target : (same : fr.method ≡ named) (xs : List Promise) → AsksFor p st.number q xs → (k : ℕ) (u : Promise) → slice_get xs k ≡ Some u → Promises n u → (v : Target) → u.target ≡ v → IsPromisedPlainly p n v → IsPromised p n.sig v
+        → holds_target p below.number t.action w.fact.places v ≡ true → set.is_subset u.names y.called ≡ true
+    on_target same xs asks k u at promises (promised.At v) target plainly valid holds =
+        on_position n (ap (method_at p) same ∙ run.named_at) (λ v' param param_at owning. (param, param_at, owning)) xs asks k u at promises v target plainly valid holds
+    on_target same xs asks k u at promises (promised.OfField f) target plainly valid holds = absurd (no_field f holds)
+
+    -- the method that ran is as the named signature says
+    alike_here : HasAlike run.running n
+    alike_here v param at owning = named_parameter run.running.sig.params.items n.sig.params.items v param run.fit.types run.fit.owning at owning
 
     plainly : fr.method ≡ named → PromisesPlainly p n
     plainly same = (subst (IsPlainSignature p) run.named_at call.signature).2 (of_program same)
@@ -296,15 +312,55 @@ module _ (p : Program) (ac : Accept p) (forms : HasPlainForms p) (h : HeapConten
             (all_of_end same n.sig.on_throw.items (subst (λ (m : Option Method). AsksFor p st.number q (throwing_promises_in m)) (here_is same) (throw_asks p st.number q (throw_end c edge))) (λ k u at. (k, inr at))
             (plainly same).throwing valid.on_throw)
 
+    -- and all that the method that ran promises as the named one does
+    by_run : (ps ns : List Promise) → AsksFor p st.number q ps → ((k : ℕ) (u : Promise) → slice_get ps k ≡ Some u → Promises run.running u) → All (λ (v : Promise). IsPromised p run.running.sig v.target) ps
+        → All (λ (v : Promise). IsKeptBy p run.running ps v.target v.names) ns → Kept ns
+    by_run ps ns asks promises valid' keeps = all_kept p below.number t.action w.fact.places y.called ns (λ k u at holds. one u.target u.names (each_of (λ (v : Promise). IsKeptBy p run.running ps v.target v.names) ns k u keeps at) holds)
+      where
+        one : (v : Target) (names : Names) → IsKeptBy p run.running ps v names → holds_target p below.number t.action w.fact.places v ≡ true → set.is_subset names y.called ≡ true
+        one (promised.OfField f) names kept holds = absurd kept
+        one (promised.At v) names kept holds = within_from names y.called by_name
+          where
+            by_name : (a : ℕ) → set.contains names a ≡ true → set.contains y.called a ≡ true
+            by_name a has' =
+                let mine = name_from_all (λ (z : Promise). when (is_at z.target v) z.names) ps a (within_at names (promised_names (λ z. is_at z v) ps) kept.0 a has') in
+                let parts = name_where (is_at mine.0.target v) mine.0.names a mine.3 in
+                let target = at_target mine.0.target v parts.0 in
+                within_at mine.0.names y.called
+                (on_position run.running run.running_at alike_here ps asks mine.1 mine.0 mine.2 (promises mine.1 mine.0 mine.2) v target kept.1
+                (subst (λ (z : Target). IsPromised p run.running.sig z) target (each_of (λ (z : Promise). IsPromised p run.running.sig z.target) ps mine.1 mine.0 valid' mine.2)) holds) a parts.1
+
+    here_run : method_of p st.number ≡ Some run.running
+    here_run = body_method p ac forms fr st ∙ run.running_at
+
+    valid_run : IsValidSig p run.running.sig
+    valid_run = (ac.well_formed.valid.typed.methods fr.method run.running run.running_at).signature
+
+    as_promised : KeepsPromises p n run.running → (f : Edge) → t.edge ≡ f → Kept (promises_at p t.action f)
+    as_promised keeps edges.Go edge = kept_as n.sig.promises.items (promises_in (callee p t.action)) (ap promises_in same_callee)
+        (by_run run.running.sig.promises.items n.sig.promises.items (subst (λ (m : Option Method). AsksFor p st.number q (promises_in m)) here_run (return_asks p st.number q (returns edge))) (λ k u at. (k, inl at)) valid_run.promises
+        keeps.returning)
+    as_promised keeps edges.Null edge = tt
+    as_promised keeps edges.NonNull edge = tt
+    as_promised keeps edges.True edge = tt
+    as_promised keeps edges.False edge = tt
+    as_promised keeps (edges.Throws c) edge = by (may_be_null_target p t.action (edges.Throws c))
+      where
+        by : (b : Bool) → Kept (if b then [] else throwing_promises_in (callee p t.action))
+        by true = tt
+        by false = kept_as n.sig.on_throw.items (throwing_promises_in (callee p t.action)) (ap throwing_promises_in same_callee)
+            (by_run run.running.sig.on_throw.items n.sig.on_throw.items (subst (λ (m : Option Method). AsksFor p st.number q (throwing_promises_in m)) here_run (throw_asks p st.number q (throw_end c edge))) (λ k u at. (k, inr at))
+            valid_run.on_throw keeps.throwing)
+
     operands_kept : AreKept p below.number t.action w.fact.places y.called (promises_at p t.action t.edge)
     operands_kept = elim (call.keeps fr.method n run.running wait.runs run.named_at run.running_at program) [
-      | inl none ↦ kept_as [] (promises_at p t.action t.edge) (none_promised p t.action t.edge (ap promises_in same_callee ∙ none.returning) (ap throwing_promises_in same_callee ∙ none.throwing)) tt
+      | inl keeps ↦ as_promised keeps t.edge refl
       | inr same ↦ itself same t.edge refl
     ]
 
     -- ---- the aliased operand
 
-    alias_given : ReturnsAlias p h fr t.action t.edge w.fact.places q o
+    alias_given : ReturnsAlias p h fr caller t.action t.edge w.fact.places q o
     alias_given gives = by t.action refl
       where
         given : GivesOperand t.action w.fact.places (Some n) × (t.edge ≡ edges.Go)
@@ -313,26 +369,36 @@ module _ (p : Program) (ac : Accept p) (forms : HasPlainForms p) (h : HeapConten
         alias : run.running.sig.alias ≡ Some given.0.position
         alias = run.fit.alias ∙ given.0.alias
 
-        no_constructor : constructs (method_at p fr.method) ≡ true → ⊥
-        no_constructor new =
-            let never : None ≡ Some given.0.position = sym (constructor_no_alias p ac forms h fr caller st below wait new) ∙ ap alias_in run.running_at ∙ alias in cc
+        aliased_root : root_of h (operand_of caller.locals t.action given.0.position) ≡ Some o
+        aliased_root = operand given.0.position given.0.operand
 
-        result : root_of h (result_value fr.locals (method_at p fr.method) q) ≡ Some o
-        result =
+        -- a method of the program gives its argument back
+        result : constructs (method_at p fr.method) ≡ false → root_of h (result_value fr.locals (method_at p fr.method) q) ≡ Some o
+        result other =
             ap (λ (m : Option Method). root_of h (result_value fr.locals m q)) run.running_at
             ∙ argument_is_result p ac h fr caller st args covered i s q here is (returns given.1) run.running run.running_at given.0.position alias
-            (not_true (is_constructor_kind run.running.kind) (λ new. no_constructor (ap constructs run.running_at ∙ new))) j t there o x before heavy owes (operand given.0.position given.0.operand)
+            (ap constructs (sym run.running_at) ∙ other) j t there o x before heavy owes aliased_root
 
-        by : (a : Action) → t.action ≡ a → root_of h (answered fr.locals.this t.action (result_value fr.locals (method_at p fr.method) q) e) ≡ Some o
+        kind : IsOfItsKind p t.action
+        kind = (names_what_is_there p ac.well_formed.valid.typed below.number below.body caller.control j (move_of t) below.at below.control (step_there p caller below j t there)).1
+
+        one : (m : MethodId) → called_method t.action ≡ Some m → m ≡ named
+        one m is' = let both : Some m ≡ Some named = sym is' ∙ called in cc
+
+        by : (a : Action) → t.action ≡ a → GivesRoot p h caller.locals t.action (answered fr.locals.this t.action (result_value fr.locals (method_at p fr.method) q) e) o
         by actions.Skip is' = absurd (subst IsCallRow is' row)
-        by (actions.Call m d c form) is' =
-            ap (λ (x : Option ClassId). root_of h (answered fr.locals.this t.action (result_value fr.locals (method_at p fr.method) q) x)) (normal_end given.1)
-            ∙ ap (λ (a : Action). root_of h (answered_normally fr.locals.this a (result_value fr.locals (method_at p fr.method) q))) is' ∙ result
-        by (actions.New m d c) is' = absurd (no_constructor (new_constructs p ac forms h fr caller below wait (ap is_new (sym same_action ∙ is'))))
+        by (actions.Call m d c form) is' = subst (λ (a : Action). GivesRoot p h caller.locals a (answered fr.locals.this a (result_value fr.locals (method_at p fr.method) q) e) o) (sym is')
+            (ap (λ (x : Option ClassId). root_of h (answered fr.locals.this (actions.Call m d c form) (result_value fr.locals (method_at p fr.method) q) x)) (normal_end given.1)
+            ∙ result (wait.kind ∙ ap (λ (z : MethodId). constructs (method_at p z)) (sym (one m (ap called_method is'))) ∙ subst (IsOfItsKind p) is' kind))
+        by (actions.New m d c) is' = subst (λ (a : Action). GivesRoot p h caller.locals a (answered fr.locals.this a (result_value fr.locals (method_at p fr.method) q) e) o) (sym is') (
+          given.0.position,
+          ap (λ (z : MethodId). alias_position (method_at p z)) (one m (ap called_method is')) ∙ ap alias_position run.named_at ∙ given.0.alias,
+          ap (λ (a : Action). root_of h (operand_of caller.locals a given.0.position)) (sym is') ∙ aliased_root,
+        )
         by (actions.Super m d c) is' =
             absurd (true≢false (sym gives ∙ ap (λ (a : Action). gives_alias p a t.edge w.fact.places) is'
             ∙ named_gives_none p (actions.Super m d c) t.edge w.fact.places (subst (IsPlainAction p) is' (plain_step p ac forms caller below j t there)).2))
         by a is' = absurd (subst IsCallRow is' row)
 
-    pub operands_shown : AreKept p below.number t.action w.fact.places y.called (promises_at p t.action t.edge) × ReturnsAlias p h fr t.action t.edge w.fact.places q o
+    pub operands_shown : AreKept p below.number t.action w.fact.places y.called (promises_at p t.action t.edge) × ReturnsAlias p h fr caller t.action t.edge w.fact.places q o
     operands_shown = (operands_kept, alias_given)

@@ -1,5 +1,5 @@
 -- What is accepted is safe: in each configuration of a run all invariants hold.
-use Rattle.std.proofs.Common.{◌≡◌, ℕ, zero, suc, true, Option, Some, None, List, [], ◌∷◌, refl, sym, ap, ◌∙◌, subst, true≢false}
+use Rattle.std.proofs.Common.{◌≡◌, ℕ, zero, suc, true, Option, Some, None, List, [], ◌∷◌, slice_get, refl, sym, ap, ◌∙◌, subst, true≢false}
 use Rattle.std.specs.List.{All}
 use Rattle.std.proofs.lemmas.List.Elements.{All-head}
 use Rattle.program_model.specs.declared.kinds.ClassId.{ClassId}
@@ -7,40 +7,48 @@ use Rattle.program_model.specs.declared.kinds.MethodId.{MethodId}
 use Rattle.program_model.specs.declared.program.Method.{Method}
 use Rattle.program_model.specs.declared.program.Program.{Program}
 use Rattle.program_model.specs.Lookups.{method_at}
-use Rattle.program_conditions.specs.Conditions.{MakesNoString}
-use Rattle.must_call_sets.specs.Bodies.{is_constructor_kind}
-use Rattle.accepted_programs.specs.Accept.{Accept}
+use Rattle.covering_laws.specs.Conditions.{MakesNoString}
+use Rattle.conduct_laws.specs.Bodies.{is_constructor_kind}
+use Rattle.parameter_fact_laws.specs.Accept.{Accept}
 use Rattle.stub_conduct.specs.declared.choice.Choices.{Choices}
 use Rattle.ledger_state.specs.Contents.{HeapContents}
 use Rattle.ledger_state.specs.Heaps.{object_at, unfinished}
 use Rattle.ledger_state.specs.Locals.{temp_value}
 use Rattle.ledger_state.specs.Values.{number_of}
 use Rattle.ledger_state.specs.declared.entry.Entry.{Entry}
-use Rattle.ledger_calls.specs.Calls.{body_of}
-use Rattle.ledger_calls.specs.Configuration.{Config, Frame}
+use Rattle.conduct_laws.specs.Calls.{body_of}
+use Rattle.conduct_laws.specs.Configuration.{Config, Frame}
 use Rattle.ledger_runs.specs.Runs.{go_on, run, run_from}
 use Rattle.ledger_runs.specs.Outcomes.{Outcome, went, ended, stray}
 use Rattle.ledger_runs.specs.Starts.{start_config}
 use Rattle.ledger_runs.specs.Steps.{step}
-use Rattle.ledger_moves.specs.Moves.{has_body}
+use Rattle.filled_field_laws.specs.Moves.{has_body}
 use Rattle.ledger_runs.specs.Mains.{is_main_in}
-use Rattle.target_laws.specs.Frames.{HaveTargets}
-use Rattle.target_laws.proofs.Laws.{targets_at_start, targets_step}
+use Rattle.thrown_value_laws.specs.Frames.{HaveTargets}
+use Rattle.thrown_value_laws.proofs.Laws.{targets_at_start, targets_step}
 use Rattle.safety.specs.Safety.{IsMain, IsSafe}
-use Rattle.agreement.specs.Agreement.{Agree, Agrees, AllStand}
-use Rattle.agreement.specs.PlainForms.{HasPlainForms}
-use Rattle.place_facts.specs.FieldContents.{AreUnfinished, HaveContents, IsBeingMade}
-use Rattle.place_facts.specs.PlaceFacts.{AreCovered}
-use Rattle.place_facts.specs.Ranges.{AreInRange, LocalsInRange}
+use Rattle.content_heap_laws.specs.Agreement.{Agree, Agrees, AllStand}
+use Rattle.content_heap_laws.specs.PlainForms.{HasPlainForms}
+use Rattle.thrown_value_laws.specs.FieldContents.{FieldsHold, IsBeingMade}
+use Rattle.thrown_value_laws.specs.PlaceFacts.{AreCovered}
+use Rattle.thrown_value_laws.specs.Ranges.{AreInRange, LocalsInRange}
 use Rattle.covering_laws.specs.Making.{AreBeingMade}
 use Rattle.covering_laws.specs.Throws.{TopEndsByException}
 use Rattle.covering_laws.specs.Types.{TopHoldsWhatIsThere}
 use Rattle.covering_laws.proofs.Laws.{types_at_start, types_step}
 use Rattle.covering_laws.proofs.Laws.{ranges_at_start, ranges_step}
-use Rattle.content_laws.proofs.Runs.{fields_hold_at_start, fields_hold_step}
+use Rattle.filled_field_laws.proofs.Runs.{fields_hold_at_start, fields_hold_step}
 use Rattle.covering_laws.proofs.Laws.{being_made_at_start, being_made_step, covered_at_start, covered_step, unlinked_exceptions_at_start, unlinked_exceptions_step}
 use Rattle.covering_laws.proofs.Chains.{object_there}
 use Rattle.covering_laws.proofs.NameCounts.{accepted_names}
+use Rattle.java_control.specs.Control.{Step}
+use Rattle.java_control.specs.declared.action.Action.TheVariants as actions
+use Rattle.java_control.specs.declared.action.Completion.{Completion}
+use Rattle.java_control.specs.declared.action.Completion.TheVariants as completions
+use Rattle.named_step_laws.specs.Ends.{is_throw}
+use Rattle.content_heap_laws.specs.Choosing.{frame_steps}
+use Rattle.ledger_steps.specs.Ends.{exception_class, thrown_in}
+use Rattle.filled_field_laws.specs.Exits.{TopEndsByClass}
 use Rattle.soundness_laws.specs.Holding.{Holds}
 use Rattle.soundness_laws.specs.Plain.{IsPlain}
 use Rattle.soundness_laws.specs.Supports.{IsSupported}
@@ -49,9 +57,11 @@ use Rattle.soundness_laws.proofs.Safe.{safe_at}
 use Rattle.soundness_laws.proofs.Starts.{start_agrees, static_main}
 use Rattle.covering_laws.specs.Arguments.{HaveArguments}
 use Rattle.covering_laws.proofs.Laws.{arguments_at_start, arguments_step}
-use Rattle.exception_value_laws.specs.Exceptions.{HasPlainExceptions}
-use Rattle.exception_value_laws.proofs.Laws.{exceptions_at_start, exceptions_step}
+use Rattle.thrown_value_laws.specs.Exceptions.{HasPlainExceptions}
+use Rattle.thrown_value_laws.proofs.Laws.{exceptions_at_start, exceptions_step}
 use Rattle.thrown_value_laws.specs.Thrown.{HaveThrown}
+use Rattle.filled_field_laws.specs.Filled.{AreFilled}
+use Rattle.filled_field_laws.proofs.Laws.{filled_at_start, filled_step}
 use Rattle.thrown_value_laws.proofs.Laws.{ends_by_exception, thrown_at_start, thrown_step, top_throws_no_number}
 use Rattle.soundness_laws.proofs.KeptPromises.{TopShowsOperands}
 use Rattle.soundness_laws.proofs.PromisedOperands.{operands_shown}
@@ -61,11 +71,10 @@ use Rattle.soundness_laws.proofs.Supporting.{supported}
 pub agree_at_start : (p : Program) → Accept p → (main : MethodId) (choices : Choices) → IsMain p main → Agree p (start_config p main choices)
 agree_at_start p ac main choices is = start_agrees p ac main choices is
 
-top_supported : (p : Program) (ac : Accept p) (forms : HasPlainForms p) (h : HeapContents) (es : List Entry) (frs : List Frame) → Agrees p frs h es → HaveContents p frs h → AreCovered p h frs
-    → AreUnfinished p h frs → IsSupported p h frs
-top_supported p ac forms h es [] agrees contents covered unmade = tt
-top_supported p ac forms h es (fr ∷ frs) agrees contents covered unmade =
-    supported p ac forms h fr frs agrees.standing.0 agrees.standing.1 agrees.stacked contents covered.0 unmade
+top_supported : (p : Program) (ac : Accept p) (forms : HasPlainForms p) (h : HeapContents) (es : List Entry) (frs : List Frame) → Agrees p frs h es → FieldsHold p frs h → AreCovered p h frs → AreFilled p h frs → IsSupported p h frs
+top_supported p ac forms h es [] agrees fields covered filled = tt
+top_supported p ac forms h es (fr ∷ frs) agrees fields covered filled =
+    supported p ac forms h fr frs agrees.standing.0 agrees.standing.1 agrees.stacked fields.contents covered.0 fields.unfinished fields.new filled.1
 
 -- what the end of the top frame shows of what the one below has lent
 top_shows : (p : Program) (ac : Accept p) (forms : HasPlainForms p) (h : HeapContents) (es : List Entry) (frs : List Frame) → Agrees p frs h es → AreCovered p h frs → HaveArguments p frs
@@ -76,10 +85,10 @@ top_shows p ac forms h es (fr ∷ caller ∷ frs) agrees covered given exits =
     λ below i j s t q o x y w here is there row normal thrown before unmet goes stays.
     operands_shown p ac forms h fr caller agrees.standing.0 agrees.stacked.0 covered.0 given.0 exits below i j s t q here is there row normal thrown o x y w before unmet goes stays
 
-pub agree_step : (p : Program) → Accept p → HasPlainForms p → (c d : Config) → Agree p c → HaveTargets p c.frames → HaveContents p c.frames c.heap → AreCovered p c.heap c.frames
-    → AreUnfinished p c.heap c.frames → AreInRange c → AreBeingMade p c.heap c.frames → HaveArguments p c.frames → TopEndsByException p c.heap c.frames → step p c ≡ went d → Agree p d
-agree_step p ac forms c d agrees targets contents covered unmade ranges making given exits is =
-    step_agrees p ac forms (accepted_names p ac) c d agrees targets (top_supported p ac forms c.heap c.entries c.frames agrees contents covered unmade) ranges making
+pub agree_step : (p : Program) → Accept p → HasPlainForms p → (c d : Config) → Agree p c → HaveTargets p c.frames → FieldsHold p c.frames c.heap → AreCovered p c.heap c.frames → AreInRange c
+    → AreBeingMade p c.heap c.frames → HaveArguments p c.frames → TopEndsByException p c.heap c.frames → AreFilled p c.heap c.frames → step p c ≡ went d → Agree p d
+agree_step p ac forms c d agrees targets fields covered ranges making given exits filled is =
+    step_agrees p ac forms (accepted_names p ac) c d agrees targets fields covered (top_supported p ac forms c.heap c.entries c.frames agrees fields covered filled) ranges making
     (top_shows p ac forms c.heap c.entries c.frames agrees covered given exits) is
 
 -- an exception by which the top frame ends has a class
@@ -87,6 +96,18 @@ top_exits : (p : Program) (ac : Accept p) (h : HeapContents) (frs : List Frame) 
 top_exits p ac h [] standing ranges thrown = tt
 top_exits p ac h (fr ∷ frs) standing ranges thrown =
     λ i s d t pos here is no_class. ends_by_exception p ac h fr standing.0 (All-head (λ (x : Frame). LocalsInRange h x.locals) fr frs ranges) thrown.0 i s d t pos here is no_class
+
+-- however it throws it
+top_ends_by_class : (p : Program) (h : HeapContents) (frs : List Frame) → TopEndsByException p h frs → TopEndsByClass p h frs
+top_ends_by_class p h [] exits = tt
+top_ends_by_class p h (fr ∷ frs) exits = λ i s q here is throws none. go i s q here is throws none
+  where
+    go : (i : ℕ) (s : Step) (q : Completion) → slice_get (frame_steps p fr) i ≡ Some s → s.action ≡ actions.End q → is_throw q ≡ true → exception_class p h (thrown_in fr.locals q) ≡ None → ⊥
+    go i s (completions.Throw d t pos) here is throws none = exits i s d t pos here is none
+    go i s (completions.Return pos) here is throws none = true≢false (sym throws)
+    go i s (completions.ReturnValue d pos) here is throws none = true≢false (sym throws)
+    go i s (completions.Break pos) here is throws none = true≢false (sym throws)
+    go i s (completions.Continue pos) here is throws none = true≢false (sym throws)
 
 no_object : {X : Type 0} (x : X) → None ≡ Some x → ⊥
 no_object x never = cc
@@ -110,8 +131,9 @@ top_making p h frs fr caller rest is making = (subst (AreBeingMade p h) is makin
 pub holds_step : (p : Program) → Accept p → IsPlain p → (c d : Config) → Holds p c → step p c ≡ went d → Holds p d
 holds_step p ac plain c d holds is =
     let forms = plain_forms p ac plain in
-    let exits = top_exits p ac c.heap c.frames holds.agree.standing holds.ranges.frames holds.thrown in record {
-      agree = agree_step p ac forms c d holds.agree holds.targets holds.fields.contents holds.covered holds.fields.unfinished holds.ranges holds.making holds.arguments exits is;
+    let exits = top_exits p ac c.heap c.frames holds.agree.standing holds.ranges.frames holds.thrown in
+    let agree' = agree_step p ac forms c d holds.agree holds.targets holds.fields holds.covered holds.ranges holds.making holds.arguments exits holds.filled is in record {
+      agree = agree';
       targets = targets_step p ac c d holds.targets is;
       types = types_step p ac forms plain.texts c d (top_there c.heap c.frames holds.ranges.frames) holds.types is;
       ranges = ranges_step p ac forms c d holds.agree holds.targets holds.ranges is;
@@ -119,10 +141,11 @@ holds_step p ac plain c d holds is =
       making = being_made_step p ac forms plain.raises plain.runs (accepted_names p ac) plain.texts c d holds.agree holds.targets holds.types holds.ranges holds.fields holds.making holds.exceptions holds.covered holds.arguments exits is;
       exceptions = unlinked_exceptions_step p ac forms plain.raises plain.runs (accepted_names p ac) plain.texts c d holds.agree holds.targets holds.types holds.ranges holds.fields holds.making holds.exceptions holds.covered holds.arguments exits is;
       fields = fields_hold_step p ac forms c d holds.agree holds.targets holds.ranges holds.covered holds.fields
-          (λ fr caller rest frames. top_making p c.heap c.frames fr caller rest frames holds.making) is;
+          (λ fr caller rest frames. top_making p c.heap c.frames fr caller rest frames holds.making) agree'.links holds.arguments (top_ends_by_class p c.heap c.frames exits) is;
       arguments = arguments_step p ac forms c d holds.agree.standing holds.targets holds.arguments is;
       values = exceptions_step p ac forms plain.exceptions c d holds.agree holds.targets (top_throws_no_number p ac c holds.agree holds.thrown) holds.values is;
       thrown = thrown_step p ac forms plain.exceptions c d holds.agree holds.targets holds.values holds.thrown is;
+      filled = filled_step p ac forms c d holds.agree.standing holds.targets holds.ranges holds.fields.new holds.filled is;
     }
 
 module _ (p : Program) (ac : Accept p) (texts : MakesNoString p) (exceptions : HasPlainExceptions p) (main : MethodId) (choices : Choices) (is : IsMain p main) where
@@ -143,6 +166,7 @@ module _ (p : Program) (ac : Accept p) (texts : MakesNoString p) (exceptions : H
         arguments = arguments_at_start p main choices;
         values = exceptions_at_start p ac exceptions main m choices at body;
         thrown = thrown_at_start p main choices;
+        filled = filled_at_start p main choices;
       }
 
 module _ (p : Program) (ac : Accept p) (plain : IsPlain p) where

@@ -1,33 +1,35 @@
 -- What agrees with the facts, and whose fields own what they hold, is safe.
-use Rattle.std.proofs.Common.{◌≡◌, ◌⊎◌, inl, inr, ℕ, Bool, true, false, ◌||◌, Option, Some, None, List, [], ◌∷◌, refl, sym, ap, ◌∙◌, subst, true≢false}
+use Rattle.std.proofs.Common.{◌≡◌, ◌⊎◌, inl, inr, ℕ, Bool, true, false, not, ◌||◌, Option, Some, None, List, [], ◌∷◌, refl, sym, ap, ◌∙◌, subst, true≢false}
 use Rattle.std.proofs.lemmas.Bool.{and_parts, or_left, or_right}
 use Rattle.program_model.specs.declared.kinds.ClassId.{ClassId}
 use Rattle.program_model.specs.declared.program.Program.{Program}
 use Rattle.program_model.specs.Lookups.{method_at}
-use Rattle.must_call_sets.specs.Bodies.{is_class_of}
-use Rattle.accepted_programs.specs.Accept.{Accept}
+use Rattle.conduct_laws.specs.Bodies.{is_class_of}
+use Rattle.parameter_fact_laws.specs.Accept.{Accept}
 use Rattle.ledger_state.specs.Heaps.{object_at, root}
 use Rattle.ledger_state.specs.declared.entry.Owner.{Owner}
 use Rattle.ledger_state.specs.declared.entry.Owner.TheVariants as owners
 use Rattle.ledger_state.specs.declared.object.Object.{Object}
 use Rattle.ledger_state.specs.declared.value.Value.TheVariants as values
 use Rattle.ledger_obligations.specs.Obligations.{is_unmet, is_unmet_in, owner_in}
-use Rattle.ledger_calls.specs.Configuration.{Config, Frame}
+use Rattle.conduct_laws.specs.Calls.{is_alias}
+use Rattle.conduct_laws.specs.Configuration.{Config, Frame}
 use Rattle.safety.specs.Safety.{IsGiven, IsLive, IsSafeAt, IsUnmet, by_itself, constructs_object, is_being_made, owner_of, within}
-use Rattle.heap_laws.proofs.Laws.{roots_go_on-root, roots_of_links-itself}
-use Rattle.agreement.specs.Agreement.{Agree, IsTracked, is_answering}
-use Rattle.agreement.specs.Chains.{Ends, IsLast, ends_here, of_field}
-use Rattle.place_facts.specs.FieldContents.{HaveContents, IsContent, is_made_in, makes_object}
+use Rattle.library_call_laws.proofs.Laws.{roots_go_on-root, roots_of_links-itself}
+use Rattle.content_heap_laws.specs.Agreement.{Agree, IsTracked, is_answering}
+use Rattle.content_heap_laws.specs.Chains.{Ends, IsLast, ends_here, of_field}
+use Rattle.thrown_value_laws.specs.FieldContents.{HaveContents, IsContent, is_made_in, makes_holder, makes_object}
 use Rattle.covering_laws.proofs.Landing.{tracked_held}
 use Rattle.soundness_laws.proofs.Finalizers.{holder_is_unmet}
 
 -- a constructor of the class among the frames is a constructor
 made_is_being_made : (p : Program) (w : ℕ) (c : ClassId) (frs : List Frame) → is_made_in p w c frs ≡ true → is_being_made p frs w ≡ true
 made_is_being_made p w c [] is = absurd (true≢false (sym is))
-made_is_being_made p w c (fr ∷ frs) is = go (makes_object p w c fr) refl is (made_is_being_made p w c frs)
+made_is_being_made p w c (fr ∷ frs) is = go (makes_holder p w c fr) refl is (made_is_being_made p w c frs)
   where
-    go : (b : Bool) → makes_object p w c fr ≡ b → (b || is_made_in p w c frs) ≡ true → (is_made_in p w c frs ≡ true → is_being_made p frs w ≡ true) → is_being_made p (fr ∷ frs) w ≡ true
-    go true one is' rest = or_left (constructs_object p w fr) (is_being_made p frs w) (and_parts (constructs_object p w fr) (is_class_of c (method_at p fr.method)) one).0
+    go : (b : Bool) → makes_holder p w c fr ≡ b → (b || is_made_in p w c frs) ≡ true → (is_made_in p w c frs ≡ true → is_being_made p frs w ≡ true) → is_being_made p (fr ∷ frs) w ≡ true
+    go true one is' rest = or_left (constructs_object p w fr) (is_being_made p frs w)
+        (and_parts (constructs_object p w fr) (is_class_of c (method_at p fr.method)) (and_parts (makes_object p w c fr) (not (is_alias (method_at p fr.method))) one).0).0
     go false none is' rest = or_right (constructs_object p w fr) (is_being_made p frs w) (rest is')
 
 module _ (p : Program) (ac : Accept p) (c : Config) (agrees : Agree p c) (contents : HaveContents p c.frames c.heap) where

@@ -15,20 +15,20 @@ use Rattle.program_model.specs.declared.tree.Var.{Var}
 use Rattle.program_model.specs.Lookups.{body_at, method_at}
 use Rattle.program_model.specs.Validity.{HasParameters, IsBodyOf, OwnsBody}
 use Rattle.ownership_rules.specs.MovesAtReturns.{result_in}
-use Rattle.must_call_sets.specs.Bodies.{constructs, is_constructor_kind}
-use Rattle.accepted_programs.specs.Accept.{Accept}
-use Rattle.flow_rules.specs.Paths.{start}
+use Rattle.conduct_laws.specs.Bodies.{constructs, is_constructor_kind}
+use Rattle.parameter_fact_laws.specs.Accept.{Accept}
+use Rattle.named_step_laws.specs.Paths.{start}
 use Rattle.stub_conduct.specs.declared.choice.Choices.{Choices}
 use Rattle.ledger_state.specs.Heaps.{object_at}
 use Rattle.ledger_state.specs.declared.object.Object.{Object}
 use Rattle.ledger_state.specs.declared.value.Value.TheVariants as values
-use Rattle.ledger_calls.specs.Calls.{begun, body_of, control_in, variable_count, variables_in}
-use Rattle.ledger_calls.specs.Configuration.{Frame}
+use Rattle.conduct_laws.specs.Calls.{begun, body_of, control_in, variable_count, variables_in}
+use Rattle.conduct_laws.specs.Configuration.{Frame}
 use Rattle.ledger_runs.specs.Starts.{start_config}
-use Rattle.ledger_moves.specs.Moves.{has_body}
+use Rattle.filled_field_laws.specs.Moves.{has_body}
 use Rattle.ledger_runs.specs.Mains.{has_no_result, is_main, is_main_in, is_static, takes_texts}
 use Rattle.safety.specs.Safety.{IsMain}
-use Rattle.agreement.specs.Agreement.{Agree, Stands}
+use Rattle.content_heap_laws.specs.Agreement.{Agree, Stands}
 
 -- the frame of `main` by its body
 abbrev pub main_frame : Program → MethodId → Option BodyId → Frame

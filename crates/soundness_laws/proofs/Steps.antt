@@ -9,8 +9,7 @@ use Rattle.program_model.specs.declared.kinds.MethodId.{MethodId}
 use Rattle.program_model.specs.declared.program.Method.{Method}
 use Rattle.program_model.specs.declared.program.Program.{Program}
 use Rattle.program_model.specs.Lookups.{method_at}
-use Rattle.must_call_sets.specs.Bodies.{alias_in}
-use Rattle.must_call_sets.specs.WellFormed.{HasSmallInterests}
+use Rattle.conduct_laws.specs.WellFormed.{HasSmallInterests}
 use Rattle.java_control.specs.Calls.{called_method}
 use Rattle.java_control.specs.Control.{Step}
 use Rattle.java_control.specs.declared.action.Action.{Action}
@@ -18,8 +17,8 @@ use Rattle.java_control.specs.declared.action.Action.TheVariants as actions
 use Rattle.java_control.specs.declared.action.Completion.{Completion}
 use Rattle.java_control.specs.declared.action.Edge.TheVariants as edges
 use Rattle.ownership_rules.specs.Room.{variables_in}
-use Rattle.accepted_programs.specs.Accept.{Accept}
-use Rattle.flow_rules.specs.Paths.{move_of, on}
+use Rattle.parameter_fact_laws.specs.Accept.{Accept}
+use Rattle.named_step_laws.specs.Paths.{move_of, on}
 use Rattle.stub_conduct.specs.declared.choice.Conduct.{Conduct}
 use Rattle.stub_conduct.specs.declared.choice.Conduct.TheVariants as conducts
 use Rattle.ledger_state.specs.Contents.{HeapContents}
@@ -27,44 +26,43 @@ use Rattle.ledger_state.specs.Heaps.{next_number}
 use Rattle.ledger_state.specs.declared.locals.Locals.{Locals}
 use Rattle.ledger_state.specs.declared.value.Value.{Value}
 use Rattle.ledger_state.specs.declared.value.Value.TheVariants as values
-use Rattle.ledger_operations.specs.Operations.{made_value, next_choice}
-use Rattle.ledger_calls.specs.Calls.{alias_position, argument_values, begun, body_of, operand_of, params_in, running}
-use Rattle.ledger_calls.specs.Conducts.{arguments_shared, conduct_value, positions}
-use Rattle.ledger_calls.specs.Configuration.{Config, Frame, held_by}
-use Rattle.ledger_frames.specs.Choosing.{frame_steps}
-use Rattle.ledger_frames.specs.Frames.{frame_after}
+use Rattle.filled_field_laws.specs.Operations.{made_value, next_choice}
+use Rattle.conduct_laws.specs.Calls.{argument_values, begun, body_of, operand_of, params_in, running}
+use Rattle.conduct_laws.specs.Conducts.{arguments_shared, conduct_value, positions}
+use Rattle.conduct_laws.specs.Configuration.{Config, Frame, held_by}
+use Rattle.content_heap_laws.specs.Choosing.{frame_steps}
+use Rattle.content_heap_laws.specs.Frames.{frame_after}
 use Rattle.ledger_steps.specs.CallSteps.{self_begun}
 use Rattle.ledger_steps.specs.Ends.{answered, exception_class, result_value, thrown_in}
 use Rattle.ledger_steps.specs.InnerSteps.{inner, thrown_value}
-use Rattle.ledger_moves.specs.Moves.{Move, Inner, Start, Library, End, Stray, Rest, Return, Back, StrayBack, NoWay, return_move}
+use Rattle.filled_field_laws.specs.Moves.{Move, Inner, Start, Library, End, Stray, Rest, Return, Back, StrayBack, NoWay, return_move}
 use Rattle.ledger_runs.specs.Outcomes.{Outcome, went, ended, stray}
 use Rattle.ledger_runs.specs.Steps.{began, end, library_went, main_ended, moved, moved_by, returned, returned_by, step, top_move, within}
-use Rattle.target_laws.specs.Frames.{HaveTargets, KeepsTargets}
-use Rattle.program_call_laws.specs.ProgramCalls.{is_new}
-use Rattle.agreement.specs.Agreement.{Agree, Agrees, IsMadeBy, RunsItself, Stands, WaitsFor}
-use Rattle.agreement.specs.PlainForms.{HasPlainForms, IsPlainCall}
+use Rattle.thrown_value_laws.specs.Frames.{HaveTargets, KeepsTargets}
+use Rattle.content_heap_laws.specs.Agreement.{Agree, Agrees, IsMadeBy, RunsItself, Stands, WaitsFor, IsMadeAfter}
+use Rattle.content_heap_laws.specs.PlainForms.{HasPlainForms, IsPlainCall}
 use Rattle.conduct_laws.specs.Fitting.{FitsMethod}
 use Rattle.call_step_laws.proofs.Ways.{one_action}
-use Rattle.owned_fact_laws.specs.Outcomes.{IsCallRow}
-use Rattle.place_laws.proofs.Laws.{variables_stay}
+use Rattle.content_heap_laws.specs.Outcomes.{IsCallRow}
+use Rattle.parameter_fact_laws.proofs.Laws.{variables_stay}
 use Rattle.covering_laws.proofs.Entries.{has_begun, same_count}
 use Rattle.covering_laws.proofs.Ready.{plain_call, plain_step, step_here, step_there}
 use Rattle.covering_laws.proofs.Unmet.{call_may, row_of}
 use Rattle.soundness_laws.proofs.Answered.{IsAnswered}
 use Rattle.soundness_laws.proofs.CallEnds.{returned_agrees}
 use Rattle.soundness_laws.proofs.CallStarts.{IsStarted, began_agrees}
-use Rattle.place_facts.specs.FieldContents.{IsBeingMade}
-use Rattle.place_facts.specs.Ranges.{AreInRange, LocalsInRange}
+use Rattle.thrown_value_laws.specs.FieldContents.{FieldsHold, IsBeingMade}
+use Rattle.thrown_value_laws.specs.PlaceFacts.{AreCovered, IsCovered}
+use Rattle.thrown_value_laws.specs.Ranges.{AreInRange, LocalsInRange}
 use Rattle.covering_laws.specs.Making.{AreBeingMade}
-use Rattle.content_laws.specs.Nexts.{IsBack, IsBackStep, IsInnerStep, IsLibraryMove, IsNext, IsStartMove}
-use Rattle.content_laws.proofs.Cases.{next_is, none_runs}
-use Rattle.content_laws.proofs.Returns.{back_is}
+use Rattle.filled_field_laws.specs.Nexts.{IsBack, IsBackStep, IsInnerStep, IsLibraryMove, IsNext, IsStartMove}
+use Rattle.filled_field_laws.proofs.Cases.{next_is, none_runs}
+use Rattle.filled_field_laws.proofs.Returns.{back_is}
 use Rattle.soundness_laws.specs.Supports.{IsSupported, Supports}
 use Rattle.soundness_laws.proofs.InnerSteps.{inner_agrees}
 use Rattle.soundness_laws.proofs.KeptPromises.{ShowsOperands, TopShowsOperands}
 use Rattle.soundness_laws.proofs.LibrarySteps.{IsLibraryStep, library_agrees, plain_reset}
 use Rattle.soundness_laws.proofs.MainEnds.{main_agrees}
-use Rattle.soundness_laws.proofs.Makers.{constructor_no_alias, new_constructs}
 use Rattle.soundness_laws.proofs.Programs.{is_programs}
 use Rattle.soundness_laws.proofs.StoreSteps.{store_agrees}
 
@@ -120,16 +118,15 @@ module _ (p : Program) (ac : Accept p) (forms : HasPlainForms p) (names : HasSma
             running_at = at;
             fit = fit;
             no_reset = plain_reset p (method_at p w.named) plain.signature;
-            no_alias = λ new.
-                let made = new_constructs p ac forms h fr caller below w (ap is_new (sym same) ∙ new) in
-                ap alias_position named_at ∙ sym fit.alias ∙ sym (ap alias_in at) ∙ constructor_no_alias p ac forms h fr caller st below w made;
             normal = normal;
             thrown = thrown;
             makes = subst (λ (a : Action). IsMadeBy p h a fr.locals.this) (sym same) w.makes;
+            later = subst (λ (a : Action). IsMadeAfter p caller.locals a fr.locals.this) (sym same) w.after;
           }
 
   module _ (c d : Config) (fr caller : Frame) (frs : List Frame) (i : ℕ) (s : Step) (pos : Pos) (q : Completion) (agrees : Agrees p (fr ∷ caller ∷ frs) c.heap c.entries)
-      (here : slice_get (frame_steps p fr) i ≡ Some s) (is : s.action ≡ actions.End q) (before : Agree p c) (sup : Supports p c.heap fr) (making : IsBeingMade p c.heap fr caller) (keeps : ShowsOperands p c.heap fr caller) where
+      (here : slice_get (frame_steps p fr) i ≡ Some s) (is : s.action ≡ actions.End q) (before : Agree p c) (sup : Supports p c.heap fr) (making : IsBeingMade p c.heap fr caller) (keeps : ShowsOperands p c.heap fr caller) (fields : FieldsHold p (fr ∷ caller ∷ frs) c.heap)
+      (covered : IsCovered p c.heap fr) where
     abbrev e : Option ClassId
     e = exception_class p c.heap (thrown_in fr.locals q)
 
@@ -154,7 +151,7 @@ module _ (p : Program) (ac : Accept p) (forms : HasPlainForms p) (names : HasSma
     back_step : (t : Step) → IsBackStep p steps e w.named t → Agree p (returned p c fr caller frs pos q e w.named t)
     back_step t back =
         returned_agrees p ac forms names fr caller frs c.heap c.entries agrees i s here q is back.index t back.here w.named
-        (answer c.heap fr caller q agrees.standing.0 below w t (one_call back.index t back.here) back.normal (λ x thrown. (let way = back.thrown x thrown in (way.0, way.2)))) sup making keeps
+        (answer c.heap fr caller q agrees.standing.0 below w t (one_call back.index t back.here) back.normal (λ x thrown. (let way = back.thrown x thrown in (way.0, way.2)))) sup making keeps fields.leads covered fields.dispatched.0
         (stands_on p ac c.heap caller below back.index t (answered fr.locals.this t.action (result_value fr.locals (method_at p fr.method) q) e) back.here) pos
 
     back_agrees : (r : Return) → IsBack p steps e w.named r → returned_by p c fr caller frs pos q r ≡ went d → Agree p d
@@ -169,11 +166,12 @@ module _ (p : Program) (ac : Accept p) (forms : HasPlainForms p) (names : HasSma
     ends_below same = back_agrees (return_move p steps e) (back_is p caller below w.named w.index w.step w.here w.calls e) same
 
   end_agrees : (c d : Config) (fr : Frame) (frs : List Frame) (i : ℕ) (s : Step) (pos : Pos) (q : Completion) → Agrees p (fr ∷ frs) c.heap c.entries
-      → slice_get (frame_steps p fr) i ≡ Some s → s.action ≡ actions.End q → Agree p c → Supports p c.heap fr → AreBeingMade p c.heap (fr ∷ frs) → TopShowsOperands p c.heap (fr ∷ frs) → end p c fr frs pos q ≡ went d → Agree p d
-  end_agrees c d fr [] i s pos q agrees here is before sup making keeps same =
+      → slice_get (frame_steps p fr) i ≡ Some s → s.action ≡ actions.End q → Agree p c → Supports p c.heap fr → AreBeingMade p c.heap (fr ∷ frs) → TopShowsOperands p c.heap (fr ∷ frs)
+      → FieldsHold p (fr ∷ frs) c.heap → IsCovered p c.heap fr → end p c fr frs pos q ≡ went d → Agree p d
+  end_agrees c d fr [] i s pos q agrees here is before sup making keeps fields covered same =
       subst (Agree p) (let one : main_ended p c fr pos q ≡ d = (let both : went (main_ended p c fr pos q) ≡ went d = same in cc) in one)
       (main_agrees p ac fr c.heap c.entries agrees i s here q is pos)
-  end_agrees c d fr (caller ∷ frs) i s pos q agrees here is before sup making keeps same = ends_below c d fr caller frs i s pos q agrees here is before sup making.0 keeps same
+  end_agrees c d fr (caller ∷ frs) i s pos q agrees here is before sup making keeps fields covered same = ends_below c d fr caller frs i s pos q agrees here is before sup making.0 keeps fields covered same
 
   -- ---- the start of a call
 
@@ -185,10 +183,10 @@ module _ (p : Program) (ac : Accept p) (forms : HasPlainForms p) (names : HasSma
   itself h l a named runs is = tt
 
   begin_agrees : (c : Config) (fr : Frame) (frs : List Frame) (named runs : MethodId) (a : Action) (pos : Pos) → Agrees p (fr ∷ frs) c.heap c.entries
-      → IsStartMove p c.heap c.arrays fr.locals (frame_steps p fr) named runs a → Supports p c.heap fr → KeepsTargets p fr → Agree p (began p c fr frs named runs a pos)
-  begin_agrees c fr frs named runs a pos agrees next sup targets =
+      → IsStartMove p c.heap c.arrays fr.locals (frame_steps p fr) named runs a → Supports p c.heap fr → KeepsTargets p fr → LocalsInRange c.heap fr.locals → IsCovered p c.heap fr → Agree p (began p c fr frs named runs a pos)
+  begin_agrees c fr frs named runs a pos agrees next sup targets ranges covered =
       subst (λ (b : Action). Agree p (began p c fr frs named runs b pos)) next.same
-      (began_agrees p ac forms fr (callee next.step.action) frs c.heap c.entries agrees next.index next.step next.here named runs start sup targets pos)
+      (began_agrees p ac forms fr (callee next.step.action) frs c.heap c.entries agrees next.index next.step next.here named runs start sup targets ranges covered pos)
     where
       callee : Action → Frame
       callee b = begun p runs (self_begun fr.locals b c.heap) (argument_values fr.locals b (method_at p named))
@@ -221,6 +219,7 @@ module _ (p : Program) (ac : Accept p) (forms : HasPlainForms p) (names : HasSma
     thrown = λ e is. (let to = next.thrown e is in (to.0, to.2));
     normal = next.normal;
     by = next.by;
+    ran = next.ran;
     count = length (arguments_shared c.arrays fr.locals s.action (method_at p named));
     value = refl;
     row = next.row;
@@ -247,32 +246,33 @@ module _ (p : Program) (ac : Accept p) (forms : HasPlainForms p) (names : HasSma
       (stands_on p ac c.heap fr agrees.standing.0 i s v here)
 
   moved_agrees : (c d : Config) (fr : Frame) (frs : List Frame) (mv : Move) → Agrees p (fr ∷ frs) c.heap c.entries → IsNext p c.heap c.arrays fr.method fr.locals (frame_steps p fr) mv → moved p c fr frs mv ≡ went d
-      → Agree p c → Supports p c.heap fr → KeepsTargets p fr → LocalsInRange c.heap fr.locals → AreBeingMade p c.heap (fr ∷ frs) → TopShowsOperands p c.heap (fr ∷ frs) → Agree p d
-  moved_agrees c d fr frs (Inner e s) agrees next same before sup targets ranges making keeps =
+      → Agree p c → Supports p c.heap fr → KeepsTargets p fr → LocalsInRange c.heap fr.locals → AreBeingMade p c.heap (fr ∷ frs) → TopShowsOperands p c.heap (fr ∷ frs) → FieldsHold p (fr ∷ frs) c.heap
+      → IsCovered p c.heap fr → Agree p d
+  moved_agrees c d fr frs (Inner e s) agrees next same before sup targets ranges making keeps fields covered =
       let made = made_value p c.heap c.arrays c.statics (next_choice c.choices c.used) fr.locals s.action in
       let v = thrown_value c.heap e made in
       subst (Agree p) (let one : within p c fr frs e s ≡ d = (let both : went (within p c fr frs e s) ≡ went d = same in cc) in one)
       (inner_step c fr frs e s v agrees next.0 next.1 next.2 sup)
-  moved_agrees c d fr frs (Start named runs a pos) agrees next same before sup targets ranges making keeps =
+  moved_agrees c d fr frs (Start named runs a pos) agrees next same before sup targets ranges making keeps fields covered =
       subst (Agree p) (let one : began p c fr frs named runs a pos ≡ d = (let both : went (began p c fr frs named runs a pos) ≡ went d = same in cc) in one)
-      (begin_agrees c fr frs named runs a pos agrees next sup targets)
-  moved_agrees c d fr frs (Library named m x s) agrees next same before sup targets ranges making keeps =
+      (begin_agrees c fr frs named runs a pos agrees next sup targets ranges covered)
+  moved_agrees c d fr frs (Library named m x s) agrees next same before sup targets ranges making keeps fields covered =
       subst (Agree p) (let one : library_went p c fr frs named m x s ≡ d = (let both : went (library_went p c fr frs named m x s) ≡ went d = same in cc) in one)
       (subst (λ (z : MethodId). Agree p (library_went p c fr frs named z x s)) (sym next.same)
-      (library_agrees p ac forms names fr frs c.heap c.entries agrees next.index s next.here named x (call_value p c fr named x s) c.arrays (library_step c fr named m x s next) ranges
+      (library_agrees p ac forms names fr frs c.heap c.entries agrees next.index s next.here named x (call_value p c fr named x s) c.arrays (library_step c fr named m x s next) ranges fields.leads
       (stands_on p ac c.heap fr agrees.standing.0 next.index s (call_value p c fr named x s) next.here)))
-  moved_agrees c d fr frs (End pos q) agrees next same before sup targets ranges making keeps = end_agrees c d fr frs next.0 next.1 pos q agrees next.2 next.3 before sup making keeps same
-  moved_agrees c d fr frs (Stray e pos) agrees next same before sup targets ranges making keeps = absurd (let never : stray e pos ≡ went d = same in cc)
-  moved_agrees c d fr frs Rest agrees next same before sup targets ranges making keeps = subst (Agree p) (let one : c ≡ d = (let both : went c ≡ went d = same in cc) in one) before
+  moved_agrees c d fr frs (End pos q) agrees next same before sup targets ranges making keeps fields covered = end_agrees c d fr frs next.0 next.1 pos q agrees next.2 next.3 before sup making keeps fields covered same
+  moved_agrees c d fr frs (Stray e pos) agrees next same before sup targets ranges making keeps fields covered = absurd (let never : stray e pos ≡ went d = same in cc)
+  moved_agrees c d fr frs Rest agrees next same before sup targets ranges making keeps fields covered = subst (Agree p) (let one : c ≡ d = (let both : went c ≡ went d = same in cc) in one) before
 
   by_frames : (c d : Config) (frs : List Frame) → Agrees p frs c.heap c.entries → HaveTargets p frs → IsSupported p c.heap frs → All (λ (fr : Frame). LocalsInRange c.heap fr.locals) frs → AreBeingMade p c.heap frs → TopShowsOperands p c.heap frs
-      → moved_by p c frs (top_move p c frs) ≡ went d → Agree p c → Agree p d
-  by_frames c d [] agrees targets sup ranges making keeps same before = absurd (let never : ended c.ended ≡ went d = same in cc)
-  by_frames c d (fr ∷ frs) agrees targets sup ranges making keeps same before =
+      → FieldsHold p frs c.heap → AreCovered p c.heap frs → moved_by p c frs (top_move p c frs) ≡ went d → Agree p c → Agree p d
+  by_frames c d [] agrees targets sup ranges making keeps fields covered same before = absurd (let never : ended c.ended ≡ went d = same in cc)
+  by_frames c d (fr ∷ frs) agrees targets sup ranges making keeps fields covered same before =
       moved_agrees c d fr frs (top_move p c (fr ∷ frs)) agrees
-      (next_is p ac forms c.heap c.arrays (next_choice c.choices c.used) fr agrees.standing.0 targets.0) same before sup targets.0 (All-head (λ (x : Frame). LocalsInRange c.heap x.locals) fr frs ranges) making keeps
+      (next_is p ac forms c.heap c.arrays (next_choice c.choices c.used) fr agrees.standing.0 targets.0) same before sup targets.0 (All-head (λ (x : Frame). LocalsInRange c.heap x.locals) fr frs ranges) making keeps fields covered.0
 
-  pub step_agrees : (c d : Config) → Agree p c → HaveTargets p c.frames → IsSupported p c.heap c.frames → AreInRange c → AreBeingMade p c.heap c.frames
-      → TopShowsOperands p c.heap c.frames → step p c ≡ went d → Agree p d
+  pub step_agrees : (c d : Config) → Agree p c → HaveTargets p c.frames → FieldsHold p c.frames c.heap → AreCovered p c.heap c.frames → IsSupported p c.heap c.frames → AreInRange c
+      → AreBeingMade p c.heap c.frames → TopShowsOperands p c.heap c.frames → step p c ≡ went d → Agree p d
   unfolding step
-  step_agrees c d agrees targets sup ranges making keeps same = by_frames c d c.frames agrees targets sup ranges.frames making keeps same agrees
+  step_agrees c d agrees targets fields covered sup ranges making keeps same = by_frames c d c.frames agrees targets sup ranges.frames making keeps fields covered same agrees

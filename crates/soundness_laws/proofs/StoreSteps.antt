@@ -1,8 +1,8 @@
 -- A store into an owning field of `this`.
-use Rattle.std.proofs.Common.{◌≡◌, inl, inr, ℕ, Bool, true, false, not, ◌&&◌, Option, Some, None, List, [], ◌∷◌, ◌++◌, slice_get, refl, sym, ap, ◌∙◌, subst, true≢false, if◌then◌else◌, arith}
+use Rattle.std.proofs.Common.{◌≡◌, inl, inr, ℕ, Bool, true, false, not, ◌&&◌, Option, Some, None, List, [], ◌∷◌, ◌++◌, slice_get, nat_eq, refl, sym, ap, ◌∙◌, subst, true≢false, if◌then◌else◌, arith, eq-eqb}
 use Rattle.std.specs.FinSet as set
 use Rattle.std.specs.List.{list_any}
-use Rattle.std.proofs.lemmas.Bool.{and_parts}
+use Rattle.std.proofs.lemmas.Bool.{and_from, and_parts}
 use Rattle.program_model.specs.declared.kinds.ClassId.{ClassId}
 use Rattle.program_model.specs.declared.kinds.FieldId.{FieldId}
 use Rattle.program_model.specs.declared.kinds.VType.{VType}
@@ -10,41 +10,42 @@ use Rattle.program_model.specs.declared.program.Field.{Field}
 use Rattle.program_model.specs.declared.program.Method.{Method}
 use Rattle.program_model.specs.declared.program.Program.{Program}
 use Rattle.program_model.specs.Lookups.{field_at, method_at}
-use Rattle.must_call_sets.specs.MustCallSets.{must_of, must_of_optional, must_of_type}
-use Rattle.must_call_sets.specs.Signatures as signatures
+use Rattle.conduct_laws.specs.MustCallSets.{must_of, must_of_optional, must_of_type}
+use Rattle.conduct_laws.specs.Signatures as signatures
 use Rattle.java_control.specs.Control.{Step}
 use Rattle.java_control.specs.declared.action.Action.{Action}
 use Rattle.java_control.specs.declared.action.Action.TheVariants as actions
 use Rattle.java_control.specs.declared.place.Place.TheVariants as places
 use Rattle.obligation_facts.specs.Facts.{has}
-use Rattle.accepted_programs.specs.Accept.{Accept}
+use Rattle.parameter_fact_laws.specs.Accept.{Accept}
 use Rattle.ledger_state.specs.Contents.{HeapContents}
 use Rattle.ledger_state.specs.Heaps.{object_at, put_field}
 use Rattle.ledger_state.specs.Locals.{temp_value}
 use Rattle.ledger_state.specs.Values.{number_of}
 use Rattle.ledger_state.specs.declared.entry.Entry.{Entry}
 use Rattle.ledger_state.specs.declared.entry.LeakWord.TheVariants as words
+use Rattle.ledger_state.specs.declared.entry.Owner.{Owner}
 use Rattle.ledger_state.specs.declared.entry.Owner.TheVariants as owners
 use Rattle.ledger_state.specs.declared.object.Object.{Object}
 use Rattle.ledger_state.specs.declared.value.Value.{Value}
-use Rattle.ledger_obligations.specs.Obligations.{displaced, given_up, holder_roots, is_library_owner, is_unmet, may_move, moved_in, stored_owning, type_of_field}
+use Rattle.ledger_obligations.specs.Obligations.{displaced, given_up, holder_roots, is_field, is_library_owner, is_unmet, may_move, moved_in, stored_owning, type_of_field}
 use Rattle.ledger_entries.specs.Entries.{leak_entries, owner_entries, reset_entries}
-use Rattle.ledger_calls.specs.Configuration.{Frame, held_by}
-use Rattle.ledger_frames.specs.Choosing.{frame_steps}
-use Rattle.ledger_frames.specs.Frames.{frame_after}
+use Rattle.conduct_laws.specs.Configuration.{Frame, held_by}
+use Rattle.content_heap_laws.specs.Choosing.{frame_steps}
+use Rattle.content_heap_laws.specs.Frames.{frame_after}
 use Rattle.ledger_steps.specs.declared.store.Store.{Store}
 use Rattle.ledger_steps.specs.Effects.{Effect, left}
 use Rattle.ledger_steps.specs.InnerSteps.{displaced_entries, heap_stored, inner, is_bound, owning_lines, store_entries, store_into, store_unless}
 use Rattle.ledger_state.specs.Leaks.{is_leak}
-use Rattle.heap_laws.specs.Heaps.{HasLibraryLinks, KeepsLinks}
-use Rattle.heap_laws.proofs.Laws.{owner_lines_leak_nothing, reset_lines_leak_nothing, roots_go_on-value}
-use Rattle.heap_laws.proofs.ObjectLaws.{goes_on_self}
-use Rattle.store_laws.specs.Stores.{IsDisplaced, IsStored}
-use Rattle.store_laws.proofs.Objects.{displaced_leaks, stored_back, stored_count, stored_forward, stored_goes_on, stored_links, stored_takes}
-use Rattle.agreement.specs.Chains.{HaveEnds, IsLast}
-use Rattle.agreement.specs.Agreement.{Agrees, IsTracked, Stands, Tracks, is_answering}
+use Rattle.library_call_laws.specs.Heaps.{HasEarlierLinks, KeepsLinks}
+use Rattle.library_call_laws.proofs.Laws.{owner_lines_leak_nothing, reset_lines_leak_nothing, roots_go_on-value}
+use Rattle.library_call_laws.proofs.ObjectLaws.{goes_on_self}
+use Rattle.content_heap_laws.specs.Stores.{IsDisplaced, IsStored}
+use Rattle.content_heap_laws.proofs.Objects.{displaced_leaks, stored_back, stored_count, stored_forward, stored_goes_on, stored_links, stored_takes}
+use Rattle.content_heap_laws.specs.Chains.{HaveEnds, IsLast}
+use Rattle.content_heap_laws.specs.Agreement.{Agrees, IsTracked, Stands, Tracks, is_answering}
 use Rattle.covering_laws.specs.Steps.{RootsStay}
-use Rattle.covering_laws.proofs.Chains.{IsOwnedAs, ends_on, given_up_last}
+use Rattle.covering_laws.proofs.Chains.{IsOwnedAs, ends_on, kept_owner, given_up_last, owned_is_finished}
 use Rattle.covering_laws.proofs.Landing.{landed, no_leak_in_both}
 use Rattle.covering_laws.proofs.Stacks.{KeepsClasses, called_on}
 use Rattle.covering_laws.proofs.Stores.{store_fits, tracks_store}
@@ -63,7 +64,7 @@ finished_by p t x may =
     (and_parts x.finished (not (is_library_owner x.owner)) (and_parts (x.finished && not (is_library_owner x.owner)) (set.is_subset (must_of p x.class) (must_of_type p t)) may).0).0
 
 module _ (p : Program) (ac : Accept p) (fr : Frame) (frs : List Frame) (h : HeapContents) (es : List Entry) (agrees : Agrees p (fr ∷ frs) h es) (i : ℕ) (s : Step)
-    (here : slice_get (frame_steps p fr) i ≡ Some s) (f : FieldId) (d : ℕ) (is : s.action ≡ actions.PutOwn f d) (v : Value) (good : StoresWell p h fr f (temp_value fr.locals d)) where
+    (here : slice_get (frame_steps p fr) i ≡ Some s) (f : FieldId) (d : ℕ) (is : s.action ≡ actions.PutOwn f d) (v : Value) (good : StoresWell p h fr f d) where
   abbrev after : Frame
   after = frame_after p h fr s v
 
@@ -73,20 +74,24 @@ module _ (p : Program) (ac : Accept p) (fr : Frame) (frs : List Frame) (h : Heap
   abbrev w : ℕ
   w = good.holder
 
+  -- the value is the aliased argument of the constructor
+  abbrev bound : Bool
+  bound = is_bound h (method_at p fr.method) fr.locals value
+
   abbrev heap : HeapContents
-  heap = stored_owning p h w f false value
+  heap = stored_owning p h w f bound value
 
   st : Stands p fr
   st = agrees.standing.0
 
   was_there : (n : ℕ) (y : Object) → object_at heap n ≡ Some y → (x : Object) × (object_at h n ≡ Some x) × IsStored p h w f value n x y
-  was_there n y at = stored_back p h w f value false n y good.still at
+  was_there n y at = stored_back p h w f value bound n y (good.still bound) at
 
-  links : HasLibraryLinks heap
-  links = stored_links p h w f false value agrees.links good.still
+  links : HasEarlierLinks heap
+  links = stored_links p h w f bound value agrees.links (good.still bound)
 
   keeps_links : KeepsLinks h heap
-  keeps_links n x before = let y = stored_forward p h w f value false n x good.still before in (y.0, y.1, (stored_goes_on p h w f value n x y.0 y.2).link)
+  keeps_links n x before = let y = stored_forward p h w f value bound n x (good.still bound) before in (y.0, y.1, (stored_goes_on p h w f value n x y.0 y.2).link)
 
   stays : (n : ℕ) (x : Object) → object_at h n ≡ Some x → RootsStay h heap n
   stays n x before u root = roots_go_on-value h heap u n x agrees.links keeps_links root before
@@ -112,7 +117,9 @@ module _ (p : Program) (ac : Accept p) (fr : Frame) (frs : List Frame) (h : Heap
           let fit = store_fits p ac h fr st i s here f d is n x t unmet has' in
           let may : may_move p (type_of_field (field_at p f)) x ≡ true =
           may_go p (type_of_field (field_at p f)) x j unmet owner (ap (set.is_subset (must_of p x.class)) (sym (same_type p (field_at p f))) ∙ fit.1) in
-          let never : owners.Frame j ≡ owners.Field w f = sym owner ∙ stored_takes p h w f value n x x good.still fit.0 before may now in
+          let free : bound ≡ false = good.free n x t unmet has' in
+          let never : owners.Frame j ≡ owners.Field w f =
+          sym owner ∙ stored_takes p h w f value n x x (good.still false) fit.0 before may (subst (λ (b : Bool). object_at (stored_owning p h w f b value) n ≡ Some x) free now) in
           cc
 
       go : (b : Bool) → has t.fact.places (places.Temp d) ≡ b → Tracks p heap after n x
@@ -133,7 +140,7 @@ module _ (p : Program) (ac : Accept p) (fr : Frame) (frs : List Frame) (h : Heap
 
   keeps : KeepsClasses h heap
   keeps = record {
-    count = (let same = stored_count p h w f value false in omega (arith, same));
+    count = (let same = stored_count p h w f value bound in omega (arith, same));
     class = λ n y at small. let x = was_there n y at in (x.0, x.1, (stored_goes_on p h w f value n x.0 y x.2).class);
   }
 
@@ -141,15 +148,21 @@ module _ (p : Program) (ac : Accept p) (fr : Frame) (frs : List Frame) (h : Heap
 
   -- the holder is owned by no field
   holder_last : (z : Object) → IsStored p h w f value w good.object z → IsLast z.owner
-  holder_last z (inl same) = subst (λ (y : Object). IsLast y.owner) (sym same) (agrees.ends.unfinished w good.object good.there good.unfinished)
+  holder_last z (inl same) = subst IsLast (sym (ap (λ (y : Object). y.owner) same ∙ agrees.ends.unfinished w good.object good.there good.unfinished)) tt
   holder_last z (inr (inl gone)) = subst (λ (y : Object). IsLast y.owner) (sym gone.1) (given_up_last good.object)
   holder_last z (inr (inr moved)) = absurd (true≢false (sym (finished_by p (type_of_field (field_at p f)) good.object moved.0.may) ∙ good.unfinished))
 
   owned : (n : ℕ) (y : Object) → (x : Object) × (object_at h n ≡ Some x) × IsStored p h w f value n x y → IsOwnedAs h heap n y
   owned n y (x, before, inl same) = inr (inl (x, before, (ap (λ (z : Object). z.owner) same, ap (λ (z : Object). z.finished) same)))
-  owned n y (x, before, inr (inl gone)) = inl (subst (λ (z : Object). IsLast z.owner) (sym gone.1) (given_up_last x))
+  owned n y (x, before, inr (inl gone)) = elim (kept_owner true x y (λ it. owned_is_finished h agrees.ends n x (λ o. is_field o w f) refl before (field_here gone.0.owner)) (inr (refl, gone.1))) [
+    | inl last ↦ inl last
+    | inr same ↦ inr (inl (x, before, same))
+  ]
+    where
+      field_here : x.owner ≡ owners.Field w f → is_field x.owner w f ≡ true
+      field_here is' = ap (λ (o : Owner). is_field o w f) is' ∙ and_from (nat_eq w w) (nat_eq f.0 f.0) (eq-eqb w w refl) (eq-eqb f.0 f.0 refl)
   owned n y (x, before, inr (inr moved)) =
-      let z = stored_forward p h w f value false w good.object good.still good.there in
+      let z = stored_forward p h w f value bound w good.object (good.still bound) good.there in
       inr (inr (record {
         holder = w;
         field = f;
@@ -182,22 +195,19 @@ module _ (p : Program) (ac : Accept p) (fr : Frame) (frs : List Frame) (h : Heap
   by_field b = left p s.pos held (if b then owning_lines p s.pos store (is_bound h m fr.locals value) h else []) (if b then leak_entries p words.Overwritten s.pos h (displaced p h w f value) else [])
       (if b then stored_owning p h w f (is_bound h m fr.locals value) value else put_field w f value h)
 
-  abbrev by_bound : Bool → Effect
-  by_bound b = left p s.pos held (owning_lines p s.pos store b h) (leak_entries p words.Overwritten s.pos h (displaced p h w f value)) (stored_owning p h w f b value)
-
-  effect_is : inner p h fr.method fr.locals None (actions.PutOwn f d) s.pos held ≡ left p s.pos held (owning_lines p s.pos store false h) [] heap
+  effect_is : inner p h fr.method fr.locals None (actions.PutOwn f d) s.pos held ≡ left p s.pos held (owning_lines p s.pos store bound h) [] heap
   effect_is =
-      ap by_holder (ap number_of good.this) ∙ ap by_field good.owning ∙ ap by_bound good.free
-      ∙ ap (λ (leaks : List Entry). left p s.pos held (owning_lines p s.pos store false h) leaks heap) (displaced_leaks p h w f value words.Overwritten s.pos good.met)
+      ap by_holder (ap number_of good.this) ∙ ap by_field good.owning
+      ∙ ap (λ (leaks : List Entry). left p s.pos held (owning_lines p s.pos store bound h) leaks heap) (displaced_leaks p h w f value words.Overwritten s.pos good.met)
 
-  lines : list_any is_leak (owning_lines p s.pos store false h) ≡ false
-  lines = no_leak_in_both (reset_entries p s.pos (holder_roots p h w f false value) (moved_in p h w f false value)) (owner_entries p s.pos (displaced p h w f value) (moved_in p h w f false value))
-      (reset_lines_leak_nothing p s.pos (holder_roots p h w f false value) (moved_in p h w f false value)) (owner_lines_leak_nothing p s.pos (displaced p h w f value) (moved_in p h w f false value))
+  lines : list_any is_leak (owning_lines p s.pos store bound h) ≡ false
+  lines = no_leak_in_both (reset_entries p s.pos (holder_roots p h w f bound value) (moved_in p h w f bound value)) (owner_entries p s.pos (displaced p h w f value) (moved_in p h w f bound value))
+      (reset_lines_leak_nothing p s.pos (holder_roots p h w f bound value) (moved_in p h w f bound value)) (owner_lines_leak_nothing p s.pos (displaced p h w f value) (moved_in p h w f bound value))
 
   pub store_agrees : (e : Option ClassId) → e ≡ None → Stands p after
       → Agrees p (after ∷ frs) (inner p h fr.method fr.locals e s.action s.pos held).heap (es ++ (inner p h fr.method fr.locals e s.action s.pos held).lines)
   store_agrees e normal stands =
       subst (λ (effect : Effect). Agrees p (after ∷ frs) effect.heap (es ++ effect.lines))
       (sym (ap (λ (x : Option ClassId). inner p h fr.method fr.locals x s.action s.pos held) normal ∙ ap (λ (a : Action). inner p h fr.method fr.locals None a s.pos held) is ∙ effect_is))
-      (landed p (after ∷ frs) heap es s.pos (owning_lines p s.pos store false h) (stands, agrees.standing.1) (called_on p h heap keeps fr after frs refl refl agrees.stacked) links ends tracked answered
+      (landed p (after ∷ frs) heap es s.pos (owning_lines p s.pos store bound h) (stands, agrees.standing.1) (called_on p h heap keeps fr after frs refl refl agrees.stacked) links ends tracked answered
       agrees.no_leak lines)

@@ -1,5 +1,5 @@
 -- What the other invariants say of fields is what the agreement needs to know of them.
-use Rattle.std.proofs.Common.{◌≡◌, ℕ, Bool, true, false, not, ◌&&◌, Option, Some, None, List, [], ◌∷◌, is_some, slice_get, refl, sym, ap, ◌∙◌, true≢false, eqb-true}
+use Rattle.std.proofs.Common.{◌≡◌, inl, inr, ℕ, suc, Bool, true, false, not, ◌&&◌, ◌||◌, Option, Some, None, List, [], ◌∷◌, is_some, slice_get, refl, sym, ap, ◌∙◌, true≢false, eqb-true}
 use Rattle.std.proofs.lemmas.Bool.{and_parts}
 use Rattle.rlc_base.proofs.SetLaws.{within_trans}
 use Rattle.program_model.specs.declared.kinds.ClassId.{ClassId}
@@ -8,19 +8,19 @@ use Rattle.program_model.specs.declared.program.Field.{Field}
 use Rattle.program_model.specs.declared.program.Method.{Method}
 use Rattle.program_model.specs.declared.program.Program.{Program}
 use Rattle.program_model.specs.Lookups.{field_at, method_at}
-use Rattle.must_call_sets.specs.Bodies.{alias_in, alias_position, constructs, has_field_place, is_class_of, is_field_in, method_of}
-use Rattle.must_call_sets.specs.MustCallSets.{is_empty, must_of, must_of_optional, must_of_type, no_names}
-use Rattle.must_call_sets.specs.Signatures.{type_of_field}
+use Rattle.conduct_laws.specs.Bodies.{alias_in, alias_position, constructs, has_field_place, is_class_of, is_field_in, method_of}
+use Rattle.conduct_laws.specs.MustCallSets.{is_empty, must_of, must_of_optional, must_of_type, no_names}
+use Rattle.conduct_laws.specs.Signatures.{type_of_field}
 use Rattle.java_control.specs.Control.{Step}
 use Rattle.java_control.specs.Owned.{is_owning_field}
 use Rattle.java_control.specs.declared.action.Action.TheVariants as actions
 use Rattle.java_control.specs.declared.action.Completion.{Completion}
 use Rattle.java_control.specs.declared.action.Completion.TheVariants as completions
-use Rattle.flow_rules.specs.Ends.{is_throw}
-use Rattle.flow_rules.specs.Paths.{move_of}
-use Rattle.accepted_programs.specs.Accept.{Accept}
+use Rattle.named_step_laws.specs.Ends.{is_throw}
+use Rattle.named_step_laws.specs.Paths.{move_of}
+use Rattle.parameter_fact_laws.specs.Accept.{Accept}
 use Rattle.ledger_state.specs.Contents.{HeapContents}
-use Rattle.ledger_state.specs.Fields.{field_of}
+use Rattle.ledger_state.specs.Fields.{field_of, field_value}
 use Rattle.ledger_state.specs.Heaps.{object_at, root_of, same_root, unfinished}
 use Rattle.ledger_state.specs.Locals.{temp_value}
 use Rattle.ledger_state.specs.Values.{number_of}
@@ -31,25 +31,33 @@ use Rattle.ledger_state.specs.declared.object.Object.{Object}
 use Rattle.ledger_state.specs.declared.value.Value.{Value}
 use Rattle.ledger_state.specs.declared.value.Value.TheVariants as values
 use Rattle.ledger_obligations.specs.Obligations.{finished_in, is_held_by, is_unmet}
-use Rattle.ledger_calls.specs.Calls as calls
-use Rattle.ledger_calls.specs.Calls.{alias_target}
-use Rattle.ledger_calls.specs.Configuration.{Frame}
-use Rattle.ledger_frames.specs.Choosing.{frame_steps}
+use Rattle.conduct_laws.specs.Calls as calls
+use Rattle.conduct_laws.specs.Calls.{alias_target}
+use Rattle.conduct_laws.specs.Configuration.{Frame}
+use Rattle.content_heap_laws.specs.Choosing.{frame_steps}
 use Rattle.ledger_steps.specs.Ends.{exception_class, thrown_in}
 use Rattle.ledger_steps.specs.InnerSteps.{is_bound, parameter, root_of_number}
-use Rattle.store_laws.proofs.Objects.{unfinished_stays}
-use Rattle.agreement.specs.Agreement.{AllStand, IsCalledFrom, IsMade, Stands}
-use Rattle.agreement.specs.PlainForms.{HasPlainForms}
-use Rattle.place_facts.specs.FieldContents.{AreUnfinished, HaveContents}
-use Rattle.place_facts.specs.PlaceFacts.{IsCovered}
+use Rattle.content_heap_laws.proofs.Objects.{unfinished_stays}
+use Rattle.content_heap_laws.specs.Agreement.{AllStand, IsCalledFrom, IsMade, Stands, Tracks}
+use Rattle.content_heap_laws.specs.PlainForms.{HasPlainForms}
+use Rattle.thrown_value_laws.specs.FieldContents.{AreNew, AreUnfinished, DeclaresOwning, HaveContents, IsContent, is_made_in}
+use Rattle.thrown_value_laws.specs.PlaceFacts.{IsCovered}
 use Rattle.covering_laws.specs.Covering.{HoldsHeavy}
 use Rattle.covering_laws.proofs.Laws.{contents_are_met_at_throw, overwritten_is_met}
 use Rattle.covering_laws.proofs.Births.{heavy_by_unmet}
 use Rattle.covering_laws.proofs.Chains.{object_there}
 use Rattle.covering_laws.proofs.Ready.{step_there}
 use Rattle.covering_laws.proofs.Unmet.{nothing_to_call}
+use Rattle.content_heap_laws.specs.Stores.{IsDisplaced}
+use Rattle.soundness_laws.proofs.StoredFacts.{owned_not_stored}
+use Rattle.filled_field_laws.proofs.Finished.{alias_makes_none, made_by_none}
+use Rattle.filled_field_laws.proofs.Stores.{IsAliasForm}
+use Rattle.java_control.specs.declared.place.Place.TheVariants as places
+use Rattle.obligation_facts.specs.Facts.{has}
 use Rattle.soundness_laws.specs.Supports.{StoresWell, Supports}
-use Rattle.soundness_laws.proofs.Makers.{body_method, class_of_maker, constructor_no_alias, new_of_owner}
+use Rattle.filled_field_laws.specs.Filled.{AreFilled}
+use Rattle.covering_laws.proofs.CallNames.{object_with_root}
+use Rattle.soundness_laws.proofs.Makers.{body_method, class_of_maker, constructor_alias, new_of_owner}
 
 pub not_true : (b : Bool) → (b ≡ true → ⊥) → b ≡ false
 not_true true never = absurd (never refl)
@@ -81,27 +89,36 @@ throws_by p h l (completions.Break pos) c is = absurd (let never : None ≡ Some
 throws_by p h l (completions.Continue pos) c is = absurd (let never : None ≡ Some c = is in cc)
 
 module _ (p : Program) (ac : Accept p) (forms : HasPlainForms p) (h : HeapContents) (fr : Frame) (frs : List Frame) (st : Stands p fr) (rest : AllStand p frs) (called : IsCalledFrom p h fr frs)
-    (contents : HaveContents p (fr ∷ frs) h) (covered : IsCovered p h fr) (unmade : AreUnfinished p h (fr ∷ frs)) where
-  -- a constructor that runs has no aliased argument
-  no_alias : constructs (method_at p fr.method) ≡ true → alias_in (method_at p fr.method) ≡ None
-  no_alias new = go frs rest called
+    (contents : HaveContents p (fr ∷ frs) h) (covered : IsCovered p h fr) (unmade : AreUnfinished p h (fr ∷ frs)) (news : AreNew p (fr ∷ frs)) (filled : AreFilled p h frs) where
+  -- the aliased argument of a constructor that runs is that of a parameter, if it has one
+  alias_form : constructs (method_at p fr.method) ≡ true → IsAliasForm (method_at p fr.method)
+  alias_form new = go frs rest called
     where
-      go : (frs : List Frame) → AllStand p frs → IsCalledFrom p h fr frs → alias_in (method_at p fr.method) ≡ None
+      go : (frs : List Frame) → AllStand p frs → IsCalledFrom p h fr frs → IsAliasForm (method_at p fr.method)
       go [] rest' called' = absurd (true≢false (sym new ∙ called'.1))
-      go (caller ∷ more) rest' called' = constructor_no_alias p ac forms h fr caller st rest'.0 called'.0 new
+      go (caller ∷ more) rest' called' = constructor_alias p ac forms h fr caller st rest'.0 called'.0 new
 
-  body_no_alias : constructs (method_at p fr.method) ≡ true → alias_position p st.number ≡ None
-  body_no_alias new = ap alias_in (body_method p ac forms fr st) ∙ no_alias new
+  body_alias : alias_position p st.number ≡ alias_in (method_at p fr.method)
+  body_alias = ap alias_in (body_method p ac forms fr st)
 
   same_alias : (m : Option Method) → calls.alias_position m ≡ alias_in m
   same_alias None = refl
   same_alias (Some m) = refl
 
-  not_bound : (v : Value) → constructs (method_at p fr.method) ≡ true → is_bound h (method_at p fr.method) fr.locals v ≡ false
-  not_bound v new =
+  -- where it has none, no value is its argument
+  not_bound : (v : Value) → alias_in (method_at p fr.method) ≡ None → is_bound h (method_at p fr.method) fr.locals v ≡ false
+  not_bound v none =
       ap (λ (b : Bool). (constructs (method_at p fr.method) && b) && same_root (root_of h v) (root_of_number h (alias_target (parameter fr.locals) (method_at p fr.method))))
-      (ap is_some (same_alias (method_at p fr.method) ∙ no_alias new))
+      (ap is_some (same_alias (method_at p fr.method) ∙ none))
       ∙ ap (λ (b : Bool). b && same_root (root_of h v) (root_of_number h (alias_target (parameter fr.locals) (method_at p fr.method)))) (no_and (constructs (method_at p fr.method)))
+
+  -- where it has one, the object that it makes owns nothing in its fields that is unmet
+  owns_nothing : (v w o : ℕ) (x : Object) (f : FieldId) → constructs (method_at p fr.method) ≡ true → alias_in (method_at p fr.method) ≡ Some (suc v) → fr.locals.this ≡ values.Object w
+      → DeclaresOwning p fr.method → (y : Object) → object_at h w ≡ Some y → IsContent p (fr ∷ frs) h o x w f → ⊥
+  owns_nothing v w o x f makes alias this declares y at content =
+      made_by_none p w content.field.class frs (news.0 w declares makes this)
+      (sym (ap (λ (b : Bool). b || is_made_in p w content.field.class frs) (alias_makes_none p w fr w content.field.class (ap is_some (same_alias (method_at p fr.method) ∙ alias))))
+      ∙ content.made (unmade.0 w content.holder declares makes this content.at))
 
   -- what a field of `this` owns and is unmet has an obligation, and so has the field's type
   heavy_content : (o : ℕ) (x : Object) (w : ℕ) (f : FieldId) → object_at h o ≡ Some x → is_unmet x ≡ true → x.owner ≡ owners.Field w f → fr.locals.this ≡ values.Object w → HoldsHeavy p h fr w f o x
@@ -128,7 +145,7 @@ module _ (p : Program) (ac : Accept p) (forms : HasPlainForms p) (h : HeapConten
     new : constructs (method_at p fr.method) ≡ true
     new = sym (ap constructs (body_method p ac forms fr st)) ∙ form.0
 
-    by_field : (x : Option Field) → field_at p f ≡ x → is_field_in p st.number x ≡ true → StoresWell p h fr f v
+    by_field : (x : Option Field) → field_at p f ≡ x → is_field_in p st.number x ≡ true → StoresWell p h fr f d
     by_field None at place = absurd (true≢false (sym place))
     by_field (Some x) at place = well (new_of_owner p ac forms h fr frs st rest called new f x at parts.0 class)
       where
@@ -138,10 +155,28 @@ module _ (p : Program) (ac : Accept p) (forms : HasPlainForms p) (h : HeapConten
         class : is_class_of x.class (method_at p fr.method) ≡ true
         class = sym (ap (is_class_of x.class) (body_method p ac forms fr st)) ∙ parts.1
 
-        well : IsMade p h fr.method fr.locals.this → StoresWell p h fr f v
+        declares : DeclaresOwning p fr.method
+        declares = (f, x, at, parts.0, class)
+
+        -- an object of the frame is not stored as the argument
+        tracked_free : (n : ℕ) (y : Object) (t : Tracks p h fr n y) → is_unmet y ≡ true → has t.fact.places (places.Temp d) ≡ true → is_bound h (method_at p fr.method) fr.locals v ≡ false
+        tracked_free n y t unmet has' = elim (alias_form new) [
+          | inl none ↦ not_bound v none
+          | inr alias ↦ absurd (owned_not_stored p ac h fr st i d s f n y alias.0 here is new (body_alias ∙ alias.1) t unmet has')
+        ]
+
+        -- what the field gives up is met
+        displaced_met : (w n : ℕ) (y : Object) → fr.locals.this ≡ values.Object w → (o : Object) → object_at h w ≡ Some o → object_at h n ≡ Some y → IsDisplaced p h w f v n y → is_unmet y ≡ true → ⊥
+        displaced_met w n y this o there there' gone unmet = elim (alias_form new) [
+          | inl none ↦ true≢false (sym unmet ∙
+              overwritten_is_met p ac forms h fr st (body_alias ∙ none) covered i d s f w n y here is (heavy_content n y w f there' unmet gone.owner this) gone.other)
+          | inr alias ↦ owns_nothing alias.0 w n y f new alias.1 this declares o there (contents n y w f there' unmet gone.owner)
+        ]
+
+        well : IsMade p h fr.method fr.locals.this → StoresWell p h fr f d
         well made =
             let object = object_there h made.0 (unfinished x.class) made.4 made.2 in
-            let none : object.0.finished ≡ false = unmade.0 made.0 object.0 (f, x, at, parts.0, class) new made.1 object.1 in
+            let none : object.0.finished ≡ false = unmade.0 made.0 object.0 declares new made.1 object.1 in
             record {
               holder = made.0;
               this = made.1;
@@ -149,13 +184,12 @@ module _ (p : Program) (ac : Accept p) (forms : HasPlainForms p) (h : HeapConten
               there = object.1;
               unfinished = none;
               owning = ap is_owning_field at ∙ parts.0;
-              free = not_bound v new;
-              still = unfinished_stays p h made.0 f v false (field_of p h (values.Object made.0) f) (ap finished_in object.1 ∙ none);
-              met = λ n y there gone. not_true (is_unmet y) (λ unmet. true≢false (sym unmet ∙
-                  overwritten_is_met p ac forms h fr st (body_no_alias new) covered i d s f made.0 n y here is (heavy_content n y made.0 f there unmet gone.owner made.1) gone.other));
+              free = tracked_free;
+              still = λ bound. unfinished_stays p h made.0 f v bound (field_of p h (values.Object made.0) f) (ap finished_in object.1 ∙ none);
+              met = λ n y there gone. not_true (is_unmet y) (displaced_met made.0 n y made.1 object.0 object.1 there gone);
             }
 
-    stores_well : StoresWell p h fr f v
+    stores_well : StoresWell p h fr f d
     stores_well = by_field (field_at p f) refl form.1
 
   throws_well : (i : ℕ) (s : Step) (q : Completion) (c : ClassId) (n w : ℕ) (x : Object) → slice_get (frame_steps p fr) i ≡ Some s → s.action ≡ actions.End q
@@ -165,11 +199,15 @@ module _ (p : Program) (ac : Accept p) (forms : HasPlainForms p) (h : HeapConten
       let owner = field_of_owner x.owner w held in
       let this = object_of_number fr.locals.this w number in
       let k = contents n x w owner.0 at unmet owner.1 in
-      let class = class_of_maker p ac forms h fr frs st rest called new w k.holder owner.0 k.field this k.at k.declared k.owning k.class in
+      let value = object_with_root h (field_value p h w owner.0) n k.held in
+      let class = class_of_maker p ac forms h fr frs st rest called new w value.0 k.holder owner.0 k.field this k.at k.declared k.owning k.class value.1 filled in
       let place : has_field_place p st.number owner.0 ≡ true =
       ap (is_field_in p st.number) k.declared ∙ ap (λ (b : Bool). b && is_class_of k.field.class (method_of p st.number)) k.owning ∙ ap (is_class_of k.field.class) (body_method p ac forms fr st) ∙ class in
-      true≢false (sym unmet ∙ contents_are_met_at_throw p ac h fr st covered i s q owner.0 w n x here is (body_no_alias new) (throws_by p h fr.locals q c thrown) new place
-      (heavy_content n x w owner.0 at unmet owner.1 this))
+      elim (alias_form new) [
+        | inl none ↦ true≢false (sym unmet ∙ contents_are_met_at_throw p ac h fr st covered i s q owner.0 w n x here is (body_alias ∙ none) (throws_by p h fr.locals q c thrown) new place
+            (heavy_content n x w owner.0 at unmet owner.1 this))
+        | inr alias ↦ owns_nothing alias.0 w n x owner.0 new alias.1 this (owner.0, k.field, k.declared, k.owning, class) k.holder k.at k
+      ]
 
   pub supported : Supports p h fr
   supported = record {

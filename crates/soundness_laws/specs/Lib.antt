@@ -2,3 +2,14 @@ pub mod Supports
 pub mod Holding
 pub mod Plain
 pub use Rattle.covering_laws.specs.Running
+pub use Rattle.safety.specs.Safety
+pub use Rattle.own_method_laws.specs.Owners
+pub use Rattle.ledger_runs.specs.Mains
+pub use Rattle.ledger_runs.specs.Outcomes
+pub use Rattle.ledger_runs.specs.Runs
+pub use Rattle.ledger_runs.specs.Starts
+pub use Rattle.ledger_runs.specs.Steps
+pub use Rattle.obligation_facts.specs.Callees
+pub use Rattle.obligation_facts.specs.Facts
+pub use Rattle.obligation_facts.specs.SmallActions
+pub use Rattle.ledger_obligations.specs.Obligations

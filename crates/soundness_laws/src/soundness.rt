@@ -3,25 +3,26 @@
 ghost use Rattle.std.specs.Prelude.{◌≡◌};
 ghost use Rattle.program_model.specs.declared.kinds.MethodId.{MethodId};
 ghost use Rattle.program_model.specs.declared.program.Program.{Program};
-ghost use Rattle.accepted_programs.specs.Accept.{Accept};
+ghost use Rattle.parameter_fact_laws.specs.Accept.{Accept};
 ghost use Rattle.stub_conduct.specs.declared.choice.Choices.{Choices};
-ghost use Rattle.ledger_calls.specs.Configuration.{Config};
+ghost use Rattle.conduct_laws.specs.Configuration.{Config};
 ghost use Rattle.ledger_runs.specs.Outcomes.{went};
 ghost use Rattle.ledger_runs.specs.Starts.{start_config};
 ghost use Rattle.ledger_runs.specs.Steps.{step};
 ghost use Rattle.safety.specs.Safety.{IsMain, IsSafe, IsSafeAt};
-ghost use Rattle.target_laws.specs.Frames.{HaveTargets};
-ghost use Rattle.agreement.specs.Agreement.{Agree};
-ghost use Rattle.agreement.specs.PlainForms.{HasPlainForms};
-ghost use Rattle.place_facts.specs.FieldContents.{AreUnfinished, HaveContents};
-ghost use Rattle.place_facts.specs.PlaceFacts.{AreCovered};
-ghost use Rattle.place_facts.specs.Ranges.{AreInRange};
+ghost use Rattle.thrown_value_laws.specs.Frames.{HaveTargets};
+ghost use Rattle.content_heap_laws.specs.Agreement.{Agree};
+ghost use Rattle.content_heap_laws.specs.PlainForms.{HasPlainForms};
+ghost use Rattle.thrown_value_laws.specs.FieldContents.{FieldsHold, HaveContents};
+ghost use Rattle.thrown_value_laws.specs.PlaceFacts.{AreCovered};
+ghost use Rattle.thrown_value_laws.specs.Ranges.{AreInRange};
 ghost use Rattle.covering_laws.specs.Arguments.{HaveArguments};
 ghost use Rattle.covering_laws.specs.Making.{AreBeingMade};
 ghost use Rattle.covering_laws.specs.Throws.{TopEndsByException};
-ghost use Rattle.program_conditions.specs.Conditions.{MakesNoString};
-ghost use Rattle.exception_value_laws.specs.Exceptions.{HasPlainExceptions};
+ghost use Rattle.covering_laws.specs.Conditions.{MakesNoString};
+ghost use Rattle.thrown_value_laws.specs.Exceptions.{HasPlainExceptions};
 ghost use Rattle.soundness_laws.specs.Holding.{Holds};
+ghost use Rattle.filled_field_laws.specs.Filled.{AreFilled};
 ghost use Rattle.soundness_laws.specs.Plain.{IsPlain};
 
 /// In an accepted plain program the bodies have the plain forms: an object with owning fields runs the must-call method that its own
@@ -37,8 +38,8 @@ pub fn holds_at_start()
 
 /// Each step that is not stray keeps the agreement with the facts, in an accepted program of the plain forms, by what else holds.
 pub fn agree_step()
-    ensures { (p : Program) → Accept p → HasPlainForms p → (c d : Config) → Agree p c → HaveTargets p c.frames → HaveContents p c.frames c.heap → AreCovered p c.heap c.frames
-        → AreUnfinished p c.heap c.frames → AreInRange c → AreBeingMade p c.heap c.frames → HaveArguments p c.frames → TopEndsByException p c.heap c.frames → step p c ≡ went d → Agree p d }
+    ensures { (p : Program) → Accept p → HasPlainForms p → (c d : Config) → Agree p c → HaveTargets p c.frames → FieldsHold p c.frames c.heap → AreCovered p c.heap c.frames
+        → AreInRange c → AreBeingMade p c.heap c.frames → HaveArguments p c.frames → TopEndsByException p c.heap c.frames → AreFilled p c.heap c.frames → step p c ≡ went d → Agree p d }
 {}
 
 /// Each step that is not stray keeps all invariants, in an accepted plain program.

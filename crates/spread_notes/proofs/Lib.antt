@@ -1,4 +1,3 @@
-pub mod ThroughLaws
 pub mod NoteTurns
 pub mod PlacedLaws
 pub mod RisingLines

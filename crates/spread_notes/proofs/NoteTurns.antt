@@ -34,7 +34,7 @@ spread_next n m p h first before after count was is =
     is ∙ ap (λ ns. joined ns (flat_map (follows p h) ns)) was ∙ sym (spread_last n p h first) ∙ ap (λ k. spread k p h first) (sym count)
 
 -- a turn that adds none is the last
-pub spread_found : (n : ℕ) (p : Program) (h : HeapContents) (first before after : List Note) → n ≤ length h.objects → before ≡ spread n p h first → after ≡ joined before (flat_map (follows p h) before) → length after ≡ length before → SpreadsTo p h first after
+pub spread_found : (n : ℕ) (p : Program) (h : HeapContents) (first before after : List Note) → n ≤ 256 * length h.objects → before ≡ spread n p h first → after ≡ joined before (flat_map (follows p h) before) → length after ≡ length before → SpreadsTo p h first after
 spread_found n p h first before after few was is same =
     let stays : joined before (flat_map (follows p h) before) ≡ before = joined_stays before (flat_map (follows p h) before) (ap length (sym is) ∙ same) in
     let now : after ≡ before = is ∙ stays in

@@ -1,5 +1,5 @@
 -- Notes of calls that go on to other objects, and the few objects that they change.
-use Rattle.std.specs.Prelude.{ℕ, ◌≤◌, ◌≡◌, Bool, true, ◌&&◌, Option, Some, None, List, [], ◌∷◌, length, nat_eq, nat_lt}
+use Rattle.std.specs.Prelude.{ℕ, ◌*◌, ◌≤◌, ◌≡◌, Bool, true, ◌&&◌, Option, Some, None, List, [], ◌∷◌, length, nat_eq, nat_lt}
 use Rattle.std.specs.List.{flat_map, list_all, list_any}
 use Rattle.program_model.specs.declared.program.Program.{Program}
 use Rattle.rlc_base.specs.declared.place.Pos.{Pos}
@@ -36,7 +36,7 @@ rises_beyond k (b ∷ bs) = nat_lt k b.number && rises_beyond b.number bs
 -- these notes are all that follow from the first ones, and nothing more follows. Each turn but the last adds one at least
 pub record SpreadsTo (p : Program) (h : HeapContents) (first all : List Note) : Type 0 where
   pub turns : ℕ
-  pub few : turns ≤ length h.objects
+  pub few : turns ≤ 256 * length h.objects
   pub reached : all ≡ spread turns p h first
   pub ends : joined all (flat_map (follows p h) all) ≡ all
 

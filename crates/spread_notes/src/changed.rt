@@ -165,8 +165,8 @@ fn objects_of(alloc: Global, heap: &Heap, notes: &[Note]) -> Result<Option<Noted
     Ok(Some(NotedObjects { objects }))
 }
 
-/// What these notes, and all that follow from them, make of the objects of which they speak, by their numbers: unless a method promises
-/// something on the contents of owning fields, or an object gets unmet.
+/// What these notes, and all that follow from them, make of the objects of which they speak, by their numbers. None, which no run comes
+/// to, where one of these objects is not there or gets unmet, or more follow than two for each object and name.
 pub fn noted_objects(
     alloc: Global,
     p: &Program,

@@ -1,12 +1,12 @@
-//! What follows from a note through a link.
+//! What follows from a note: through a link, and by what a kept method promises on the contents of owning fields.
 
-ghost use Rattle.std.specs.Prelude.{◌≡◌, ◌++◌, [], length, IfOk, IfSome, OnOk, true};
+ghost use Rattle.std.specs.Prelude.{◌≡◌, ◌++◌, IfOk, OnOk};
 ghost use Rattle.std.specs.List.{flat_map};
 ghost use Rattle.program_model.specs.Lookups.{optional};
 ghost use Rattle.ledger_state.specs.Heaps.{object_at};
-ghost use Rattle.ledger_obligations.specs.Obligations.{contents, follows, goes_on, has_note, is_the_one, joined, same_note, through_in};
+ghost use Rattle.ledger_obligations.specs.Obligations.{follows, goes_on, has_note, is_the_one, joined, same_note, through_in};
 
-use crate::promises::promises_nothing;
+use crate::contents::add_contents;
 use ledger_obligations::{Note, note_on};
 use ledger_state::{Heap, Link, Object};
 use must_call_sets::must;
@@ -46,19 +46,6 @@ fn through(p: &Program, heap: &Heap, name: NameId, number: u64) -> Option<Note>
     }
 }
 
-// Whether nothing was called on the contents of owning fields by what the note speaks of.
-fn has_no_contents(p: &Program, heap: &Heap, a: Note) -> bool
-    ensures { result ≡ true → contents p.now heap.now a a.kept ≡ [] }
-{
-    if !a.kept {
-        return true;
-    }
-    match heap.object(a.object) {
-        None => true,
-        Some(x) => promises_nothing(p, x.class, a.name),
-    }
-}
-
 fn add_through(p: &Program, heap: &Heap, a: Note, into: &mut Vec<Note>) -> Result<(), NoMemory>
     ensures { OnOk result (into.new.items ≡ into.old.items ++ optional (through_in p.now a.name (object_at heap.now a.object))) }
 {
@@ -68,40 +55,29 @@ fn add_through(p: &Program, heap: &Heap, a: Note, into: &mut Vec<Note>) -> Resul
     Ok(())
 }
 
-// Puts what follows from a note at the end of the list, unless a method promises something on the contents of owning fields.
-#[tactic(auto, using(crate::proofs::ThroughLaws::follows_through))]
-fn add_follows(p: &Program, heap: &Heap, a: Note, into: &mut Vec<Note>) -> Result<bool, NoMemory>
-    ensures { IfOk result (λ b. b ≡ true → into.new.items ≡ into.old.items ++ follows p.now heap.now a) }
+// Puts what follows from a note at the end of the list.
+fn add_follows(p: &Program, heap: &Heap, a: Note, into: &mut Vec<Note>) -> Result<(), NoMemory>
+    ensures { OnOk result (into.new.items ≡ into.old.items ++ follows p.now heap.now a) }
 {
-    if !has_no_contents(p, heap, a) {
-        return Ok(false);
-    }
     add_through(p, heap, a, into)?;
-    Ok(true)
+    add_contents(p, heap, a, into)?;
+    Ok(())
 }
 
 /// What follows from each of the notes, in their order.
-#[derive(Drop)]
-pub(crate) struct Further {
-    pub(crate) notes: Vec<Note>,
-}
-
-/// What follows from each of the notes, unless a method promises something on the contents of owning fields.
 pub(crate) fn all_follows(
     alloc: Global,
     p: &Program,
     heap: &Heap,
     notes: &[Note],
-) -> Result<Option<Further>, NoMemory>
-    ensures { IfOk result (λ o. IfSome o (λ f. f.notes.items ≡ flat_map (follows p.now heap.now) notes.now)) }
+) -> Result<Vec<Note>, NoMemory>
+    ensures { IfOk result (λ v. v.items ≡ flat_map (follows p.now heap.now) notes.now) }
 {
     let mut further = Vec::new(alloc);
     'each: for a in notes {
-        if !add_follows(p, heap, *a, &mut further)? {
-            return Ok(None);
-        }
+        add_follows(p, heap, *a, &mut further)?;
     }
-    Ok(Some(Further { notes: further }))
+    Ok(further)
 }
 
 fn same_note(a: Note, b: Note) -> bool

@@ -3,6 +3,7 @@
 #![tactic(auto)]
 
 mod changed;
+mod contents;
 mod follows;
 mod promises;
 mod spreading;

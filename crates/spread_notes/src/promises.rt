@@ -1,12 +1,11 @@
-//! Methods of which the library keeps nothing when it calls them.
+//! The methods that the library calls on an object by their names.
 
-ghost use Rattle.std.specs.Prelude.{◌≡◌, [], true};
+ghost use Rattle.std.specs.Prelude.{◌≡◌};
 ghost use Rattle.std.specs.List.{find};
-ghost use Rattle.program_model.specs.Lookups.{class_at, method_at};
+ghost use Rattle.program_model.specs.Lookups.{class_at};
 ghost use Rattle.program_model.specs.Overrides.{methods_of, super_in};
-ghost use Rattle.ledger_obligations.specs.Obligations.{is_name, is_named, method_by, method_named, own_promises, promises_written};
+ghost use Rattle.ledger_obligations.specs.Obligations.{is_name, is_named, method_named};
 
-use ledger_obligations::is_library_method;
 use program_model::{ClassId, MethodId, Program};
 use rlc_base::NameId;
 
@@ -52,8 +51,8 @@ fn named_in(p: &Program, name: NameId, class: ClassId) -> Option<MethodId>
     }
 }
 
-// The instance method without parameters of this name, of the class or else of the nearest super class that has one.
-fn method_named(p: &Program, class: ClassId, name: NameId) -> Option<MethodId>
+/// The instance method without parameters of this name, of the class or else of the nearest super class that has one.
+pub(crate) fn method_named(p: &Program, class: ClassId, name: NameId) -> Option<MethodId>
     ensures { result ≡ method_named p.now class name }
 {
     let mut next = Some(class);
@@ -67,27 +66,4 @@ fn method_named(p: &Program, class: ClassId, name: NameId) -> Option<MethodId>
         }
     }
     None
-}
-
-// Whether the method is one of the library, or promises nothing on a normal end.
-fn writes_nothing(p: &Program, method: MethodId) -> bool
-    ensures { result ≡ true → promises_written p.now (method_at p.now method) ≡ [] }
-{
-    if is_library_method(p, method) {
-        return true;
-    }
-    match p.method(method) {
-        None => true,
-        Some(m) => m.sig.promises.is_empty(),
-    }
-}
-
-/// Whether the method of this name, which an object of the class runs, is one of the library or promises nothing.
-pub(crate) fn promises_nothing(p: &Program, class: ClassId, name: NameId) -> bool
-    ensures { result ≡ true → own_promises p.now class name ≡ [] }
-{
-    match method_named(p, class, name) {
-        None => true,
-        Some(found) => writes_nothing(p, found),
-    }
 }

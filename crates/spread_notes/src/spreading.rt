@@ -1,6 +1,6 @@
-//! All that follows from the notes of a call's end, where that goes through links alone.
+//! All that follows from the notes of a call's end.
 
-ghost use Rattle.std.specs.Prelude.{◌≡◌, [], IfOk, IfSome, true};
+ghost use Rattle.std.specs.Prelude.{◌≡◌, [], IfOk, IfSome, OnOk, true};
 ghost use Rattle.std.specs.List.{flat_map};
 ghost use Rattle.ledger_obligations.specs.Obligations.{follows, joined};
 ghost use Rattle.spread_notes.specs.SpreadNotes.{SpreadsTo};
@@ -18,28 +18,22 @@ pub(crate) struct SpreadNotes {
     pub(crate) notes: Vec<Note>,
 }
 
-// Lets notes join what follows from them, unless a method promises something on the contents of owning fields.
-fn turn(alloc: Global, p: &Program, heap: &Heap, notes: &mut Vec<Note>) -> Result<bool, NoMemory>
-    ensures { IfOk result (λ b. b ≡ true → notes.new.items ≡ joined notes.old.items (flat_map (follows p.now heap.now) notes.old.items)) }
+// Lets notes join what follows from them.
+fn turn(alloc: Global, p: &Program, heap: &Heap, notes: &mut Vec<Note>) -> Result<(), NoMemory>
+    ensures { OnOk result (notes.new.items ≡ joined notes.old.items (flat_map (follows p.now heap.now) notes.old.items)) }
 {
-    match all_follows(alloc, p, heap, notes)? {
-        None => Ok(false),
-        Some(further) => {
-            join(notes, &further.notes)?;
-            Ok(true)
-        }
-    }
+    let further = all_follows(alloc, p, heap, notes)?;
+    join(notes, &further)?;
+    Ok(())
 }
 
-// Lets notes join all that follows from them, until a turn adds none. Says whether that is known to be all.
+// Lets notes join all that follows from them, until a turn adds none. Says whether one that adds none was reached.
 fn spread(alloc: Global, p: &Program, heap: &Heap, notes: &mut Vec<Note>) -> Result<bool, NoMemory>
     ensures { IfOk result (λ b. b ≡ true → SpreadsTo p.now heap.now notes.old.items notes.new.items) }
 {
-    'turns: for _turn in 0..heap.objects.len() {
+    'turns: for _turn in 0..256 * heap.objects.len() as u128 + 1 {
         let before = notes.len();
-        if !turn(alloc, p, heap, notes)? {
-            return Ok(false);
-        }
+        turn(alloc, p, heap, notes)?;
         if notes.len() == before {
             return Ok(true);
         }
@@ -47,7 +41,7 @@ fn spread(alloc: Global, p: &Program, heap: &Heap, notes: &mut Vec<Note>) -> Res
     Ok(false)
 }
 
-/// All notes that follow from these, each once, unless a method promises something on the contents of owning fields.
+/// All notes that follow from these, each once. None where turns go on to add notes beyond two for each object and name.
 pub(crate) fn spread_notes(
     alloc: Global,
     p: &Program,

@@ -15,7 +15,7 @@ use Rattle.ledger_state.specs.declared.value.Value.{Value}
 use Rattle.ledger_state.specs.declared.value.Value.TheVariants as values
 use Rattle.ledger_state.specs.declared.entry.Owner.{Owner}
 use Rattle.ledger_state.specs.declared.entry.Owner.TheVariants as owners
-use Rattle.ledger_obligations.specs.Obligations.{displaced, displaces, given_up, moved_in, moved_where, moves_in, released_where, stored_owning, with_owner}
+use Rattle.heap_laws.specs.Obligations.{displaced, displaces, given_up, moved_in, moved_where, moves_in, released_where, stored_owning, with_owner}
 use Rattle.ledger_state.specs.Heaps.{root_of}
 
 pub same_field : (f g : FieldId) (n : ℕ) → f.0 ≡ g.0 → f ≡ g

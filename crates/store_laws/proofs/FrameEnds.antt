@@ -4,7 +4,7 @@ use Rattle.rlc_base.specs.declared.place.Pos.{Pos}
 use Rattle.program_model.specs.declared.kinds.ClassId.{ClassId}
 use Rattle.program_model.specs.declared.program.Method.{Method}
 use Rattle.program_model.specs.declared.program.Program.{Program}
-use Rattle.must_call_sets.specs.Bodies.{constructs}
+use Rattle.heap_laws.specs.Bodies.{constructs}
 use Rattle.ledger_state.specs.Contents.{HeapContents}
 use Rattle.ledger_state.specs.Heaps.{object_at}
 use Rattle.ledger_state.specs.Values.{number_of}
@@ -12,9 +12,9 @@ use Rattle.ledger_state.specs.declared.entry.Entry.{Entry}
 use Rattle.ledger_state.specs.declared.entry.LeakWord.TheVariants as words
 use Rattle.ledger_state.specs.declared.object.Object.{Object}
 use Rattle.ledger_state.specs.declared.value.Value.{Value}
-use Rattle.ledger_obligations.specs.Obligations.{end_holder, given_up, given_up_by_holder, is_frame, is_held_by, is_unmet}
-use Rattle.ledger_entries.specs.Entries.{is_lost, leak_entries}
-use Rattle.ledger_steps.specs.Ends.{constructor_ended, frame_end_leaks, frame_ended, frame_gone, result_moved}
+use Rattle.heap_laws.specs.Obligations.{end_holder, given_up, given_up_by_holder, is_frame, is_held_by, is_unmet}
+use Rattle.heap_laws.specs.Entries.{is_lost, leak_entries}
+use Rattle.heap_laws.specs.Ends.{constructor_ended, frame_end_leaks, frame_ended, frame_gone, result_moved}
 use Rattle.heap_laws.proofs.EndLaws.{frame_back, holder_back}
 use Rattle.heap_laws.proofs.LineLaws.{end_none, leaks_unchanged}
 use Rattle.store_laws.proofs.Leaks.{changes_leak_nothing, met_is_released}

@@ -3,15 +3,15 @@ use Rattle.std.proofs.Common.{◌≡◌, ℕ, suc, ◌+◌, Bool, true, false, n
 use Rattle.program_model.specs.declared.program.Program.{Program}
 use Rattle.program_model.specs.Lookups.{optional}
 use Rattle.rlc_base.specs.declared.place.Pos.{Pos}
-use Rattle.must_call_sets.specs.MustCallSets.{is_heavy_class}
+use Rattle.heap_laws.specs.MustCallSets.{is_heavy_class}
 use Rattle.ledger_state.specs.Contents.{HeapContents}
 use Rattle.ledger_state.specs.Heaps.{change_each, object_at}
 use Rattle.ledger_state.specs.declared.entry.Entry.{Entry}
 use Rattle.ledger_state.specs.declared.entry.Entry.TheVariants as entries
 use Rattle.ledger_state.specs.declared.entry.LeakWord.{LeakWord}
 use Rattle.ledger_state.specs.declared.object.Object.{Object}
-use Rattle.ledger_obligations.specs.Obligations.{given_up, is_unmet}
-use Rattle.ledger_entries.specs.Entries.{heavy_lines, is_lost, leak_entries, leak_in, leak_line, lines_from}
+use Rattle.heap_laws.specs.Obligations.{given_up, is_unmet}
+use Rattle.heap_laws.specs.Entries.{heavy_lines, is_lost, leak_entries, leak_in, leak_line, lines_from}
 use Rattle.heap_laws.proofs.EndLaws.{changed_back}
 
 if_same : (b : Bool) (es : List Entry) → (if b then es else es) ≡ es

@@ -15,9 +15,9 @@ use Rattle.ledger_state.specs.declared.object.Link.{Link}
 use Rattle.ledger_state.specs.declared.object.Object.{Object}
 use Rattle.ledger_state.specs.declared.value.Value.{Value}
 use Rattle.ledger_state.specs.declared.value.Value.TheVariants as values
-use Rattle.ledger_entries.specs.Entries.{is_lost, leak_entries}
-use Rattle.ledger_obligations.specs.Obligations.{displaced, displaces, finished_in, given_up, holder_roots, is_field, is_unmet, is_unmet_root, may_move, may_move_in, may_move_root, moved_in, moved_where, moves_in, owner_in, owner_of_root, released_where, reset_in, reset_roots, resets_holder, roots_where, stored_owning, type_of_field, with_owner}
-use Rattle.heap_laws.specs.Heaps.{GoesOn, HasLibraryLinks}
+use Rattle.heap_laws.specs.Entries.{is_lost, leak_entries}
+use Rattle.heap_laws.specs.Obligations.{displaced, displaces, finished_in, given_up, holder_roots, is_field, is_unmet, is_unmet_root, may_move, may_move_in, may_move_root, moved_in, moved_where, moves_in, owner_in, owner_of_root, released_where, reset_in, reset_roots, resets_holder, roots_where, stored_owning, type_of_field, with_owner}
+use Rattle.heap_laws.specs.Heaps.{GoesOn, HasEarlierLinks}
 use Rattle.heap_laws.proofs.EndLaws.{changed_back, given_up_goes_on}
 use Rattle.heap_laws.proofs.LineLaws.{leaks_unchanged}
 use Rattle.heap_laws.proofs.ObjectLaws.{changed_at, changed_count, goes_on_self, unchanged}
@@ -214,6 +214,11 @@ module _ (p : Program) (h : HeapContents) (w : ℕ) (f : FieldId) (v : Value) wh
         ap (λ (b : Bool). (not bound && b) && is_unmet_root h (root_of h v) && not (same_root (root_of h old') (root_of h v)) && finished_in (object_at h w)) none
         ∙ ap (λ (b : Bool). b && is_unmet_root h (root_of h v) && not (same_root (root_of h old') (root_of h v)) && finished_in (object_at h w)) (no_and (not bound))
 
+-- what is bound moves nowhere
+pub bound_back : (p : Program) (h : HeapContents) (w : ℕ) (f : FieldId) (v : Value) (n : ℕ) (y : Object) → object_at (stored_owning p h w f true v) n ≡ Some y
+    → (x : Object) × (object_at h n ≡ Some x) × ((y ≡ x) ⊎ (IsDisplaced p h w f v n x × (y ≡ given_up x)))
+bound_back p h w f v n y at = displaced_back p h w f v n y (subst (λ (j : HeapContents). object_at j n ≡ Some y) (no_reset p h w f v true refl) at)
+
 -- the value that may move does
 pub stored_takes : (p : Program) (h : HeapContents) (w : ℕ) (f : FieldId) (v : Value) (n : ℕ) (x y : Object) → resets_holder p h w f false (field_of p h (values.Object w) f) v ≡ false
     → root_of h v ≡ Some n → object_at h n ≡ Some x → may_move p (type_of_field (field_at p f)) x ≡ true → object_at (stored_owning p h w f false v) n ≡ Some y → y.owner ≡ owners.Field w f
@@ -239,8 +244,8 @@ stored_takes p h w f v n x y still root at may now = by_root (root_of h v) root 
 -- ---- links
 
 -- what moves or is given up is a root, which is not linked
-pub stored_links : (p : Program) (h : HeapContents) (w : ℕ) (f : FieldId) (bound : Bool) (v : Value) → HasLibraryLinks h → resets_holder p h w f bound (field_of p h (values.Object w) f) v ≡ false
-    → HasLibraryLinks (stored_owning p h w f bound v)
+pub stored_links : (p : Program) (h : HeapContents) (w : ℕ) (f : FieldId) (bound : Bool) (v : Value) → HasEarlierLinks h → resets_holder p h w f bound (field_of p h (values.Object w) f) v ≡ false
+    → HasEarlierLinks (stored_owning p h w f bound v)
 stored_links p h w f bound v links still = links_go_on h (stored_owning p h w f bound v) links (λ n y l at link. (let x = stored_back p h w f v bound n y still at in
     let goes = stored_goes_on p h w f v n x.0 y x.2 in
     let was : x.0.link ≡ Some l = sym goes.link ∙ link in

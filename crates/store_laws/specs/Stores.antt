@@ -9,7 +9,7 @@ use Rattle.ledger_state.specs.Heaps.{root_of}
 use Rattle.ledger_state.specs.declared.entry.Owner.TheVariants as owners
 use Rattle.ledger_state.specs.declared.object.Object.{Object}
 use Rattle.ledger_state.specs.declared.value.Value.{Value}
-use Rattle.ledger_obligations.specs.Obligations.{given_up, may_move, type_of_field, with_owner}
+use Rattle.heap_laws.specs.Obligations.{given_up, may_move, type_of_field, with_owner}
 
 -- Value `v` is stored into the owning field `f` of object `w`. The field owned object `n`, here `x`, which it held, and it holds
 -- another object from now on.

@@ -5,14 +5,14 @@ ghost use Rattle.program_model.specs.declared.kinds.ClassId.{ClassId};
 ghost use Rattle.program_model.specs.declared.program.Method.{Method};
 ghost use Rattle.program_model.specs.declared.program.Program.{Program};
 ghost use Rattle.rlc_base.specs.declared.place.Pos.{Pos};
-ghost use Rattle.must_call_sets.specs.Bodies.{constructs};
+ghost use Rattle.heap_laws.specs.Bodies.{constructs};
 ghost use Rattle.ledger_state.specs.Contents.{HeapContents};
 ghost use Rattle.ledger_state.specs.Heaps.{object_at};
 ghost use Rattle.ledger_state.specs.Values.{number_of};
 ghost use Rattle.ledger_state.specs.declared.object.Object.{Object};
 ghost use Rattle.ledger_state.specs.declared.value.Value.{Value};
-ghost use Rattle.ledger_obligations.specs.Obligations.{is_frame, is_held_by, is_unmet};
-ghost use Rattle.ledger_steps.specs.Ends.{frame_end_leaks, frame_gone, result_moved};
+ghost use Rattle.heap_laws.specs.Obligations.{is_frame, is_held_by, is_unmet};
+ghost use Rattle.heap_laws.specs.Ends.{frame_end_leaks, frame_gone, result_moved};
 
 /// Where the frame owns nothing unmet when its result has moved, and a constructor that ends by an exception holds nothing unmet,
 /// nothing unmet is given up.

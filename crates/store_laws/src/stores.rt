@@ -14,23 +14,25 @@ ghost use Rattle.ledger_state.specs.declared.entry.Owner.TheVariants as owners;
 ghost use Rattle.ledger_state.specs.declared.object.Object.{Object};
 ghost use Rattle.ledger_state.specs.declared.value.Value.{Value};
 ghost use Rattle.ledger_state.specs.declared.value.Value.TheVariants as values;
-ghost use Rattle.ledger_entries.specs.Entries.{leak_entries};
-ghost use Rattle.ledger_obligations.specs.Obligations.{displaced, finished_in, is_unmet, is_unmet_root, may_move, may_move_root, resets_holder, stored_owning, type_of_field};
-ghost use Rattle.heap_laws.specs.Heaps.{GoesOn, HasLibraryLinks};
+ghost use Rattle.heap_laws.specs.Entries.{leak_entries};
+ghost use Rattle.heap_laws.specs.Obligations.{displaced, finished_in, given_up, is_unmet, is_unmet_root, may_move, may_move_root, resets_holder, stored_owning, type_of_field};
+ghost use Rattle.heap_laws.specs.Heaps.{GoesOn, HasEarlierLinks};
 ghost use Rattle.store_laws.specs.Stores.{IsDisplaced, IsStored};
 
-/// Where the store resets no holder, each object is as it was, or the field gave it up or owns it. It goes on, the links stay the library's, and
-/// no object is made.
+/// Where the store resets no holder, each object is as it was, or the field gave it up or owns it, which it does not where an alias is bound. It goes on,
+/// links lead to earlier objects still, and no object is made.
 pub fn stored_objects()
     ensures before { (p : Program) (h : HeapContents) (w : ℕ) (f : FieldId) (bound : Bool) (v : Value) (n : ℕ) (y : Object)
         → resets_holder p h w f bound (field_of p h (values.Object w) f) v ≡ false → object_at (stored_owning p h w f bound v) n ≡ Some y
         → (x : Object) × (object_at h n ≡ Some x) × IsStored p h w f v n x y }
+    ensures bound { (p : Program) (h : HeapContents) (w : ℕ) (f : FieldId) (v : Value) (n : ℕ) (y : Object) → object_at (stored_owning p h w f true v) n ≡ Some y
+        → (x : Object) × (object_at h n ≡ Some x) × ((y ≡ x) ⊎ (IsDisplaced p h w f v n x × (y ≡ given_up x))) }
     ensures after { (p : Program) (h : HeapContents) (w : ℕ) (f : FieldId) (bound : Bool) (v : Value) (n : ℕ) (x : Object)
         → resets_holder p h w f bound (field_of p h (values.Object w) f) v ≡ false → object_at h n ≡ Some x
         → (y : Object) × (object_at (stored_owning p h w f bound v) n ≡ Some y) × IsStored p h w f v n x y }
     ensures goes_on { (p : Program) (h : HeapContents) (w : ℕ) (f : FieldId) (v : Value) (n : ℕ) (x y : Object) → IsStored p h w f v n x y → GoesOn x y }
-    ensures links { (p : Program) (h : HeapContents) (w : ℕ) (f : FieldId) (bound : Bool) (v : Value) → HasLibraryLinks h → resets_holder p h w f bound (field_of p h (values.Object w) f) v ≡ false
-        → HasLibraryLinks (stored_owning p h w f bound v) }
+    ensures links { (p : Program) (h : HeapContents) (w : ℕ) (f : FieldId) (bound : Bool) (v : Value) → HasEarlierLinks h → resets_holder p h w f bound (field_of p h (values.Object w) f) v ≡ false
+        → HasEarlierLinks (stored_owning p h w f bound v) }
     ensures count { (p : Program) (h : HeapContents) (w : ℕ) (f : FieldId) (bound : Bool) (v : Value) → next_number (stored_owning p h w f bound v) ≡ next_number h }
 {}
 

@@ -1,4 +1,6 @@
 -- Where `this` stands in the frames of a run.
+pub use Rattle.ledger_frames.specs.Frames.{frame_after, is_made, made_place}
+pub use Rattle.ledger_frames.specs.Frames.{frame_after}
 use Rattle.std.specs.Prelude.{◌≡◌, ℕ, ◌<◌, false, Some, List, [], ◌∷◌}
 use Rattle.program_model.specs.declared.kinds.BodyId.{BodyId}
 use Rattle.program_model.specs.declared.program.Program.{Program}

@@ -1,1 +1,14 @@
 pub mod Frames
+pub use Rattle.accepted_programs.specs.Accept
+pub use Rattle.ledger_calls.specs.Calls
+pub use Rattle.ledger_calls.specs.Conducts
+pub use Rattle.ledger_calls.specs.Configuration
+pub use Rattle.ledger_runs.specs.Outcomes
+pub use Rattle.ledger_runs.specs.Starts
+pub use Rattle.ledger_runs.specs.Steps
+pub use Rattle.ledger_moves.specs.Moves
+pub use Rattle.ledger_frames.specs.Choosing
+pub use Rattle.target_step_laws.specs.Targets
+pub use Rattle.obligation_facts.specs.Callees
+pub use Rattle.obligation_facts.specs.Facts
+pub use Rattle.obligation_facts.specs.SmallActions

@@ -19,9 +19,9 @@ use Rattle.java_control.specs.declared.action.Edge.{Edge}
 use Rattle.java_control.specs.declared.action.Edge.TheVariants as edges
 use Rattle.java_control.specs.declared.place.Place.{Place}
 use Rattle.java_control.specs.declared.place.Place.TheVariants as places
-use Rattle.obligation_facts.specs.SmallActions.{IsSmallAction}
+use Rattle.place_laws.specs.SmallActions.{IsSmallAction}
 use Rattle.flow_rules.specs.Paths.{move_of}
-use Rattle.accepted_programs.specs.Accept.{Accept}
+use Rattle.target_laws.specs.Accept.{Accept}
 use Rattle.stub_conduct.specs.declared.choice.Conduct.{Conduct}
 use Rattle.stub_conduct.specs.declared.choice.Conduct.TheVariants as conducts
 use Rattle.ledger_state.specs.Contents.{HeapContents}
@@ -32,19 +32,19 @@ use Rattle.ledger_state.specs.declared.value.Value.{Value}
 use Rattle.ledger_state.specs.declared.value.Value.TheVariants as values
 use Rattle.ledger_state.specs.Classes.{runtime_class}
 use Rattle.ledger_state.specs.Values.{is_null}
-use Rattle.ledger_operations.specs.Operations.{thrown_by_operation, thrown_where}
-use Rattle.ledger_calls.specs.Calls.{begun, body_of, control_in, variable_count}
-use Rattle.ledger_calls.specs.Conducts.{conduct_value}
-use Rattle.ledger_calls.specs.Configuration.{Frame}
-use Rattle.ledger_frames.specs.Choosing.{agrees_with, body_by, frame_steps, operation_edge, same_edge}
-use Rattle.ledger_frames.specs.Frames.{frame_after, made_place}
-use Rattle.ledger_steps.specs.Ends.{answered, exception_class, result_value, thrown_in}
-use Rattle.ledger_steps.specs.InnerSteps.{thrown_value}
-use Rattle.agreement.specs.Agreement.{Stands}
-use Rattle.agreement.specs.PlainForms.{HasPlainForms}
-use Rattle.owned_fact_laws.specs.Outcomes.{IsCallRow, IsPlainRow}
-use Rattle.next_step_laws.specs.Nexts.{IsConstantRead, IsInnerStep, IsPlainStep}
-use Rattle.next_step_laws.proofs.Ready.{step_here, step_there}
+use Rattle.place_laws.specs.Operations.{thrown_by_operation, thrown_where}
+use Rattle.target_laws.specs.Calls.{begun, body_of, control_in, variable_count}
+use Rattle.target_laws.specs.Conducts.{conduct_value}
+use Rattle.target_laws.specs.Configuration.{Frame}
+use Rattle.place_laws.specs.Choosing.{agrees_with, body_by, frame_steps, operation_edge, same_edge}
+use Rattle.place_laws.specs.Frames.{frame_after, made_place}
+use Rattle.heap_laws.specs.Ends.{answered, exception_class, result_value, thrown_in}
+use Rattle.heap_laws.specs.InnerSteps.{thrown_value}
+use Rattle.place_facts.specs.Agreement.{Stands}
+use Rattle.place_facts.specs.PlainForms.{HasPlainForms}
+use Rattle.exception_value_laws.specs.Outcomes.{IsCallRow, IsPlainRow}
+use Rattle.exception_value_laws.specs.Nexts.{IsConstantRead, IsInnerStep, IsPlainStep}
+use Rattle.exception_value_laws.proofs.Ready.{step_here, step_there}
 use Rattle.exception_value_laws.specs.Values.{IsNoNumber}
 use Rattle.thrown_value_laws.specs.Thrown.{HasClass, HoldsThrown, KeepsThrown, holds_class}
 use Rattle.thrown_value_laws.proofs.Values.{RaisesClass, after_is}

@@ -1,4 +1,6 @@
 -- Each step of the machine leaves exceptions in their temps.
+pub use Rattle.target_laws.proofs.Laws.{targets_at_start, targets_step}
+pub use Rattle.exception_value_laws.proofs.Laws.{exceptions_at_start, exceptions_step}
 use Rattle.std.proofs.Common.{◌≡◌, ℕ, Option, Some, None, List, [], ◌∷◌, length, slice_get, refl, sym, ap, ◌∙◌, subst}
 use Rattle.rlc_base.specs.declared.place.Pos.{Pos}
 use Rattle.program_model.specs.declared.kinds.ClassId.{ClassId}
@@ -9,35 +11,35 @@ use Rattle.java_control.specs.Control.{Step}
 use Rattle.java_control.specs.declared.action.Action.TheVariants as actions
 use Rattle.java_control.specs.declared.action.Completion.{Completion}
 use Rattle.java_control.specs.declared.action.Completion.TheVariants as completions
-use Rattle.accepted_programs.specs.Accept.{Accept}
+use Rattle.target_laws.specs.Accept.{Accept}
 use Rattle.stub_conduct.specs.declared.choice.Choices.{Choices}
 use Rattle.ledger_state.specs.Classes.{class_in, runtime_class}
 use Rattle.ledger_state.specs.Values.{number_of}
-use Rattle.ledger_calls.specs.Calls.{argument_values}
-use Rattle.ledger_steps.specs.CallSteps.{self_begun}
+use Rattle.target_laws.specs.Calls.{argument_values}
+use Rattle.heap_laws.specs.CallSteps.{self_begun}
 use Rattle.ledger_state.specs.Contents.{HeapContents}
 use Rattle.ledger_state.specs.Heaps.{next_number}
 use Rattle.ledger_state.specs.Locals.{temp_value}
 use Rattle.ledger_state.specs.declared.value.Value.{Value}
 use Rattle.ledger_state.specs.declared.value.Value.TheVariants as values
-use Rattle.ledger_operations.specs.Operations.{made_value, next_choice}
-use Rattle.ledger_calls.specs.Conducts.{arguments_shared, conduct_value, positions}
-use Rattle.ledger_calls.specs.Configuration.{Config, Frame}
-use Rattle.ledger_frames.specs.Choosing.{frame_steps}
-use Rattle.ledger_moves.specs.Moves.{Move, Inner, Start, Library, End, Stray, Rest, Return, Back, StrayBack, NoWay, return_move}
-use Rattle.ledger_runs.specs.Outcomes.{went, ended, stray}
-use Rattle.ledger_runs.specs.Starts.{start_config}
-use Rattle.ledger_runs.specs.Steps.{began, end, library_went, main_ended, moved, moved_by, returned, returned_by, step, top_move, within}
-use Rattle.ledger_steps.specs.Ends.{answered, exception_class, result_value, thrown_in}
-use Rattle.ledger_steps.specs.InnerSteps.{thrown_value}
+use Rattle.place_laws.specs.Operations.{made_value, next_choice}
+use Rattle.target_laws.specs.Conducts.{arguments_shared, conduct_value, positions}
+use Rattle.target_laws.specs.Configuration.{Config, Frame}
+use Rattle.place_laws.specs.Choosing.{frame_steps}
+use Rattle.target_laws.specs.Moves.{Move, Inner, Start, Library, End, Stray, Rest, Return, Back, StrayBack, NoWay, return_move}
+use Rattle.target_laws.specs.Outcomes.{went, ended, stray}
+use Rattle.target_laws.specs.Starts.{start_config}
+use Rattle.target_laws.specs.Steps.{began, end, library_went, main_ended, moved, moved_by, returned, returned_by, step, top_move, within}
+use Rattle.heap_laws.specs.Ends.{answered, exception_class, result_value, thrown_in}
+use Rattle.heap_laws.specs.InnerSteps.{thrown_value}
 use Rattle.heap_laws.proofs.RootLaws.{object_of_number}
-use Rattle.agreement.specs.Agreement.{Agree, AllStand, IsCalledFrom, IsStacked, Stands, WaitsFor}
-use Rattle.agreement.specs.PlainForms.{HasPlainForms}
+use Rattle.place_facts.specs.Agreement.{Agree, AllStand, IsCalledFrom, IsStacked, Stands, WaitsFor}
+use Rattle.place_facts.specs.PlainForms.{HasPlainForms}
 use Rattle.place_facts.specs.Ranges.{LocalsInRange}
 use Rattle.target_laws.specs.Frames.{HaveTargets}
-use Rattle.next_step_laws.specs.Nexts.{IsBack, IsNext}
-use Rattle.next_step_laws.proofs.Cases.{next_is}
-use Rattle.next_step_laws.proofs.Returns.{back_is}
+use Rattle.exception_value_laws.specs.Nexts.{IsBack, IsNext}
+use Rattle.exception_value_laws.proofs.Cases.{next_is}
+use Rattle.exception_value_laws.proofs.Returns.{back_is}
 use Rattle.exception_value_laws.specs.Exceptions.{HasPlainExceptions, HaveExceptions, KeepAll, KeepsExceptions, TopThrowsNoNumber}
 use Rattle.exception_value_laws.specs.Values.{IsNoNumber}
 use Rattle.exception_value_laws.proofs.Laws.{raised_value_is_no_number}

@@ -5,3 +5,4 @@ pub mod Ways
 pub mod Values
 pub mod Frames
 pub mod Laws
+pub use Rattle.target_laws.proofs.Begun

@@ -19,22 +19,22 @@ use Rattle.java_control.specs.declared.action.Edge.{Edge}
 use Rattle.java_control.specs.declared.action.Edge.TheVariants as edges
 use Rattle.java_control.specs.declared.place.Place.{Place}
 use Rattle.java_control.specs.declared.place.Place.TheVariants as places
-use Rattle.obligation_facts.specs.SmallActions.{IsSmallAction, IsSmallTemp}
-use Rattle.accepted_programs.specs.Accept.{Accept}
+use Rattle.place_laws.specs.SmallActions.{IsSmallAction, IsSmallTemp}
+use Rattle.target_laws.specs.Accept.{Accept}
 use Rattle.ledger_state.specs.Contents.{HeapContents}
 use Rattle.ledger_state.specs.Locals.{temp_value}
 use Rattle.ledger_state.specs.declared.locals.Locals.{Locals}
 use Rattle.ledger_state.specs.Values.{value_or_nothing}
 use Rattle.ledger_state.specs.declared.value.Value.{Value}
 use Rattle.ledger_state.specs.declared.value.Value.TheVariants as values
-use Rattle.ledger_calls.specs.Configuration.{Frame}
-use Rattle.ledger_frames.specs.Choosing.{frame_steps, method_body}
-use Rattle.ledger_frames.specs.Frames.{depth_of, frame_after, made_place, source_by, sourced, value_after}
+use Rattle.target_laws.specs.Configuration.{Frame}
+use Rattle.place_laws.specs.Choosing.{frame_steps, method_body}
+use Rattle.place_laws.specs.Frames.{depth_of, frame_after, made_place, source_by, sourced, value_after}
 use Rattle.place_laws.specs.Places.{IsWay}
 use Rattle.place_laws.proofs.Laws.{made_value_stands}
-use Rattle.agreement.specs.Agreement.{Stands}
-use Rattle.agreement.specs.PlainForms.{HasPlainForms}
-use Rattle.next_step_laws.proofs.Ready.{ready}
+use Rattle.place_facts.specs.Agreement.{Stands}
+use Rattle.place_facts.specs.PlainForms.{HasPlainForms}
+use Rattle.exception_value_laws.proofs.Ready.{ready}
 use Rattle.thrown_value_laws.specs.Thrown.{HasClass, holds_class}
 use Rattle.thrown_value_laws.proofs.Kept.{eq_self}
 use Rattle.thrown_value_laws.proofs.Ways.{IsAfter}

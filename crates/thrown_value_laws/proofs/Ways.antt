@@ -32,7 +32,7 @@ use Rattle.java_control.specs.Expressions.{expression_front}
 use Rattle.java_control.specs.Remaining.{Todo, todos, Do, Ev, Act, Cond, NullFork, BoolFork, LoopEnd, For, Leave, Catch, Fin, Close, Finish, Supp, Out, Ended, Way, skip, statement_place}
 use Rattle.java_control.specs.Sources.{emptied, source}
 use Rattle.java_control.specs.Statements.{close_front, for_turn, listed_front, loop_turn, statement_front}
-use Rattle.ledger_frames.specs.Frames.{made_place}
+use Rattle.place_laws.specs.Frames.{made_place}
 use Rattle.thrown_value_laws.specs.Thrown.{ActsFrom, AllFrom, HasVariables, HeldAt, HeldOut, IsFrom, IsNoException, KeepsThrown, Waits, floor}
 use Rattle.thrown_value_laws.proofs.Fronts.{condition_from, expression_from, todos_from}
 use Rattle.thrown_value_laws.proofs.Kept.{lt_self, temp_stays}

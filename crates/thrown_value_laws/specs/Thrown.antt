@@ -14,7 +14,7 @@ use Rattle.ledger_state.specs.Locals.{temp_value}
 use Rattle.ledger_state.specs.declared.locals.Locals.{Locals}
 use Rattle.ledger_state.specs.declared.value.Value.{Value}
 use Rattle.ledger_state.specs.declared.value.Value.TheVariants as values
-use Rattle.ledger_calls.specs.Configuration.{Frame}
+use Rattle.target_laws.specs.Configuration.{Frame}
 
 -- ---- values
 

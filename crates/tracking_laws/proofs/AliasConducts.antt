@@ -20,12 +20,12 @@ use Rattle.program_model.specs.declared.program.Method.{Method}
 use Rattle.program_model.specs.declared.program.Program.{Program}
 use Rattle.program_model.specs.Lookups.{class_at, method_at}
 use Rattle.program_model.specs.SuperTests.{is_under}
-use Rattle.must_call_sets.specs.AliasCases.{alias_cases_in, alias_cases_of_method, alias_cases_of_override, calls_alias, gives_exception, has_bad_alias_form, has_owning_alias, has_unequal_sets, is_bad_alias_method, is_half_marked, is_single, result_set}
-use Rattle.must_call_sets.specs.Bodies.{is_constructor_kind}
-use Rattle.must_call_sets.specs.MustCallSets.{Names, is_empty, is_heavy_class, must_of, must_of_optional, no_names}
-use Rattle.must_call_sets.specs.Overridings.{class_ids, overridings}
-use Rattle.must_call_sets.specs.Signatures.{type_at}
-use Rattle.must_call_sets.specs.WellFormed.{IsWellFormed}
+use Rattle.conduct_laws.specs.AliasCases.{alias_cases_in, alias_cases_of_method, alias_cases_of_override, calls_alias, gives_exception, has_bad_alias_form, has_owning_alias, has_unequal_sets, is_bad_alias_method, is_half_marked, is_single, result_set}
+use Rattle.conduct_laws.specs.Bodies.{is_constructor_kind}
+use Rattle.conduct_laws.specs.MustCallSets.{Names, is_empty, is_heavy_class, must_of, must_of_optional, no_names}
+use Rattle.conduct_laws.specs.Overridings.{class_ids, overridings}
+use Rattle.conduct_laws.specs.Signatures.{type_at}
+use Rattle.conduct_laws.specs.WellFormed.{IsWellFormed}
 use Rattle.stub_conduct.specs.declared.choice.Choice.{Choice}
 use Rattle.stub_conduct.specs.declared.choice.Conduct.{Conduct}
 use Rattle.stub_conduct.specs.declared.choice.Conduct.TheVariants as conducts
@@ -33,7 +33,7 @@ use Rattle.stub_conduct.specs.Conducts.{argument_or_null, beyond, by_way, class_
 use Rattle.ledger_state.specs.Contents.{HeapContents}
 use Rattle.ledger_state.specs.declared.array.ArrayObject.{ArrayObject}
 use Rattle.ledger_state.specs.declared.value.Value.{Value}
-use Rattle.ledger_calls.specs.Conducts.{argument_of, fits_type, on_this, plainly, result_in, settled, settled_by}
+use Rattle.agreement.specs.Conducts.{argument_of, fits_type, on_this, plainly, result_in, settled, settled_by}
 use Rattle.java_control.specs.declared.action.Action.{Action}
 use Rattle.java_control.specs.declared.action.Action.TheVariants as actions
 use Rattle.tracking_laws.specs.Steps.{is_super}
@@ -88,7 +88,8 @@ abbrev pub GivesObject : Program → Method → Type 0
 GivesObject p m = ((is_constructor_kind m.kind ≡ true) × (is_heavy_class p m.class ≡ true)) ⊎ ((is_constructor_kind m.kind ≡ false) × ((c : ClassId) × (m.sig.result ≡ Some (types.Obj c)) × (is_heavy_class p c ≡ true)))
 
 module _ (p : Program) (formed : IsWellFormed p) (named : MethodId) (m : Method) (at : method_at p named ≡ Some m) (k : ℕ) (alias : m.sig.alias ≡ Some k) where
-  no_refusal : is_bad_alias_method p m ≡ false
+  -- the alias is none that is refused
+  pub no_refusal : is_bad_alias_method p m ≡ false
   no_refusal =
       let rest = flat_map (λ c. alias_cases_in p c (class_at p c)) (class_ids p) ++ flat_map alias_cases_of_override (overridings p) in
       let here : flat_map (alias_cases_of_method p) p.methods.items ≡ [] =
@@ -108,7 +109,8 @@ module _ (p : Program) (formed : IsWellFormed p) (named : MethodId) (m : Method)
       let one = or_parts (is_half_marked m) (has_unequal_sets p m m.sig.alias) two.0 in
       ap (has_unequal_sets p m) (sym alias) ∙ one.1
 
-  one_name : (is_same (must_of_optional p (type_at m.sig k)) (result_set p m) ≡ true) × (is_single p (must_of_optional p (type_at m.sig k)) ≡ true)
+  -- the sets of the argument and the result are equal, and have one name
+  pub one_name : (is_same (must_of_optional p (type_at m.sig k)) (result_set p m) ≡ true) × (is_single p (must_of_optional p (type_at m.sig k)) ≡ true)
   one_name = and_parts (is_same (must_of_optional p (type_at m.sig k)) (result_set p m)) (is_single p (must_of_optional p (type_at m.sig k))) (not-false _ equal_sets)
 
   -- the result has an obligation

@@ -6,16 +6,16 @@ use Rattle.program_model.specs.declared.kinds.MethodId.{MethodId}
 use Rattle.program_model.specs.declared.program.Method.{Method}
 use Rattle.program_model.specs.declared.program.Program.{Program}
 use Rattle.program_model.specs.Lookups.{method_at}
-use Rattle.must_call_sets.specs.Bodies.{alias_in}
+use Rattle.conduct_laws.specs.Bodies.{alias_in}
 use Rattle.java_control.specs.declared.action.Action.{Action}
 use Rattle.java_control.specs.declared.action.Action.TheVariants as actions
 use Rattle.java_control.specs.declared.action.Edge.{Edge}
 use Rattle.java_control.specs.declared.action.Edge.TheVariants as edges
-use Rattle.obligation_facts.specs.Callees.{callee, holds_operand}
-use Rattle.obligation_facts.specs.Facts.{PlaceSet, has_temp}
-use Rattle.obligation_facts.specs.SmallActions.{IsSmallAction}
-use Rattle.alias_sets.specs.Aliases.{gives_alias}
-use Rattle.alias_sets.specs.Aliases as aliases
+use Rattle.owned_fact_laws.specs.Callees.{callee, holds_operand}
+use Rattle.owned_fact_laws.specs.Facts.{PlaceSet, has_temp}
+use Rattle.owned_fact_laws.specs.SmallActions.{IsSmallAction}
+use Rattle.owned_fact_laws.specs.Aliases.{gives_alias}
+use Rattle.owned_fact_laws.specs.Aliases as aliases
 use Rattle.stub_conduct.specs.declared.choice.Choice.{Choice}
 use Rattle.stub_conduct.specs.declared.choice.Conduct.{Conduct}
 use Rattle.stub_conduct.specs.declared.choice.Conduct.TheVariants as conducts
@@ -29,12 +29,12 @@ use Rattle.ledger_state.specs.declared.locals.Locals.{Locals}
 use Rattle.ledger_state.specs.declared.object.Object.{Object}
 use Rattle.ledger_state.specs.declared.value.Value.{Value}
 use Rattle.ledger_state.specs.declared.value.Value.TheVariants as values
-use Rattle.ledger_obligations.specs.Obligations.{all_notes, noted_object, reset_in}
-use Rattle.ledger_calls.specs.Calls.{alias_position, arguments_moved, operand_of, params_in, position_of, reset_position}
-use Rattle.ledger_calls.specs.Conducts.{conduct_value, fresh_born, library_notes, made_by_new, on_this, positions, settled}
+use Rattle.owned_fact_laws.specs.Obligations.{all_notes, noted_object, reset_in}
+use Rattle.agreement.specs.Calls.{alias_position, arguments_moved, operand_of, params_in, position_of, reset_position}
+use Rattle.agreement.specs.Conducts.{conduct_value, fresh_born, library_notes, made_by_new, on_this, positions, settled}
 use Rattle.ledger_steps.specs.CallSteps.{library_called, library_heap, library_reset}
-use Rattle.heap_laws.specs.Heaps.{HasLibraryLinks}
-use Rattle.heap_laws.proofs.Laws.{appended_object_at-object, changed_object_at-object, evolving_heaps-links, moves_make_nothing, nothing_is_changed, numbers_are_in_range, roots_go_on-number, roots_of_links-linked}
+use Rattle.library_call_laws.specs.Heaps.{HasEarlierLinks}
+use Rattle.library_call_laws.proofs.Laws.{appended_object_at-object, changed_object_at-object, evolving_heaps-links, moves_make_nothing, nothing_is_changed, numbers_are_in_range, roots_go_on-number, roots_of_links-linked}
 use Rattle.library_call_laws.specs.LibraryCalls.{IsAliasMadeAs, IsAliasOf}
 use Rattle.library_call_laws.proofs.Laws.{library_aliases_are_older_or_made, library_links_stay, library_objects_go_on}
 use Rattle.agreement.specs.PlainForms.{IsPlainAction}
@@ -48,7 +48,7 @@ use Rattle.tracking_laws.proofs.Ready.{named_gives_none}
 abbrev pub OperandsAreThere : HeapContents → Locals → Action → Type 0
 OperandsAreThere h l a = (k w : ℕ) → number_of (operand_of l a k) ≡ Some w → (0 < w) × (w < next_number h)
 
-module _ (p : Program) (l : Locals) (a : Action) (m : Option Method) (d : Conduct) (at count : ℕ) (h : HeapContents) (links : HasLibraryLinks h) (no_reset : reset_position m ≡ None)
+module _ (p : Program) (l : Locals) (a : Action) (m : Option Method) (d : Conduct) (at count : ℕ) (h : HeapContents) (links : HasEarlierLinks h) (no_reset : reset_position m ≡ None)
     (there : OperandsAreThere h l a) (k : ℕ) (alias : alias_position m ≡ Some k) (o : ℕ) (root' : root_of h (operand_of l a k) ≡ Some o) where
   abbrev heap : HeapContents
   heap = library_heap p l a m m d at h
@@ -56,7 +56,7 @@ module _ (p : Program) (l : Locals) (a : Action) (m : Option Method) (d : Conduc
   abbrev value : Value
   value = conduct_value count m (positions l a (next_number h) d) (next_number h) d
 
-  links_later : HasLibraryLinks heap
+  links_later : HasEarlierLinks heap
   links_later = library_links_stay p l a m m d at h links no_reset (λ j w same number. there j w number)
 
   -- the operand
@@ -193,7 +193,7 @@ plain_super p a e held plain gives = refl
 
 -- A call of the library gives an object whose root is the object of the fact, where it gives an alias of it. `operands`: the operands that are among
 -- the places of the fact have it for their root.
-pub library_alias : (p : Program) (ac : Accept p) (h : HeapContents) (links : HasLibraryLinks h) (arrays : List ArrayObject) (l : Locals) (a : Action) (e : Edge) (held : PlaceSet) (named : MethodId) (d : Conduct) (at count o : ℕ)
+pub library_alias : (p : Program) (ac : Accept p) (h : HeapContents) (links : HasEarlierLinks h) (arrays : List ArrayObject) (l : Locals) (a : Action) (e : Edge) (held : PlaceSet) (named : MethodId) (d : Conduct) (at count o : ℕ)
     → IsSmallAction p a → IsPlainAction p a → callee p a ≡ method_at p named → reset_position (method_at p named) ≡ None → OperandsAreThere h l a
     → ((choice : Choice) × (d ≡ on_this a (settled p h arrays named choice (position_of None l a))))
     → ((x : ClassId) → d ≡ conducts.Throws x → (c : ClassId) × (e ≡ edges.Throws c))

@@ -12,8 +12,8 @@ use Rattle.program_model.specs.declared.kinds.VType.TheVariants as types
 use Rattle.program_model.specs.declared.program.Method.{Method}
 use Rattle.program_model.specs.declared.program.Program.{Program}
 use Rattle.program_model.specs.Lookups.{method_at, optional}
-use Rattle.must_call_sets.specs.Bodies.{alias_in, constructs, is_constructor_kind}
-use Rattle.must_call_sets.specs.MustCallSets.{Names, fits, is_empty, is_heavy_class, must_of, no_names}
+use Rattle.conduct_laws.specs.Bodies.{alias_in, constructs, is_constructor_kind}
+use Rattle.conduct_laws.specs.MustCallSets.{Names, fits, is_empty, is_heavy_class, must_of, no_names}
 use Rattle.java_control.specs.Control.{Step}
 use Rattle.java_control.specs.Sources.{emptied, is_temp_among, source}
 use Rattle.java_control.specs.declared.action.Action.{Action}
@@ -30,33 +30,33 @@ use Rattle.java_control.specs.declared.place.Place.{Place}
 use Rattle.java_control.specs.declared.place.Place.TheVariants as places
 use Rattle.ownership_rules.specs.Births.{birth_on, fact_at, origin_of, reset_births, result_birth}
 use Rattle.accepted_programs.specs.Accept.{Accept}
-use Rattle.flow_rules.specs.Paths.{born, move_of}
+use Rattle.agreement.specs.Paths.{born, move_of}
 use Rattle.ledger_state.specs.Contents.{HeapContents}
 use Rattle.ledger_state.specs.Heaps.{root_of}
 use Rattle.ledger_state.specs.declared.entry.Owner.TheVariants as owners
 use Rattle.ledger_state.specs.declared.object.Object.{Object}
 use Rattle.ledger_state.specs.declared.value.Value.{Value}
-use Rattle.ledger_obligations.specs.Obligations.{first_set, is_unmet}
+use Rattle.owned_fact_laws.specs.Obligations.{first_set, is_unmet}
 use Rattle.ledger_operations.specs.Places.{place_value}
-use Rattle.ledger_calls.specs.Configuration.{Frame}
-use Rattle.ledger_calls.specs.Conducts.{result_owner}
+use Rattle.agreement.specs.Configuration.{Frame}
+use Rattle.agreement.specs.Conducts.{result_owner}
 use Rattle.ledger_frames.specs.Choosing.{frame_steps}
 use Rattle.ledger_frames.specs.Frames.{frame_after, locals_after, made_place}
-use Rattle.place_laws.specs.Places.{IsWay, is_local}
+use Rattle.agreement.specs.Places.{IsWay, is_local}
 use Rattle.agreement.specs.Agreement.{Stands, Tracks}
 use Rattle.agreement.specs.PlainForms.{HasPlainForms}
 use Rattle.named_step_laws.specs.Naming.{IsOfItsKind}
 use Rattle.named_step_laws.proofs.Reached.{names_what_is_there}
 use Rattle.conduct_laws.specs.Fitting.{FitsMethod}
 use Rattle.stub_conduct.specs.declared.choice.Conduct.TheVariants as conducts
-use Rattle.obligation_facts.specs.SmallActions.{IsSmallAction}
+use Rattle.owned_fact_laws.specs.SmallActions.{IsSmallAction}
 use Rattle.java_control.specs.Calls.{called_method}
-use Rattle.ledger_calls.specs.Conducts.{owning_in}
+use Rattle.agreement.specs.Conducts.{owning_in}
 use Rattle.library_call_laws.specs.LibraryCalls.{IsMadeAs}
 use Rattle.owned_fact_laws.specs.Outcomes.{IsCallRow}
 use Rattle.tracking_laws.specs.Steps.{is_super}
 use Rattle.tracking_laws.proofs.Carried.{Ready}
-use Rattle.place_laws.proofs.Laws.{made_value_stands, single_place-alone, single_place-has, single_place-same, single_place-some}
+use Rattle.agreement.proofs.Laws.{made_value_stands, single_place-alone, single_place-has, single_place-same, single_place-some}
 use Rattle.tracking_laws.proofs.Ready.{ready, step_there}
 
 -- the place of a result takes its value from no place

@@ -11,8 +11,8 @@ use Rattle.program_model.specs.declared.program.Program.{Program}
 use Rattle.program_model.specs.declared.kinds.Target.{Target}
 use Rattle.program_model.specs.declared.kinds.Target.TheVariants as promised
 use Rattle.program_model.specs.Lookups.{method_at}
-use Rattle.must_call_sets.specs.Bodies.{constructs, has_field_place, is_constructor_kind, is_instance_kind, reset_in}
-use Rattle.must_call_sets.specs.WellFormed.{HasSmallInterests, interest_of}
+use Rattle.conduct_laws.specs.Bodies.{constructs, has_field_place, is_constructor_kind, is_instance_kind, reset_in}
+use Rattle.conduct_laws.specs.WellFormed.{HasSmallInterests, interest_of}
 use Rattle.java_control.specs.Calls.{operand_at}
 use Rattle.java_control.specs.declared.action.Action.{Action}
 use Rattle.java_control.specs.declared.action.Action.TheVariants as actions
@@ -21,12 +21,12 @@ use Rattle.java_control.specs.Owned.{place_of_field}
 use Rattle.java_control.specs.PlaceNumbers.{IsSmall}
 use Rattle.java_control.specs.declared.place.Place.{Place}
 use Rattle.java_control.specs.declared.place.Place.TheVariants as places
-use Rattle.obligation_facts.specs.Callees.{callee, holds_operand, is_super_target, is_this_target}
-use Rattle.obligation_facts.specs.Facts.{PlaceSet, has, has_temp}
-use Rattle.obligation_facts.specs.SmallActions.{IsSmallAction, IsSmallTemp}
-use Rattle.obligation_facts.proofs.SmallOperands.{no_operand, operand_has_room}
-use Rattle.called_methods.specs.CalledRows.{holds_field, holds_receiver, holds_target, interest_in}
-use Rattle.called_methods.proofs.CallNames.{callee_small}
+use Rattle.owned_fact_laws.specs.Callees.{callee, holds_operand, is_super_target, is_this_target}
+use Rattle.owned_fact_laws.specs.Facts.{PlaceSet, has, has_temp}
+use Rattle.owned_fact_laws.specs.SmallActions.{IsSmallAction, IsSmallTemp}
+use Rattle.owned_fact_laws.proofs.SmallOperands.{no_operand, operand_has_room}
+use Rattle.owned_fact_laws.specs.CalledRows.{holds_field, holds_receiver, holds_target, interest_in}
+use Rattle.owned_fact_laws.proofs.CallNames.{callee_small}
 use Rattle.accepted_programs.specs.Accept.{Accept}
 use Rattle.ledger_state.specs.Contents.{HeapContents}
 use Rattle.ledger_state.specs.Heaps.{root, root_of}
@@ -35,10 +35,10 @@ use Rattle.ledger_state.specs.Values.{number_of}
 use Rattle.ledger_state.specs.declared.locals.Locals.{Locals}
 use Rattle.ledger_state.specs.declared.value.Value.{Value}
 use Rattle.ledger_state.specs.declared.value.Value.TheVariants as values
-use Rattle.ledger_obligations.specs.Obligations.{has_note, note}
-use Rattle.ledger_calls.specs.Calls.{depth_at, operand_of, receiver_note}
-use Rattle.ledger_calls.specs.Calls as calls
-use Rattle.place_laws.specs.Places.{is_local}
+use Rattle.owned_fact_laws.specs.Obligations.{has_note, note}
+use Rattle.agreement.specs.Calls.{depth_at, operand_of, receiver_note}
+use Rattle.agreement.specs.Calls as calls
+use Rattle.agreement.specs.Places.{is_local}
 use Rattle.agreement.specs.PlainForms.{IsOnField, IsPlainAction, IsPlainSignature}
 use Rattle.tracking_laws.proofs.Carried.{HoldIt}
 

@@ -9,7 +9,7 @@ use Rattle.program_model.specs.declared.kinds.MethodId.{MethodId}
 use Rattle.program_model.specs.declared.program.Program.{Program}
 use Rattle.program_model.specs.declared.tree.Body.{Body}
 use Rattle.program_model.specs.Lookups.{body_at}
-use Rattle.must_call_sets.specs.MustCallSets.{Names, fits, must_of}
+use Rattle.conduct_laws.specs.MustCallSets.{Names, fits, must_of}
 use Rattle.java_control.specs.PlaceNumbers.{IsSmall}
 use Rattle.java_control.specs.Sources.{source}
 use Rattle.java_control.specs.declared.action.Action.{Action}
@@ -19,25 +19,25 @@ use Rattle.java_control.specs.declared.fact.Mode.TheVariants as modes
 use Rattle.java_control.specs.declared.fact.Origin.{Origin}
 use Rattle.java_control.specs.declared.place.Place.{Place}
 use Rattle.java_control.specs.declared.place.Place.TheVariants as places
-use Rattle.obligation_facts.specs.Facts.{PlaceSet, has, is_nowhere, need}
-use Rattle.obligation_facts.specs.SmallActions.{IsSmallAction}
-use Rattle.alias_sets.specs.Aliases.{gives_alias}
-use Rattle.alias_sets.specs.PlaceRows.{places_after}
+use Rattle.owned_fact_laws.specs.Facts.{PlaceSet, has, is_nowhere, need}
+use Rattle.owned_fact_laws.specs.SmallActions.{IsSmallAction}
+use Rattle.owned_fact_laws.specs.Aliases.{gives_alias}
+use Rattle.owned_fact_laws.specs.PlaceRows.{places_after}
 use Rattle.ledger_state.specs.Contents.{HeapContents}
 use Rattle.ledger_state.specs.Heaps.{root_of}
 use Rattle.ledger_state.specs.declared.locals.Locals.{Locals}
 use Rattle.ledger_state.specs.declared.object.Object.{Object}
 use Rattle.ledger_state.specs.declared.value.Value.{Value}
 use Rattle.ledger_operations.specs.Places.{place_value}
-use Rattle.ledger_calls.specs.Configuration.{Frame}
+use Rattle.agreement.specs.Configuration.{Frame}
 use Rattle.ledger_frames.specs.Choosing.{method_body}
 use Rattle.ledger_frames.specs.Frames.{is_made, locals_after, made_place}
 use Rattle.rlc_base.proofs.SetLaws.{within_trans}
-use Rattle.heap_laws.specs.Heaps.{GoesOn}
-use Rattle.place_laws.specs.Places.{HasTarget, IsWay, SetsLocals, has_source, is_local, takes_alias}
+use Rattle.library_call_laws.specs.Heaps.{GoesOn}
+use Rattle.agreement.specs.Places.{HasTarget, IsWay, SetsLocals, has_source, is_local, takes_alias}
 use Rattle.agreement.specs.Agreement.{Awaits, Follows, IsAwaited, Tracks}
 use Rattle.tracking_laws.specs.Steps.{RootsStay}
-use Rattle.place_laws.proofs.Laws.{alias_stands, no_other_place_joins, places_come_from_sources, places_stay_in_range, source_is_small, value_comes_from_source}
+use Rattle.agreement.proofs.Laws.{alias_stands, no_other_place_joins, places_come_from_sources, places_stay_in_range, source_is_small, value_comes_from_source}
 
 -- all that the laws on places ask of a step
 pub record Ready (p : Program) (m : MethodId) (l : Locals) (b : BodyId) (body : Body) (a : Action) (e : Edge) : Type 0 where

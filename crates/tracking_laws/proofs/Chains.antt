@@ -8,9 +8,9 @@ use Rattle.ledger_state.specs.Heaps.{next_number, object_at}
 use Rattle.ledger_state.specs.declared.entry.Owner.{Owner}
 use Rattle.ledger_state.specs.declared.entry.Owner.TheVariants as owners
 use Rattle.ledger_state.specs.declared.object.Object.{Object}
-use Rattle.ledger_obligations.specs.Obligations.{given_up, is_unmet}
-use Rattle.heap_laws.specs.Heaps.{IsKeptOr}
-use Rattle.heap_laws.proofs.Laws.{numbers_are_in_range}
+use Rattle.owned_fact_laws.specs.Obligations.{given_up, is_unmet}
+use Rattle.library_call_laws.specs.Heaps.{IsKeptOr}
+use Rattle.library_call_laws.proofs.Laws.{numbers_are_in_range}
 use Rattle.agreement.specs.Chains.{Ends, HaveEnds, IsLast, ends_here, of_field}
 
 -- the object has the owner that it had
@@ -27,8 +27,12 @@ pub record IsStoredIn (k : HeapContents) (y : Object) : Type 0 where
   pub there : object_at k holder ≡ Some object
   pub last : IsLast object.owner
 
+-- no field owns it, and nobody does where it is not finished
+abbrev pub IsLastOwned : Object → Type 0
+IsLastOwned y = IsLast y.owner × ((y.finished ≡ true) ⊎ (y.owner ≡ owners.Unowned))
+
 abbrev pub IsOwnedAs : HeapContents → HeapContents → ℕ → Object → Type 0
-IsOwnedAs h k n y = IsLast y.owner ⊎ (((x : Object) × (object_at h n ≡ Some x) × IsSame x y) ⊎ IsStoredIn k y)
+IsOwnedAs h k n y = IsLastOwned y ⊎ (((x : Object) × (object_at h n ≡ Some x) × IsSame x y) ⊎ IsStoredIn k y)
 
 no_object : {X : Type 0} (x : X) → None ≡ Some x → ⊥
 no_object x is = cc
@@ -54,7 +58,7 @@ module _ (h k : HeapContents) (have : HaveEnds h) (more : next_number h ≤ next
 
   -- the owner of an object that was there, where the way from its owner before ends
   by_owner : (n : ℕ) (x y : Object) → object_at h n ≡ Some x → Ends k x.owner → IsOwnedAs h k n y → Ends k y.owner
-  by_owner n x y at up (inl is) = ends_here y.owner is
+  by_owner n x y at up (inl is) = ends_here y.owner is.0
   by_owner n x y at up (inr (inl same)) =
       let one : same.0 ≡ x = (let both : Some same.0 ≡ Some x = sym same.1 ∙ at in cc) in
       subst (Ends k) (sym (same.2.0 ∙ ap (λ (z : Object). z.owner) one)) up
@@ -65,13 +69,16 @@ module _ (h k : HeapContents) (have : HaveEnds h) (more : next_number h ≤ next
   still_ends _ (of_field w f x at rest) = let y = there w x at in of_field w f y.0 y.1 (by_owner w x y.0 at (still_ends x.owner rest) (from w y.0 y.1))
 
   all_end : (n : ℕ) (y : Object) → IsOwnedAs h k n y → Ends k y.owner
-  all_end n y (inl is) = ends_here y.owner is
+  all_end n y (inl is) = ends_here y.owner is.0
   all_end n y (inr (inl same)) = subst (Ends k) (sym same.2.0) (still_ends same.0.owner (have.ends n same.0 same.1))
   all_end n y (inr (inr stored)) = stored_ends y stored
 
-  none_owned : (n : ℕ) (y : Object) → y.finished ≡ false → IsOwnedAs h k n y → IsLast y.owner
-  none_owned n y unmade (inl is) = is
-  none_owned n y unmade (inr (inl same)) = subst IsLast (sym same.2.0) (have.unfinished n same.0 same.1 (sym same.2.1 ∙ unmade))
+  none_owned : (n : ℕ) (y : Object) → y.finished ≡ false → IsOwnedAs h k n y → y.owner ≡ owners.Unowned
+  none_owned n y unmade (inl is) = elim is.1 [
+    | inl made ↦ absurd (true≢false (sym made ∙ unmade))
+    | inr none ↦ none
+  ]
+  none_owned n y unmade (inr (inl same)) = same.2.0 ∙ have.unfinished n same.0 same.1 (sym same.2.1 ∙ unmade)
   none_owned n y unmade (inr (inr stored)) = absurd (true≢false (sym stored.finished ∙ unmade))
 
   pub ends_on : HaveEnds k
@@ -86,6 +93,16 @@ given_up_last x = go (is_unmet x)
     go true = tt
     go false = tt
 
-pub kept_owner : (test : Bool) (x y : Object) → IsKeptOr test x y → IsLast y.owner ⊎ IsSame x y
-kept_owner test x y (inl same) = inr (ap (λ (z : Object). z.owner) same, ap (λ (z : Object). z.finished) same)
-kept_owner test x y (inr given) = inl (subst (λ (z : Object). IsLast z.owner) (sym given.1) (given_up_last x))
+-- what is given up is finished
+pub kept_owner : (test : Bool) (x y : Object) → (test ≡ true → x.finished ≡ true) → IsKeptOr test x y → IsLastOwned y ⊎ IsSame x y
+kept_owner test x y made (inl same) = inr (ap (λ (z : Object). z.owner) same, ap (λ (z : Object). z.finished) same)
+kept_owner test x y made (inr given) =
+    inl (subst (λ (z : Object). IsLast z.owner) (sym given.1) (given_up_last x), inl (ap (λ (z : Object). z.finished) given.1 ∙ made given.0))
+
+-- what a frame or a field owns is finished, where nobody owns what is not
+pub owned_is_finished : (h : HeapContents) → HaveEnds h → (n : ℕ) (x : Object) (test : Owner → Bool) → test owners.Unowned ≡ false → object_at h n ≡ Some x → test x.owner ≡ true → x.finished ≡ true
+owned_is_finished h have n x test none at is = go x.finished refl
+  where
+    go : (b : Bool) → x.finished ≡ b → b ≡ true
+    go true made = refl
+    go false unmade = absurd (true≢false (sym is ∙ ap test (have.unfinished n x at unmade) ∙ none))

@@ -1,12 +1,12 @@
 -- The frame of a call that begins: it stands at the start of its body, and tracks the objects of its owning parameters.
 use Rattle.std.proofs.Common.{◌≡◌, ℕ, zero, suc, ◌+◌, ◌-◌, ◌<◌, ◌≤◌, Bool, true, false, ◌||◌, Option, Some, None, IsSomeAnd, List, [], ◌∷◌, ◌++◌, length, map, replicate, slice_get, refl, sym, ap, ◌∙◌, subst, true≢false, arith, eqb-true}
 use Rattle.std.specs.FinSet as set
-use Rattle.std.specs.List.{list_any, range_with_len}
+use Rattle.std.specs.List.{range_with_len}
 use Rattle.std.proofs.lemmas.Bool.{and_parts}
 use Rattle.std.proofs.lemmas.List.{length-replicate}
 use Rattle.std.proofs.lemmas.List.FromFn.{get_or-map-range_with_len, length-map-range_with_len}
 use Rattle.std.proofs.lemmas.Option.{slice_get-get_or, slice_get_within}
-use Rattle.rlc_base.proofs.SetLaws.{empty_within, within_trans}
+use Rattle.rlc_base.proofs.SetLaws.{within_trans}
 use Rattle.program_model.specs.declared.kinds.BodyId.{BodyId}
 use Rattle.program_model.specs.declared.kinds.ClassId.{ClassId}
 use Rattle.program_model.specs.declared.kinds.MethodId.{MethodId}
@@ -22,8 +22,8 @@ use Rattle.program_model.specs.Lookups.{body_at, method_at, optional, variable_a
 use Rattle.program_model.specs.Overrides.{are_types, is_type}
 use Rattle.program_model.specs.SuperTests.{is_class}
 use Rattle.program_model.specs.Validity.{HasParameters, IsBodyOf, OwnsBody}
-use Rattle.must_call_sets.specs.MustCallSets.{fits, is_empty, must_of, no_names}
-use Rattle.must_call_sets.specs.OverrideCases.{differ, has_other_owning}
+use Rattle.conduct_laws.specs.MustCallSets.{fits, must_of}
+use Rattle.conduct_laws.specs.OverrideCases.{differ, has_other_owning}
 use Rattle.java_control.specs.Control.{start_of}
 use Rattle.java_control.specs.declared.fact.Fact.{Fact}
 use Rattle.java_control.specs.declared.fact.Mode.TheVariants as modes
@@ -35,7 +35,7 @@ use Rattle.java_control.specs.Remaining.{Todo}
 use Rattle.ownership_rules.specs.Births.{births_at_entry, entry_births_in, entry_births_of, fact_at, held_births, origin_of, parameter_birth, parameter_births, this_birth}
 use Rattle.ownership_rules.specs.Room.{variables_in}
 use Rattle.accepted_programs.specs.Accept.{Accept}
-use Rattle.flow_rules.specs.Paths.{Reach, entered, relation_of, start}
+use Rattle.agreement.specs.Paths.{Reach, entered, relation_of, start}
 use Rattle.ledger_state.specs.Contents.{HeapContents}
 use Rattle.ledger_state.specs.Heaps.{root_of}
 use Rattle.ledger_state.specs.Locals.{variable_value}
@@ -44,14 +44,13 @@ use Rattle.ledger_state.specs.declared.object.Object.{Object}
 use Rattle.ledger_state.specs.declared.value.Value.{Value}
 use Rattle.ledger_state.specs.declared.value.Value.TheVariants as values
 use Rattle.ledger_operations.specs.Places.{place_value}
-use Rattle.ledger_calls.specs.Calls.{begun, body_of, control_in, variable_count}
-use Rattle.ledger_calls.specs.Calls as calls
-use Rattle.ledger_calls.specs.Configuration.{Frame}
+use Rattle.agreement.specs.Calls.{begun, body_of, control_in, variable_count}
+use Rattle.agreement.specs.Calls as calls
+use Rattle.agreement.specs.Configuration.{Frame}
 use Rattle.ledger_moves.specs.Moves.{has_body}
-use Rattle.place_laws.specs.Places.{is_local}
-use Rattle.place_laws.proofs.Laws.{single_place-alone, single_place-has, single_place-same, single_place-some}
+use Rattle.agreement.specs.Places.{is_local}
+use Rattle.agreement.proofs.Laws.{single_place-alone, single_place-has, single_place-same, single_place-some}
 use Rattle.agreement.specs.Agreement.{Stands, Tracks}
-use Rattle.agreement.specs.PlainForms.{asks_on_owned}
 
 -- ---- lists
 
@@ -133,18 +132,6 @@ same_count [] [] is = refl
 same_count [] (y ∷ ys) is = absurd (true≢false (sym is))
 same_count (x ∷ xs) [] is = absurd (true≢false (sym is))
 same_count (x ∷ xs) (y ∷ ys) is = ap suc (same_count xs ys (and_parts (is_type x.vtype y.vtype) (are_types xs ys) is).1)
-
-pub asks_nothing : (xs : List ParamSig) (i : ℕ) (x : ParamSig) → list_any asks_on_owned xs ≡ false → slice_get xs i ≡ Some x → x.owning ≡ true → is_empty x.before ≡ true
-asks_nothing [] i x none at owning = absurd (no_element i x at)
-asks_nothing (z ∷ xs) zero x none at owning = go (is_empty x.before) refl
-  where
-    here : asks_on_owned x ≡ false
-    here = subst (λ (u : ParamSig). asks_on_owned u ≡ false) (let same : z ≡ x = (let both : Some z ≡ Some x = at in cc) in same) (or_parts (asks_on_owned z) (list_any asks_on_owned xs) none).0
-
-    go : (b : Bool) → is_empty x.before ≡ b → is_empty x.before ≡ true
-    go true is = is
-    go false is = absurd (true≢false (let asks : asks_on_owned x ≡ true = rw (owning, is) refl in sym asks ∙ here))
-asks_nothing (z ∷ xs) (suc i) x none at owning = asks_nothing xs i x (or_parts (asks_on_owned z) (list_any asks_on_owned xs) none).1 at owning
 
 -- ---- births at the entry
 
@@ -281,7 +268,7 @@ module _ (p : Program) (ac : Accept p) (k : HeapContents) (fr : Frame) (runs : M
       let few : length b.stands.body.vars.items ≤ 160 = subst (λ (n : ℕ). n ≤ 160) (ap variables_in b.stands.at) (ac.fits b.stands.number).room.variables in
       omega (arith, inside, few)
 
-  pub entered_tracks : (i : ℕ) (q : ParamSig) (c : ClassId) (o : ℕ) (y : Object) → slice_get m.sig.params.items i ≡ Some q → q.owning ≡ true → q.vtype ≡ types.Obj c → is_empty q.before ≡ true
+  pub entered_tracks : (i : ℕ) (q : ParamSig) (c : ClassId) (o : ℕ) (y : Object) → slice_get m.sig.params.items i ≡ Some q → q.owning ≡ true → q.vtype ≡ types.Obj c → set.is_subset q.before y.called ≡ true
       → fits p y.class c ≡ true → set.is_subset y.must (must_of p y.class) ≡ true → root_of k (variable_value fr.locals i) ≡ Some o → Tracks p k fr o y
   entered_tracks i q c o y at owning type before fit bounded root =
       let v = parameter_variable b.stands.body.vars.items m.sig.params.items i q has_parameters at in
@@ -302,7 +289,7 @@ module _ (p : Program) (ac : Accept p) (k : HeapContents) (fr : Frame) (runs : M
           class = fit;
           bounded = bounded;
           need = within_trans y.must (must_of p y.class) (must_of p c) bounded fit;
-          called = within_trans q.before no_names y.called before (empty_within y.called);
+          called = before;
           some = single_place-some (places.Var i);
           alone = single_place-alone (places.Var i) small;
           places = λ r inside is.

@@ -7,9 +7,9 @@ use Rattle.java_control.specs.declared.fact.Fact.{Fact}
 use Rattle.java_control.specs.declared.fact.Origin.{Origin}
 use Rattle.java_control.specs.declared.fact.Outcome.{Outcome}
 use Rattle.java_control.specs.declared.fact.Outcome.TheVariants.{Next, Gone, Fault}
-use Rattle.flow_rules.specs.Flow.{flow}
+use Rattle.agreement.specs.Flow.{flow}
 use Rattle.accepted_programs.specs.Accept.{Accept}
-use Rattle.flow_rules.specs.Paths.{Move, Reach, flowed, relation_of}
+use Rattle.agreement.specs.Paths.{Move, Reach, flowed, relation_of}
 use Rattle.owned_fact_laws.specs.Outcomes.{After, IsFault}
 
 pub followed : (p : Program) (ac : Accept p) (b : BodyId) (o : Origin) {k : List Todo} (i : ℕ) (t : Move (List Todo)) (f : Fact) (P : Fact → Type 0)

@@ -5,13 +5,13 @@ use Rattle.std.proofs.lemmas.Bool.{and_parts}
 use Rattle.rlc_base.proofs.SetLaws.{within_trans}
 use Rattle.program_model.specs.declared.kinds.MethodId.{MethodId}
 use Rattle.program_model.specs.declared.program.Program.{Program}
-use Rattle.must_call_sets.specs.MustCallSets.{must_of, must_of_type}
+use Rattle.conduct_laws.specs.MustCallSets.{must_of, must_of_type}
 use Rattle.java_control.specs.declared.action.Action.{Action}
 use Rattle.java_control.specs.declared.action.Edge.{Edge}
 use Rattle.java_control.specs.declared.fact.Fact.{Fact}
 use Rattle.java_control.specs.declared.fact.Origin.{Origin}
-use Rattle.obligation_facts.specs.Callees.{callee}
-use Rattle.obligation_facts.specs.SmallActions.{IsSmallAction}
+use Rattle.owned_fact_laws.specs.Callees.{callee}
+use Rattle.owned_fact_laws.specs.SmallActions.{IsSmallAction}
 use Rattle.ownership_rules.specs.MovesAtCalls.{moved_at_call}
 use Rattle.ownership_rules.specs.declared.moved.Moved.TheVariants as moves
 use Rattle.ledger_state.specs.Contents.{HeapContents}
@@ -19,9 +19,9 @@ use Rattle.ledger_state.specs.Heaps.{root_of}
 use Rattle.ledger_state.specs.declared.entry.Owner.TheVariants as owners
 use Rattle.ledger_state.specs.declared.locals.Locals.{Locals}
 use Rattle.ledger_state.specs.declared.object.Object.{Object}
-use Rattle.ledger_obligations.specs.Obligations.{is_unmet}
-use Rattle.ledger_calls.specs.Calls.{operand_of, params_in}
-use Rattle.heap_laws.specs.Heaps.{IsGiven}
+use Rattle.owned_fact_laws.specs.Obligations.{is_unmet}
+use Rattle.agreement.specs.Calls.{operand_of, params_in}
+use Rattle.library_call_laws.specs.Heaps.{IsGiven}
 use Rattle.agreement.specs.Agreement.{Follows}
 use Rattle.tracking_laws.proofs.CallNames.{operand_is_near, operand_of_fact}
 use Rattle.tracking_laws.proofs.Moving.{moved_is_given}

@@ -13,15 +13,15 @@ use Rattle.ledger_state.specs.declared.entry.Owner.{Owner}
 use Rattle.ledger_state.specs.declared.entry.Owner.TheVariants as owners
 use Rattle.ledger_state.specs.declared.object.Object.{Object}
 use Rattle.ledger_state.specs.declared.value.Value.{Value}
-use Rattle.ledger_obligations.specs.Obligations.{held_at, holds, is_unmet, lose, owner_holds}
-use Rattle.ledger_calls.specs.Configuration.{Frame, held_by}
+use Rattle.owned_fact_laws.specs.Obligations.{held_at, holds, is_unmet, lose, owner_holds}
+use Rattle.agreement.specs.Configuration.{Frame, held_by}
 use Rattle.ledger_steps.specs.Effects.{left}
 use Rattle.ledger_state.specs.Leaks.{is_leak}
-use Rattle.heap_laws.specs.Heaps.{HasLibraryLinks}
+use Rattle.library_call_laws.specs.Heaps.{HasEarlierLinks}
 use Rattle.agreement.specs.Chains.{HaveEnds}
 use Rattle.agreement.specs.Agreement.{Agrees, AllStand, Awaits, IsAwaited, IsStacked, IsTracked, Tracks, is_answering}
-use Rattle.heap_laws.proofs.Laws.{nothing_is_lost, step_leaks_nothing-lines}
-use Rattle.place_laws.proofs.Laws.{held_place_counts, some_place_is_held}
+use Rattle.library_call_laws.proofs.Laws.{nothing_is_lost, step_leaks_nothing-lines}
+use Rattle.agreement.proofs.Laws.{held_place_counts, some_place_is_held}
 
 -- a frame holds what it tracks
 tracks_held : (p : Program) (h : HeapContents) (fr : Frame) (o : ℕ) (x : Object) → Tracks p h fr o x → holds h (held fr.locals) o ≡ true
@@ -89,7 +89,7 @@ no_leak_in_both (x ∷ xs) ys a b = go (is_leak x) a (no_leak_in_both xs ys)
     go false good rest = rest good b
 
 -- a step that ends with this heap
-pub landed : (p : Program) (frs : List Frame) (k : HeapContents) (es : List Entry) (pos : Pos) (lines : List Entry) → AllStand p frs → IsStacked p k frs → HasLibraryLinks k → HaveEnds k
+pub landed : (p : Program) (frs : List Frame) (k : HeapContents) (es : List Entry) (pos : Pos) (lines : List Entry) → AllStand p frs → IsStacked p k frs → HasEarlierLinks k → HaveEnds k
     → ((o : ℕ) (x : Object) (j : ℕ) → object_at k o ≡ Some x → is_unmet x ≡ true → x.owner ≡ owners.Frame j → IsTracked p k frs o x j)
     → ((o : ℕ) (x : Object) → object_at k o ≡ Some x → x.link ≡ None → is_unmet x ≡ true → is_answering x.owner ≡ true)
     → list_any is_leak es ≡ false → list_any is_leak lines ≡ false

@@ -17,3 +17,7 @@ pub mod Stores
 pub mod Chains
 pub mod AliasConducts
 pub mod AliasRoots
+pub use Rattle.conduct_laws.proofs.Conducts
+pub use Rattle.named_step_laws.proofs.Reached
+pub use Rattle.library_call_laws.proofs.Laws
+pub use Rattle.call_step_laws.proofs.Ways

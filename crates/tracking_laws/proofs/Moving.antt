@@ -5,21 +5,21 @@ use Rattle.program_model.specs.declared.kinds.VType.{VType}
 use Rattle.program_model.specs.declared.program.Method.{Method}
 use Rattle.program_model.specs.declared.program.ParamSig.{ParamSig}
 use Rattle.program_model.specs.declared.program.Program.{Program}
-use Rattle.must_call_sets.specs.MustCallSets.{fits_type, is_heavy_as}
+use Rattle.conduct_laws.specs.MustCallSets.{fits_type, is_heavy_as}
 use Rattle.java_control.specs.declared.action.Action.{Action}
 use Rattle.java_control.specs.declared.action.Edge.{Edge}
 use Rattle.java_control.specs.declared.fact.Fact.{Fact}
 use Rattle.java_control.specs.declared.fact.Origin.{Origin}
 use Rattle.java_control.specs.declared.fact.Rule.{Rule}
 use Rattle.java_control.specs.declared.fact.Rule.TheVariants as rules
-use Rattle.obligation_facts.specs.Callees.{callee, holds_operand, may_be_null_target}
-use Rattle.obligation_facts.specs.Facts.{PlaceSet, is_met}
+use Rattle.owned_fact_laws.specs.Callees.{callee, holds_operand, may_be_null_target}
+use Rattle.owned_fact_laws.specs.Facts.{PlaceSet, is_met}
 use Rattle.ownership_rules.specs.Heavy.{is_owned}
 use Rattle.ownership_rules.specs.MovesAtCalls.{first_of, has_two_owners, moved_at_call, moved_to, moved_to_first, owners, owners_from, owners_in}
 use Rattle.ownership_rules.specs.MovesAtCalls.{takes as takes_at}
 use Rattle.ownership_rules.specs.declared.moved.Moved.{Moved}
 use Rattle.ownership_rules.specs.declared.moved.Moved.TheVariants as moves
-use Rattle.ledger_calls.specs.Calls.{params_in}
+use Rattle.agreement.specs.Calls.{params_in}
 
 -- an owning parameter of the type takes the object
 pub record Taken (a : Action) (held : PlaceSet) (k : ℕ) (params : List ParamSig) (t : VType) : Type 0 where

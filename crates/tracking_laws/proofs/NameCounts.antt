@@ -4,8 +4,8 @@ use Rattle.std.proofs.lemmas.Bool.{ltb-false}
 use Rattle.rlc_base.specs.declared.place.Pos.{Pos}
 use Rattle.program_model.specs.declared.program.Program.{Program}
 use Rattle.program_model.specs.declared.program.RawAnno.{RawAnno}
-use Rattle.must_call_sets.specs.WellFormed.{HasSmallInterests}
-use Rattle.must_call_sets.proofs.InterestLaws.{small_interests}
+use Rattle.conduct_laws.specs.WellFormed.{HasSmallInterests}
+use Rattle.conduct_laws.proofs.InterestLaws.{small_interests}
 use Rattle.must_call_types.specs.NameTable.{IsNameTable, past_limit, with_names}
 use Rattle.accepted_programs.specs.Accept.{Accept}
 

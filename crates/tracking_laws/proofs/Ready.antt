@@ -5,7 +5,7 @@ use Rattle.program_model.specs.declared.kinds.BodyId.{BodyId}
 use Rattle.program_model.specs.declared.kinds.MethodId.{MethodId}
 use Rattle.program_model.specs.declared.program.Program.{Program}
 use Rattle.program_model.specs.declared.tree.Body.{Body}
-use Rattle.must_call_sets.specs.Bodies.{alias_in}
+use Rattle.conduct_laws.specs.Bodies.{alias_in}
 use Rattle.java_control.specs.Calls.{called_method}
 use Rattle.java_control.specs.Control.{Step, next_of}
 use Rattle.java_control.specs.declared.action.Action.{Action}
@@ -14,15 +14,15 @@ use Rattle.java_control.specs.declared.action.Edge.{Edge}
 use Rattle.java_control.specs.declared.action.Edge.TheVariants as edges
 use Rattle.java_control.specs.declared.place.Place.{Place}
 use Rattle.java_control.specs.declared.place.Place.TheVariants as places
-use Rattle.obligation_facts.specs.Callees.{callee}
-use Rattle.obligation_facts.specs.Facts.{PlaceSet, has_temp}
-use Rattle.alias_sets.specs.Aliases.{alias_operand, gives_alias, operand_of}
+use Rattle.owned_fact_laws.specs.Callees.{callee}
+use Rattle.owned_fact_laws.specs.Facts.{PlaceSet, has_temp}
+use Rattle.owned_fact_laws.specs.Aliases.{alias_operand, gives_alias, operand_of}
 use Rattle.accepted_programs.specs.Accept.{Accept}
-use Rattle.flow_rules.specs.Paths.{move_of, relation_of}
+use Rattle.agreement.specs.Paths.{move_of, relation_of}
 use Rattle.ledger_state.specs.declared.locals.Locals.{Locals}
-use Rattle.ledger_calls.specs.Configuration.{Frame}
+use Rattle.agreement.specs.Configuration.{Frame}
 use Rattle.ledger_frames.specs.Choosing.{body_by, frame_steps, steps_by}
-use Rattle.place_laws.specs.Places.{HasTarget, HasVariable, IsWay, SetsLocals}
+use Rattle.agreement.specs.Places.{HasTarget, HasVariable, IsWay, SetsLocals}
 use Rattle.agreement.specs.Agreement.{Stands}
 use Rattle.agreement.specs.PlainForms.{HasPlainForms, IsPlainAction, IsPlainCall}
 use Rattle.owned_fact_laws.specs.Outcomes.{IsCallRow, IsPlainRow}

@@ -8,8 +8,8 @@ use Rattle.program_model.specs.declared.kinds.MethodId.{MethodId}
 use Rattle.program_model.specs.declared.kinds.VType.{VType}
 use Rattle.program_model.specs.declared.program.Method.{Method}
 use Rattle.program_model.specs.declared.program.Program.{Program}
-use Rattle.must_call_sets.specs.Bodies.{alias_in, alias_position, method_of}
-use Rattle.must_call_sets.specs.MustCallSets.{fits_type, is_heavy_as, must_of, must_of_type}
+use Rattle.conduct_laws.specs.Bodies.{alias_in, alias_position, method_of}
+use Rattle.conduct_laws.specs.MustCallSets.{fits_type, is_heavy_as, must_of, must_of_type}
 use Rattle.java_control.specs.declared.action.Action.TheVariants as actions
 use Rattle.java_control.specs.declared.action.Completion.{Completion}
 use Rattle.java_control.specs.declared.action.Completion.TheVariants as completions
@@ -18,8 +18,8 @@ use Rattle.java_control.specs.declared.fact.Mode.TheVariants as modes
 use Rattle.java_control.specs.declared.fact.Origin.{Origin}
 use Rattle.java_control.specs.declared.fact.Rule.TheVariants as rules
 use Rattle.java_control.specs.declared.place.Place.TheVariants as places
-use Rattle.obligation_facts.specs.Facts.{has}
-use Rattle.obligation_facts.specs.SmallActions.{IsSmallAction}
+use Rattle.owned_fact_laws.specs.Facts.{has}
+use Rattle.owned_fact_laws.specs.SmallActions.{IsSmallAction}
 use Rattle.ownership_rules.specs.Heavy.{is_owned}
 use Rattle.ownership_rules.specs.MovesAtReturns.{heavy_result, kept_alias, moved_at_return, owned_result, owning_result_in, result_in, result_type}
 use Rattle.ownership_rules.specs.declared.moved.Moved.{Moved}
@@ -30,7 +30,7 @@ use Rattle.ledger_state.specs.declared.locals.Locals.{Locals}
 use Rattle.ledger_state.specs.declared.object.Object.{Object}
 use Rattle.ledger_steps.specs.Ends.{exception_class, result_value, thrown_in}
 use Rattle.agreement.specs.Agreement.{Follows}
-use Rattle.must_call_sets.specs.Signatures.{is_present}
+use Rattle.conduct_laws.specs.Signatures.{is_present}
 
 -- the declared type of the result takes the object, and the method's result is owning, and no alias of an argument
 pub record IsResult (p : Program) (m : Option Method) (x : Object) : Type 0 where

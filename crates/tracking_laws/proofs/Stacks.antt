@@ -5,8 +5,8 @@ use Rattle.std.specs.Prelude.{MatchBool}
 use Rattle.program_model.specs.declared.kinds.MethodId.{MethodId}
 use Rattle.program_model.specs.declared.program.Program.{Program}
 use Rattle.program_model.specs.Lookups.{method_at}
-use Rattle.must_call_sets.specs.Bodies.{constructs}
-use Rattle.must_call_sets.specs.MustCallSets.{must_of}
+use Rattle.conduct_laws.specs.Bodies.{constructs}
+use Rattle.conduct_laws.specs.MustCallSets.{must_of}
 use Rattle.java_control.specs.declared.action.Action.{Action}
 use Rattle.java_control.specs.declared.action.Action.TheVariants as actions
 use Rattle.ownership_rules.specs.MovesAtReturns.{result_in}
@@ -14,8 +14,8 @@ use Rattle.ledger_state.specs.Contents.{HeapContents}
 use Rattle.ledger_state.specs.Heaps.{next_number, object_at}
 use Rattle.ledger_state.specs.declared.object.Object.{Object}
 use Rattle.ledger_state.specs.declared.value.Value.{Value}
-use Rattle.ledger_calls.specs.Configuration.{Frame}
-use Rattle.agreement.specs.Agreement.{Awaits, IsAwaited, IsCalledFrom, IsMade, IsMadeBy, IsTracked, RunsItself, RunsOnSame, Tracks, WaitsFor}
+use Rattle.agreement.specs.Configuration.{Frame}
+use Rattle.agreement.specs.Agreement.{Awaits, IsAwaited, IsCalledFrom, IsMade, IsMadeAfter, IsMadeBy, IsTracked, RunsItself, RunsOnSame, Tracks, WaitsFor}
 use Rattle.agreement.specs.PlainForms.{MayRun}
 
 -- the objects of the first heap have the same classes in the second
@@ -46,6 +46,7 @@ module _ (p : Program) (h k : HeapContents) (keeps : KeepsClasses h k) where
     kind = ap (λ (m : MethodId). constructs (method_at p m)) method ∙ w.kind;
     on_same = subst (RunsOnSame w.step.action caller.locals.this) (sym this) w.on_same;
     makes = subst (IsMadeBy p k w.step.action) (sym this) (made_by_on w.step.action fr.locals.this w.makes);
+    after = subst (IsMadeAfter p caller.locals w.step.action) (sym this) w.after;
   }
 
   pub called_on : (fr after : Frame) (frs : List Frame) → after.method ≡ fr.method → after.locals.this ≡ fr.locals.this → IsCalledFrom p h fr frs → IsCalledFrom p k after frs

@@ -5,8 +5,8 @@ use Rattle.std.specs.FinSet as set
 use Rattle.program_model.specs.declared.kinds.BodyId.{BodyId}
 use Rattle.program_model.specs.declared.kinds.FieldId.{FieldId}
 use Rattle.program_model.specs.declared.program.Program.{Program}
-use Rattle.must_call_sets.specs.MustCallSets.{fits, fits_type, beyond_type, is_empty, is_heavy_class, must_of, must_of_optional}
-use Rattle.must_call_sets.specs.Signatures.{field_type}
+use Rattle.conduct_laws.specs.MustCallSets.{fits, fits_type, beyond_type, is_empty, is_heavy_class, must_of, must_of_optional}
+use Rattle.conduct_laws.specs.Signatures.{field_type}
 use Rattle.java_control.specs.Control.{Step}
 use Rattle.java_control.specs.Owned.{place_of_field}
 use Rattle.java_control.specs.PlaceNumbers.{IsSmall}
@@ -21,27 +21,27 @@ use Rattle.java_control.specs.declared.fact.Outcome.TheVariants.{Next, Fault}
 use Rattle.java_control.specs.declared.fact.Rule.TheVariants as rules
 use Rattle.java_control.specs.declared.place.Place.{Place}
 use Rattle.java_control.specs.declared.place.Place.TheVariants as places
-use Rattle.obligation_facts.specs.Facts.{has, need}
-use Rattle.obligation_facts.specs.SmallActions.{IsSmallAction}
+use Rattle.owned_fact_laws.specs.Facts.{has, need}
+use Rattle.owned_fact_laws.specs.SmallActions.{IsSmallAction}
 use Rattle.owning_fields.specs.Stores.{heavy_stored, is_heavy_store, keeps_other, lacks_reset, may_store, object_stored, stored_over, with_field}
-use Rattle.flow_rules.specs.Flow.{flow}
-use Rattle.flow_rules.specs.Paths.{Reach, flowed, move_of, relation_of}
+use Rattle.agreement.specs.Flow.{flow}
+use Rattle.agreement.specs.Paths.{Reach, flowed, move_of, relation_of}
 use Rattle.accepted_programs.specs.Accept.{Accept}
 use Rattle.ledger_state.specs.Contents.{HeapContents}
 use Rattle.ledger_state.specs.Heaps.{root_of}
 use Rattle.ledger_state.specs.Locals.{temp_value}
 use Rattle.ledger_state.specs.declared.object.Object.{Object}
 use Rattle.ledger_state.specs.declared.value.Value.{Value}
-use Rattle.ledger_obligations.specs.Obligations.{is_unmet}
+use Rattle.owned_fact_laws.specs.Obligations.{is_unmet}
 use Rattle.ledger_operations.specs.Places.{place_value}
-use Rattle.ledger_calls.specs.Configuration.{Frame}
+use Rattle.agreement.specs.Configuration.{Frame}
 use Rattle.ledger_frames.specs.Choosing.{body_by, body_id, frame_steps}
 use Rattle.ledger_frames.specs.Frames.{frame_after}
 use Rattle.rlc_base.proofs.SetLaws.{within_trans}
-use Rattle.heap_laws.specs.Heaps.{GoesOn}
+use Rattle.library_call_laws.specs.Heaps.{GoesOn}
 use Rattle.tracking_laws.specs.Steps.{RootsStay}
-use Rattle.place_laws.specs.Places.{HasTarget, is_local}
-use Rattle.place_laws.proofs.Laws.{value_comes_from_source}
+use Rattle.agreement.specs.Places.{HasTarget, is_local}
+use Rattle.agreement.proofs.Laws.{value_comes_from_source}
 use Rattle.agreement.specs.Agreement.{Stands, Tracks}
 use Rattle.owned_fact_laws.specs.Outcomes.{IsFault}
 use Rattle.tracking_laws.proofs.Births.{heavy_by_unmet}

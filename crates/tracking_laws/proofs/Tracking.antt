@@ -12,15 +12,15 @@ use Rattle.java_control.specs.declared.action.Edge.TheVariants as edges
 use Rattle.java_control.specs.declared.fact.Fact.{Fact}
 use Rattle.java_control.specs.declared.fact.Origin.{Origin}
 use Rattle.java_control.specs.declared.place.Place.TheVariants as places
-use Rattle.obligation_facts.specs.Facts.{Names, has, is_met, need}
-use Rattle.obligation_facts.specs.SmallActions.{IsSmallAction}
-use Rattle.alias_sets.specs.Aliases.{gives_alias}
-use Rattle.called_methods.specs.CalledRows.{called_after}
+use Rattle.owned_fact_laws.specs.Facts.{Names, has, is_met, need}
+use Rattle.owned_fact_laws.specs.SmallActions.{IsSmallAction}
+use Rattle.owned_fact_laws.specs.Aliases.{gives_alias}
+use Rattle.owned_fact_laws.specs.CalledRows.{called_after}
 use Rattle.ownership_rules.specs.MovesAtCalls.{moved_at_call}
 use Rattle.ownership_rules.specs.declared.moved.Moved.TheVariants as moves
-use Rattle.flow_rules.specs.Flow.{flow}
+use Rattle.agreement.specs.Flow.{flow}
 use Rattle.accepted_programs.specs.Accept.{Accept}
-use Rattle.flow_rules.specs.Paths.{Reach, move_of, relation_of}
+use Rattle.agreement.specs.Paths.{Reach, move_of, relation_of}
 use Rattle.ledger_state.specs.Contents.{HeapContents}
 use Rattle.ledger_state.specs.Heaps.{root_of}
 use Rattle.ledger_state.specs.Locals.{temp_value}
@@ -28,13 +28,13 @@ use Rattle.ledger_state.specs.Values.{is_null}
 use Rattle.ledger_state.specs.declared.object.Object.{Object}
 use Rattle.ledger_state.specs.declared.value.Value.{Value}
 use Rattle.ledger_state.specs.declared.value.Value.TheVariants as values
-use Rattle.ledger_obligations.specs.Obligations.{is_unmet}
-use Rattle.ledger_calls.specs.Configuration.{Frame}
+use Rattle.owned_fact_laws.specs.Obligations.{is_unmet}
+use Rattle.agreement.specs.Configuration.{Frame}
 use Rattle.ledger_frames.specs.Choosing.{body_id, frame_steps}
 use Rattle.ledger_frames.specs.Frames.{frame_after, locals_after}
 use Rattle.rlc_base.proofs.SetLaws.{within_trans}
-use Rattle.heap_laws.specs.Heaps.{GoesOn}
-use Rattle.place_laws.specs.Places.{IsWay}
+use Rattle.library_call_laws.specs.Heaps.{GoesOn}
+use Rattle.agreement.specs.Places.{IsWay}
 use Rattle.agreement.specs.Agreement.{Follows, IsAwaited, IsTracked, Stands, Tracks}
 use Rattle.agreement.specs.PlainForms.{HasPlainForms}
 use Rattle.owned_fact_laws.specs.Outcomes.{After, IsCallRow, IsNotNull, IsPlainRow}

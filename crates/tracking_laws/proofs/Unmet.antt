@@ -9,7 +9,7 @@ use Rattle.program_model.specs.declared.kinds.MethodId.{MethodId}
 use Rattle.program_model.specs.declared.kinds.VType.{VType}
 use Rattle.program_model.specs.declared.kinds.VType.TheVariants as types
 use Rattle.program_model.specs.declared.program.Program.{Program}
-use Rattle.must_call_sets.specs.MustCallSets.{Names, must_of, must_of_type, no_names}
+use Rattle.conduct_laws.specs.MustCallSets.{Names, must_of, must_of_type, no_names}
 use Rattle.java_control.specs.Calls.{called_method}
 use Rattle.java_control.specs.Control.{Step}
 use Rattle.java_control.specs.declared.action.Action.{Action}
@@ -17,10 +17,10 @@ use Rattle.java_control.specs.declared.action.Action.TheVariants as actions
 use Rattle.ledger_state.specs.declared.entry.Owner.{Owner}
 use Rattle.ledger_state.specs.declared.entry.Owner.TheVariants as owners
 use Rattle.ledger_state.specs.declared.object.Object.{Object}
-use Rattle.ledger_obligations.specs.Obligations.{is_library_owner, is_unmet, may_move}
+use Rattle.owned_fact_laws.specs.Obligations.{is_library_owner, is_unmet, may_move}
 use Rattle.call_step_laws.specs.Calling.{may_call}
-use Rattle.heap_laws.specs.Heaps.{GoesOn}
-use Rattle.place_laws.specs.Places.{IsWay}
+use Rattle.library_call_laws.specs.Heaps.{GoesOn}
+use Rattle.agreement.specs.Places.{IsWay}
 use Rattle.agreement.specs.Agreement.{is_answering}
 use Rattle.owned_fact_laws.specs.Outcomes.{IsCallRow}
 

@@ -2,3 +2,14 @@ pub mod Steps
 pub use Rattle.agreement.specs.Agreement
 pub use Rattle.agreement.specs.PlainForms
 pub use Rattle.owned_fact_laws.specs.Outcomes
+pub use Rattle.agreement.specs.Chains
+pub use Rattle.conduct_laws.specs.Fitting
+pub use Rattle.named_step_laws.specs.Naming
+pub use Rattle.library_call_laws.specs.LibraryCalls
+pub use Rattle.ledger_frames.specs.Choosing
+pub use Rattle.call_step_laws.specs.Calling
+pub use Rattle.ledger_operations.specs.Places
+pub use Rattle.owning_fields.specs.Stores
+pub use Rattle.effective_signatures.specs.Effective
+pub use Rattle.effective_signatures.specs.Targets
+pub use Rattle.refusal_order.specs.Refusals

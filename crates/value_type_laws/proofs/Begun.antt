@@ -17,28 +17,28 @@ use Rattle.program_model.specs.declared.tree.Var.{Var}
 use Rattle.program_model.specs.Lookups.{body_at, method_at, type_of_variable, variable_type}
 use Rattle.program_model.specs.Overrides.{are_types, is_type}
 use Rattle.program_model.specs.Validity.{HasParameters, IsBodyOf, OwnsBody, is_class_type}
-use Rattle.program_conditions.specs.Conditions.{MakesNoString}
+use Rattle.operand_type_laws.specs.Conditions.{MakesNoString}
 use Rattle.java_control.specs.Control.{Step, next_of}
 use Rattle.java_control.specs.Sources.{is_throws}
 use Rattle.obligation_facts.specs.SmallActions.{IsSmallAction}
 use Rattle.accepted_programs.specs.Accept.{Accept}
-use Rattle.flow_rules.specs.Paths.{move_of, on, relation_of, start}
+use Rattle.agreement.specs.Paths.{move_of, on, relation_of, start}
 use Rattle.ledger_state.specs.Contents.{HeapContents}
 use Rattle.ledger_state.specs.Locals.{temp_value}
 use Rattle.ledger_state.specs.Values.{value_or_nothing}
 use Rattle.ledger_state.specs.declared.value.Value.{Value}
 use Rattle.ledger_state.specs.declared.value.Value.TheVariants as values
-use Rattle.ledger_calls.specs.Calls.{begun, body_of, control_in, variable_count}
-use Rattle.ledger_calls.specs.Configuration.{Frame}
-use Rattle.ledger_frames.specs.Choosing.{body_by, frame_steps, method_body, steps_by}
-use Rattle.ledger_frames.specs.Frames.{frame_after}
+use Rattle.agreement.specs.Calls.{begun, body_of, control_in, variable_count}
+use Rattle.agreement.specs.Configuration.{Frame}
+use Rattle.frame_value_laws.specs.Choosing.{body_by, frame_steps, method_body, steps_by}
+use Rattle.frame_value_laws.specs.Frames.{frame_after}
 use Rattle.ledger_moves.specs.Moves.{has_body}
 use Rattle.operand_type_laws.specs.Operands.{FindsTypes, Fits, NoObject, left_held}
 use Rattle.operand_type_laws.proofs.Items.{finds_more}
 use Rattle.operand_type_laws.proofs.Ways.{start_finds, step_finds}
-use Rattle.operand_source_laws.specs.Origins.{IsCastToNone, MakesNone}
-use Rattle.operand_source_laws.proofs.Origins.{left}
-use Rattle.operation_type_laws.specs.Values.{IsNoObject, temp_holds_none}
+use Rattle.frame_value_laws.specs.Origins.{IsCastToNone, MakesNone}
+use Rattle.frame_value_laws.proofs.Origins.{left}
+use Rattle.frame_value_laws.specs.Values.{IsNoObject, temp_holds_none}
 use Rattle.frame_value_laws.specs.FrameValues.{FieldsHoldNone}
 use Rattle.frame_value_laws.proofs.Temps.{after_none}
 use Rattle.value_type_laws.specs.Types.{KeepsTypes, StoredHoldNone, holds_none}

@@ -35,14 +35,14 @@ use Rattle.ledger_state.specs.Heaps.{change_some, is_field_of, next_number, put_
 use Rattle.ledger_state.specs.Locals.{temp_value}
 use Rattle.ledger_state.specs.Values.{default_of, number_of}
 use Rattle.ledger_obligations.specs.Obligations.{displaced, displaces, end_holder, given_up, holder_roots, move, moved_in, moved_to, moved_where, moves_in, released_where, reset_roots, stored_owning, with_owner}
-use Rattle.ledger_calls.specs.Calls.{alias_target, arguments_moved, is_alias, move_param, move_params, operand_of, params_in}
-use Rattle.ledger_calls.specs.Conducts.{library_birth, object_made, owning_in, result_in}
+use Rattle.agreement.specs.Calls.{alias_target, arguments_moved, is_alias, move_param, move_params, operand_of, params_in}
+use Rattle.agreement.specs.Conducts.{library_birth, object_made, owning_in, result_in}
 use Rattle.ledger_steps.specs.declared.store.Store.{Store}
 use Rattle.ledger_steps.specs.CallSteps.{library_done, library_reset, object_of_new, started}
 use Rattle.ledger_steps.specs.Ends.{constructor_ended, finished_by_new, frame_ended, frame_gone, moved_as, moved_normally, program_birth, result_moved, returned, returned_reset, self_finished}
 use Rattle.ledger_steps.specs.InnerSteps.{heap_stored, inner, is_bound, store_into, store_of, store_unless, stored_by, thrown_heap}
 use Rattle.operand_type_laws.specs.Operands.{Fits, NoObject, field_type}
-use Rattle.operation_type_laws.specs.Values.{IsNoObject, temp_holds_none}
+use Rattle.frame_value_laws.specs.Values.{IsNoObject, temp_holds_none}
 use Rattle.value_type_laws.specs.Types.{IsStoredNone, StoredHoldNone}
 
 -- ---- changes of objects alone

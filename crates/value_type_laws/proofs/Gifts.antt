@@ -23,10 +23,10 @@ use Rattle.ledger_state.specs.declared.locals.Locals.{Locals}
 use Rattle.ledger_state.specs.declared.value.Value.{Value}
 use Rattle.ledger_state.specs.declared.value.Value.TheVariants as values
 use Rattle.ledger_state.specs.Contents.{HeapContents}
-use Rattle.ledger_calls.specs.Calls.{position_of}
-use Rattle.ledger_calls.specs.Conducts.{conduct_value, fits_type, given_value, on_this, plainly, positions, result_in, settled, settled_by}
+use Rattle.agreement.specs.Calls.{position_of}
+use Rattle.agreement.specs.Conducts.{conduct_value, fits_type, given_value, on_this, plainly, positions, result_in, settled, settled_by}
 use Rattle.operand_type_laws.specs.Operands.{NoObject, result_of}
-use Rattle.operation_type_laws.specs.Values.{IsNoObject}
+use Rattle.frame_value_laws.specs.Values.{IsNoObject}
 
 -- the conduct gives no object, and no argument, which may be one
 abbrev GivesNone : Conduct → Type 0

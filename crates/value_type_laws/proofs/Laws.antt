@@ -18,7 +18,7 @@ use Rattle.program_model.specs.declared.program.Program.{Program}
 use Rattle.program_model.specs.declared.tree.Body.{Body}
 use Rattle.program_model.specs.Lookups.{method_at}
 use Rattle.program_model.specs.Validity.{is_class_type}
-use Rattle.program_conditions.specs.Conditions.{MakesNoString}
+use Rattle.operand_type_laws.specs.Conditions.{MakesNoString}
 use Rattle.rlc_base.specs.declared.place.Pos.{Pos}
 use Rattle.java_control.specs.Calls.{called_method}
 use Rattle.java_control.specs.Control.{Step, next_of}
@@ -31,7 +31,7 @@ use Rattle.java_control.specs.declared.action.Edge.{Edge}
 use Rattle.java_control.specs.declared.action.PlainValue.TheVariants as plain
 use Rattle.java_control.specs.declared.place.Place.TheVariants as places
 use Rattle.accepted_programs.specs.Accept.{Accept}
-use Rattle.flow_rules.specs.Paths.{move_of}
+use Rattle.agreement.specs.Paths.{move_of}
 use Rattle.stub_conduct.specs.declared.choice.Choice.{Choice}
 use Rattle.stub_conduct.specs.declared.choice.Choices.{Choices}
 use Rattle.stub_conduct.specs.declared.choice.Conduct.{Conduct}
@@ -49,11 +49,11 @@ use Rattle.ledger_state.specs.declared.value.Value.{Value}
 use Rattle.ledger_state.specs.declared.value.Value.TheVariants as values
 use Rattle.ledger_obligations.specs.Obligations.{is_library_method}
 use Rattle.ledger_operations.specs.Operations.{arrays_after, is_cast_refused, made_value, next_choice, statics_after, thrown_where}
-use Rattle.ledger_calls.specs.Calls.{argument_values, begun, body_of, control_in, operand_of, params_in}
-use Rattle.ledger_calls.specs.Conducts.{arguments_shared, array_given, arrays_given, conduct_value, positions, result_in, share, share_all, share_value}
-use Rattle.ledger_calls.specs.Configuration.{Config, Frame, held_by}
-use Rattle.ledger_frames.specs.Choosing.{agrees_with, frame_steps, operation_edge, same_edge}
-use Rattle.ledger_frames.specs.Frames.{frame_after}
+use Rattle.agreement.specs.Calls.{argument_values, begun, body_of, control_in, operand_of, params_in}
+use Rattle.agreement.specs.Conducts.{arguments_shared, array_given, arrays_given, conduct_value, positions, result_in, share, share_all, share_value}
+use Rattle.agreement.specs.Configuration.{Config, Frame, held_by}
+use Rattle.frame_value_laws.specs.Choosing.{agrees_with, frame_steps, operation_edge, same_edge}
+use Rattle.frame_value_laws.specs.Frames.{frame_after}
 use Rattle.ledger_steps.specs.CallSteps.{self_begun}
 use Rattle.ledger_steps.specs.Ends.{answered, answered_normally, exception_class, result_value, thrown_in}
 use Rattle.ledger_steps.specs.InnerSteps.{thrown_value}
@@ -65,9 +65,9 @@ use Rattle.ledger_runs.specs.Steps.{began, end, if_thrown, library_went, main_en
 use Rattle.agreement.specs.PlainForms.{HasPlainForms, IsPlainAction, IsPlainCall, MayRun, RunsFor, by_class, by_name, run_by}
 use Rattle.call_step_laws.proofs.Ways.{one_action}
 use Rattle.operand_type_laws.specs.Operands.{Fits, NoObject, Returns, params_of, result_of}
-use Rattle.operand_source_laws.specs.Origins.{IsCastToNone, MakesNone}
-use Rattle.operation_type_laws.specs.Values.{ArraysHoldNone, ElementsHoldNone, IsNoObject, StaticsHoldNone, temp_holds_none}
-use Rattle.operation_type_laws.proofs.Laws.{arrays_keep_none, operations_give_none, plain_gives_none, statics_keep_none}
+use Rattle.frame_value_laws.specs.Origins.{IsCastToNone, MakesNone}
+use Rattle.frame_value_laws.specs.Values.{ArraysHoldNone, ElementsHoldNone, IsNoObject, StaticsHoldNone, temp_holds_none}
+use Rattle.frame_value_laws.proofs.Laws.{arrays_keep_none, operations_give_none, plain_gives_none, statics_keep_none}
 use Rattle.value_type_laws.specs.Types.{AreCalled, GiveAsNamed, GivesAsNamed, HaveTypes, HoldsWhatIsThere, IsStoredNone, KeepAll, KeepsTypes, StoredHoldNone, TopHoldsWhatIsThere}
 use Rattle.value_type_laws.proofs.Begun.{ArgumentsHoldNone, BeginsWithNone, arguments_fill, array_fills, begun_keeps, fits, frame_keeps, same_steps, step_there}
 use Rattle.value_type_laws.proofs.Fields.{field_of_none, inner_none, library_fields, returned_fields, started_fields}

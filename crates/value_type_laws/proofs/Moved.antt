@@ -31,9 +31,9 @@ use Rattle.ledger_state.specs.declared.array.ArrayObject.{ArrayObject}
 use Rattle.ledger_state.specs.declared.locals.Locals.{Locals}
 use Rattle.ledger_obligations.specs.Obligations.{is_library_method}
 use Rattle.ledger_operations.specs.Operations.{thrown_by_operation}
-use Rattle.ledger_calls.specs.Calls.{body_of, form_of, has_null_target, is_stray_from, leaves_by, operand_of, overriding_by, position_of, running}
-use Rattle.ledger_calls.specs.Conducts.{library_method, on_this, settled}
-use Rattle.ledger_frames.specs.Choosing.{agrees, agrees_with, goes_by, operation_edge, same_edge}
+use Rattle.agreement.specs.Calls.{body_of, form_of, has_null_target, is_stray_from, leaves_by, operand_of, overriding_by, position_of, running}
+use Rattle.agreement.specs.Conducts.{library_method, on_this, settled}
+use Rattle.frame_value_laws.specs.Choosing.{agrees, agrees_with, goes_by, operation_edge, same_edge}
 use Rattle.ledger_moves.specs.declared.standing.FirstAction.{FirstAction}
 use Rattle.ledger_moves.specs.Moves.{Move, Inner, Start, Library, End, Stray, Rest, by_class, by_edge, call, call_of, chosen_of, fits_target, has_body, inner_by, library_as, library_by, library_call, next_move, null_target, operate, program_call, standing, take, take_chosen, take_plain}
 use Rattle.ledger_moves.specs.Moves.{Return, Back, StrayBack, NoWay, back_as, back_by, back_from, back_to, return_move}

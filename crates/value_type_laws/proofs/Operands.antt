@@ -30,12 +30,12 @@ use Rattle.ledger_state.specs.declared.locals.Locals.{Locals}
 use Rattle.ledger_state.specs.declared.value.Value.{Value}
 use Rattle.ledger_state.specs.Locals.{temp_in, temp_value}
 use Rattle.ledger_state.specs.Values.{default_of}
-use Rattle.ledger_calls.specs.Calls.{operand_of}
-use Rattle.ledger_calls.specs.Conducts.{result_in}
+use Rattle.agreement.specs.Calls.{operand_of}
+use Rattle.agreement.specs.Conducts.{result_in}
 use Rattle.ledger_steps.specs.Ends.{default_result, result_value, thrown_in}
 use Rattle.operand_type_laws.specs.Operands.{CopyFits, Fits, GivesNone, NoObject, OperandsFit, Returns, TakesAll, after, below_and_at, copied, dropped, left_held, made_at, moved, params_of, result_of, thrown_after}
-use Rattle.operand_source_laws.specs.Origins.{ComesFromNone, MakesNone, TakesNone}
-use Rattle.operation_type_laws.specs.Values.{IsNoObject, temp_holds_none}
+use Rattle.frame_value_laws.specs.Origins.{ComesFromNone, MakesNone, TakesNone}
+use Rattle.frame_value_laws.specs.Values.{IsNoObject, temp_holds_none}
 use Rattle.value_type_laws.specs.Types.{holds_none}
 
 -- ---- the temps of an action are in range

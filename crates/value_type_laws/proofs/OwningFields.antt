@@ -20,11 +20,11 @@ use Rattle.java_control.specs.Owned.{fields_beside, fields_in, field_number, is_
 use Rattle.java_control.specs.declared.place.Place.{Place}
 use Rattle.java_control.specs.declared.place.Place.TheVariants as places
 use Rattle.must_call_sets.specs.Bodies.{has_field_place, is_class_of, is_field_in, method_in}
-use Rattle.ownership_rules.specs.Room.{HasRoom}
+use Rattle.agreement.specs.Room.{HasRoom}
 use Rattle.ledger_state.specs.declared.locals.Locals.{Locals}
 use Rattle.ledger_state.specs.Contents.{HeapContents}
 use Rattle.ledger_operations.specs.Places.{class_by, class_of_method, field_place_value, owning_field, owning_field_beside}
-use Rattle.operation_type_laws.specs.Values.{IsNoObject}
+use Rattle.frame_value_laws.specs.Values.{IsNoObject}
 use Rattle.frame_value_laws.specs.FrameValues.{FieldsHoldNone}
 use Rattle.value_type_laws.specs.Types.{StoredHoldNone}
 use Rattle.value_type_laws.proofs.Fields.{field_of_none}

@@ -26,10 +26,10 @@ use Rattle.ledger_state.specs.Values.{value_or_nothing}
 use Rattle.ledger_state.specs.declared.locals.Locals.{Locals}
 use Rattle.ledger_state.specs.declared.value.Value.{Value}
 use Rattle.ledger_state.specs.declared.value.Value.TheVariants as values
-use Rattle.ledger_frames.specs.Choosing.{method_body}
-use Rattle.ledger_frames.specs.Frames.{is_made, locals_after, source_by, sourced, value_after}
+use Rattle.frame_value_laws.specs.Choosing.{method_body}
+use Rattle.frame_value_laws.specs.Frames.{is_made, locals_after, source_by, sourced, value_after}
 use Rattle.operand_type_laws.specs.Operands.{CopyFits, Fits, NoObject}
-use Rattle.operation_type_laws.specs.Values.{IsNoObject, temp_holds_none}
+use Rattle.frame_value_laws.specs.Values.{IsNoObject, temp_holds_none}
 use Rattle.frame_value_laws.specs.FrameValues.{VariablesHoldNone}
 
 -- ---- values by number

@@ -1,1 +1,16 @@
 pub mod Types
+pub use Rattle.agreement.specs.Agreement
+pub use Rattle.agreement.specs.PlainForms
+pub use Rattle.accepted_programs.specs.Accept
+pub use Rattle.ledger_runs.specs.Outcomes
+pub use Rattle.ledger_runs.specs.Starts
+pub use Rattle.ledger_runs.specs.Steps
+pub use Rattle.ledger_operations.specs.Operations
+pub use Rattle.ledger_operations.specs.Places
+pub use Rattle.must_call_sets.specs.AliasCases
+pub use Rattle.must_call_sets.specs.Assigned
+pub use Rattle.must_call_sets.specs.Bodies
+pub use Rattle.must_call_sets.specs.MustCallSets
+pub use Rattle.must_call_sets.specs.OverrideCases
+pub use Rattle.must_call_sets.specs.Signatures
+pub use Rattle.must_call_sets.specs.WellFormed

@@ -7,17 +7,17 @@ use Rattle.program_model.specs.declared.tree.Body.{Body}
 use Rattle.program_model.specs.Lookups.{body_at, method_at}
 use Rattle.java_control.specs.Calls.{called_method}
 use Rattle.java_control.specs.Control.{Step}
-use Rattle.flow_rules.specs.Paths.{Comes, relation_of}
+use Rattle.agreement.specs.Paths.{Comes, relation_of}
 use Rattle.ledger_state.specs.declared.locals.Locals.{Locals}
 use Rattle.ledger_state.specs.declared.object.StoredField.{StoredField}
 use Rattle.ledger_state.specs.Contents.{HeapContents}
 use Rattle.ledger_state.specs.Heaps.{object_at}
 use Rattle.ledger_state.specs.Locals.{temp_value}
 use Rattle.ledger_state.specs.Values.{number_of}
-use Rattle.ledger_calls.specs.Configuration.{Config, Frame}
-use Rattle.ledger_frames.specs.Choosing.{body_id, frame_steps}
+use Rattle.agreement.specs.Configuration.{Config, Frame}
+use Rattle.frame_value_laws.specs.Choosing.{body_id, frame_steps}
 use Rattle.operand_type_laws.specs.Operands.{FindsTypes, NoObject, field_type, result_of}
-use Rattle.operation_type_laws.specs.Values.{ArraysHoldNone, IsNoObject, StaticsHoldNone, temp_holds_none}
+use Rattle.frame_value_laws.specs.Values.{ArraysHoldNone, IsNoObject, StaticsHoldNone, temp_holds_none}
 use Rattle.frame_value_laws.specs.FrameValues.{VariablesHoldNone}
 
 -- the temp of the depth holds no object. (No accepted body has temps as deep as 64.)

@@ -6,10 +6,10 @@ ghost use Rattle.program_model.specs.declared.kinds.MethodKind.TheVariants as me
 ghost use Rattle.program_model.specs.declared.program.Method.{Method};
 ghost use Rattle.program_model.specs.declared.program.Program.{Program};
 ghost use Rattle.program_model.specs.Lookups.{method_at};
-ghost use Rattle.program_conditions.specs.Conditions.{MakesNoString};
+ghost use Rattle.operand_type_laws.specs.Conditions.{MakesNoString};
 ghost use Rattle.accepted_programs.specs.Accept.{Accept};
 ghost use Rattle.stub_conduct.specs.declared.choice.Choices.{Choices};
-ghost use Rattle.ledger_calls.specs.Configuration.{Config};
+ghost use Rattle.agreement.specs.Configuration.{Config};
 ghost use Rattle.ledger_runs.specs.Outcomes.{went};
 ghost use Rattle.ledger_runs.specs.Starts.{start_config};
 ghost use Rattle.ledger_runs.specs.Steps.{step};

@@ -1,4 +1,4 @@
-use Rattle.std.proofs.Common.{◌≡◌, ◌∙◌, sym, ap, refl, subst, ◌≤◌, [], ◌∷◌, ◌++◌, length, map, reverse}
+use Rattle.std.proofs.Common.{◌≡◌, ◌∙◌, ◌&&◌, sym, ap, refl, subst, ◌≤◌, [], ◌∷◌, ◌++◌, length, map, reverse}
 use Rattle.program_model.specs.Lookups.{method_at}
 use Rattle.ledger_calls.specs.Conducts.{arguments_shared, arrays_given, conduct_value, positions, result_in}
 use Rattle.machine_calls.specs.HeapChanges.{heap_left}
@@ -6,9 +6,10 @@ use Rattle.frame_owners.specs.FrameOwners.{lists_in}
 use Rattle.ledger_obligations.specs.Obligations.{held_in}
 use Rattle.ledger_moves.specs.Frames.{highest_control}
 use Rattle.ledger_operations.specs.Operations.{one_more_used}
-use Rattle.machine_state.proofs.TopLaws.{listed_as, nothing_after, settled_apart, settled_as, settled_with}
+use Rattle.machine_state.proofs.TopLaws.{indexed_as, listed_as, nothing_after, nothing_again, settled_apart, settled_as, settled_with}
 use Rattle.machine_calls.proofs.CallLaws.{library_call_went}
-use Rattle.machine_state.proofs.FrameLaws.{frame_with, put_bounded, top_put}
+use Rattle.machine_state.specs.RunStates.{config_of}
+use Rattle.machine_state.proofs.FrameLaws.{frame_with, on_error, put_bounded, top_put}
 use Rattle.machine_calls.proofs.library.run_library.Goals as goal
 
 pub returns-in_ok-take_change-clause-went : goal.returns-in_ok-take_change-clause-went
@@ -27,7 +28,7 @@ returns-in_ok-take_change-clause-went c =
     let used = c.one_more_used-m.ensures ∙ ap (λ xs. one_more_used xs m.used) c.deref-in-Some-2.ensures.value in
     let entries = c.add_lines.ensures ∙ (λ i. c.reserve-in-Some.ensures.items i ++ (c.deref-in-Some.ensures.value ∙ c.in_ok-taken.ensures.lines) i) in
     library_call_went p m top below c.args.named c.args.method c.args.conduct s c.len-count.result c.conduct_value-value.result taken.locals c.put_top.new.frames.items c.take_change.new.heap c.give_arrays.new.arrays.items c.one_more_used-m.result c.add_lines.new.entries.items
-    split put count value c.in_ok-taken.ensures.locals (c.in_ok-take_change.ensures.ok ∙ c.in_ok-taken.ensures.heap) arrays used entries
+    split put count value c.in_ok-taken.ensures.locals (c.in_ok-take_change.ensures.ok ∙ ap (heap_left taken.change) c.library_result.ensures.same ∙ c.in_ok-taken.ensures.heap) arrays used entries
 
 pub returns-in_ok-take_change-clause-bounded : goal.returns-in_ok-take_change-clause-bounded
 returns-in_ok-take_change-clause-bounded c =
@@ -39,8 +40,8 @@ returns-in_ok-take_change-clause-bounded c =
     let put = top_put c.put_top.new.frames.items m.frames.items below top new m.frames.len split (sym c.deref.ensures.len ∙ ap length c.deref.ensures.value) c.put_top.ensures in
     subst (λ xs. highest_control xs ≤ length m.lists.cells.keys) (sym put) (put_bounded (length m.lists.cells.keys) m.frames.items below top new split c.requires.bounded c.requires.within)
 
-pub library_result-requires : goal.library_result-requires
-library_result-requires c =
+pub library_result-requires-clause-settled : goal.library_result-requires-clause-settled
+library_result-requires-clause-settled c =
     let m = c.args.m.now in
     let split : m.frames.items ≡ c.in-Some.below.now ++ c.in-Some.top.now ∷ [] = sym c.deref.ensures.value ∙ c.in-Some.ensures.cases.0 in
     settled_apart m c.in-Some.top.now c.in-Some.below.now split c.requires.settled
@@ -55,16 +56,50 @@ returns-in_ok-take_change-clause-settled c =
     let split : m.frames.items ≡ below ++ top ∷ [] = sym c.deref.ensures.value ∙ c.in-Some.ensures.cases.0 in
     let put = top_put c.put_top.new.frames.items m.frames.items below top new m.frames.len split (sym c.deref.ensures.len ∙ ap length c.deref.ensures.value) c.put_top.ensures in
     let left = heap_left taken.change m.heap in
-    λ both. nothing_after taken.settled c.in_ok-listed.listed c.take_change.new.heap (map held_in (reverse c.put_top.new.frames.items)) (lists_in c.list_change_of.new.lists.items)
-    (λ so. settled_with c.take_change.new.heap left c.put_top.new.frames.items below new taken.locals c.in_ok-take_change.ensures.ok put refl (c.in_ok-taken.ensures.settled so))
-    (λ so. listed_as c.take_change.new.heap left (lists_in c.list_change_of.new.lists.items) c.in_ok-take_change.ensures.ok (c.in_ok-listed.ensures.listed so))
-    (sym c.both-m.ensures ∙ both)
+    let again = heap_left taken.change c.library_result.new.heap in
+    let same = c.in_ok-take_change.ensures.ok ∙ ap (heap_left taken.change) c.library_result.ensures.same in
+    λ both. nothing_after taken.settled c.in_ok-listed.listed c.index_change_of-indexed.result c.take_change.new.heap (map held_in (reverse c.put_top.new.frames.items)) (lists_in c.list_change_of.new.lists.items) c.index_change_of-indexed.new.index
+    (λ so. settled_with c.take_change.new.heap left c.put_top.new.frames.items below new taken.locals same put refl (c.in_ok-taken.ensures.settled so))
+    (λ so. listed_as c.take_change.new.heap again (lists_in c.list_change_of.new.lists.items) c.in_ok-take_change.ensures.ok (c.in_ok-listed.ensures.listed so))
+    (λ so. indexed_as c.take_change.new.heap again c.index_change_of-indexed.new.index c.in_ok-take_change.ensures.ok (c.index_change_of-indexed.ensures.indexed so))
+    (ap (λ known. taken.settled && known) (sym c.both-known.ensures) ∙ sym c.both-m.ensures ∙ both)
+
+-- the heap, which the call looked at, is what it was
+pub library_result-requires-clause-indexed : goal.library_result-requires-clause-indexed
+library_result-requires-clause-indexed c = λ so. (c.requires.settled so).1
+
+pub list_change_of-requires : goal.list_change_of-requires
+list_change_of-requires c =
+    let m = c.args.m.now in
+    λ so. listed_as c.library_result.new.heap m.heap (lists_in m.owned.items) c.library_result.ensures.same (c.requires.settled so).0.1
+
+pub index_change_of-indexed-requires : goal.index_change_of-indexed-requires
+index_change_of-indexed-requires c =
+    let m = c.args.m.now in
+    λ so. indexed_as c.library_result.new.heap m.heap m.index c.library_result.ensures.same (c.requires.settled so).1
+
+pub returns-in_err-taken-clause-kept : goal.returns-in_err-taken-clause-kept
+returns-in_err-taken-clause-kept c = on_error c.from_residual-in_err-taken.result (λ i. record (config_of c.args.m.now) { heap = c.library_result.ensures.same i; arrays = c.reserve.ensures.items i })
+
+pub returns-in_err-taken-clause-settled : goal.returns-in_err-taken-clause-settled
+returns-in_err-taken-clause-settled c = λ so. nothing_again c.args.m.now c.library_result.new.heap c.args.m.now.frames.items c.library_result.ensures.same refl c.requires.settled so
 
 pub returns-in_err-listed-clause-settled : goal.returns-in_err-listed-clause-settled
-returns-in_err-listed-clause-settled c = λ so. ((c.requires.settled so).0, c.list_change_of.ensures.kept so)
+returns-in_err-listed-clause-settled c =
+    let m = c.args.m.now in
+    let same = c.library_result.ensures.same in
+    λ so. (
+      (settled_as c.library_result.new.heap m.heap (map held_in (reverse m.frames.items)) same (c.requires.settled so).0.0, c.list_change_of.ensures.kept so),
+      indexed_as c.library_result.new.heap m.heap m.index same (c.requires.settled so).1,
+    )
 
 pub returns-in_err-take_change-clause-settled : goal.returns-in_err-take_change-clause-settled
 returns-in_err-take_change-clause-settled c =
     let m = c.args.m.now in
+    let back = c.library_result.ensures.same in
     let same = c.in_err-take_change.ensures.err in
-    λ so. (settled_as c.take_change.new.heap m.heap (map held_in (reverse m.frames.items)) same (c.requires.settled so).0, listed_as c.take_change.new.heap m.heap (lists_in c.list_change_of.new.lists.items) same (c.list_change_of.ensures.kept so))
+    λ so.
+    let known = c.requires.settled so in (
+      (settled_as c.take_change.new.heap m.heap (map held_in (reverse m.frames.items)) (same ∙ back) known.0.0, listed_as c.take_change.new.heap c.library_result.new.heap (lists_in c.list_change_of.new.lists.items) same (c.list_change_of.ensures.kept so)),
+      indexed_as c.take_change.new.heap c.library_result.new.heap c.index_change_of-indexed.new.index same (c.index_change_of-indexed.ensures.kept (indexed_as c.library_result.new.heap m.heap m.index back known.1)),
+    )

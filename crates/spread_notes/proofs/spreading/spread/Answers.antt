@@ -1,4 +1,4 @@
-use Rattle.std.proofs.Common.{◌≡◌, ◌+◌, ◌≤◌, ap, length, arith}
+use Rattle.std.proofs.Common.{◌≡◌, ◌+◌, ◌*◌, ◌≤◌, ap, length, arith}
 use Rattle.ledger_state.specs.Contents.{HeapContents}
 use Rattle.spread_notes.proofs.NoteTurns.{spread_found, spread_next}
 use Rattle.spread_notes.proofs.spreading.spread.Goals as goal
@@ -6,13 +6,13 @@ use Rattle.spread_notes.proofs.spreading.spread.Goals as goal
 pub turns-preserved : goal.turns-preserved
 turns-preserved c =
     spread_next c.turns._turn (c.turns._turn + 1) c.args.p.now c.args.heap.now c.args.notes.now.items c.turns.notes.items c.turn.new.notes.items
-    (omega arith) c.turns.invariant (c.in_ok-turn.ensures c.if-not-branch.false)
+    (omega arith) c.turns.invariant c.in_ok-turn.ensures
 
 pub returns-then-len-before : goal.returns-then-len-before
 returns-then-len-before c =
     let count = ap (λ (h : HeapContents). length h.objects) c.heap.view_is in
-    let few : c.turns._turn ≤ length c.args.heap.now.objects = omega (arith, count, c.turns-test.true, c.len-turn-end.ensures) in
+    let few : c.turns._turn ≤ 256 * length c.args.heap.now.objects = omega (arith, count, c.turns-test.true, c.len-in-turns.ensures) in
     let old = c.turns.notes.ok.0 in
     let new = c.turn.new.notes.ok.0 in
     let same : length c.turn.new.notes.items ≡ length c.turns.notes.items = omega (arith, old, new, c.len.ensures, c.len-before.ensures, c.if-len-before.true) in
-    λ _. spread_found c.turns._turn c.args.p.now c.args.heap.now c.args.notes.now.items c.turns.notes.items c.turn.new.notes.items few c.turns.invariant (c.in_ok-turn.ensures c.if-not-branch.false) same
+    λ _. spread_found c.turns._turn c.args.p.now c.args.heap.now c.args.notes.now.items c.turns.notes.items c.turn.new.notes.items few c.turns.invariant c.in_ok-turn.ensures same

@@ -1,8 +1,9 @@
-use Rattle.store_laws.proofs.Objects.{stored_back, stored_count, stored_forward, stored_goes_on, stored_links}
+use Rattle.store_laws.proofs.Objects.{bound_back, stored_back, stored_count, stored_forward, stored_goes_on, stored_links}
 use Rattle.store_laws.proofs.stores.stored_objects.Goals as goal
 
 pub returns : goal.returns
 returns c = record {
+  bound = bound_back;
   before = λ p h w f bound v n y still at. stored_back p h w f v bound n y still at;
   after = λ p h w f bound v n x still at. stored_forward p h w f v bound n x still at;
   goes_on = stored_goes_on;

@@ -1,0 +1,3 @@
+pub mod RisingLines
+pub mod ChangedLines
+pub mod LeakLaws

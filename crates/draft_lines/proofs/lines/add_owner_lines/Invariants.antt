@@ -1,0 +1,6 @@
+use Rattle.std.proofs.Common.{◌≡◌, ◌++◌, take}
+use Rattle.draft_lines.specs.DraftLines.{owner_changes}
+use Rattle.draft_lines.proofs.lines.add_owner_lines.Given as goal
+
+abbrev pub invariant-each : goal.invariant-each
+invariant-each l = l.into.items ≡ l.fn.into.items ++ owner_changes l.p l.pos (take l.change-index l.changes)

@@ -1,0 +1,34 @@
+use Rattle.std.proofs.Common.{◌≡◌, ◌∙◌, ap, sym, refl, subst, List, [], ◌∷◌, length, map, reverse, arith}
+use Rattle.program_model.specs.Lookups.{method_at}
+use Rattle.draft_steps.proofs.StepLaws.{draft_stores, draft_whole}
+use Rattle.heap_drafts.specs.declared.saved.SavedObject.{SavedObject}
+use Rattle.heap_drafts.specs.Drafts.{Drafted, put_back, shortened}
+use Rattle.heap_drafts.proofs.DraftLaws.{taken_whole}
+use Rattle.ledger_obligations.specs.Obligations.{held_in}
+use Rattle.ledger_state.specs.Contents.{HeapContents}
+use Rattle.ledger_state.specs.Locals.{held}
+use Rattle.ledger_steps.specs.Ends.{returned}
+use Rattle.draft_returns.proofs.returns.return_step.Goals as goal
+
+pub returns-clause-kept : goal.returns-clause-kept
+returns-clause-kept c =
+    let h = c.args.heap.now in
+    let g = c.return_in_place-lines.new.heap in
+    let count : c.len-count.result ≡ length h.objects = (let n = ap (λ (i : HeapContents). length i.objects) c.heap.view_is in omega (arith, n)) in
+    c.restore.ensures ∙ ap (λ (bs : List SavedObject). put_back bs (shortened c.len-count.result g)) c.deref-2.ensures.value
+    ∙ taken_whole [] h c.return_in_place-lines.new.saved.items g c.len-count.result refl c.return_in_place-lines.ensures.drafted count
+
+pub returns-clause-draft : goal.returns-clause-draft
+returns-clause-draft c =
+    let p = c.args.p.now in
+    let h = c.args.heap.now in
+    let g = c.return_in_place-lines.new.heap in
+    let list = held c.args.now.now ∷ map held_in (reverse c.args.below.now) in
+    let count : length h.objects ≡ c.len-count.result = (let n = ap (λ (i : HeapContents). length i.objects) c.heap.view_is in omega (arith, n)) in
+    let drafted : Drafted [] h c.deref.result.now g = subst (λ (bs : List SavedObject). Drafted [] h bs g) (sym c.deref.ensures.value) c.return_in_place-lines.ensures.drafted in
+    draft_whole c.step_of-step.result c.return_in_place-lines.result h g c.len-count.result c.deref.result.now list
+    (returned p h c.args.position c.args.end.this c.args.locals.now c.args.action (method_at p c.args.end.method) (method_at p c.args.named) c.args.end.value c.args.end.thrown c.args.end.pos c.args.at list)
+    c.step_of-step.ensures c.return_in_place-lines.ensures.heap c.return_in_place-lines.ensures.lines c.return_in_place-lines.ensures.settled count drafted
+
+pub returns-clause-stored : goal.returns-clause-stored
+returns-clause-stored c = draft_stores c.step_of-step.result c.return_in_place-lines.result c.return_in_place-lines.new.heap c.len-count.result c.deref.result.now c.step_of-step.ensures

@@ -1,0 +1,4 @@
+pub mod AliasLaws
+pub mod MoveLaws
+pub mod RowLaws
+pub mod StageLaws

@@ -1,0 +1,2 @@
+pub mod NoteStages
+pub mod StepLaws

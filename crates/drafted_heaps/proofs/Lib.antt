@@ -1,0 +1,3 @@
+pub mod DraftLaws
+mod EndLaws
+mod StoredLaws

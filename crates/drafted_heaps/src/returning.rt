@@ -1,0 +1,80 @@
+//! Returns that change some objects.
+
+ghost use Rattle.std.specs.Prelude.{◌≡◌, ◌<◌, None, length, true};
+ghost use Rattle.std.specs.List.{list_any};
+ghost use Rattle.drafted_heaps.specs.DraftedHeaps.{belongs_to};
+ghost use Rattle.frame_owners.specs.FrameOwners.{Listed, list_at, lists_in};
+ghost use Rattle.ledger_state.specs.Heaps.{object_at};
+ghost use Rattle.spread_notes.specs.SpreadNotes.{put_each};
+
+use frame_owners::{drop_list, is_of_frame};
+use ledger_state::Heap;
+use rlc_base::NoMemory;
+use spread_calls::{SpreadChange, list_spread};
+use spread_notes::put_each;
+
+// Whether there is an object with this number, and the frame at the position owns it.
+fn belongs_to(heap: &Heap, position: u64, number: u64) -> bool
+    ensures { result ≡ belongs_to position (object_at heap.now number) }
+{
+    match heap.object(number) {
+        None => false,
+        Some(x) => is_of_frame(x.owner, position),
+    }
+}
+
+fn owns_any(heap: &Heap, position: u64, numbers: &[u64]) -> bool
+    ensures { result ≡ list_any (λ k. belongs_to position (object_at heap.now k)) numbers.now }
+{
+    numbers
+        .iter()
+        .any(|number| belongs_to(heap, position, *number))
+}
+
+fn last_list(lists: &[Vec<u64>]) -> &[u64]
+    requires { 0 < length lists.now }
+    ensures { result.now ≡ list_at (lists_in lists.now) (length lists.now) }
+{
+    &lists[lists.len() - 1]
+}
+
+// Takes away the list of the top frame, which has ended, where it owns nothing. Says whether that is so.
+fn end_list(heap: &Heap, lists: &mut Vec<Vec<u64>>) -> bool
+    requires { Listed (lists_in lists.old.items) heap.now }
+    ensures { result ≡ true → Listed (lists_in lists.new.items) heap.now }
+{
+    if lists.len() == 0 {
+        return false;
+    }
+    if owns_any(heap, lists.len() as u64, last_list(lists)) {
+        return false;
+    }
+    drop_list(lists);
+    true
+}
+
+// Puts the objects that the return changes into the lists of their owners. Says whether the lists are those of the heap then: they are not
+// where memory runs out.
+fn list_changed(lists: &mut Vec<Vec<u64>>, heap: &Heap, change: &SpreadChange) -> bool
+    requires listed { Listed (lists_in lists.old.items) heap.now }
+    requires none { change.now.made ≡ None }
+    ensures { result ≡ true → Listed (lists_in lists.new.items) (put_each change.now.noted.items heap.now) }
+{
+    match list_spread(lists, heap, change) {
+        Ok(listed) => listed,
+        Err(NoMemory) => false,
+    }
+}
+
+/// Changes the heap as the return does, which makes no object, and takes away the list of the frame that ended. Says whether the lists are
+/// those of the heap then.
+pub fn return_draft(heap: &mut Heap, lists: &mut Vec<Vec<u64>>, change: &SpreadChange) -> bool
+    requires listed { Listed (lists_in lists.old.items) heap.old }
+    requires none { change.now.made ≡ None }
+    ensures heap { heap.new ≡ put_each change.now.noted.items heap.old }
+    ensures lists { result ≡ true → Listed (lists_in lists.new.items) heap.new }
+{
+    let listed = list_changed(lists, heap, change);
+    put_each(heap, &change.noted);
+    listed && end_list(heap, lists)
+}

@@ -1,0 +1,10 @@
+pub mod Storing
+pub mod Stores
+pub mod Frames
+pub mod Laws
+pub use Rattle.content_laws.proofs.Cases
+pub use Rattle.content_laws.proofs.Finalizers
+pub use Rattle.content_laws.proofs.Finished
+pub use Rattle.content_laws.proofs.Returns
+pub use Rattle.content_laws.proofs.Runs
+pub use Rattle.content_laws.proofs.TopSteps

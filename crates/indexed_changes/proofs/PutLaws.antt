@@ -1,0 +1,24 @@
+-- The index of a heap in which objects are put.
+use Rattle.std.proofs.Common.{◌≡◌, ◌∙◌, ap, refl, Option, Some, None, List, [], ◌∷◌, ◌++◌, true}
+use Rattle.ledger_state.specs.declared.object.Object.{Object}
+use Rattle.ledger_state.specs.Contents.{HeapContents}
+use Rattle.ledger_state.specs.Heaps.{next_number}
+use Rattle.object_index.specs.declared.index.ObjectIndex.{ObjectIndex}
+use Rattle.object_index.specs.ObjectIndexes.{HasMore, Indexed, is_indexed}
+use Rattle.object_index.proofs.IndexLaws.{all_indexed, indexed_made, indexed_put}
+use Rattle.plain_calls.specs.declared.change.Numbered.{Numbered}
+use Rattle.plain_calls.specs.PlainCalls.{add_made, put_noted}
+use Rattle.spread_notes.specs.SpreadNotes.{put_each}
+
+-- one more object is put
+pub each_more : (bs : List Numbered) (b : Numbered) (h : HeapContents) → put_each (bs ++ b ∷ []) h ≡ put_noted (Some b) (put_each bs h)
+each_more [] b h = refl
+each_more (c ∷ bs) b h = each_more bs b (put_noted (Some c) h)
+
+-- the index has the object as it is put
+pub index_put : (index more : ObjectIndex) (b : Numbered) (g : HeapContents) → HasMore index more → is_indexed more b.number b.object ≡ true → Indexed index g → Indexed more (put_noted (Some b) g)
+index_put index more b g all own indexed = indexed_put more g b.number b.object own (all_indexed index more g all indexed)
+
+-- the index has the object that is made
+pub index_made : (index more : ObjectIndex) (x : Object) (g : HeapContents) → HasMore index more → is_indexed more (next_number g) x ≡ true → Indexed index g → Indexed more (add_made (Some x) g)
+index_made index more x g all own indexed = indexed_made more g x own (all_indexed index more g all indexed)

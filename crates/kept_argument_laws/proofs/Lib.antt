@@ -1,0 +1,12 @@
+pub mod Resets
+pub mod Constructors
+pub mod KeptArguments
+pub use Rattle.covered_field_laws.proofs.Laws
+pub use Rattle.tracking_laws.proofs.AliasConducts
+pub use Rattle.covered_field_laws.proofs.Following
+pub use Rattle.covered_field_laws.proofs.HeavyFields
+pub use Rattle.covered_field_laws.proofs.Storing
+pub use Rattle.parameter_fact_laws.proofs.AliasFacts
+pub use Rattle.parameter_fact_laws.proofs.KeptFacts
+pub use Rattle.parameter_fact_laws.proofs.Origins
+pub use Rattle.typed_step_laws.proofs.Reached

@@ -1,0 +1,3 @@
+pub mod AliasLaws
+pub mod IndexLaws
+mod RowLaws

@@ -1,0 +1,15 @@
+pub mod Bodies
+pub mod Valid
+pub mod Formed
+pub mod Declared
+pub mod ConstructorFlows
+pub mod CloseFlows
+pub mod MainFlows
+pub mod Walks
+pub mod ConstructorPaths
+pub mod ClosePaths
+pub mod MainPaths
+pub mod Reached
+pub mod Accepted
+pub mod Calls
+pub mod Plain
