@@ -1,6 +1,23 @@
-//! Which programs of files are accepted.
+//! Which programs of files are accepted, and what that rests on:
+//!
+//! - Overriding depends neither on the annotations of a program nor on its bodies.
+//! - No class of the program of files declares two methods of one name and one parameter list.
+//! - Laws of the faults of a program: their number is one, and so is the stop of a program whose faults are not told; the paths of a
+//!   program with a number of faults stay within the limits on places.
+//! - Which programs of files are accepted.
 #![tactic(auto)]
 
-mod laws;
+mod acceptance;
+mod distinct_method;
+mod overriding;
+mod program_fault;
 
-pub use laws::counted_program_is_accepted;
+pub use acceptance::counted_program_is_accepted;
+pub use distinct_method::{read_program_declares_once, table_declares_once};
+pub use overriding::{
+    accepted_table_has_no_override_cases, programs_of_same_tables_have_same_cases,
+    signed_program_has_same_tables,
+};
+pub use program_fault::{
+    counted_program_does_not_stop, counted_program_has_room, fault_count_is_one, first_stop_is_one,
+};

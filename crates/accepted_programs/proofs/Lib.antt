@@ -1,0 +1,4 @@
+pub mod Alike
+pub use Rattle.flow_rules.proofs.CallNames
+pub use Rattle.flow_rules.proofs.Elements
+pub use Rattle.must_call_types.proofs.SignedTables

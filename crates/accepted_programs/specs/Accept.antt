@@ -6,12 +6,12 @@ use Rattle.program_model.specs.declared.kinds.BodyId.{BodyId}
 use Rattle.program_model.specs.declared.program.Program.{Program}
 use Rattle.java_control.specs.declared.fact.Origin.{Origin}
 use Rattle.java_control.specs.declared.fact.Rule.{Rule}
-use Rattle.obligation_facts.specs.Facts.{Names}
-use Rattle.class_overrides.specs.Cases.{class_cases}
-use Rattle.annotation_rules.specs.AnnotationCases.{annotation_cases}
+use Rattle.flow_rules.specs.Facts.{Names}
+use Rattle.flow_rules.specs.Cases.{class_cases}
+use Rattle.must_call_types.specs.AnnotationCases.{annotation_cases}
 use Rattle.must_call_types.specs.Signed.{IsSigned}
-use Rattle.must_call_sets.specs.WellFormed.{IsWellFormed}
-use Rattle.program_conditions.specs.Conditions.{DeclaresOnce}
+use Rattle.flow_rules.specs.WellFormed.{IsWellFormed}
+use Rattle.accepted_programs.specs.Conditions.{DeclaresOnce}
 use Rattle.flow_rules.specs.Paths.{Faulty, FitsPlaces, relation_of}
 
 -- A program is accepted: it is well formed, no class declares two methods of one signature, what its classes override and leave

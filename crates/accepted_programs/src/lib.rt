@@ -1,2 +1,6 @@
-//! What it is to accept a program: it is well formed, and no path in a body of it breaks a rule.
+//! What it is to accept a program, definitions alone:
+//!
+//! - What holds of every program of files beside what a table says of itself, in words that the laws on its runs rest on: which methods
+//!   its classes declare, and which classes its library has.
+//! - What it is to accept a program: it is well formed, and no path in a body of it breaks a rule.
 #![tactic(auto)]

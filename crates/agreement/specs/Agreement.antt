@@ -4,12 +4,13 @@ use Rattle.std.specs.Prelude.{◌≡◌, ℕ, ◌+◌, ◌<◌, Bool, true, fals
 use Rattle.std.specs.List.{list_any}
 use Rattle.std.specs.FinSet as set
 use Rattle.program_model.specs.declared.kinds.BodyId.{BodyId}
+use Rattle.program_model.specs.declared.kinds.ClassId.{ClassId}
 use Rattle.program_model.specs.declared.kinds.MethodId.{MethodId}
 use Rattle.program_model.specs.declared.program.Program.{Program}
 use Rattle.program_model.specs.declared.tree.Body.{Body}
 use Rattle.program_model.specs.Lookups.{body_at, method_at}
-use Rattle.heap_laws.specs.Bodies.{constructs}
-use Rattle.heap_laws.specs.MustCallSets.{fits, must_of}
+use Rattle.ownership_rules.specs.Bodies.{constructs}
+use Rattle.ownership_rules.specs.MustCallSets.{fits, must_of}
 use Rattle.java_control.specs.Calls.{called_method}
 use Rattle.java_control.specs.Control.{Step}
 use Rattle.java_control.specs.PlaceNumbers.{IsSmall}
@@ -19,11 +20,12 @@ use Rattle.java_control.specs.declared.fact.Fact.{Fact}
 use Rattle.java_control.specs.declared.fact.Mode.TheVariants as modes
 use Rattle.java_control.specs.declared.fact.Origin.{Origin}
 use Rattle.java_control.specs.declared.place.Place.{Place}
-use Rattle.place_laws.specs.Facts.{has, is_nowhere, need}
+use Rattle.ownership_rules.specs.Facts.{has, is_nowhere, need}
 use Rattle.ownership_rules.specs.MovesAtCalls.{moved_at_call}
 use Rattle.ownership_rules.specs.MovesAtReturns.{result_in}
 use Rattle.ownership_rules.specs.declared.moved.Moved.TheVariants as moves
-use Rattle.flow_rules.specs.Paths.{Comes, Reach, relation_of}
+use Rattle.place_laws.specs.Paths.{Comes, Reach, relation_of}
+use Rattle.ledger_state.specs.Classes.{runtime_class}
 use Rattle.ledger_state.specs.Contents.{HeapContents}
 use Rattle.ledger_state.specs.Heaps.{next_number, object_at, root_of}
 use Rattle.ledger_state.specs.Values.{number_of}
@@ -36,14 +38,14 @@ use Rattle.ledger_state.specs.declared.value.Value.{Value}
 use Rattle.ledger_state.specs.declared.value.Value.TheVariants as values
 use Rattle.place_laws.specs.Obligations.{is_unmet}
 use Rattle.place_laws.specs.Places.{class_of_method, place_value}
-use Rattle.ledger_calls.specs.Calls.{alias_target, operand_of}
-use Rattle.ledger_calls.specs.Configuration.{Config, Frame}
-use Rattle.place_laws.specs.Choosing.{body_id, frame_steps}
+use Rattle.heap_laws.specs.LedgerCallsCalls.{alias_target, operand_of}
+use Rattle.ledger_runs.specs.Configuration.{Config, Frame}
+use Rattle.ledger_runs.specs.Choosing.{body_id, frame_steps}
 use Rattle.ledger_state.specs.Leaks.{is_leak}
 use Rattle.heap_laws.specs.Heaps.{HasEarlierLinks}
 use Rattle.place_laws.specs.Places.{HasPlacesAlone, is_local}
 use Rattle.agreement.specs.Chains.{HaveEnds}
-use Rattle.agreement.specs.PlainForms.{MayRun}
+use Rattle.agreement.specs.PlainForms.{MayRun, may_be_made}
 
 -- A fact speaks the truth of object `o`, which is `x`, in a frame of the method `m`: the frame owns the object, all that must be
 -- called on it is needed by the fact and by its class, all that the fact knows was called, and the places of the fact, of which there
@@ -153,6 +155,10 @@ abbrev pub IsStacked : Program → HeapContents → List Frame → Type 0
 IsStacked p h [] = Unit {0}
 IsStacked p h (fr ∷ frs) = IsCalledFrom p h fr frs
 
+-- each value that has a run-time class is of one of which there may be objects
+abbrev pub HasMadeClasses : Program → HeapContents → Type 0
+HasMadeClasses p h = (v : Value) (c : ClassId) → runtime_class p h v ≡ Some c → may_be_made p c ≡ true
+
 -- the frames, the heap and the lines of a run agree with the facts
 pub record Agrees (p : Program) (frs : List Frame) (h : HeapContents) (lines : List Entry) : Type 0 where
   pub standing : AllStand p frs
@@ -162,6 +168,7 @@ pub record Agrees (p : Program) (frs : List Frame) (h : HeapContents) (lines : L
   pub tracked : (o : ℕ) (x : Object) (j : ℕ) → object_at h o ≡ Some x → is_unmet x ≡ true → x.owner ≡ owners.Frame j → IsTracked p h frs o x j
   pub answered : (o : ℕ) (x : Object) → object_at h o ≡ Some x → x.link ≡ None → is_unmet x ≡ true → is_answering x.owner ≡ true
   pub no_leak : list_any is_leak lines ≡ false
+  pub classes : HasMadeClasses p h
 
 -- the configuration agrees with the facts
 abbrev pub Agree : Program → Config → Type 0

@@ -1,2 +1,3 @@
 pub mod AnyLaws
 pub mod AliasLaws
+pub use Rattle.override_rules.proofs.Elements

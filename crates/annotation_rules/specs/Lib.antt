@@ -1,2 +1,14 @@
 pub mod Declarations
 pub mod AnnotationCases
+pub use Rattle.must_call_sets.specs.AliasCases
+pub use Rattle.must_call_sets.specs.Assigned
+pub use Rattle.must_call_sets.specs.Bodies
+pub use Rattle.effective_signatures.specs.Effective
+pub use Rattle.must_call_sets.specs.MustCallSets
+pub use Rattle.must_call_sets.specs.Overridings
+pub use Rattle.refusal_order.specs.Refusals
+pub use Rattle.must_call_sets.specs.ResetCases
+pub use Rattle.effective_signatures.specs.Sets
+pub use Rattle.must_call_sets.specs.Signatures
+pub use Rattle.effective_signatures.specs.SignedMethods
+pub use Rattle.must_call_sets.specs.WellFormed

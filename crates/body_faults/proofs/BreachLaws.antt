@@ -11,18 +11,18 @@ use Rattle.program_model.specs.declared.program.Program.{Program}
 use Rattle.breadth_first.specs.Searches.{AreOnce, IsAt, Stands}
 use Rattle.breadth_first.proofs.ListLaws.{at_map, at_same}
 use Rattle.fact_pool.specs.declared.handle.Handle.{Handle}
-use Rattle.fact_search.specs.Searched.{IsSearched}
+use Rattle.reached_facts.specs.Searched.{IsSearched}
 use Rattle.java_cfg.specs.declared.arc.Arc.{Arc}
 use Rattle.java_cfg.proofs.NumberLemmas.{once_distinct}
 use Rattle.java_control.specs.declared.fact.Fact.{Fact}
 use Rattle.java_control.specs.declared.fact.Origin.{Origin}
 use Rattle.java_control.specs.declared.fact.Rule.{Rule}
-use Rattle.obligation_facts.specs.Facts.{Names}
+use Rattle.flow_rules.specs.Facts.{Names}
 use Rattle.flow_rules.specs.Paths.{Faulty}
 use Rattle.reached_pairs.specs.declared.visit.Source.{Source as Step}
 use Rattle.reached_pairs.specs.declared.visit.Visit.{Visit}
-use Rattle.body_origins.specs.Nodes.{relation_in}
-use Rattle.body_origins.specs.Origins.{origins_of}
+use Rattle.reached_facts.specs.Nodes.{relation_in}
+use Rattle.reached_facts.specs.Origins.{origins_of}
 use Rattle.reached_facts.specs.Steps.{Begins, Leads}
 use Rattle.path_faults.specs.Broken.{IsBroken}
 use Rattle.path_faults.proofs.BrokenLaws.{broken_faulty, faulty_broken}

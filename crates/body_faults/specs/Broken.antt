@@ -9,11 +9,11 @@ use Rattle.java_control.specs.declared.fact.Fact.{Fact}
 use Rattle.java_control.specs.declared.fact.Origin.{Origin}
 use Rattle.java_control.specs.declared.fact.Outcome.{Outcome}
 use Rattle.java_control.specs.declared.fact.Outcome.TheVariants.{Next, Gone, Fault}
-use Rattle.obligation_facts.specs.Facts.{Names}
+use Rattle.flow_rules.specs.Facts.{Names}
 use Rattle.flow_rules.specs.Flow.{flow}
 use Rattle.reached_pairs.specs.Visited.{fact_in}
 use Rattle.reached_pairs.specs.declared.visit.Visit.{Visit}
-use Rattle.body_origins.specs.Nodes.{arcs_at}
+use Rattle.reached_facts.specs.Nodes.{arcs_at}
 use Rattle.reached_facts.specs.Points.{flat_from}
 use Rattle.body_faults.specs.declared.breach.Breach.{Breach}
 use Rattle.body_faults.specs.declared.breach.Breached.{Breached}

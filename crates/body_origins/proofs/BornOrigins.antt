@@ -8,13 +8,13 @@ use Rattle.rlc_base.specs.declared.faults.Stop.TheVariants as stops
 use Rattle.rlc_base.specs.declared.place.Pos.{Pos}
 use Rattle.program_model.specs.declared.kinds.BodyId.{BodyId}
 use Rattle.program_model.specs.declared.program.Program.{Program}
-use Rattle.breadth_first.specs.Searches.{AreOnce, IsAt, Stands}
-use Rattle.breadth_first.proofs.ListLaws.{at_map, at_push, at_within, map_at, once_push, stands_append, stands_split}
+use Rattle.reached_pairs.specs.Searches.{AreOnce, IsAt, Stands}
+use Rattle.reached_pairs.proofs.ListLaws.{at_map, at_push, at_within, map_at, once_push, stands_append, stands_split}
 use Rattle.reached_pairs.proofs.VisitLaws.{lacks_stands}
 use Rattle.java_cfg.specs.declared.arc.Arc.{Arc}
 use Rattle.java_control.specs.declared.fact.Origin.{Origin}
 use Rattle.java_control.specs.contracts.fact.OriginEq.TheImpl.Laws as origin_laws
-use Rattle.ownership_rules.specs.Births.{Birth, births_at_entry}
+use Rattle.flow_rules.specs.Births.{Birth, births_at_entry}
 use Rattle.flow_rules.specs.Paths.{entered, born}
 use Rattle.body_origins.specs.Nodes.{AreNodes, move_of, relation_in, row_in}
 use Rattle.body_origins.specs.Origins.{HasManyOrigins, IsBorn, IsOriginsCause, arc_births, births_in, origins_in, row_births, same_origin}

@@ -12,10 +12,10 @@ use Rattle.indexmap.specs.IndexSet.{insert_all, insert_key}
 use Rattle.rlc_base.specs.declared.faults.Stop.{Stop}
 use Rattle.rlc_base.specs.declared.faults.Stop.TheVariants as stops
 use Rattle.rlc_base.specs.declared.place.Pos.{Pos}
-use Rattle.breadth_first.specs.Searches.{IsAt}
-use Rattle.breadth_first.proofs.ListLaws.{append_none, map_append}
+use Rattle.reached_pairs.specs.Searches.{IsAt}
+use Rattle.reached_pairs.proofs.ListLaws.{append_none, map_append}
 use Rattle.java_control.specs.declared.fact.Origin.{Origin}
-use Rattle.ownership_rules.specs.Births.{Birth}
+use Rattle.flow_rules.specs.Births.{Birth}
 use Rattle.body_origins.specs.Origins.{HasManyOrigins, IsOriginCause, IsOriginsCause, origins_in, same_origin}
 use Rattle.body_origins.specs.Pairs.{most_pairs}
 

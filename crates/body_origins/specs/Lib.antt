@@ -1,6 +1,9 @@
 pub mod Nodes
 pub mod Pairs
 pub mod Origins
+pub use Rattle.flow_rules.specs.Births
 pub use Rattle.flow_rules.specs.Flow
 pub use Rattle.flow_rules.specs.Numbering
 pub use Rattle.flow_rules.specs.Paths
+pub use Rattle.flow_rules.specs.Room
+pub use Rattle.flow_rules.specs.WellFormed

@@ -2,12 +2,12 @@
 use Rattle.std.specs.Prelude.{◌<◌, ◌^◌, ℕ, Option, Some, None, List, [], map, length, slice_get}
 use Rattle.program_model.specs.declared.kinds.BodyId.{BodyId}
 use Rattle.program_model.specs.declared.program.Program.{Program}
-use Rattle.breadth_first.specs.Searches.{IsAt}
+use Rattle.reached_pairs.specs.Searches.{IsAt}
 use Rattle.java_cfg.specs.declared.arc.Arc.{Arc}
-use Rattle.must_call_sets.specs.WellFormed.{HasSmallInterests}
-use Rattle.obligation_facts.specs.SmallActions.{IsSmallAction}
-use Rattle.ownership_rules.specs.Births.{births_at_entry, births_of_step}
-use Rattle.ownership_rules.specs.Room.{HasRoom}
+use Rattle.flow_rules.specs.WellFormed.{HasSmallInterests}
+use Rattle.java_cfg.specs.SmallActions.{IsSmallAction}
+use Rattle.flow_rules.specs.Births.{births_at_entry, births_of_step}
+use Rattle.flow_rules.specs.Room.{HasRoom}
 use Rattle.flow_rules.specs.Paths.{Comes, Move, Relation}
 
 abbrev pub move_of : Arc → Move ℕ

@@ -8,13 +8,13 @@ use Rattle.rlc_base.specs.declared.code.Code.TheVariants as refused
 use Rattle.rlc_base.specs.declared.faults.Stop.{Stop}
 use Rattle.rlc_base.specs.declared.faults.Stop.TheVariants as stops
 use Rattle.rlc_base.specs.declared.place.Pos.{Pos}
-use Rattle.breadth_first.specs.Searches.{IsAt}
+use Rattle.reached_pairs.specs.Searches.{IsAt}
 use Rattle.java_control.specs.declared.fact.Fact.{Fact}
 use Rattle.java_control.specs.declared.fact.Origin.{Origin}
 use Rattle.java_control.specs.contracts.fact.OriginPartialEq.TheImpl as origin_eq
 use Rattle.java_cfg.specs.declared.arc.Arc.{Arc}
 use Rattle.java_cfg.specs.Limits.{refusal}
-use Rattle.ownership_rules.specs.Births.{Birth, births_at_entry, births_of_step}
+use Rattle.flow_rules.specs.Births.{Birth, births_at_entry, births_of_step}
 use Rattle.flow_rules.specs.Paths.{Reach}
 use Rattle.body_origins.specs.Nodes.{relation_in}
 use Rattle.body_origins.specs.Pairs.{most_pairs}

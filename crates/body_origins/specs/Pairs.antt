@@ -6,7 +6,7 @@ use Rattle.rlc_base.specs.declared.faults.Stop.TheVariants as stops
 use Rattle.rlc_base.specs.declared.place.Pos.{Pos}
 use Rattle.program_model.specs.declared.kinds.BodyId.{BodyId}
 use Rattle.program_model.specs.declared.program.Program.{Program}
-use Rattle.breadth_first.specs.Searches.{IsAt}
+use Rattle.reached_pairs.specs.Searches.{IsAt}
 use Rattle.java_cfg.specs.Limits.{refusal}
 use Rattle.java_cfg.specs.Reach.{AreOnce}
 use Rattle.java_control.specs.declared.fact.Fact.{Fact}

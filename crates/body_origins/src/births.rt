@@ -1,9 +1,9 @@
 //! The births of a body's entry and of a step, as lists.
 
 ghost use Rattle.std.specs.Prelude.{◌≡◌, ◌<◌, ◌^◌, length, IfOk};
-ghost use Rattle.obligation_facts.specs.SmallActions.{IsSmallAction};
-ghost use Rattle.ownership_rules.specs.Births.{births_at_entry};
-ghost use Rattle.ownership_rules.specs.Room.{HasRoom};
+ghost use Rattle.java_cfg.specs.SmallActions.{IsSmallAction};
+ghost use Rattle.flow_rules.specs.Births.{births_at_entry};
+ghost use Rattle.flow_rules.specs.Room.{HasRoom};
 ghost use Rattle.body_origins.specs.Origins.{arc_births};
 
 use flow_rules::{births, entry_births};

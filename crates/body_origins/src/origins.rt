@@ -2,10 +2,10 @@
 
 ghost use Rattle.std.specs.List.{flat_map};
 ghost use Rattle.std.specs.Prelude.{◌≡◌, ◌<◌, ◌≤◌, ◌^◌, ℕ, [], length, IfOk, IfErr, OnOk};
-ghost use Rattle.breadth_first.specs.Searches.{IsAt};
+ghost use Rattle.reached_pairs.specs.Searches.{IsAt};
 ghost use Rattle.java_cfg.specs.declared.arc.Arc.{Arc as DeclaredArc};
-ghost use Rattle.obligation_facts.specs.SmallActions.{IsSmallAction};
-ghost use Rattle.ownership_rules.specs.Room.{HasRoom};
+ghost use Rattle.java_cfg.specs.SmallActions.{IsSmallAction};
+ghost use Rattle.flow_rules.specs.Room.{HasRoom};
 ghost use Rattle.indexmap.specs.IndexSet.{insert_all, insert_key};
 ghost use Rattle.java_cfg.specs.Contents.{arcs_of, nodes_of};
 ghost use Rattle.body_origins.specs.Nodes.{AreNodes, FitsRows, relation_in};

@@ -1,1 +1,2 @@
 pub mod ReadyLaws
+pub use Rattle.graph_relation.proofs.FaultLaws

@@ -2,7 +2,7 @@
 
 ghost use Rattle.std.specs.Prelude.{◌≡◌, [], length, IfOk, IfErr};
 ghost use Rattle.fact_pool.specs.Regions.{IsLive, list_of, with_list};
-ghost use Rattle.fact_search.specs.Searched.{IsSearched};
+ghost use Rattle.reached_facts.specs.Searched.{IsSearched};
 ghost use Rattle.java_cfg.specs.Contents.{arcs_of, nodes_of};
 ghost use Rattle.java_cfg.specs.Graphs.{IsGraphOf};
 ghost use Rattle.body_origins.specs.Nodes.{FitsRows, relation_in};

@@ -10,7 +10,7 @@ use Rattle.command_programs.specs.Programs.{IsProgramAnswer, IsProgramOf, IsSett
 use Rattle.command_programs.specs.Refusals.{IsSettingsAnswer, IsStopAnswer}
 use Rattle.java_syntax.specs.declared.settings.Settings.{Settings}
 use Rattle.program_model.specs.declared.program.Program.{Program}
-use Rattle.accepted_programs.specs.Accept.{Accept}
+use Rattle.acceptance_laws.specs.Accept.{Accept}
 use Rattle.program_faults.specs.ProgramReports.{IsFaultCount, IsFaultStop, IsFaulty, IsReportText}
 use Rattle.command_programs.specs.Inputs.{file_names}
 

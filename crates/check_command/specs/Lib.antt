@@ -1,5 +1,5 @@
 pub mod Checks
 pub mod Generated
+pub use Rattle.program_faults.specs.ProgramReports
 pub use Rattle.command_programs.specs.Programs
 pub use Rattle.command_programs.specs.Refusals
-pub use Rattle.program_faults.specs.ProgramReports

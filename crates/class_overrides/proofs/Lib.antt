@@ -3,3 +3,4 @@ pub mod Lists
 pub mod OverrideSteps
 pub mod Walks
 mod NoneAlike
+pub use Rattle.class_members.proofs.Elements

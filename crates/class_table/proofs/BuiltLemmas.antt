@@ -23,7 +23,7 @@ use Rattle.class_headers.specs.Headers.{AllList, classes_of_names, declared_head
 use Rattle.class_headers.specs.SuperTypes.{AreKnown, SuperTypes, all_direct, all_supers, supers_of}
 use Rattle.class_headers.proofs.KnownLemmas.{length-supers_from}
 use Rattle.class_checks.specs.TypeCases.{IsTypeCase}
-use Rattle.super_checks.specs.SuperCases.{direct_in, supers_in}
+use Rattle.super_obligations.specs.SuperCases.{direct_in, supers_in}
 use Rattle.super_obligations.proofs.SuperPassLemmas.{table_direct, table_supers}
 use Rattle.table_members.specs.Fields.{IsField}
 use Rattle.table_members.specs.Methods.{IsMethod}

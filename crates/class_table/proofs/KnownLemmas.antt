@@ -14,7 +14,7 @@ use Rattle.java_syntax.specs.declared.declaration_trees.Param.{Param}
 use Rattle.java_syntax.specs.declared.statement_trees.Variable.{Variable}
 use Rattle.program_model.specs.declared.kinds.ClassId.{ClassId}
 use Rattle.program_model.specs.declared.kinds.VType.{VType}
-use Rattle.refusal_order.specs.Refusals.{where_true}
+use Rattle.class_order.specs.Refusals.{where_true}
 use Rattle.class_names.specs.declared.class_name.ClassName.{ClassName}
 use Rattle.class_names.specs.declared.meaning.Meaning.{Meaning}
 use Rattle.class_names.specs.declared.meaning.Meaning.TheVariants.{Named, NoClass, TwoClasses}

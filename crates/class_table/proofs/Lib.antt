@@ -14,3 +14,4 @@ pub mod ValidFields
 pub mod ValidMethods
 pub mod ValidTable
 pub mod WrittenFacts
+pub use Rattle.class_headers.proofs.KnownLemmas as ClassHeadersKnownLemmas

@@ -19,7 +19,7 @@ use Rattle.class_order.specs.Cases.{IsLeast}
 use Rattle.class_order.specs.Declarations.{Declaration, class_name_of, class_names, name_of}
 use Rattle.class_headers.specs.SuperTypes.{IsUnder}
 use Rattle.class_headers.proofs.KnownLemmas.{found_within}
-use Rattle.super_checks.specs.SuperCases.{HasExceptions, core_misplaced, direct_in}
+use Rattle.super_obligations.specs.SuperCases.{HasExceptions, core_misplaced, direct_in}
 use Rattle.super_obligations.specs.SuperPass.{IsSuperCase}
 use Rattle.class_table.specs.Table.{IsTable}
 use Rattle.class_table.proofs.TableFacts.{declared_class, some_at, stable_under, table_long}

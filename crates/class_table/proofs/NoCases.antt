@@ -3,12 +3,12 @@ use Rattle.std.proofs.Common.{◌≡◌, ◌∙◌, sym, ap, refl, arith, inl, i
 use Rattle.std.specs.Prelude.{slice_get, flat_map, Contains}
 use Rattle.std.proofs.lemmas.Option.{get_or_from_slice_get, same_Some, slice_get_within}
 use Rattle.rlc_base.specs.declared.faults.Refusal.{Refusal}
-use Rattle.refusal_order.specs.Refusals.{least}
+use Rattle.class_order.specs.Refusals.{least}
 use Rattle.program_model.specs.declared.program.CoreClasses.{CoreClasses}
 use Rattle.class_order.specs.Cases.{IsLeast, double_cases, too_many_at, too_many_cases}
 use Rattle.class_order.specs.Declarations.{Declaration, class_names}
 use Rattle.class_checks.specs.TypeCases.{IsTypeCase, all_type_cases, type_cases}
-use Rattle.super_checks.specs.SuperCases.{class_above_interface, classes_above_interfaces, kind_cases, supers_in}
+use Rattle.super_obligations.specs.SuperCases.{class_above_interface, classes_above_interfaces, kind_cases, supers_in}
 use Rattle.class_headers.specs.Cases.{bad_super_cases}
 use Rattle.super_obligations.specs.SuperPass.{IsSuperCase}
 use Rattle.class_table.specs.Passes.{IsDoubleCase}

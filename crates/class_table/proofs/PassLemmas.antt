@@ -1,7 +1,7 @@
 -- What the passes answer, by the declarations alone.
 use Rattle.std.proofs.Common.{◌≡◌, ◌∙◌, sym, ap, subst, Option, List}
 use Rattle.rlc_base.specs.declared.faults.Refusal.{Refusal}
-use Rattle.refusal_order.specs.Refusals.{least}
+use Rattle.class_order.specs.Refusals.{least}
 use Rattle.program_model.specs.declared.kinds.ClassId.{ClassId}
 use Rattle.program_model.specs.declared.program.CoreClasses.{CoreClasses}
 use Rattle.class_names.specs.declared.class_name.ClassName.{ClassName}
@@ -10,7 +10,7 @@ use Rattle.class_order.specs.Declarations.{Declaration, class_names}
 use Rattle.class_order.proofs.LeastLemmas.{least_of_list}
 use Rattle.class_headers.specs.Cases.{IsCycleCase}
 use Rattle.class_checks.specs.DoubleMembers.{double_member_cases}
-use Rattle.super_checks.specs.SuperCases.{direct_in}
+use Rattle.super_obligations.specs.SuperCases.{direct_in}
 use Rattle.class_table.specs.Passes.{IsCycle, IsMemberCase}
 
 pub cycles_told : (order : List Declaration) (core : CoreClasses) (direct : List (List ClassId)) (o a : Option Refusal) → direct ≡ direct_in order core → o ≡ a → IsLeast (IsCycleCase order direct) o → IsLeast (IsCycle order core) a

@@ -19,7 +19,7 @@ use Rattle.class_headers.specs.Headers.{Header, declared_header, declared_header
 use Rattle.class_headers.specs.SuperTypes.{AreKnown, IsUnder, SuperTypes, declared_supers, supers_from}
 use Rattle.class_headers.proofs.AboveLemmas.{headers_hierarchy}
 use Rattle.class_headers.proofs.KnownLemmas.{all_known, found_within, length-supers_from}
-use Rattle.super_checks.specs.SuperCases.{direct_in, supers_in}
+use Rattle.super_obligations.specs.SuperCases.{direct_in, supers_in}
 use Rattle.class_table.specs.Passes.{IsCycle}
 use Rattle.class_table.specs.Table.{IsTable}
 use Rattle.class_table.proofs.MemberLemmas.{length-headers}

@@ -28,7 +28,7 @@ use Rattle.program_model.specs.Hierarchy as model
 use Rattle.program_model.specs.Lookups.{class_at, method_at}
 use Rattle.program_model.specs.Typing.{IsDeclarable}
 use Rattle.program_model.specs.Validity as validity
-use Rattle.refusal_order.specs.Refusals.{refused_at}
+use Rattle.class_order.specs.Refusals.{refused_at}
 use Rattle.class_names.specs.declared.class_name.ClassName.{ClassName}
 use Rattle.class_names.specs.Meanings.{CompilationUnit}
 use Rattle.class_names.specs.WrittenTypes.{type_of_class, written_type}
@@ -39,7 +39,7 @@ use Rattle.class_headers.specs.SuperTypes.{class_named}
 use Rattle.class_headers.proofs.KnownLemmas.{class_named_known}
 use Rattle.class_declarations.specs.Members.{ConstantOf, ConstructorOf, ImpliedConstructor, MethodOf, Written, WrittenMethod, constants_among, implied_constructor, is_class_type, is_constant, kind_of, needs_constructor, parameters_of, result_of, throws_of, written_by, written_by_all, written_in}
 use Rattle.std.proofs.lemmas.List.{length-map}
-use Rattle.super_checks.specs.SuperCases.{IsUnfit, direct_in}
+use Rattle.super_obligations.specs.SuperCases.{IsUnfit, direct_in}
 use Rattle.super_obligations.specs.SuperPass.{IsSuperCase}
 use Rattle.table_members.specs.Methods.{IsMethod, IsNamedClass, IsParameter, IsSignature, IsWrittenAs}
 use Rattle.class_table.specs.Table.{IsTable, all_methods, method_numbers, method_owners}

@@ -15,7 +15,7 @@ use Rattle.class_order.specs.Cases.{IsLeast, double_cases, too_many_cases}
 use Rattle.class_order.specs.Core.{AreCore}
 use Rattle.class_order.specs.Declarations.{Declaration, class_names, class_order}
 use Rattle.class_checks.specs.DoubleMembers.{double_member_cases}
-use Rattle.super_checks.specs.SuperCases.{direct_in}
+use Rattle.super_obligations.specs.SuperCases.{direct_in}
 use Rattle.super_obligations.specs.SuperPass.{IsSuperCase}
 use Rattle.class_table.specs.Table.{IsTable}
 use Rattle.class_checks.specs.TypeCases.{IsTypeCase}

@@ -5,7 +5,7 @@ use Rattle.class_names.specs.ClassNames.{rows_in}
 use Rattle.class_order.specs.Declarations.{Declaration}
 use Rattle.class_headers.specs.declared.super_table.SuperTable.{SuperTable}
 use Rattle.class_headers.specs.SuperTypes.{AreKnown, supers_of}
-use Rattle.super_checks.specs.SuperCases.{direct_in, supers_in}
+use Rattle.super_obligations.specs.SuperCases.{direct_in, supers_in}
 
 -- these are the super types of the classes, and each of them is a class
 pub record AreSupers (order : List Declaration) (core : CoreClasses) (t : SuperTable) : Type 0 where

@@ -13,7 +13,7 @@ use Rattle.class_order.specs.Core.{AreCore}
 use Rattle.class_order.specs.Declarations.{Declaration, class_names}
 use Rattle.class_headers.specs.Headers.{AllList, Header, classes_of_names, declared_headers, header_of}
 use Rattle.class_declarations.specs.Members.{WrittenField, WrittenMethod, fields_from, methods_from}
-use Rattle.super_checks.specs.SuperCases.{direct_in, supers_in}
+use Rattle.super_obligations.specs.SuperCases.{direct_in, supers_in}
 use Rattle.java_annotations.specs.Annotations.{annotation_in, annotations_of}
 use Rattle.table_members.specs.Fields.{IsField}
 use Rattle.table_members.specs.Methods.{IsMethod}

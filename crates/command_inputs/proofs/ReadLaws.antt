@@ -1,7 +1,7 @@
 -- There are as many texts as files that were read.
 use Rattle.std.proofs.Common.{◌≡◌, ◌∷◌, [], ap, sym, refl, ℕ, suc, List, length, Option}
 use Rattle.outside.specs.Files.{Contents}
-use Rattle.source_files.specs.Reading.{AreContents, Counts}
+use Rattle.input_files.specs.Reading.{AreContents, Counts}
 use Rattle.command_inputs.specs.Inputs.{AreRead, FileNames, list_of}
 
 as_many : (told : Option Contents) (names texts : List (List ℕ)) → AreContents told names texts → length texts ≡ length names

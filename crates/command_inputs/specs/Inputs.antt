@@ -2,7 +2,7 @@
 use Rattle.std.specs.Prelude.{◌≡◌, ◌≤◌, ℕ, Option, Some, None, List, [], length, map, option_map, slice_get, get_or, drop}
 use Rattle.outside.specs.Files.{Contents, max_file}
 use Rattle.rlc_base.specs.declared.code.Code.TheVariants as refused
-use Rattle.source_files.specs.Reading.{AreContents, Counts, CountsNoFault, IsContent, max_text, total_of}
+use Rattle.input_files.specs.Reading.{AreContents, Counts, CountsNoFault, IsContent, max_text, total_of}
 use Rattle.input_files.specs.Inputs.{IsLimitLine, IsStopped}
 use Rattle.input_files.specs.Names.{reading_list}
 use Rattle.command_answers.specs.declared.answers.Answer.{Answer}

@@ -2,7 +2,7 @@
 
 ghost use Rattle.std.specs.Prelude.{◌≡◌, ◌≤◌, [], List, ℕ, Option, length, map, option_map, drop, get_or, slice_get, None, IfOk, OnOk};
 ghost use Rattle.outside.specs.Files.{Contents};
-ghost use Rattle.source_files.specs.Reading.{Counts, HasAll};
+ghost use Rattle.input_files.specs.Reading.{Counts, HasAll};
 ghost use Rattle.input_files.specs.Inputs.{IsLimitLine};
 ghost use Rattle.input_files.specs.Names.{optional_name};
 ghost use Rattle.rlc_base.specs.declared.code.Code.TheVariants as refused;

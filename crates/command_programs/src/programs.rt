@@ -1,7 +1,7 @@
 //! The program of the files of a command.
 
 ghost use Rattle.std.specs.Prelude.{◌≡◌, IfOk};
-ghost use Rattle.must_call_sets.specs.WellFormed.{HasSmallInterests};
+ghost use Rattle.program_reading.specs.WellFormed.{HasSmallInterests};
 ghost use Rattle.program_reading.specs.Inputs.{file_names};
 ghost use Rattle.program_reading.specs.Programs.{IsProgram};
 ghost use Rattle.program_reading.specs.SignedPrograms.{HasListedFields};

@@ -14,15 +14,15 @@ use Rattle.program_model.specs.declared.program.Method.{Method}
 use Rattle.program_model.specs.declared.program.Program.{Program}
 use Rattle.program_model.specs.Lookups.{field_at, method_at}
 use Rattle.program_model.specs.Overrides.{is_library}
-use Rattle.named_step_laws.specs.AliasCases.{result_set}
-use Rattle.named_step_laws.specs.Bodies.{is_constructor_kind}
-use Rattle.named_step_laws.specs.MustCallSets.{is_empty, is_heavy_class, must_of, must_of_optional, must_of_type, no_names}
-use Rattle.named_step_laws.specs.OwningCases.{finalized}
-use Rattle.named_step_laws.specs.Signatures.{is_of_field, promised_names, type_at}
-use Rattle.target_laws.specs.Accept.{Accept}
-use Rattle.program_call_laws.specs.Obligations.{is_the_one, own_promises}
-use Rattle.program_call_laws.specs.Leading.{CallsOnField}
-use Rattle.kept_argument_laws.proofs.AliasConducts.{argument_has_names, gives_object, one_name}
+use Rattle.must_call_sets.specs.AliasCases.{result_set}
+use Rattle.must_call_sets.specs.Bodies.{is_constructor_kind}
+use Rattle.must_call_sets.specs.MustCallSets.{is_empty, is_heavy_class, must_of, must_of_optional, must_of_type, no_names}
+use Rattle.must_call_sets.specs.OwningCases.{finalized}
+use Rattle.must_call_sets.specs.Signatures.{is_of_field, promised_names, type_at}
+use Rattle.covering_laws.specs.Accept.{Accept}
+use Rattle.ledger_obligations.specs.Obligations.{is_the_one, own_promises}
+use Rattle.covering_laws.specs.Leading.{CallsOnField}
+use Rattle.covering_laws.proofs.AliasConducts.{argument_has_names, gives_object, one_name}
 use Rattle.content_laws.proofs.Ends.{same_name}
 use Rattle.content_laws.proofs.Finalizers.{is_promised, owned_names}
 use Rattle.content_laws.proofs.Promised.{promises_its_own}

@@ -1,7 +1,7 @@
 -- The end of a frame and of the call at which the frame below waits.
 use Rattle.std.specs.Prelude.{not}
 use Rattle.std.specs.FinSet as set
-use Rattle.std.proofs.Common.{◌≡◌, ℕ, true, Option, Some, None, List, ◌∷◌, slice_get, refl, sym, ap, ◌∙◌, inr, eq-eqb}
+use Rattle.std.proofs.Common.{◌≡◌, ℕ, true, false, Option, Some, None, List, ◌∷◌, slice_get, refl, sym, ap, ◌∙◌, inr, eq-eqb}
 use Rattle.std.proofs.lemmas.Bool.{and_parts}
 use Rattle.rlc_base.proofs.SetLaws.{within_trans}
 use Rattle.rlc_base.specs.declared.name_id.NameId.{NameId}
@@ -14,36 +14,40 @@ use Rattle.program_model.specs.declared.program.Program.{Program}
 use Rattle.program_model.specs.Lookups.{field_at, method_at}
 use Rattle.program_model.specs.SuperTests.{is_class, is_under}
 use Rattle.program_model.specs.declared.kinds.VType.{VType}
-use Rattle.named_step_laws.specs.Bodies.{has_field_place, is_field_in, is_finalizer, is_finalizer_in, method_in, method_of}
-use Rattle.named_step_laws.specs.MustCallSets.{is_empty, is_heavy_class, must_of, must_of_optional, must_of_type}
-use Rattle.named_step_laws.specs.Signatures.{type_of_field}
+use Rattle.must_call_sets.specs.Bodies.{constructs, has_field_place, is_constructor_kind, is_field_in, is_finalizer, is_finalizer_in, method_in, method_of}
+use Rattle.must_call_sets.specs.MustCallSets.{is_empty, is_heavy_class, must_of, must_of_optional, must_of_type}
+use Rattle.must_call_sets.specs.Signatures.{type_of_field}
 use Rattle.java_control.specs.Calls.{called_method}
 use Rattle.java_control.specs.Control.{Step}
 use Rattle.java_control.specs.Owned.{is_owning_field}
 use Rattle.java_control.specs.declared.action.Action.TheVariants as actions
 use Rattle.java_control.specs.declared.action.Completion.{Completion}
-use Rattle.target_laws.specs.Accept.{Accept}
+use Rattle.covering_laws.specs.Accept.{Accept}
+use Rattle.ledger_state.specs.Classes.{class_in}
 use Rattle.ledger_state.specs.Contents.{HeapContents}
 use Rattle.ledger_state.specs.Heaps.{object_at}
 use Rattle.ledger_state.specs.Values.{number_of}
+use Rattle.ledger_state.specs.declared.entry.Owner.{Owner}
+use Rattle.ledger_state.specs.declared.entry.Owner.TheVariants as owners
 use Rattle.ledger_state.specs.declared.object.Object.{Object}
 use Rattle.ledger_state.specs.declared.value.Value.{Value}
 use Rattle.ledger_state.specs.declared.value.Value.TheVariants as values
-use Rattle.program_call_laws.specs.Obligations.{is_unmet}
-use Rattle.program_call_laws.specs.Calls.{operand_of}
-use Rattle.program_call_laws.specs.Configuration.{Frame}
-use Rattle.target_laws.specs.Choosing.{frame_steps}
-use Rattle.argument_laws.specs.Agreement.{Stands}
-use Rattle.argument_laws.specs.PlainForms.{HasPlainForms, run_by}
-use Rattle.program_call_laws.specs.Heaps.{GoesOn}
-use Rattle.kept_argument_laws.specs.Covering.{HoldsHeavy}
-use Rattle.kept_argument_laws.proofs.Laws.{promises_are_kept_at_end}
-use Rattle.kept_argument_laws.specs.FieldContents.{IsContent, IsDispatched, promised_on}
-use Rattle.kept_argument_laws.specs.PlaceFacts.{IsCovered, is_heavy_in}
-use Rattle.argument_laws.proofs.Births.{heavy_by_unmet}
-use Rattle.argument_laws.proofs.Unmet.{object_type_of}
-use Rattle.content_heap_laws.proofs.Goes.{unmet_owes}
-use Rattle.content_heap_laws.specs.Going.{IsNotedBy}
+use Rattle.ledger_obligations.specs.Obligations.{is_held_by, is_library_owner, is_unmet}
+use Rattle.ledger_steps.specs.LedgerCallsCalls.{operand_of}
+use Rattle.covering_laws.specs.Configuration.{Frame}
+use Rattle.covering_laws.specs.Choosing.{frame_steps}
+use Rattle.covering_laws.specs.Agreement.{HasMadeClasses, Stands}
+use Rattle.covering_laws.specs.PlainForms.{HasPlainForms, may_be_made, run_by}
+use Rattle.covering_laws.specs.Heaps.{GoesOn}
+use Rattle.covering_laws.specs.Covering.{HoldsHeavy}
+use Rattle.covering_laws.proofs.CoveredFieldLaws.{promises_are_kept_at_end}
+use Rattle.covering_laws.proofs.Names.{of_interest}
+use Rattle.covering_laws.specs.FieldContents.{IsContent, IsDispatched, promised_on}
+use Rattle.covering_laws.specs.PlaceFacts.{IsCovered, gives_none, is_field_of, is_heavy_in}
+use Rattle.covering_laws.proofs.FrameBirths.{heavy_by_unmet}
+use Rattle.covering_laws.proofs.Unmet.{object_type_of}
+use Rattle.content_laws.proofs.Goes.{not_the_librarys_owes}
+use Rattle.content_laws.specs.Going.{IsNotedBy}
 
 -- ---- what an unmet content is
 
@@ -56,7 +60,7 @@ heavy_field_by p f field declared x unmet within =
     ∙ ap (λ (t : VType). not (is_empty (must_of_type p t))) c.1 ∙ heavy
 
 module _ (p : Program) (h : HeapContents) (frs : List Frame) (fr : Frame) (o : ℕ) (x : Object) (w : ℕ) (f : FieldId) (content : IsContent p frs h o x w f) (at : object_at h o ≡ Some x)
-    (unmet : is_unmet x ≡ true) (this : fr.locals.this ≡ values.Object w) where
+    (unmet : is_unmet x ≡ true) (owner : x.owner ≡ owners.Field w f) (this : fr.locals.this ≡ values.Object w) where
   within_type : set.is_subset x.must (must_of_type p content.field.vtype) ≡ true
   within_type = within_trans x.must (must_of p x.class) (must_of_type p content.field.vtype) content.own content.bounded
 
@@ -68,7 +72,7 @@ module _ (p : Program) (h : HeapContents) (frs : List Frame) (fr : Frame) (o : �
     held = content.held;
     at = at;
     class = heavy_by_unmet p x.class x unmet content.own;
-    owes = unmet_owes x unmet;
+    owes = not_the_librarys_owes x (ap is_library_owner owner);
   }
 
 pub receiver_object : (w : ℕ) (v : Value) → number_of v ≡ Some w → v ≡ values.Object w
@@ -81,15 +85,16 @@ same_name a b same = ap (λ (k : ℕ). (let z : NameId = record { 0 = k } in z))
 
 -- ---- the promise of the method that ends
 
-module _ (p : Program) (ac : Accept p) (forms' : HasPlainForms p) (h : HeapContents) (fr caller : Frame) (frs : List Frame) (st : Stands p fr) (covered : IsCovered p h fr)
+module _ (p : Program) (ac : Accept p) (forms' : HasPlainForms p) (h : HeapContents) (fr caller : Frame) (frs : List Frame) (st : Stands p fr) (covered : IsCovered p h gives_none (caller ∷ frs) fr)
     (i : ℕ) (s : Step) (q : Completion) (here : slice_get (frame_steps p fr) i ≡ Some s) (is : s.action ≡ actions.End q) (j : ℕ) (t : Step) (there : slice_get (frame_steps p caller) j ≡ Some t)
-    (named : MethodId) (n : Method) (called : called_method t.action ≡ Some named) (named_at : method_at p named ≡ Some n) (dispatched : IsDispatched p h fr caller) where
-  pub promise_is_kept : (o : ℕ) (x y : Object) (w : ℕ) (f : FieldId) → object_at h o ≡ Some x → is_unmet x ≡ true → GoesOn x y → (content : IsContent p (fr ∷ caller ∷ frs) h o x w f)
+    (named : MethodId) (n : Method) (called : called_method t.action ≡ Some named) (named_at : method_at p named ≡ Some n) (dispatched : IsDispatched p h fr caller) (made : HasMadeClasses p h) where
+  pub promise_is_kept : (o : ℕ) (x y : Object) (w : ℕ) (f : FieldId) → object_at h o ≡ Some x → is_unmet x ≡ true → GoesOn x y → x.owner ≡ owners.Field w f → (content : IsContent p (fr ∷ caller ∷ frs) h o x w f)
       → (m : MethodId) (d : Method) (name : NameId) → method_at p m ≡ Some d → d.class ≡ content.holder.class → d.sig.interest ≡ Some name
       → set.contains (must_of p content.holder.class) name.0 ≡ true → IsNotedBy caller.locals t.action (Some n) w name.0 → set.is_subset (promised_on f d) y.called ≡ true
-  promise_is_kept o x y w f at unmet goes content m d name there' class interest must noted =
+  promise_is_kept o x y w f at unmet goes owner content m d name there' class interest must noted =
       within_trans (promised_on f d) x.called y.called
-      (promises_are_kept_at_end p ac h fr st covered i s q d f w o x here is method place (inr finalizer) (holds_heavy p h (fr ∷ caller ∷ frs) fr o x w f content at unmet run.2)
+      (promises_are_kept_at_end p ac h (caller ∷ frs) fr st covered i s q d f w o x here is method place (inr finalizer) (holds_heavy p h (fr ∷ caller ∷ frs) fr o x w f content at unmet owner run.2)
+      (inr (inr (no_constructor, owned)))
       (and_parts x.finished (not (set.is_subset x.must x.called)) unmet).0)
       goes.called
     where
@@ -99,11 +104,15 @@ module _ (p : Program) (ac : Accept p) (forms' : HasPlainForms p) (h : HeapConte
       run : (fr.method ≡ run_by p named content.holder.class) × (is_under p content.holder.class n.class ≡ true) × (fr.locals.this ≡ values.Object w)
       run = dispatched j t named n w content.holder there called named_at noted.chosen target content.at
 
+      -- the field owns it
+      owned : is_field_of fr.locals.this x.owner ≡ true
+      owned = ap (λ (v : Value). is_field_of v x.owner) run.2 ∙ ap (λ (a : Owner). is_held_by a w) owner ∙ eq-eqb w w refl
+
       named_interest : n.sig.interest ≡ Some name
       named_interest = noted.interest ∙ ap Some (same_name noted.name name noted.number)
 
       itself : run_by p named d.class ≡ m
-      itself = forms'.own named m n d f content.field name named_at there' content.declared content.owning (sym content.class ∙ sym class) named_interest interest
+      itself = forms'.own named m n d f content.field name named_at there' (ap (may_be_made p) class ∙ made (values.Object w) content.holder.class (ap class_in content.at)) content.declared content.owning (sym content.class ∙ sym class) named_interest interest
           (ap (λ (c : ClassId). set.contains (must_of p c) name.0) class ∙ must)
           (ap (λ (c : ClassId). is_under p c n.class) class ∙ run.1)
 
@@ -112,6 +121,10 @@ module _ (p : Program) (ac : Accept p) (forms' : HasPlainForms p) (h : HeapConte
 
       method : method_at p fr.method ≡ Some d
       method = ap (method_at p) runs ∙ there'
+
+      -- a method of interest is no constructor
+      no_constructor : constructs (method_at p fr.method) ≡ false
+      no_constructor = ap constructs method ∙ ap is_constructor_kind (of_interest p ac.well_formed m d name there' interest).instance
 
       body_method : method_of p st.number ≡ Some d
       body_method = ap (method_in p) st.at ∙ ap (method_at p) st.method ∙ method

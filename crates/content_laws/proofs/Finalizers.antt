@@ -18,14 +18,14 @@ use Rattle.program_model.specs.declared.program.Program.{Program}
 use Rattle.program_model.specs.Lookups.{class_at, field_at, method_at}
 use Rattle.program_model.specs.Overrides.{methods_in}
 use Rattle.program_model.specs.Validity.{IsMethodOf}
-use Rattle.named_step_laws.specs.MustCallSets.{must_of, must_of_type}
-use Rattle.named_step_laws.specs.OwningCases.{field_ids, finalized, finalized_by, has_no_finalizer, is_misshapen, owning_cases_in, owning_cases_of}
-use Rattle.named_step_laws.specs.Signatures.{has_name, is_must_call_method, is_of_field, promised_names}
+use Rattle.must_call_sets.specs.MustCallSets.{must_of, must_of_type}
+use Rattle.must_call_sets.specs.OwningCases.{field_ids, finalized, finalized_by, has_no_finalizer, is_misshapen, owning_cases_in, owning_cases_of}
+use Rattle.must_call_sets.specs.Signatures.{has_name, is_must_call_method, is_of_field, promised_names}
 use Rattle.rlc_base.specs.declared.code.Code.TheVariants as refused
 use Rattle.rlc_base.specs.declared.faults.Refusal.{Refusal}
 use Rattle.refusal_order.specs.Refusals.{refused_at, where_true}
-use Rattle.target_laws.specs.Accept.{Accept}
-use Rattle.kept_argument_laws.specs.FieldContents.{promised_on}
+use Rattle.covering_laws.specs.Accept.{Accept}
+use Rattle.covering_laws.specs.FieldContents.{promised_on}
 
 -- ---- lists
 

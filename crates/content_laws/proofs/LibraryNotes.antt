@@ -10,28 +10,29 @@ use Rattle.program_model.specs.declared.program.Program.{Program}
 use Rattle.program_model.specs.Lookups.{method_at}
 use Rattle.program_model.specs.Overrides.{is_library}
 use Rattle.program_model.specs.SuperTests.{is_under}
-use Rattle.named_step_laws.specs.MustCallSets.{must_of}
+use Rattle.must_call_sets.specs.MustCallSets.{must_of}
 use Rattle.java_control.specs.Calls.{called_method}
 use Rattle.java_control.specs.Control.{Step}
 use Rattle.java_control.specs.declared.action.Action.{Action}
 use Rattle.java_control.specs.declared.action.Action.TheVariants as actions
 use Rattle.stub_conduct.specs.declared.choice.Conduct.{Conduct}
+use Rattle.ledger_state.specs.Classes.{class_in, runtime_class}
 use Rattle.ledger_state.specs.Contents.{HeapContents}
 use Rattle.ledger_state.specs.declared.array.ArrayObject.{ArrayObject}
 use Rattle.ledger_state.specs.declared.object.Object.{Object}
 use Rattle.ledger_state.specs.declared.value.Value.{Value}
 use Rattle.ledger_state.specs.declared.value.Value.TheVariants as values
-use Rattle.program_call_laws.specs.Obligations.{is_library_method}
-use Rattle.program_call_laws.specs.Calls.{by_form, form_of, interest_in, operand_of}
-use Rattle.program_call_laws.specs.Configuration.{Frame}
-use Rattle.target_laws.specs.Choosing.{frame_steps}
-use Rattle.target_laws.specs.Moves.{fits_target}
-use Rattle.argument_laws.specs.PlainForms.{HasPlainForms, run_by}
-use Rattle.argument_laws.specs.Nexts.{IsConstantRead, IsLibraryMove}
-use Rattle.kept_argument_laws.specs.FieldContents.{IsContent, is_chosen_by_class}
-use Rattle.content_heap_laws.specs.Going.{IsNotedBy}
+use Rattle.ledger_obligations.specs.Obligations.{is_library_method}
+use Rattle.ledger_steps.specs.LedgerCallsCalls.{by_form, form_of, interest_in, operand_of}
+use Rattle.covering_laws.specs.Configuration.{Frame}
+use Rattle.covering_laws.specs.Choosing.{frame_steps}
+use Rattle.covering_laws.specs.Moves.{fits_target}
+use Rattle.covering_laws.specs.PlainForms.{HasPlainForms, may_be_made, run_by}
+use Rattle.covering_laws.specs.Nexts.{IsConstantRead, IsLibraryMove}
+use Rattle.covering_laws.specs.FieldContents.{IsContent, is_chosen_by_class}
+use Rattle.content_laws.specs.Going.{IsNotedBy}
 use Rattle.content_laws.proofs.Ends.{receiver_object, same_name}
-use Rattle.content_laws.proofs.Frames.{runs_by_class, target_is_under}
+use Rattle.content_laws.proofs.ContentFrames.{runs_by_class, target_is_under}
 
 -- the target of a call chooses its method where it has one: a constant has none
 not_constant : (a : Action) → IsConstantRead a → is_chosen_by_class (form_of a) ≡ true → ⊥
@@ -72,7 +73,8 @@ no_library_note p forms' h arrays fr named x s next frs o y w f content m d name
         named_interest = ap interest_in (sym named_at) ∙ noted.interest ∙ ap Some (same_name noted.name name noted.number)
 
         itself : run_by p named d.class ≡ m
-        itself = forms'.own named m n d f content.field name named_at at content.declared content.owning (sym (class ∙ content.class)) named_interest interest
+        itself = forms'.own named m n d f content.field name named_at at
+            (ap (may_be_made p) class ∙ (next.ran calls).2 content.holder.class (ap (runtime_class p h) target ∙ ap class_in content.at)) content.declared content.owning (sym (class ∙ content.class)) named_interest interest
             (ap (λ (c : ClassId). set.contains (must_of p c) name.0) class ∙ must) (ap (λ (c : ClassId). is_under p c n.class) class ∙ is_in)
 
         in_library : is_library p d.class ≡ true

@@ -9,14 +9,14 @@ use Rattle.program_model.specs.declared.program.Method.{Method}
 use Rattle.program_model.specs.declared.program.Program.{Program}
 use Rattle.program_model.specs.declared.program.Promise.{Promise}
 use Rattle.program_model.specs.Lookups.{method_at}
-use Rattle.named_step_laws.specs.Signatures.{is_of_field, promised_names}
-use Rattle.target_laws.specs.Accept.{Accept}
-use Rattle.program_call_laws.specs.Obligations.{method_by, own_promises, promises_written}
-use Rattle.program_call_laws.proofs.NoteLists.{name_from_all, name_where}
-use Rattle.argument_laws.proofs.SignedPromises.{promised_name_is_small}
-use Rattle.own_method_laws.proofs.Named.{own_method_named}
-use Rattle.kept_argument_laws.specs.FieldContents.{promised_on}
-use Rattle.content_heap_laws.specs.Going.{PromisesItsOwn}
+use Rattle.must_call_sets.specs.Signatures.{is_of_field, promised_names}
+use Rattle.covering_laws.specs.Accept.{Accept}
+use Rattle.ledger_obligations.specs.Obligations.{method_by, own_promises, promises_written}
+use Rattle.covering_laws.proofs.NoteLists.{name_from_all, name_where}
+use Rattle.covering_laws.proofs.SignedPromises.{promised_name_is_small}
+use Rattle.covering_laws.proofs.Named.{own_method_named}
+use Rattle.covering_laws.specs.FieldContents.{promised_on}
+use Rattle.content_laws.specs.Going.{PromisesItsOwn}
 
 small_names : (p : Program) → Accept p → (m : MethodId) (d : Method) (f : FieldId) (i : ℕ) → method_at p m ≡ Some d → set.contains (promised_on f d) i ≡ true → i < 128
 small_names p ac m d f i at has =

@@ -1,5 +1,5 @@
 -- The end of a frame and of its call keeps what owning fields hold and own.
-pub use Rattle.argument_laws.proofs.Returns.{back_is}
+pub use Rattle.covering_laws.proofs.Returns.{back_is}
 use Rattle.std.specs.Prelude.{◌<◌, ◌≤◌, ◌||◌, ◌&&◌, is_some, not}
 use Rattle.std.specs.FinSet as set
 use Rattle.std.proofs.Common.{◌≡◌, ◌⊎◌, ℕ, suc, ◌+◌, Bool, true, false, true≢false, Option, Some, None, List, ◌∷◌, length, slice_get, refl, sym, ap, ◌∙◌, subst, if◌then◌else◌, inl, inr, eqb-true, eq-eqb, arith}
@@ -14,19 +14,19 @@ use Rattle.program_model.specs.declared.program.Field.{Field}
 use Rattle.program_model.specs.declared.program.Method.{Method}
 use Rattle.program_model.specs.declared.program.Program.{Program}
 use Rattle.program_model.specs.Lookups.{field_at, method_at}
-use Rattle.named_step_laws.specs.Bodies.{alias_in, alias_position as body_alias_position, constructs, is_class_of, is_constructor_kind, method_in}
-use Rattle.named_step_laws.specs.MustCallSets.{is_heavy_class, must_of, must_of_optional, must_of_type}
-use Rattle.named_step_laws.specs.Signatures.{type_at}
+use Rattle.must_call_sets.specs.Bodies.{alias_in, alias_position as body_alias_position, constructs, is_class_of, is_constructor_kind, method_in}
+use Rattle.must_call_sets.specs.MustCallSets.{is_heavy_class, must_of, must_of_optional, must_of_type}
+use Rattle.must_call_sets.specs.Signatures.{type_at}
 use Rattle.java_control.specs.Owned.{is_owning_field}
-use Rattle.named_step_laws.specs.Ends.{is_throw}
+use Rattle.covering_laws.specs.Ends.{is_throw}
 use Rattle.java_control.specs.Calls.{called_method}
 use Rattle.java_control.specs.Control.{Step}
 use Rattle.java_control.specs.declared.action.Action.{Action}
 use Rattle.java_control.specs.declared.action.Action.TheVariants as actions
 use Rattle.java_control.specs.declared.action.Completion.{Completion}
-use Rattle.target_laws.specs.Accept.{Accept}
-use Rattle.named_step_laws.specs.Paths.{move_of}
-use Rattle.argument_laws.specs.Outcomes.{IsCallRow}
+use Rattle.covering_laws.specs.Accept.{Accept}
+use Rattle.covering_laws.specs.Paths.{move_of}
+use Rattle.covering_laws.specs.Outcomes.{IsCallRow}
 use Rattle.ledger_state.specs.Contents.{HeapContents}
 use Rattle.ledger_state.specs.Fields.{field_value}
 use Rattle.ledger_state.specs.Heaps.{change_one, next_number, object_at, root, root_of}
@@ -38,55 +38,56 @@ use Rattle.ledger_state.specs.declared.object.Link.{Link}
 use Rattle.ledger_state.specs.declared.object.Object.{Object}
 use Rattle.ledger_state.specs.declared.value.Value.{Value}
 use Rattle.ledger_state.specs.declared.value.Value.TheVariants as values
-use Rattle.program_call_laws.specs.Obligations.{alias_born, end_holder, finished, is_unmet}
-use Rattle.program_call_laws.specs.Calls.{alias_position, alias_target, interest_in, is_alias, object_by, operand_of, reset_position}
-use Rattle.program_call_laws.specs.Configuration.{Config, Frame, held_by}
-use Rattle.target_laws.specs.Choosing.{frame_steps, is_number}
-use Rattle.target_laws.specs.Frames.{frame_after}
-use Rattle.program_call_laws.specs.Places.{class_of_method}
+use Rattle.ledger_obligations.specs.Obligations.{alias_born, end_holder, finished, is_unmet}
+use Rattle.ledger_steps.specs.LedgerCallsCalls.{alias_position, alias_target, interest_in, is_alias, object_by, operand_of, reset_position}
+use Rattle.covering_laws.specs.Configuration.{Config, Frame, held_by}
+use Rattle.covering_laws.specs.Choosing.{frame_steps, is_number}
+use Rattle.covering_laws.specs.Frames.{frame_after}
+use Rattle.covering_laws.specs.Places.{class_of_method}
 use Rattle.ledger_steps.specs.Ends.{answered, constructor_ended, exception_class, finished_by_new, object_finished, frame_ended, frame_gone, program_birth, result_value, returned_heap, returned_reset, thrown_in}
-use Rattle.target_laws.specs.Moves.{Return, Back, StrayBack, NoWay}
-use Rattle.target_laws.specs.Outcomes.{went, stray}
-use Rattle.target_laws.specs.Steps.{returned, returned_by}
-use Rattle.program_call_laws.specs.Heaps.{Evolves, GoesOn, HasEarlierLinks}
-use Rattle.program_call_laws.specs.Leading.{CallsOnField, Leads}
-use Rattle.program_call_laws.proofs.Laws.{roots_of_links-there}
-use Rattle.program_call_laws.proofs.ObjectLaws.{in_range}
-use Rattle.program_call_laws.specs.ProgramCalls.{is_new as is_made_new}
-use Rattle.program_call_laws.proofs.EndLinks.{called_links, end_links, gone_links}
-use Rattle.program_call_laws.proofs.Returned.{gone_unowned}
-use Rattle.argument_laws.specs.Arguments.{HasArguments}
-use Rattle.kept_argument_laws.proofs.Constructors.{spoken}
-use Rattle.kept_argument_laws.proofs.KeptArguments.{field_holds}
-use Rattle.argument_laws.specs.Agreement.{Agrees, AllStand, IsMade, IsMadeAfter, IsMadeBy, RunsItself, WaitsFor}
-use Rattle.argument_laws.specs.PlainForms.{HasPlainForms, IsPlainCall, IsPlainSignature, calls_constructor}
-use Rattle.argument_laws.specs.Nexts.{IsBack, IsBackStep}
-use Rattle.argument_laws.proofs.Ready.{plain_call, plain_step, step_here, step_there}
-use Rattle.argument_laws.proofs.Unmet.{call_may, unmet_before}
-use Rattle.argument_laws.proofs.Ways.{one_action}
-use Rattle.named_step_laws.specs.Naming.{IsOfItsKind}
-use Rattle.named_step_laws.proofs.Reached.{names_what_is_there}
-use Rattle.kept_argument_laws.specs.FieldContents.{AreDispatched, AreFresh, AreNew, AreUnfinished, FieldsHold, HaveContents, IsBeingMade, IsContent, LinksLead, RunOnOthers, is_made_in, is_new, makes_holder, makes_object, promised_on}
-use Rattle.kept_argument_laws.specs.PlaceFacts.{IsCovered, may_owe}
-use Rattle.kept_argument_laws.specs.Ranges.{LocalsInRange}
-use Rattle.content_heap_laws.proofs.Configs.{frames_stay}
-use Rattle.content_heap_laws.proofs.Growth.{returned_grows}
-use Rattle.content_heap_laws.proofs.Values.{value_stays}
+use Rattle.covering_laws.specs.Moves.{Return, Back, StrayBack, NoWay}
+use Rattle.covering_laws.specs.LedgerRunsOutcomes.{went, stray}
+use Rattle.covering_laws.specs.LedgerRunsSteps.{returned, returned_by}
+use Rattle.covering_laws.specs.Heaps.{Evolves, GoesOn, HasEarlierLinks}
+use Rattle.covering_laws.specs.Leading.{CallsOnField, Leads}
+use Rattle.covering_laws.proofs.HeapLaws.{roots_of_links-there}
+use Rattle.covering_laws.proofs.ObjectLaws.{in_range}
+use Rattle.covering_laws.specs.ProgramCalls.{is_new as is_made_new}
+use Rattle.covering_laws.proofs.EndLinks.{called_links, end_links, gone_links}
+use Rattle.covering_laws.proofs.Returned.{gone_unowned}
+use Rattle.covering_laws.specs.Arguments.{HasArguments}
+use Rattle.covering_laws.proofs.Constructors.{spoken}
+use Rattle.covering_laws.proofs.KeptArguments.{field_holds}
+use Rattle.covering_laws.specs.Agreement.{Agrees, AllStand, IsMade, IsMadeAfter, IsMadeBy, RunsItself, WaitsFor}
+use Rattle.covering_laws.specs.PlainForms.{HasPlainForms, IsPlainCall, IsPlainSignature, calls_constructor, MayRun}
+use Rattle.ledger_steps.specs.LedgerCallsCalls.{body_of}
+use Rattle.covering_laws.specs.Nexts.{IsBack, IsBackStep}
+use Rattle.covering_laws.proofs.Ready.{plain_call, plain_step, step_here, step_there}
+use Rattle.covering_laws.proofs.Unmet.{call_may, unmet_before}
+use Rattle.covering_laws.proofs.CallWays.{one_action}
+use Rattle.covering_laws.specs.Naming.{IsOfItsKind}
+use Rattle.covering_laws.proofs.NamedReached.{names_what_is_there}
+use Rattle.covering_laws.specs.FieldContents.{AreDispatched, AreFresh, AreNew, AreUnfinished, FieldsHold, HaveContents, IsBeingMade, IsContent, LinksLead, RunOnOthers, is_made_in, is_new, makes_holder, makes_object, promised_on, OwningFieldsOwn}
+use Rattle.covering_laws.specs.PlaceFacts.{IsCovered, gives_none, may_owe}
+use Rattle.covering_laws.specs.Ranges.{LocalsInRange}
+use Rattle.covering_laws.proofs.Configs.{frames_stay}
+use Rattle.covering_laws.proofs.Growth.{returned_grows}
+use Rattle.covering_laws.proofs.RangeValues.{value_stays}
 use Rattle.content_laws.proofs.AliasConstructors.{alias_class_is_heavy, calls_on_field}
 use Rattle.content_laws.proofs.Ends.{promise_is_kept, receiver_object}
-use Rattle.content_heap_laws.proofs.Finished.{changed_dispatched, changed_unfinished, linked_contents, made, made_contents}
-use Rattle.content_heap_laws.proofs.Goes.{contents_go_on, dispatched_on, goes_forth, led_there, owed_before, there, unfinished_on}
-use Rattle.content_heap_laws.proofs.Heaps.{after_goes, end_goes}
-use Rattle.content_heap_laws.proofs.Leading.{goes_hold, leads_forth}
-use Rattle.content_heap_laws.proofs.Leaves.{holder_owns_nothing}
-use Rattle.content_heap_laws.proofs.Linked.{finished_leads, finished_root, linked_leads, linked_root}
-use Rattle.content_heap_laws.proofs.LinkSteps.{leads_go_on}
-use Rattle.content_laws.proofs.Steps.{IsSameFrame, LocalsIn, same_dispatched, same_fresh, same_makes, same_new, same_unfinished, this_in}
-use Rattle.content_heap_laws.specs.Going.{Goes, IsNotedBy, KeepsArgument, PromisesItsOwn, linked}
+use Rattle.content_laws.proofs.Finished.{changed_dispatched, changed_unfinished, linked_contents, made, made_contents, one_back}
+use Rattle.content_laws.proofs.Goes.{contents_go_on, dispatched_on, goes_forth, led_there, owed_before, there, unfinished_on}
+use Rattle.content_laws.proofs.Heaps.{after_goes, end_goes}
+use Rattle.content_laws.proofs.Leading.{goes_hold, leads_forth}
+use Rattle.content_laws.proofs.Leaves.{holder_owns_nothing}
+use Rattle.content_laws.proofs.Linked.{finished_leads, finished_root, linked_leads, linked_root}
+use Rattle.content_laws.proofs.LinkSteps.{leads_go_on}
+use Rattle.content_laws.proofs.Steps.{IsSameFrame, LocalsIn, owning_on, same_dispatched, same_fresh, same_makes, same_new, same_unfinished, this_in}
+use Rattle.content_laws.specs.Going.{Goes, IsNotedBy, KeepsArgument, PromisesItsOwn, linked}
 use Rattle.content_laws.proofs.Steps.{lost, same_after}
 use Rattle.content_laws.proofs.Promised.{promises_its_own}
-use Rattle.content_laws.proofs.Stores.{IsAliasForm, body_is_of_program, own_alias_form}
-use Rattle.content_laws.proofs.TopSteps.{plain_no_reset, small_interest}
+use Rattle.content_laws.proofs.ContentStores.{IsAliasForm, body_is_of_program, own_alias_form}
+use Rattle.content_laws.proofs.TopSteps.{small_interest}
 
 -- a `new` that makes no alias finishes its object
 plainly_finished : (p : Program) (i : ℕ) (m : Option Method) (alias : Option ℕ) → alias_position m ≡ None → object_finished p i m alias ≡ made p i
@@ -131,7 +132,7 @@ row_of (actions.Super k d n) m is = tt
 row_of a m is = absurd (let never : None ≡ Some m = is in cc)
 
 module _ (p : Program) (ac : Accept p) (forms' : HasPlainForms p) (c d : Config) (fr caller : Frame) (rest : List Frame) (agrees : Agrees p (fr ∷ caller ∷ rest) c.heap c.entries)
-    (covered : IsCovered p c.heap fr) (in' : LocalsIn c.heap (fr ∷ caller ∷ rest)) (hold : FieldsHold p (fr ∷ caller ∷ rest) c.heap) (making : IsBeingMade p c.heap fr caller) (given : HasArguments p caller fr) (i : ℕ) (s : Step) (q : Completion)
+    (covered : IsCovered p c.heap gives_none (caller ∷ rest) fr) (in' : LocalsIn c.heap (fr ∷ caller ∷ rest)) (hold : FieldsHold p (fr ∷ caller ∷ rest) c.heap) (making : IsBeingMade p c.heap fr caller) (given : HasArguments p caller fr) (i : ℕ) (s : Step) (q : Completion)
     (here : slice_get (frame_steps p fr) i ≡ Some s) (is : s.action ≡ actions.End q)
     (exits : is_throw q ≡ true → exception_class p c.heap (thrown_in fr.locals q) ≡ None → ⊥) where
   abbrev h : HeapContents
@@ -187,33 +188,47 @@ module _ (p : Program) (ac : Accept p) (forms' : HasPlainForms p) (c d : Config)
     named_call = plain_call p t.action named (plain_step p ac forms' caller standing'.0 back.index t back.here) back.row back.calls
 
     no_reset : reset_position (method_at p named) ≡ None
-    no_reset = plain_no_reset p (method_at p named) named_call.signature
+    no_reset = by (method_at p named) refl (method_at p fr.method) refl
+      where
+        same_step : waits.step.action ≡ t.action
+        same_step = sym (one_action p standing'.0.number caller.control waits.index back.index waits.step t (step_here p caller standing'.0 waits.index waits.step waits.here)
+            (step_here p caller standing'.0 back.index t back.here) (call_may waits.step.action (row_of waits.step.action waits.named waits.calls)))
+
+        named_waits : waits.named ≡ named
+        named_waits = let both : Some waits.named ≡ Some named = sym waits.calls ∙ ap called_method same_step ∙ back.calls in (let one : waits.named ≡ named = cc in one)
+
+        by : (z : Option Method) → method_at p named ≡ z → (r : Option Method) → method_at p fr.method ≡ r → reset_position (method_at p named) ≡ None
+        by None named_at r run_at = ap reset_position named_at
+        by (Some n) named_at (Some r) run_at =
+            ap reset_position named_at ∙ named_call.resets fr.method n r (subst (λ (u : MethodId). MayRun p u fr.method) named_waits waits.runs) named_at run_at
+            (body_is_of_program p ac fr agrees.standing.0 r.class (ap (is_class_of r.class) run_at ∙ eq-eqb r.class.0 r.class.0 refl))
+        by (Some n) named_at None run_at = absurd (let never : None ≡ Some agrees.standing.0.number = sym (ap body_of run_at) ∙ agrees.standing.0.id in cc)
 
     goes : Goes p h reset (IsNotedBy caller.locals t.action (method_at p named))
     goes = end_goes p position fr.locals.this caller.locals t.action (method_at p fr.method) (method_at p named) v e h no_reset (small_interest p ac named) links
 
-    some_method : (n : Method) → method_at p named ≡ Some n → (o : ℕ) (x y : Object) (w : ℕ) (f : FieldId) → object_at h o ≡ Some x → object_at reset o ≡ Some y → is_unmet y ≡ true → GoesOn x y
+    some_method : (n : Method) → method_at p named ≡ Some n → (o : ℕ) (x y : Object) (w : ℕ) (f : FieldId) → object_at h o ≡ Some x → object_at reset o ≡ Some y → is_unmet y ≡ true → GoesOn x y → x.owner ≡ owners.Field w f
         → (content : IsContent p (fr ∷ caller ∷ rest) h o x w f) → (m : MethodId) (d' : Method) (name : NameId) → content.holder.finished ≡ true → method_at p m ≡ Some d' → d'.class ≡ content.holder.class
         → d'.sig.interest ≡ Some name → set.contains (must_of p content.holder.class) name.0 ≡ true → IsNotedBy caller.locals t.action (method_at p named) w name.0
         → set.is_subset (promised_on f d') y.called ≡ true
-    some_method n named_at o x y w f there' now unmet on content m d' name fin at' class interest must noted =
-        promise_is_kept p ac forms' h fr caller rest agrees.standing.0 covered i s q here is back.index t back.here named n back.calls named_at hold.dispatched.0 o x y w f there'
-        (unmet_before x y on unmet) on content m d' name at' class interest must (subst (λ (z : Option Method). IsNotedBy caller.locals t.action z w name.0) named_at noted)
+    some_method n named_at o x y w f there' now unmet on owner content m d' name fin at' class interest must noted =
+        promise_is_kept p ac forms' h fr caller rest agrees.standing.0 covered i s q here is back.index t back.here named n back.calls named_at hold.dispatched.0 agrees.classes o x y w f there'
+        (unmet_before x y on unmet) on owner content m d' name at' class interest must (subst (λ (z : Option Method). IsNotedBy caller.locals t.action z w name.0) named_at noted)
 
-    keeps : (o : ℕ) (x y : Object) (w : ℕ) (f : FieldId) → object_at h o ≡ Some x → object_at reset o ≡ Some y → is_unmet y ≡ true → GoesOn x y
+    keeps : (o : ℕ) (x y : Object) (w : ℕ) (f : FieldId) → object_at h o ≡ Some x → object_at reset o ≡ Some y → is_unmet y ≡ true → GoesOn x y → x.owner ≡ owners.Field w f
         → (content : IsContent p (fr ∷ caller ∷ rest) h o x w f) → (m : MethodId) (d' : Method) (name : NameId) → content.holder.finished ≡ true → method_at p m ≡ Some d' → d'.class ≡ content.holder.class
         → d'.sig.interest ≡ Some name → set.contains (must_of p content.holder.class) name.0 ≡ true → IsNotedBy caller.locals t.action (method_at p named) w name.0
         → set.is_subset (promised_on f d') y.called ≡ true
     keeps = go (method_at p named) refl
       where
-        go : (z : Option Method) → method_at p named ≡ z → (o : ℕ) (x y : Object) (w : ℕ) (f : FieldId) → object_at h o ≡ Some x → object_at reset o ≡ Some y → is_unmet y ≡ true → GoesOn x y
+        go : (z : Option Method) → method_at p named ≡ z → (o : ℕ) (x y : Object) (w : ℕ) (f : FieldId) → object_at h o ≡ Some x → object_at reset o ≡ Some y → is_unmet y ≡ true → GoesOn x y → x.owner ≡ owners.Field w f
             → (content : IsContent p (fr ∷ caller ∷ rest) h o x w f) → (m : MethodId) (d' : Method) (name : NameId) → content.holder.finished ≡ true → method_at p m ≡ Some d' → d'.class ≡ content.holder.class
             → d'.sig.interest ≡ Some name → set.contains (must_of p content.holder.class) name.0 ≡ true → IsNotedBy caller.locals t.action (method_at p named) w name.0
             → set.is_subset (promised_on f d') y.called ≡ true
-        go None none' o x y w f there' now unmet on content m d' name fin at' class interest must noted =
+        go None none' o x y w f there' now unmet on owner content m d' name fin at' class interest must noted =
             absurd (let never : None ≡ Some noted.name = sym (ap interest_in none') ∙ noted.interest in cc)
-        go (Some n) named_at o x y w f there' now unmet on content m d' name fin at' class interest must noted =
-            some_method n named_at o x y w f there' now unmet on content m d' name fin at' class interest must noted
+        go (Some n) named_at o x y w f there' now unmet on owner content m d' name fin at' class interest must noted =
+            some_method n named_at o x y w f there' now unmet on owner content m d' name fin at' class interest must noted
 
     -- the contents when the frame has gone, while its constructor still counts
     between : HaveContents p (fr ∷ after ∷ rest) reset
@@ -332,8 +347,21 @@ module _ (p : Program) (ac : Accept p) (forms' : HasPlainForms p) (c d : Config)
     abbrev Then : HeapContents → Type 0
     Then k = FieldsHold p (after ∷ rest) k
 
+    -- what fields own owning fields own
+    owning_then : OwningFieldsOwn p reset
+    owning_then = owning_on p h reset _ goes hold.owning
+
+    -- so it is where an object that no field owns changes, to which no field comes to be the owner
+    owning_but : (w : ℕ) (change : Object → Object) → ((x : Object) (u : ℕ) (f : FieldId) → object_at reset w ≡ Some x → (change x).owner ≡ owners.Field u f → ⊥) → OwningFieldsOwn p (change_one w change reset)
+    owning_but w change none o y u f at owner =
+        let x = one_back p reset w change o y at in
+        elim x.2 [
+          | inl here' ↦ absurd (none x.0 u f (ap (object_at reset) (sym here'.0) ∙ x.1) (ap (λ (z : Object). z.owner) (sym here'.1) ∙ owner))
+          | inr other ↦ owning_then o x.0 u f x.1 (ap (λ (z : Object). z.owner) (sym other.1) ∙ owner)
+        ]
+
     as_it_is : (is_new waits.step.action ≡ false) ⊎ ((x : ClassId) × (e ≡ Some x)) → Then reset
-    as_it_is how = record { contents = gone_maker how; leads = leads_then; new = new_then; fresh = fresh_then; unfinished = unfinished_then; dispatched = dispatched_then }
+    as_it_is how = record { contents = gone_maker how; owning = owning_then; leads = leads_then; new = new_then; fresh = fresh_then; unfinished = unfinished_then; dispatched = dispatched_then }
 
     -- the object of the `new` is not finished before, and nobody owns it
     made_before : (w : ℕ) → fr.locals.this ≡ values.Object w → is_new waits.step.action ≡ true → (x : Object) × (object_at h w ≡ Some x) × (x.finished ≡ false) × (x.owner ≡ owners.Unowned)
@@ -390,6 +418,7 @@ module _ (p : Program) (ac : Accept p) (forms' : HasPlainForms p) (c d : Config)
       finished_then : Then (change_one w (made p position) reset)
       finished_then = record {
         contents = made_contents p reset position w fr (after ∷ rest) this between;
+        owning = owning_but w (made p position) (λ x u f at owner. (let never : owners.Frame position ≡ owners.Field u f = owner in cc));
         leads = finished_leads p reset w (made p position) (not_linked w this is_made) (not_finished w this is_made) (λ x. refl) (λ x. refl) leads_then;
         new = new_then;
         fresh = fresh_then;
@@ -405,6 +434,7 @@ module _ (p : Program) (ac : Accept p) (forms' : HasPlainForms p) (c d : Config)
           → root_of (change_one w (linked p alias) reset) u ≡ Some o) → LinksLead p (change_one w (linked p alias) reset) → Then (change_one w (linked p alias) reset)
       linked_then alias is roots leads = record {
         contents = linked_contents p reset w alias fr (after ∷ rest) is others (not_finished w this is_made) (no_owner w this is_made) roots between;
+        owning = owning_but w (linked p alias) (λ x u f at owner. linked_unowned alias x u f at owner);
         leads = leads;
         new = new_then;
         fresh = fresh_then;
@@ -414,6 +444,10 @@ module _ (p : Program) (ac : Accept p) (forms' : HasPlainForms p) (c d : Config)
         where
           others : RunOnOthers w (after ∷ rest)
           others = hold.fresh.0 waits.index waits.step w waits.here is_made this
+
+          linked_unowned : (a : Option ℕ) (x : Object) (u : ℕ) (f : FieldId) → object_at reset w ≡ Some x → (linked p a x).owner ≡ owners.Field u f → ⊥
+          linked_unowned None x u f at owner = let never : owners.Library ≡ owners.Field u f = owner in cc
+          linked_unowned (Some a) x u f at owner = no_owner w this is_made x u f at owner
 
           same_class : (a : Option ℕ) (x : Object) → (linked p a x).class ≡ x.class
           same_class None x = refl
@@ -490,7 +524,7 @@ module _ (p : Program) (ac : Accept p) (forms' : HasPlainForms p) (c d : Config)
                     on : (u : Object) × (object_at reset o ≡ Some u) × GoesOn z u → (x : Object) × IsRootBefore o x
                     on (u, now', next) =
                         let same' : GoesOn z y = subst (GoesOn z) (let both : Some u ≡ Some y = sym now' ∙ at in (let one : u ≡ y = cc in one)) next in
-                        (z, (ap (object_at h) (sym was) ∙ there', ap (is_heavy_class p) (sym same'.class) ∙ heavy, owed_before z y same' owes, ap (root_of h) held_by_parameter ∙ ap Some was))
+                        (z, (ap (object_at h) (sym was) ∙ there', ap (is_heavy_class p) (sym same'.class) ∙ heavy, owed_before z y same' (goes.library o z y (ap (object_at h) (sym was) ∙ there') at) owes, ap (root_of h) held_by_parameter ∙ ap Some was))
 
         -- the field that holds it
         abbrev IsKeptIn : ℕ → FieldId → Field → Type 0
@@ -522,7 +556,7 @@ module _ (p : Program) (ac : Accept p) (forms' : HasPlainForms p) (c d : Config)
           where
             go : (x : Object) × IsRootBefore o x → KeepsArgument p reset w object.0 o
             go (x, (before, heavy', owes', held)) = by
-                (field_holds p ac h fr agrees.standing.0 covered i s q position' w o x running.0 here is normal running.1 constructor body_alias this held before heavy' owes')
+                (field_holds p ac h (caller ∷ rest) fr agrees.standing.0 covered i s q position' w o x running.0 here is normal running.1 constructor body_alias this held before heavy' owes')
               where
                 by : (f : FieldId) × (field : Field) × (field_at p f ≡ Some field) × (field.owning ≡ true) × (is_class_of field.class (method_at p fr.method) ≡ true)
                     × (set.is_subset (must_of_optional p (type_at running.0.sig (suc position'))) (must_of_type p field.vtype) ≡ true) × (root_of h (field_value p h w f) ≡ Some o)

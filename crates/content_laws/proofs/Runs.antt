@@ -7,47 +7,49 @@ use Rattle.program_model.specs.declared.kinds.MethodId.{MethodId}
 use Rattle.program_model.specs.declared.program.Method.{Method}
 use Rattle.program_model.specs.declared.program.Program.{Program}
 use Rattle.program_model.specs.Lookups.{method_at}
-use Rattle.named_step_laws.specs.Bodies.{constructs}
+use Rattle.must_call_sets.specs.Bodies.{constructs}
 use Rattle.java_control.specs.Control.{Step}
 use Rattle.java_control.specs.declared.action.Action.TheVariants as actions
 use Rattle.java_control.specs.declared.action.Completion.{Completion}
-use Rattle.target_laws.specs.Accept.{Accept}
+use Rattle.covering_laws.specs.Accept.{Accept}
 use Rattle.stub_conduct.specs.declared.choice.Choices.{Choices}
 use Rattle.ledger_state.specs.Contents.{HeapContents}
 use Rattle.ledger_state.specs.Heaps.{object_at}
 use Rattle.ledger_state.specs.declared.object.Object.{Object}
 use Rattle.ledger_state.specs.declared.value.Value.TheVariants as values
-use Rattle.program_call_laws.specs.Obligations.{end_frame}
-use Rattle.program_call_laws.specs.Operations.{next_choice}
-use Rattle.program_call_laws.specs.Configuration.{Config, Frame}
-use Rattle.target_laws.specs.Choosing.{frame_steps}
+use Rattle.ledger_obligations.specs.Obligations.{end_frame}
+use Rattle.covering_laws.specs.Operations.{next_choice}
+use Rattle.covering_laws.specs.Configuration.{Config, Frame}
+use Rattle.covering_laws.specs.Choosing.{frame_steps}
 use Rattle.ledger_steps.specs.Ends.{exception_class, thrown_in}
-use Rattle.target_laws.specs.Moves.{Move, Inner, Start, Library, End, Stray, Rest}
-use Rattle.target_laws.specs.Moves.{return_move}
-use Rattle.target_laws.specs.Outcomes.{went, ended, stray}
-use Rattle.target_laws.specs.Starts.{start_config}
-use Rattle.target_laws.specs.Steps.{began, end, library_went, main_ended, moved, moved_by, step, top_move, within}
-use Rattle.argument_laws.specs.Agreement.{Agree, Agrees}
-use Rattle.argument_laws.specs.PlainForms.{HasPlainForms}
-use Rattle.program_call_laws.specs.Heaps.{HasEarlierLinks}
-use Rattle.target_laws.specs.Frames.{HaveTargets}
-use Rattle.argument_laws.specs.Nexts.{IsNext}
-use Rattle.argument_laws.proofs.Cases.{next_is}
-use Rattle.argument_laws.proofs.Returns.{back_is}
-use Rattle.kept_argument_laws.specs.FieldContents.{FieldsHold, IsBeingMade, is_made_in}
-use Rattle.kept_argument_laws.specs.PlaceFacts.{AreCovered, IsCovered}
-use Rattle.kept_argument_laws.specs.Ranges.{AreInRange, FieldsInRange}
-use Rattle.content_laws.proofs.Frames.{begun_method}
-use Rattle.content_heap_laws.proofs.Goes.{contents_go_on, leaves_goes, leaves_roots}
-use Rattle.content_heap_laws.proofs.Leaves.{end_frame_leaves}
-use Rattle.content_heap_laws.proofs.LinkSteps.{leads_go_on}
+use Rattle.covering_laws.specs.Moves.{Move, Inner, Start, Library, End, Stray, Rest}
+use Rattle.covering_laws.specs.Moves.{return_move}
+use Rattle.covering_laws.specs.LedgerRunsOutcomes.{went, ended, stray}
+use Rattle.covering_laws.specs.Starts.{start_config}
+use Rattle.covering_laws.specs.LedgerRunsSteps.{began, end, library_went, main_ended, moved, moved_by, step, top_move, within}
+use Rattle.covering_laws.specs.Agreement.{Agree, Agrees}
+use Rattle.covering_laws.specs.PlainForms.{HasPlainForms}
+use Rattle.covering_laws.specs.Heaps.{HasEarlierLinks}
+use Rattle.covering_laws.specs.Frames.{HaveTargets}
+use Rattle.covering_laws.specs.Nexts.{IsNext}
+use Rattle.covering_laws.proofs.Cases.{next_is}
+use Rattle.covering_laws.proofs.Returns.{back_is}
+use Rattle.covering_laws.specs.FieldContents.{FieldsHold, IsBeingMade, is_made_in}
+use Rattle.covering_laws.specs.PlaceFacts.{AreCovered, IsCovered, gives_none}
+use Rattle.covering_laws.specs.Ranges.{AreInRange, FieldsInRange}
+use Rattle.content_laws.proofs.ContentFrames.{begun_method}
+use Rattle.content_laws.proofs.Goes.{contents_go_on, leaves_goes, leaves_roots}
+use Rattle.content_laws.proofs.Leaves.{end_frame_leaves}
+use Rattle.content_laws.proofs.LinkSteps.{leads_go_on}
 use Rattle.content_laws.proofs.Promised.{promises_its_own}
 use Rattle.content_laws.proofs.Steps.{LocalsIn}
-use Rattle.content_heap_laws.specs.Going.{Goes, NoName}
+use Rattle.content_laws.specs.Going.{Goes, NoName}
 use Rattle.content_laws.specs.Exits.{EndsByClass, TopEndsByClass}
-use Rattle.argument_laws.specs.Arguments.{HaveArguments}
+use Rattle.covering_laws.specs.Arguments.{HaveArguments}
 use Rattle.content_laws.proofs.Returns.{back_hold}
-use Rattle.content_laws.proofs.TopSteps.{began_hold, inner_step, library_hold}
+use Rattle.covering_laws.specs.Linking.{LinkedAreAliases}
+use Rattle.content_laws.proofs.Steps.{owning_on}
+use Rattle.content_laws.proofs.TopSteps.{began_hold, inner_step, library_creates, library_hold}
 
 module _ (p : Program) (ac : Accept p) (c : Config) (fr : Frame) (agrees : Agrees p (fr ∷ []) c.heap c.entries) (hold : FieldsHold p (fr ∷ []) c.heap) where
   abbrev h : HeapContents
@@ -55,8 +57,9 @@ module _ (p : Program) (ac : Accept p) (c : Config) (fr : Frame) (agrees : Agree
 
   pub main_hold : (pos : Pos) (q : Completion) → FieldsHold p (main_ended p c fr pos q).frames (main_ended p c fr pos q).heap
   main_hold pos q = record {
-    contents = contents_go_on p h (end_frame 1 h) NoName goes (promises_its_own p ac) hold.leads (fr ∷ []) [] hold.contents (λ o x y w f at now unmet on content m e n fin there' class interest must never. absurd never)
+    contents = contents_go_on p h (end_frame 1 h) NoName goes (promises_its_own p ac) hold.leads (fr ∷ []) [] hold.contents (λ o x y w f at now unmet on owner content m e n fin there' class interest must never. absurd never)
         (λ o x y w f content at owner un' made'. absurd (no_constructor w content.field.class made'));
+    owning = owning_on p h (end_frame 1 h) NoName goes hold.owning;
     leads = leads_go_on p h (end_frame 1 h) NoName goes agrees.links hold.leads ((end_frame_leaves 1 h).links agrees.links);
     new = tt;
     fresh = tt;
@@ -71,14 +74,14 @@ module _ (p : Program) (ac : Accept p) (c : Config) (fr : Frame) (agrees : Agree
       no_constructor w c' made' = true≢false (sym made' ∙ rw agrees.stacked.1 refl)
 
 module _ (p : Program) (ac : Accept p) (forms' : HasPlainForms p) (c d : Config)
-    (making : (fr caller : Frame) (rest : List Frame) → c.frames ≡ fr ∷ caller ∷ rest → IsBeingMade p c.heap fr caller) (now : HasEarlierLinks d.heap) where
+    (making : (fr caller : Frame) (rest : List Frame) → c.frames ≡ fr ∷ caller ∷ rest → IsBeingMade p c.heap fr caller) (aliases : LinkedAreAliases p c.heap) (now : HasEarlierLinks d.heap) where
   links_then : (x : Config) → went x ≡ went d → HasEarlierLinks x.heap
   links_then x is = subst (λ (y : Config). HasEarlierLinks y.heap) (let same : x ≡ d = cc in sym same) now
 
   carried : (x : Config) → went x ≡ went d → FieldsHold p x.frames x.heap → FieldsHold p d.frames d.heap
   carried x is held = subst (λ (y : Config). FieldsHold p y.frames y.heap) (let same : x ≡ d = cc in same) held
 
-  ended_hold : (fr : Frame) (frs : List Frame) (agrees : Agrees p (fr ∷ frs) c.heap c.entries) (covered : IsCovered p c.heap fr) (in' : LocalsIn c.heap (fr ∷ frs)) (ranges : FieldsInRange c.heap)
+  ended_hold : (fr : Frame) (frs : List Frame) (agrees : Agrees p (fr ∷ frs) c.heap c.entries) (covered : IsCovered p c.heap gives_none frs fr) (in' : LocalsIn c.heap (fr ∷ frs)) (ranges : FieldsInRange c.heap)
       (hold : FieldsHold p (fr ∷ frs) c.heap) → HaveArguments p (fr ∷ frs) → EndsByClass p c.heap fr → c.frames ≡ fr ∷ frs → (pos : Pos) (q : Completion) (i : ℕ) (s : Step) → slice_get (frame_steps p fr) i ≡ Some s → s.action ≡ actions.End q
       → end p c fr frs pos q ≡ went d → FieldsHold p d.frames d.heap
   ended_hold fr [] agrees covered in' ranges hold given exits frames pos q i s here is same =
@@ -89,7 +92,7 @@ module _ (p : Program) (ac : Accept p) (forms' : HasPlainForms p) (c d : Config)
       (back_is p caller agrees.standing.1.0 agrees.stacked.0.named agrees.stacked.0.index agrees.stacked.0.step agrees.stacked.0.here agrees.stacked.0.calls (exception_class p c.heap (thrown_in fr.locals q)))
       same
 
-  moved_hold : (fr : Frame) (frs : List Frame) (agrees : Agrees p (fr ∷ frs) c.heap c.entries) (covered : IsCovered p c.heap fr) (in' : LocalsIn c.heap (fr ∷ frs)) (ranges : FieldsInRange c.heap)
+  moved_hold : (fr : Frame) (frs : List Frame) (agrees : Agrees p (fr ∷ frs) c.heap c.entries) (covered : IsCovered p c.heap gives_none frs fr) (in' : LocalsIn c.heap (fr ∷ frs)) (ranges : FieldsInRange c.heap)
       (hold : FieldsHold p (fr ∷ frs) c.heap) → HaveArguments p (fr ∷ frs) → EndsByClass p c.heap fr → c.frames ≡ fr ∷ frs → (mv : Move) → IsNext p c.heap c.arrays fr.method fr.locals (frame_steps p fr) mv → moved p c fr frs mv ≡ went d
       → FieldsHold p d.frames d.heap
   moved_hold fr frs agrees covered in' ranges hold given exits frames (Inner e s) next same =
@@ -97,7 +100,7 @@ module _ (p : Program) (ac : Accept p) (forms' : HasPlainForms p) (c d : Config)
   moved_hold fr frs agrees covered in' ranges hold given exits frames (Start named runs a pos) next same =
       carried (began p c fr frs named runs a pos) same (began_hold p ac forms' c fr frs agrees covered in' ranges hold named runs a pos next (links_then (began p c fr frs named runs a pos) same))
   moved_hold fr frs agrees covered in' ranges hold given exits frames (Library named m x s) next same =
-      carried (library_went p c fr frs named m x s) same (library_hold p ac forms' c fr frs agrees covered in' ranges hold named m x s next (links_then (library_went p c fr frs named m x s) same))
+      carried (library_went p c fr frs named m x s) same (library_hold p ac forms' c fr frs agrees covered in' ranges hold named m x s next (library_creates p ac forms' c fr frs agrees covered in' ranges hold aliases named m x s next) (links_then (library_went p c fr frs named m x s) same))
   moved_hold fr frs agrees covered in' ranges hold given exits frames (End pos q) next same = ended_hold fr frs agrees covered in' ranges hold given exits frames pos q next.0 next.1 next.2 next.3 same
   moved_hold fr frs agrees covered in' ranges hold given exits frames (Stray e pos) next same = absurd (let never : stray e pos ≡ went d = same in cc)
   moved_hold fr frs agrees covered in' ranges hold given exits frames Rest next same = subst (λ (x : Config). FieldsHold p x.frames x.heap) (let one : c ≡ d = cc in one) (subst (λ (gs : List Frame). FieldsHold p gs c.heap) (sym frames) hold)
@@ -106,19 +109,20 @@ module _ (p : Program) (ac : Accept p) (forms' : HasPlainForms p) (c d : Config)
       → moved_by p c frs (top_move p c frs) ≡ went d → FieldsHold p d.frames d.heap
   by_frames [] frames agrees targets in' ranges covered hold given exits same = absurd (let never : ended c.ended ≡ went d = same in cc)
   by_frames (fr ∷ frs) frames agrees targets in' ranges covered hold given exits same =
-      moved_hold fr frs agrees covered.0 in' ranges hold given exits frames (top_move p c (fr ∷ frs)) (next_is p ac forms' c.heap c.arrays (next_choice c.choices c.used) fr agrees.standing.0 targets.0) same
+      moved_hold fr frs agrees covered.0 in' ranges hold given exits frames (top_move p c (fr ∷ frs)) (next_is p ac forms' c.heap c.arrays (next_choice c.choices c.used) fr agrees.standing.0 targets.0 agrees.classes) same
 
 pub fields_hold_step : (p : Program) → Accept p → HasPlainForms p → (c d : Config) → Agree p c → HaveTargets p c.frames → AreInRange c → AreCovered p c.heap c.frames → FieldsHold p c.frames c.heap
-    → ((fr caller : Frame) (rest : List Frame) → c.frames ≡ fr ∷ caller ∷ rest → IsBeingMade p c.heap fr caller) → HasEarlierLinks d.heap → HaveArguments p c.frames → TopEndsByClass p c.heap c.frames → step p c ≡ went d
+    → ((fr caller : Frame) (rest : List Frame) → c.frames ≡ fr ∷ caller ∷ rest → IsBeingMade p c.heap fr caller) → LinkedAreAliases p c.heap → HasEarlierLinks d.heap → HaveArguments p c.frames → TopEndsByClass p c.heap c.frames → step p c ≡ went d
     → FieldsHold p d.frames d.heap
 unfolding step
-fields_hold_step p ac forms' c d agrees targets in' covered hold making now given exits same = by_frames p ac forms' c d making now c.frames refl agrees targets in'.frames in'.fields covered hold given exits same
+fields_hold_step p ac forms' c d agrees targets in' covered hold making aliases now given exits same = by_frames p ac forms' c d making aliases now c.frames refl agrees targets in'.frames in'.fields covered hold given exits same
 
 pub fields_hold_at_start : (p : Program) (main : MethodId) (m : Method) (choices : Choices) → method_at p main ≡ Some m → constructs (Some m) ≡ false
     → FieldsHold p (start_config p main choices).frames (start_config p main choices).heap
 unfolding start_config
 fields_hold_at_start p main m choices at absent = record {
   contents = λ o x w f there' unmet owner. absurd (none o x there');
+  owning = λ o x w f there' owner. absurd (none o x there');
   leads = λ n o x y there' root there'' heavy owes. absurd (none n x there');
   new = ((λ w declares new this. absurd (true≢false (sym new ∙ ap (λ (k : MethodId). constructs (method_at p k)) (begun_method p main values.Nothing (values.Array 0 ∷ [])) ∙ ap constructs at ∙ absent))), tt);
   fresh = tt;

@@ -10,24 +10,25 @@ use Rattle.program_model.specs.declared.kinds.MethodId.{MethodId}
 use Rattle.program_model.specs.declared.program.Method.{Method}
 use Rattle.program_model.specs.declared.program.Program.{Program}
 use Rattle.program_model.specs.Lookups.{method_at}
-use Rattle.named_step_laws.specs.Bodies.{constructs}
-use Rattle.named_step_laws.specs.MustCallSets.{must_of}
+use Rattle.must_call_sets.specs.Bodies.{constructs}
+use Rattle.must_call_sets.specs.MustCallSets.{must_of}
 use Rattle.java_control.specs.Control.{Step}
 use Rattle.ledger_state.specs.Contents.{HeapContents}
 use Rattle.ledger_state.specs.Heaps.{object_at}
+use Rattle.ledger_state.specs.declared.entry.Owner.TheVariants as owners
 use Rattle.ledger_state.specs.declared.object.Object.{Object}
 use Rattle.ledger_state.specs.declared.value.Value.{Value}
-use Rattle.program_call_laws.specs.Obligations.{is_unmet, lose}
-use Rattle.program_call_laws.specs.Configuration.{Frame}
-use Rattle.target_laws.specs.Frames.{frame_after}
-use Rattle.program_call_laws.specs.Heaps.{GoesOn, HasEarlierLinks}
-use Rattle.kept_argument_laws.specs.FieldContents.{AreDispatched, AreFresh, AreNew, AreUnfinished, DeclaresOwning, FieldsHold, IsContent, is_made_in, promised_on}
-use Rattle.kept_argument_laws.specs.Ranges.{IsInRange, LocalsInRange}
-use Rattle.content_heap_laws.proofs.Goes.{contents_go_on, dispatched_on, goes_forth, lose_goes, unfinished_on}
-use Rattle.content_heap_laws.proofs.Leading.{goes_hold}
-use Rattle.content_heap_laws.proofs.Leaves.{lost_from}
-use Rattle.content_heap_laws.proofs.LinkSteps.{leads_go_on, leads_stay}
-use Rattle.content_heap_laws.specs.Going.{Goes, NoName, PromisesItsOwn}
+use Rattle.ledger_obligations.specs.Obligations.{is_unmet, lose}
+use Rattle.covering_laws.specs.Configuration.{Frame}
+use Rattle.covering_laws.specs.Frames.{frame_after}
+use Rattle.covering_laws.specs.Heaps.{GoesOn, HasEarlierLinks}
+use Rattle.covering_laws.specs.FieldContents.{AreDispatched, AreFresh, AreNew, AreUnfinished, DeclaresOwning, FieldsHold, IsContent, OwningFieldsOwn, is_made_in, promised_on}
+use Rattle.covering_laws.specs.Ranges.{IsInRange, LocalsInRange}
+use Rattle.content_laws.proofs.Goes.{contents_go_on, dispatched_on, goes_forth, lose_goes, unfinished_on}
+use Rattle.content_laws.proofs.Leading.{goes_hold}
+use Rattle.content_laws.proofs.Leaves.{lost_from}
+use Rattle.content_laws.proofs.LinkSteps.{leads_go_on, leads_stay}
+use Rattle.content_laws.specs.Going.{Goes, NoName, PromisesItsOwn}
 
 -- ---- the top frame takes a step of its own, or begins a frame: the frames that were there stay
 
@@ -71,15 +72,20 @@ module _ (p : Program) (fr after : Frame) (frs : List Frame) (same : IsSameFrame
   pub same_dispatched : (g : HeapContents) → AreDispatched p g (fr ∷ frs) → AreDispatched p g (after ∷ frs)
   same_dispatched g all = same_dispatched_by g frs all
 
+-- what fields own they owned before
+pub owning_on : (p : Program) (h k : HeapContents) (noted : ℕ → ℕ → Type 0) → Goes p h k noted → OwningFieldsOwn p h → OwningFieldsOwn p k
+owning_on p h k noted goes own o y w f at owner = let x = goes.back o y w f at owner in own o x.0 w f x.1 x.3
+
 -- a step that notes nothing on a holder, or of which each note is kept
 pub stepped : (p : Program) → PromisesItsOwn p → (h k : HeapContents) (noted : ℕ → ℕ → Type 0) → HasEarlierLinks h → HasEarlierLinks k → (goes : Goes p h k noted) (fr after : Frame) (frs : List Frame) → IsSameFrame fr after → LocalsIn h (fr ∷ frs)
-    → ((o : ℕ) (x y : Object) (w : ℕ) (f : FieldId) → object_at h o ≡ Some x → object_at k o ≡ Some y → is_unmet y ≡ true → GoesOn x y → (content : IsContent p (fr ∷ frs) h o x w f)
+    → ((o : ℕ) (x y : Object) (w : ℕ) (f : FieldId) → object_at h o ≡ Some x → object_at k o ≡ Some y → is_unmet y ≡ true → GoesOn x y → x.owner ≡ owners.Field w f → (content : IsContent p (fr ∷ frs) h o x w f)
     → (m : MethodId) (d : Method) (n : NameId) → content.holder.finished ≡ true → method_at p m ≡ Some d → d.class ≡ content.holder.class → d.sig.interest ≡ Some n
     → set.contains (must_of p content.holder.class) n.0 ≡ true → noted w n.0 → set.is_subset (promised_on f d) y.called ≡ true)
     → FieldsHold p (fr ∷ frs) h → FieldsHold p (after ∷ frs) k
 stepped p own h k noted links now goes fr after frs same in' keeps hold = record {
   contents = contents_go_on p h k noted goes own hold.leads (fr ∷ frs) (after ∷ frs) hold.contents keeps
       (λ o x y w f content at owner unfinished made. same_makes p fr after frs same w content.field.class ∙ made);
+  owning = owning_on p h k noted goes hold.owning;
   leads = leads_go_on p h k noted goes links hold.leads now;
   new = same_new p fr after frs same hold.new;
   fresh = same_fresh p fr after frs same hold.fresh;
@@ -94,9 +100,10 @@ same_after p h fr s v = record { method = refl; this = refl }
 pub lost : (p : Program) → PromisesItsOwn p → (k : HeapContents) → HasEarlierLinks k → (held : List (List Value)) (fr : Frame) (frs : List Frame) → LocalsIn k frs → IsInRange k fr.locals.this → FieldsHold p (fr ∷ frs) k
     → FieldsHold p (fr ∷ frs) (lose held k)
 lost p own k links held fr frs in' this hold = record {
-  contents = contents_go_on p k (lose held k) NoName goes own hold.leads (fr ∷ frs) (fr ∷ frs) hold.contents (λ o x y w f at now unmet on content m d n fin there' class interest must never. absurd never)
+  contents = contents_go_on p k (lose held k) NoName goes own hold.leads (fr ∷ frs) (fr ∷ frs) hold.contents (λ o x y w f at now unmet on owner content m d n fin there' class interest must never. absurd never)
       (λ o x y w f content at owner un' made'. made');
-  leads = leads_stay p k (lose held k) (goes_forth p k (lose held k) NoName goes) (goes_hold p k (lose held k) NoName goes) links hold.leads (λ n y at. (let x = lost_from held k n y at in (x.0, x.1)));
+  owning = owning_on p k (lose held k) NoName goes hold.owning;
+  leads = leads_stay p k (lose held k) (goes_forth p k (lose held k) NoName goes) (goes_hold p k (lose held k) NoName goes) links goes.library hold.leads (λ n y at. (let x = lost_from held k n y at in (x.0, x.1)));
   new = hold.new;
   fresh = hold.fresh;
   unfinished = unfinished_on p k (lose held k) (goes_forth p k (lose held k) NoName goes) (fr ∷ frs) (All-cons (λ (x : Frame). IsInRange k x.locals.this) fr frs this (this_in k frs in')) hold.unfinished;

@@ -13,15 +13,15 @@ use Rattle.program_model.specs.declared.program.Field.{Field}
 use Rattle.program_model.specs.declared.program.Method.{Method}
 use Rattle.program_model.specs.declared.program.Program.{Program}
 use Rattle.program_model.specs.Lookups.{field_at, method_at}
-use Rattle.named_step_laws.specs.Bodies.{is_field_in}
-use Rattle.named_step_laws.specs.MustCallSets.{must_of, must_of_type}
+use Rattle.must_call_sets.specs.Bodies.{is_field_in, reset_in}
+use Rattle.must_call_sets.specs.MustCallSets.{must_of, must_of_type}
 use Rattle.java_control.specs.Control.{Step}
 use Rattle.java_control.specs.Owned.{is_owning, is_owning_field}
 use Rattle.java_control.specs.declared.action.Action.{Action}
 use Rattle.java_control.specs.declared.action.Action.TheVariants as actions
-use Rattle.target_laws.specs.Accept.{Accept}
-use Rattle.named_step_laws.specs.Paths.{move_of}
-use Rattle.argument_laws.specs.Outcomes.{IsCallRow, IsPlainRow}
+use Rattle.covering_laws.specs.Accept.{Accept}
+use Rattle.covering_laws.specs.Paths.{move_of}
+use Rattle.covering_laws.specs.Outcomes.{IsCallRow, IsPlainRow}
 use Rattle.stub_conduct.specs.declared.choice.Conduct.{Conduct}
 use Rattle.ledger_state.specs.Contents.{HeapContents}
 use Rattle.ledger_state.specs.Heaps.{next_number, object_at, put_field}
@@ -32,45 +32,48 @@ use Rattle.ledger_state.specs.declared.entry.Owner.TheVariants as owners
 use Rattle.ledger_state.specs.declared.object.Object.{Object}
 use Rattle.ledger_state.specs.declared.value.Value.{Value}
 use Rattle.ledger_state.specs.declared.value.Value.TheVariants as values
-use Rattle.program_call_laws.specs.Obligations.{is_library_owner, is_unmet, lose, may_move, stored_owning}
-use Rattle.program_call_laws.specs.Operations.{made_value, next_choice}
-use Rattle.program_call_laws.specs.Calls.{argument_values, begun, interest_in, reset_position}
-use Rattle.program_call_laws.specs.Conducts.{arguments_shared, conduct_value, positions}
-use Rattle.program_call_laws.specs.Configuration.{Config, Frame, held_by}
-use Rattle.target_laws.specs.Choosing.{frame_steps}
-use Rattle.target_laws.specs.Frames.{frame_after}
+use Rattle.ledger_obligations.specs.Obligations.{is_library_owner, is_unmet, lose, may_move, stored_owning}
+use Rattle.covering_laws.specs.Operations.{made_value, next_choice}
+use Rattle.ledger_steps.specs.LedgerCallsCalls.{argument_values, begun, interest_in, object_by, reset_target}
+use Rattle.ledger_steps.specs.Conducts.{arguments_shared, conduct_value, positions}
+use Rattle.covering_laws.specs.Configuration.{Config, Frame, held_by}
+use Rattle.covering_laws.specs.Choosing.{frame_steps}
+use Rattle.covering_laws.specs.Frames.{frame_after}
 use Rattle.ledger_steps.specs.CallSteps.{began_heap, library_heap, self_begun}
 use Rattle.ledger_steps.specs.InnerSteps.{heap_stored, is_bound, store_into, store_of, store_unless, thrown_heap, thrown_value}
 use Rattle.ledger_steps.specs.declared.store.Store.{Store}
-use Rattle.target_laws.specs.Steps.{began, library_went, within}
-use Rattle.program_call_laws.specs.Heaps.{Evolves, GoesOn, HasEarlierLinks}
-use Rattle.argument_laws.specs.Agreement.{Agrees, Stands, is_answering}
-use Rattle.argument_laws.specs.PlainForms.{HasPlainForms, IsPlainSignature}
-use Rattle.content_heap_laws.proofs.Objects.{stored_links}
-use Rattle.argument_laws.specs.Nexts.{IsInnerStep, IsLibraryMove, IsStartMove}
-use Rattle.argument_laws.proofs.NameCounts.{accepted_names}
-use Rattle.argument_laws.proofs.Ready.{plain_step, step_there}
-use Rattle.argument_laws.proofs.Stacks.{tracked_bounded}
-use Rattle.kept_argument_laws.specs.FieldContents.{FieldsHold, IsContent, is_made_in, makes_holder, promised_on}
-use Rattle.kept_argument_laws.specs.PlaceFacts.{IsCovered}
-use Rattle.kept_argument_laws.specs.Ranges.{FieldsInRange, LocalsInRange}
-use Rattle.content_heap_laws.proofs.Configs.{frames_stay}
-use Rattle.content_heap_laws.proofs.Steps.{IsFuller, owning_fuller}
-use Rattle.content_heap_laws.proofs.Values.{value_stays}
-use Rattle.content_laws.proofs.Frames.{callee_dispatched, callee_fresh, callee_new, callee_unfinished}
-use Rattle.content_heap_laws.proofs.Goes.{contents_go_on, dispatched_on, goes_forth, self_goes, there, unfinished_on}
-use Rattle.content_heap_laws.proofs.Heaps.{inner_goes, library_goes, start_goes}
-use Rattle.content_heap_laws.proofs.Leaves.{lost_from}
-use Rattle.content_heap_laws.proofs.LinkSteps.{leads_go_on}
-use Rattle.content_laws.proofs.Steps.{lost, same_after, IsSameFrame, LocalsIn, same_dispatched, same_fresh, same_makes, same_new, same_unfinished, stepped, this_in}
+use Rattle.covering_laws.specs.LedgerRunsSteps.{began, library_went, within}
+use Rattle.covering_laws.specs.Heaps.{Evolves, GoesOn, HasEarlierLinks}
+use Rattle.covering_laws.specs.Agreement.{Agrees, Stands, is_answering}
+use Rattle.covering_laws.specs.PlainForms.{HasPlainForms}
+use Rattle.covering_laws.proofs.StoredObjects.{stored_links}
+use Rattle.covering_laws.specs.Nexts.{IsInnerStep, IsLibraryMove, IsStartMove}
+use Rattle.covering_laws.proofs.NameCounts.{accepted_names}
+use Rattle.covering_laws.proofs.Ready.{plain_step, step_there}
+use Rattle.covering_laws.proofs.Stacks.{tracked_bounded}
+use Rattle.covering_laws.specs.FieldContents.{FieldsHold, IsContent, is_made_in, makes_holder, promised_on}
+use Rattle.covering_laws.specs.PlaceFacts.{IsCovered, gives_none}
+use Rattle.covering_laws.specs.Ranges.{FieldsInRange, LocalsInRange}
+use Rattle.covering_laws.proofs.Configs.{frames_stay}
+use Rattle.covering_laws.proofs.Steps.{IsFuller, owning_fuller}
+use Rattle.covering_laws.proofs.RangeValues.{value_stays}
+use Rattle.content_laws.proofs.ContentFrames.{callee_dispatched, callee_fresh, callee_new, callee_unfinished}
+use Rattle.content_laws.proofs.Goes.{contents_go_on, dispatched_on, goes_forth, goes_further, lose_goes, self_goes, there, unfinished_on}
+use Rattle.content_laws.proofs.Heaps.{inner_goes, library_goes_by, start_goes}
+use Rattle.content_laws.proofs.Renewals.{CreatesAnew, linked_before, renewed_hold}
+use Rattle.content_laws.proofs.LibraryResets.{library_renews, position_none, read_resets_nothing, same_interest}
+use Rattle.covering_laws.proofs.Renewed.{says_nothing, without_reset}
+use Rattle.covering_laws.proofs.ResetJoins.{no_holder}
+use Rattle.covering_laws.specs.HeapAnew.{is_anew}
+use Rattle.covering_laws.specs.Linking.{LinkedAreAliases}
+use Rattle.covering_laws.specs.Callees.{callee_in}
+use Rattle.content_laws.proofs.Leaves.{lost_from}
+use Rattle.content_laws.proofs.LinkSteps.{leads_go_on}
+use Rattle.content_laws.proofs.Steps.{lost, owning_on, same_after, IsSameFrame, LocalsIn, same_dispatched, same_fresh, same_makes, same_new, same_unfinished, stepped, this_in}
 use Rattle.content_laws.proofs.LibraryNotes.{no_library_note}
-use Rattle.content_laws.proofs.Stores.{still, store_forth, stored_contents, stored_leads}
+use Rattle.content_laws.proofs.ContentStores.{still, store_forth, stored_contents, store_owning, stored_leads}
 use Rattle.content_laws.proofs.Promised.{promises_its_own}
-use Rattle.content_heap_laws.specs.Going.{Goes, IsNotedBy, NoName, PromisesItsOwn}
-
-pub plain_no_reset : (p : Program) (m : Option Method) → IsPlainSignature p m → reset_position m ≡ None
-plain_no_reset p None plain = refl
-plain_no_reset p (Some m) plain = plain.1
+use Rattle.content_laws.specs.Going.{Goes, IsNotedBy, NoName, PromisesItsOwn}
 
 -- the name of the call is one of the table
 pub small_interest : (p : Program) → Accept p → (named : MethodId) (n : NameId) → interest_in (method_at p named) ≡ Some n → n.0 < 128
@@ -91,7 +94,7 @@ library_stays p t x may is = go x.finished (sym (ap (λ (o : Owner). x.finished 
     go true same = true≢false (sym same)
     go false same = true≢false (sym same)
 
-module _ (p : Program) (ac : Accept p) (forms' : HasPlainForms p) (c : Config) (fr : Frame) (frs : List Frame) (agrees : Agrees p (fr ∷ frs) c.heap c.entries) (covered : IsCovered p c.heap fr)
+module _ (p : Program) (ac : Accept p) (forms' : HasPlainForms p) (c : Config) (fr : Frame) (frs : List Frame) (agrees : Agrees p (fr ∷ frs) c.heap c.entries) (covered : IsCovered p c.heap gives_none frs fr)
     (in' : LocalsIn c.heap (fr ∷ frs)) (ranges : FieldsInRange c.heap) (hold : FieldsHold p (fr ∷ frs) c.heap) where
   abbrev h : HeapContents
   h = c.heap
@@ -126,7 +129,7 @@ module _ (p : Program) (ac : Accept p) (forms' : HasPlainForms p) (c : Config) (
       stepped p own h (lose (held_by (stepped_frame e s ∷ frs)) (heap_stored p (method_at p fr.method) fr.locals (store_unless e (store_of fr.locals s.action)) (thrown_heap p e h))) NoName links now
       (inner_goes p (method_at p fr.method) fr.locals e s.action (held_by (stepped_frame e s ∷ frs)) h (plain_step p ac forms' fr st i s here) row links) fr (stepped_frame e s) frs
       (same_after p h fr s (thrown_value h e (made_value p h c.arrays c.statics (next_choice c.choices c.used) fr.locals s.action))) in'
-      (λ o x y w f at now' unmet on content m d' n fin there' class interest must never. absurd never) hold
+      (λ o x y w f at now' unmet on owner content m d' n fin there' class interest must never. absurd never) hold
 
   -- an unmet object that may move has an obligation by its class
   bounded : (o : ℕ) (x : Object) → object_at h o ≡ Some x → x.link ≡ None → is_unmet x ≡ true → (t : VType) → may_move p t x ≡ true → set.is_subset x.must (must_of p x.class) ≡ true
@@ -171,7 +174,7 @@ module _ (p : Program) (ac : Accept p) (forms' : HasPlainForms p) (c : Config) (
       (ranges, omega arith),
       links,
       stepped p own h h NoName links links (self_goes p h NoName) fr after frs (same_after p h fr s v) in'
-          (λ o x y w g at now unmet on content m e n fin there' class interest must never. absurd never) hold,
+          (λ o x y w g at now unmet on owner content m e n fin there' class interest must never. absurd never) hold,
     )
 
     -- the value is the argument of an alias
@@ -184,6 +187,7 @@ module _ (p : Program) (ac : Accept p) (forms' : HasPlainForms p) (c : Config) (
       stored_links p h w f tied (temp_value fr.locals t) links (still p ac forms' h fr frs st links covered hold i s here f t is w this self.0 self.1 agrees.standing.1 agrees.stacked bounded tied),
       record {
         contents = stored_contents p ac forms' h fr frs st links covered hold i s here f t is w this self.0 self.1 agrees.standing.1 agrees.stacked bounded own after (same_makes p fr after frs same);
+        owning = store_owning p ac forms' h fr frs st links covered hold i s here f t is w this self.0 self.1 agrees.standing.1 agrees.stacked bounded;
         leads = stored_leads p ac forms' h fr frs st links covered hold i s here f t is w this self.0 self.1 agrees.standing.1 agrees.stacked bounded;
         new = same_new p fr after frs same hold.new;
         fresh = same_fresh p fr after frs same hold.fresh;
@@ -232,8 +236,9 @@ module _ (p : Program) (ac : Accept p) (forms' : HasPlainForms p) (c : Config) (
   pub began_hold : (named runs : MethodId) (a : Action) (at : Pos) → IsStartMove p h c.arrays fr.locals (frame_steps p fr) named runs a
       → HasEarlierLinks (began p c fr frs named runs a at).heap → Done (began p c fr frs named runs a at)
   began_hold named runs a at next now = record {
-    contents = contents_go_on p h k NoName goes own hold.leads (fr ∷ frs) (callee ∷ fr ∷ frs) hold.contents (λ o x y w f at' now' unmet on content m e n fin there' class interest must never. absurd never)
+    contents = contents_go_on p h k NoName goes own hold.leads (fr ∷ frs) (callee ∷ fr ∷ frs) hold.contents (λ o x y w f at' now' unmet on owner content m e n fin there' class interest must never. absurd never)
         (λ o x y w f content at' owner un' made'. or_right (makes_holder p w content.field.class callee) (is_made_in p w content.field.class (fr ∷ frs)) made');
+    owning = owning_on p h k NoName goes hold.owning;
     leads = leads_go_on p h k NoName goes links hold.leads now;
     new = callee_new p ac forms' h c.arrays fr frs st in' named runs a next hold.new;
     fresh = callee_fresh p ac forms' h c.arrays fr frs st in' named runs a next hold.fresh;
@@ -264,16 +269,55 @@ module _ (p : Program) (ac : Accept p) (forms' : HasPlainForms p) (c : Config) (
   abbrev called_heap : MethodId → Conduct → Step → HeapContents
   called_heap named x s = lose (held_by (called_frame named x s ∷ frs)) (library_heap p fr.locals s.action (method_at p named) (method_at p named) x (length frs + 1) h)
 
-  pub library_hold : (named m : MethodId) (x : Conduct) (s : Step) → IsLibraryMove p h c.arrays fr.locals (frame_steps p fr) named m x s
+  -- the call creates nothing anew, or does so of what no field owns
+  abbrev pub CreatesPlainly : MethodId → Conduct → Step → Type 0
+  CreatesPlainly named x s =
+      (reset_target (positions fr.locals s.action (next_number h) x) (method_at p named) ≡ None) ⊎ CreatesAnew p fr.locals s.action (method_at p named) x (length frs + 1) h (called_heap named x s)
+
+  -- what a step creates anew it creates plainly
+  pub library_creates : LinkedAreAliases p h → (named m : MethodId) (x : Conduct) (s : Step) → IsLibraryMove p h c.arrays fr.locals (frame_steps p fr) named m x s → CreatesPlainly named x s
+  library_creates aliases named m x s next = elim next.row [
+    | inl call ↦ elim (forms'.resets st.number next.index (move_of s) st.control (step_there p fr st next.index s next.here)) [
+      | inl none ↦ inl (ap (object_by (positions fr.locals s.action (next_number h) x)) (position_none (method_at p named) (sym (ap (λ (y : Option MethodId). reset_in (callee_in p y)) call.1) ∙ none)))
+      | inr anew ↦ inr (record {
+        plain = without_reset (method_at p named);
+        nothing = says_nothing (method_at p named);
+        interest = same_interest (method_at p named);
+        anew = is_anew p fr.locals s.action (method_at p named) (method_at p named) x h;
+        renews = library_renews p fr.locals s.action (method_at p named) x (length frs + 1) h (held_by (called_frame named x s ∷ frs)) links
+            (no_holder p ac forms' h links fr frs st top named x next.index s next.here call.1 call.0 anew covered hold.owning aliases c.arrays (next.ran call.1).1);
+      })
+    ]
+    | inr read ↦ inl (read_resets_nothing fr.locals s.action read (next_number h) x (method_at p named))
+  ]
+
+  pub library_hold : (named m : MethodId) (x : Conduct) (s : Step) → IsLibraryMove p h c.arrays fr.locals (frame_steps p fr) named m x s → CreatesPlainly named x s
       → HasEarlierLinks (library_went p c fr frs named m x s).heap → Done (library_went p c fr frs named m x s)
-  library_hold named m x s next now =
-      subst (λ (z : MethodId). Done (library_went p c fr frs named z x s)) (sym next.same)
-      (stepped p own h (called_heap named x s) (IsNotedBy fr.locals s.action (method_at p named)) links (subst (λ (z : MethodId). HasEarlierLinks (library_went p c fr frs named z x s).heap) next.same now)
-      (library_goes p fr.locals s.action (method_at p named) x (length frs + 1) (held_by (called_frame named x s ∷ frs)) h (plain_no_reset p (method_at p named) next.signature) (small_interest p ac named) links) fr (called_frame named x s) frs
-      (same_after p h fr s (conduct_value (length (arguments_shared c.arrays fr.locals s.action (method_at p named))) (method_at p named) (positions fr.locals s.action (next_number h) x) (next_number h) x)) in'
-      keeps hold)
+  library_hold named m x s next creates now = subst (λ (z : MethodId). Done (library_went p c fr frs named z x s)) (sym next.same) (by creates)
     where
-      keeps : (o : ℕ) (y z : Object) (w : ℕ) (f : FieldId) → object_at h o ≡ Some y → object_at (called_heap named x s) o ≡ Some z → is_unmet z ≡ true → GoesOn y z → (content : IsContent p (fr ∷ frs) h o y w f)
+      now' : HasEarlierLinks (called_heap named x s)
+      now' = subst (λ (z : MethodId). HasEarlierLinks (library_went p c fr frs named z x s).heap) next.same now
+
+      keeps : (o : ℕ) (y z : Object) (w : ℕ) (f : FieldId) → object_at h o ≡ Some y → object_at (called_heap named x s) o ≡ Some z → is_unmet z ≡ true → GoesOn y z → y.owner ≡ owners.Field w f → (content : IsContent p (fr ∷ frs) h o y w f)
           → (e : MethodId) (d' : Method) (n : NameId) → content.holder.finished ≡ true → method_at p e ≡ Some d' → d'.class ≡ content.holder.class → d'.sig.interest ≡ Some n
           → set.contains (must_of p content.holder.class) n.0 ≡ true → IsNotedBy fr.locals s.action (method_at p named) w n.0 → set.is_subset (promised_on f d') z.called ≡ true
-      keeps o y z w f at now unmet on content e d' n fin there' class interest must noted = absurd (no_library_note p forms' h c.arrays fr named x s (subst (λ (z : MethodId). IsLibraryMove p h c.arrays fr.locals (frame_steps p fr) named z x s) next.same next) (fr ∷ frs) o y w f content e d' n there' class interest must noted)
+      keeps o y z w f at there unmet on owner content e d' n fin there' class interest must noted = absurd (no_library_note p forms' h c.arrays fr named x s (subst (λ (z : MethodId). IsLibraryMove p h c.arrays fr.locals (frame_steps p fr) named z x s) next.same next) (fr ∷ frs) o y w f content e d' n there' class interest must noted)
+
+      by : CreatesPlainly named x s → Done (library_went p c fr frs named named x s)
+      by (inl none) =
+          let made = library_heap p fr.locals s.action (method_at p named) (method_at p named) x (length frs + 1) h in
+          stepped p own h (called_heap named x s) (IsNotedBy fr.locals s.action (method_at p named)) links now'
+          (goes_further p h made (called_heap named x s) (IsNotedBy fr.locals s.action (method_at p named))
+          (library_goes_by p fr.locals s.action (method_at p named) (method_at p named) x (length frs + 1) h none (small_interest p ac named) links)
+          (lose_goes p (held_by (called_frame named x s ∷ frs)) made (IsNotedBy fr.locals s.action (method_at p named)))) fr (called_frame named x s) frs
+          (same_after p h fr s (conduct_value (length (arguments_shared c.arrays fr.locals s.action (method_at p named))) (method_at p named) (positions fr.locals s.action (next_number h) x) (next_number h) x)) in' keeps hold
+      by (inr anew) =
+          let made = library_heap p fr.locals s.action anew.plain (method_at p named) x (length frs + 1) h in
+          renewed_hold p anew.anew made (called_heap named x s) anew.renews now' (called_frame named x s ∷ frs)
+          (stepped p own h made (IsNotedBy fr.locals s.action anew.plain) links (linked_before p anew.anew made (called_heap named x s) anew.renews now')
+          (library_goes_by p fr.locals s.action anew.plain (method_at p named) x (length frs + 1) h (ap (object_by (positions fr.locals s.action (next_number h) x)) anew.nothing)
+          (λ n is. small_interest p ac named n (sym anew.interest ∙ is)) links) fr (called_frame named x s) frs
+          (same_after p h fr s (conduct_value (length (arguments_shared c.arrays fr.locals s.action (method_at p named))) (method_at p named) (positions fr.locals s.action (next_number h) x) (next_number h) x)) in'
+          (λ o y z w f at there' unmet on owner content e d' n fin at' class interest must noted. absurd (no_library_note p forms' h c.arrays fr named x s
+          (subst (λ (u : MethodId). IsLibraryMove p h c.arrays fr.locals (frame_steps p fr) named u x s) next.same next) (fr ∷ frs) o y w f content e d' n at' class interest must
+          (record { chosen = noted.chosen; receiver = noted.receiver; name = noted.name; interest = sym anew.interest ∙ noted.interest; number = noted.number }))) hold)

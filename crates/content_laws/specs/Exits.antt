@@ -4,10 +4,10 @@ use Rattle.program_model.specs.declared.program.Program.{Program}
 use Rattle.java_control.specs.Control.{Step}
 use Rattle.java_control.specs.declared.action.Action.TheVariants as actions
 use Rattle.java_control.specs.declared.action.Completion.{Completion}
-use Rattle.named_step_laws.specs.Ends.{is_throw}
+use Rattle.covering_laws.specs.Ends.{is_throw}
 use Rattle.ledger_state.specs.Contents.{HeapContents}
-use Rattle.program_call_laws.specs.Configuration.{Frame}
-use Rattle.target_laws.specs.Choosing.{frame_steps}
+use Rattle.covering_laws.specs.Configuration.{Frame}
+use Rattle.covering_laws.specs.Choosing.{frame_steps}
 use Rattle.ledger_steps.specs.Ends.{exception_class, thrown_in}
 
 -- where the frame ends by a throw, the exception has a class

@@ -2,7 +2,7 @@
 use Rattle.std.proofs.Common.{◌≡◌, ◌∙◌, ℕ, true, true≢false, Option, Some, None, refl, sym, ap, subst}
 use Rattle.std.proofs.lemmas.Bool.{and_from, or_left}
 use Rattle.program_model.specs.declared.program.Program.{Program}
-use Rattle.value_type_laws.specs.Bodies.{alias_in}
+use Rattle.ledger_obligations.specs.Bodies.{alias_in}
 use Rattle.java_control.specs.Control.{Step}
 use Rattle.java_control.specs.PlaceNumbers.{IsSmall}
 use Rattle.java_control.specs.Sources.{source}
@@ -11,22 +11,22 @@ use Rattle.java_control.specs.declared.action.Edge.{Edge}
 use Rattle.java_control.specs.declared.action.Edge.TheVariants as edges
 use Rattle.java_control.specs.declared.place.Place.{Place}
 use Rattle.java_control.specs.declared.place.Place.TheVariants as places
-use Rattle.target_laws.specs.Callees.{callee, holds_operand}
-use Rattle.target_laws.specs.Facts.{PlaceSet, has, has_temp}
-use Rattle.target_laws.specs.SmallActions.{IsSmallTemp}
-use Rattle.target_laws.proofs.SmallOperands.{operand_has_room}
-use Rattle.alias_sets.specs.Aliases.{alias_operand, gives_alias}
-use Rattle.alias_sets.specs.Aliases as aliases
-use Rattle.alias_sets.specs.PlaceRows.{places_after}
+use Rattle.ownership_rules.specs.Callees.{callee, holds_operand}
+use Rattle.ownership_rules.specs.Facts.{PlaceSet, has, has_temp}
+use Rattle.ownership_rules.specs.SmallActions.{IsSmallTemp}
+use Rattle.ownership_rules.proofs.SmallOperands.{operand_has_room}
+use Rattle.value_laws.specs.Aliases.{alias_operand, gives_alias}
+use Rattle.value_laws.specs.Aliases as aliases
+use Rattle.value_laws.specs.PlaceRows.{places_after}
 use Rattle.ledger_state.specs.Contents.{HeapContents}
 use Rattle.ledger_state.specs.Heaps.{root_of}
-use Rattle.program_call_laws.specs.Places.{place_value}
-use Rattle.program_call_laws.specs.Calls.{operand_of}
-use Rattle.program_call_laws.specs.Configuration.{Frame}
-use Rattle.target_laws.specs.Frames.{is_made, made_place}
-use Rattle.field_place_laws.specs.Places.{has_source, is_local, takes_alias}
-use Rattle.field_place_laws.proofs.Laws.{places_come_from_sources}
-use Rattle.tracking_laws.specs.Agreement.{Stands}
+use Rattle.value_laws.specs.Places.{place_value}
+use Rattle.ledger_steps.specs.LedgerCallsCalls.{operand_of}
+use Rattle.value_laws.specs.Configuration.{Frame}
+use Rattle.value_laws.specs.Frames.{is_made, made_place}
+use Rattle.value_laws.specs.PlacePlaces.{has_source, is_local, takes_alias}
+use Rattle.value_laws.proofs.PlaceLaws.{places_come_from_sources}
+use Rattle.value_laws.specs.Agreement.{Stands}
 use Rattle.covering_laws.proofs.KnownNames.{operand_temp}
 use Rattle.covering_laws.proofs.TopSteps.{IsLocalStep}
 

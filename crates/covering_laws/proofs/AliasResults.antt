@@ -1,7 +1,7 @@
 -- As the frame of a method ends normally that has an aliased argument, its result is that argument, where this may owe a call: the rules on the
 -- end of a body ask for it.
 use Rattle.std.specs.Prelude.{if◌then◌else◌, not}
-use Rattle.std.proofs.Common.{◌≡◌, ℕ, zero, suc, ◌+◌, ◌<◌, ◌≤◌, Bool, true, false, true≢false, ◌&&◌, Option, Some, None, length, slice_get, refl, sym, ap, ◌∙◌, subst, arith, IsSomeAnd, inl, inr}
+use Rattle.std.proofs.Common.{◌≡◌, ℕ, zero, suc, ◌+◌, ◌<◌, ◌≤◌, Bool, true, false, true≢false, ◌&&◌, Option, Some, None, List, ◌∷◌, length, slice_get, refl, sym, ap, ◌∙◌, subst, arith, IsSomeAnd, inl, inr}
 use Rattle.std.proofs.lemmas.Bool.{and_from, or_right}
 use Rattle.rlc_base.specs.declared.place.Pos.{Pos}
 use Rattle.rlc_base.proofs.SetLaws.{within_self}
@@ -14,10 +14,10 @@ use Rattle.program_model.specs.declared.program.Program.{Program}
 use Rattle.program_model.specs.Lookups.{method_at}
 use Rattle.program_model.specs.SuperTests.{is_class}
 use Rattle.program_model.specs.Validity.{IfPosition, IsBodyOf, type_of_class}
-use Rattle.value_type_laws.specs.Assigned.{is_spoken_variable}
-use Rattle.value_type_laws.specs.Bodies.{alias_in, alias_position, constructs, is_constructor, is_constructor_kind, method_in, method_of}
-use Rattle.value_type_laws.specs.MustCallSets.{is_empty, is_heavy_as, is_heavy_class, must_of, must_of_optional, must_of_type, no_names}
-use Rattle.value_type_laws.specs.Signatures.{is_present, type_at, type_in}
+use Rattle.ledger_obligations.specs.Assigned.{is_spoken_variable}
+use Rattle.ledger_obligations.specs.Bodies.{alias_in, alias_position, constructs, is_constructor, is_constructor_kind, method_in, method_of}
+use Rattle.ledger_obligations.specs.MustCallSets.{is_empty, is_heavy_as, is_heavy_class, must_of, must_of_optional, must_of_type, no_names}
+use Rattle.ownership_rules.specs.Signatures.{is_present, type_at, type_in}
 use Rattle.java_control.specs.Calls.{completion_temp}
 use Rattle.java_control.specs.Control.{Step}
 use Rattle.java_control.specs.declared.action.Action.{Action}
@@ -30,38 +30,41 @@ use Rattle.java_control.specs.declared.fact.Mode.TheVariants as modes
 use Rattle.java_control.specs.declared.fact.Origin.{Origin}
 use Rattle.java_control.specs.declared.fact.Outcome.TheVariants.{Fault}
 use Rattle.java_control.specs.declared.fact.Rule.TheVariants as rules
+use Rattle.java_control.specs.PlaceNumbers.{IsSmall}
 use Rattle.java_control.specs.declared.place.Place.{Place}
 use Rattle.java_control.specs.declared.place.Place.TheVariants as places
-use Rattle.target_laws.specs.Facts.{has, has_field, is_alias, is_origin_at, missing, owes}
-use Rattle.target_laws.specs.SmallActions.{IsSmallAction, IsSmallTemp}
-use Rattle.called_methods.specs.Promises.{broken_promise}
+use Rattle.ownership_rules.specs.Facts.{has, has_field, is_alias, is_origin_at, missing, owes}
+use Rattle.ownership_rules.specs.SmallActions.{IsSmallAction, IsSmallTemp}
+use Rattle.value_laws.specs.Promises.{broken_promise}
 use Rattle.ownership_rules.specs.MovesAtReturns.{heavy_result, kept_alias, moved_at_return, owned_result, owning_result_in, result_type, returned}
 use Rattle.ownership_rules.specs.MovesAtReturns as at_returns
 use Rattle.ownership_rules.specs.Room.{variable_count, variables_in}
 use Rattle.ownership_rules.specs.declared.moved.Moved.{Moved}
 use Rattle.ownership_rules.specs.declared.moved.Moved.TheVariants as moves
-use Rattle.flow_rules.specs.Ends.{after_return, alias_never_returned, constructor_throws, exit_rule, is_throw, left_at_end, promise_at_end}
-use Rattle.flow_rules.specs.Flow.{flow}
-use Rattle.flow_rules.specs.Paths.{Reach, move_of, relation_of}
-use Rattle.target_laws.specs.Accept.{Accept}
+use Rattle.value_laws.specs.Ends.{after_return, alias_never_returned, constructor_throws, exit_rule, is_throw, left_at_end, promise_at_end}
+use Rattle.value_laws.specs.Flow.{flow}
+use Rattle.value_laws.specs.Paths.{Reach, move_of, relation_of}
+use Rattle.value_laws.specs.Accept.{Accept}
 use Rattle.ledger_state.specs.Contents.{HeapContents}
 use Rattle.ledger_state.specs.Heaps.{object_at, root_of}
 use Rattle.ledger_state.specs.Locals.{temp_value, variable_value}
 use Rattle.ledger_state.specs.declared.object.Object.{Object}
 use Rattle.ledger_state.specs.declared.value.Value.TheVariants as values
-use Rattle.program_call_laws.specs.Calls.{operand_of}
-use Rattle.program_call_laws.specs.Configuration.{Frame}
-use Rattle.target_laws.specs.Choosing.{body_id, frame_steps}
+use Rattle.ledger_steps.specs.LedgerCallsCalls.{operand_of}
+use Rattle.value_laws.specs.Places.{place_value}
+use Rattle.value_laws.specs.Configuration.{Frame}
+use Rattle.value_laws.specs.Choosing.{body_id, frame_steps}
 use Rattle.ledger_steps.specs.Ends.{default_result, result_value}
-use Rattle.tracking_laws.specs.Agreement.{Stands}
-use Rattle.tracking_laws.specs.Outcomes.{IsFault}
-use Rattle.argument_laws.specs.Arguments.{HasArguments, has_receiver}
-use Rattle.kept_argument_laws.proofs.AliasFacts.{aliased_is_spoken, parameter_class, parameter_holds, this_class, this_holds}
-use Rattle.kept_argument_laws.proofs.Origins.{parameters_own, this_own}
-use Rattle.tracking_laws.proofs.AliasConducts.{argument_has_names, gives_object}
-use Rattle.tracking_laws.proofs.CallNames.{object_with_root}
-use Rattle.kept_argument_laws.specs.PlaceFacts.{Covers, IsCovered, may_owe}
-use Rattle.kept_argument_laws.proofs.Following.{breaks_nothing, same_body, step_there}
+use Rattle.value_laws.specs.Agreement.{Stands}
+use Rattle.value_laws.specs.Outcomes.{IsFault}
+use Rattle.value_laws.specs.Arguments.{HasArguments, has_receiver}
+use Rattle.value_laws.proofs.AliasFacts.{aliased_is_spoken, parameter_class, parameter_holds, this_class, this_holds}
+use Rattle.value_laws.proofs.FactOrigins.{parameters_own, this_own}
+use Rattle.value_laws.proofs.AliasConducts.{argument_has_names, gives_object}
+use Rattle.value_laws.proofs.CallNames.{object_with_root}
+use Rattle.value_laws.specs.PlaceFacts.{Covers, IsCovered, gives_none, may_owe}
+use Rattle.covering_laws.proofs.HeavyFields.{covered_at}
+use Rattle.covering_laws.proofs.Following.{breaks_nothing, same_body, step_there}
 use Rattle.covering_laws.proofs.EndNames.{element_there, parameter_origin, parameters_fit, zero_origin}
 
 -- a default value is no object
@@ -120,7 +123,7 @@ left_breaks p b o c f never = go (alias_never_returned p b o c f) never
 
 -- ---- the end of a frame
 
-module _ (p : Program) (ac : Accept p) (h : HeapContents) (fr caller : Frame) (st : Stands p fr) (args : HasArguments p caller fr) (covered : IsCovered p h fr) (i : ℕ) (s : Step) (q : Completion)
+module _ (p : Program) (ac : Accept p) (h : HeapContents) (fr caller : Frame) (rest : List Frame) (st : Stands p fr) (args : HasArguments p caller fr) (covered : IsCovered p h gives_none (caller ∷ rest) fr) (i : ℕ) (s : Step) (q : Completion)
     (here : slice_get (frame_steps p fr) i ≡ Some s) (is : s.action ≡ actions.End q) (normal : is_throw q ≡ false) (x : Method) (runs : method_at p fr.method ≡ Some x) (k : ℕ) (alias : x.sig.alias ≡ Some k)
     (plain : is_constructor_kind x.kind ≡ false) (j : ℕ) (t : Step) (there : slice_get (frame_steps p caller) j ≡ Some t) (o : ℕ) (y : Object) (at : object_at h o ≡ Some y) (heavy : is_heavy_class p y.class ≡ true)
     (owes' : may_owe y ≡ true) where
@@ -139,7 +142,11 @@ module _ (p : Program) (ac : Accept p) (h : HeapContents) (fr caller : Frame) (s
   some_names : is_empty (must_of_optional p (type_at x.sig k)) ≡ false
   some_names = argument_has_names p ac.well_formed fr.method x runs k alias
 
-  module _ (place : Place) (c : Covers p h fr place o y) where
+  -- the fact of a place
+  cover : (place : Place) → IsSmall place → root_of h (place_value p h fr.method fr.locals place) ≡ Some o → (c : Covers p h false (caller ∷ rest) fr o y) × (has c.fact.places place ≡ true)
+  cover place small root = covered_at p h false (caller ∷ rest) fr place o y (covered place o y small root at heavy owes')
+
+  module _ (c : Covers p h false (caller ∷ rest) fr o y) where
     reached : Reach p st.number (relation_of p st.number) c.origin fr.control c.fact
     reached = subst (λ (b : BodyId). Reach p b (relation_of p b) c.origin fr.control c.fact) (same_body c.body st.number (body_id p fr.method) c.id st.id) c.reached
 
@@ -157,8 +164,8 @@ module _ (p : Program) (ac : Accept p) (h : HeapContents) (fr caller : Frame) (s
   -- ---- the argument is the result
 
   -- a fact of the argument moves as the result
-  moves_as_result : (place : Place) (c : Covers p h fr place o y) → is_origin_at c.origin.kind (Some k) ≡ true → is_heavy_class p c.origin.class ≡ true → root_of h (result_value fr.locals (Some x) q) ≡ Some o
-  moves_as_result place c origin class = by (moved_at_return p st.number c.origin (actions.End q) c.fact) refl
+  moves_as_result : (c : Covers p h false (caller ∷ rest) fr o y) → is_origin_at c.origin.kind (Some k) ≡ true → is_heavy_class p c.origin.class ≡ true → root_of h (result_value fr.locals (Some x) q) ≡ Some o
+  moves_as_result c origin class = by (moved_at_return p st.number c.origin (actions.End q) c.fact) refl
     where
       never : alias_never_returned p st.number c.origin q c.fact ≡ true
       never =
@@ -175,18 +182,19 @@ module _ (p : Program) (ac : Accept p) (h : HeapContents) (fr caller : Frame) (s
       moves_there (completions.Throw d e pos) end' moved = absurd (let never' : moves.Stays ≡ moves.Moves = moved in cc)
 
       by : (m : Moved) → moved_at_return p st.number c.origin (actions.End q) c.fact ≡ m → root_of h (result_value fr.locals (Some x) q) ≡ Some o
-      by moves.Stays moved = absurd (ended_as place c moves.Stays moved (left_breaks p st.number c.origin q c.fact never))
+      by moves.Stays moved = absurd (ended_as c moves.Stays moved (left_breaks p st.number c.origin q c.fact never))
       by moves.Moves moved = moves_there q refl moved
-      by (moves.Bad rule) moved = absurd (ended_as place c (moves.Bad rule) moved tt)
+      by (moves.Bad rule) moved = absurd (ended_as c (moves.Bad rule) moved tt)
 
   of_this : k ≡ 0 → root_of h (operand_of caller.locals t.action 0) ≡ Some o → root_of h (result_value fr.locals (Some x) q) ≡ Some o
   of_this zero' root =
       let w = object_with_root h (operand_of caller.locals t.action 0) o root in
       let this : fr.locals.this ≡ values.Object w.0 = args.receiver j t w.0 there w.1 in
-      let c : Covers p h fr places.This o y = covered places.This o y tt (ap (root_of h) this ∙ ap Some w.2) at heavy owes' in
-      let own = this_own p ac st.number st.body st.at c.origin fr.control c.fact (reached places.This c) c.here in
-      moves_as_result places.This c (ap (λ (n : ℕ). is_origin_at c.origin.kind (Some n)) zero' ∙ own)
-      (ap (is_heavy_class p) (this_class p ac st.number st.body x st.at in_body c.origin fr.control c.fact (reached places.This c) (zero_origin c.origin.kind own))
+      let found = cover places.This tt (ap (root_of h) this ∙ ap Some w.2) in
+      let c : Covers p h false (caller ∷ rest) fr o y = found.0 in
+      let own = this_own p ac st.number st.body st.at c.origin fr.control c.fact (reached c) found.1 in
+      moves_as_result c (ap (λ (n : ℕ). is_origin_at c.origin.kind (Some n)) zero' ∙ own)
+      (ap (is_heavy_class p) (this_class p ac st.number st.body x st.at in_body c.origin fr.control c.fact (reached c) (zero_origin c.origin.kind own))
       ∙ heavy_by_class p x.class x.sig.receiver.vtype (ac.well_formed.valid.typed.methods fr.method x runs).receiver (subst (λ (n : ℕ). is_empty (must_of_optional p (type_at x.sig n)) ≡ false) zero' some_names))
 
   module _ (v : ℕ) (next : k ≡ suc v) where
@@ -208,12 +216,13 @@ module _ (p : Program) (ac : Accept p) (h : HeapContents) (fr caller : Frame) (s
 
     of_parameter : root_of h (operand_of caller.locals t.action (suc v)) ≡ Some o → root_of h (result_value fr.locals (Some x) q) ≡ Some o
     of_parameter root =
-        let c : Covers p h fr (places.Var v) o y = covered (places.Var v) o y variable_small (ap (root_of h) given ∙ root) at heavy owes' in
-        let own = parameters_own p ac st.number st.body x v st.at in_body spoken c.origin fr.control c.fact (reached (places.Var v) c) c.here in
+        let found = cover (places.Var v) variable_small (ap (root_of h) given ∙ root) in
+        let c : Covers p h false (caller ∷ rest) fr o y = found.0 in
+        let own = parameters_own p ac st.number st.body x v st.at in_body spoken c.origin fr.control c.fact (reached c) found.1 in
         let param = element_there x.sig.params.items v (omega (arith, inside)) in
         let class : param.0.vtype ≡ types.Obj c.origin.class =
-        parameter_class p ac st.number st.body x v param.0 st.at in_body param.1 c.origin fr.control c.fact (reached (places.Var v) c) (parameter_origin v c.origin.kind own) in
-        moves_as_result (places.Var v) c (ap (λ (n : ℕ). is_origin_at c.origin.kind (Some n)) (next ∙ (let same : suc v ≡ v + 1 = omega arith in same)) ∙ own)
+        parameter_class p ac st.number st.body x v param.0 st.at in_body param.1 c.origin fr.control c.fact (reached c) (parameter_origin v c.origin.kind own) in
+        moves_as_result c (ap (λ (n : ℕ). is_origin_at c.origin.kind (Some n)) (next ∙ (let same : suc v ≡ v + 1 = omega arith in same)) ∙ own)
         (heavy_by_type p (type_at x.sig k) c.origin.class (ap (type_at x.sig) next ∙ ap type_in param.1 ∙ ap Some class) some_names)
 
   -- the result of the call is the aliased argument
@@ -227,8 +236,8 @@ module _ (p : Program) (ac : Accept p) (h : HeapContents) (fr caller : Frame) (s
   -- ---- the result is the argument
 
   -- a fact in the result's temp is in mode Alias
-  is_aliased : (d : ℕ) (pos : Pos) → q ≡ completions.ReturnValue d pos → (c : Covers p h fr (places.Temp d) o y) → c.fact.mode ≡ modes.Alias
-  is_aliased d pos end' c = alias_mode c.fact.mode (by (is_alias c.fact.mode) refl)
+  is_aliased : (d : ℕ) (pos : Pos) → q ≡ completions.ReturnValue d pos → (c : Covers p h false (caller ∷ rest) fr o y) → has c.fact.places (places.Temp d) ≡ true → c.fact.mode ≡ modes.Alias
+  is_aliased d pos end' c in' = alias_mode c.fact.mode (by (is_alias c.fact.mode) refl)
     where
       result_heavy : is_heavy_as p c.origin.class (result_type p st.number) ≡ true
       result_heavy = elim (gives_object p ac.well_formed fr.method x runs k alias) [
@@ -238,29 +247,29 @@ module _ (p : Program) (ac : Accept p) (h : HeapContents) (fr caller : Frame) (s
       ]
 
       kept : moved_at_return p st.number c.origin (actions.End q) c.fact ≡ kept_alias c.fact
-      kept = ap (λ (r : Completion). moved_at_return p st.number c.origin (actions.End r) c.fact) end' ∙ kept_there p st.number c.origin d c.fact k position c.here result_heavy
+      kept = ap (λ (r : Completion). moved_at_return p st.number c.origin (actions.End r) c.fact) end' ∙ kept_there p st.number c.origin d c.fact k position in' result_heavy
 
       by : (b : Bool) → is_alias c.fact.mode ≡ b → is_alias c.fact.mode ≡ true
       by true one = one
-      by false none = absurd (ended_as (places.Temp d) c (moves.Bad rules.AliasKept) (kept ∙ ap (λ (b : Bool). if b then moves.Moves else moves.Bad rules.AliasKept) none) tt)
+      by false none = absurd (ended_as c (moves.Bad rules.AliasKept) (kept ∙ ap (λ (b : Bool). if b then moves.Moves else moves.Bad rules.AliasKept) none) tt)
 
   from_result : has_receiver t.action ≡ true → (d : ℕ) (pos : Pos) → q ≡ completions.ReturnValue d pos → root_of h (temp_value fr.locals d) ≡ Some o → root_of h (operand_of caller.locals t.action k) ≡ Some o
   from_result receives d pos end' root = by k refl
     where
-      c : Covers p h fr (places.Temp d) o y
-      c = covered (places.Temp d) o y (room d pos end') root at heavy owes'
+      found : (c : Covers p h false (caller ∷ rest) fr o y) × (has c.fact.places (places.Temp d) ≡ true)
+      found = cover (places.Temp d) (room d pos end') root
 
-      mode : c.fact.mode ≡ modes.Alias
-      mode = is_aliased d pos end' c
+      mode : found.0.fact.mode ≡ modes.Alias
+      mode = is_aliased d pos end' found.0 found.1
 
       by : (n : ℕ) → k ≡ n → root_of h (operand_of caller.locals t.action k) ≡ Some o
       by zero same =
           ap (λ (m : ℕ). root_of h (operand_of caller.locals t.action m)) same ∙ ap (root_of h) (sym (args.target j t there receives))
-          ∙ c.places places.This tt (this_holds p ac st.number st.body x st.at in_body (alias ∙ ap Some same) c.origin fr.control c.fact (reached (places.Temp d) c) mode)
+          ∙ found.0.places places.This tt (this_holds p ac st.number st.body x st.at in_body (alias ∙ ap Some same) found.0.origin fr.control found.0.fact (reached found.0) mode)
       by (suc v) same =
           ap (λ (m : ℕ). root_of h (operand_of caller.locals t.action m)) same ∙ ap (root_of h) (sym (given v same))
-          ∙ c.places (places.Var v) (variable_small v same)
-          (parameter_holds p ac st.number st.body x v st.at in_body (alias ∙ ap Some same) c.origin fr.control c.fact (reached (places.Temp d) c) mode)
+          ∙ found.0.places (places.Var v) (variable_small v same)
+          (parameter_holds p ac st.number st.body x v st.at in_body (alias ∙ ap Some same) found.0.origin fr.control found.0.fact (reached found.0) mode)
 
   -- the aliased argument is the result of the call
   pub result_is_argument : has_receiver t.action ≡ true → root_of h (result_value fr.locals (Some x) q) ≡ Some o → root_of h (operand_of caller.locals t.action k) ≡ Some o

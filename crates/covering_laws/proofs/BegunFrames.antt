@@ -1,5 +1,5 @@
 -- The frame of a call that begins: what its places hold is in facts of the body's entry.
-use Rattle.std.proofs.Common.{◌≡◌, inl, inr, ℕ, zero, suc, ◌+◌, Bool, true, Option, Some, None, List, [], ◌∷◌, ◌++◌, slice_get, refl, sym, ap, ◌∙◌, subst, arith, false}
+use Rattle.std.proofs.Common.{◌≡◌, inl, inr, ℕ, zero, suc, ◌+◌, Bool, true, Option, Some, None, List, [], ◌∷◌, ◌++◌, length, slice_get, refl, sym, ap, ◌∙◌, subst, arith, false}
 use Rattle.program_model.specs.declared.kinds.ClassId.{ClassId}
 use Rattle.program_model.specs.declared.kinds.VType.TheVariants as types
 use Rattle.program_model.specs.declared.program.ParamSig.{ParamSig}
@@ -8,7 +8,7 @@ use Rattle.program_model.specs.declared.program.Sig.{Sig}
 use Rattle.program_model.specs.declared.tree.Body.{Body}
 use Rattle.program_model.specs.declared.tree.Var.{Var}
 use Rattle.program_model.specs.Lookups.{optional, variable_at, method_at}
-use Rattle.value_type_laws.specs.MustCallSets.{Names, is_heavy_class, is_empty, no_names}
+use Rattle.ledger_obligations.specs.MustCallSets.{Names, is_heavy_class, is_empty, no_names}
 use Rattle.java_control.specs.Control.{start_of}
 use Rattle.java_control.specs.PlaceNumbers.{IsSmall}
 use Rattle.java_control.specs.Remaining.{Todo}
@@ -20,52 +20,60 @@ use Rattle.java_control.specs.declared.fact.OriginKind.TheVariants as kinds
 use Rattle.java_control.specs.declared.place.Place.{Place}
 use Rattle.java_control.specs.declared.place.Place.TheVariants as places
 use Rattle.ownership_rules.specs.Births.{births_at_entry, fact_at, origin_of, parameter_birth, parameter_births, parameter_mode}
-use Rattle.flow_rules.specs.Paths.{Reach, entered, relation_of}
+use Rattle.value_laws.specs.Paths.{Reach, entered, relation_of}
 use Rattle.ledger_state.specs.Contents.{HeapContents}
 use Rattle.ledger_state.specs.Heaps.{root_of}
 use Rattle.ledger_state.specs.declared.object.Object.{Object}
-use Rattle.program_call_laws.specs.Places.{place_value}
-use Rattle.program_call_laws.specs.Configuration.{Frame}
-use Rattle.field_place_laws.proofs.Laws.{single_place-alone}
-use Rattle.tracking_laws.specs.Agreement.{Stands}
-use Rattle.kept_argument_laws.specs.PlaceFacts.{Covers, IsTrueOf, claims, fits_field, is_heavy_field, is_lent}
-use Rattle.kept_argument_laws.proofs.HeavyFields.{tells_by}
+use Rattle.value_laws.specs.Places.{place_value}
+use Rattle.value_laws.specs.Configuration.{Frame}
+use Rattle.value_laws.proofs.PlaceLaws.{single_place-alone}
+use Rattle.value_laws.specs.Agreement.{Stands}
+use Rattle.value_laws.specs.PlaceFacts.{Covers, IsTrueOf, claims, fits_field, is_apart, is_frame_from, is_heavy_field, is_lent, makes_alone}
+use Rattle.covering_laws.proofs.HeavyFields.{claims_alone, held_mode, tells_by}
 use Rattle.covering_laws.proofs.Births.{at_itself, at_one}
 use Rattle.rlc_base.proofs.SetLaws.{empty_within, within_trans}
-use Rattle.target_laws.specs.Facts.{is_held, is_own}
+use Rattle.ownership_rules.specs.Facts.{has, is_held, is_own}
 use Rattle.std.specs.Prelude.{◌||◌}
 
-not_own : (a b : Bool) → (a || b) ≡ false → a ≡ false
+pub not_own : (a b : Bool) → (a || b) ≡ false → a ≡ false
 not_own true b is = is
 not_own false b is = refl
 
-module _ (p : Program) (k : HeapContents) (fr : Frame) (st : Stands p fr) (starts : fr.control ≡ start_of p st.number) where
-  -- a place is covered by its birth at the entry. The place of an owning field is born as held, and its class has an obligation where
-  -- the field's type has one
+module _ (p : Program) (k : HeapContents) (fr : Frame) (st : Stands p fr) (starts : fr.control ≡ start_of p st.number) (frs : List Frame) where
+  -- A place is covered by its birth at the entry. What is lent to the frame, or a field of `this` holds, neither it nor a frame above owns, where it
+  -- was not given to it. The place of an owning field is born as held, and its class has an obligation where the field's type has one.
   pub entered_covers : (q : Place) (o : ℕ) (y : Object) (g : Origin) (mode : Mode) (names : Names) (full : Bool) (n : ℕ) → IsSmall q
       → slice_get (births_at_entry p st.number) n ≡ Some (g, fact_at q mode names full) → root_of k (place_value p k fr.method fr.locals q) ≡ Some o
       → (claims p (method_at p fr.method) g (fact_at q mode names full) ≡ true → IsTrueOf p y g (fact_at q mode names full))
       → (is_lent p (method_at p fr.method) g.kind ≡ true → ((is_own mode || is_held mode) ≡ false) × (is_heavy_class p g.class ≡ true) × (is_empty names ≡ true)) → (is_held mode ≡ true → is_empty names ≡ true)
+      → (y.finished ≡ true → is_apart p k frs fr o y (fact_at q mode names full) ≡ true → is_frame_from (length frs + 1) y.owner ≡ false)
+      → (is_held mode ≡ true → makes_alone (method_at p fr.method) ≡ true → ⊥)
       → ((j : ℕ) → q ≡ places.Field j → is_heavy_class p g.class ≡ true → fits_field p fr.method j g.class ≡ true)
       → ((j : ℕ) → q ≡ places.Field j → is_heavy_field p fr.method q ≡ true → (mode ≡ modes.Held) × (is_heavy_class p g.class ≡ true))
-      → Covers p k fr q o y
-  entered_covers q o y g mode names full n small birth root truth lent' none wide held = record {
-    body = st.number;
-    id = st.id;
-    origin = g;
-    fact = fact_at q mode names full;
-    reached = subst (λ (t : List Todo). Reach p st.number (relation_of p st.number) g t (fact_at q mode names full)) (sym starts) (entered n birth);
-    alone = single_place-alone q small;
-    here = at_itself q small mode names full;
-    places = λ z small' is. subst (λ (u : Place). root_of k (place_value p k fr.method fr.locals u) ≡ Some o) (at_one q small mode names full z small' is) root;
-    true' = truth;
-    lent = λ lent. (let is = lent' lent in (not_own (is_own mode) (is_held mode) is.0, is.1));
-    known = λ done tells. within_trans names no_names y.called (elim (tells_by p fr.method g (fact_at q mode names full) tells) [ inl lent ↦ (lent' lent).2 | inr held' ↦ none held'.1 ]) (empty_within y.called);
-    fields = λ j inside heavy is. wide j (at_one q small mode names full (places.Field j) inside is) heavy;
-    held = λ j inside is heavy.
-        let same : q ≡ places.Field j = at_one q small mode names full (places.Field j) inside is in
-        held j same (subst (λ (u : Place). is_heavy_field p fr.method u ≡ true) (sym same) heavy);
-  }
+      → (c : Covers p k false frs fr o y) × (has c.fact.places q ≡ true) × (c.origin ≡ g) × (c.fact ≡ fact_at q mode names full)
+  entered_covers q o y g mode names full n small birth root truth lent' none below unmade wide held =
+      let covers : Covers p k false frs fr o y = record {
+        body = st.number;
+        id = st.id;
+        origin = g;
+        fact = fact_at q mode names full;
+        reached = subst (λ (t : List Todo). Reach p st.number (relation_of p st.number) g t (fact_at q mode names full)) (sym starts) (entered n birth);
+        alone = single_place-alone q small;
+        places = λ z small' is. subst (λ (u : Place). root_of k (place_value p k fr.method fr.locals u) ≡ Some o) (at_one q small mode names full z small' is) root;
+        true' = λ claimed mine. truth claimed;
+        free = λ claimed held'. absurd (unmade held' (claims_alone p (method_at p fr.method) g (fact_at q mode names full) (held_mode mode held') claimed));
+        lent = λ lent. (let is = lent' lent in (not_own (is_own mode) (is_held mode) is.0, is.1));
+        known = λ done tells apart. (
+          refl,
+          below done apart,
+          within_trans names no_names y.called (elim (tells_by p fr.method g (fact_at q mode names full) tells) [ inl lent ↦ (lent' lent).2 | inr held' ↦ none held'.1 ]) (empty_within y.called),
+        );
+        fields = λ j inside heavy is. wide j (at_one q small mode names full (places.Field j) inside is) heavy;
+        held = λ j inside is heavy.
+            let same : q ≡ places.Field j = at_one q small mode names full (places.Field j) inside is in
+            held j same (subst (λ (u : Place). is_heavy_field p fr.method u ≡ true) (sym same) heavy);
+      } in
+      (covers, at_itself q small mode names full, refl, refl)
 
 -- ---- the parameters
 

@@ -7,10 +7,10 @@ use Rattle.ledger_state.specs.Contents.{HeapContents}
 use Rattle.ledger_state.specs.Heaps.{unfinished}
 use Rattle.ledger_state.specs.Values.{number_of}
 use Rattle.ledger_state.specs.declared.value.Value.TheVariants as values
-use Rattle.program_call_laws.specs.Configuration.{Frame}
-use Rattle.tracking_laws.proofs.Chains.{object_there}
-use Rattle.kept_argument_laws.specs.FieldContents.{IsBeingMade, RunOnOthers}
-use Rattle.kept_argument_laws.specs.Ranges.{LocalsInRange}
+use Rattle.value_laws.specs.Configuration.{Frame}
+use Rattle.value_laws.proofs.Chains.{object_there}
+use Rattle.value_laws.specs.FieldContents.{IsBeingMade, RunOnOthers}
+use Rattle.value_laws.specs.Ranges.{LocalsInRange}
 use Rattle.covering_laws.specs.Making.{AreBeingMade}
 use Rattle.covering_laws.proofs.LocalSteps.{LocalsIn}
 use Rattle.covering_laws.proofs.Waiting.{AllHeldBefore, KeepsUnfinished, none_held_on}

@@ -1,10 +1,9 @@
 -- What a step gives to a place of the frame is covered by the fact that is born with it.
-pub use Rattle.tracking_laws.proofs.Births.{heavy_by_unmet, made_tracks, new_tracks, result_tracks}
-use Rattle.std.proofs.Common.{◌≡◌, ℕ, ◌<◌, Bool, true, Option, Some, ◌++◌, slice_get, eq-eqb, List, refl, sym, ap, ◌∙◌, subst, true≢false, false}
+pub use Rattle.value_laws.proofs.FrameBirths.{heavy_by_unmet, made_tracks, new_tracks, result_tracks}
+use Rattle.std.proofs.Common.{◌≡◌, ℕ, ◌<◌, Bool, true, Option, Some, ◌++◌, inl, inr, slice_get, eq-eqb, List, refl, sym, ap, ◌∙◌, subst, true≢false, false}
 use Rattle.program_model.specs.declared.program.Program.{Program}
 use Rattle.program_model.specs.Lookups.{optional, method_at}
-use Rattle.rlc_base.proofs.SetLaws.{empty_within}
-use Rattle.value_type_laws.specs.MustCallSets.{Names, no_names}
+use Rattle.ledger_obligations.specs.MustCallSets.{Names, no_names}
 use Rattle.java_control.specs.Control.{Step}
 use Rattle.java_control.specs.PlaceNumbers.{IsSmall}
 use Rattle.java_control.specs.Remaining.{Todo}
@@ -14,20 +13,21 @@ use Rattle.java_control.specs.declared.fact.Mode.{Mode}
 use Rattle.java_control.specs.declared.fact.Origin.{Origin}
 use Rattle.java_control.specs.declared.place.Place.{Place}
 use Rattle.java_control.specs.declared.place.Place.TheVariants as places
-use Rattle.target_laws.specs.Facts.{has}
+use Rattle.ownership_rules.specs.Facts.{has, is_held}
 use Rattle.ownership_rules.specs.Births.{birth_on, fact_at, reset_births}
-use Rattle.flow_rules.specs.Paths.{Reach, born, move_of, relation_of}
+use Rattle.value_laws.specs.Paths.{Reach, born, move_of, relation_of}
 use Rattle.ledger_state.specs.Contents.{HeapContents}
 use Rattle.ledger_state.specs.Heaps.{root_of}
 use Rattle.ledger_state.specs.declared.object.Object.{Object}
-use Rattle.program_call_laws.specs.Places.{place_value}
-use Rattle.program_call_laws.specs.Configuration.{Frame}
-use Rattle.target_laws.specs.Choosing.{body_id, frame_steps}
-use Rattle.field_place_laws.specs.Places.{is_local}
-use Rattle.field_place_laws.proofs.Laws.{single_place-alone, single_place-has, single_place-same}
-use Rattle.tracking_laws.specs.Agreement.{Stands}
-use Rattle.kept_argument_laws.specs.PlaceFacts.{Covers, IsTrueOf, claims, is_lent}
-use Rattle.kept_argument_laws.proofs.Following.{step_there}
+use Rattle.value_laws.specs.Places.{place_value}
+use Rattle.value_laws.specs.Configuration.{Frame}
+use Rattle.value_laws.specs.Choosing.{body_id, frame_steps}
+use Rattle.value_laws.specs.PlacePlaces.{is_local}
+use Rattle.value_laws.proofs.PlaceLaws.{single_place-alone, single_place-has, single_place-same}
+use Rattle.value_laws.specs.Agreement.{Stands}
+use Rattle.value_laws.specs.PlaceFacts.{Covers, IsTrueOf, claims, is_lent, tells_calls}
+use Rattle.covering_laws.proofs.Following.{step_there}
+use Rattle.covering_laws.proofs.HeavyFields.{tells_by}
 use Rattle.program_model.specs.declared.program.Method.{Method}
 
 -- a fact at one place that is no field's
@@ -48,24 +48,34 @@ module _ (q : Place) (small : IsSmall q) where
   pub no_field : (mode : Mode) (names : Names) (full : Bool) → is_local q ≡ true → (n : ℕ) → n < 16 → has (fact_at q mode names full).places (places.Field n) ≡ true → ⊥
   no_field mode names full local n inside is = true≢false (sym local ∙ ap is_local (at_one mode names full (places.Field n) inside is))
 
-module _ (p : Program) (k : HeapContents) (fr : Frame) (st : Stands p fr) (i : ℕ) (s : Step) (here : slice_get (frame_steps p fr) i ≡ Some s) (after : Frame) where
+module _ (p : Program) (k : HeapContents) (fr : Frame) (st : Stands p fr) (i : ℕ) (s : Step) (here : slice_get (frame_steps p fr) i ≡ Some s) (after : Frame) (frs : List Frame) where
   -- `after` is the frame after the step
   pub born_covers : (q : Place) (o : ℕ) (y : Object) (g : Origin) (mode : Mode) (full : Bool) → after.method ≡ fr.method → after.control ≡ s.to → IsSmall q → is_local q ≡ true
       → birth_on p s.action s.edge s.pos ≡ Some (g, fact_at q mode no_names full) → root_of k (place_value p k after.method after.locals q) ≡ Some o
-      → ((m : Option Method) → is_lent p m g.kind ≡ false) → (claims p (method_at p after.method) g (fact_at q mode no_names full) ≡ true → IsTrueOf p y g (fact_at q mode no_names full)) → Covers p k after q o y
-  born_covers q o y g mode full method control small local birth root unlent truth = record {
-    body = st.number;
-    id = ap (body_id p) method ∙ st.id;
-    origin = g;
-    fact = fact_at q mode no_names full;
-    reached = subst (λ (t : List Todo). Reach p st.number (relation_of p st.number) g t (fact_at q mode no_names full)) (sym control) (born i 0 (move_of s) st.control (step_there p fr st i s here)
-        (ap (λ (x : Option (Origin × Fact)). slice_get (optional x ++ reset_births p st.number s.action s.pos) 0) birth));
-    alone = single_place-alone q small;
-    here = at_itself q small mode no_names full;
-    places = λ z small' is. subst (λ (u : Place). root_of k (place_value p k after.method after.locals u) ≡ Some o) (at_one q small mode no_names full z small' is) root;
-    true' = truth;
-    lent = λ lent. absurd (true≢false (sym lent ∙ unlent (method_at p after.method)));
-    known = λ done tells. empty_within y.called;
-    fields = λ n inside wide is. absurd (no_field q small mode no_names full local n inside is);
-    held = λ n inside is heavy. absurd (no_field q small mode no_names full local n inside is);
-  }
+      → ((m : Option Method) → is_lent p m g.kind ≡ false) → is_held mode ≡ false → (claims p (method_at p after.method) g (fact_at q mode no_names full) ≡ true → IsTrueOf p y g (fact_at q mode no_names full))
+      → (c : Covers p k false frs after o y) × (has c.fact.places q ≡ true) × (c.origin ≡ g) × (c.fact ≡ fact_at q mode no_names full)
+  born_covers q o y g mode full method control small local birth root unlent unheld truth =
+      let covers : Covers p k false frs after o y = record {
+        body = st.number;
+        id = ap (body_id p) method ∙ st.id;
+        origin = g;
+        fact = fact_at q mode no_names full;
+        reached = subst (λ (t : List Todo). Reach p st.number (relation_of p st.number) g t (fact_at q mode no_names full)) (sym control) (born i 0 (move_of s) st.control (step_there p fr st i s here)
+            (ap (λ (x : Option (Origin × Fact)). slice_get (optional x ++ reset_births p st.number s.action s.pos) 0) birth));
+        alone = single_place-alone q small;
+        places = λ z small' is. subst (λ (u : Place). root_of k (place_value p k after.method after.locals u) ≡ Some o) (at_one q small mode no_names full z small' is) root;
+        true' = λ claimed mine. truth claimed;
+        lent = λ lent. absurd (true≢false (sym lent ∙ unlent (method_at p after.method)));
+        free = λ claimed held. absurd (true≢false (sym held ∙ unheld));
+        known = λ done tells apart. absurd (silent tells);
+        fields = λ n inside wide is. absurd (no_field q small mode no_names full local n inside is);
+        held = λ n inside is heavy. absurd (no_field q small mode no_names full local n inside is);
+      } in
+      (covers, at_itself q small mode no_names full, refl, refl)
+    where
+      -- what is born tells of no calls
+      silent : tells_calls p after.method g (fact_at q mode no_names full) ≡ true → ⊥
+      silent tells = elim (tells_by p after.method g (fact_at q mode no_names full) tells) [
+        | inl lent ↦ true≢false (sym lent ∙ unlent (method_at p after.method))
+        | inr held ↦ true≢false (sym held.1 ∙ unheld)
+      ]

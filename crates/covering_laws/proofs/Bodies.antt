@@ -10,23 +10,23 @@ use Rattle.program_model.specs.declared.program.Program.{Program}
 use Rattle.program_model.specs.Lookups.{class_at, method_at}
 use Rattle.program_model.specs.Overrides.{is_library, is_library_in}
 use Rattle.program_model.specs.Validity.{MayHaveBody}
-use Rattle.value_type_laws.specs.AliasCases.{calls_alias, gives_exception, has_bad_alias_form, has_owning_alias, has_unequal_sets, is_half_marked}
-use Rattle.value_type_laws.specs.Bodies.{alias_in, alias_position, constructs, is_alias_constructor, is_constructor, is_constructor_kind, method_of}
-use Rattle.value_type_laws.specs.MustCallSets.{is_empty, must_of_optional, must_of_type}
-use Rattle.value_type_laws.specs.Signatures.{is_owning_at, is_present, owning_in, type_in}
+use Rattle.ledger_obligations.specs.AliasCases.{calls_alias, gives_exception, has_bad_alias_form, has_owning_alias, has_unequal_sets, is_half_marked}
+use Rattle.ledger_obligations.specs.Bodies.{alias_in, alias_position, constructs, is_alias_constructor, is_constructor, is_constructor_kind, method_of}
+use Rattle.ledger_obligations.specs.MustCallSets.{is_empty, must_of_optional, must_of_type}
+use Rattle.ownership_rules.specs.Signatures.{is_owning_at, is_present, owning_in, type_in}
 use Rattle.java_control.specs.declared.fact.OriginKind.{OriginKind}
 use Rattle.java_control.specs.declared.fact.OriginKind.TheVariants as kinds
-use Rattle.target_laws.specs.Facts.{is_origin_at}
-use Rattle.target_laws.specs.Accept.{Accept}
-use Rattle.program_call_laws.specs.Calls.{body_of}
-use Rattle.program_call_laws.specs.Configuration.{Frame}
-use Rattle.target_laws.specs.Moves.{has_body}
-use Rattle.tracking_laws.specs.Agreement.{Stands}
-use Rattle.tracking_laws.specs.PlainForms.{AliasesPlainly, IsPlainSignature, TakesAliasFreely, is_lent_parameter}
-use Rattle.kept_argument_laws.specs.PlaceFacts.{is_lent}
-use Rattle.kept_argument_laws.proofs.Following.{method_here}
-use Rattle.kept_argument_laws.proofs.KeptFacts.{own_position}
-use Rattle.tracking_laws.proofs.AliasConducts.{argument_has_names, no_refusal}
+use Rattle.ownership_rules.specs.Facts.{is_origin_at}
+use Rattle.value_laws.specs.Accept.{Accept}
+use Rattle.ledger_steps.specs.LedgerCallsCalls.{body_of}
+use Rattle.value_laws.specs.Configuration.{Frame}
+use Rattle.value_laws.specs.Moves.{has_body}
+use Rattle.value_laws.specs.Agreement.{Stands}
+use Rattle.value_laws.specs.PlainForms.{AliasesPlainly, IsPlainSignature, TakesAliasFreely, is_lent_parameter}
+use Rattle.value_laws.specs.PlaceFacts.{is_lent}
+use Rattle.covering_laws.proofs.Following.{method_here}
+use Rattle.value_laws.proofs.KeptFacts.{own_position}
+use Rattle.value_laws.proofs.AliasConducts.{argument_has_names, no_refusal}
 
 pub body_is_of_program : (p : Program) (ac : Accept p) (m : MethodId) (x : Method) → method_at p m ≡ Some x → has_body x.body ≡ true → is_library p x.class ≡ false
 body_is_of_program p ac m x at has = by_body x.body refl has (ac.well_formed.valid.typed.methods m x at).bodiless
@@ -97,3 +97,12 @@ argument_is_lent p ac fr st plain aliased kind at = of_some (alias_position p st
         let alias : (run.0).sig.alias ≡ Some k = sym (ap alias_in body_method) ∙ is in
         let free = freely_taken p run.0 (subst (IsPlainSignature p) run.1 plain) run.2 new k alias in
         at_parameter free.0 free.1 free.2 free.3 free.4 (ap (is_origin_at kind) (sym (ap alias_in body_method ∙ free.2)) ∙ at)
+
+-- the aliased argument of a constructor is a parameter
+pub aliased_parameter : (p : Program) (ac : Accept p) (fr : Frame) (st : Stands p fr) → IsPlainSignature p (method_at p fr.method) → constructs (method_at p fr.method) ≡ true → (k : ℕ) → alias_position p st.number ≡ Some k
+    → (v : ℕ) × (alias_position p st.number ≡ Some (suc v))
+aliased_parameter p ac fr st plain makes k is =
+    let run = running_method p ac fr st in
+    let body_method : method_of p st.number ≡ Some run.0 = method_here p fr st ∙ run.1 in
+    let free = freely_taken p run.0 (subst (IsPlainSignature p) run.1 plain) run.2 (ap constructs (sym run.1) ∙ makes) k (sym (ap alias_in body_method) ∙ is) in
+    (free.0, ap alias_in body_method ∙ free.2)

@@ -7,7 +7,7 @@ use Rattle.rlc_base.specs.declared.place.Pos.{Pos}
 use Rattle.rlc_base.proofs.SetLaws.{empty_within, within_from, within_self}
 use Rattle.program_model.specs.declared.kinds.ClassId.{ClassId}
 use Rattle.program_model.specs.declared.program.Program.{Program}
-use Rattle.value_type_laws.specs.MustCallSets.{Names, fits, must_of, no_names}
+use Rattle.ledger_obligations.specs.MustCallSets.{Names, fits, must_of, no_names}
 use Rattle.java_control.specs.declared.fact.Mode.TheVariants as modes
 use Rattle.java_control.specs.declared.fact.OriginKind.{OriginKind}
 use Rattle.java_control.specs.declared.fact.OriginKind.TheVariants as kinds
@@ -15,7 +15,7 @@ use Rattle.java_control.specs.declared.place.Place.{Place}
 use Rattle.ownership_rules.specs.Births.{fact_at, origin_of}
 use Rattle.ledger_state.specs.declared.object.Object.{Object}
 use Rattle.ledger_obligations.specs.Obligations.{first_set}
-use Rattle.kept_argument_laws.specs.PlaceFacts.{IsTrueOf, is_lent}
+use Rattle.value_laws.specs.PlaceFacts.{IsTrueOf, is_lent}
 use Rattle.program_model.specs.declared.program.Method.{Method}
 use Rattle.program_model.specs.declared.kinds.FieldId.{FieldId}
 

@@ -7,25 +7,25 @@ use Rattle.program_model.specs.declared.kinds.MethodKind.TheVariants as methods
 use Rattle.program_model.specs.declared.program.Method.{Method}
 use Rattle.program_model.specs.declared.program.Program.{Program}
 use Rattle.program_model.specs.Lookups.{method_at}
-use Rattle.tracking_laws.specs.Effective.{is_instance_kind}
-use Rattle.value_type_laws.specs.Bodies.{constructs, is_constructor_kind}
-use Rattle.value_type_laws.specs.WellFormed.{interest_of}
+use Rattle.value_laws.specs.Effective.{is_instance_kind}
+use Rattle.ledger_obligations.specs.Bodies.{constructs, is_constructor_kind}
+use Rattle.ledger_obligations.specs.WellFormed.{interest_of}
 use Rattle.java_control.specs.declared.action.Action.{Action}
 use Rattle.java_control.specs.declared.action.Action.TheVariants as actions
 use Rattle.java_control.specs.declared.action.TargetForm.TheVariants as forms
-use Rattle.target_laws.specs.Callees.{callee, is_super_target}
-use Rattle.target_laws.specs.Accept.{Accept}
+use Rattle.ownership_rules.specs.Callees.{callee, is_super_target}
+use Rattle.value_laws.specs.Accept.{Accept}
 use Rattle.ledger_state.specs.Contents.{HeapContents}
 use Rattle.ledger_state.specs.Heaps.{root_of}
 use Rattle.ledger_state.specs.Values.{number_of}
 use Rattle.ledger_state.specs.declared.locals.Locals.{Locals}
 use Rattle.ledger_obligations.specs.Obligations.{has_note, note}
-use Rattle.program_call_laws.specs.Calls as calls
-use Rattle.program_call_laws.specs.Calls.{operand_of, receiver_note}
+use Rattle.ledger_steps.specs.LedgerCallsCalls as calls
+use Rattle.ledger_steps.specs.LedgerCallsCalls.{operand_of, receiver_note}
 use Rattle.ledger_state.specs.Locals.{temp_in}
-use Rattle.tracking_laws.specs.PlainForms.{IsPlainAction}
-use Rattle.tracking_laws.specs.Outcomes.{IsCallRow}
-use Rattle.tracking_laws.proofs.CallNames.{IsReceiver, object_with_root}
+use Rattle.value_laws.specs.PlainForms.{IsPlainAction}
+use Rattle.value_laws.specs.Outcomes.{IsCallRow}
+use Rattle.value_laws.proofs.CallNames.{IsReceiver, object_with_root}
 
 -- a constructor counts for no name
 no_instance : (k : MethodKind) → is_constructor_kind k ≡ true → is_instance_kind k ≡ false

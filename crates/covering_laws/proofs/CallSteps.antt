@@ -1,48 +1,55 @@
 -- The top frame takes a step of a call that has ended: one of the library, or one whose frame has gone.
-use Rattle.std.proofs.Common.{◌≡◌, ◌⊎◌, ℕ, true, false, Some, None, slice_get, arith}
+use Rattle.std.proofs.Common.{◌≡◌, ◌⊎◌, inl, inr, ℕ, ◌+◌, Bool, true, false, true≢false, Some, None, List, length, slice_get, refl, sym, ◌∙◌, arith}
+use Rattle.std.proofs.lemmas.Bool.{or_left}
 use Rattle.std.specs.FinSet as set
 use Rattle.rlc_base.specs.declared.name_id.NameId.{NameId}
+use Rattle.program_model.specs.declared.kinds.ClassId.{ClassId}
 use Rattle.program_model.specs.declared.program.Program.{Program}
-use Rattle.value_type_laws.specs.Bodies.{reset_in}
-use Rattle.value_type_laws.specs.MustCallSets.{is_heavy_class}
+use Rattle.ledger_obligations.specs.MustCallSets.{is_heavy_class}
 use Rattle.java_control.specs.Control.{Step}
 use Rattle.java_control.specs.PlaceNumbers.{IsSmall}
 use Rattle.java_control.specs.Sources.{source}
 use Rattle.java_control.specs.declared.place.Place.{Place}
-use Rattle.target_laws.specs.Callees.{callee, is_super_target}
-use Rattle.alias_sets.specs.Aliases.{gives_alias}
-use Rattle.called_methods.specs.CalledRows.{interest_in, promises_at, called_after}
-use Rattle.target_laws.specs.Accept.{Accept}
+use Rattle.ownership_rules.specs.Callees.{callee, is_super_target}
+use Rattle.value_laws.specs.Aliases.{gives_alias}
+use Rattle.value_laws.specs.CalledRows.{interest_in, promises_at, called_after}
+use Rattle.value_laws.specs.Accept.{Accept}
 use Rattle.ledger_state.specs.Contents.{HeapContents}
 use Rattle.ledger_state.specs.Heaps.{object_at, root_of}
+use Rattle.ledger_state.specs.declared.entry.Owner.TheVariants as owners
 use Rattle.ledger_state.specs.declared.object.Object.{Object}
 use Rattle.ledger_state.specs.declared.value.Value.{Value}
-use Rattle.program_call_laws.specs.Places.{place_value}
-use Rattle.program_call_laws.specs.Calls.{operand_of}
-use Rattle.program_call_laws.specs.Configuration.{Frame}
-use Rattle.target_laws.specs.Choosing.{frame_steps}
-use Rattle.target_laws.specs.Frames.{frame_after, is_made, made_place}
-use Rattle.program_call_laws.specs.Heaps.{GoesOn, HasEarlierLinks}
-use Rattle.field_place_laws.specs.Places.{is_local}
-use Rattle.tracking_laws.specs.Agreement.{Stands}
-use Rattle.tracking_laws.specs.Outcomes.{IsCallRow}
-use Rattle.fact_step_laws.proofs.Going.{calls, given}
-use Rattle.kept_argument_laws.specs.PlaceFacts.{Covers, IsCovered, may_owe, is_lent}
+use Rattle.value_laws.specs.Places.{place_value}
+use Rattle.ledger_steps.specs.LedgerCallsCalls.{operand_of}
+use Rattle.value_laws.specs.Configuration.{Frame}
+use Rattle.value_laws.specs.Choosing.{frame_steps}
+use Rattle.value_laws.specs.Frames.{frame_after, is_made, made_place}
+use Rattle.value_laws.specs.Heaps.{GoesOn, HasEarlierLinks}
+use Rattle.value_laws.specs.PlacePlaces.{is_local}
+use Rattle.value_laws.specs.Agreement.{Stands}
+use Rattle.value_laws.specs.Outcomes.{After, IsCallRow}
+use Rattle.value_laws.specs.Anew.{GoesAnew, is_target}
+use Rattle.value_laws.proofs.Going.{moves_away}
+use Rattle.value_laws.proofs.Resetting.{call_goes_so}
+use Rattle.value_laws.specs.PlaceFacts.{Covers, IsCovered, IsOwned, owned, unowned, gives_away, gives_none, is_lent, may_owe}
+use Rattle.ownership_rules.specs.Facts.{has, is_held, is_own}
+use Rattle.covering_laws.proofs.GivenArguments.{away_moves}
+use Rattle.covering_laws.proofs.Owners.{KeepsGiven, StaysApart}
 use Rattle.covering_laws.proofs.KnownNames.{AreKept, known_after_call, operand_holds, receiver_is_operand}
-use Rattle.covering_laws.proofs.TopSteps.{ComesFrom, IsLocalStep, top_covered, after_both}
+use Rattle.covering_laws.proofs.TopSteps.{IsKeyedFrom, IsLocalStep, IsMadeSo, after_as, after_both, top_from}
 use Rattle.covering_laws.proofs.Waiting.{Carries, HoldsThere, KeepsFields, KeepsReady, KeepsRootsOf}
-use Rattle.fact_step_laws.specs.Going.{GoesAs, is_owned_in}
+use Rattle.value_laws.specs.FactGoing.{GoesAs, is_owned_in}
 use Rattle.program_model.specs.Lookups.{method_at}
 use Rattle.java_control.specs.declared.fact.Fact.{Fact}
 use Rattle.java_control.specs.declared.fact.Origin.{Origin}
 use Rattle.ownership_rules.specs.MovesAtCalls.{moved_at_call}
-use Rattle.flow_rules.specs.Flow.{flow}
-use Rattle.alias_sets.specs.PlaceRows.{places_after}
+use Rattle.value_laws.specs.Flow.{flow}
+use Rattle.value_laws.specs.PlaceRows.{places_after}
 use Rattle.ownership_rules.specs.declared.moved.Moved.TheVariants as moves
 
 module _ (p : Program) (ac : Accept p) (h k : HeapContents) (links : HasEarlierLinks h) (carries : Carries h k) (fields : KeepsFields p h k)
     (fr : Frame) (st : Stands p fr) (i : ℕ) (s : Step) (here : slice_get (frame_steps p fr) i ≡ Some s) (r : IsLocalStep p fr st s) (inside : HoldsThere p h fr) (roots : KeepsRootsOf p h k fr) (v : Value)
-    (row : IsCallRow s.action) (no_reset : reset_in (callee p s.action) ≡ None) where
+    (row : IsCallRow s.action) where
   abbrev after : Frame
   after = frame_after p h fr s v
 
@@ -50,32 +57,77 @@ module _ (p : Program) (ac : Accept p) (h k : HeapContents) (links : HasEarlierL
   abbrev pub IsTrustedIn : Origin → Fact → Type 0
   IsTrustedIn o g = (is_owned_in g.mode ≡ true) ⊎ (is_lent p (method_at p fr.method) o.kind ≡ true)
 
-  -- where the object moves, the fact says no longer that it is owned
+  -- where the object moves, the fact says no longer that it is owned; where its obligation is created anew, the fact goes on anew
   abbrev pub IsGivenOr : Origin → Fact → Fact → Type 0
-  IsGivenOr o f g = moved_at_call p o s.action s.edge f ≡ moves.Moves → is_owned_in g.mode ≡ false
+  IsGivenOr o f g =
+      (moved_at_call p o s.action s.edge f ≡ moves.Moves → is_owned_in g.mode ≡ false)
+      × (is_target p s.action f.places ≡ true → GoesAnew p st.number o s.action f (places_after p st.number s.action s.edge f.places) g)
 
-  -- `noted`: the call is noted on its receiver. `kept`: what the signature promises at the places of a fact was done. `alias`: an alias of
-  -- the object of a fact has that object for its root. `made`: what the call gives is covered, or comes from an operand
-  pub call_covered : IsCovered p h fr → KeepsReady p h k fr
-      → ((o : ℕ) (x y : Object) (n : NameId) → object_at h o ≡ Some x → object_at k o ≡ Some y → root_of h (operand_of fr.locals s.action 0) ≡ Some o → is_super_target s.action ≡ false
-      → interest_in (callee p s.action) ≡ Some n → x.finished ≡ true → GoesOn x y → is_heavy_class p x.class ≡ true → may_owe x ≡ true → set.contains y.called n.0 ≡ true)
-      → ((z : Place) (o : ℕ) (x y : Object) (c : Covers p h fr z o x) → object_at h o ≡ Some x → object_at k o ≡ Some y → (g : Fact) → IsGivenOr c.origin c.fact g → IsTrustedIn c.origin g → x.finished ≡ true → GoesOn x y
-      → is_heavy_class p c.origin.class ≡ true
-      → is_heavy_class p x.class ≡ true → may_owe x ≡ true → AreKept p st.number s.action c.fact.places y.called (promises_at p s.action s.edge))
-      → ((z : Place) (o : ℕ) (x : Object) (c : Covers p h fr z o x) → object_at h o ≡ Some x → is_heavy_class p x.class ≡ true → may_owe x ≡ true → gives_alias p s.action s.edge c.fact.places ≡ true → root_of k v ≡ Some o)
-      → ((q : Place) (o : ℕ) (y : Object) → IsSmall q → is_local q ≡ true → source p st.body s.action s.edge q ≡ None → is_made (made_place s.action) q ≡ true
-      → place_value p k fr.method after.locals q ≡ v → root_of k v ≡ Some o → object_at k o ≡ Some y → is_heavy_class p y.class ≡ true → may_owe y ≡ true
-      → Covers p k after q o y ⊎ ComesFrom p ac h k links carries fields fr st i s here r inside roots v q o)
-      → IsCovered p k after
-  call_covered covered ready noted kept alias made = top_covered p ac h k links carries fields fr st i s here r inside roots v covered ready
-      IsGivenOr
-      (λ z o x c q is. after_both (GoesAs c.fact (places_after p st.number s.action s.edge c.fact.places) (called_after p st.number s.action s.edge c.fact)) (λ (g : Fact). is_owned_in g.mode ≡ false)
-      (flow p st.number c.origin s.action s.edge c.fact) (moved_at_call p c.origin s.action s.edge c.fact ≡ moves.Moves)
-      (calls p st.number c.origin s.action s.edge c.fact q row no_reset is) (λ one. given p st.number c.origin s.action s.edge c.fact q row no_reset is one))
-      (λ z o x y c before at g more trusted done goes wide some owes was.
-      known_after_call p st.number s.action s.edge c.fact y.called row r.no_reset was
-      (λ n receives interest.
-      let operand = receiver_is_operand p h fr.method fr.locals o s.action c.fact.places c.places receives in
-      noted o x y n before at (operand_holds p h fr.method fr.locals s.action o 0 c.fact.places r.small (omega arith) c.places operand.1) operand.0 interest done goes some owes)
-      (kept z o x y c before at g more trusted done goes wide some owes))
-      alias made
+  -- what goes on in a fact that owns it is not given away
+  stays_here : (frs : List Frame) (away : Bool) (o : ℕ) (x : Object) (c : Covers p h away frs fr o x) → IsOwned p h away frs fr o x c → is_heavy_class p x.class ≡ true → (g : Fact) → IsGivenOr c.origin c.fact g → is_own g.mode ≡ true
+      → gives_away p h fr.locals s.action o x.class ≡ false
+  stays_here frs away o x c key heavy g more own = go (gives_away p h fr.locals s.action o x.class) refl
+    where
+      go : (b : Bool) → gives_away p h fr.locals s.action o x.class ≡ b → gives_away p h fr.locals s.action o x.class ≡ false
+      go false none = none
+      go true gives = absurd (true≢false (sym (or_left (is_own g.mode) (is_held g.mode) own) ∙ more.0 (away_moves p ac h fr st frs i s here row away o x c key heavy gives)))
+
+  -- `at_step`: what is given away is given by this call. `owner`: what is not, the frame goes on owning. `noted`: the call is noted on its receiver.
+  -- `kept`: what the signature promises at the places of a fact was done. `alias`: an alias of the object of a fact has that object for its root. `made`: what
+  -- the call gives is covered, or comes from an operand
+  module _ (frs : List Frame) (gives : ℕ → ClassId → Bool)
+      (at_step : (o : ℕ) (c : ClassId) → gives o c ≡ true → gives_away p h fr.locals s.action o c ≡ true)
+      (covered : IsCovered p h gives frs fr)
+      (ready : KeepsReady p h k fr)
+      (gifts : KeepsGiven p h k frs)
+      (others : StaysApart p h k (length frs + 1) fr)
+      (owner : (o : ℕ) (x y : Object) → object_at h o ≡ Some x → object_at k o ≡ Some y → x.finished ≡ true → is_heavy_class p x.class ≡ true → gives_away p h fr.locals s.action o x.class ≡ false → x.owner ≡ owners.Frame (length frs + 1) → y.owner ≡ owners.Frame (length frs + 1))
+      (noted : (o : ℕ) (x y : Object) (n : NameId) → object_at h o ≡ Some x → object_at k o ≡ Some y → root_of h (operand_of fr.locals s.action 0) ≡ Some o → is_super_target s.action ≡ false → interest_in (callee p s.action) ≡ Some n → gives o x.class ≡ false → x.finished ≡ true → GoesOn x y → is_heavy_class p x.class ≡ true → may_owe x ≡ true → set.contains y.called n.0 ≡ true)
+      (kept : (o : ℕ) (x y : Object) (c : Covers p h (gives o x.class) frs fr o x) → object_at h o ≡ Some x → object_at k o ≡ Some y → (g : Fact) → IsGivenOr c.origin c.fact g → IsTrustedIn c.origin g → gives o x.class ≡ false → x.finished ≡ true → GoesOn x y → is_heavy_class p c.origin.class ≡ true → is_heavy_class p x.class ≡ true → may_owe x ≡ true → AreKept p st.number s.action c.fact.places y.called (promises_at p s.action s.edge))
+      (alias : (o : ℕ) (x : Object) (c : Covers p h (gives o x.class) frs fr o x) → object_at h o ≡ Some x → is_heavy_class p x.class ≡ true → may_owe x ≡ true → gives_alias p s.action s.edge c.fact.places ≡ true → root_of k v ≡ Some o)
+      (made : (q : Place) (o : ℕ) (y : Object) → IsSmall q → is_local q ≡ true → source p st.body s.action s.edge q ≡ None → is_made (made_place s.action) q ≡ true → place_value p k fr.method after.locals q ≡ v → root_of k v ≡ Some o → object_at k o ≡ Some y → is_heavy_class p y.class ≡ true → may_owe y ≡ true → IsMadeSo p ac h k links carries fields fr st i s here r inside roots v frs gives IsGivenOr q o y) where
+    not_given : (b : Bool) {d : Bool} → (b ≡ true → d ≡ true) → d ≡ false → b ≡ false
+    not_given false goes none = refl
+    not_given true goes none = absurd (true≢false (sym (goes refl) ∙ none))
+
+    -- what the call makes of a fact of the frame
+    call_row : (o : ℕ) (x : Object) (c : Covers p h (gives o x.class) frs fr o x) (q : Place) → has (places_after p st.number s.action s.edge c.fact.places) q ≡ true
+        → After (λ (g : Fact). GoesAs c.fact (places_after p st.number s.action s.edge c.fact.places) (called_after p st.number s.action s.edge c.fact) g × IsGivenOr c.origin c.fact g) (flow p st.number c.origin s.action s.edge c.fact)
+    call_row o x c q is =
+        after_as
+        (λ (g : Fact). (GoesAs c.fact (places_after p st.number s.action s.edge c.fact.places) (called_after p st.number s.action s.edge c.fact) g
+        × (is_target p s.action c.fact.places ≡ true → GoesAnew p st.number c.origin s.action c.fact (places_after p st.number s.action s.edge c.fact.places) g))
+        × (moved_at_call p c.origin s.action s.edge c.fact ≡ moves.Moves → is_owned_in g.mode ≡ false))
+        (λ (g : Fact). GoesAs c.fact (places_after p st.number s.action s.edge c.fact.places) (called_after p st.number s.action s.edge c.fact) g × IsGivenOr c.origin c.fact g)
+        (flow p st.number c.origin s.action s.edge c.fact) (λ g both. (both.0.0, (both.1, both.0.1)))
+        (after_both
+        (λ (g : Fact). GoesAs c.fact (places_after p st.number s.action s.edge c.fact.places) (called_after p st.number s.action s.edge c.fact) g
+        × (is_target p s.action c.fact.places ≡ true → GoesAnew p st.number c.origin s.action c.fact (places_after p st.number s.action s.edge c.fact.places) g))
+        (λ (g : Fact). is_owned_in g.mode ≡ false) (flow p st.number c.origin s.action s.edge c.fact) (moved_at_call p c.origin s.action s.edge c.fact ≡ moves.Moves)
+        (call_goes_so p st.number c.origin s.action s.edge c.fact q row is) (λ one. moves_away p st.number c.origin s.action s.edge c.fact q row is one))
+
+    -- each place after the call is in a fact that comes from one before it, or was born
+    pub call_from : (q : Place) (o : ℕ) (y : Object) → IsSmall q → root_of k (place_value p k fr.method after.locals q) ≡ Some o → object_at k o ≡ Some y → is_heavy_class p y.class ≡ true → may_owe y ≡ true
+        → IsKeyedFrom p ac h k links carries fields fr st i s here r inside roots v frs gives IsGivenOr q o y
+    call_from = top_from p ac h k links carries fields fr st i s here r inside roots v frs gives covered ready gifts others
+        IsGivenOr
+        call_row
+        (λ o x y c before at g more trusted stays done goes wide some owes was.
+        known_after_call p st.number s.action s.edge c.fact y.called row r.no_reset was
+        (λ n receives interest.
+        let operand = receiver_is_operand p h fr.method fr.locals o s.action c.fact.places c.places receives in
+        noted o x y n before at (operand_holds p h fr.method fr.locals s.action o 0 c.fact.places r.small (omega arith) c.places operand.1) operand.0 interest stays done goes some owes)
+        (kept o x y c before at g more trusted stays done goes wide some owes))
+        alias
+        (λ o x y c key before at heavy owes g more own.
+        let stays = stays_here frs (gives o x.class) o x c key heavy g more own in (
+          not_given (gives o x.class) (at_step o x.class) stays,
+          (λ done mine. owner o x y before at done heavy stays mine),
+        ))
+        made
+
+    pub call_covered : IsCovered p k gives_none frs after
+    call_covered q o y small held at heavy owes = elim (call_from q o y small held at heavy owes) [
+      | inl key ↦ owned key.0 key.1 key.2
+      | inr free ↦ unowned free
+    ]

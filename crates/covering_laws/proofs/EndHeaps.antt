@@ -10,7 +10,7 @@ use Rattle.program_model.specs.declared.kinds.ClassId.{ClassId}
 use Rattle.program_model.specs.declared.kinds.MethodId.{MethodId}
 use Rattle.program_model.specs.declared.program.Method.{Method}
 use Rattle.program_model.specs.declared.program.Program.{Program}
-use Rattle.value_type_laws.specs.MustCallSets.{must_of}
+use Rattle.ledger_obligations.specs.MustCallSets.{must_of}
 use Rattle.java_control.specs.declared.action.Action.{Action}
 use Rattle.java_control.specs.declared.action.Action.TheVariants as actions
 use Rattle.java_control.specs.declared.action.TargetForm.{TargetForm}
@@ -26,32 +26,24 @@ use Rattle.ledger_state.specs.declared.value.Value.{Value}
 use Rattle.ledger_state.specs.declared.value.Value.TheVariants as values
 use Rattle.ledger_obligations.specs.declared.note.Note.{Note}
 use Rattle.ledger_obligations.specs.Obligations.{all_notes, is_the_one, note, noted_object}
-use Rattle.program_call_laws.specs.Calls.{alias_position, alias_target, form_of, interest_in, is_alias, note_by_form, note_of_name, note_of_object, operand_of, receiver_note, reset_position}
+use Rattle.ledger_steps.specs.LedgerCallsCalls.{alias_position, alias_target, form_of, interest_in, is_alias, note_by_form, note_of_name, note_of_object, operand_of, receiver_note, reset_position}
 use Rattle.ledger_steps.specs.Ends.{call_ended, finished_by_new, frame_gone, object_finished, returned_heap, returned_reset}
-use Rattle.program_call_laws.specs.Heaps.{GoesOn, HasEarlierLinks, HasSmallName, KeepsLinks}
-use Rattle.program_call_laws.specs.Leading.{Leads, LinksOne, goes_on_from, is_passed_on}
-use Rattle.program_call_laws.proofs.Laws.{changed_object_at-object, evolving_heaps-links, leading_links-on, noted_names_reach_roots, notes_add_names-object, numbers_are_in_range, roots_go_on-number, roots_over_a_link-linked, roots_over_a_link-number, unchanged_fields_keep_contents}
-use Rattle.program_call_laws.proofs.ObjectLaws.{goes_on_further}
-use Rattle.program_call_laws.specs.ProgramCalls as program_calls
-use Rattle.program_call_laws.proofs.EndLinks.{end_links, end_links_one, gone_evolves, gone_links}
-use Rattle.program_call_laws.proofs.EndLinks as program_ends
-use Rattle.program_call_laws.proofs.Returned.{IsFrom, end_back, gone_back, gone_unowned, result_back}
-use Rattle.kept_argument_laws.specs.FieldContents.{is_new}
-use Rattle.range_laws.proofs.Growth.{gone_grows, returned_grows}
-use Rattle.tracking_laws.proofs.CallNames.{IsReceiver}
-use Rattle.tracking_laws.proofs.Chains.{object_there}
+use Rattle.value_laws.specs.Heaps.{GoesOn, HasEarlierLinks, HasSmallName, KeepsLinks}
+use Rattle.value_laws.specs.Leading.{Leads, LinksOne, goes_on_from, is_passed_on}
+use Rattle.value_laws.proofs.HeapLaws.{changed_object_at-object, evolving_heaps-links, leading_links-on, noted_names_reach_roots, notes_add_names-object, numbers_are_in_range, roots_go_on-number, roots_over_a_link-linked, roots_over_a_link-number, unchanged_fields_keep_contents}
+use Rattle.value_laws.proofs.ObjectLaws.{goes_on_further}
+use Rattle.value_laws.specs.ProgramCalls as program_calls
+use Rattle.value_laws.proofs.EndLinks.{end_links, end_links_one, gone_evolves, gone_links}
+use Rattle.value_laws.proofs.EndLinks as program_ends
+use Rattle.value_laws.proofs.Returned.{IsFrom, end_back, gone_back, gone_unowned, result_back}
+use Rattle.value_laws.specs.FieldContents.{is_new}
+use Rattle.value_laws.proofs.Growth.{gone_grows, returned_grows}
+use Rattle.value_laws.proofs.CallNames.{IsReceiver}
+use Rattle.value_laws.proofs.Chains.{object_there}
 use Rattle.covering_laws.proofs.MadeObjects.{grown_fields, one_here}
+use Rattle.covering_laws.proofs.EndOwners.{end_keeps_library}
+pub use Rattle.covering_laws.proofs.EndOwners.{number_value, same_new}
 use Rattle.covering_laws.proofs.Waiting.{Carries, IsCarried, KeepsFields, KeepsOtherRoots, KeepsRoots, KeepsUnfinished, linked_roots}
-
-pub same_new : (a : Action) → program_calls.is_new a ≡ true → is_new a ≡ true
-same_new actions.Skip is = absurd (true≢false (sym is))
-same_new (actions.New m d n) is = refl
-same_new a is = absurd (true≢false (sym is))
-
-pub number_value : (v : Value) (n : ℕ) → number_of v ≡ Some n → v ≡ values.Object n
-number_value (values.Object k) n is = ap values.Object (let both : Some k ≡ Some n = is in (let one : k ≡ n = cc in one))
-number_value values.Nothing n is = absurd (let never : None ≡ Some n = is in cc)
-number_value v n is = absurd (let never : None ≡ Some n = is in cc)
 
 -- the note of a call has a name of the table
 small_of_name : (k : ℕ) (i : Option NameId) → ((n : NameId) → i ≡ Some n → n.0 < 128) → All HasSmallName (note_of_name k i)
@@ -124,7 +116,7 @@ module _ (p : Program) (at : ℕ) (self : Value) (l : Locals) (a : Action) (runs
       | inl alias ↦ made_was n alias.0 y alias.2.new alias.2.self alias.1 alias.2.class
       | inr noted ↦ (let z = was_there n noted.0 noted.1 in
           let all = goes_on_further z.0 noted.0 y z.2 (noted_on n noted.0 y noted.2) in
-          (z.0, z.1, all.class, (λ done. all)))
+          (z.0, z.1, all.class, (λ done. (all, λ library. end_keeps_library p at self l a runs named v e h no_reset making n z.0 y z.1 now done library))))
     ]
   ]
 
@@ -258,15 +250,15 @@ finished_here p at w self l m d n runs named v h y no_alias is now =
     by : (x : Object) → object_finished p at named (alias_target (operand_of l (actions.New m d n)) named) x ≡ y → (y.finished ≡ true) × (y.must ≡ must_of p y.class)
     by x same = subst (λ (z : Object). (z.finished ≡ true) × (z.must ≡ must_of p z.class)) same (rw no_alias refl, rw no_alias refl)
 
--- where its constructor has an aliased argument that is null, nothing must be called on it
+-- where its constructor has an aliased argument that is null, it is the library's
 pub null_here : (p : Program) (at w : ℕ) (self : Value) (l : Locals) (m : MethodId) (d n : ℕ) (runs named : Option Method) (v : Value) (h : HeapContents) (y : Object) → is_alias named ≡ true
     → alias_target (operand_of l (actions.New m d n)) named ≡ None → self ≡ values.Object w → object_at (returned_heap p at self l (actions.New m d n) runs named v None h) w ≡ Some y
-    → (y.finished ≡ true) × (y.must ≡ set.empty)
+    → (y.finished ≡ true) × (y.owner ≡ owners.Library)
 null_here p at w self l m d n runs named v h y alias none is now =
     let reset = returned_reset p l (actions.New m d n) named (frame_gone p at self runs v None h) in
     let target = alias_target (operand_of l (actions.New m d n)) named in
     let x = one_here w (object_finished p at named target) reset y (subst (λ (u : Value). object_at (finished_by_new p at (actions.New m d n) named (number_of u) (alias_target (operand_of l (actions.New m d n)) named) (returned_reset p l (actions.New m d n) named (frame_gone p at self runs v None h))) w ≡ Some y) is now) in
     by x.0 x.2
   where
-    by : (x : Object) → object_finished p at named (alias_target (operand_of l (actions.New m d n)) named) x ≡ y → (y.finished ≡ true) × (y.must ≡ set.empty)
-    by x same = subst (λ (z : Object). (z.finished ≡ true) × (z.must ≡ set.empty)) same (rw (alias, none) refl, rw (alias, none) refl)
+    by : (x : Object) → object_finished p at named (alias_target (operand_of l (actions.New m d n)) named) x ≡ y → (y.finished ≡ true) × (y.owner ≡ owners.Library)
+    by x same = subst (λ (z : Object). (z.finished ≡ true) × (z.owner ≡ owners.Library)) same (rw (alias, none) refl, rw (alias, none) refl)

@@ -1,7 +1,7 @@
 -- A frame ends, and with it the call at which the frame below waits.
-use Rattle.std.proofs.Common.{Bool, List, None, Option, Some, ap, false, inl, not, refl, slice_get, subst, sym, true, true≢false, ℕ, ◌<◌, ◌∙◌, ◌∷◌, ◌≡◌, ◌⊎◌, inr}
+use Rattle.std.proofs.Common.{Bool, List, None, Option, Some, ap, arith, false, inl, length, not, refl, slice_get, subst, sym, true, true≢false, ℕ, ◌+◌, ◌<◌, ◌∙◌, ◌∷◌, ◌≡◌, ◌⊎◌, inr}
 use Rattle.std.proofs.lemmas.Bool.{and_from}
-use Rattle.rlc_base.proofs.SetLaws.{within_at, within_self}
+use Rattle.rlc_base.proofs.SetLaws.{within_at}
 use Rattle.std.specs.Prelude.{is_some}
 use Rattle.std.specs.FinSet as set
 use Rattle.std.proofs.lemmas.List.Elements.{All-head, All-tail}
@@ -11,18 +11,16 @@ use Rattle.program_model.specs.declared.kinds.MethodId.{MethodId}
 use Rattle.program_model.specs.declared.program.Method.{Method}
 use Rattle.program_model.specs.declared.program.Program.{Program}
 use Rattle.program_model.specs.Lookups.{method_at}
-use Rattle.program_model.specs.SuperTests.{is_under}
-use Rattle.program_conditions.specs.Conditions.{MakesNoString}
-use Rattle.value_type_laws.specs.WellFormed.{HasSmallInterests}
+use Rattle.ledger_obligations.specs.WellFormed.{HasSmallInterests}
 use Rattle.java_control.specs.Calls.{called_method}
 use Rattle.java_control.specs.Control.{Step}
 use Rattle.java_control.specs.PlaceNumbers.{IsSmall}
 use Rattle.java_control.specs.declared.action.Action.{Action}
 use Rattle.java_control.specs.declared.action.Action.TheVariants as actions
 use Rattle.java_control.specs.declared.action.Completion.{Completion}
-use Rattle.target_laws.specs.Callees.{callee, callee_in, is_super_target}
-use Rattle.called_methods.specs.CalledRows.{interest_in}
-use Rattle.target_laws.specs.Accept.{Accept}
+use Rattle.ownership_rules.specs.Callees.{callee, callee_in, is_super_target}
+use Rattle.value_laws.specs.CalledRows.{interest_in}
+use Rattle.value_laws.specs.Accept.{Accept}
 use Rattle.ledger_state.specs.Contents.{HeapContents}
 use Rattle.ledger_state.specs.Heaps.{next_number, object_at, root, root_of, unfinished}
 use Rattle.ledger_state.specs.declared.entry.Owner.TheVariants as owners
@@ -31,66 +29,78 @@ use Rattle.ledger_state.specs.declared.locals.Locals.{Locals}
 use Rattle.ledger_state.specs.declared.object.Object.{Object}
 use Rattle.ledger_state.specs.declared.value.Value.{Value}
 use Rattle.ledger_state.specs.declared.value.Value.TheVariants as values
-use Rattle.ledger_obligations.specs.Obligations.{note}
-use Rattle.program_call_laws.specs.Calls.{alias_position, alias_target, body_of, object_by, operand_of, reset_position}
-use Rattle.program_call_laws.specs.Calls as calls
-use Rattle.program_call_laws.specs.Configuration.{Frame}
-use Rattle.target_laws.specs.Choosing.{frame_steps}
-use Rattle.target_laws.specs.Frames.{frame_after}
+use Rattle.ledger_obligations.specs.Obligations.{is_library_owner, note}
+use Rattle.ledger_steps.specs.LedgerCallsCalls.{alias_position, alias_target, body_of, object_by, operand_of, reset_position}
+use Rattle.ledger_steps.specs.LedgerCallsCalls as calls
+use Rattle.value_laws.specs.Configuration.{Frame}
+use Rattle.value_laws.specs.Choosing.{frame_steps}
+use Rattle.value_laws.specs.Frames.{frame_after}
 use Rattle.ledger_steps.specs.Ends.{answered, answered_normally, exception_class, result_value, returned_heap, thrown_in}
-use Rattle.program_call_laws.specs.Heaps.{GoesOn, HasEarlierLinks}
-use Rattle.program_call_laws.specs.Leading.{Leads, is_passed_on}
-use Rattle.program_call_laws.proofs.Laws.{roots_of_links-itself}
-use Rattle.tracking_laws.specs.Agreement.{IsMadeAfter, IsMadeBy, RunsItself, Stands}
-use Rattle.tracking_laws.specs.Chains.{HaveEnds}
-use Rattle.tracking_laws.specs.PlainForms.{HasPlainForms, IsPlainAction, IsPlainCall, MayRun, RunsFor}
-use Rattle.range_laws.specs.Nexts.{IsBackStep}
-use Rattle.range_laws.proofs.Cases.{none_runs}
-use Rattle.target_laws.specs.Frames.{KeepsTargets}
-use Rattle.tracking_laws.proofs.CallNames.{IsReceiver, object_with_root, operand_has_position, plain_no_reset, same_interest, small_name}
-use Rattle.tracking_laws.proofs.Ready.{call_sets, plain_call, plain_step, step_there}
-use Rattle.tracking_laws.proofs.Unmet.{way_of_call}
-use Rattle.value_type_laws.specs.Types.{GivesAsNamed, KeepsTypes}
-use Rattle.kept_argument_laws.specs.FieldContents.{IsBeingMade, IsDispatched, LinksLead, is_new}
-use Rattle.kept_argument_laws.specs.PlaceFacts.{AreCovered, Covers, IsCovered, may_owe}
-use Rattle.kept_argument_laws.specs.Ranges.{FieldsInRange, LocalsInRange}
-use Rattle.covering_laws.specs.Throws.{ExceptionsAreUnlinked, EndsByException}
+use Rattle.value_laws.specs.Heaps.{GoesOn, HasEarlierLinks}
+use Rattle.value_laws.specs.ProgramCalls.{IsReturned}
+use Rattle.value_laws.specs.Leading.{Leads, is_passed_on}
+use Rattle.value_laws.proofs.HeapLaws.{roots_of_links-itself}
+use Rattle.value_laws.specs.Agreement.{AllStand, HasMadeClasses, IsMadeAfter, IsMadeBy, RunsItself, Stands}
+use Rattle.value_laws.specs.Chains.{HaveEnds}
+use Rattle.value_laws.specs.PlainForms.{HasPlainForms, IsPlainAction, IsPlainCall, MayRun, RunsFor}
+use Rattle.value_laws.specs.Nexts.{IsBackStep}
+use Rattle.value_laws.proofs.Cases.{none_runs}
+use Rattle.value_laws.specs.Frames.{KeepsTargets}
+use Rattle.value_laws.proofs.CallNames.{IsReceiver, object_with_root, operand_has_position, same_interest, small_name}
+use Rattle.value_laws.proofs.Ready.{call_sets, plain_call, plain_step, step_there}
+use Rattle.value_laws.proofs.Unmet.{way_of_call}
+use Rattle.value_laws.specs.Types.{GivesAsNamed, KeepsTypes, is_text}
+use Rattle.value_laws.specs.FieldContents.{IsBeingMade, IsDispatched, LinksLead, is_new}
+use Rattle.value_laws.specs.PlaceFacts.{AreCovered, AreWaiting, Covers, IsCovered, OwnersBelow, gives_none, is_given, may_owe}
+use Rattle.value_laws.specs.Ranges.{FieldsInRange, LocalsInRange}
+use Rattle.covering_laws.specs.Linking.{IsGivenAsAlias, LinkedAreAliases}
+use Rattle.covering_laws.specs.Throws.{EndsByException}
 use Rattle.covering_laws.specs.Running.{HasPlainRuns}
-use Rattle.covering_laws.proofs.AliasPlaces.{IsFromPlace, from_operand, gives_operand}
+use Rattle.covering_laws.proofs.AliasPlaces.{from_operand, gives_operand}
 use Rattle.covering_laws.proofs.AliasResults.{argument_is_result, result_is_argument}
 use Rattle.covering_laws.proofs.CallNotes.{noted_at}
 use Rattle.covering_laws.proofs.KnownNames.{operand_holds}
-use Rattle.covering_laws.proofs.CallSteps.{call_covered}
-use Rattle.covering_laws.proofs.EndHeaps.{end_carries, end_keeps, end_linked, end_noted, end_roots, end_unfinished, end_was, null_here, number_value, other_roots, self_root}
+use Rattle.covering_laws.proofs.CallSteps.{IsGivenOr, call_covered}
+use Rattle.covering_laws.proofs.EndHeaps.{end_carries, end_keeps, end_linked, end_noted, end_roots, end_unfinished, end_was, null_here, other_roots, self_root}
+use Rattle.covering_laws.proofs.EndOwners.{end_below, end_keeps_own, end_owners_go, number_value}
+use Rattle.covering_laws.proofs.BegunFrames.{not_own}
+use Rattle.covering_laws.proofs.CallResults.{IsBornSo}
+use Rattle.covering_laws.proofs.Gifts.{small_gifts}
+use Rattle.covering_laws.proofs.GivenArguments.{away_moves}
+use Rattle.covering_laws.proofs.GivenAway.{given_at_step}
+use Rattle.covering_laws.proofs.Owners.{AllKeepGifts, OwnersGo, given_kept, owners_kept, stays_apart}
+use Rattle.covering_laws.proofs.ResultOwners.{returned_owner}
 use Rattle.covering_laws.proofs.Bodies.{running_method}
 use Rattle.covering_laws.proofs.OwnNames.{chosen_by_note, own_name_called}
 use Rattle.covering_laws.proofs.EndNames.{promises_kept}
 use Rattle.covering_laws.proofs.EndResults.{given, thrown_light}
-use Rattle.covering_laws.proofs.LibraryJoins.{signature_resets}
 use Rattle.covering_laws.proofs.LocalSteps.{LocalsIn, all_there, holds_there, local_step}
-use Rattle.covering_laws.proofs.TopSteps.{IsLocalStep}
-use Rattle.covering_laws.proofs.Waiting.{AllHeldBefore, AllKeepRoots, AllReady, AllThere, IsCarried, KeepsOtherRoots, KeepsRoots, KeepsUnfinished, all_held_before_on, all_keep, all_keep_other_roots, all_keep_roots, all_wait_on, frames_ready_but, owed_before, value_root}
-use Rattle.covering_laws.proofs.LinkedExceptions.{alias_no_exception}
-use Rattle.tracking_laws.proofs.Chains.{object_there}
-use Rattle.range_laws.proofs.Steps.{result_in_range}
-use Rattle.range_laws.proofs.Values.{operand_in_range}
+use Rattle.covering_laws.proofs.TopSteps.{IsLocalStep, IsMadeSo, StopsOwning}
+use Rattle.covering_laws.proofs.Waiting.{AllHeldBefore, AllKeepRoots, AllReady, AllThere, Carries, HoldsThere, IsCarried, KeepsFields, KeepsOtherRoots, KeepsRoots, KeepsUnfinished, all_held_before_on, all_keep, all_keep_other_roots, all_keep_roots, all_wait_on, frames_ready_but, owed_before, value_root}
+use Rattle.value_laws.proofs.Chains.{object_there}
+use Rattle.value_laws.proofs.Steps.{result_in_range}
+use Rattle.value_laws.proofs.RangeValues.{operand_in_range}
 use Rattle.ledger_state.specs.Values.{number_of}
 use Rattle.program_model.specs.Overrides.{is_library}
-use Rattle.value_type_laws.specs.Bodies.{alias_in, constructs, is_constructor_kind}
+use Rattle.ledger_obligations.specs.Bodies.{alias_in, constructs, is_constructor_kind}
 use Rattle.covering_laws.specs.Making.{IsUnheld}
-use Rattle.value_type_laws.specs.MustCallSets.{is_empty, is_heavy_class, no_names}
+use Rattle.ledger_obligations.specs.MustCallSets.{is_heavy_class}
 use Rattle.java_control.specs.declared.action.Completion.TheVariants as completions
 use Rattle.java_control.specs.declared.action.Edge.TheVariants as edges
-use Rattle.flow_rules.specs.Ends.{is_throw}
-use Rattle.flow_rules.specs.Paths.{move_of}
-use Rattle.argument_laws.specs.Arguments.{HasArguments, has_receiver}
-use Rattle.alias_sets.specs.Aliases.{gives_alias}
+use Rattle.value_laws.specs.Ends.{is_throw}
+use Rattle.value_laws.specs.Paths.{move_of}
+use Rattle.value_laws.specs.Arguments.{HasArguments, has_receiver}
+use Rattle.value_laws.specs.Aliases.{gives_alias}
+use Rattle.java_control.specs.declared.fact.Fact.{Fact}
+use Rattle.java_control.specs.declared.fact.Origin.{Origin}
 use Rattle.java_control.specs.declared.place.Place.{Place}
-use Rattle.target_laws.specs.Frames.{is_made, made_place}
-use Rattle.program_call_laws.specs.Places.{class_of_method, place_value}
-use Rattle.tracking_laws.specs.Naming.{IsOfItsKind}
-use Rattle.tracking_laws.proofs.Reached.{names_what_is_there}
-use Rattle.field_place_laws.specs.Places.{is_local}
+use Rattle.ownership_rules.specs.Facts.{is_held, is_own}
+use Rattle.value_laws.specs.Frames.{is_made, made_place}
+use Rattle.value_laws.specs.Places.{class_of_method, place_value}
+use Rattle.value_laws.specs.Naming.{IsOfItsKind}
+use Rattle.value_laws.proofs.NamedReached.{names_what_is_there}
+use Rattle.value_laws.specs.PlacePlaces.{is_local}
+use Rattle.covering_laws.specs.Texts.{TextsAreLight}
 
 -- a `new` has no receiver
 no_receiver : (h : HeapContents) (l : Locals) (a : Action) (o : ℕ) → root_of h (operand_of l a 0) ≡ Some o → is_new a ≡ true → ⊥
@@ -98,11 +108,15 @@ no_receiver h l actions.Skip o root new = true≢false (sym new)
 no_receiver h l (actions.New m d n) o root new = let never : None ≡ Some o = root in cc
 no_receiver h l a o root new = true≢false (sym new)
 
-module _ (p : Program) (ac : Accept p) (forms : HasPlainForms p) (runs' : HasPlainRuns p) (names : HasSmallInterests p) (texts : MakesNoString p) (h : HeapContents) (links : HasEarlierLinks h) (apart : ExceptionsAreUnlinked p h) (ranges : FieldsInRange h)
-    (fr caller : Frame) (st : Stands p fr) (below : Stands p caller) (targets : KeepsTargets p caller) (keeps : KeepsTypes p fr) (gives : GivesAsNamed p caller fr) (dispatched : IsDispatched p h fr caller)
-    (making : IsBeingMade p h fr caller) (mine' : LocalsInRange h fr.locals) (covered : IsCovered p h fr) (i : ℕ) (s : Step) (q : Completion) (here : slice_get (frame_steps p fr) i ≡ Some s) (is : s.action ≡ actions.End q)
-    (t : Step) (named : MethodId) (back : IsBackStep p (frame_steps p caller) (exception_class p h (thrown_in fr.locals q)) named t) (may : MayRun p named fr.method) (makes : IsMadeBy p h t.action fr.locals.this) (itself : RunsItself t.action named fr.method) (at : ℕ) (args : HasArguments p caller fr) (exits : EndsByException p h fr)
-    (leads : LinksLead p h) (ends : HaveEnds h) (made_after : IsMadeAfter p caller.locals t.action fr.locals.this) where
+module _ (p : Program) (ac : Accept p) (forms : HasPlainForms p) (runs' : HasPlainRuns p) (names : HasSmallInterests p) (h : HeapContents) (texts : TextsAreLight p h) (links : HasEarlierLinks h) (apart : LinkedAreAliases p h) (ranges : FieldsInRange h)
+    (fr caller : Frame) (rest : List Frame) (st : Stands p fr) (below : Stands p caller) (targets : KeepsTargets p caller) (keeps : KeepsTypes (is_text p h) p fr) (gives : GivesAsNamed p caller fr) (dispatched : IsDispatched p h fr caller)
+    (making : IsBeingMade p h fr caller) (mine' : LocalsInRange h fr.locals) (covered : IsCovered p h gives_none (caller ∷ rest) fr) (i : ℕ) (s : Step) (q : Completion) (here : slice_get (frame_steps p fr) i ≡ Some s) (is : s.action ≡ actions.End q)
+    (t : Step) (named : MethodId) (back : IsBackStep p (frame_steps p caller) (exception_class p h (thrown_in fr.locals q)) named t) (may : MayRun p named fr.method) (makes : IsMadeBy p h t.action fr.locals.this) (itself : RunsItself t.action named fr.method) (args : HasArguments p caller fr) (exits : EndsByException p h fr)
+    (leads : LinksLead p h) (ends : HaveEnds h) (made_after : IsMadeAfter p caller.locals t.action fr.locals.this) (classes : HasMadeClasses p h) (unheld : IsUnheld p h fr caller rest) (in' : LocalsIn h (caller ∷ rest)) where
+  -- the position of the caller
+  abbrev at : ℕ
+  at = length rest + 1
+
   abbrev e : Option ClassId
   e = exception_class p h (thrown_in fr.locals q)
 
@@ -127,9 +141,6 @@ module _ (p : Program) (ac : Accept p) (forms : HasPlainForms p) (runs' : HasPla
   call : IsPlainCall p named
   call = plain_call p t.action named form back.row back.calls
 
-  no_reset : reset_position m ≡ None
-  no_reset = signature_resets p m call.signature
-
   unmade : (w : ℕ) (x : Object) → is_new t.action ≡ true → fr.locals.this ≡ values.Object w → object_at h w ≡ Some x → x.finished ≡ false
   unmade w x new this at' = making back.index t w x back.here new this at'
 
@@ -147,6 +158,9 @@ module _ (p : Program) (ac : Accept p) (forms : HasPlainForms p) (runs' : HasPla
 
   fit : RunsFor p named_there.0 run.0
   fit = call.program fr.method named_there.0 run.0 may named_there.1 run.1 run.2
+
+  no_reset : reset_position m ≡ None
+  no_reset = ap reset_position named_there.1 ∙ call.resets fr.method named_there.0 run.0 may named_there.1 run.1 run.2
 
   same_callee : callee p t.action ≡ Some named_there.0
   same_callee = ap (callee_in p) back.calls ∙ named_there.1
@@ -265,8 +279,8 @@ module _ (p : Program) (ac : Accept p) (forms : HasPlainForms p) (runs' : HasPla
     linked_root = self_root p at fr.locals.this caller.locals t.action (method_at p fr.method) m v e h links no_reset unmade normal' new self k (self_made new).1 is_aliased to object.0 object.1 unowned later.0 later.1
 
   -- the frames that wait keep the roots of what they hold
-  all_roots : (rest : List Frame) → IsUnheld p h fr caller rest → LocalsIn h (caller ∷ rest) → AllKeepRoots p h K (caller ∷ rest)
-  all_roots rest unheld in' = by e refl (is_new t.action) refl target refl
+  all_roots : AllKeepRoots p h K (caller ∷ rest)
+  all_roots = by e refl (is_new t.action) refl target refl
     where
       inside : AllThere p h (caller ∷ rest)
       inside = all_there p h ranges (caller ∷ rest) in'
@@ -281,16 +295,19 @@ module _ (p : Program) (ac : Accept p) (forms : HasPlainForms p) (runs' : HasPla
   local : IsLocalStep p caller below t
   local = local_step p ac forms caller below back.index t back.here (call_sets t.action back.row) (way_of_call t back.row)
 
-  noted : LocalsInRange h caller.locals → (o : ℕ) (x y : Object) (k : NameId) → object_at h o ≡ Some x → object_at K o ≡ Some y → root_of h (operand_of caller.locals t.action 0) ≡ Some o → is_super_target t.action ≡ false
-      → interest_in (callee p t.action) ≡ Some k → x.finished ≡ true → GoesOn x y → is_heavy_class p x.class ≡ true → may_owe x ≡ true → set.contains y.called k.0 ≡ true
-  noted in' o x y k before now root' other interest done goes heavy owes = by (is_passed_on p (note false r.object k) object.0) refl
+  caller_in : LocalsInRange h caller.locals
+  caller_in = All-head (λ (x : Frame). LocalsInRange h x.locals) caller rest in'
+
+  noted : (o : ℕ) (x y : Object) (k : NameId) → object_at h o ≡ Some x → object_at K o ≡ Some y → root_of h (operand_of caller.locals t.action 0) ≡ Some o → is_super_target t.action ≡ false
+      → interest_in (callee p t.action) ≡ Some k → is_given p h caller o x.class ≡ false → x.finished ≡ true → GoesOn x y → is_heavy_class p x.class ≡ true → may_owe x ≡ true → set.contains y.called k.0 ≡ true
+  noted o x y k before now root' other interest spared done goes heavy owes = by (is_passed_on p (note false r.object k) object.0) refl
     where
       r : IsReceiver h caller.locals t.action m o k
       r = subst (λ (z : Option Method). IsReceiver h caller.locals t.action z o k) (ap (callee_in p) back.calls)
           (noted_at p ac h caller.locals o k t.action form back.row other root' (same_interest (callee p t.action) ∙ interest))
 
       object : (z : Object) × (object_at h r.object ≡ Some z)
-      object = let number = operand_in_range h caller.locals in' t.action 0 r.object (ap number_of r.value) in object_there h r.object x number.0 number.1
+      object = let number = operand_in_range h caller.locals caller_in t.action 0 r.object (ap number_of r.value) in object_there h r.object x number.0 number.1
 
       way : Leads p h r.object o
       way = leads r.object o object.0 x object.1 r.root before heavy owes
@@ -299,17 +316,17 @@ module _ (p : Program) (ac : Accept p) (forms : HasPlainForms p) (runs' : HasPla
       named_interest z same = ap calls.interest_in (sym (ap (callee_in p) back.calls)) ∙ (same_interest (callee p t.action) ∙ same)
 
       by : (b : Bool) → is_passed_on p (note false r.object k) object.0 ≡ b → set.contains y.called k.0 ≡ true
-      by true passed =
+      by true goes_through =
           end_noted p at fr.locals.this caller.locals t.action (method_at p fr.method) m v e h links no_reset unmade o object.0 y k (no_receiver h caller.locals t.action o root') r
-          (λ n is'. small_name p t.action n names (interest ∙ sym (named_interest (Some k) interest) ∙ is')) object.1 passed way now
+          (λ n is'. small_name p t.action n names (interest ∙ sym (named_interest (Some k) interest) ∙ is')) object.1 goes_through way now
       by false stopped = within_at x.called y.called goes.called k.0
-          (own_name_called p ac forms h links fr caller st covered i s q here is back.index t back.here named named_there.0 back.calls named_there.1 dispatched k
-          (ap interest_in (sym same_callee) ∙ interest) (chosen_by_note caller.locals t.action m (note false r.object k) r.noted) o x before heavy owes done r.object object.0 r.value object.1 way stopped)
+          (own_name_called p ac forms h links fr caller rest st covered i s q here is back.index t back.here named named_there.0 back.calls named_there.1 dispatched k
+          (ap interest_in (sym same_callee) ∙ interest) (chosen_by_note caller.locals t.action m (note false r.object k) r.noted) o x before heavy owes done classes (inl spared) r.object object.0 r.value object.1 way stopped)
 
-  -- no exception is an alias: nor is the object of a `new`
-  pub ended_apart : ExceptionsAreUnlinked p K
+  -- what is linked is an alias: so is the object of a `new`
+  pub ended_apart : LinkedAreAliases p K
   ended_apart n y l now some = elim (end_linked p at fr.locals.this caller.locals t.action (method_at p fr.method) m v e h links no_reset unmade n y l now some) [
-    | inl was ↦ ap (λ (c : ClassId). is_under p c p.core.throwable) was.3 ∙ apart n was.0 l was.1 was.2
+    | inl was ↦ subst (IsGivenAsAlias p) (sym was.3) (apart n was.0 l was.1 was.2)
     | inr made' ↦ of_new made'.0 made'.1 made'.2 made'.3
   ]
     where
@@ -317,13 +334,13 @@ module _ (p : Program) (ac : Accept p) (forms : HasPlainForms p) (runs' : HasPla
       alias_there None none' some' = absurd (true≢false (sym some'))
       alias_there (Some k) is' some' = (k, is')
 
-      of_new : is_new t.action ≡ true → fr.locals.this ≡ values.Object n → calls.is_alias m ≡ true → ((x : Object) × (object_at h n ≡ Some x) × (y.class ≡ x.class)) → is_under p y.class p.core.throwable ≡ false
+      of_new : is_new t.action ≡ true → fr.locals.this ≡ values.Object n → calls.is_alias m ≡ true → ((x : Object) × (object_at h n ≡ Some x) × (y.class ≡ x.class)) → IsGivenAsAlias p y.class
       of_new new this aliased' old = go t.action refl new makes
         where
           alias' : (k : ℕ) × (named_there.0.sig.alias ≡ Some k)
           alias' = alias_there named_there.0.sig.alias refl (sym (ap calls.is_alias named_there.1) ∙ aliased')
 
-          go : (a : Action) → t.action ≡ a → is_new a ≡ true → IsMadeBy p h a fr.locals.this → is_under p y.class p.core.throwable ≡ false
+          go : (a : Action) → t.action ≡ a → is_new a ≡ true → IsMadeBy p h a fr.locals.this → IsGivenAsAlias p y.class
           go actions.Skip is' one made' = absurd (true≢false (sym one))
           go (actions.New m' d n') is' one made' =
               let m_is = named_is m' (ap called_method is') in
@@ -331,18 +348,18 @@ module _ (p : Program) (ac : Accept p) (forms : HasPlainForms p) (runs' : HasPla
               let class : named_there.0.class ≡ old.0.class = (let both : Some named_there.0.class ≡ Some old.0.class = sym (ap class_of_method named_there.1) ∙ sym (ap (λ (z : MethodId). class_of_method (method_at p z)) m_is)
               ∙ made'.3 old.0 (ap (object_at h) number ∙ old.1) in (let same : named_there.0.class ≡ old.0.class = cc in same)) in
               let new_kind : is_constructor_kind named_there.0.kind ≡ true = sym (ap constructs named_there.1) ∙ sym (ap (λ (z : MethodId). constructs (method_at p z)) m_is) ∙ subst (IsOfItsKind p) is' kind in
-              alias_no_exception p ac named named_there.0 named_there.1 alias'.0 alias'.1 y.class (inl (new_kind, old.2 ∙ sym class))
+              record { number = named; method = named_there.0; at = named_there.1; position = alias'.0; alias = alias'.1; class = inl (new_kind, old.2 ∙ sym class) }
           go a is' one made' = absurd (true≢false (sym one))
 
   pub ended_unfinished : KeepsUnfinished h K (λ o. (fr.locals.this ≡ values.Object o) × (is_new t.action ≡ true))
   ended_unfinished = end_unfinished p at fr.locals.this caller.locals t.action (method_at p fr.method) m v e h links no_reset unmade
 
-  ready : (rest : List Frame) → IsUnheld p h fr caller rest → AllReady p h K (caller ∷ rest)
-  ready rest unheld = frames_ready_but p h K (λ o. (fr.locals.this ≡ values.Object o) × (is_new t.action ≡ true)) ended_unfinished (caller ∷ rest) (λ w is. unheld back.index t w back.here is.1 is.0)
+  ready : AllReady p h K (caller ∷ rest)
+  ready = frames_ready_but p h K (λ o. (fr.locals.this ≡ values.Object o) × (is_new t.action ≡ true)) ended_unfinished (caller ∷ rest) (λ w is. unheld back.index t w back.here is.1 is.0)
 
-  pub ended_held_before : (rest : List Frame) → IsUnheld p h fr caller rest → LocalsIn h (caller ∷ rest) → AllHeldBefore p h K rest
-  ended_held_before rest unheld in' =
-      all_held_before_on p h K rest (all_roots rest unheld in').1 (all_keep p h K (end_keeps p at fr.locals.this caller.locals t.action (method_at p fr.method) m v e h links no_reset unmade) rest)
+  pub ended_held_before : AllHeldBefore p h K rest
+  ended_held_before =
+      all_held_before_on p h K rest all_roots.1 (all_keep p h K (end_keeps p at fr.locals.this caller.locals t.action (method_at p fr.method) m v e h links no_reset unmade) rest)
 
   -- ---- a result that is an alias
 
@@ -370,7 +387,7 @@ module _ (p : Program) (ac : Accept p) (forms : HasPlainForms p) (runs' : HasPla
         let w = object_with_root h (operand_of caller.locals t.action k) o root' in
         new_root_is w.0 (target_is ∙ ap number_of w.1) ∙ ap Some w.2
 
-    -- an alias of null needs no call
+    -- an alias of null is the library's
     null_owes : (o : ℕ) (y : Object) → target ≡ None → root_of K V ≡ Some o → object_at K o ≡ Some y → may_owe y ≡ true → ⊥
     null_owes o y none root' now owes = go t.action refl new
       where
@@ -401,7 +418,7 @@ module _ (p : Program) (ac : Accept p) (forms : HasPlainForms p) (runs' : HasPla
             let null' = null_here p at o fr.locals.this caller.locals m' d n' (method_at p fr.method) m v h y is_aliased' (ap (λ (a : Action). alias_target (operand_of caller.locals a) m) (sym is') ∙ none) (self'.1 ∙ ap values.Object itself')
             (subst (λ (x : Option ClassId). object_at (returned_heap p at fr.locals.this caller.locals (actions.New m' d n') (method_at p fr.method) m v x h) o ≡ Some y) normal'
             (subst (λ (a : Action). object_at (returned_heap p at fr.locals.this caller.locals a (method_at p fr.method) m v e h) o ≡ Some y) is' now)) in
-            true≢false (sym owes ∙ ap not (and_from y.finished (is_empty y.must) null'.0 (ap is_empty null'.1 ∙ within_self no_names)))
+            true≢false (sym owes ∙ ap not (and_from y.finished (is_library_owner y.owner) null'.0 (ap is_library_owner null'.1)))
         go a is' one = true≢false (sym one)
 
     new_to_operand : (o : ℕ) (y : Object) → root_of K V ≡ Some o → object_at K o ≡ Some y → may_owe y ≡ true → root_of h (operand_of caller.locals t.action k) ≡ Some o
@@ -437,15 +454,15 @@ module _ (p : Program) (ac : Accept p) (forms : HasPlainForms p) (runs' : HasPla
       value_is = ap (root_of K) answer_is ∙ value_root_is (roots_called old) ∙ ap (λ (z : Option Method). root_of h (result_value fr.locals z q)) run.1
 
       to_result : root_of h (operand_of caller.locals t.action k) ≡ Some o → root_of K V ≡ Some o
-      to_result root' = value_is ∙ argument_is_result p ac h fr caller st args covered i s q here is (returns edge) run.0 run.1 k run_alias method_kind back.index t back.here o x before heavy owes root'
+      to_result root' = value_is ∙ argument_is_result p ac h fr caller rest st args covered i s q here is (returns edge) run.0 run.1 k run_alias method_kind back.index t back.here o x before heavy owes root'
 
       to_operand : root_of K V ≡ Some o → root_of h (operand_of caller.locals t.action k) ≡ Some o
-      to_operand root' = result_is_argument p ac h fr caller st args covered i s q here is (returns edge) run.0 run.1 k run_alias method_kind back.index t back.here o x before heavy owes receives (sym value_is ∙ root')
+      to_operand root' = result_is_argument p ac h fr caller rest st args covered i s q here is (returns edge) run.0 run.1 k run_alias method_kind back.index t back.here o x before heavy owes receives (sym value_is ∙ root')
 
   -- an alias of the object of a fact has that object for its root
-  aliased : (z : Place) (o : ℕ) (x : Object) (c : Covers p h caller z o x) → object_at h o ≡ Some x → is_heavy_class p x.class ≡ true → may_owe x ≡ true
+  aliased : (o : ℕ) (x : Object) (c : Covers p h (is_given p h caller o x.class) rest caller o x) → object_at h o ≡ Some x → is_heavy_class p x.class ≡ true → may_owe x ≡ true
       → gives_alias p t.action t.edge c.fact.places ≡ true → root_of K V ≡ Some o
-  aliased z o x c before heavy owes gives' =
+  aliased o x c before heavy owes gives' =
       let operand = gives_operand p t.action t.edge c.fact.places gives' in
       let k = operand.1.0 in
       let position : named_there.0.sig.alias ≡ Some k = ap alias_in (sym same_callee) ∙ operand.1.1 in
@@ -455,42 +472,111 @@ module _ (p : Program) (ac : Accept p) (forms : HasPlainForms p) (runs' : HasPla
         | inr called' ↦ to_result k position operand.0 called'.0 called'.1 called'.2 o x before heavy owes root'
       ]
 
+  -- ---- who owns what
+
+  -- the frame owned its result, which the caller owns when the call has ended
+  result_owner : (n : ℕ) (x u : Object) → object_at h n ≡ Some x → is_heavy_class p x.class ≡ true → may_owe x ≡ true → IsReturned p at (method_at p fr.method) v e h n x u → x.owner ≡ owners.Frame (at + 1)
+  result_owner n x u before heavy owes r =
+      returned_owner p ac h fr (caller ∷ rest) st mine' covered i s q here is at n x u before heavy owes r ∙ ap owners.Frame (let number : length (caller ∷ rest) + 1 ≡ length rest + 1 + 1 = omega arith in number)
+
+  goes_on : OwnersGo p None at h K
+  goes_on = end_owners_go p at fr.locals.this caller.locals t.action (method_at p fr.method) m v e h no_reset unmade result_owner None
+
+  -- the caller goes on owning what it owned
+  caller_owns : (o : ℕ) (x y : Object) → object_at h o ≡ Some x → object_at K o ≡ Some y → x.finished ≡ true → is_heavy_class p x.class ≡ true → x.owner ≡ owners.Frame at → y.owner ≡ owners.Frame at
+  caller_owns = end_keeps_own p at fr.locals.this caller.locals t.action (method_at p fr.method) m v e h no_reset unmade result_owner
+
+  -- ---- what the call gives
+
+  inside : HoldsThere p h caller
+  inside = holds_there p h ranges caller caller_in
+
+  carries : Carries h K
+  carries = end_carries p at fr.locals.this caller.locals t.action (method_at p fr.method) m v e h links no_reset unmade
+
+  fields : KeepsFields p h K
+  fields = end_keeps p at fr.locals.this caller.locals t.action (method_at p fr.method) m v e h links no_reset unmade
+
+  was : (n : ℕ) (x : Object) → object_at K n ≡ Some x → IsCarried h n x
+  was = end_was p at fr.locals.this caller.locals t.action (method_at p fr.method) m v e h links no_reset unmade
+
+  abbrev IsGivenOrNot : Origin → Fact → Fact → Type 0
+  IsGivenOrNot = IsGivenOr p ac h K links carries fields caller below back.index t back.here local inside all_roots.0 V back.row
+
+  abbrev IsMadeHere : Place → ℕ → Object → Type 0
+  IsMadeHere place o y = IsMadeSo p ac h K links carries fields caller below back.index t back.here local inside all_roots.0 V rest (is_given p h caller) IsGivenOrNot place o y
+
+  -- an owner of two frames
+  no_two : (n : ℕ) → owners.Frame n ≡ owners.Frame (n + 1) → ⊥
+  no_two n is' = let one : n ≡ n + 1 = cc in omega (arith, one)
+
+  -- no fact of the caller goes on owning what it is given
+  stops : (o : ℕ) (y : Object) → object_at K o ≡ Some y → is_heavy_class p y.class ≡ true
+      → ((is_new t.action ≡ true) × (fr.locals.this ≡ values.Object o)) ⊎ ((x : Object) → object_at h o ≡ Some x → x.owner ≡ owners.Frame (at + 1)) → StopsOwning p h caller rest (is_given p h caller) IsGivenOrNot o
+  stops o y now heavy (inl (new, this)) x before z small root d key g more = absurd ((unheld back.index t o back.here new this).0 z small root)
+  stops o y now heavy (inr owner) x before z small root d key g more = by (is_given p h caller o x.class) refl
+    where
+      heavy' : is_heavy_class p x.class ≡ true
+      heavy' =
+          let old = was o y now in
+          ap (λ (u : Object). is_heavy_class p u.class) (let both : Some x ≡ Some old.0 = sym before ∙ old.1 in (let one : x ≡ old.0 = cc in one)) ∙ ap (is_heavy_class p) (sym old.2) ∙ heavy
+
+      by : (b : Bool) → is_given p h caller o x.class ≡ b → is_own g.mode ≡ false
+      by false spared = absurd (no_two at (sym (key.owner spared) ∙ owner x before))
+      by true gives' = not_own (is_own g.mode) (is_held g.mode)
+          (more.0 (away_moves p ac h caller below rest back.index t back.here back.row (is_given p h caller o x.class) o x d key heavy' (given_at_step p h caller below back.index t o x.class back.here back.row gives')))
+
   -- what the call gives is covered by its birth, or comes from the operand of which it is an alias
   made : (place : Place) (o : ℕ) (y : Object) → IsSmall place → is_local place ≡ true → is_made (made_place t.action) place ≡ true → place_value p K caller.method after.locals place ≡ V → root_of K V ≡ Some o
-      → object_at K o ≡ Some y → is_heavy_class p y.class ≡ true → may_owe y ≡ true → Covers p K after place o y ⊎ IsFromPlace p h caller below t place o
+      → object_at K o ≡ Some y → is_heavy_class p y.class ≡ true → may_owe y ≡ true → IsMadeHere place o y
   made place o y small local' there value root' now heavy owes = by named_there.0.sig.alias refl
     where
-      was : (n : ℕ) (x : Object) → object_at K n ≡ Some x → IsCarried h n x
-      was = end_was p at fr.locals.this caller.locals t.action (method_at p fr.method) m v e h links no_reset unmade
-
-      by_end : (k : ℕ) → named_there.0.sig.alias ≡ Some k → (x : Option ClassId) → e ≡ x → Covers p K after place o y ⊎ IsFromPlace p h caller below t place o
+      by_end : (k : ℕ) → named_there.0.sig.alias ≡ Some k → (x : Option ClassId) → e ≡ x → IsMadeHere place o y
       by_end k some (Some c) thrown' =
-          absurd (thrown_light p ac forms runs' texts h links apart fr caller st below keeps gives mine' covered i s q here is t named back named_there.0 named_there.1 call may makes at (roots_thrown c thrown') unmade was place o y small there value root'
+          absurd (thrown_light p ac forms runs' h texts links apart fr caller rest st below keeps gives mine' covered i s q here is t named back named_there.0 named_there.1 call may makes no_reset (roots_thrown c thrown') unmade was place o y small there value root'
           now heavy owes c thrown' (ap (λ (x : Option ClassId). root_of K (answered fr.locals.this t.action v x)) (sym thrown') ∙ root'))
       by_end k some None none =
           let old = was o y now in
           let edge = back.normal none in
-          inr (from_operand p h caller below t local place o small local' there edge k (ap alias_in same_callee ∙ some) (elim (alias_kind k some) [
+          inr (inr (from_operand p h caller below t local place o small local' there edge k (ap alias_in same_callee ∙ some) (elim (alias_kind k some) [
             | inl new ↦ new_to_operand k some none new o y root' now owes
             | inr called' ↦ to_operand k some edge called'.0 called'.1 called'.2 o old.0 old.1 (ap (is_heavy_class p) (sym old.2) ∙ heavy) (owed_before old.0 y old.3 owes) root'
-          ]))
+          ])))
 
-      by : (a : Option ℕ) → named_there.0.sig.alias ≡ a → Covers p K after place o y ⊎ IsFromPlace p h caller below t place o
+      as_born : IsBornSo p K rest after place o y ((y.owner ≡ owners.Frame at) × (((is_new t.action ≡ true) × (fr.locals.this ≡ values.Object o)) ⊎ ((x : Object) → object_at h o ≡ Some x → x.owner ≡ owners.Frame (at + 1)))) → IsMadeHere place o y
+      as_born (inl (c, in'', its)) = inl (c, in'', its.0, stops o y now heavy its.1)
+      as_born (inr u) = inr (inl u)
+
+      by : (a : Option ℕ) → named_there.0.sig.alias ≡ a → IsMadeHere place o y
       by None none =
-          inl (given p ac forms runs' texts h links apart fr caller st below keeps gives mine' covered i s q here is t named back named_there.0 named_there.1 call may makes at (roots_plain none) unmade was place o y small there value root' now heavy
+          as_born (given p ac forms runs' h texts links apart fr caller rest st below keeps gives mine' covered i s q here is t named back named_there.0 named_there.1 call may makes no_reset (roots_plain none) unmade was place o y small there value root' now heavy
           owes none)
       by (Some k) some = by_end k some e refl
 
-  pub ended_covered : (rest : List Frame) → IsUnheld p h fr caller rest → LocalsIn h (caller ∷ rest) → AreCovered p h (caller ∷ rest) → AreCovered p K (after ∷ rest)
-  ended_covered rest unheld in' covered' =
-      let carries = end_carries p at fr.locals.this caller.locals t.action (method_at p fr.method) m v e h links no_reset unmade in
-      let fields = end_keeps p at fr.locals.this caller.locals t.action (method_at p fr.method) m v e h links no_reset unmade in (
-        call_covered p ac h K links carries fields caller below back.index t back.here local (holds_there p h ranges caller (All-head (λ (x : Frame). LocalsInRange h x.locals) caller rest in')) (all_roots rest unheld in').0 V back.row
-            (plain_no_reset p t.action form) covered'.0 (ready rest unheld).0 (noted (All-head (λ (x : Frame). LocalsInRange h x.locals) caller rest in'))
-            (λ z o x y c before now g more trusted done goes wide heavy owes.
-            promises_kept p ac forms h fr caller st below targets args (All-head (λ (u : Frame). LocalsInRange h u.locals) caller rest in') covered i s q here is back.index t back.here back.row named named_there.0 back.calls
-            named_there.1 call may dispatched returns thrown z o x y c before g more trusted done goes wide heavy owes)
-            aliased
-            (λ place o y small local' none there value root now heavy owes. made place o y small local' there value root now heavy owes),
-        all_wait_on p h K links carries rest (all_roots rest unheld in').1 (all_keep p h K fields rest) (all_there p h ranges rest (All-tail (λ (x : Frame). LocalsInRange h x.locals) caller rest in')) (ready rest unheld).1 covered'.1,
-      )
+  -- ---- all frames
+
+  module _ (stand : AllStand p rest) (waits : AreWaiting p h (caller ∷ rest)) where
+    gifts : AllKeepGifts p h K rest
+    gifts = small_gifts p ac h K rest stand all_roots.1
+
+    caller_covered : IsCovered p K gives_none rest after
+    caller_covered =
+        call_covered p ac h K links carries fields caller below back.index t back.here local inside all_roots.0 V back.row rest (is_given p h caller)
+        (λ o c gives'. given_at_step p h caller below back.index t o c back.here back.row gives') waits.0 ready.0 (given_kept p h K rest gifts)
+        (stays_apart p None at h K goes_on at caller (omega arith) (λ w to this. absurd (let never : None ≡ Some w = to in cc)))
+        (λ o x y before now done heavy spared mine. caller_owns o x y before now done heavy mine)
+        noted
+        (λ o x y c before now g more trusted spared done goes wide heavy owes.
+        promises_kept p ac forms h fr caller rest st below targets args caller_in covered i s q here is back.index t back.here back.row named named_there.0 back.calls
+        named_there.1 call may dispatched returns thrown o x y c before g more.0 trusted spared done goes wide heavy owes)
+        aliased
+        (λ place o y small local' none' there value root now heavy owes. made place o y small local' there value root now heavy owes)
+
+    pub ended_covered : OwnersBelow h (length (caller ∷ rest) + 1) → AreCovered p K (after ∷ rest)
+    ended_covered low = (
+      caller_covered,
+      all_wait_on p h K links carries rest all_roots.1 (all_keep p h K fields rest) (all_there p h ranges rest (All-tail (λ (x : Frame). LocalsInRange h x.locals) caller rest in')) ready.1 gifts
+          (owners_kept p None at h K goes_on rest (omega arith) tt) waits.1,
+      end_below p at fr.locals.this caller.locals t.action (method_at p fr.method) m v e h no_reset unmade
+          (subst (OwnersBelow h) (let number : length (caller ∷ rest) + 1 ≡ length rest + 1 + 1 = omega arith in number) low),
+    )

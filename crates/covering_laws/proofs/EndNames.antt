@@ -18,10 +18,10 @@ use Rattle.program_model.specs.declared.program.Promise.{Promise}
 use Rattle.program_model.specs.Lookups.{method_at}
 use Rattle.program_model.specs.Overrides.{are_types, is_library}
 use Rattle.program_model.specs.SuperTests.{is_class}
-use Rattle.value_type_laws.specs.Bodies.{has_field_place, is_field_in, method_in, method_of, promises_in, throwing_promises_in}
-use Rattle.value_type_laws.specs.MustCallSets.{Names, is_heavy_class, is_empty, must_of_type}
-use Rattle.value_type_laws.specs.OverrideCases.{has_other_owning}
-use Rattle.value_type_laws.specs.Signatures.{is_at, is_position, promised_names, when}
+use Rattle.ledger_obligations.specs.Bodies.{has_field_place, is_field_in, method_in, method_of, promises_in, throwing_promises_in}
+use Rattle.ledger_obligations.specs.MustCallSets.{Names, is_heavy_class, is_empty, must_of_type}
+use Rattle.ledger_obligations.specs.OverrideCases.{has_other_owning}
+use Rattle.ownership_rules.specs.Signatures.{is_at, is_position, promised_names, when}
 use Rattle.java_control.specs.Calls.{called_method}
 use Rattle.java_control.specs.Control.{Step}
 use Rattle.java_control.specs.Owned.{field_number, is_owning_field, place_of_field}
@@ -31,12 +31,12 @@ use Rattle.java_control.specs.declared.action.Completion.{Completion}
 use Rattle.java_control.specs.declared.action.Edge.{Edge}
 use Rattle.java_control.specs.declared.action.Edge.TheVariants as edges
 use Rattle.java_control.specs.declared.action.TargetForm.TheVariants as forms
-use Rattle.target_laws.specs.Callees.{callee, callee_in, is_this_target, may_be_null_target, holds_operand}
-use Rattle.target_laws.specs.Facts.{PlaceSet, has, is_origin_at, is_own}
-use Rattle.target_laws.specs.SmallActions.{IsSmallAction}
+use Rattle.ownership_rules.specs.Callees.{callee, callee_in, is_this_target, may_be_null_target, holds_operand}
+use Rattle.ownership_rules.specs.Facts.{PlaceSet, has, is_origin_at, is_own}
+use Rattle.ownership_rules.specs.SmallActions.{IsSmallAction}
 use Rattle.java_control.specs.declared.place.Place.{Place}
-use Rattle.called_methods.specs.CalledRows.{holds_field, holds_target, promises_at}
-use Rattle.target_laws.specs.Accept.{Accept}
+use Rattle.value_laws.specs.CalledRows.{holds_field, holds_target, promises_at}
+use Rattle.value_laws.specs.Accept.{Accept}
 use Rattle.ledger_state.specs.Contents.{HeapContents}
 use Rattle.ledger_state.specs.Fields.{field_of, field_value}
 use Rattle.ledger_state.specs.Heaps.{object_at, root_of, unfinished}
@@ -44,30 +44,30 @@ use Rattle.ledger_state.specs.Values.{number_of}
 use Rattle.ledger_state.specs.declared.object.Object.{Object}
 use Rattle.ledger_state.specs.declared.value.Value.{Value}
 use Rattle.ledger_state.specs.declared.value.Value.TheVariants as values
-use Rattle.program_call_laws.specs.Places.{field_place_value, place_value}
-use Rattle.program_call_laws.specs.Calls.{form_of, operand_of}
-use Rattle.program_call_laws.specs.Configuration.{Frame}
-use Rattle.target_laws.specs.Choosing.{frame_steps, body_id}
-use Rattle.program_call_laws.specs.Heaps.{GoesOn}
-use Rattle.program_call_laws.proofs.NoteLists.{name_from_all, name_where}
-use Rattle.tracking_laws.specs.Agreement.{Stands}
-use Rattle.tracking_laws.specs.PlainForms.{HasPlainForms, IsPlainCall, IsPlainSignature, KeepsPromises, IsKeptBy, MayRun, IsPromisedPlainly, PromisesPlainly, is_lent_parameter}
-use Rattle.target_laws.specs.Targets.{FindsIt, this_operand}
-use Rattle.target_laws.specs.Frames.{KeepsTargets, holds_this}
-use Rattle.target_laws.proofs.Begun.{finds}
-use Rattle.target_laws.proofs.Laws.{target_is_this}
-use Rattle.tracking_laws.proofs.Chains.{object_there}
-use Rattle.tracking_laws.proofs.Entries.{same_count}
-use Rattle.kept_argument_laws.specs.Typed.{IsDeclaredElsewhere, NamesMembers}
-use Rattle.kept_argument_laws.specs.FieldContents.{IsDispatched, is_chosen_by_class}
-use Rattle.kept_argument_laws.specs.PlaceFacts.{Covers, IsCovered, is_heavy_in, may_owe, is_lent}
-use Rattle.kept_argument_laws.specs.Ranges.{LocalsInRange}
-use Rattle.range_laws.proofs.Operations.{all_at}
-use Rattle.range_laws.proofs.Values.{operand_in_range}
-use Rattle.kept_argument_laws.specs.Covering.{HoldsHeavy}
-use Rattle.flow_rules.specs.Paths.{move_of, Reach, relation_of}
-use Rattle.kept_argument_laws.proofs.Following.{small_step, step_there, breaks_nothing, same_body}
-use Rattle.kept_argument_laws.proofs.HeavyFields.{HasPlace, has_place_here, value_here, covers_field, heavy_by_place, heavy_here, held_tells, lent_tells}
+use Rattle.value_laws.specs.Places.{field_place_value, place_value}
+use Rattle.ledger_steps.specs.LedgerCallsCalls.{form_of, operand_of}
+use Rattle.value_laws.specs.Configuration.{Frame}
+use Rattle.value_laws.specs.Choosing.{frame_steps, body_id}
+use Rattle.value_laws.specs.Heaps.{GoesOn}
+use Rattle.value_laws.proofs.NoteLists.{name_from_all, name_where}
+use Rattle.value_laws.specs.Agreement.{Stands}
+use Rattle.value_laws.specs.PlainForms.{HasPlainForms, IsPlainCall, IsPlainSignature, KeepsPromises, IsKeptBy, MayRun, IsPromisedPlainly, PromisesPlainly, is_lent_parameter}
+use Rattle.value_laws.specs.StepTargets.{FindsIt, this_operand}
+use Rattle.value_laws.specs.Frames.{KeepsTargets, holds_this}
+use Rattle.value_laws.proofs.TargetBegun.{finds}
+use Rattle.value_laws.proofs.TargetLaws.{target_is_this}
+use Rattle.value_laws.proofs.Chains.{object_there}
+use Rattle.value_laws.proofs.Entries.{same_count}
+use Rattle.value_laws.specs.Typed.{IsDeclaredElsewhere, NamesMembers}
+use Rattle.value_laws.specs.FieldContents.{IsDispatched, is_chosen_by_class}
+use Rattle.value_laws.specs.PlaceFacts.{Covers, IsCovered, gives_none, is_given, is_heavy_in, is_lent, may_owe}
+use Rattle.value_laws.specs.Ranges.{LocalsInRange}
+use Rattle.value_laws.proofs.FrameOperations.{all_at}
+use Rattle.value_laws.proofs.RangeValues.{operand_in_range}
+use Rattle.covering_laws.specs.Covering.{HoldsHeavy}
+use Rattle.value_laws.specs.Paths.{move_of, Reach, relation_of}
+use Rattle.covering_laws.proofs.Following.{small_step, step_there, breaks_nothing, same_body}
+use Rattle.covering_laws.proofs.HeavyFields.{HasPlace, apart_held, apart_where, covered_at, covers_field, has_place_here, heavy_by_place, heavy_here, held_tells, lent_tells, value_here}
 use Rattle.covering_laws.proofs.Bodies.{running_method}
 use Rattle.covering_laws.proofs.EntryBirths.{alike_parameter, same_mark}
 use Rattle.covering_laws.proofs.KnownNames.{AreKept, all_kept, operand_holds}
@@ -77,25 +77,25 @@ use Rattle.covering_laws.proofs.StartJoins.{first_value}
 use Rattle.std.specs.List.{All, list_any}
 use Rattle.program_model.specs.declared.kinds.BodyId.{BodyId}
 use Rattle.java_control.specs.declared.fact.Fact.{Fact}
-use Rattle.argument_laws.specs.Arguments.{HasArguments}
+use Rattle.value_laws.specs.Arguments.{HasArguments}
 use Rattle.program_model.specs.Validity.{HasParameters, IsBodyOf, IsPromised, IsValidSig}
-use Rattle.tracking_laws.specs.Outcomes.{IsCallRow}
+use Rattle.value_laws.specs.Outcomes.{IsCallRow}
 use Rattle.java_control.specs.PlaceNumbers.{IsSmall}
 use Rattle.java_control.specs.declared.fact.OriginKind.{OriginKind}
 use Rattle.program_model.specs.declared.program.ParamSig.{ParamSig}
-use Rattle.tracking_laws.proofs.SignedPromises.{Promises}
+use Rattle.value_laws.proofs.SignedPromises.{Promises}
 use Rattle.program_model.specs.declared.tree.Var.{Var}
-use Rattle.fact_step_laws.proofs.Ending.{held_stays_here}
-use Rattle.fact_step_laws.specs.Going.{is_owned_in}
-use Rattle.value_type_laws.specs.Assigned.{is_spoken_of, is_spoken_variable}
-use Rattle.flow_rules.specs.Ends.{is_throw}
+use Rattle.value_laws.proofs.Ending.{held_stays_here}
+use Rattle.value_laws.specs.FactGoing.{is_owned_in}
+use Rattle.ledger_obligations.specs.Assigned.{is_spoken_of, is_spoken_variable}
+use Rattle.value_laws.specs.Ends.{is_throw}
 use Rattle.ownership_rules.specs.MovesAtCalls.{moved_at_call}
-use Rattle.tracking_laws.proofs.CallNames.{object_with_root, operand_has_position}
+use Rattle.value_laws.proofs.CallNames.{object_with_root, operand_has_position}
 use Rattle.ownership_rules.specs.Room.{variable_count, variables_in}
 use Rattle.ledger_state.specs.Locals.{variable_value}
 use Rattle.covering_laws.proofs.ParameterEnds.{AsksFor, return_asks, shown_on_field, shown_on_position, throw_asks, unowned_moves}
-use Rattle.covering_laws.proofs.Arguments.{argument_is_given}
-use Rattle.kept_argument_laws.proofs.Origins.{parameters_own, this_own}
+use Rattle.covering_laws.proofs.CoveredArguments.{argument_is_given}
+use Rattle.value_laws.proofs.FactOrigins.{parameters_own, this_own}
 use Rattle.java_control.specs.declared.fact.OriginKind.TheVariants as kinds
 use Rattle.java_control.specs.declared.fact.Mode.TheVariants as modes
 use Rattle.java_control.specs.declared.place.Place.TheVariants as places
@@ -175,8 +175,8 @@ pub at_target : (w : Target) (v : ℕ) → is_at w v ≡ true → w ≡ promised
 at_target (promised.At k) v is = ap promised.At (eqb-true k v is)
 at_target (promised.OfField f) v is = absurd (true≢false (sym is))
 
-module _ (p : Program) (ac : Accept p) (forms' : HasPlainForms p) (h : HeapContents) (fr caller : Frame) (st : Stands p fr) (below : Stands p caller) (targets : KeepsTargets p caller) (args : HasArguments p caller fr)
-    (in' : LocalsInRange h caller.locals) (covered : IsCovered p h fr) (i : ℕ) (s : Step) (q : Completion) (here : slice_get (frame_steps p fr) i ≡ Some s) (is : s.action ≡ actions.End q)
+module _ (p : Program) (ac : Accept p) (forms' : HasPlainForms p) (h : HeapContents) (fr caller : Frame) (rest : List Frame) (st : Stands p fr) (below : Stands p caller) (targets : KeepsTargets p caller) (args : HasArguments p caller fr)
+    (in' : LocalsInRange h caller.locals) (covered : IsCovered p h gives_none (caller ∷ rest) fr) (i : ℕ) (s : Step) (q : Completion) (here : slice_get (frame_steps p fr) i ≡ Some s) (is : s.action ≡ actions.End q)
     (j : ℕ) (t : Step) (there : slice_get (frame_steps p caller) j ≡ Some t) (row : IsCallRow t.action) (named : MethodId) (n : Method) (called : called_method t.action ≡ Some named) (named_at : method_at p named ≡ Some n)
     (call : IsPlainCall p named) (may : MayRun p named fr.method) (dispatched : IsDispatched p h fr caller)
     (returned : t.edge ≡ edges.Go → is_throw q ≡ false) (thrown : (d : ClassId) → t.edge ≡ edges.Throws d → is_throw q ≡ true) where
@@ -196,7 +196,7 @@ module _ (p : Program) (ac : Accept p) (forms' : HasPlainForms p) (h : HeapConte
   small = small_step p ac caller below j t there
 
   -- the object of a fact of the caller, which says that it is owned, or is that of what is lent to the caller
-  module _ (z : Place) (o : ℕ) (x y : Object) (c : Covers p h caller z o x) (before : object_at h o ≡ Some x) (done : x.finished ≡ true) (goes : GoesOn x y) (wide : is_heavy_class p c.origin.class ≡ true)
+  module _ (o : ℕ) (x y : Object) (c : Covers p h (is_given p h caller o x.class) rest caller o x) (before : object_at h o ≡ Some x) (spared : is_given p h caller o x.class ≡ false) (done : x.finished ≡ true) (goes : GoesOn x y) (wide : is_heavy_class p c.origin.class ≡ true)
       (heavy : is_heavy_class p x.class ≡ true) (owes : may_owe x ≡ true) where
     -- ---- an owning field of `this` that the fact has: the named method ran
 
@@ -273,17 +273,20 @@ module _ (p : Program) (ac : Accept p) (forms' : HasPlainForms p) (h : HeapConte
       its_place : HasPlace p fr f
       its_place = has_place_here p ac fr st f place_here
 
-      cover : Covers p h fr (place_of_field p f) o x
-      cover = covers_field p h fr f its_place covered w o x holds
+      found : (c : Covers p h false (caller ∷ rest) fr o x) × (has c.fact.places (place_of_field p f) ≡ true)
+      found = covers_field p h fr f its_place (caller ∷ rest) covered w o x holds
+
+      abbrev cover : Covers p h false (caller ∷ rest) fr o x
+      cover = found.0
 
       owned : (cover.fact.mode ≡ modes.Held) × (is_heavy_class p cover.origin.class ≡ true)
-      owned = cover.held (field_number p f) its_place.small cover.here (heavy_here p h fr f its_place heavy_field)
+      owned = cover.held (field_number p f) its_place.small found.1 (heavy_here p h fr f its_place heavy_field)
 
       by_end : (xs : List Promise) → AsksFor p st.number q xs → (k : ℕ) (u : Promise) → slice_get xs k ≡ Some u → u.target ≡ promised.OfField f → set.is_subset u.names y.called ≡ true
       by_end xs asks k u at target =
           within_trans u.names x.called y.called
-          (shown_on_field p ac h fr st i s q here is (place_of_field p f) o x cover (λ moved. absurd (held_stays_here p st.number cover.origin q cover.fact owned.0 moved)) (cover.known done (held_tells p fr.method cover.origin cover.fact owned.0 owned.1)) xs asks
-          f k u at target (and_from (has_field_place p st.number f) (has cover.fact.places (place_of_field p f)) place_here cover.here)) goes.called
+          (shown_on_field p ac h fr st i s q here is (caller ∷ rest) o x cover (λ moved. absurd (held_stays_here p st.number cover.origin q cover.fact owned.0 moved)) (cover.known done (held_tells p fr.method cover.origin cover.fact owned.0 owned.1) (apart_held p h (caller ∷ rest) fr o x cover.fact owned.0 (inl spared))).2 xs asks
+          f k u at target (and_from (has_field_place p st.number f) (has cover.fact.places (place_of_field p f)) place_here found.1)) goes.called
 
     -- ---- the operand at a position that the fact has: the method that ran has owning parameters where the named one does
 
@@ -295,15 +298,16 @@ module _ (p : Program) (ac : Accept p) (forms' : HasPlainForms p) (h : HeapConte
 
       -- what is lent shows its names
       of_lent : (place : Place) (v : ℕ) → IsSmall place → root_of h (place_value p h fr.method fr.locals place) ≡ Some o → u.target ≡ promised.At v
-          → ((cover : Covers p h fr place o x) → (is_origin_at cover.origin.kind (Some v) ≡ true) × (is_lent p (method_at p fr.method) cover.origin.kind ≡ true)) → set.is_subset u.names y.called ≡ true
+          → ((cover : Covers p h false (caller ∷ rest) fr o x) → has cover.fact.places place ≡ true → (is_origin_at cover.origin.kind (Some v) ≡ true) × (is_lent p (method_at p fr.method) cover.origin.kind ≡ true)) → set.is_subset u.names y.called ≡ true
       of_lent place v room root target its =
-          let cover : Covers p h fr place o x = covered place o x room root before heavy owes in
-          let lent = its cover in
+          let there' = covered_at p h false (caller ∷ rest) fr place o x (covered place o x room root before heavy owes) in
+          let cover : Covers p h false (caller ∷ rest) fr o x = there'.0 in
+          let lent = its cover there'.1 in
           within_trans u.names x.called y.called
-          (shown_on_position p ac h fr st i s q here is place o x cover (unowned_moves p st.number cover.origin cover.fact (cover.lent lent.1).0 q) (cover.known done (lent_tells p fr.method cover.origin cover.fact lent.1)) xs asks v k u at target lent.0) goes.called
+          (shown_on_position p ac h fr st i s q here is (caller ∷ rest) o x cover (unowned_moves p st.number cover.origin cover.fact (cover.lent lent.1).0 q) (cover.known done (lent_tells p fr.method cover.origin cover.fact lent.1) (apart_where p h (caller ∷ rest) fr o x cover.fact spared)).2 xs asks v k u at target lent.0) goes.called
 
-      reached_here : (place : Place) (cover : Covers p h fr place o x) → Reach p st.number (relation_of p st.number) cover.origin fr.control cover.fact
-      reached_here place cover = subst (λ (b : BodyId). Reach p b (relation_of p b) cover.origin fr.control cover.fact) (same_body cover.body st.number (body_id p fr.method) cover.id st.id) cover.reached
+      reached_here : (cover : Covers p h false (caller ∷ rest) fr o x) → Reach p st.number (relation_of p st.number) cover.origin fr.control cover.fact
+      reached_here cover = subst (λ (b : BodyId). Reach p b (relation_of p b) cover.origin fr.control cover.fact) (same_body cover.body st.number (body_id p fr.method) cover.id st.id) cover.reached
 
       lent_here : (kind : OriginKind) (e : OriginKind) → kind ≡ e → is_lent p (Some r) e ≡ true → is_lent p (method_at p fr.method) kind ≡ true
       lent_here kind e same lent = ap (is_lent p (method_at p fr.method)) same ∙ ap (λ (m : Option Method). is_lent p m e) own_method ∙ lent
@@ -313,7 +317,7 @@ module _ (p : Program) (ac : Accept p) (forms' : HasPlainForms p) (h : HeapConte
           let w = object_with_root h (operand_of caller.locals t.action 0) o (operand 0 holds) in
           let this : fr.locals.this ≡ values.Object w.0 = args.receiver j t w.0 there w.1 in
           of_lent places.This 0 tt (ap (root_of h) this ∙ ap Some w.2) target
-          (λ cover. (let own = this_own p ac st.number st.body st.at cover.origin fr.control cover.fact (reached_here places.This cover) cover.here in
+          (λ cover here'. (let own = this_own p ac st.number st.body st.at cover.origin fr.control cover.fact (reached_here cover) here' in
           (own, lent_here cover.origin.kind kinds.ThisRef (zero_origin cover.origin.kind own) class)))
 
       never_owning : (v : ℕ) (param : ParamSig) → slice_get r.sig.params.items v ≡ Some param → param.owning ≡ true → holds_operand t.action c.fact.places (v + 1) ≡ true → ⊥
@@ -350,7 +354,7 @@ module _ (p : Program) (ac : Accept p) (forms' : HasPlainForms p) (h : HeapConte
 
           of_param : (param : ParamSig) → slice_get r.sig.params.items v ≡ Some param → is_lent_parameter p (Some param) ≡ true → set.is_subset u.names y.called ≡ true
           of_param param param_at lent = of_lent (places.Var v) (v + 1) room root target
-              (λ cover. (let own = parameters_own p ac st.number st.body r v st.at (ap (method_at p) st.method ∙ own_method) parameter cover.origin fr.control cover.fact (reached_here (places.Var v) cover) cover.here in
+              (λ cover here'. (let own = parameters_own p ac st.number st.body r v st.at (ap (method_at p) st.method ∙ own_method) parameter cover.origin fr.control cover.fact (reached_here cover) here' in
               (own, lent_here cover.origin.kind (kinds.Param v) (parameter_origin v cover.origin.kind own) (ap (is_lent_parameter p) param_at ∙ lent))))
 
           by : (param : ParamSig) × (slice_get r.sig.params.items v ≡ Some param) → set.is_subset u.names y.called ≡ true
@@ -373,7 +377,7 @@ module _ (p : Program) (ac : Accept p) (forms' : HasPlainForms p) (h : HeapConte
       named_parameter run.0.sig.params.items n.sig.params.items v param fit.types fit.owning at owning
 
   plainly : fr.method ≡ named → PromisesPlainly p n
-  plainly same = (subst (IsPlainSignature p) named_at call.signature).2 (of_program same)
+  plainly same = (subst (IsPlainSignature p) named_at call.signature).1 (of_program same)
 
   valid : IsValidSig p n.sig
   valid = (ac.well_formed.valid.typed.methods named n named_at).signature
@@ -384,10 +388,10 @@ module _ (p : Program) (ac : Accept p) (forms' : HasPlainForms p) (h : HeapConte
   kept_as : (held : PlaceSet) (names : Names) (ps qs : List Promise) → qs ≡ ps → Kept held names ps → Kept held names qs
   kept_as held names ps qs same kept = subst (λ (us : List Promise). AreKept p below.number t.action held names us) (sym same) kept
 
-  pub promises_kept : (z : Place) (o : ℕ) (x y : Object) (c : Covers p h caller z o x) → object_at h o ≡ Some x → (g : Fact) → (moved_at_call p c.origin t.action t.edge c.fact ≡ moves.Moves → is_owned_in g.mode ≡ false)
-      → (is_owned_in g.mode ≡ true) ⊎ (is_lent p (method_at p caller.method) c.origin.kind ≡ true) → x.finished ≡ true → GoesOn x y → is_heavy_class p c.origin.class ≡ true → is_heavy_class p x.class ≡ true → may_owe x ≡ true
+  pub promises_kept : (o : ℕ) (x y : Object) (c : Covers p h (is_given p h caller o x.class) rest caller o x) → object_at h o ≡ Some x → (g : Fact) → (moved_at_call p c.origin t.action t.edge c.fact ≡ moves.Moves → is_owned_in g.mode ≡ false)
+      → (is_owned_in g.mode ≡ true) ⊎ (is_lent p (method_at p caller.method) c.origin.kind ≡ true) → is_given p h caller o x.class ≡ false → x.finished ≡ true → GoesOn x y → is_heavy_class p c.origin.class ≡ true → is_heavy_class p x.class ≡ true → may_owe x ≡ true
       → AreKept p below.number t.action c.fact.places y.called (promises_at p t.action t.edge)
-  promises_kept z o x y c before g more trusted done goes wide heavy owes = elim (call.keeps fr.method n run.0 may named_at run.1 run.2) [
+  promises_kept o x y c before g more trusted spared done goes wide heavy owes = elim (call.keeps fr.method n run.0 may named_at run.1 run.2) [
     | inl keeps ↦ as_promised keeps t.edge refl
     | inr same ↦ itself same t.edge refl
   ]
@@ -396,11 +400,11 @@ module _ (p : Program) (ac : Accept p) (forms' : HasPlainForms p) (h : HeapConte
       on_target : (same : fr.method ≡ named) (xs : List Promise) → AsksFor p st.number q xs → (k : ℕ) (u : Promise) → slice_get xs k ≡ Some u → Promises n u → (v : Target) → u.target ≡ v → IsPromisedPlainly p n v
           → IsPromised p n.sig v → holds_target p below.number t.action c.fact.places v ≡ true → set.is_subset u.names y.called ≡ true
       on_target same xs asks k u at promises (promised.At v) target plain' valid' holds =
-          on_position z o x y c before done goes wide heavy owes n (ap (method_at p) same ∙ named_at) (λ w param param_at owning. (param, param_at, owning)) g more trusted xs asks k u at promises v target plain' valid' holds
+          on_position o x y c before spared done goes wide heavy owes n (ap (method_at p) same ∙ named_at) (λ w param param_at owning. (param, param_at, owning)) g more trusted xs asks k u at promises v target plain' valid' holds
       on_target same xs asks k u at promises (promised.OfField f) target plain' valid' holds =
           let parts = and_parts (is_this_target t.action) (holds_field p below.number c.fact.places f) holds in
           let field = and_parts (has_field_place p below.number f) (has c.fact.places (place_of_field p f)) parts.1 in
-          by_end z o x y c before done goes wide heavy owes same f (promised_field p ac named n u named_at promises f target) parts.0 field.0 field.1 xs asks k u at target
+          by_end o x y c before spared done goes wide heavy owes same f (promised_field p ac named n u named_at promises f target) parts.0 field.0 field.1 xs asks k u at target
 
       all_of_end : (same : fr.method ≡ named) (xs : List Promise) → AsksFor p st.number q xs → ((k : ℕ) (u : Promise) → slice_get xs k ≡ Some u → Promises n u) → All (λ (v : Promise). IsPromisedPlainly p n v.target) xs
           → All (λ (v : Promise). IsPromised p n.sig v.target) xs → Kept c.fact.places y.called xs
@@ -423,7 +427,7 @@ module _ (p : Program) (ac : Accept p) (forms' : HasPlainForms p) (h : HeapConte
                   let parts = name_where (is_at mine.0.target v) mine.0.names a mine.3 in
                   let target = at_target mine.0.target v parts.0 in
                   within_at mine.0.names y.called
-                  (on_position z o x y c before done goes wide heavy owes run.0 run.1 alike_here g more trusted ps asks mine.1 mine.0 mine.2 (promises mine.1 mine.0 mine.2) v target kept.1
+                  (on_position o x y c before spared done goes wide heavy owes run.0 run.1 alike_here g more trusted ps asks mine.1 mine.0 mine.2 (promises mine.1 mine.0 mine.2) v target kept.1
                   (subst (λ (w : Target). IsPromised p run.0.sig w) target (all_at (λ (w : Promise). IsPromised p run.0.sig w.target) ps mine.1 mine.0 valid' mine.2)) holds) a parts.1
 
       here_run : method_of p st.number ≡ Some run.0

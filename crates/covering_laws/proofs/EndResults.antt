@@ -1,9 +1,9 @@
 -- What a call of the program without an aliased argument gives its caller when the frame above has ended: an exception is light, a `new` gives
 -- its finished object, and an owning result of a type with an obligation was owned by the frame, or its end breaks a rule.
-use Rattle.std.specs.Prelude.{not, if◌then◌else◌}
-use Rattle.std.proofs.Common.{◌≡◌, ℕ, ◌<◌, Bool, true, false, true≢false, ◌&&◌, Option, Some, None, slice_get, refl, sym, ap, ◌∙◌, subst}
+use Rattle.std.specs.Prelude.{not}
+use Rattle.std.proofs.Common.{◌≡◌, ◌⊎◌, inl, inr, ℕ, ◌+◌, ◌<◌, Bool, true, false, true≢false, ◌&&◌, Option, Some, None, List, ◌∷◌, length, slice_get, refl, sym, ap, ◌∙◌, subst, arith}
 use Rattle.std.specs.FinSet as set
-use Rattle.std.proofs.lemmas.Bool.{and_from, and_parts, not-true, or_right}
+use Rattle.std.proofs.lemmas.Bool.{and_from, not-true, or_right}
 use Rattle.rlc_base.specs.declared.place.Pos.{Pos}
 use Rattle.rlc_base.proofs.SetLaws.{within_self, within_trans}
 use Rattle.program_model.specs.declared.kinds.BodyId.{BodyId}
@@ -17,10 +17,9 @@ use Rattle.program_model.specs.Lookups.{method_at}
 use Rattle.program_model.specs.Overrides.{is_library}
 use Rattle.program_model.specs.SuperTests.{is_under}
 use Rattle.program_model.specs.Validity.{is_class_type}
-use Rattle.program_conditions.specs.Conditions.{MakesNoString}
-use Rattle.value_type_laws.specs.Bodies.{alias_in, alias_position, method_in, method_of}
-use Rattle.value_type_laws.specs.MustCallSets.{Names, fits, fits_type, is_empty, is_heavy_as, is_heavy_class, must_of, must_of_optional, no_names}
-use Rattle.value_type_laws.specs.OverrideCases.{differ}
+use Rattle.ledger_obligations.specs.Bodies.{alias_in, method_in, method_of}
+use Rattle.ledger_obligations.specs.MustCallSets.{Names, fits, fits_type, is_empty, is_heavy_class, must_of, must_of_optional, must_of_type, no_names}
+use Rattle.ledger_obligations.specs.OverrideCases.{differ}
 use Rattle.java_control.specs.Calls.{called_method, completion_temp}
 use Rattle.java_control.specs.Control.{Step}
 use Rattle.java_control.specs.PlaceNumbers.{IsSmall}
@@ -28,31 +27,21 @@ use Rattle.java_control.specs.declared.action.Action.{Action}
 use Rattle.java_control.specs.declared.action.Action.TheVariants as actions
 use Rattle.java_control.specs.declared.action.Completion.{Completion}
 use Rattle.java_control.specs.declared.action.Completion.TheVariants as completions
-use Rattle.java_control.specs.declared.action.Edge.{Edge}
 use Rattle.java_control.specs.declared.action.Edge.TheVariants as edges
 use Rattle.java_control.specs.declared.action.TargetForm.{TargetForm}
-use Rattle.java_control.specs.declared.fact.Fact.{Fact}
-use Rattle.java_control.specs.declared.fact.Mode.{Mode}
 use Rattle.java_control.specs.declared.fact.Mode.TheVariants as modes
-use Rattle.java_control.specs.declared.fact.Origin.{Origin}
 use Rattle.java_control.specs.declared.fact.OriginKind.TheVariants as kinds
-use Rattle.java_control.specs.declared.fact.Rule.{Rule}
-use Rattle.java_control.specs.declared.fact.Rule.TheVariants as rules
 use Rattle.java_control.specs.declared.place.Place.{Place}
 use Rattle.java_control.specs.declared.place.Place.TheVariants as places
-use Rattle.target_laws.specs.Facts.{has, is_own}
-use Rattle.value_type_laws.specs.Signatures.{is_present}
-use Rattle.ownership_rules.specs.Heavy.{is_owned}
-use Rattle.target_laws.specs.SmallActions.{IsSmallAction, IsSmallTemp}
+use Rattle.ownership_rules.specs.Facts.{has, is_own}
+use Rattle.ownership_rules.specs.Signatures.{is_present}
+use Rattle.ownership_rules.specs.SmallActions.{IsSmallAction, IsSmallTemp}
 use Rattle.ownership_rules.specs.Births.{fact_at, origin_of}
-use Rattle.ownership_rules.specs.MovesAtReturns.{heavy_result, kept_alias, moved_at_return, owned_result, owning_result_in, result_type}
+use Rattle.ownership_rules.specs.MovesAtReturns.{owning_result_in}
 use Rattle.ownership_rules.specs.MovesAtReturns as at_returns
-use Rattle.ownership_rules.specs.declared.moved.Moved.{Moved}
-use Rattle.ownership_rules.specs.declared.moved.Moved.TheVariants as moves
-use Rattle.flow_rules.specs.Ends.{after_return}
-use Rattle.flow_rules.specs.Flow.{flow}
-use Rattle.flow_rules.specs.Paths.{Reach, move_of, relation_of}
-use Rattle.target_laws.specs.Accept.{Accept}
+use Rattle.value_laws.specs.Flow.{flow}
+use Rattle.value_laws.specs.Paths.{Reach, move_of, relation_of}
+use Rattle.value_laws.specs.Accept.{Accept}
 use Rattle.ledger_state.specs.Classes.{class_in, runtime_class}
 use Rattle.ledger_state.specs.Contents.{HeapContents}
 use Rattle.ledger_state.specs.Heaps.{object_at, root, root_of, unfinished}
@@ -62,81 +51,62 @@ use Rattle.ledger_state.specs.declared.object.Link.{Link}
 use Rattle.ledger_state.specs.declared.object.Object.{Object}
 use Rattle.ledger_state.specs.declared.value.Value.{Value}
 use Rattle.ledger_state.specs.declared.value.Value.TheVariants as values
-use Rattle.ledger_obligations.specs.Obligations.{first_set}
-use Rattle.program_call_laws.specs.Places.{class_of_method, place_value}
-use Rattle.program_call_laws.specs.Calls as calls
-use Rattle.program_call_laws.specs.Configuration.{Frame}
-use Rattle.target_laws.specs.Choosing.{body_id, frame_steps}
-use Rattle.target_laws.specs.Frames.{frame_after, is_made, made_place}
+use Rattle.ledger_state.specs.declared.entry.Owner.TheVariants as owners
+use Rattle.ledger_obligations.specs.Obligations.{first_set, is_library_owner}
+use Rattle.value_laws.specs.Places.{class_of_method, place_value}
+use Rattle.ledger_steps.specs.LedgerCallsCalls as calls
+use Rattle.ledger_steps.specs.Conducts as conducts
+use Rattle.ledger_steps.specs.Conducts.{owning_in}
+use Rattle.value_laws.specs.Configuration.{Frame}
+use Rattle.value_laws.specs.Choosing.{body_id, frame_steps}
+use Rattle.value_laws.specs.Frames.{frame_after, is_made, made_place}
 use Rattle.ledger_steps.specs.Ends.{answered, exception_class, result_value, returned_heap, thrown_in}
-use Rattle.program_call_laws.specs.Heaps.{HasEarlierLinks}
-use Rattle.program_call_laws.proofs.Laws.{roots_of_links-itself}
-use Rattle.field_place_laws.proofs.Laws.{single_place-same}
-use Rattle.tracking_laws.specs.Outcomes.{IsCallRow, IsFault}
-use Rattle.tracking_laws.specs.Agreement.{IsMade, IsMadeBy, Stands}
-use Rattle.tracking_laws.specs.PlainForms.{HasPlainForms, IsPlainCall, MayRun, RunsFor}
-use Rattle.range_laws.specs.Nexts.{IsBackStep}
-use Rattle.operand_source_laws.specs.Operands.{NoObject, result_of}
-use Rattle.tracking_laws.proofs.CallNames.{object_with_root}
-use Rattle.tracking_laws.proofs.Chains.{object_there}
-use Rattle.kept_argument_laws.specs.Typed.{GivesResult, NamesMembers}
-use Rattle.value_type_laws.specs.Types.{GivesAsNamed, KeepsTypes}
-use Rattle.value_type_laws.proofs.Laws.{returned_value_is_no_object}
-use Rattle.kept_argument_laws.specs.FieldContents.{is_new}
-use Rattle.kept_argument_laws.specs.PlaceFacts.{Covers, IsCovered, IsTrueOf, may_owe}
-use Rattle.kept_argument_laws.specs.Ranges.{LocalsInRange}
-use Rattle.kept_argument_laws.proofs.Following.{breaks_nothing, same_body, step_there}
-use Rattle.kept_argument_laws.proofs.HeavyFields.{own_claims}
+use Rattle.value_laws.specs.Heaps.{HasEarlierLinks}
+use Rattle.value_laws.proofs.HeapLaws.{roots_of_links-itself}
+use Rattle.value_laws.proofs.PlaceLaws.{single_place-same}
+use Rattle.value_laws.specs.Outcomes.{IsCallRow, IsFault}
+use Rattle.value_laws.specs.Agreement.{IsMade, IsMadeBy, Stands}
+use Rattle.value_laws.specs.PlainForms.{HasPlainForms, IsPlainCall, MayRun, RunsFor}
+use Rattle.value_laws.specs.Nexts.{IsBackStep}
+use Rattle.value_laws.specs.Operands.{NoObject, result_of}
+use Rattle.value_laws.proofs.CallNames.{object_with_root}
+use Rattle.value_laws.proofs.Chains.{object_there}
+use Rattle.value_laws.specs.Typed.{GivesResult, NamesMembers}
+use Rattle.value_laws.specs.Types.{GivesAsNamed, IsNoObjectButText, KeepsTypes, is_text}
+use Rattle.value_laws.proofs.ValueTypeLaws.{returned_value_is_no_object}
+use Rattle.value_laws.specs.FieldContents.{is_new}
+use Rattle.value_laws.specs.PlaceFacts.{Covers, IsCovered, IsKeyed, IsOwned, IsTrueOf, gives_none, may_owe, owned, unowned}
+use Rattle.value_laws.specs.Ranges.{LocalsInRange}
+use Rattle.covering_laws.proofs.Following.{breaks_nothing, same_body, step_there}
+use Rattle.covering_laws.proofs.HeavyFields.{own_claims}
 use Rattle.covering_laws.specs.Running.{HasPlainRuns, IsAlike}
-use Rattle.covering_laws.specs.Throws.{ExceptionsAreUnlinked}
+use Rattle.covering_laws.specs.Linking.{LinkedAreAliases}
 use Rattle.covering_laws.proofs.AliasResults.{default_no_root}
 use Rattle.covering_laws.proofs.Bodies.{running_method}
 use Rattle.covering_laws.proofs.BornTruths.{true_of_made}
-use Rattle.covering_laws.proofs.CallResults.{new_covers, result_covers}
+use Rattle.covering_laws.proofs.CallResults.{IsBornSo, new_covers, result_covers}
 use Rattle.covering_laws.proofs.EndHeaps.{finished_here}
+use Rattle.covering_laws.proofs.EndOwners.{end_new_owner, end_result_owner}
 use Rattle.covering_laws.proofs.GivenArguments.{true_of_result}
 use Rattle.covering_laws.proofs.LightExceptions.{leaving_is_light, leaving_is_throwable}
+use Rattle.covering_laws.proofs.LinkedExceptions.{exceptions_unlinked}
 use Rattle.covering_laws.proofs.LocalSteps.{names_members}
+use Rattle.covering_laws.proofs.ResultOwners.{result_is_owned}
 use Rattle.covering_laws.proofs.Waiting.{IsCarried, KeepsRoots, owed_before, value_root}
-
--- ---- a result that breaks no rule
-
-own_mode : (m : Mode) → is_own m ≡ true → m ≡ modes.Own
-own_mode modes.Own is = refl
-own_mode modes.None is = absurd (true≢false (sym is))
-own_mode modes.Held is = absurd (true≢false (sym is))
-own_mode modes.Lent is = absurd (true≢false (sym is))
-own_mode modes.Alias is = absurd (true≢false (sym is))
-
--- the returned object is owned, and fits the result's type
-result_is_owned : (p : Program) (b : BodyId) (o : Origin) (d : ℕ) (pos : Pos) (e : Edge) (f : Fact) (t : VType) → result_type p b ≡ Some t → alias_position p b ≡ None → owning_result_in (method_of p b) ≡ true
-    → has f.places (places.Temp d) ≡ true → is_heavy_as p o.class (Some t) ≡ true → (IsFault (flow p b o (actions.End (completions.ReturnValue d pos)) e f) → ⊥)
-    → (f.mode ≡ modes.Own) × (is_heavy_class p o.class ≡ true) × (fits_type p o.class (Some t) ≡ true)
-result_is_owned p b o d pos e f t type alias owning there heavy fine = by (is_owned p o f) refl (fits_type p o.class (Some t)) refl
-  where
-    moved_is : moved_at_return p b o (actions.End (completions.ReturnValue d pos)) f ≡ owned_result p b o f
-    moved_is =
-        ap (λ (x : Bool). if x then heavy_result p b o f else moves.Stays) (and_from (has f.places (places.Temp d)) (is_heavy_as p o.class (result_type p b)) there (ap (is_heavy_as p o.class) type ∙ heavy))
-        ∙ ap (λ (x : Bool). if x then kept_alias f else (if owning_result_in (method_of p b) then owned_result p b o f else moves.Stays)) (ap is_present alias)
-        ∙ ap (λ (x : Bool). if x then owned_result p b o f else moves.Stays) owning
-
-    no_bad : (rule : Rule) → owned_result p b o f ≡ moves.Bad rule → ⊥
-    no_bad rule bad = fine (subst (λ (x : Moved). IsFault (after_return p b o (completions.ReturnValue d pos) f x)) (sym (moved_is ∙ bad)) tt)
-
-    by : (x : Bool) → is_owned p o f ≡ x → (y : Bool) → fits_type p o.class (Some t) ≡ y → (f.mode ≡ modes.Own) × (is_heavy_class p o.class ≡ true) × (fits_type p o.class (Some t) ≡ true)
-    by false none y fit = absurd (no_bad rules.NotOwned (ap (λ (x : Bool). if not x then moves.Bad rules.NotOwned else (if not (fits_type p o.class (result_type p b)) then moves.Bad rules.Narrow else moves.Moves)) none))
-    by true owned false fit = absurd (no_bad rules.Narrow (ap (λ (x : Bool). if not x then moves.Bad rules.NotOwned else (if not (fits_type p o.class (result_type p b)) then moves.Bad rules.Narrow else moves.Moves)) owned
-        ∙ ap (λ (x : Bool). if not x then moves.Bad rules.Narrow else moves.Moves) (ap (fits_type p o.class) type ∙ fit)))
-    by true owned true fit = let parts = and_parts (is_heavy_class p o.class) (is_own f.mode) owned in (own_mode f.mode parts.1, parts.0, fit)
+use Rattle.covering_laws.specs.Texts.{TextsAreLight}
 
 no_number : (k : HeapContents) (v : Value) (o : ℕ) → number_of v ≡ None → root_of k v ≡ Some o → ⊥
 no_number k (values.Object n) o none is = absurd (let never : Some n ≡ None = none in cc)
 no_number k v o none is = cc
 
-module _ (p : Program) (ac : Accept p) (forms' : HasPlainForms p) (runs' : HasPlainRuns p) (texts : MakesNoString p) (h : HeapContents) (links : HasEarlierLinks h) (apart : ExceptionsAreUnlinked p h) (fr caller : Frame) (st : Stands p fr) (below : Stands p caller)
-    (keeps : KeepsTypes p fr) (gives : GivesAsNamed p caller fr) (mine' : LocalsInRange h fr.locals) (covered : IsCovered p h fr) (i : ℕ) (s : Step) (q : Completion) (here : slice_get (frame_steps p fr) i ≡ Some s) (is : s.action ≡ actions.End q)
+module _ (p : Program) (ac : Accept p) (forms' : HasPlainForms p) (runs' : HasPlainRuns p) (h : HeapContents) (texts : TextsAreLight p h) (links : HasEarlierLinks h) (apart : LinkedAreAliases p h) (fr caller : Frame) (rest : List Frame) (st : Stands p fr) (below : Stands p caller)
+    (keeps : KeepsTypes (is_text p h) p fr) (gives : GivesAsNamed p caller fr) (mine' : LocalsInRange h fr.locals) (covered : IsCovered p h gives_none (caller ∷ rest) fr) (i : ℕ) (s : Step) (q : Completion) (here : slice_get (frame_steps p fr) i ≡ Some s) (is : s.action ≡ actions.End q)
     (t : Step) (named : MethodId) (back : IsBackStep p (frame_steps p caller) (exception_class p h (thrown_in fr.locals q)) named t) (n : Method) (named_at : method_at p named ≡ Some n) (call : IsPlainCall p named)
-    (may : MayRun p named fr.method) (makes : IsMadeBy p h t.action fr.locals.this) (at : ℕ) where
+    (may : MayRun p named fr.method) (makes : IsMadeBy p h t.action fr.locals.this) (no_reset : calls.reset_position (method_at p named) ≡ None) where
+  -- the position of the caller
+  abbrev at : ℕ
+  at = length rest + 1
+
   abbrev e : Option ClassId
   e = exception_class p h (thrown_in fr.locals q)
 
@@ -203,17 +173,24 @@ module _ (p : Program) (ac : Accept p) (forms' : HasPlainForms p) (runs' : HasPl
                 true≢false (sym heavy ∙ ap (is_heavy_class p) (old.2 ∙ ap (λ (z : Object). z.class) one ∙ class) ∙ light)
             by_link k' x root'' at' class (Some l) some =
                 let way = back.thrown c thrown in
-                true≢false (sym (leaving_is_throwable p ac named c way.0 way.1) ∙ ap (λ (z : ClassId). is_under p z p.core.throwable) (sym class) ∙ apart k' x l at' some)
+                true≢false (sym (leaving_is_throwable p ac named c way.0 way.1) ∙ ap (λ (z : ClassId). is_under p z p.core.throwable) (sym class) ∙ exceptions_unlinked p ac h apart k' x l at' some)
         by (completions.Return pos) same thrown' found = let never : None ≡ Some c = thrown' in cc
         by (completions.ReturnValue d pos) same thrown' found = let never : None ≡ Some c = thrown' in cc
         by (completions.Break pos) same thrown' found = let never : None ≡ Some c = thrown' in cc
         by (completions.Continue pos) same thrown' found = let never : None ≡ Some c = thrown' in cc
 
+    -- The object is the caller's: it is the one that a `new` made, or the frame that ended owned it
+    abbrev pub IsTaken : Type 0
+    IsTaken = (y.owner ≡ owners.Frame at) × (((is_new t.action ≡ true) × (fr.locals.this ≡ values.Object o)) ⊎ ((x : Object) → object_at h o ≡ Some x → x.owner ≡ owners.Frame (at + 1)))
+
+    abbrev pub IsGivenHere : Type 0
+    IsGivenHere = IsBornSo p K rest after place o y IsTaken
+
     at_temp : (d : ℕ) → made_place t.action ≡ Some (places.Temp d)
-        → (IsSmall (places.Temp d) → root_of K (place_value p K caller.method after.locals (places.Temp d)) ≡ Some o → Covers p K after (places.Temp d) o y) → Covers p K after place o y
+        → (IsSmall (places.Temp d) → root_of K (place_value p K caller.method after.locals (places.Temp d)) ≡ Some o → IsBornSo p K rest after (places.Temp d) o y IsTaken) → IsGivenHere
     at_temp d same covers =
         let it : places.Temp d ≡ place = single_place-same (places.Temp d) place (ap (λ (x : Option Place). is_made x place) (sym same) ∙ there) in
-        subst (λ (z : Place). Covers p K after z o y) it (covers (subst IsSmall (sym it) small)
+        subst (λ (z : Place). IsBornSo p K rest after z o y IsTaken) it (covers (subst IsSmall (sym it) small)
         (subst (λ (z : Place). root_of K (place_value p K caller.method after.locals z) ≡ Some o) (sym it) (ap (root_of K) value ∙ rooted)))
 
     module _ (normal : e ≡ None) (plain : n.sig.alias ≡ None) where
@@ -240,7 +217,7 @@ module _ (p : Program) (ac : Accept p) (forms' : HasPlainForms p) (runs' : HasPl
               by None none = none
               by (Some k) some = absurd (true≢false (sym (links made.0 x k at' some).finished ∙ unmade made.0 x (ap is_new it) made.1 at'))
 
-      new_given : (m : MethodId) (d c : ℕ) → t.action ≡ actions.New m d c → root_of K fr.locals.this ≡ Some o → Covers p K after place o y
+      new_given : (m : MethodId) (d c : ℕ) → t.action ≡ actions.New m d c → root_of K fr.locals.this ≡ Some o → IsGivenHere
       new_given m d c it root' =
           let made = subst (λ (a : Action). IsMadeBy p h a fr.locals.this) it makes in
           let m_is = named_is m (ap called_method it) in
@@ -250,9 +227,12 @@ module _ (p : Program) (ac : Accept p) (forms' : HasPlainForms p) (runs' : HasPl
           let done = finished_here p at o fr.locals.this caller.locals m d c (method_at p fr.method) (method_at p named) v h y (ap (λ (z : Option Method). calls.alias_position z) named_at ∙ plain) self
           (subst (λ (x : Option ClassId). object_at (returned_heap p at fr.locals.this caller.locals (actions.New m d c) (method_at p fr.method) (method_at p named) v x h) o ≡ Some y) normal
           (subst (λ (a : Action). object_at (returned_heap p at fr.locals.this caller.locals a (method_at p fr.method) (method_at p named) v e h) o ≡ Some y) it now)) in
-          at_temp d (ap made_place it) (λ small' root''. new_covers p h K caller below back.index t back.here V d o y small' root'' m n edge (ap (method_at p) m_is ∙ named_at) plain c it
+          let owner = end_new_owner p at fr.locals.this caller.locals t.action (method_at p fr.method) (method_at p named) v e h no_reset unmade o y normal (ap is_new it) (ap (λ (z : Option Method). calls.alias_position z) named_at ∙ plain) self now
+          done.0 (λ x there'. unmade o x (ap is_new it) self there') in
+          at_temp d (ap made_place it) (λ small' root''. (let z = new_covers p h K caller below back.index t back.here V rest d o y small' root'' m n edge (ap (method_at p) m_is ∙ named_at) plain c it
           (ap (is_heavy_class p) class ∙ heavy)
-          (true_of_made p kinds.New t.pos n.class y.class n.sig.first (places.Temp d) y done.0 refl (done.1 ∙ sym (ap (first_set p y.class) fit.first)) (subst (λ (z : ClassId). fits p y.class z ≡ true) (sym class) (within_self (must_of p y.class)))))
+          (true_of_made p kinds.New t.pos n.class y.class n.sig.first (places.Temp d) y done.0 refl (done.1 ∙ sym (ap (first_set p y.class) fit.first)) (subst (λ (z : ClassId). fits p y.class z ≡ true) (sym class) (within_self (must_of p y.class)))) in
+          inl (z.0, z.1, (owner, inl (ap is_new it, self)))))
 
       -- ---- a result
 
@@ -267,16 +247,6 @@ module _ (p : Program) (ac : Accept p) (forms' : HasPlainForms p) (runs' : HasPl
         room : d < 64
         room = subst (λ (r : Completion). IsSmallTemp (completion_temp r)) end' (subst (IsSmallAction p) is ((ac.fits st.number).steps i (move_of s) st.control (step_there p fr st i s here)))
 
-        cover : Covers p h fr (places.Temp d) o old.0
-        cover = covered (places.Temp d) o old.0 room (temp_root d found) old.1 (ap (is_heavy_class p) (sym old.2) ∙ heavy) (owed_before old.0 y old.3 owes)
-
-        reached : Reach p st.number (relation_of p st.number) cover.origin fr.control cover.fact
-        reached = subst (λ (b : BodyId). Reach p b (relation_of p b) cover.origin fr.control cover.fact) (same_body cover.body st.number (body_id p fr.method) cover.id st.id) cover.reached
-
-        fine : IsFault (flow p st.number cover.origin (actions.End (completions.ReturnValue d pos)) s.edge cover.fact) → ⊥
-        fine fault = breaks_nothing p ac st.number cover.origin i (move_of s) cover.fact reached (step_there p fr st i s here)
-            (subst (λ (a : Action). IsFault (flow p st.number cover.origin a s.edge cover.fact)) (sym (is ∙ ap actions.End end')) fault)
-
         owning_run : n.sig.owning_result ≡ true → run.0.sig.owning_result ≡ true
         owning_run owning = go run.0.sig.owning_result n.sig.owning_result (ap (λ (x : Option VType). is_present x && differ run.0.sig.owning_result n.sig.owning_result) (sym result_there.1) ∙ fit.result) owning
           where
@@ -285,50 +255,89 @@ module _ (p : Program) (ac : Accept p) (forms' : HasPlainForms p) (runs' : HasPl
             go false true same one = absurd (true≢false same)
             go false false same one = one
 
-        owned : (r : ClassId) → n.sig.result ≡ Some (types.Obj r) → n.sig.owning_result ≡ true → is_heavy_class p r ≡ true → IsTrueOf p y (origin_of p kinds.Result t.pos r None) (fact_at (places.Temp d) modes.Own no_names false)
-        owned r result owning heavy' =
-            let type : result_type p st.number ≡ Some result_there.0 = ap at_returns.result_in body_method ∙ result_there.1 in
-            let mine = result_is_owned p st.number cover.origin d pos s.edge cover.fact result_there.0 type (ap alias_in body_method ∙ fit.alias ∙ plain) (ap owning_result_in body_method ∙ owning_run owning) cover.here heavy_as fine in
-            let truth = cover.true' (own_claims p (method_at p fr.method) cover.origin cover.fact mine.0 mine.1) in
-            true_of_result p old.0 y cover.origin cover.fact kinds.Result t.pos r (places.Temp d) truth (old.3 truth.finished)
-            (within_trans (must_of p cover.origin.class) (must_of_optional p (Some result_there.0)) (must_of p r) mine.2 wider)
-          where
-            not_light : (b : Bool) → is_empty (must_of_optional p (Some result_there.0)) ≡ b → not b ≡ true
-            not_light true light = absurd (true≢false (sym (ap (λ (x : Option VType). is_empty (must_of_optional p x)) (sym result) ∙ alike.light (ap (λ (x : Option VType). is_empty (must_of_optional p x)) result_there.1 ∙ light))
-                ∙ not-true (is_empty (must_of p r)) heavy'))
-            not_light false some = refl
+        module _ (r : ClassId) (result : n.sig.result ≡ Some (types.Obj r)) (owning : n.sig.owning_result ≡ true) (heavy' : is_heavy_class p r ≡ true) where
+          not_light : (b : Bool) → is_empty (must_of_optional p (Some result_there.0)) ≡ b → not b ≡ true
+          not_light true light = absurd (true≢false (sym (ap (λ (x : Option VType). is_empty (must_of_optional p x)) (sym result) ∙ alike.light (ap (λ (x : Option VType). is_empty (must_of_optional p x)) result_there.1 ∙ light))
+              ∙ not-true (is_empty (must_of p r)) heavy'))
+          not_light false some = refl
 
-            heavy_as : is_heavy_as p cover.origin.class (Some result_there.0) ≡ true
-            heavy_as = or_right (is_heavy_class p cover.origin.class) (not (is_empty (must_of_optional p (Some result_there.0)))) (not_light (is_empty (must_of_optional p (Some result_there.0))) refl)
+          -- the fact of the result says that the frame owns it, or its end breaks a rule
+          module _ (c : Covers p h false (caller ∷ rest) fr o old.0) (in' : has c.fact.places (places.Temp d) ≡ true) where
+            reached : Reach p st.number (relation_of p st.number) c.origin fr.control c.fact
+            reached = subst (λ (b : BodyId). Reach p b (relation_of p b) c.origin fr.control c.fact) (same_body c.body st.number (body_id p fr.method) c.id st.id) c.reached
 
-            wider : set.is_subset (must_of_optional p (Some result_there.0)) (must_of p r) ≡ true
-            wider = go (set.is_subset (must_of_optional p (Some result_there.0)) (must_of p r)) refl
-              where
-                go : (b : Bool) → set.is_subset (must_of_optional p (Some result_there.0)) (must_of p r) ≡ b → set.is_subset (must_of_optional p (Some result_there.0)) (must_of p r) ≡ true
-                go true fits' = fits'
-                go false none = absurd (true≢false (sym (and_from run.0.sig.owning_result (not (set.is_subset (must_of_optional p run.0.sig.result) (must_of_optional p n.sig.result))) (owning_run owning)
-                    (ap not (ap (λ (x : Option VType). set.is_subset (must_of_optional p x) (must_of_optional p n.sig.result)) result_there.1
-                    ∙ ap (λ (x : Option VType). set.is_subset (must_of_optional p (Some result_there.0)) (must_of_optional p x)) result ∙ none))) ∙ fit.wider))
+            fine : IsFault (flow p st.number c.origin (actions.End (completions.ReturnValue d pos)) s.edge c.fact) → ⊥
+            fine fault = breaks_nothing p ac st.number c.origin i (move_of s) c.fact reached (step_there p fr st i s here)
+                (subst (λ (a : Action). IsFault (flow p st.number c.origin a s.edge c.fact)) (sym (is ∙ ap actions.End end')) fault)
 
-        result_given : (m : MethodId) (d' c : ℕ) (f : TargetForm) → t.action ≡ actions.Call m d' c f → Covers p K after place o y
+            mine : (c.fact.mode ≡ modes.Own) × (is_heavy_class p c.origin.class ≡ true) × (fits_type p c.origin.class (Some result_there.0) ≡ true)
+            mine = result_is_owned p st.number c.origin d pos s.edge c.fact result_there.0 (ap at_returns.result_in body_method ∙ result_there.1) (ap alias_in body_method ∙ fit.alias ∙ plain)
+                (ap owning_result_in body_method ∙ owning_run owning) in' (or_right (is_heavy_class p c.origin.class) (not (is_empty (must_of_optional p (Some result_there.0)))) (not_light (is_empty (must_of_optional p (Some result_there.0))) refl)) fine
+
+          owned_cover : (c : Covers p h false (caller ∷ rest) fr o old.0) × (has c.fact.places (places.Temp d) ≡ true) × IsOwned p h false (caller ∷ rest) fr o old.0 c
+          owned_cover = by (covered (places.Temp d) o old.0 room (temp_root d found) old.1 (ap (is_heavy_class p) (sym old.2) ∙ heavy) (owed_before old.0 y old.3 owes))
+            where
+              by : IsKeyed p h false (caller ∷ rest) fr (places.Temp d) o old.0 → (c : Covers p h false (caller ∷ rest) fr o old.0) × (has c.fact.places (places.Temp d) ≡ true) × IsOwned p h false (caller ∷ rest) fr o old.0 c
+              by (owned c in' key) = (c, in', key)
+              by (unowned u) = let it = mine u.covers u.here in
+                  absurd (true≢false (sym (and_from (is_heavy_class p u.covers.origin.class) (is_own u.covers.fact.mode) it.1 (ap is_own it.0)) ∙ u.unowned))
+
+          truth : IsTrueOf p old.0 owned_cover.0.origin owned_cover.0.fact
+          truth = let it = mine owned_cover.0 owned_cover.1 in owned_cover.0.true' (own_claims p (method_at p fr.method) owned_cover.0.origin owned_cover.0.fact it.0 it.1) refl
+
+          true_here : IsTrueOf p y (origin_of p kinds.Result t.pos r None) (fact_at (places.Temp d) modes.Own no_names false)
+          true_here =
+              true_of_result p old.0 y owned_cover.0.origin owned_cover.0.fact kinds.Result t.pos r (places.Temp d) truth (old.3 truth.finished).0
+              (within_trans (must_of p owned_cover.0.origin.class) (must_of_optional p (Some result_there.0)) (must_of p r) (mine owned_cover.0 owned_cover.1).2 wider)
+            where
+              wider : set.is_subset (must_of_optional p (Some result_there.0)) (must_of p r) ≡ true
+              wider = go (set.is_subset (must_of_optional p (Some result_there.0)) (must_of p r)) refl
+                where
+                  go : (b : Bool) → set.is_subset (must_of_optional p (Some result_there.0)) (must_of p r) ≡ b → set.is_subset (must_of_optional p (Some result_there.0)) (must_of p r) ≡ true
+                  go true fits' = fits'
+                  go false none = absurd (true≢false (sym (and_from run.0.sig.owning_result (not (set.is_subset (must_of_optional p run.0.sig.result) (must_of_optional p n.sig.result))) (owning_run owning)
+                      (ap not (ap (λ (x : Option VType). set.is_subset (must_of_optional p x) (must_of_optional p n.sig.result)) result_there.1
+                      ∙ ap (λ (x : Option VType). set.is_subset (must_of_optional p (Some result_there.0)) (must_of_optional p x)) result ∙ none))) ∙ fit.wider))
+
+          -- the caller owns it when the call has ended
+          taken : IsTaken
+          taken = (
+            end_result_owner p at fr.locals.this caller.locals t.action (method_at p fr.method) (method_at p named) v e h no_reset unmade result_there.0 o old.0 y normal (ap owning_in run.1 ∙ owning_run owning)
+                (ap calls.alias_position run.1 ∙ fit.alias ∙ plain) (ap conducts.result_in run.1 ∙ result_there.1)
+                (ap (λ (c : Completion). root_of h (result_value fr.locals (method_at p fr.method) c)) end' ∙ temp_root d found) old.1
+                (and_from (old.0.finished && not (is_library_owner old.0.owner)) (set.is_subset (must_of p old.0.class) (must_of_type p result_there.0))
+                (and_from old.0.finished (not (is_library_owner old.0.owner)) truth.finished (ap (λ (b : Bool). not (b && is_library_owner old.0.owner)) (sym truth.finished) ∙ owed_before old.0 y old.3 owes))
+                (within_trans (must_of p old.0.class) (must_of p owned_cover.0.origin.class) (must_of_type p result_there.0) truth.class (mine owned_cover.0 owned_cover.1).2)) now,
+            inr (λ x there'. ap (λ (z : Object). z.owner) (let both : Some x ≡ Some old.0 = sym there' ∙ old.1 in (let one : x ≡ old.0 = cc in one)) ∙ owned_cover.2.owner refl
+                ∙ ap owners.Frame (let number : length (caller ∷ rest) + 1 ≡ length rest + 1 + 1 = omega arith in number)),
+          )
+
+        result_given : (m : MethodId) (d' c : ℕ) (f : TargetForm) → t.action ≡ actions.Call m d' c f → IsGivenHere
         result_given m d' c f it = by n.sig.result refl
           where
-            of_class : (r : ClassId) → n.sig.result ≡ Some (types.Obj r) → Covers p K after place o y
-            of_class r result = at_temp d' (ap made_place it) (λ small' root''. result_covers p h K caller below back.index t back.here V d' o y small' root'' m n edge (ap (method_at p) (named_is m (ap called_method it)) ∙ named_at) plain
+            as_taken : (r : ClassId) (z : Place) → n.sig.result ≡ Some (types.Obj r) → IsBornSo p K rest after z o y ((n.sig.owning_result ≡ true) × (is_heavy_class p r ≡ true)) → IsBornSo p K rest after z o y IsTaken
+            as_taken r z result (inl (c, in', own)) = inl (c, in', taken r result own.0 own.1)
+            as_taken r z result (inr u) = inr u
+
+            of_class : (r : ClassId) → n.sig.result ≡ Some (types.Obj r) → IsGivenHere
+            of_class r result = at_temp d' (ap made_place it) (λ small' root''. as_taken r (places.Temp d') result
+                (result_covers p h K caller below back.index t back.here V rest d' o y small' root'' m n edge (ap (method_at p) (named_is m (ap called_method it)) ∙ named_at) plain
                 c f r it result (λ owning heavy'. subst (λ (first : Option Names). IsTrueOf p y (origin_of p kinds.Result t.pos r first) (fact_at (places.Temp d') modes.Own no_names false)) (sym fit.first)
-                (owned_at r result owning heavy')))
+                (owned_at r result owning heavy'))))
               where
                 owned_at : (r' : ClassId) → n.sig.result ≡ Some (types.Obj r') → n.sig.owning_result ≡ true → is_heavy_class p r' ≡ true → IsTrueOf p y (origin_of p kinds.Result t.pos r' None) (fact_at (places.Temp d') modes.Own no_names false)
-                owned_at r' result' owning heavy' = let truth = owned r' result' owning heavy' in
+                owned_at r' result' owning heavy' = let truth = true_here r' result' owning heavy' in
                     record { finished = truth.finished; class = truth.class; bounded = truth.bounded; need = truth.need; called = truth.called }
 
             of_none : (x : VType) → n.sig.result ≡ Some x → is_class_type x ≡ false → ⊥
             of_none x result none =
-                no_number K (temp_value fr.locals d) o (ap (λ (r : Completion). number_of (result_value fr.locals (method_at p fr.method) r)) (sym end')
-                ∙ returned_value_is_no_object p ac texts fr keeps i s q here is (ap (thrown_in fr.locals) end')
-                (gives back.index t named back.here back.calls (subst (λ (z : Option Method). NoObject (result_of z)) (sym named_at) (subst NoObject (sym result) none)))) found
+                true≢false (sym (ap (is_heavy_class p) (sym old.2) ∙ heavy)
+                ∙ texts (temp_value fr.locals d) o old.0
+                (subst (λ (r : Completion). IsNoObjectButText p h (result_value fr.locals (method_at p fr.method) r)) end'
+                (returned_value_is_no_object (is_text p h) p ac fr keeps i s q here is (ap (thrown_in fr.locals) end')
+                ((gives back.index t named back.here back.calls).0 (subst (λ (z : Option Method). NoObject (result_of z)) (sym named_at) (subst NoObject (sym result) none))))) (temp_root d found) old.1)
 
-            by : (x : Option VType) → n.sig.result ≡ x → Covers p K after place o y
+            by : (x : Option VType) → n.sig.result ≡ x → IsGivenHere
             by None result = absurd (let never : None ≡ Some result_there.0 = sym (alike.none result) ∙ result_there.1 in cc)
             by (Some (types.Obj r)) result = of_class r result
             by (Some (types.Primitive k)) result = absurd (of_none (types.Primitive k) result refl)
@@ -336,10 +345,10 @@ module _ (p : Program) (ac : Accept p) (forms' : HasPlainForms p) (runs' : HasPl
             by (Some (types.Arr k)) result = absurd (of_none (types.Arr k) result refl)
             by (Some types.NullType) result = absurd (of_none types.NullType result refl)
 
-      call_given : (m : MethodId) (d' c : ℕ) (f : TargetForm) → t.action ≡ actions.Call m d' c f → root_of K v ≡ Some o → Covers p K after place o y
+      call_given : (m : MethodId) (d' c : ℕ) (f : TargetForm) → t.action ≡ actions.Call m d' c f → root_of K v ≡ Some o → IsGivenHere
       call_given m d' c f it found = by q refl normal found
         where
-          by : (r : Completion) → q ≡ r → exception_class p h (thrown_in fr.locals r) ≡ None → root_of K (result_value fr.locals (method_at p fr.method) r) ≡ Some o → Covers p K after place o y
+          by : (r : Completion) → q ≡ r → exception_class p h (thrown_in fr.locals r) ≡ None → root_of K (result_value fr.locals (method_at p fr.method) r) ≡ Some o → IsGivenHere
           by (completions.ReturnValue d pos) same none found' = result_given d pos same found' m d' c f it
           by (completions.Return pos) same none found' = absurd (default_no_root K _ o found')
           by (completions.Throw d k pos) same none found' =
@@ -348,10 +357,10 @@ module _ (p : Program) (ac : Accept p) (forms' : HasPlainForms p) (runs' : HasPl
           by (completions.Break pos) same none found' = absurd (let never : None ≡ Some o = found' in cc)
           by (completions.Continue pos) same none found' = absurd (let never : None ≡ Some o = found' in cc)
 
-      given_normally : root_of K (answered fr.locals.this t.action v None) ≡ Some o → Covers p K after place o y
+      given_normally : root_of K (answered fr.locals.this t.action v None) ≡ Some o → IsGivenHere
       given_normally root' = go t.action refl (ap (λ (a : Action). root_of K (answered fr.locals.this a v None)) refl ∙ root')
         where
-          go : (a : Action) → t.action ≡ a → root_of K (answered fr.locals.this a v None) ≡ Some o → Covers p K after place o y
+          go : (a : Action) → t.action ≡ a → root_of K (answered fr.locals.this a v None) ≡ Some o → IsGivenHere
           go actions.Skip it found = absurd (subst IsCallRow it back.row)
           go (actions.New m d c) it found = new_given m d c it found
           go (actions.Super m d c) it found = absurd (let never : None ≡ Some o = found in cc)
@@ -359,9 +368,9 @@ module _ (p : Program) (ac : Accept p) (forms' : HasPlainForms p) (runs' : HasPl
           go a it found = absurd (subst IsCallRow it back.row)
 
     -- where the signature has no alias
-    pub given : n.sig.alias ≡ None → Covers p K after place o y
+    pub given : n.sig.alias ≡ None → IsGivenHere
     given plain = by e refl
       where
-        by : (x : Option ClassId) → e ≡ x → Covers p K after place o y
+        by : (x : Option ClassId) → e ≡ x → IsGivenHere
         by (Some c) thrown = absurd (thrown_light c thrown (ap (λ (x : Option ClassId). root_of K (answered fr.locals.this t.action v x)) (sym thrown) ∙ rooted))
         by None normal = given_normally normal plain (ap (λ (x : Option ClassId). root_of K (answered fr.locals.this t.action v x)) (sym normal) ∙ rooted)

@@ -13,8 +13,8 @@ use Rattle.program_model.specs.declared.program.Program.{Program}
 use Rattle.program_model.specs.declared.tree.Body.{Body}
 use Rattle.program_model.specs.Lookups.{body_at, method_at, optional}
 use Rattle.program_model.specs.Overrides.{are_types, is_type}
-use Rattle.value_type_laws.specs.Bodies.{fields_of}
-use Rattle.value_type_laws.specs.OverrideCases.{differ, has_other_owning}
+use Rattle.ledger_obligations.specs.Bodies.{fields_of}
+use Rattle.ledger_obligations.specs.OverrideCases.{differ, has_other_owning}
 use Rattle.java_control.specs.declared.fact.Fact.{Fact}
 use Rattle.java_control.specs.declared.fact.Origin.{Origin}
 use Rattle.ownership_rules.specs.Births.{births_at_entry, entry_births_in, entry_births_of, field_birth, held_births, parameter_births, this_birth}

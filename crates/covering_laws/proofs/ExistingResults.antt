@@ -20,7 +20,7 @@ use Rattle.ledger_state.specs.Contents.{HeapContents}
 use Rattle.ledger_state.specs.declared.array.ArrayObject.{ArrayObject}
 use Rattle.ledger_state.specs.declared.value.Value.{Value}
 use Rattle.ledger_state.specs.declared.value.Value.TheVariants as values
-use Rattle.program_call_laws.specs.Conducts.{argument_of, fits_type, on_this, plainly, result_in, settled, settled_by}
+use Rattle.ledger_steps.specs.Conducts.{argument_of, fits_type, on_this, plainly, result_in, settled, settled_by}
 
 -- the result of the method is not owning, no alias, and of a class type
 pub record GivesUnowned (m : Option Method) : Type 0 where

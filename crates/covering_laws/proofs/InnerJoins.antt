@@ -1,6 +1,6 @@
 -- The top frame takes a step that calls nothing and stores into no owning field: what the step makes is no object, or is not owned.
-use Rattle.std.specs.Prelude.{◌&&◌, if◌then◌else◌}
-use Rattle.std.proofs.Common.{◌≡◌, ◌⊎◌, inl, inr, ℕ, Bool, true, false, Option, Some, None, List, ◌∷◌, option_map, slice_get, nat_eq, eq-eqb, refl, sym, ap, ◌∙◌, subst, true≢false, eqb-true}
+use Rattle.std.specs.Prelude.{if◌then◌else◌}
+use Rattle.std.proofs.Common.{◌≡◌, ◌⊎◌, inl, inr, ℕ, ◌+◌, arith, Bool, true, false, Option, Some, None, List, length, ◌∷◌, option_map, slice_get, nat_eq, eq-eqb, refl, sym, ap, ◌∙◌, subst, true≢false}
 use Rattle.std.proofs.lemmas.List.Elements.{All-head, All-tail}
 use Rattle.program_model.specs.declared.kinds.ClassId.{ClassId}
 use Rattle.program_model.specs.declared.kinds.FieldId.{FieldId}
@@ -9,13 +9,12 @@ use Rattle.program_model.specs.declared.kinds.VType.TheVariants as types
 use Rattle.program_model.specs.declared.program.Field.{Field}
 use Rattle.program_model.specs.declared.program.Program.{Program}
 use Rattle.program_model.specs.Lookups.{method_at}
-use Rattle.program_model.specs.SuperTests.{is_class}
+use Rattle.program_model.specs.SuperTests.{is_under}
 use Rattle.program_model.specs.Validity.{is_class_type}
-use Rattle.program_conditions.specs.Conditions.{MakesNoString}
-use Rattle.value_type_laws.specs.MustCallSets.{is_heavy_class, must_of, no_names}
-use Rattle.value_type_laws.specs.Signatures as signatures
+use Rattle.ledger_obligations.specs.MustCallSets.{is_heavy_class, must_of, no_names}
+use Rattle.ownership_rules.specs.Signatures as signatures
 use Rattle.java_control.specs.Control.{Step}
-use Rattle.java_control.specs.Sources.{emptied, is_null_pointer, is_temp, source}
+use Rattle.java_control.specs.Sources.{source}
 use Rattle.java_control.specs.declared.action.Action.{Action}
 use Rattle.java_control.specs.declared.action.Action.TheVariants as actions
 use Rattle.java_control.specs.declared.action.Edge.{Edge}
@@ -28,44 +27,54 @@ use Rattle.java_control.specs.declared.fact.OriginKind.TheVariants as kinds
 use Rattle.java_control.specs.declared.place.Place.{Place}
 use Rattle.java_control.specs.declared.place.Place.TheVariants as places
 use Rattle.ownership_rules.specs.Births.{birth_on, fact_at, origin_of, read_birth}
-use Rattle.flow_rules.specs.Paths.{move_of}
-use Rattle.target_laws.specs.Accept.{Accept}
+use Rattle.value_laws.specs.Accept.{Accept}
+use Rattle.ledger_state.specs.Classes.{class_in}
 use Rattle.ledger_state.specs.Contents.{HeapContents}
 use Rattle.ledger_state.specs.Heaps as heaps
-use Rattle.ledger_state.specs.Heaps.{append, next_number, object_at, only_at}
+use Rattle.ledger_state.specs.Heaps.{append, next_number, object_at, only_at, root}
+use Rattle.ledger_state.specs.Locals.{temp_value}
 use Rattle.ledger_state.specs.Values.{number_of}
 use Rattle.ledger_state.specs.declared.entry.Owner.TheVariants as owners
+use Rattle.ledger_state.specs.declared.object.Link.{Link}
 use Rattle.ledger_state.specs.declared.object.Object.{Object}
 use Rattle.ledger_state.specs.declared.value.Value.{Value}
+use Rattle.ledger_state.specs.declared.value.Value.TheVariants as values
 use Rattle.ledger_obligations.specs.Obligations.{finished}
-use Rattle.program_call_laws.specs.Operations.{made_value, next_choice, thrown_by_operation}
-use Rattle.program_call_laws.specs.Configuration.{Config, Frame}
-use Rattle.target_laws.specs.Choosing.{agrees_with, edge_of_class, frame_steps, operation_edge, same_edge}
-use Rattle.target_laws.specs.Frames.{frame_after, is_made, made_place}
+use Rattle.value_laws.specs.Operations.{made_value, next_choice, thrown_by_operation}
+use Rattle.value_laws.specs.Configuration.{Config, Frame}
+use Rattle.value_laws.specs.Choosing.{agrees_with, frame_steps, operation_edge, same_edge}
+use Rattle.value_laws.specs.Frames.{frame_after, is_made, made_place}
 use Rattle.ledger_steps.specs.InnerSteps.{heap_stored, store_of, store_unless, thrown_heap, with_exception}
-use Rattle.program_call_laws.specs.Heaps.{HasEarlierLinks}
-use Rattle.program_call_laws.proofs.Laws.{appended_object_at-object, changed_object_at-object}
-use Rattle.tracking_laws.specs.Agreement.{Stands}
-use Rattle.tracking_laws.specs.PlainForms.{HasPlainForms}
-use Rattle.tracking_laws.specs.Outcomes.{IsPlainRow}
-use Rattle.field_place_laws.proofs.Laws.{single_place-same}
-use Rattle.operand_source_laws.specs.Operands as operand_types
-use Rattle.operand_source_laws.specs.Operands.{NoObject}
-use Rattle.operand_source_laws.specs.Origins.{MakesNone}
-use Rattle.range_laws.specs.Nexts.{IsPlainStep}
-use Rattle.tracking_laws.proofs.Ready.{plain_step, row_sets, step_there}
-use Rattle.kept_argument_laws.specs.Typed.{HasField, NamesMembers}
-use Rattle.value_type_laws.specs.Types.{HaveTypes, KeepsTypes}
-use Rattle.value_type_laws.proofs.Laws.{made_value_is_no_object}
-use Rattle.kept_argument_laws.specs.PlaceFacts.{AreCovered}
-use Rattle.kept_argument_laws.specs.Ranges.{FieldsInRange, LocalsInRange}
-use Rattle.covering_laws.specs.Throws.{ExceptionsAreUnlinked, ThrowsNoNullPointer}
-use Rattle.covering_laws.proofs.InnerSteps.{carries, fields, heap, inner_covered, linked_were, roots, unfinished, value}
-use Rattle.covering_laws.proofs.LightExceptions.{operation_is_light}
+use Rattle.value_laws.specs.Heaps.{HasEarlierLinks}
+use Rattle.value_laws.proofs.HeapLaws.{appended_object_at-object, changed_object_at-object, roots_of_links-itself}
+use Rattle.value_laws.specs.Agreement.{Stands}
+use Rattle.value_laws.specs.PlainForms.{HasPlainForms}
+use Rattle.value_laws.specs.Outcomes.{IsPlainRow}
+use Rattle.value_laws.proofs.PlaceLaws.{single_place-same}
+use Rattle.value_laws.specs.Operands as operand_types
+use Rattle.value_laws.specs.Operands.{NoObject}
+use Rattle.value_laws.specs.StepOrigins.{MakesNone}
+use Rattle.value_laws.specs.Nexts.{IsPlainStep}
+use Rattle.value_laws.proofs.Ready.{plain_step, row_sets}
+use Rattle.value_laws.specs.Typed.{HasField, NamesMembers}
+use Rattle.value_laws.specs.Objects.{KeepsClasses, object_class}
+use Rattle.value_laws.specs.Types.{HaveTypes, KeepsTypes, is_text}
+use Rattle.value_laws.proofs.ValueTypeTexts.{value_still}
+use Rattle.value_laws.proofs.ValueTypeLaws.{made_value_is_no_object}
+use Rattle.value_laws.specs.PlaceFacts.{AreCovered}
+use Rattle.value_laws.specs.Ranges.{FieldsInRange, LocalsInRange}
+use Rattle.covering_laws.specs.Linking.{LinkedAreAliases}
+use Rattle.covering_laws.specs.Throws.{RaisesExceptions}
+use Rattle.covering_laws.proofs.Gifts.{all_keep_gifts}
+use Rattle.covering_laws.proofs.InnerSteps.{HoldsNoneHeavy, carries, classes, fields, heap, inner_covered, linked_were, none_heavy, owners_below, owners_go, roots, unfinished, value}
+use Rattle.covering_laws.proofs.Owners.{AllKeepGifts, given_kept, owners_kept}
+use Rattle.covering_laws.proofs.LightExceptions.{exceptions_are_light, operation_is_light}
 use Rattle.covering_laws.proofs.LocalSteps.{LocalsIn, all_there, holds_there, local_step, names_members}
 use Rattle.covering_laws.proofs.TopSteps.{IsLocalStep}
 use Rattle.covering_laws.proofs.Waiting.{AllHeldBefore, KeepsRoots, KeepsUnfinished, all_held_before, all_keep, all_wait, frames_ready, no_other}
-use Rattle.covering_laws.proofs.LinkedExceptions.{still_unlinked}
+use Rattle.covering_laws.proofs.LinkedExceptions.{exceptions_unlinked, still_aliases}
+use Rattle.covering_laws.specs.Texts.{HasLightTexts}
+use Rattle.covering_laws.proofs.Texts.{texts_are_light}
 
 -- an exception that is made is of its class
 pub exception_class_is : (p : Program) (e : ClassId) (h : HeapContents) (y : Object) → object_at (with_exception p e h) (next_number h) ≡ Some y → y.class ≡ e
@@ -91,25 +100,8 @@ goes_on edges.True is = absurd (true≢false (sym is))
 goes_on edges.False is = absurd (true≢false (sym is))
 goes_on (edges.Throws c) is = absurd (true≢false (sym is))
 
--- a thrown object goes by the class of its expression
-no_null_pointer : (p : Program) (s : Option ClassId) (e : Edge) → ((c : ClassId) → s ≡ Some c → is_class c p.core.null_pointer_exception ≡ false) → same_edge (edge_of_class s) e ≡ true → is_null_pointer p e ≡ false
-no_null_pointer p None e other is = ap (is_null_pointer p) (goes_on e is)
-no_null_pointer p (Some c) (edges.Throws d) other is = same_number c.0 d.0 p.core.null_pointer_exception.0 is (other c refl)
-  where
-    same_number : (a b n : ℕ) → nat_eq a b ≡ true → nat_eq a n ≡ false → nat_eq b n ≡ false
-    same_number a b n same apart = ap (λ (k : ℕ). nat_eq k n) (sym (eqb-true a b same)) ∙ apart
-no_null_pointer p (Some c) edges.Go other is = refl
-no_null_pointer p (Some c) edges.Null other is = refl
-no_null_pointer p (Some c) edges.NonNull other is = refl
-no_null_pointer p (Some c) edges.True other is = refl
-no_null_pointer p (Some c) edges.False other is = refl
-
-emptied_by : (b c : Bool) (q : Place) → emptied (b && c) q ≡ None → b ≡ true
-emptied_by true c q is = refl
-emptied_by false c q is = absurd (let never : Some q ≡ None = is in cc)
-
-module _ (p : Program) (ac : Accept p) (forms : HasPlainForms p) (others : ThrowsNoNullPointer p) (texts : MakesNoString p) (c : Config) (types' : HaveTypes p c) (links : HasEarlierLinks c.heap) (ranges : FieldsInRange c.heap)
-    (fr : Frame) (st : Stands p fr) (keeps : KeepsTypes p fr) (i : ℕ) (s : Step) (here : slice_get (frame_steps p fr) i ≡ Some s) (e : Option ClassId)
+module _ (p : Program) (ac : Accept p) (forms : HasPlainForms p) (c : Config) (texts : HasLightTexts p) (types' : HaveTypes p c) (links : HasEarlierLinks c.heap) (ranges : FieldsInRange c.heap) (linked : LinkedAreAliases p c.heap)
+    (fr : Frame) (st : Stands p fr) (keeps : KeepsTypes (is_text p c.heap) p fr) (raises : RaisesExceptions p c.heap fr) (i : ℕ) (s : Step) (here : slice_get (frame_steps p fr) i ≡ Some s) (e : Option ClassId)
     (step : IsPlainStep p c.heap c.arrays fr.method fr.locals e s) where
   abbrev h : HeapContents
   h = c.heap
@@ -117,12 +109,34 @@ module _ (p : Program) (ac : Accept p) (forms : HasPlainForms p) (others : Throw
   abbrev made : Value
   made = made_value p h c.arrays c.statics (next_choice c.choices c.used) fr.locals s.action
 
-  -- what is made is no object, or a fact that is not owned is born for it
-  abbrev IsGiven : Place → Type 0
-  IsGiven q = (number_of made ≡ None) ⊎ ((g : Origin) × (birth_on p s.action s.edge s.pos ≡ Some (g, fact_at q modes.None no_names true)) × (g.kind ≡ kinds.Read))
+  pub local : IsLocalStep p fr st s
+  local = local_step p ac forms fr st i s here (row_sets p s.action (plain_step p ac forms fr st i s here) step.row) step.way
 
-  none_made : MakesNone p s.action → number_of made ≡ None
-  none_made makes = made_value_is_no_object p ac texts c fr types' keeps i s (next_choice c.choices c.used) here makes
+  abbrev heap_then : HeapContents
+  heap_then = heap p ac forms h links fr st i s here local step.row step.test e made
+
+  -- what is made is no object of a class with an obligation, or a fact that is not owned is born for it
+  abbrev IsGiven : Place → Type 0
+  IsGiven q = HoldsNoneHeavy p heap_then made ⊎ ((g : Origin) × (birth_on p s.action s.edge s.pos ≡ Some (g, fact_at q modes.None no_names true)) × (g.kind ≡ kinds.Read))
+
+  no_object : (q : Place) → number_of made ≡ None → IsGiven q
+  no_object q none = inl (none_heavy p heap_then made none)
+
+  pub plain_linked : LinkedAreAliases p h → LinkedAreAliases p heap_then
+  plain_linked = still_aliases p h heap_then (linked_were p ac forms h links fr st i s here local step.row step.test e made)
+
+  plain_classes : KeepsClasses h heap_then
+  plain_classes n d class = go (object_at h n) refl class
+    where
+      go : (x : Option Object) → object_at h n ≡ x → class_in x ≡ Some d → object_class heap_then n ≡ Some d
+      go None at is = absurd (let never : None ≡ Some d = is in cc)
+      go (Some x) at is = let y = classes p ac forms h links fr st i s here local step.row step.test e made n x at in ap class_in y.1 ∙ ap Some y.2 ∙ is
+
+  -- what is made is no object, or one of class `String`, which owes nothing
+  light_made : (q : Place) → MakesNone p s.action → IsGiven q
+  light_made q makes =
+      inl (λ o y found at. texts_are_light p ac texts heap_then (plain_linked linked) made o y
+      (value_still p h heap_then plain_classes made (made_value_is_no_object (is_text p h) p ac fr keeps c types' i s (next_choice c.choices c.used) here makes)) found at)
 
   nothing_by : (a : Action) → s.action ≡ a → number_of (made_value p h c.arrays c.statics (next_choice c.choices c.used) fr.locals a) ≡ None → number_of made ≡ None
   nothing_by a is none = ap (λ (b : Action). number_of (made_value p h c.arrays c.statics (next_choice c.choices c.used) fr.locals b)) is ∙ none
@@ -138,10 +152,10 @@ module _ (p : Program) (ac : Accept p) (forms : HasPlainForms p) (others : Throw
   no_place a q is none made' = true≢false (sym made' ∙ ap (λ (b : Action). is_made (made_place b) q) is ∙ none)
 
   plain_given : (x : Place) (v : PlainValue) (q : Place) → s.action ≡ actions.Plain x v → IsGiven q
-  plain_given x (plain_values.LibraryConstant m) q is = inl (nothing_by (actions.Plain x (plain_values.LibraryConstant m)) is refl)
-  plain_given x (plain_values.Literal v) q is = inl (none_made (subst (MakesNone p) (sym is) tt))
-  plain_given x (plain_values.Default t) q is = inl (none_made (subst (MakesNone p) (sym is) tt))
-  plain_given x (plain_values.StaticField f) q is = inl (none_made (subst (MakesNone p) (sym is) tt))
+  plain_given x (plain_values.LibraryConstant m) q is = no_object q (nothing_by (actions.Plain x (plain_values.LibraryConstant m)) is refl)
+  plain_given x (plain_values.Literal v) q is = light_made q (subst (MakesNone p) (sym is) tt)
+  plain_given x (plain_values.Default t) q is = light_made q (subst (MakesNone p) (sym is) tt)
+  plain_given x (plain_values.StaticField f) q is = light_made q (subst (MakesNone p) (sym is) tt)
 
   read_given : (f : FieldId) (d : ℕ) (this : Bool) (q : Place) → s.action ≡ actions.Get f d this → e ≡ None → is_made (made_place s.action) q ≡ true → IsGiven q
   read_given f d this q is normal made' = by field.0.vtype refl
@@ -156,7 +170,7 @@ module _ (p : Program) (ac : Accept p) (forms : HasPlainForms p) (others : Throw
       place = single_place-same (places.Temp d) q (ap (λ (b : Action). is_made (made_place b) q) (sym is) ∙ made')
 
       none_by : is_class_type field.0.vtype ≡ false → IsGiven q
-      none_by other = inl (none_made (subst (MakesNone p) (sym is) (subst (λ (x : Option Field). NoObject (operand_types.type_of_field x)) (sym field.1) other)))
+      none_by other = light_made q (subst (MakesNone p) (sym is) (subst (λ (x : Option Field). NoObject (operand_types.type_of_field x)) (sym field.1) other))
 
       by : (t : VType) → field.0.vtype ≡ t → IsGiven q
       by (types.Obj k) type = inr (
@@ -171,37 +185,54 @@ module _ (p : Program) (ac : Accept p) (forms : HasPlainForms p) (others : Throw
       by (types.Arr k) type = none_by (ap is_class_type type)
       by types.NullType type = none_by (ap is_class_type type)
 
-  -- the object that is thrown stays in its place
-  raised : (d : ℕ) (x : Option ClassId) (q : Place) → s.action ≡ actions.Raise d x → e ≡ None → source p st.body s.action s.edge q ≡ None → ⊥
-  raised d x q is normal none =
-      true≢false (sym (emptied_by (is_null_pointer p s.edge) (is_temp d q) q (ap (λ (a : Action). source p st.body a s.edge q) (sym is) ∙ none))
-      ∙ no_null_pointer p x s.edge (λ k same. others st.number fr.control i (move_of s) d k st.control (step_there p fr st i s here) (is ∙ ap (actions.Raise d) same))
-      (edge_by (actions.Raise d x) is normal refl))
+  -- an object that is thrown is an exception, and no exception has an obligation or is linked
+  thrown_light : (d : ℕ) (x : Option ClassId) → s.action ≡ actions.Raise d x → (v : Value) → temp_value fr.locals d ≡ v → HoldsNoneHeavy p heap_then v
+  thrown_light d x is (values.Object k) same o y found at = light_there (by_link z.0.link refl)
+    where
+      thrown : (w : Object) × (object_at h k ≡ Some w) × (is_under p w.class p.core.throwable ≡ true)
+      thrown = raises i s d x k here is same
+
+      z : (w : Object) × (object_at heap_then k ≡ Some w) × (w.class ≡ thrown.0.class)
+      z = classes p ac forms h links fr st i s here local step.row step.test e made k thrown.0 thrown.1
+
+      under : is_under p z.0.class p.core.throwable ≡ true
+      under = ap (λ (c : ClassId). is_under p c p.core.throwable) z.2 ∙ thrown.2
+
+      by_link : (l : Option Link) → z.0.link ≡ l → z.0.link ≡ None
+      by_link None free = free
+      by_link (Some l) link = absurd (true≢false (sym under ∙ exceptions_unlinked p ac heap_then (plain_linked linked) k z.0 l z.1 link))
+
+      light_there : z.0.link ≡ None → is_heavy_class p y.class ≡ false
+      light_there free =
+          let root_is : root heap_then k ≡ o = (let both : Some (root heap_then k) ≡ Some o = found in cc) in
+          let one : Some z.0 ≡ Some y = sym z.1 ∙ ap (object_at heap_then) (sym (roots_of_links-itself heap_then k z.0 z.1 free) ∙ root_is) ∙ at in
+          let same_object : z.0 ≡ y = cc in
+          ap (λ (w : Object). is_heavy_class p w.class) (sym same_object) ∙ exceptions_are_light p ac z.0.class under
+  thrown_light d x is values.Nothing same o y found at = absurd (let never : None ≡ Some o = found in cc)
+  thrown_light d x is v same o y found at = absurd (let never : None ≡ Some o = found in cc)
+
+  raised : (d : ℕ) (x : Option ClassId) (q : Place) → s.action ≡ actions.Raise d x → IsGiven q
+  raised d x q is =
+      inl (subst (HoldsNoneHeavy p heap_then) (sym (ap (made_value p h c.arrays c.statics (next_choice c.choices c.used) fr.locals) is)) (thrown_light d x is (temp_value fr.locals d) refl))
 
   given : (q : Place) → e ≡ None → source p st.body s.action s.edge q ≡ None → is_made (made_place s.action) q ≡ true → IsGiven q
   given q normal none made' = go s.action refl
     where
       go : (a : Action) → s.action ≡ a → IsGiven q
       go (actions.Plain x v) is = plain_given x v q is
-      go (actions.Op k d n) is = inl (none_made (subst (MakesNone p) (sym is) tt))
+      go (actions.Op k d n) is = light_made q (subst (MakesNone p) (sym is) tt)
       go (actions.Get f d this) is = read_given f d this q is normal made'
-      go (actions.Put f d this) is = inl (nothing_by (actions.Put f d this) is refl)
-      go (actions.Cast t d) is = inl (nothing_by (actions.Cast t d) is refl)
-      go (actions.Raise d x) is = absurd (raised d x q is normal none)
+      go (actions.Put f d this) is = no_object q (nothing_by (actions.Put f d this) is refl)
+      go (actions.Cast t d) is = no_object q (nothing_by (actions.Cast t d) is refl)
+      go (actions.Raise d x) is = raised d x q is
       go (actions.Call m d n form) is = absurd (subst IsPlainRow is step.row)
       go (actions.New m d n) is = absurd (subst IsPlainRow is step.row)
       go (actions.Super m d n) is = absurd (subst IsPlainRow is step.row)
       go actions.Skip is = absurd (no_place actions.Skip q is refl made')
       go a is = absurd (no_place a q is refl made')
 
-  pub local : IsLocalStep p fr st s
-  local = local_step p ac forms fr st i s here (row_sets p s.action (plain_step p ac forms fr st i s here) step.row) step.way
-
   abbrev after : Frame
   after = frame_after p h fr s (value p ac forms h links fr st i s here local step.row step.test e made)
-
-  abbrev heap_then : HeapContents
-  heap_then = heap p ac forms h links fr st i s here local step.row step.test e made
 
   light : (k : ClassId) (y : Object) → e ≡ Some k → object_at heap_then (next_number h) ≡ Some y → is_heavy_class p y.class ≡ false
   light k y same at =
@@ -211,20 +242,22 @@ module _ (p : Program) (ac : Accept p) (forms : HasPlainForms p) (others : Throw
   plain_roots : KeepsRoots h heap_then
   plain_roots = roots p ac forms h links fr st i s here local step.row step.test e made
 
-  pub plain_linked : ExceptionsAreUnlinked p h → ExceptionsAreUnlinked p heap_then
-  plain_linked = still_unlinked p h heap_then (linked_were p ac forms h links fr st i s here local step.row step.test e made)
-
   pub plain_unfinished : KeepsUnfinished h heap_then no_other
   plain_unfinished = unfinished p ac forms h links fr st i s here local step.row step.test e made
 
   pub plain_covered : (frs : List Frame) → LocalsIn h (fr ∷ frs) → AreCovered p h (fr ∷ frs) → AreCovered p heap_then (after ∷ frs)
   plain_covered frs in' covered = (
-    inner_covered p ac forms h links fr st i s here local step.row step.test e made covered.0
+    inner_covered p ac forms h links fr st i s here local step.row step.test e made frs covered.0 (given_kept p h heap_then frs gifts)
         (holds_there p h ranges fr (All-head (λ (x : Frame). LocalsInRange h x.locals) fr frs in')) light given,
     all_wait p h heap_then links plain_roots (carries p ac forms h links fr st i s here local step.row step.test e made) frs
         (all_keep p h heap_then (fields p ac forms h links fr st i s here local step.row step.test e made) frs)
-        (all_there p h ranges frs (All-tail (λ (x : Frame). LocalsInRange h x.locals) fr frs in')) (frames_ready p h heap_then plain_unfinished frs) covered.1,
+        (all_there p h ranges frs (All-tail (λ (x : Frame). LocalsInRange h x.locals) fr frs in')) (frames_ready p h heap_then plain_unfinished frs) gifts
+        (owners_kept p None (length frs + 1) h heap_then (owners_go p ac forms h links fr st i s here local step.row step.test e made (length frs + 1)) frs (omega arith) tt) covered.1,
+    owners_below p ac forms h links fr st i s here local step.row step.test e made (length frs + 1) covered.2,
   )
+    where
+      gifts : AllKeepGifts p h heap_then frs
+      gifts = all_keep_gifts p h heap_then plain_roots frs (All-tail (λ (x : Frame). LocalsInRange h x.locals) fr frs in')
 
   pub plain_held_before : (frs : List Frame) → LocalsIn h frs → AllHeldBefore p h heap_then frs
   plain_held_before frs in' =

@@ -1,5 +1,5 @@
 -- A step within the top frame that stores into no owning field.
-use Rattle.std.proofs.Common.{◌≡◌, ◌⊎◌, inl, inr, ℕ, ◌+◌, Bool, true, false, ◌&&◌, Option, Some, None, slice_get, refl, sym, ap, ◌∙◌, true≢false, arith}
+use Rattle.std.proofs.Common.{◌≡◌, ◌⊎◌, inl, inr, ℕ, ◌+◌, Bool, true, false, ◌&&◌, Option, Some, None, List, length, slice_get, refl, sym, ap, ◌∙◌, true≢false, arith}
 use Rattle.std.specs.FinSet as set
 use Rattle.rlc_base.proofs.SetLaws.{within_self}
 use Rattle.program_model.specs.declared.kinds.ClassId.{ClassId}
@@ -7,7 +7,7 @@ use Rattle.program_model.specs.declared.kinds.FieldId.{FieldId}
 use Rattle.program_model.specs.declared.program.Method.{Method}
 use Rattle.program_model.specs.declared.program.Program.{Program}
 use Rattle.program_model.specs.Lookups.{method_at}
-use Rattle.value_type_laws.specs.MustCallSets.{Names, is_heavy_class, no_names}
+use Rattle.ledger_obligations.specs.MustCallSets.{Names, is_heavy_class, no_names}
 use Rattle.java_control.specs.Control.{Step}
 use Rattle.java_control.specs.Owned.{is_owning}
 use Rattle.java_control.specs.PlaceNumbers.{IsSmall}
@@ -22,12 +22,12 @@ use Rattle.java_control.specs.declared.fact.Origin.{Origin}
 use Rattle.java_control.specs.declared.fact.OriginKind.TheVariants as kinds
 use Rattle.java_control.specs.declared.place.Place.{Place}
 use Rattle.java_control.specs.declared.place.Place.TheVariants as places
-use Rattle.target_laws.specs.Facts.{has}
-use Rattle.target_laws.specs.SmallActions.{IsSmallAction}
-use Rattle.called_methods.specs.CalledRows.{called_after}
+use Rattle.ownership_rules.specs.Facts.{has}
+use Rattle.ownership_rules.specs.SmallActions.{IsSmallAction}
+use Rattle.value_laws.specs.CalledRows.{called_after}
 use Rattle.ownership_rules.specs.Births.{birth_on, fact_at}
 use Rattle.program_model.specs.declared.kinds.BodyId.{BodyId}
-use Rattle.target_laws.specs.Accept.{Accept}
+use Rattle.value_laws.specs.Accept.{Accept}
 use Rattle.ledger_state.specs.Contents.{HeapContents}
 use Rattle.ledger_state.specs.Fields.{field_value}
 use Rattle.ledger_state.specs.Heaps.{next_number, object_at, root, root_of}
@@ -37,33 +37,36 @@ use Rattle.ledger_state.specs.declared.locals.Locals.{Locals}
 use Rattle.ledger_state.specs.declared.object.Object.{Object}
 use Rattle.ledger_state.specs.declared.value.Value.{Value}
 use Rattle.ledger_state.specs.declared.value.Value.TheVariants as values
-use Rattle.program_call_laws.specs.Places.{place_value}
-use Rattle.program_call_laws.specs.Configuration.{Frame}
-use Rattle.target_laws.specs.Choosing.{frame_steps}
-use Rattle.target_laws.specs.Frames.{frame_after, is_made, made_place}
+use Rattle.value_laws.specs.Places.{place_value}
+use Rattle.value_laws.specs.Configuration.{Frame}
+use Rattle.value_laws.specs.Choosing.{frame_steps}
+use Rattle.value_laws.specs.Frames.{frame_after, is_made, made_place}
 use Rattle.ledger_steps.specs.declared.store.Store.{Store}
 use Rattle.ledger_steps.specs.InnerSteps.{heap_stored, store_into, store_of, store_unless, thrown_heap, thrown_value}
-use Rattle.program_call_laws.specs.Heaps.{GoesOn, HasEarlierLinks}
-use Rattle.program_call_laws.proofs.Laws.{numbers_are_in_range}
-use Rattle.tracking_laws.proofs.Laws.{exceptions_are_the_librarys, exceptions_keep_links-evolves}
-use Rattle.field_place_laws.specs.Places.{is_local}
-use Rattle.tracking_laws.specs.Agreement.{Stands}
-use Rattle.tracking_laws.specs.PlainForms.{HasPlainForms, IsPlainAction}
-use Rattle.tracking_laws.specs.Outcomes.{IsNotNull, IsPlainRow}
-use Rattle.store_laws.proofs.Fields.{plain_holds}
-use Rattle.fact_step_laws.proofs.Going.{other_steps}
-use Rattle.tracking_laws.specs.Steps.{IsTrueTest}
-use Rattle.kept_argument_laws.specs.PlaceFacts.{AllHold, Covers, IsCovered, is_lent}
+use Rattle.value_laws.specs.Heaps.{GoesOn, HasEarlierLinks}
+use Rattle.value_laws.proofs.HeapLaws.{numbers_are_in_range}
+use Rattle.value_laws.proofs.LibraryCallLaws.{exceptions_are_the_librarys, exceptions_keep_links-evolves}
+use Rattle.value_laws.specs.PlacePlaces.{is_local}
+use Rattle.value_laws.specs.Agreement.{Stands}
+use Rattle.value_laws.specs.PlainForms.{HasPlainForms, IsPlainAction}
+use Rattle.value_laws.specs.Outcomes.{IsNotNull, IsPlainRow}
+use Rattle.value_laws.proofs.Fields.{plain_holds}
+use Rattle.value_laws.proofs.Going.{other_steps}
+use Rattle.value_laws.specs.Steps.{IsTrueTest}
+use Rattle.value_laws.specs.PlaceFacts.{AllHold, IsCovered, IsUnowned, OwnersBelow, gives_none, is_lent}
 use Rattle.covering_laws.proofs.Births.{born_covers}
-use Rattle.kept_argument_laws.proofs.Following.{plain_step}
-use Rattle.tracking_laws.proofs.Ready.{row_gives_none}
+use Rattle.covering_laws.proofs.CallResults.{born_unowned}
+use Rattle.covering_laws.proofs.Owners.{KeepsGiven, OwnersGo, stays, stays_apart}
+use Rattle.covering_laws.proofs.StoreOwners.{thrown_below}
+use Rattle.covering_laws.proofs.Following.{plain_step}
+use Rattle.value_laws.proofs.Ready.{row_gives_none}
 use Rattle.covering_laws.proofs.TopSteps.{IsLocalStep, top_covered, after_as}
 use Rattle.covering_laws.proofs.Waiting.{Carries, HoldsThere, KeepsFields, KeepsRoots, KeepsUnfinished, all_ready, keeps_roots, linked_roots, new_root, no_other}
 use Rattle.covering_laws.proofs.LinkedExceptions.{LinkedWere}
 use Rattle.covering_laws.proofs.BornTruths.{read_unlent}
-use Rattle.fact_step_laws.specs.Going.{GoesAs}
-use Rattle.flow_rules.specs.Flow.{flow}
-use Rattle.alias_sets.specs.PlaceRows.{places_after}
+use Rattle.value_laws.specs.FactGoing.{GoesAs}
+use Rattle.value_laws.specs.Flow.{flow}
+use Rattle.value_laws.specs.PlaceRows.{places_after}
 
 -- an object as it is goes on
 pub same_goes_on : (x : Object) → GoesOn x x
@@ -133,6 +136,14 @@ same_names p b (actions.New m d n) e f row safe = absurd row
 same_names p b (actions.Super m d n) e f row safe = absurd row
 same_names p b a e f row safe = refl
 
+-- the value holds no object of a class with an obligation
+abbrev pub HoldsNoneHeavy : Program → HeapContents → Value → Type 0
+HoldsNoneHeavy p h v = (o : ℕ) (y : Object) → root_of h v ≡ Some o → object_at h o ≡ Some y → is_heavy_class p y.class ≡ false
+
+pub none_heavy : (p : Program) (h : HeapContents) (v : Value) → number_of v ≡ None → HoldsNoneHeavy p h v
+none_heavy p h (values.Object n) none o y found at = absurd (let never : Some n ≡ None = none in cc)
+none_heavy p h v none o y found at = absurd (let never : None ≡ Some o = found in cc)
+
 -- ---- the step
 
 module _ (p : Program) (ac : Accept p) (forms : HasPlainForms p) (h : HeapContents) (links : HasEarlierLinks h) (fr : Frame) (st : Stands p fr) (i : ℕ) (s : Step) (here : slice_get (frame_steps p fr) i ≡ Some s)
@@ -160,6 +171,11 @@ module _ (p : Program) (ac : Accept p) (forms : HasPlainForms p) (h : HeapConten
       let y = exceptions_keep_links-evolves p e h n x at in
       (y.0, plain_stored p (method_at p fr.method) fr.locals store (thrown_heap p e h) n is_plain ∙ y.1, y.2.link))
 
+  pub classes : (n : ℕ) (x : Object) → object_at h n ≡ Some x → (y : Object) × (object_at heap n ≡ Some y) × (y.class ≡ x.class)
+  classes n x at =
+      let y = exceptions_keep_links-evolves p e h n x at in
+      (y.0, plain_stored p (method_at p fr.method) fr.locals store (thrown_heap p e h) n is_plain ∙ y.1, y.2.class)
+
   next_root : root heap (next_number h) ≡ next_number h
   next_root = new_root h heap (λ y at. elim (was_there (next_number h) y at) [
     | inl old ↦ absurd (let range = numbers_are_in_range h (next_number h) y old in let below = range.1 in omega (arith, below))
@@ -177,52 +193,68 @@ module _ (p : Program) (ac : Accept p) (forms : HasPlainForms p) (h : HeapConten
 
   pub carries : Carries h heap
   carries o y at below = elim (was_there o y at) [
-    | inl old ↦ (y, old, refl, (λ is. same_goes_on y))
+    | inl old ↦ (y, old, refl, (λ is. (same_goes_on y, λ library. library)))
     | inr new ↦ absurd (let number = new.0 in omega (arith, number, below))
   ]
+
+  -- owners stay
+  pub same_owner : (o : ℕ) (x y : Object) → object_at h o ≡ Some x → object_at heap o ≡ Some y → y.owner ≡ x.owner
+  same_owner o x y before at = elim (was_there o y at) [
+    | inl old ↦ ap (λ (z : Object). z.owner) (let both : Some y ≡ Some x = sym old ∙ before in (let one : y ≡ x = cc in one))
+    | inr new ↦ absurd (let number = new.0 in let range = numbers_are_in_range h o x before in let below = range.1 in omega (arith, number, below))
+  ]
+
+  pub owners_go : (j : ℕ) → OwnersGo p None j h heap
+  owners_go j o x y before at done heavy = stays (same_owner o x y before at)
+
+  pub owners_below : (n : ℕ) → OwnersBelow h n → OwnersBelow heap n
+  owners_below n below o y at = thrown_below p e h n below o y (sym (plain_stored p (method_at p fr.method) fr.locals store (thrown_heap p e h) o is_plain) ∙ at)
 
   pub fields : KeepsFields p h heap
   fields w f own = stored_fields p (method_at p fr.method) fr.locals store (thrown_heap p e h) w f is_plain own ∙ same_thrown_fields p e h w f
 
-  -- what is made is no object, or a fact that is not owned is born for it
+  -- what is made is no object of a class with an obligation, or a fact that is not owned is born for it
   abbrev pub IsGiven : Place → Type 0
-  IsGiven q = (number_of made ≡ None) ⊎ ((g : Origin) × (birth_on p s.action s.edge s.pos ≡ Some (g, fact_at q modes.None no_names true)) × (g.kind ≡ kinds.Read))
+  IsGiven q = HoldsNoneHeavy p heap made ⊎ ((g : Origin) × (birth_on p s.action s.edge s.pos ≡ Some (g, fact_at q modes.None no_names true)) × (g.kind ≡ kinds.Read))
 
-  no_number : (k : HeapContents) (v : Value) (o : ℕ) → number_of v ≡ None → root_of k v ≡ Some o → ⊥
-  no_number k (values.Object n) o none is = absurd (let never : Some n ≡ None = none in cc)
-  no_number k v o none is = cc
-
-  module _ (covered : IsCovered p h fr) (inside : HoldsThere p h fr)
+  module _ (frs : List Frame) (covered : IsCovered p h gives_none frs fr) (gifts : KeepsGiven p h heap frs) (inside : HoldsThere p h fr)
       (light : (c : ClassId) (y : Object) → e ≡ Some c → object_at heap (next_number h) ≡ Some y → is_heavy_class p y.class ≡ false)
       (gives : (q : Place) → e ≡ None → source p st.body s.action s.edge q ≡ None → is_made (made_place s.action) q ≡ true → IsGiven q) where
     given : (q : Place) (o : ℕ) (y : Object) → IsSmall q → is_local q ≡ true → source p st.body s.action s.edge q ≡ None → is_made (made_place s.action) q ≡ true
         → place_value p heap fr.method (frame_after p h fr s value).locals q ≡ value → root_of heap value ≡ Some o → object_at heap o ≡ Some y → is_heavy_class p y.class ≡ true
-        → Covers p heap (frame_after p h fr s value) q o y
+        → IsUnowned p heap false frs (frame_after p h fr s value) q o y
     given q o y small local none there is found' at heavy = by e refl found'
       where
-        by : (x : Option ClassId) → e ≡ x → root_of heap (thrown_value h x made) ≡ Some o → Covers p heap (frame_after p h fr s value) q o y
+        by : (x : Option ClassId) → e ≡ x → root_of heap (thrown_value h x made) ≡ Some o → IsUnowned p heap false frs (frame_after p h fr s value) q o y
         by (Some c) same found =
             let number : next_number h ≡ o = sym next_root ∙ (let both : root_of heap (values.Object (next_number h)) ≡ Some o = found in cc) in
             absurd (true≢false (sym heavy ∙ light c y same (ap (object_at heap) number ∙ at)))
         by None same found = elim (gives q same none there) [
-          | inl nothing ↦ absurd (no_number heap made o nothing found)
-          | inr birth ↦ born_covers p heap fr st i s here (frame_after p h fr s value) q o y birth.0 modes.None true refl refl small local birth.1
-              (ap (root_of heap) is ∙ found') (λ m. ap (is_lent p m) birth.2 ∙ read_unlent p m) (λ claimed. absurd (true≢false (sym claimed ∙ unclaimed (is_heavy_class p birth.0.class))))
+          | inl nothing ↦ absurd (true≢false (sym heavy ∙ nothing o y found at))
+          | inr birth ↦ born_unowned p heap frs (frame_after p h fr s value) q o y birth.0 (fact_at q modes.None no_names true)
+              (born_covers p heap fr st i s here (frame_after p h fr s value) frs q o y birth.0 modes.None true refl refl small local birth.1
+              (ap (root_of heap) is ∙ found') (λ m. ap (is_lent p m) birth.2 ∙ read_unlent p m) refl (λ claimed. absurd (true≢false (sym claimed ∙ unclaimed (is_heavy_class p birth.0.class)))))
+              (unclaimed (is_heavy_class p birth.0.class))
         ]
           where
             unclaimed : (b : Bool) → (b && false) ≡ false
             unclaimed true = refl
             unclaimed false = refl
 
-    pub inner_covered : IsCovered p heap (frame_after p h fr s value)
-    inner_covered = top_covered p ac h heap links carries fields fr st i s here r inside (keeps_roots p h heap roots fr inside) value covered (all_ready p h heap unfinished fr)
+    pub inner_covered : IsCovered p heap gives_none frs (frame_after p h fr s value)
+    inner_covered = top_covered p ac h heap links carries fields fr st i s here r inside (keeps_roots p h heap roots fr inside) value frs gives_none covered (all_ready p h heap unfinished fr) gifts
+        (stays_apart p None (length frs + 1) h heap (owners_go (length frs + 1)) (length frs + 1) fr (omega arith) (λ w none this. no_object_into w none))
         (λ o f g. Unit {0})
-        (λ z o x c q is. after_as (GoesAs c.fact (places_after p st.number s.action s.edge c.fact.places) (called_after p st.number s.action s.edge c.fact))
+        (λ o x c q is. after_as (GoesAs c.fact (places_after p st.number s.action s.edge c.fact.places) (called_after p st.number s.action s.edge c.fact))
         (λ (g : Fact). GoesAs c.fact (places_after p st.number s.action s.edge c.fact.places) (called_after p st.number s.action s.edge c.fact) g × Unit {0})
         (flow p st.number c.origin s.action s.edge c.fact) (λ g goes. (goes, tt))
         (other_steps p st.number c.origin s.action s.edge c.fact q row (not_null p h fr o c.fact s.action s.edge r.small c.places test) is))
-        (λ z o x y c before at g more trusted done goes wide some owes was.
+        (λ o x y c before at g more trusted stays done goes wide some owes was.
         ap (λ (t : Names). set.is_subset t y.called) (same_names p st.number s.action s.edge c.fact row (not_null p h fr o c.fact s.action s.edge r.small c.places test))
         ∙ was)
-        (λ z o x c before some owes gives. absurd (true≢false (sym gives ∙ row_gives_none p s.action s.edge c.fact.places row)))
-        (λ q o y small local none there is found' at heavy owes. inl (given q o y small local none there is found' at heavy))
+        (λ o x c before some owes gives. absurd (true≢false (sym gives ∙ row_gives_none p s.action s.edge c.fact.places row)))
+        (λ o x y c key before at heavy owes g more own. (refl, (λ done mine. same_owner o x y before at ∙ mine)))
+        (λ q o y small local none there is found' at heavy owes. inr (inl (given q o y small local none there is found' at heavy)))
+      where
+        no_object_into : (w : ℕ) → ◌≡◌ {A = Option ℕ} None (Some w) → ⊥
+        no_object_into w none = cc

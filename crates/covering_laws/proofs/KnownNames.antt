@@ -8,9 +8,9 @@ use Rattle.program_model.specs.declared.kinds.BodyId.{BodyId}
 use Rattle.program_model.specs.declared.kinds.MethodId.{MethodId}
 use Rattle.program_model.specs.declared.program.Program.{Program}
 use Rattle.program_model.specs.declared.program.Promise.{Promise}
-use Rattle.value_type_laws.specs.Bodies.{promises_in, throwing_promises_in}
-use Rattle.value_type_laws.specs.MustCallSets.{Names}
-use Rattle.value_type_laws.specs.Signatures.{when}
+use Rattle.ledger_obligations.specs.Bodies.{promises_in, throwing_promises_in}
+use Rattle.ledger_obligations.specs.MustCallSets.{Names}
+use Rattle.ownership_rules.specs.Signatures.{when}
 use Rattle.java_control.specs.Calls.{is_reset_of_this, operand_at}
 use Rattle.java_control.specs.declared.action.Action.{Action}
 use Rattle.java_control.specs.declared.action.Action.TheVariants as actions
@@ -18,18 +18,18 @@ use Rattle.java_control.specs.declared.action.Edge.{Edge}
 use Rattle.java_control.specs.declared.action.Edge.TheVariants as edges
 use Rattle.java_control.specs.declared.fact.Fact.{Fact}
 use Rattle.java_control.specs.declared.place.Place.TheVariants as places
-use Rattle.target_laws.specs.Callees.{callee, holds_operand, is_super_target, may_be_null_target}
-use Rattle.target_laws.specs.Facts.{PlaceSet, has, has_temp}
-use Rattle.target_laws.specs.SmallActions.{IsSmallAction, IsSmallTemp}
-use Rattle.target_laws.proofs.SmallOperands.{operand_has_room}
-use Rattle.called_methods.specs.CalledRows.{called_after, called_at_call, called_by, holds_receiver, holds_target, interest_in, promised_at, promises_at, with_name}
+use Rattle.ownership_rules.specs.Callees.{callee, holds_operand, is_super_target, may_be_null_target}
+use Rattle.ownership_rules.specs.Facts.{PlaceSet, has, has_temp}
+use Rattle.ownership_rules.specs.SmallActions.{IsSmallAction, IsSmallTemp}
+use Rattle.ownership_rules.proofs.SmallOperands.{operand_has_room}
+use Rattle.value_laws.specs.CalledRows.{called_after, called_at_call, called_by, holds_receiver, holds_target, interest_in, promised_at, promises_at, with_name}
 use Rattle.ledger_state.specs.Contents.{HeapContents}
 use Rattle.ledger_state.specs.Heaps.{root_of}
 use Rattle.ledger_state.specs.Locals.{temp_in, temp_value}
 use Rattle.ledger_state.specs.declared.locals.Locals.{Locals}
-use Rattle.program_call_laws.specs.Calls.{depth_at, operand_of}
-use Rattle.tracking_laws.specs.Outcomes.{IsCallRow}
-use Rattle.kept_argument_laws.specs.PlaceFacts.{AllHold}
+use Rattle.ledger_steps.specs.LedgerCallsCalls.{depth_at, operand_of}
+use Rattle.value_laws.specs.Outcomes.{IsCallRow}
+use Rattle.value_laws.specs.PlaceFacts.{AllHold}
 
 -- ---- operands
 

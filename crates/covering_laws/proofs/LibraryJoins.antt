@@ -1,6 +1,6 @@
 -- A call of the library, or a read of its constant, begins and ends in one step of the top frame.
 use Rattle.std.specs.Prelude.{MatchBool, not, ℤ}
-use Rattle.std.proofs.Common.{Bool, List, None, Option, Some, ap, arith, false, inl, inr, refl, subst, suc, sym, true, true≢false, zero, ℕ, ◌<◌, ◌∙◌, ◌∷◌, ◌≡◌, ◌⊎◌}
+use Rattle.std.proofs.Common.{Bool, List, None, Option, Some, ap, arith, false, if◌then◌else◌, inl, inr, refl, subst, suc, length, sym, true, true≢false, zero, ℕ, ◌+◌, ◌<◌, ◌∙◌, ◌∷◌, ◌≡◌, ◌⊎◌}
 use Rattle.std.proofs.lemmas.List.Elements.{All-tail}
 use Rattle.std.specs.FinSet as set
 use Rattle.rlc_base.specs.declared.name_id.NameId.{NameId}
@@ -12,12 +12,13 @@ use Rattle.program_model.specs.declared.kinds.MethodKind.TheVariants as methods
 use Rattle.program_model.specs.declared.kinds.VType.{VType}
 use Rattle.program_model.specs.declared.kinds.VType.TheVariants as types
 use Rattle.program_model.specs.declared.program.Method.{Method}
+use Rattle.program_model.specs.declared.program.ParamSig.{ParamSig}
 use Rattle.program_model.specs.declared.program.Program.{Program}
 use Rattle.program_model.specs.Lookups.{method_at}
 use Rattle.program_model.specs.Validity.{IsOfKind}
-use Rattle.value_type_laws.specs.Bodies.{alias_in, constructs, is_constructor_kind}
-use Rattle.value_type_laws.specs.MustCallSets.{Names, fits, is_empty, is_heavy_class, must_of, no_names}
-use Rattle.value_type_laws.specs.WellFormed.{HasSmallInterests}
+use Rattle.ledger_obligations.specs.Bodies.{alias_in, constructs, is_constructor_kind}
+use Rattle.ledger_obligations.specs.MustCallSets.{Names, fits, is_heavy_class, must_of, no_names}
+use Rattle.ledger_obligations.specs.WellFormed.{HasSmallInterests}
 use Rattle.java_control.specs.Calls.{called_method, operand_at}
 use Rattle.java_control.specs.Control.{Step}
 use Rattle.java_control.specs.PlaceNumbers.{IsSmall}
@@ -28,18 +29,19 @@ use Rattle.java_control.specs.declared.action.Edge.TheVariants as edges
 use Rattle.java_control.specs.declared.action.PlainValue.TheVariants as plain_values
 use Rattle.java_control.specs.declared.action.TargetForm.{TargetForm}
 use Rattle.java_control.specs.declared.fact.Mode.TheVariants as modes
+use Rattle.java_control.specs.declared.fact.Origin.{Origin}
 use Rattle.java_control.specs.declared.fact.OriginKind.TheVariants as kinds
 use Rattle.java_control.specs.declared.place.Place.{Place}
 use Rattle.java_control.specs.declared.place.Place.TheVariants as places
-use Rattle.target_laws.specs.Callees.{callee, callee_in, is_super_target}
-use Rattle.called_methods.specs.CalledRows.{interest_in, called_after}
+use Rattle.ownership_rules.specs.Callees.{callee, callee_in, is_super_target}
+use Rattle.value_laws.specs.CalledRows.{interest_in, called_after}
 use Rattle.ownership_rules.specs.Births.{birth_on, fact_at, origin_of, read_birth}
 use Rattle.ownership_rules.specs.MovesAtReturns as returns
-use Rattle.flow_rules.specs.Paths.{move_of}
-use Rattle.target_laws.specs.Accept.{Accept}
+use Rattle.value_laws.specs.Paths.{move_of}
+use Rattle.value_laws.specs.Accept.{Accept}
 use Rattle.stub_conduct.specs.declared.choice.Conduct.{Conduct}
 use Rattle.stub_conduct.specs.declared.choice.Conduct.TheVariants as conducts
-use Rattle.tracking_laws.specs.Fitting.{FitsMethod}
+use Rattle.value_laws.specs.Fitting.{FitsMethod}
 use Rattle.ledger_state.specs.Contents.{HeapContents}
 use Rattle.ledger_state.specs.Heaps.{next_number, object_at, root, root_of}
 use Rattle.ledger_state.specs.declared.array.ArrayObject.{ArrayObject}
@@ -47,51 +49,54 @@ use Rattle.ledger_state.specs.declared.locals.Locals.{Locals}
 use Rattle.ledger_state.specs.declared.object.Object.{Object}
 use Rattle.ledger_state.specs.declared.value.Value.{Value}
 use Rattle.ledger_state.specs.declared.value.Value.TheVariants as values
-use Rattle.ledger_obligations.specs.Obligations.{first_set, note}
-use Rattle.program_call_laws.specs.Places.{place_value}
-use Rattle.program_call_laws.specs.Calls as ledger_calls
-use Rattle.program_call_laws.specs.Calls.{alias_position, operand_of, position_object, position_of, reset_position}
-use Rattle.program_call_laws.specs.Conducts.{argument_of, conduct_value, first_in, given_value, made_by_new, positions, result_in, value_at}
-use Rattle.program_call_laws.specs.Configuration.{Frame}
-use Rattle.target_laws.specs.Choosing.{frame_steps}
-use Rattle.target_laws.specs.Frames.{frame_after, is_made, made_place}
+use Rattle.ledger_obligations.specs.declared.note.Note.{Note}
+use Rattle.ledger_obligations.specs.Obligations.{first_set, has_note, is_library_owner, note}
+use Rattle.value_laws.specs.Places.{place_value}
+use Rattle.ledger_steps.specs.LedgerCallsCalls as ledger_calls
+use Rattle.ledger_steps.specs.LedgerCallsCalls.{alias_position, operand_of, params_in, position_object, position_of, reset_position}
+use Rattle.ledger_steps.specs.Conducts.{argument_of, conduct_value, first_in, given_value, made_by_new, owning_in, positions, result_in, result_owner, value_at}
+use Rattle.value_laws.specs.Configuration.{Frame}
+use Rattle.value_laws.specs.Choosing.{frame_steps}
+use Rattle.value_laws.specs.Frames.{frame_after, is_made, made_place}
 use Rattle.ledger_steps.specs.CallSteps.{library_heap}
-use Rattle.program_call_laws.specs.Heaps.{GoesOn, HasEarlierLinks, IsOlder}
-use Rattle.program_call_laws.specs.Leading.{Leads}
-use Rattle.program_call_laws.proofs.Laws.{numbers_are_in_range, roots_of_links-absent}
-use Rattle.tracking_laws.specs.LibraryCalls.{HasSmallInterest, IsAliasMadeAs, IsAliasOf, IsMadeAs}
-use Rattle.tracking_laws.proofs.Laws.{library_aliases_are_older_or_made, library_objects_are_older_or_made, receiver_is_called}
-use Rattle.field_place_laws.specs.Places.{IsWay, SetsLocals, is_local}
-use Rattle.field_place_laws.proofs.Laws.{single_place-same}
-use Rattle.tracking_laws.specs.Naming.{IsOfItsKind}
-use Rattle.tracking_laws.proofs.Reached.{names_what_is_there}
-use Rattle.tracking_laws.specs.Agreement.{Stands}
-use Rattle.tracking_laws.specs.PlainForms.{HasPlainForms, IsPlainAction, IsPlainSignature}
-use Rattle.tracking_laws.specs.Outcomes.{IsCallRow, IsPlainRow}
-use Rattle.fact_step_laws.proofs.Going.{other_steps}
-use Rattle.range_laws.specs.Nexts.{IsLibraryMove}
-use Rattle.tracking_laws.specs.Steps.{IsTrueTest, is_super}
-use Rattle.tracking_laws.proofs.CallNames.{IsReceiver, plain_no_reset, same_interest}
-use Rattle.tracking_laws.proofs.Ready.{call_sets, plain_step, row_gives_none, step_there}
-use Rattle.tracking_laws.proofs.Unmet.{way_of_call}
-use Rattle.kept_argument_laws.specs.Typed.{IsLibraryConstant, NamesMembers}
-use Rattle.value_type_laws.proofs.Moved.{IsConstantRead}
-use Rattle.kept_argument_laws.specs.FieldContents.{LinksLead}
-use Rattle.kept_argument_laws.specs.PlaceFacts.{AreCovered, Covers, IsCovered, IsTrueOf, may_owe}
-use Rattle.kept_argument_laws.specs.Ranges.{FieldsInRange, LocalsInRange}
+use Rattle.value_laws.specs.Heaps.{GoesOn, HasEarlierLinks, IsGiven, IsOlder}
+use Rattle.value_laws.specs.Leading.{Leads}
+use Rattle.value_laws.proofs.HeapLaws.{numbers_are_in_range, roots_of_links-absent}
+use Rattle.value_laws.specs.LibraryCalls.{HasSmallInterest, IsAliasMadeAs, IsAliasOf, IsMadeAs}
+use Rattle.value_laws.proofs.LibraryCallLaws.{library_aliases_are_older_or_made, library_objects_are_older_or_made, receiver_is_called}
+use Rattle.value_laws.specs.PlacePlaces.{IsWay, SetsLocals, is_local}
+use Rattle.value_laws.proofs.PlaceLaws.{single_place-same}
+use Rattle.value_laws.specs.Naming.{IsOfItsKind}
+use Rattle.value_laws.proofs.NamedReached.{names_what_is_there}
+use Rattle.value_laws.specs.Agreement.{Stands}
+use Rattle.value_laws.specs.PlainForms.{HasPlainForms, IsPlainAction}
+use Rattle.value_laws.specs.Outcomes.{IsCallRow, IsPlainRow}
+use Rattle.value_laws.proofs.Going.{other_steps}
+use Rattle.value_laws.specs.Nexts.{IsLibraryMove}
+use Rattle.value_laws.specs.Steps.{IsTrueTest, is_super}
+use Rattle.value_laws.proofs.CallNames.{IsReceiver, same_interest}
+use Rattle.value_laws.proofs.Ready.{call_sets, plain_step, row_gives_none, step_there}
+use Rattle.value_laws.proofs.Unmet.{way_of_call}
+use Rattle.value_laws.specs.Typed.{IsLibraryConstant, NamesMembers}
+use Rattle.value_laws.proofs.Moved.{IsConstantRead}
+use Rattle.value_laws.specs.FieldContents.{LinksLead}
+use Rattle.value_laws.specs.PlaceFacts.{AreCovered, IsCovered, IsTrueOf, IsUnowned, gives_none, may_owe, owned, unowned}
+use Rattle.value_laws.specs.Ranges.{FieldsInRange, LocalsInRange}
 use Rattle.std.proofs.lemmas.Bool.{and_from}
 use Rattle.ledger_state.specs.Values.{number_of}
 use Rattle.ledger_state.specs.declared.entry.Owner.TheVariants as owners
-use Rattle.range_laws.proofs.Values.{operand_in_range}
-use Rattle.tracking_laws.proofs.AliasRoots.{OperandsAreThere, fresh_root, library_alias, same_alias}
-use Rattle.tracking_laws.proofs.Chains.{object_there}
+use Rattle.value_laws.proofs.RangeValues.{operand_in_range}
+use Rattle.value_laws.proofs.AliasRoots.{OperandsAreThere, fresh_root, library_alias, same_alias}
+use Rattle.value_laws.proofs.Chains.{object_there}
 use Rattle.covering_laws.proofs.AliasPlaces.{from_operand}
-use Rattle.covering_laws.proofs.EndHeaps.{number_value}
+use Rattle.covering_laws.proofs.EndOwners.{number_value}
 use Rattle.covering_laws.proofs.Births.{born_covers}
 use Rattle.covering_laws.proofs.BornTruths.{true_of_made, read_unlent}
 use Rattle.covering_laws.proofs.CallNotes.{noted_at}
-use Rattle.covering_laws.proofs.CallResults.{new_covers, result_covers, unclaimed}
-use Rattle.covering_laws.proofs.CallSteps.{call_covered}
+use Rattle.covering_laws.proofs.CallResults.{IsBornSo, born_unowned, new_covers, result_covers, unclaimed, unowned_mode}
+use Rattle.value_laws.proofs.Emptied.{plain_interest, plain_note}
+use Rattle.value_laws.proofs.Renewed.{same_params, says_nothing, without_reset}
+use Rattle.covering_laws.proofs.CallSteps.{IsGivenOr, call_from}
 use Rattle.covering_laws.proofs.ExistingResults.{GivesUnowned, MayGive, library_may_give}
 use Rattle.covering_laws.proofs.InnerSteps.{not_null, same_names}
 use Rattle.covering_laws.proofs.KnownNames.{operand_holds, operand_temp}
@@ -100,22 +105,21 @@ use Rattle.covering_laws.proofs.LibraryPromises.{library_keeps_promises}
 use Rattle.covering_laws.proofs.LightExceptions.{leaving_is_light}
 use Rattle.covering_laws.proofs.LocalSteps.{LocalsIn, all_there, holds_there, local_step, names_members}
 use Rattle.covering_laws.proofs.MadeObjects.{fresh_finished, library_carries, library_keeps, library_roots, library_unfinished, thrown_class}
-use Rattle.covering_laws.proofs.TopSteps.{ComesFrom, IsLocalStep, top_covered, after_as}
+use Rattle.covering_laws.proofs.Gifts.{all_keep_gifts}
+use Rattle.covering_laws.proofs.GivenArguments.{given_owner}
+use Rattle.covering_laws.proofs.GivenAway.{moved_given}
+use Rattle.covering_laws.proofs.LibraryOwners.{library_below, library_owner, library_owners_go}
+use Rattle.covering_laws.proofs.Owners.{OwnersGo, given_kept, owners_kept, stays_apart}
+use Rattle.covering_laws.proofs.TopSteps.{ComesFrom, IsKeyedFrom, IsLocalStep, IsMadeSo, StopsOwning, after_as, top_covered}
 use Rattle.covering_laws.proofs.Waiting.{AllHeldBefore, Carries, HoldsThere, KeepsRoots, KeepsUnfinished, all_held_before, all_keep, all_ready, all_wait, frames_ready, keeps_roots, new_root, no_other, value_root}
-use Rattle.covering_laws.proofs.LinkedExceptions.{alias_no_exception}
-use Rattle.covering_laws.specs.Throws.{ExceptionsAreUnlinked}
-use Rattle.program_model.specs.SuperTests.{is_under}
-use Rattle.tracking_laws.proofs.AliasConducts.{GivesAlias, gives_object, library_gives}
-use Rattle.fact_step_laws.specs.Going.{GoesAs}
+use Rattle.covering_laws.specs.Linking.{IsGivenAsAlias, LinkedAreAliases}
+use Rattle.value_laws.proofs.AliasConducts.{GivesAlias, gives_object, library_gives}
+use Rattle.value_laws.specs.FactGoing.{GoesAs}
 use Rattle.java_control.specs.declared.fact.Fact.{Fact}
-use Rattle.flow_rules.specs.Flow.{flow}
-use Rattle.alias_sets.specs.PlaceRows.{places_after}
+use Rattle.value_laws.specs.Flow.{flow}
+use Rattle.value_laws.specs.PlaceRows.{places_after}
 
 -- ---- signatures
-
-pub signature_resets : (p : Program) (m : Option Method) → IsPlainSignature p m → reset_position m ≡ None
-signature_resets p None plain = refl
-signature_resets p (Some m) plain = plain.1
 
 -- a constructor has no result
 no_result : (x : Method) → is_constructor_kind x.kind ≡ true → IsOfKind x.kind x.sig → x.sig.result ≡ None
@@ -170,37 +174,45 @@ small_interest p small named n (Some x) at is = small named x n at is
 
 -- ---- the call
 
-module _ (p : Program) (ac : Accept p) (forms : HasPlainForms p) (names : HasSmallInterests p) (h : HeapContents) (links : HasEarlierLinks h) (ranges : FieldsInRange h) (fr : Frame) (st : Stands p fr)
-    (mine : LocalsInRange h fr.locals) (arrays : List ArrayObject) (named : MethodId) (d : Conduct) (s : Step) (next : IsLibraryMove p h arrays fr.locals (frame_steps p fr) named named d s) (at count : ℕ)
+module _ (p : Program) (ac : Accept p) (forms : HasPlainForms p) (names : HasSmallInterests p) (h : HeapContents) (links : HasEarlierLinks h) (ranges : FieldsInRange h) (fr : Frame) (frs : List Frame) (st : Stands p fr)
+    (mine : LocalsInRange h fr.locals) (arrays : List ArrayObject) (named : MethodId) (d : Conduct) (s : Step) (next : IsLibraryMove p h arrays fr.locals (frame_steps p fr) named named d s) (count : ℕ)
     (leads : LinksLead p h) where
+  -- the position of the frame
+  abbrev at : ℕ
+  at = length frs + 1
+
   abbrev m : Option Method
   m = method_at p named
 
   abbrev l : Locals
   l = fr.locals
 
-  abbrev K : HeapContents
-  K = library_heap p l s.action m m d at h
+  abbrev pub K : HeapContents
+  K = library_heap p l s.action (without_reset m) m d at h
 
-  abbrev v : Value
+  abbrev pub v : Value
   v = conduct_value count m (positions l s.action (next_number h) d) (next_number h) d
 
-  abbrev after : Frame
+  abbrev pub after : Frame
   after = frame_after p h fr s v
 
-  no_reset : reset_position m ≡ None
-  no_reset = signature_resets p m next.signature
+  pub no_reset : reset_position (without_reset m) ≡ None
+  no_reset = says_nothing m
+
+  -- what the call gives away, as its signature says with the reset
+  given_so : (o : ℕ) (x : Object) → IsGiven p (operand_of l s.action) 1 (params_in (without_reset m)) h o x → IsGiven p (operand_of l s.action) 1 (params_in m) h o x
+  given_so o x = subst (λ (qs : List ParamSig). IsGiven p (operand_of l s.action) 1 qs h o x) (same_params m)
 
   interests : HasSmallInterest m
   interests n is = small_interest p names named n (method_at p named) refl is
 
-  roots : KeepsRoots h K
-  roots = library_roots p l s.action m at h no_reset links d
+  pub roots : KeepsRoots h K
+  roots = library_roots p l s.action (without_reset m) m at h no_reset links d
 
-  carries : Carries h K
-  carries = library_carries p l s.action m at h no_reset links d
+  pub carries : Carries h K
+  carries = library_carries p l s.action (without_reset m) m at h no_reset links d
 
-  inside : HoldsThere p h fr
+  pub inside : HoldsThere p h fr
   inside = holds_there p h ranges fr mine
 
   operands_there : OperandsAreThere h l s.action
@@ -219,14 +231,14 @@ module _ (p : Program) (ac : Accept p) (forms : HasPlainForms p) (names : HasSma
 
   -- where the signature has no alias, the call made it so
   made_next : alias_position m ≡ None → (c : Conduct) → d ≡ c → (z : Object) → object_at K (next_number h) ≡ Some z → IsMadeAs p s.action m at c z
-  made_next none c is z there = elim (library_objects_are_older_or_made p l s.action m m d at h (next_number h) z no_reset none there) [
+  made_next none c is z there = elim (library_objects_are_older_or_made p l s.action (without_reset m) m d at h (next_number h) z no_reset none there) [
     | inl old ↦ absurd (not_older z old)
     | inr new ↦ subst (λ (x : Conduct). IsMadeAs p s.action m at x z) is new.1
   ]
 
   -- where it has one, so
   alias_next : (k : ℕ) → alias_position m ≡ Some k → (c : Conduct) → d ≡ c → (z : Object) → object_at K (next_number h) ≡ Some z → IsAliasMadeAs l s.action k c z
-  alias_next k some c is z there = elim (library_aliases_are_older_or_made p l s.action m m d at h (next_number h) k z no_reset some there) [
+  alias_next k some c is z there = elim (library_aliases_are_older_or_made p l s.action (without_reset m) m d at h (next_number h) k z no_reset some there) [
     | inl old ↦ absurd (not_older z old)
     | inr new ↦ subst (λ (x : Conduct). IsAliasMadeAs l s.action k x z) is new.1
   ]
@@ -241,13 +253,13 @@ module _ (p : Program) (ac : Accept p) (forms : HasPlainForms p) (names : HasSma
   -- an exception is light
   thrown_light : (e : ClassId) → d ≡ conducts.Throws e → (o : ℕ) (y : Object) → next_number h ≡ o → object_at K o ≡ Some y → is_heavy_class p y.class ≡ true → ⊥
   thrown_light e is o y number now heavy =
-      let class : y.class ≡ e = thrown_class p l s.action m at h no_reset e y (ap (λ (c : Conduct). object_at (library_heap p l s.action m m c at h) (next_number h)) (sym is) ∙ ap (object_at K) number ∙ now) in
+      let class : y.class ≡ e = thrown_class p l s.action (without_reset m) m at h no_reset e y (ap (λ (c : Conduct). object_at (library_heap p l s.action (without_reset m) m c at h) (next_number h)) (sym is) ∙ ap (object_at K) number ∙ now) in
       let way = next.thrown e is in
       true≢false (sym heavy ∙ ap (is_heavy_class p) class ∙ leaving_is_light p ac named e way.0 way.1)
 
   -- what the call makes is finished
   made_finished : (e : ClassId) → d ≡ conducts.Fresh e → (y : Object) → object_at K (next_number h) ≡ Some y → y.finished ≡ true
-  made_finished e is y there = fresh_finished p l s.action m at h no_reset e y (ap (λ (c : Conduct). object_at (library_heap p l s.action m m c at h) (next_number h)) (sym is) ∙ there)
+  made_finished e is y there = fresh_finished p l s.action (without_reset m) m at h no_reset e y (ap (λ (c : Conduct). object_at (library_heap p l s.action (without_reset m) m c at h) (next_number h)) (sym is) ∙ there)
 
   normal : ((e : ClassId) → d ≡ conducts.Throws e → ⊥) → s.edge ≡ edges.Go
   normal other = next.normal other
@@ -283,12 +295,12 @@ module _ (p : Program) (ac : Accept p) (forms : HasPlainForms p) (names : HasSma
             let number : next_number h ≡ o = new_number (λ z there. (subst (λ (w : Option ℕ). IsAliasOf w z) none (alias_next k some (conducts.Fresh e) is z there).2).2) o next_is in
             let there : object_at K (next_number h) ≡ Some y = ap (object_at K) number ∙ now in
             let made = subst (λ (w : Option ℕ). IsAliasOf w y) none (alias_next k some (conducts.Fresh e) is y there).2 in
-            true≢false (sym owes ∙ ap not (and_from y.finished (is_empty y.must) (made_finished e is y there) (ap is_empty made.0 ∙ within_self no_names)))
+            true≢false (sym owes ∙ ap not (and_from y.finished (is_library_owner y.owner) (made_finished e is y there) (ap is_library_owner made.1)))
 
         of_object : (w : ℕ) → position_object (position_of None l s.action) k ≡ Some w → IsOperand
         of_object w is' =
             let value : operand_of l s.action k ≡ values.Object w = number_value (operand_of l s.action k) w (ap number_of (sym (position_is k)) ∙ is') in
-            let same : root K (next_number h) ≡ root h w = fresh_root p l s.action m d at count h links no_reset operands_there k some (root h w) (ap (root_of h) value) e is in
+            let same : root K (next_number h) ≡ root h w = fresh_root p l s.action (without_reset m) m d at count h links operands_there k some (root h w) (ap (root_of h) value) e is in
             (k, some, ap (root_of h) value ∙ ap Some (sym same) ∙ next_is)
 
         by : (w : Option ℕ) → position_object (position_of None l s.action) k ≡ w → IsOperand
@@ -321,7 +333,7 @@ module _ (p : Program) (ac : Accept p) (forms : HasPlainForms p) (names : HasSma
         operand b zero none r = r
         operand b (suc j) none r = r
 
-    given : (P : Type 0) → ((e : ClassId) → d ≡ conducts.Fresh e → alias_position m ≡ None → s.edge ≡ edges.Go → IsMadeAs p s.action m at (conducts.Fresh e) y → y.finished ≡ true → P)
+    given : (P : Type 0) → ((e : ClassId) → d ≡ conducts.Fresh e → next_number h ≡ o → alias_position m ≡ None → s.edge ≡ edges.Go → IsMadeAs p s.action m at (conducts.Fresh e) y → y.finished ≡ true → P)
         → ((k : ℕ) → d ≡ conducts.Existing k → s.edge ≡ edges.Go → GivesUnowned m → P) → (s.edge ≡ edges.Go → IsOperand → P) → P
     given P fresh there aliased = by d refl
       where
@@ -329,7 +341,7 @@ module _ (p : Program) (ac : Accept p) (forms : HasPlainForms p) (names : HasSma
         by_fresh e is None none =
             let number : next_number h ≡ o = new_number (λ z here. (made_next none (conducts.Fresh e) is z here).3) o (root_by (conducts.Fresh e) is) in
             let here : object_at K (next_number h) ≡ Some y = ap (object_at K) number ∙ now in
-            fresh e is none (next.edge e is) (made_next none (conducts.Fresh e) is y here) (made_finished e is y here)
+            fresh e is number none (next.edge e is) (made_next none (conducts.Fresh e) is y here) (made_finished e is y here)
         by_fresh e is (Some k) some = aliased (next.edge e is) (alias_made e is k some)
 
         by_argument : d ≡ conducts.Argument → (k : Option ℕ) → alias_position m ≡ k → P
@@ -348,7 +360,7 @@ module _ (p : Program) (ac : Accept p) (forms : HasPlainForms p) (names : HasSma
   -- ---- a call
 
   module _ (called : called_method s.action ≡ Some named) (row : IsCallRow s.action) where
-    local : IsLocalStep p fr st s
+    pub local : IsLocalStep p fr st s
     local = local_step p ac forms fr st next.index s next.here (call_sets s.action row) (way_of_call s row)
 
     same_callee : callee p s.action ≡ m
@@ -364,22 +376,30 @@ module _ (p : Program) (ac : Accept p) (forms : HasPlainForms p) (names : HasSma
         let number = operands_there 0 r.object (ap number_of r.value) in
         let object = object_there h r.object x number.0 number.1 in
         let way : Leads p h r.object o = leads r.object o object.0 x object.1 r.root before heavy owes in
-        receiver_is_called p l s.action m m d at h (note false r.object n) o object.0 y links interests no_reset r.noted object.1
-        (library_name_goes_on p ac forms h arrays l s.action named (next.ran called).0 (next.ran called).1 r.object n object.0 r.noted object.1 o way) way now
+        receiver_is_called p l s.action (without_reset m) m d at h (note false r.object n) o object.0 y links (plain_interest m interests) no_reset (ap (λ (ns : List Note). has_note ns (note false r.object n)) (plain_note l s.action m) ∙ r.noted) object.1
+        (library_name_goes_on p ac forms h arrays l s.action named (next.ran called).0 (next.ran called).1 r.object n object.0 r.noted object.1 (next.ran called).2 o way) way now
 
     -- a place that gives an alias its object
     abbrev Comes : Place → ℕ → Type 0
-    Comes q o = ComesFrom p ac h K links carries (library_keeps p l s.action m at h no_reset links d) fr st next.index s next.here local inside (keeps_roots p h K roots fr inside) v q o
+    Comes q o = ComesFrom p ac h K links carries (library_keeps p l s.action (without_reset m) m at h no_reset links d) fr st next.index s next.here local inside (keeps_roots p h K roots fr inside) v q o
 
     comes : (q : Place) (o : ℕ) → IsSmall q → is_local q ≡ true → is_made (made_place s.action) q ≡ true → s.edge ≡ edges.Go → (k : ℕ) → alias_position m ≡ Some k → root_of h (operand_of l s.action k) ≡ Some o
         → Comes q o
     comes q o small local' there edge k some is = from_operand p h fr st s local q o small local' there edge k (ap alias_in same_callee ∙ sym (same_alias m) ∙ some) is
 
+    abbrev IsMadeHere : Place → ℕ → Object → Type 0
+    IsMadeHere q o y = IsMadeSo p ac h K links carries (library_keeps p l s.action (without_reset m) m at h no_reset links d) fr st next.index s next.here local inside (keeps_roots p h K roots fr inside) v frs gives_none
+        (IsGivenOr p ac h K links carries (library_keeps p l s.action (without_reset m) m at h no_reset links d) fr st next.index s next.here local inside (keeps_roots p h K roots fr inside) v row) q o y
+
+    -- what the call makes no fact of the frame owned
+    stops : (o : ℕ) (More : Origin → Fact → Fact → Type 0) → next_number h ≡ o → StopsOwning p h fr frs gives_none More o
+    stops o More number x before = absurd (let range = numbers_are_in_range h o x before in let below = range.1 in omega (arith, below, number))
+
     -- what the call gives is covered by its birth, or comes from the operand of which it is an alias
     made : (q : Place) (o : ℕ) (y : Object) → IsSmall q → is_local q ≡ true → is_made (made_place s.action) q ≡ true → place_value p K fr.method after.locals q ≡ v → root_of K v ≡ Some o → object_at K o ≡ Some y
-        → is_heavy_class p y.class ≡ true → may_owe y ≡ true → Covers p K after q o y ⊎ Comes q o
-    made q o y small local' there is root' now heavy owes = given o y root' now heavy owes (Covers p K after q o y ⊎ Comes q o)
-        (λ e same none edge as' done. inl (fresh e same none edge as' done)) (λ k same edge gives. inl (old k same edge gives)) (λ edge operand. inr (comes q o small local' there edge operand.0 operand.1 operand.2))
+        → is_heavy_class p y.class ≡ true → may_owe y ≡ true → IsMadeHere q o y
+    made q o y small local' there is root' now heavy owes = given o y root' now heavy owes (IsMadeHere q o y)
+        (λ e same number none edge as' done. fresh e same number none edge as' done) (λ k same edge gives. old k same edge gives) (λ edge operand. inr (inr (comes q o small local' there edge operand.0 operand.1 operand.2)))
       where
         rooted : root_of K (place_value p K fr.method after.locals q) ≡ Some o
         rooted = ap (root_of K) is ∙ root'
@@ -391,23 +411,24 @@ module _ (p : Program) (ac : Accept p) (forms : HasPlainForms p) (names : HasSma
         place d' same = single_place-same (places.Temp d') q (ap (λ (x : Option Place). is_made x q) (sym same) ∙ there)
 
         -- at the place of the result
-        at_temp : (d' : ℕ) → made_place s.action ≡ Some (places.Temp d')
-            → (IsSmall (places.Temp d') → root_of K (place_value p K fr.method after.locals (places.Temp d')) ≡ Some o → Covers p K after (places.Temp d') o y) → Covers p K after q o y
-        at_temp d' same covers =
+        at_temp : (d' : ℕ) (A : Type 0) → made_place s.action ≡ Some (places.Temp d')
+            → (IsSmall (places.Temp d') → root_of K (place_value p K fr.method after.locals (places.Temp d')) ≡ Some o → IsBornSo p K frs after (places.Temp d') o y A) → IsBornSo p K frs after q o y A
+        at_temp d' A same covers =
             let here = place d' same in
-            subst (λ (z : Place). Covers p K after z o y) here (covers (subst IsSmall (sym here) small) (subst (λ (z : Place). root_of K (place_value p K fr.method after.locals z) ≡ Some o) (sym here) rooted))
+            subst (λ (z : Place). IsBornSo p K frs after z o y A) here (covers (subst IsSmall (sym here) small) (subst (λ (z : Place). root_of K (place_value p K fr.method after.locals z) ≡ Some o) (sym here) rooted))
 
         alias : alias_position m ≡ None → (x : Method) → m ≡ Some x → x.sig.alias ≡ None
         alias none x named_at = ap alias_position (sym named_at) ∙ none
 
         result : (k : MethodId) (d' c : ℕ) (f : TargetForm) (x : Method) (r : ClassId) → s.action ≡ actions.Call k d' c f → k ≡ named → s.edge ≡ edges.Go → m ≡ Some x → x.sig.result ≡ Some (types.Obj r) → x.sig.alias ≡ None
-            → (x.sig.owning_result ≡ true → IsTrueOf p y (origin_of p kinds.Result s.pos r x.sig.first) (fact_at (places.Temp d') modes.Own no_names false)) → Covers p K after q o y
+            → (x.sig.owning_result ≡ true → IsTrueOf p y (origin_of p kinds.Result s.pos r x.sig.first) (fact_at (places.Temp d') modes.Own no_names false))
+            → IsBornSo p K frs after q o y ((x.sig.owning_result ≡ true) × (is_heavy_class p r ≡ true))
         result k d' c f x r same it edge named_at result' none truth =
-            at_temp d' (ap made_place same) (λ small' root''. result_covers p h K fr st next.index s next.here v d' o y small' root'' k x edge (ap (method_at p) it ∙ named_at) none c f r same result'
+            at_temp d' ((x.sig.owning_result ≡ true) × (is_heavy_class p r ≡ true)) (ap made_place same) (λ small' root''. result_covers p h K fr st next.index s next.here v frs d' o y small' root'' k x edge (ap (method_at p) it ∙ named_at) none c f r same result'
             (λ owning heavy'. truth owning))
 
-        fresh : (e : ClassId) → d ≡ conducts.Fresh e → alias_position m ≡ None → s.edge ≡ edges.Go → IsMadeAs p s.action m at (conducts.Fresh e) y → y.finished ≡ true → Covers p K after q o y
-        fresh e same none edge as' done = go s.action refl
+        fresh : (e : ClassId) → d ≡ conducts.Fresh e → next_number h ≡ o → alias_position m ≡ None → s.edge ≡ edges.Go → IsMadeAs p s.action m at (conducts.Fresh e) y → y.finished ≡ true → IsMadeHere q o y
+        fresh e same number none edge as' done = go s.action refl
           where
             fit : FitsMethod p m (conducts.Fresh e)
             fit = subst (FitsMethod p m) same next.fits
@@ -422,31 +443,40 @@ module _ (p : Program) (ac : Accept p) (forms : HasPlainForms p) (names : HasSma
             no_method : m ≡ None → ⊥
             no_method none' = subst (λ (z : Option Method). FitsMethod p z (conducts.Fresh e)) none' fit
 
-            by_call : (k : MethodId) (d' c : ℕ) (f : TargetForm) → s.action ≡ actions.Call k d' c f → (x : Option Method) → m ≡ x → Covers p K after q o y
+            born : (A : Type 0) → (A → y.owner ≡ owners.Frame at) → IsBornSo p K frs after q o y A → IsMadeHere q o y
+            born A owner (inl (c, has', it)) = inl (c, has', owner it, stops o _ number)
+            born A owner (inr u) = inr (inl u)
+
+            by_call : (k : MethodId) (d' c : ℕ) (f : TargetForm) → s.action ≡ actions.Call k d' c f → (x : Option Method) → m ≡ x → IsMadeHere q o y
             by_call k d' c f is' None named_at = absurd (no_method named_at)
             by_call k d' c f is' (Some x) named_at =
                 let it = named_is k (actions.Call k d' c f) is' refl in
                 let r = by_kind x named_at false (ap (λ (z : MethodId). constructs (method_at p z)) (sym it) ∙ subst (IsOfItsKind p) is' kind) in
-                result k d' c f x r.0 is' it edge named_at r.1 (alias none x named_at)
-                (λ owning. true_of_made p kinds.Result s.pos r.0 e x.sig.first (places.Temp d') y done as'.0 (must x named_at) r.2)
+                born ((x.sig.owning_result ≡ true) × (is_heavy_class p r.0 ≡ true))
+                (λ own. as'.2 ∙ ap (λ (a : Action). result_owner a m at) is' ∙ ap (λ (z : Option Method). if owning_in z then owners.Frame at else owners.Library) named_at ∙ ap (λ (b : Bool). if b then owners.Frame at else owners.Library) own.0)
+                (result k d' c f x r.0 is' it edge named_at r.1 (alias none x named_at)
+                (λ owning. true_of_made p kinds.Result s.pos r.0 e x.sig.first (places.Temp d') y done as'.0 (must x named_at) r.2))
 
-            by_new : (k : MethodId) (d' c : ℕ) → s.action ≡ actions.New k d' c → (x : Option Method) → m ≡ x → Covers p K after q o y
+            by_new : (k : MethodId) (d' c : ℕ) → s.action ≡ actions.New k d' c → (x : Option Method) → m ≡ x → IsMadeHere q o y
             by_new k d' c is' None named_at = absurd (no_method named_at)
             by_new k d' c is' (Some x) named_at =
                 let it = named_is k (actions.New k d' c) is' refl in
                 let class : x.class ≡ e = by_kind x named_at true (ap (λ (z : MethodId). constructs (method_at p z)) (sym it) ∙ subst (IsOfItsKind p) is' kind) in
-                at_temp d' (ap made_place is') (λ small' root''. new_covers p h K fr st next.index s next.here v d' o y small' root'' k x edge (ap (method_at p) it ∙ named_at) (alias none x named_at) c is'
+                born (Unit {0}) (λ one. as'.2 ∙ ap (λ (a : Action). result_owner a m at) is')
+                (at_temp d' (Unit {0}) (ap made_place is') (λ small' root''.
+                let z = new_covers p h K fr st next.index s next.here v frs d' o y small' root'' k x edge (ap (method_at p) it ∙ named_at) (alias none x named_at) c is'
                 (ap (is_heavy_class p) class ∙ ap (is_heavy_class p) (sym as'.0) ∙ heavy)
-                (true_of_made p kinds.New s.pos x.class e x.sig.first (places.Temp d') y done as'.0 (must x named_at) (subst (λ (z : ClassId). fits p e z ≡ true) (sym class) (within_self (must_of p e)))))
+                (true_of_made p kinds.New s.pos x.class e x.sig.first (places.Temp d') y done as'.0 (must x named_at) (subst (λ (z : ClassId). fits p e z ≡ true) (sym class) (within_self (must_of p e)))) in
+                inl (z.0, z.1, tt)))
 
-            go : (a : Action) → s.action ≡ a → Covers p K after q o y
+            go : (a : Action) → s.action ≡ a → IsMadeHere q o y
             go actions.Skip is' = absurd (subst IsCallRow is' row)
             go (actions.Call k d' c f) is' = by_call k d' c f is' m refl
             go (actions.New k d' c) is' = by_new k d' c is' m refl
             go (actions.Super k d' c) is' = absurd (true≢false (sym (ap is_super is') ∙ next.other e same))
             go a is' = absurd (subst IsCallRow is' row)
 
-        old : (k : ℕ) → d ≡ conducts.Existing k → s.edge ≡ edges.Go → GivesUnowned m → Covers p K after q o y
+        old : (k : ℕ) → d ≡ conducts.Existing k → s.edge ≡ edges.Go → GivesUnowned m → IsMadeHere q o y
         old k same edge gives = go s.action refl
           where
             no_new : (j : MethodId) → j ≡ named → constructs (method_at p j) ≡ true → ⊥
@@ -455,23 +485,48 @@ module _ (p : Program) (ac : Accept p) (forms : HasPlainForms p) (names : HasSma
                 (ac.well_formed.valid.typed.methods named gives.method gives.is).kind) ∙ gives.result in
                 cc
 
-            go : (a : Action) → s.action ≡ a → Covers p K after q o y
+            free : IsBornSo p K frs after q o y ((gives.method.sig.owning_result ≡ true) × (is_heavy_class p gives.class ≡ true)) → IsMadeHere q o y
+            free (inl (c, has', own)) = absurd (true≢false (sym own.0 ∙ gives.unowned))
+            free (inr u) = inr (inl u)
+
+            go : (a : Action) → s.action ≡ a → IsMadeHere q o y
             go actions.Skip is' = absurd (subst IsCallRow is' row)
             go (actions.Call j d' c f) is' =
-                result j d' c f gives.method gives.class is' (named_is j (actions.Call j d' c f) is' refl) edge gives.is gives.result gives.alias (λ owning. absurd (true≢false (sym owning ∙ gives.unowned)))
+                free (result j d' c f gives.method gives.class is' (named_is j (actions.Call j d' c f) is' refl) edge gives.is gives.result gives.alias (λ owning. absurd (true≢false (sym owning ∙ gives.unowned))))
             go (actions.New j d' c) is' = absurd (no_new j (named_is j (actions.New j d' c) is' refl) (subst (IsOfItsKind p) is' kind))
             go (actions.Super j d' c) is' = absurd (no_new j (named_is j (actions.Super j d' c) is' refl) (subst (IsPlainAction p) is' form).1)
             go a is' = absurd (subst IsCallRow is' row)
 
-    call_top : IsCovered p h fr → IsCovered p K after
-    call_top covered =
-        call_covered p ac h K links carries (library_keeps p l s.action m at h no_reset links d) fr st next.index s next.here local inside (keeps_roots p h K roots fr inside) v row (plain_no_reset p s.action form) covered
-        (all_ready p h K (library_unfinished p l s.action m at h no_reset links d) fr) noted
-        (λ z o x y c before now g more trusted done goes wide some owes. library_keeps_promises p ac h links fr st arrays named d s next at no_reset called local.small interests leads mine z o x y c before now some owes)
-        (λ z o x c before some owes gives.
-        library_alias p ac h links arrays l s.action s.edge c.fact.places named d at count o local.small form same_callee no_reset operands_there next.by (λ e is. let way = next.thrown e is in (way.0, way.2))
+    -- the frame owned what it gave to the library
+    call_goes : IsCovered p h gives_none frs fr → OwnersGo p None at h K
+    call_goes covered = library_owners_go p l s.action (without_reset m) m d at h no_reset None at (λ o x before heavy owes g. given_owner p ac h fr st frs next.index s next.here row covered m same_callee o x before heavy owes (given_so o x g))
+
+    -- each place after the call is in a fact that comes from one before it, or was born
+    pub call_top_from : IsCovered p h gives_none frs fr → LocalsIn h frs → (q : Place) (o : ℕ) (y : Object) → IsSmall q → root_of K (place_value p K after.method after.locals q) ≡ Some o → object_at K o ≡ Some y
+        → is_heavy_class p y.class ≡ true → may_owe y ≡ true
+        → IsKeyedFrom p ac h K links carries (library_keeps p l s.action (without_reset m) m at h no_reset links d) fr st next.index s next.here local inside (keeps_roots p h K roots fr inside) v frs gives_none
+        (IsGivenOr p ac h K links carries (library_keeps p l s.action (without_reset m) m at h no_reset links d) fr st next.index s next.here local inside (keeps_roots p h K roots fr inside) v row) q o y
+    call_top_from covered others =
+        call_from p ac h K links carries (library_keeps p l s.action (without_reset m) m at h no_reset links d) fr st next.index s next.here local inside (keeps_roots p h K roots fr inside) v row frs gives_none
+        (λ o c never. absurd (true≢false (sym never))) covered
+        (all_ready p h K (library_unfinished p l s.action (without_reset m) m at h no_reset links d) fr) (given_kept p h K frs (all_keep_gifts p h K roots frs others))
+        (stays_apart p None at h K (call_goes covered) at fr (omega arith) (λ w is this. absurd (let never : None ≡ Some w = is in cc)))
+        (λ o x y before now done heavy spared mine. elim (library_owner p l s.action (without_reset m) m d at h no_reset o x y before now) [
+          | inl same ↦ same ∙ mine
+          | inr gave ↦ absurd (true≢false (sym (moved_given p h l s.action m o x same_callee (given_so o x gave.1)) ∙ spared))
+        ])
+        (λ o x y n before now root' other interest spared done goes heavy owes. noted o x y n before now root' other interest done goes heavy owes)
+        (λ o x y c before now g more trusted spared done goes wide some owes. library_keeps_promises p ac h links fr st arrays named d s next at frs called local.small interests leads mine o x y c before now some owes)
+        (λ o x c before some owes gives.
+        library_alias p ac h links arrays l s.action s.edge c.fact.places named (without_reset m) d at count o local.small form same_callee operands_there next.by (λ e is. let way = next.thrown e is in (way.0, way.2))
         (λ k below held. operand_holds p h fr.method l s.action o k c.fact.places local.small below c.places held) gives)
         (λ q o y small local' none' there is root' now heavy owes. made q o y small local' there is root' now heavy owes)
+
+    pub call_top : IsCovered p h gives_none frs fr → LocalsIn h frs → IsCovered p K gives_none frs after
+    call_top covered others q o y small held now heavy owes = elim (call_top_from covered others q o y small held now heavy owes) [
+      | inl key ↦ owned key.0 key.1 key.2
+      | inr free ↦ unowned free
+    ]
 
   -- ---- a read of a constant
 
@@ -486,17 +541,18 @@ module _ (p : Program) (ac : Accept p) (forms : HasPlainForms p) (names : HasSma
     test = constant_test l s.action s.edge named read
 
     constant_made : (q : Place) (o : ℕ) (y : Object) → IsSmall q → is_local q ≡ true → is_made (made_place s.action) q ≡ true → place_value p K fr.method after.locals q ≡ v → root_of K v ≡ Some o
-        → object_at K o ≡ Some y → is_heavy_class p y.class ≡ true → may_owe y ≡ true → Covers p K after q o y
+        → object_at K o ≡ Some y → is_heavy_class p y.class ≡ true → may_owe y ≡ true → IsUnowned p K false frs after q o y
     constant_made q o y small local' there is root' now heavy owes = go s.action refl read
       where
         by_class : (x : Place) (k : MethodId) (z : Method) (r : ClassId) → s.action ≡ actions.Plain x (plain_values.LibraryConstant k) → k ≡ named → s.edge ≡ edges.Go → m ≡ Some z → z.sig.result ≡ Some (types.Obj r)
-            → Covers p K after q o y
+            → IsUnowned p K false frs after q o y
         by_class x k z r is' it edge named_at result =
-            born_covers p K fr st next.index s next.here after q o y (origin_of p kinds.Read s.pos r None) modes.None true refl refl small local'
+            born_unowned p K frs after q o y (origin_of p kinds.Read s.pos r None) (fact_at q modes.None no_names true)
+            (born_covers p K fr st next.index s next.here after frs q o y (origin_of p kinds.Read s.pos r None) modes.None true refl refl small local'
             (ap (λ (a : Action). birth_on p a s.edge s.pos) is' ∙ ap (λ (e : Edge). birth_on p (actions.Plain x (plain_values.LibraryConstant k)) e s.pos) edge
             ∙ ap (λ (u : Option Method). read_birth p x s.pos (returns.result_in u)) (ap (method_at p) it ∙ named_at) ∙ ap (read_birth p x s.pos) result
             ∙ ap (λ (u : Place). Some (origin_of p kinds.Read s.pos r None, fact_at u modes.None no_names true)) (single_place-same x q (ap (λ (a : Action). is_made (made_place a) q) (sym is') ∙ there)))
-            (ap (root_of K) is ∙ root') (read_unlent p) (λ claimed. absurd (unclaimed p (method_at p fr.method) (origin_of p kinds.Read s.pos r None) q claimed))
+            (ap (root_of K) is ∙ root') (read_unlent p) refl (λ claimed. absurd (unclaimed p (method_at p fr.method) (origin_of p kinds.Read s.pos r None) q claimed))) (unowned_mode p (origin_of p kinds.Read s.pos r None))
 
         constant : (x : Place) (k : MethodId) → s.action ≡ actions.Plain x (plain_values.LibraryConstant k) → IsLibraryConstant p k
         constant x k is' = subst (NamesMembers p st.body) is' (names_members p ac forms fr st next.index s next.here)
@@ -505,32 +561,44 @@ module _ (p : Program) (ac : Accept p) (forms : HasPlainForms p) (names : HasSma
         fresh_class z e named_at kind' same = subst (λ (b : Bool). MatchBool b (z.class ≡ e) ((r : ClassId) × (z.sig.result ≡ Some (types.Obj r)) × (fits p e r ≡ true))) (ap is_constructor_kind kind')
             (subst (λ (u : Option Method). FitsMethod p u (conducts.Fresh e)) named_at (subst (FitsMethod p m) same next.fits))
 
-        by_constant : (x : Place) (k : MethodId) → s.action ≡ actions.Plain x (plain_values.LibraryConstant k) → k ≡ named → IsLibraryConstant p k → Covers p K after q o y
-        by_constant x k is' it of = given o y root' now heavy owes (Covers p K after q o y)
-            (λ e same none edge as' done. (let r = fresh_class of.0 e (ap (method_at p) (sym it) ∙ of.1) of.2 same in by_class x k of.0 r.0 is' it edge (ap (method_at p) (sym it) ∙ of.1) r.1))
+        by_constant : (x : Place) (k : MethodId) → s.action ≡ actions.Plain x (plain_values.LibraryConstant k) → k ≡ named → IsLibraryConstant p k → IsUnowned p K false frs after q o y
+        by_constant x k is' it of = given o y root' now heavy owes (IsUnowned p K false frs after q o y)
+            (λ e same number none edge as' done. (let r = fresh_class of.0 e (ap (method_at p) (sym it) ∙ of.1) of.2 same in by_class x k of.0 r.0 is' it edge (ap (method_at p) (sym it) ∙ of.1) r.1))
             (λ j same edge gives. by_class x k gives.method gives.class is' it edge gives.is gives.result)
             (λ edge operand. absurd (let t = operand_temp l s.action operand.0 h o operand.2 in no_operand s.action named read operand.0 t.0 t.1))
 
-        go : (a : Action) → s.action ≡ a → IsConstantRead a named → Covers p K after q o y
+        go : (a : Action) → s.action ≡ a → IsConstantRead a named → IsUnowned p K false frs after q o y
         go actions.Skip is' read' = absurd read'
         go (actions.Plain x (plain_values.LibraryConstant k)) is' read' = by_constant x k is' read' (constant x k is')
         go (actions.Plain x (plain_values.Literal z)) is' read' = absurd read'
         go (actions.Plain x z) is' read' = absurd read'
         go a is' read' = absurd read'
 
-    read_top : IsCovered p h fr → IsCovered p K after
-    read_top covered =
-        top_covered p ac h K links carries (library_keeps p l s.action m at h no_reset links d) fr st next.index s next.here local_read inside (keeps_roots p h K roots fr inside) v covered
-        (all_ready p h K (library_unfinished p l s.action m at h no_reset links d) fr)
+    -- a read gives nothing away
+    nothing_given : (n : ℕ) (x : Object) → IsGiven p (operand_of l s.action) 1 (params_in m) h n x → ⊥
+    nothing_given n x g = let t = operand_temp l s.action (1 + g.index) h n g.root in no_operand s.action named read (1 + g.index) t.0 t.1
+
+    same_owner : (o : ℕ) (x y : Object) → object_at h o ≡ Some x → object_at K o ≡ Some y → y.owner ≡ x.owner
+    same_owner o x y before now = elim (library_owner p l s.action (without_reset m) m d at h no_reset o x y before now) [ inl same ↦ same | inr gave ↦ absurd (nothing_given o x (given_so o x gave.1)) ]
+
+    read_goes : OwnersGo p None at h K
+    read_goes = library_owners_go p l s.action (without_reset m) m d at h no_reset None at (λ n x before heavy owes g. absurd (nothing_given n x (given_so n x g)))
+
+    read_top : IsCovered p h gives_none frs fr → LocalsIn h frs → IsCovered p K gives_none frs after
+    read_top covered others =
+        top_covered p ac h K links carries (library_keeps p l s.action (without_reset m) m at h no_reset links d) fr st next.index s next.here local_read inside (keeps_roots p h K roots fr inside) v frs gives_none covered
+        (all_ready p h K (library_unfinished p l s.action (without_reset m) m at h no_reset links d) fr) (given_kept p h K frs (all_keep_gifts p h K roots frs others))
+        (stays_apart p None at h K read_goes at fr (omega arith) (λ w is this. absurd (let never : None ≡ Some w = is in cc)))
         (λ o f g. Unit {0})
-        (λ z o x c q is. after_as (GoesAs c.fact (places_after p st.number s.action s.edge c.fact.places) (called_after p st.number s.action s.edge c.fact))
+        (λ o x c q is. after_as (GoesAs c.fact (places_after p st.number s.action s.edge c.fact.places) (called_after p st.number s.action s.edge c.fact))
         (λ (g : Fact). GoesAs c.fact (places_after p st.number s.action s.edge c.fact.places) (called_after p st.number s.action s.edge c.fact) g × Unit {0})
         (flow p st.number c.origin s.action s.edge c.fact) (λ g goes. (goes, tt))
         (other_steps p st.number c.origin s.action s.edge c.fact q plain_row (not_null p h fr o c.fact s.action s.edge local_read.small c.places test) is))
-        (λ z o x y c before now g more trusted done goes wide some owes was.
+        (λ o x y c before now g more trusted spared done goes wide some owes was.
         ap (λ (t : Names). set.is_subset t y.called) (same_names p st.number s.action s.edge c.fact plain_row (not_null p h fr o c.fact s.action s.edge local_read.small c.places test)) ∙ was)
-        (λ z o x c before some owes gives. absurd (true≢false (sym gives ∙ row_gives_none p s.action s.edge c.fact.places plain_row)))
-        (λ q o y small local' none' there is root' now heavy owes. inl (constant_made q o y small local' there is root' now heavy owes))
+        (λ o x c before some owes gives. absurd (true≢false (sym gives ∙ row_gives_none p s.action s.edge c.fact.places plain_row)))
+        (λ o x y c key before now heavy owes g more own. (refl, (λ done mine. same_owner o x y before now ∙ mine)))
+        (λ q o y small local' none' there is root' now heavy owes. inr (inl (constant_made q o y small local' there is root' now heavy owes)))
 
   -- ---- all frames
 
@@ -541,28 +609,34 @@ module _ (p : Program) (ac : Accept p) (forms : HasPlainForms p) (names : HasSma
   row_of (actions.Super k d' n) is = tt
   row_of a is = absurd (let never : None ≡ Some named = is in cc)
 
-  -- an alias that the call makes is no exception
-  alias_class : (k : ℕ) → alias_position m ≡ Some k → (e : ClassId) → d ≡ conducts.Fresh e → is_under p e p.core.throwable ≡ false
+  -- what the call makes as an alias
+  alias_class : (k : ℕ) → alias_position m ≡ Some k → (e : ClassId) → d ≡ conducts.Fresh e → IsGivenAsAlias p e
   alias_class k some e is = by m refl
     where
-      by : (x : Option Method) → m ≡ x → is_under p e p.core.throwable ≡ false
+      by : (x : Option Method) → m ≡ x → IsGivenAsAlias p e
       by None named_at = absurd (let never : None ≡ Some k = ap alias_position (sym named_at) ∙ some in cc)
       by (Some x) named_at =
           let alias : x.sig.alias ≡ Some k = ap alias_position (sym named_at) ∙ some in
-          alias_no_exception p ac named x named_at k alias e
-          (subst (GivesAlias p x) (sym next.by.1 ∙ is)
-          (library_gives p x k alias (gives_object p ac.well_formed named x named_at k alias) h arrays named named_at next.by.0 (position_of None l s.action) s.action (next.other e is)))
+          record {
+            number = named;
+            method = x;
+            at = named_at;
+            position = k;
+            alias = alias;
+            class = subst (GivesAlias p x) (sym next.by.1 ∙ is)
+                (library_gives p x k alias (gives_object p ac.well_formed named x named_at k alias) h arrays named named_at next.by.0 (position_of None l s.action) s.action (next.other e is));
+          }
 
-  pub library_linked : ExceptionsAreUnlinked p h → ExceptionsAreUnlinked p K
+  pub library_linked : LinkedAreAliases p h → LinkedAreAliases p K
   library_linked apart n y k there some = by (alias_position m) refl
     where
-      older : IsOlder h n y owners.Library → is_under p y.class p.core.throwable ≡ false
-      older old = ap (λ (c : ClassId). is_under p c p.core.throwable) old.goes_on.class ∙ apart n old.before k old.at (sym old.goes_on.link ∙ some)
+      older : IsOlder h n y owners.Library → IsGivenAsAlias p y.class
+      older old = subst (IsGivenAsAlias p) (sym old.goes_on.class) (apart n old.before k old.at (sym old.goes_on.link ∙ some))
 
-      unlinked : y.link ≡ None → is_under p y.class p.core.throwable ≡ false
+      unlinked : y.link ≡ None → IsGivenAsAlias p y.class
       unlinked none = absurd (let never : None ≡ Some k = sym none ∙ some in cc)
 
-      made_as : (c : Conduct) → IsMadeAs p s.action m at c y → is_under p y.class p.core.throwable ≡ false
+      made_as : (c : Conduct) → IsMadeAs p s.action m at c y → IsGivenAsAlias p y.class
       made_as (conducts.Throws e) is = unlinked is.1
       made_as (conducts.Fresh e) is = unlinked is.3
       made_as conducts.Null is = absurd is
@@ -571,28 +645,36 @@ module _ (p : Program) (ac : Accept p) (forms : HasPlainForms p) (names : HasSma
       made_as (conducts.Value z) is = absurd is
       made_as conducts.Nothing is = absurd is
 
-      alias_as : (j : ℕ) → alias_position m ≡ Some j → (c : Conduct) → d ≡ c → IsAliasMadeAs l s.action j c y → is_under p y.class p.core.throwable ≡ false
+      alias_as : (j : ℕ) → alias_position m ≡ Some j → (c : Conduct) → d ≡ c → IsAliasMadeAs l s.action j c y → IsGivenAsAlias p y.class
       alias_as j at' (conducts.Throws e) same is = unlinked is.1
-      alias_as j at' (conducts.Fresh e) same is = ap (λ (c : ClassId). is_under p c p.core.throwable) is.0 ∙ alias_class j at' e same
+      alias_as j at' (conducts.Fresh e) same is = subst (IsGivenAsAlias p) (sym is.0) (alias_class j at' e same)
       alias_as j at' conducts.Null same is = absurd is
       alias_as j at' (conducts.Existing i) same is = absurd is
       alias_as j at' conducts.Argument same is = absurd is
       alias_as j at' (conducts.Value z) same is = absurd is
       alias_as j at' conducts.Nothing same is = absurd is
 
-      by : (j : Option ℕ) → alias_position m ≡ j → is_under p y.class p.core.throwable ≡ false
-      by None none = elim (library_objects_are_older_or_made p l s.action m m d at h n y no_reset none there) [ inl old ↦ older old | inr new ↦ made_as d new.1 ]
-      by (Some j) at' = elim (library_aliases_are_older_or_made p l s.action m m d at h n j y no_reset at' there) [ inl old ↦ older old | inr new ↦ alias_as j at' d refl new.1 ]
+      by : (j : Option ℕ) → alias_position m ≡ j → IsGivenAsAlias p y.class
+      by None none = elim (library_objects_are_older_or_made p l s.action (without_reset m) m d at h n y no_reset none there) [ inl old ↦ older old | inr new ↦ made_as d new.1 ]
+      by (Some j) at' = elim (library_aliases_are_older_or_made p l s.action (without_reset m) m d at h n j y no_reset at' there) [ inl old ↦ older old | inr new ↦ alias_as j at' d refl new.1 ]
+
+  pub library_keeps_roots : KeepsRoots h K
+  library_keeps_roots = roots
 
   pub library_after_unfinished : KeepsUnfinished h K no_other
-  library_after_unfinished = library_unfinished p l s.action m at h no_reset links d
+  library_after_unfinished = library_unfinished p l s.action (without_reset m) m at h no_reset links d
 
-  pub library_covered : (called_method s.action ≡ Some named) ⊎ IsConstantRead s.action named → (frs : List Frame) → LocalsIn h (fr ∷ frs) → AreCovered p h (fr ∷ frs) → AreCovered p K (after ∷ frs)
-  library_covered row frs in' covered = (
-    elim row [ inl called ↦ call_top called (row_of s.action called) covered.0 | inr read ↦ read_top read covered.0 ],
-    all_wait p h K links roots carries frs (all_keep p h K (library_keeps p l s.action m at h no_reset links d) frs)
-        (all_there p h ranges frs (All-tail (λ (x : Frame). LocalsInRange h x.locals) fr frs in')) (frames_ready p h K (library_unfinished p l s.action m at h no_reset links d) frs) covered.1,
+  pub library_covered : (called_method s.action ≡ Some named) ⊎ IsConstantRead s.action named → LocalsIn h (fr ∷ frs) → AreCovered p h (fr ∷ frs) → AreCovered p K (after ∷ frs)
+  library_covered row in' covered = (
+    elim row [ inl called ↦ call_top called (row_of s.action called) covered.0 others | inr read ↦ read_top read covered.0 others ],
+    all_wait p h K links roots carries frs (all_keep p h K (library_keeps p l s.action (without_reset m) m at h no_reset links d) frs)
+        (all_there p h ranges frs others) (frames_ready p h K (library_unfinished p l s.action (without_reset m) m at h no_reset links d) frs) (all_keep_gifts p h K roots frs others)
+        (owners_kept p None at h K (elim row [ inl called ↦ call_goes called (row_of s.action called) covered.0 | inr read ↦ read_goes read ]) frs (omega arith) tt) covered.1,
+    library_below p l s.action (without_reset m) m d at h no_reset covered.2,
   )
+    where
+      others : LocalsIn h frs
+      others = All-tail (λ (x : Frame). LocalsInRange h x.locals) fr frs in'
 
-  pub library_held_before : (frs : List Frame) → LocalsIn h frs → AllHeldBefore p h K frs
-  library_held_before frs in' = all_held_before p h K roots frs (all_keep p h K (library_keeps p l s.action m at h no_reset links d) frs) (all_there p h ranges frs in')
+  pub library_held_before : (rest : List Frame) → LocalsIn h rest → AllHeldBefore p h K rest
+  library_held_before rest in' = all_held_before p h K roots rest (all_keep p h K (library_keeps p l s.action (without_reset m) m at h no_reset links d) rest) (all_there p h ranges rest in')

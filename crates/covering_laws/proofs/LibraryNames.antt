@@ -2,17 +2,18 @@
 -- that of a method which the program declares.
 use Rattle.std.proofs.Common.{◌≡◌, ◌∙◌, ap, refl, sym, ℕ, Bool, true, false, true≢false, not, ◌||◌, Option, Some, None, List}
 use Rattle.rlc_base.specs.declared.name_id.NameId.{NameId}
+use Rattle.program_model.specs.declared.kinds.ClassId.{ClassId}
 use Rattle.program_model.specs.declared.kinds.MethodId.{MethodId}
 use Rattle.program_model.specs.declared.program.Method.{Method}
 use Rattle.program_model.specs.declared.program.Program.{Program}
 use Rattle.program_model.specs.Lookups.{method_at}
 use Rattle.program_model.specs.SuperTests.{is_under}
-use Rattle.value_type_laws.specs.MustCallSets.{must_of}
+use Rattle.ledger_obligations.specs.MustCallSets.{must_of}
 use Rattle.java_control.specs.declared.action.Action.{Action}
 use Rattle.java_control.specs.declared.action.TargetForm.{TargetForm}
 use Rattle.java_control.specs.declared.action.TargetForm.TheVariants as forms
-use Rattle.target_laws.specs.Accept.{Accept}
-use Rattle.ledger_state.specs.Classes.{class_in, is_under_class}
+use Rattle.value_laws.specs.Accept.{Accept}
+use Rattle.ledger_state.specs.Classes.{class_in, is_under_class, runtime_class}
 use Rattle.ledger_state.specs.Contents.{HeapContents}
 use Rattle.ledger_state.specs.Heaps.{object_at}
 use Rattle.ledger_state.specs.Values.{number_of}
@@ -24,12 +25,12 @@ use Rattle.ledger_state.specs.declared.value.Value.{Value}
 use Rattle.ledger_state.specs.declared.value.Value.TheVariants as values
 use Rattle.ledger_obligations.specs.declared.note.Note.{Note}
 use Rattle.ledger_obligations.specs.Obligations.{has_note, is_library_method, is_the_one, note}
-use Rattle.program_call_laws.specs.Calls.{by_form, form_of, interest_in, note_by_form, note_of_object, operand_of, overriding_by, receiver_note, running}
-use Rattle.target_laws.specs.Moves.{fits_target}
-use Rattle.program_call_laws.specs.Leading.{Leads, by_library, by_program, goes_on_from, here, is_passed_on}
-use Rattle.program_call_laws.proofs.NoteLists.{has_one}
-use Rattle.program_call_laws.proofs.RootLaws.{one_object}
-use Rattle.tracking_laws.specs.PlainForms.{HasPlainForms, run_by}
+use Rattle.ledger_steps.specs.LedgerCallsCalls.{by_form, form_of, interest_in, note_by_form, note_of_object, operand_of, overriding_by, receiver_note, running}
+use Rattle.value_laws.specs.Moves.{fits_target}
+use Rattle.value_laws.specs.Leading.{Leads, by_library, by_program, goes_on_from, here, is_passed_on}
+use Rattle.value_laws.proofs.NoteLists.{has_one}
+use Rattle.value_laws.proofs.RootLaws.{one_object}
+use Rattle.value_laws.specs.PlainForms.{HasPlainForms, may_be_made, run_by}
 use Rattle.covering_laws.proofs.OwnMethods.{own, own_runs}
 
 -- ---- the note
@@ -85,7 +86,8 @@ target_class p h arrays n forms.Other k x by at fits = ap (λ (o : Option Object
 
 module _ (p : Program) (ac : Accept p) (forms' : HasPlainForms p) (h : HeapContents) (arrays : List ArrayObject) (l : Locals) (a : Action) (named : MethodId)
     (ran : is_library_method p (method_at p (running p h l a named)) ≡ true) (fits : fits_target p h arrays (method_at p named) (form_of a) (operand_of l a 0) ≡ true)
-    (k : ℕ) (n : NameId) (x : Object) (noted : has_note (receiver_note l a (method_at p named)) (note false k n) ≡ true) (at : object_at h k ≡ Some x) where
+    (k : ℕ) (n : NameId) (x : Object) (noted : has_note (receiver_note l a (method_at p named)) (note false k n) ≡ true) (at : object_at h k ≡ Some x)
+    (made : (c : ClassId) → runtime_class p h (operand_of l a 0) ≡ Some c → may_be_made p c ≡ true) where
   its : IsByClass (form_of a) × IsOn (number_of (operand_of l a 0)) (interest_in (method_at p named)) k n
   its = of_form (form_of a) (number_of (operand_of l a 0)) (interest_in (method_at p named)) k n noted
 
@@ -125,7 +127,8 @@ module _ (p : Program) (ac : Accept p) (forms' : HasPlainForms p) (h : HeapConte
       let same : x ≡ z = one_object x z (object_at h j) there at' in
       let one = one_of m.by_library (is_the_one (must_of p z.class) n) (stops z (Some m) same some off) in
       let mine = own p ac forms' z.class f field declared owning calls n one in
-      let runs = own_runs p ac forms' z.class f field declared owning calls n one named it.0 it.1 it.2 (ap (λ (u : Object). is_under p u.class it.0.class) (sym same) ∙ under) in
+      let there_may = made z.class (ap (runtime_class p h) target ∙ ap class_in at ∙ ap (λ (u : Object). Some u.class) same) in
+      let runs = own_runs p ac forms' z.class f field declared owning calls n one there_may named it.0 it.1 it.2 (ap (λ (u : Object). is_under p u.class it.0.class) (sym same) ∙ under) in
       true≢false (sym library ∙ ap (λ (u : Object). is_library_method p (method_at p (run_by p named u.class))) same
       ∙ ap (λ (r' : MethodId). is_library_method p (method_at p r')) runs ∙ ap (is_library_method p) mine.at ∙ mine.program)
 

@@ -15,19 +15,18 @@ use Rattle.program_model.specs.declared.program.Program.{Program}
 use Rattle.program_model.specs.declared.program.Promise.{Promise}
 use Rattle.program_model.specs.Lookups.{method_at}
 use Rattle.program_model.specs.Overrides.{is_library}
-use Rattle.value_type_laws.specs.Bodies.{has_field_place, promises_in, throwing_promises_in}
+use Rattle.ledger_obligations.specs.Bodies.{has_field_place, promises_in, throwing_promises_in}
 use Rattle.java_control.specs.Calls.{called_method}
 use Rattle.java_control.specs.Control.{Step}
 use Rattle.java_control.specs.Owned.{place_of_field}
 use Rattle.java_control.specs.declared.action.Action.{Action}
 use Rattle.java_control.specs.declared.action.Edge.{Edge}
 use Rattle.java_control.specs.declared.action.Edge.TheVariants as edges
-use Rattle.java_control.specs.declared.place.Place.{Place}
-use Rattle.target_laws.specs.Callees.{callee, callee_in, is_this_target, may_be_null_target}
-use Rattle.target_laws.specs.Facts.{has}
-use Rattle.target_laws.specs.SmallActions.{IsSmallAction}
-use Rattle.called_methods.specs.CalledRows.{holds_field, holds_target, promises_at}
-use Rattle.target_laws.specs.Accept.{Accept}
+use Rattle.ownership_rules.specs.Callees.{callee, callee_in, is_this_target, may_be_null_target}
+use Rattle.ownership_rules.specs.Facts.{has}
+use Rattle.ownership_rules.specs.SmallActions.{IsSmallAction}
+use Rattle.value_laws.specs.CalledRows.{holds_field, holds_target, promises_at}
+use Rattle.value_laws.specs.Accept.{Accept}
 use Rattle.stub_conduct.specs.declared.choice.Conduct.{Conduct}
 use Rattle.stub_conduct.specs.declared.choice.Conduct.TheVariants as conducts
 use Rattle.ledger_state.specs.Contents.{HeapContents}
@@ -38,26 +37,28 @@ use Rattle.ledger_state.specs.declared.array.ArrayObject.{ArrayObject}
 use Rattle.ledger_state.specs.declared.locals.Locals.{Locals}
 use Rattle.ledger_state.specs.declared.object.Object.{Object}
 use Rattle.ledger_obligations.specs.Obligations.{is_library_method}
-use Rattle.program_call_laws.specs.Calls.{operand_of, reset_position}
-use Rattle.program_call_laws.specs.Conducts.{promises_by}
-use Rattle.program_call_laws.specs.Configuration.{Frame}
-use Rattle.target_laws.specs.Choosing.{frame_steps}
+use Rattle.ledger_steps.specs.LedgerCallsCalls.{operand_of}
+use Rattle.ledger_steps.specs.Conducts.{promises_by}
+use Rattle.value_laws.specs.Configuration.{Frame}
+use Rattle.value_laws.specs.Choosing.{frame_steps}
 use Rattle.ledger_steps.specs.CallSteps.{library_heap}
-use Rattle.program_call_laws.specs.Heaps.{HasEarlierLinks}
-use Rattle.program_call_laws.specs.Leading.{Leads}
-use Rattle.tracking_laws.specs.LibraryCalls.{HasSmallInterest}
-use Rattle.tracking_laws.proofs.Laws.{promised_names_are_called-position}
-use Rattle.tracking_laws.specs.Agreement.{Stands}
-use Rattle.range_laws.specs.Nexts.{IsLibraryMove}
-use Rattle.tracking_laws.proofs.CallNames.{operand_has_position}
-use Rattle.tracking_laws.proofs.SignedPromises.{Promises, promised_name_is_small}
-use Rattle.value_type_laws.specs.MustCallSets.{is_heavy_class}
-use Rattle.kept_argument_laws.specs.FieldContents.{LinksLead}
-use Rattle.kept_argument_laws.specs.PlaceFacts.{Covers, may_owe}
-use Rattle.kept_argument_laws.specs.Ranges.{LocalsInRange}
-use Rattle.range_laws.proofs.Values.{operand_in_range}
-use Rattle.tracking_laws.proofs.Chains.{object_there}
-use Rattle.kept_argument_laws.proofs.HeavyFields.{HasPlace, has_place_here}
+use Rattle.value_laws.proofs.Emptied.{plain_interest}
+use Rattle.value_laws.proofs.Renewed.{says_nothing, without_reset}
+use Rattle.value_laws.specs.Heaps.{HasEarlierLinks}
+use Rattle.value_laws.specs.Leading.{Leads}
+use Rattle.value_laws.specs.LibraryCalls.{HasSmallInterest}
+use Rattle.value_laws.proofs.LibraryCallLaws.{promised_names_are_called-position}
+use Rattle.value_laws.specs.Agreement.{Stands}
+use Rattle.value_laws.specs.Nexts.{IsLibraryMove}
+use Rattle.value_laws.proofs.CallNames.{operand_has_position}
+use Rattle.value_laws.proofs.SignedPromises.{Promises, promised_name_is_small}
+use Rattle.ledger_obligations.specs.MustCallSets.{is_heavy_class}
+use Rattle.value_laws.specs.FieldContents.{LinksLead}
+use Rattle.value_laws.specs.PlaceFacts.{Covers, may_owe}
+use Rattle.value_laws.specs.Ranges.{LocalsInRange}
+use Rattle.value_laws.proofs.RangeValues.{operand_in_range}
+use Rattle.value_laws.proofs.Chains.{object_there}
+use Rattle.covering_laws.proofs.HeavyFields.{HasPlace, has_place_here}
 use Rattle.covering_laws.proofs.Bodies.{running_method}
 use Rattle.covering_laws.proofs.KnownNames.{AreKept, all_kept, operand_holds}
 use Rattle.covering_laws.proofs.PromisedFields.{IsOwnField, promised_field}
@@ -94,7 +95,7 @@ promise_of (Some x) d j q at = (x, refl, (j, inl at))
 -- ---- a call of the library
 
 module _ (p : Program) (ac : Accept p) (h : HeapContents) (links : HasEarlierLinks h) (fr : Frame) (st : Stands p fr) (arrays : List ArrayObject) (named : MethodId) (d : Conduct) (s : Step)
-    (next : IsLibraryMove p h arrays fr.locals (frame_steps p fr) named named d s) (at : ℕ) (no_reset : reset_position (method_at p named) ≡ None) (called : called_method s.action ≡ Some named)
+    (next : IsLibraryMove p h arrays fr.locals (frame_steps p fr) named named d s) (at : ℕ) (frs : List Frame) (called : called_method s.action ≡ Some named)
     (small : IsSmallAction p s.action) (interests : HasSmallInterest (method_at p named)) (leads : LinksLead p h) (inside : LocalsInRange h fr.locals) where
   abbrev m : Option Method
   m = method_at p named
@@ -103,7 +104,7 @@ module _ (p : Program) (ac : Accept p) (h : HeapContents) (links : HasEarlierLin
   l = fr.locals
 
   abbrev K : HeapContents
-  K = library_heap p l s.action m m d at h
+  K = library_heap p l s.action (without_reset m) m d at h
 
   -- one promise
   module _ (j : ℕ) (q : Promise) (there : slice_get (promises_by m d) j ≡ Some q) where
@@ -130,20 +131,20 @@ module _ (p : Program) (ac : Accept p) (h : HeapContents) (links : HasEarlierLin
         let object = object_there h w x number.0 number.1 in
         leads w o object.0 x object.1 (let both : Some (root h w) ≡ Some o = ap (root_of h) (sym value) ∙ rooted in (let same : root h w ≡ o = cc in same)) before heavy owes
 
-    one_kept : (z : Place) (o : ℕ) (x y : Object) (c : Covers p h fr z o x) → object_at h o ≡ Some x → object_at K o ≡ Some y → is_heavy_class p x.class ≡ true → may_owe x ≡ true → (t : Target) → q.target ≡ t
+    one_kept : (o : ℕ) (x y : Object) (c : Covers p h false frs fr o x) → object_at h o ≡ Some x → object_at K o ≡ Some y → is_heavy_class p x.class ≡ true → may_owe x ≡ true → (t : Target) → q.target ≡ t
         → holds_target p st.number s.action c.fact.places t ≡ true → set.is_subset q.names y.called ≡ true
-    one_kept z o x y c before now heavy owes (promised.At k) target holds = within_from q.names y.called (λ n has.
+    one_kept o x y c before now heavy owes (promised.At k) target holds = within_from q.names y.called (λ n has.
         let rooted = operand_holds p h fr.method l s.action o k c.fact.places small (operand_has_position p s.action c.fact.places k small holds) c.places holds in
-        promised_names_are_called-position p l s.action m m d at h j q k n o x y links interests no_reset there target has (promised_name_is_small p ac named its.0 q n its.1 its.2 has) rooted before (way k o x rooted before heavy owes) now)
-    one_kept z o x y c before now heavy owes (promised.OfField f) target holds =
+        promised_names_are_called-position p l s.action (without_reset m) m d at h j q k n o x y links (plain_interest m interests) (says_nothing m) there target has (promised_name_is_small p ac named its.0 q n its.1 its.2 has) rooted before (way k o x rooted before heavy owes) now)
+    one_kept o x y c before now heavy owes (promised.OfField f) target holds =
         let parts = and_parts (is_this_target s.action) (holds_field p st.number c.fact.places f) holds in
         absurd (no_place f target (and_parts (has_field_place p st.number f) (has c.fact.places (place_of_field p f)) parts.1).0)
 
-  pub library_keeps_promises : (z : Place) (o : ℕ) (x y : Object) (c : Covers p h fr z o x) → object_at h o ≡ Some x → object_at K o ≡ Some y → is_heavy_class p x.class ≡ true → may_owe x ≡ true
+  pub library_keeps_promises : (o : ℕ) (x y : Object) (c : Covers p h false frs fr o x) → object_at h o ≡ Some x → object_at K o ≡ Some y → is_heavy_class p x.class ≡ true → may_owe x ≡ true
       → AreKept p st.number s.action c.fact.places y.called (promises_at p s.action s.edge)
-  library_keeps_promises z o x y c before now heavy owes = elim (edge_promises p s.action s.edge m d (ap (callee_in p) called) (λ e is. let way = next.thrown e is in (way.0, way.2)) next.normal) [
+  library_keeps_promises o x y c before now heavy owes = elim (edge_promises p s.action s.edge m d (ap (callee_in p) called) (λ e is. let way = next.thrown e is in (way.0, way.2)) next.normal) [
     | inl none ↦ subst (λ (ps : List Promise). AreKept p st.number s.action c.fact.places y.called ps) (sym none) tt
     | inr same ↦
         subst (λ (ps : List Promise). AreKept p st.number s.action c.fact.places y.called ps) (sym same)
-        (all_kept p st.number s.action c.fact.places y.called (promises_by m d) (λ j q there holds. one_kept j q there z o x y c before now heavy owes q.target refl holds))
+        (all_kept p st.number s.action c.fact.places y.called (promises_by m d) (λ j q there holds. one_kept j q there o x y c before now heavy owes q.target refl holds))
   ]

@@ -11,9 +11,9 @@ use Rattle.program_model.specs.declared.program.Class.{Class}
 use Rattle.program_model.specs.declared.program.Program.{Program}
 use Rattle.program_model.specs.Lookups.{class_at}
 use Rattle.program_model.specs.SuperTests.{classes_above, has_class, is_under}
-use Rattle.value_type_laws.specs.MustCallSets.{is_empty, is_heavy_class, must_in, no_names}
-use Rattle.tracking_laws.specs.Refusals.{where_true}
-use Rattle.annotation_rules.specs.AnnotationCases.{body_cases, class_cases, field_cases, is_heavy_throwable, method_cases}
+use Rattle.ledger_obligations.specs.MustCallSets.{is_empty, is_heavy_class, must_in, no_names}
+use Rattle.ledger_obligations.specs.Refusals.{where_true}
+use Rattle.value_laws.specs.AnnotationCases.{body_cases, class_cases, field_cases, is_heavy_throwable, method_cases}
 use Rattle.std.specs.List.{All, find}
 use Rattle.std.proofs.lemmas.List.Elements.{All-head, All-nil, All-tail}
 use Rattle.program_model.specs.declared.kinds.BinaryOperator.{BinaryOperator}
@@ -35,9 +35,9 @@ use Rattle.ledger_state.specs.declared.array.ArrayObject.{ArrayObject}
 use Rattle.ledger_state.specs.declared.locals.Locals.{Locals}
 use Rattle.ledger_state.specs.declared.value.Value.{Value}
 use Rattle.ledger_state.specs.Classes.{array_length}
-use Rattle.program_call_laws.specs.Operations.{is_index, operand, thrown_by_index, thrown_by_number, thrown_by_operation, thrown_by_operator, thrown_where}
-use Rattle.program_call_laws.specs.Calls.{leaves_by}
-use Rattle.target_laws.specs.Accept.{Accept}
+use Rattle.value_laws.specs.Operations.{is_index, operand, thrown_by_index, thrown_by_number, thrown_by_operation, thrown_by_operator, thrown_where}
+use Rattle.ledger_steps.specs.LedgerCallsCalls.{leaves_by}
+use Rattle.value_laws.specs.Accept.{Accept}
 
 -- both parts of an empty list are empty
 left_empty : (xs ys : List Refusal) → xs ++ ys ≡ [] → xs ≡ []

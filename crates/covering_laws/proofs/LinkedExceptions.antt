@@ -1,5 +1,5 @@
--- No exception is an alias of a resource: links are those that were, and the library makes none to an exception.
-use Rattle.std.proofs.Common.{◌≡◌, ◌⊎◌, inl, inr, ℕ, zero, suc, Bool, true, false, ◌&&◌, ◌||◌, Option, Some, None, List, [], ◌∷◌, slice_get, refl, sym, ap, ◌∙◌, true≢false}
+-- What is linked is an alias, and no exception is one: links are those that were, and the library makes none to an exception.
+use Rattle.std.proofs.Common.{◌≡◌, ◌⊎◌, inl, inr, ℕ, zero, suc, Bool, true, false, ◌&&◌, ◌||◌, Option, Some, None, List, [], ◌∷◌, slice_get, refl, sym, ap, ◌∙◌, subst, true≢false}
 use Rattle.std.specs.List.{list_any}
 use Rattle.std.proofs.lemmas.Bool.{or_parts}
 use Rattle.program_model.specs.declared.kinds.ClassId.{ClassId}
@@ -11,16 +11,17 @@ use Rattle.program_model.specs.declared.program.Method.{Method}
 use Rattle.program_model.specs.declared.program.Program.{Program}
 use Rattle.program_model.specs.Lookups.{class_at, method_at}
 use Rattle.program_model.specs.SuperTests.{classes_above, has_class, is_class, is_under}
-use Rattle.value_type_laws.specs.AliasCases.{has_exception_under, is_exception_under, may_be_exception}
-use Rattle.value_type_laws.specs.MustCallSets.{is_heavy_class}
-use Rattle.value_type_laws.specs.Signatures.{is_present}
-use Rattle.target_laws.specs.Accept.{Accept}
+use Rattle.ledger_obligations.specs.AliasCases.{has_exception_under, is_exception_under, may_be_exception}
+use Rattle.ledger_obligations.specs.MustCallSets.{is_heavy_class}
+use Rattle.ownership_rules.specs.Signatures.{is_present}
+use Rattle.value_laws.specs.Accept.{Accept}
 use Rattle.ledger_state.specs.Contents.{HeapContents}
 use Rattle.ledger_state.specs.Heaps.{object_at}
 use Rattle.ledger_state.specs.declared.object.Link.{Link}
 use Rattle.ledger_state.specs.declared.object.Object.{Object}
-use Rattle.tracking_laws.proofs.AliasConducts.{GivesObject, IsAliasClass, gives_object, no_exception}
-use Rattle.range_laws.proofs.Cases.{same_class}
+use Rattle.value_laws.proofs.AliasConducts.{GivesObject, IsAliasClass, gives_object, no_exception}
+use Rattle.value_laws.proofs.Cases.{same_class}
+use Rattle.covering_laws.specs.Linking.{IsGivenAsAlias, LinkedAreAliases}
 use Rattle.covering_laws.specs.Throws.{ExceptionsAreUnlinked}
 use Rattle.covering_laws.proofs.LightExceptions.{exceptions_are_light}
 
@@ -28,10 +29,10 @@ use Rattle.covering_laws.proofs.LightExceptions.{exceptions_are_light}
 abbrev pub LinkedWere : HeapContents → HeapContents → Type 0
 LinkedWere h k = (n : ℕ) (y : Object) (l : Link) → object_at k n ≡ Some y → y.link ≡ Some l → (x : Object) × (object_at h n ≡ Some x) × (x.link ≡ Some l) × (y.class ≡ x.class)
 
-pub still_unlinked : (p : Program) (h k : HeapContents) → LinkedWere h k → ExceptionsAreUnlinked p h → ExceptionsAreUnlinked p k
-still_unlinked p h k were apart n y l at some =
+pub still_aliases : (p : Program) (h k : HeapContents) → LinkedWere h k → LinkedAreAliases p h → LinkedAreAliases p k
+still_aliases p h k were aliases n y l at some =
     let x = were n y l at some in
-    ap (λ (c : ClassId). is_under p c p.core.throwable) x.3 ∙ apart n x.0 l x.1 x.2
+    subst (IsGivenAsAlias p) (sym x.3) (aliases n x.0 l x.1 x.2)
 
 -- what has an obligation is no exception
 heavy_no_exception : (p : Program) (ac : Accept p) (c : ClassId) → is_heavy_class p c ≡ true → is_under p c p.core.throwable ≡ false
@@ -73,7 +74,7 @@ under_none p c e none own under = go (class_at p e) refl under
         alone false is = absurd (true≢false (sym is))
 
 -- nor is an alias that the library makes
-pub alias_no_exception : (p : Program) (ac : Accept p) (named : MethodId) (m : Method) → method_at p named ≡ Some m → (k : ℕ) → m.sig.alias ≡ Some k → (e : ClassId) → IsAliasClass p m e
+alias_no_exception : (p : Program) (ac : Accept p) (named : MethodId) (m : Method) → method_at p named ≡ Some m → (k : ℕ) → m.sig.alias ≡ Some k → (e : ClassId) → IsAliasClass p m e
     → is_under p e p.core.throwable ≡ false
 alias_no_exception p ac named m at k alias e is = by is (gives_object p ac.well_formed named m at k alias)
   where
@@ -86,3 +87,8 @@ alias_no_exception p ac named m at k alias e is = by is (gives_object p ac.well_
     by (inl made) (inl own) = ap (λ (z : ClassId). is_under p z p.core.throwable) made.1 ∙ heavy_no_exception p ac m.class own.1
     by (inl made) (inr own) = absurd (true≢false (sym made.0 ∙ own.0))
     by (inr result) own = under_result result.0 result.1 result.2 result.3
+
+-- so what is linked is no exception
+pub exceptions_unlinked : (p : Program) → Accept p → (h : HeapContents) → LinkedAreAliases p h → ExceptionsAreUnlinked p h
+exceptions_unlinked p ac h aliases n x l at some =
+    let given = aliases n x l at some in alias_no_exception p ac given.number given.method given.at given.position given.alias x.class given.class

@@ -4,20 +4,20 @@ use Rattle.std.proofs.Common.{◌≡◌, ℕ, Some, List, [], ◌∷◌, slice_g
 use Rattle.std.proofs.lemmas.List.Elements.{All-head, All-tail}
 use Rattle.program_model.specs.declared.program.Program.{Program}
 use Rattle.java_control.specs.Control.{Step}
-use Rattle.flow_rules.specs.Paths.{move_of}
-use Rattle.target_laws.specs.Accept.{Accept}
+use Rattle.value_laws.specs.Paths.{move_of}
+use Rattle.value_laws.specs.Accept.{Accept}
 use Rattle.ledger_state.specs.Contents.{HeapContents}
-use Rattle.program_call_laws.specs.Configuration.{Frame}
-use Rattle.target_laws.specs.Choosing.{frame_steps}
-use Rattle.field_place_laws.specs.Places.{IsWay, SetsLocals}
-use Rattle.tracking_laws.specs.Agreement.{Stands}
-use Rattle.tracking_laws.specs.PlainForms.{HasPlainForms}
-use Rattle.kept_argument_laws.specs.Ranges.{FieldsInRange, LocalsInRange}
-use Rattle.range_laws.proofs.Values.{place_in_range}
-use Rattle.tracking_laws.proofs.Ready.{plain_step, ready, step_there}
-use Rattle.kept_argument_laws.specs.Typed.{MovesLocals, NamesMembers}
-use Rattle.kept_argument_laws.proofs.Reached.{typed_step}
-pub use Rattle.kept_argument_laws.proofs.Resets.{resets_nothing}
+use Rattle.value_laws.specs.Configuration.{Frame}
+use Rattle.value_laws.specs.Choosing.{frame_steps}
+use Rattle.value_laws.specs.PlacePlaces.{IsWay, SetsLocals}
+use Rattle.value_laws.specs.Agreement.{Stands}
+use Rattle.value_laws.specs.PlainForms.{HasPlainForms}
+use Rattle.value_laws.specs.Ranges.{FieldsInRange, LocalsInRange}
+use Rattle.value_laws.proofs.RangeValues.{place_in_range}
+use Rattle.value_laws.proofs.Ready.{ready, resets_plainly, step_there}
+use Rattle.value_laws.specs.Typed.{MovesLocals, NamesMembers}
+use Rattle.value_laws.proofs.Reached.{typed_step}
+pub use Rattle.covering_laws.proofs.Resets.{resets_nothing}
 use Rattle.covering_laws.proofs.TopSteps.{IsLocalStep}
 use Rattle.covering_laws.proofs.Waiting.{AllThere, HoldsThere}
 
@@ -34,10 +34,10 @@ module _ (p : Program) (ac : Accept p) (forms : HasPlainForms p) (fr : Frame) (s
       record {
         small = r.small;
         sets = sets;
-        moves = λ x y is. subst MovesLocals is typed.0;
+        moves = λ x y is. (subst MovesLocals is typed.0).1;
         makes = λ x v is. subst MovesLocals is typed.0;
         target = r.target;
-        no_reset = resets_nothing p s.action (plain_step p ac forms fr st i s here);
+        no_reset = resets_nothing p st.number fr.control s.action (resets_plainly p ac forms fr st i s here);
         way = way;
       }
 

@@ -1,48 +1,50 @@
 -- A call whose target is null throws before it starts: the library's exception is all that the step makes.
-use Rattle.std.proofs.Common.{List, None, Option, Some, [], ap, arith, false, inl, inr, refl, slice_get, subst, sym, true, true≢false, ℕ, ◌∙◌, ◌∷◌, ◌≡◌}
+use Rattle.std.proofs.Common.{List, None, Option, Some, [], ap, arith, false, inl, inr, length, refl, slice_get, subst, sym, true, true≢false, ℕ, ◌+◌, ◌∙◌, ◌∷◌, ◌≡◌}
 use Rattle.std.proofs.lemmas.List.Elements.{All-head, All-tail}
 use Rattle.program_model.specs.declared.kinds.ClassId.{ClassId}
 use Rattle.program_model.specs.declared.program.Program.{Program}
 use Rattle.program_model.specs.declared.program.Promise.{Promise}
-use Rattle.value_type_laws.specs.MustCallSets.{Names, is_heavy_class}
+use Rattle.ledger_obligations.specs.MustCallSets.{Names, is_heavy_class}
 use Rattle.java_control.specs.Control.{Step}
 use Rattle.java_control.specs.declared.action.Action.{Action}
 use Rattle.java_control.specs.declared.action.Edge.{Edge}
 use Rattle.java_control.specs.declared.action.Edge.TheVariants as edges
 use Rattle.java_control.specs.declared.place.Place.{Place}
-use Rattle.target_laws.specs.Callees.{may_be_null_target}
-use Rattle.target_laws.specs.Facts.{PlaceSet}
-use Rattle.alias_sets.specs.Aliases.{gives_alias}
-use Rattle.called_methods.specs.CalledRows.{promises_at}
-use Rattle.target_laws.specs.Accept.{Accept}
+use Rattle.ownership_rules.specs.Callees.{may_be_null_target}
+use Rattle.ownership_rules.specs.Facts.{PlaceSet}
+use Rattle.value_laws.specs.Aliases.{gives_alias}
+use Rattle.value_laws.specs.CalledRows.{promises_at}
+use Rattle.value_laws.specs.Accept.{Accept}
 use Rattle.ledger_state.specs.Contents.{HeapContents}
 use Rattle.ledger_state.specs.Heaps.{next_number, object_at, root, root_of}
 use Rattle.ledger_state.specs.declared.object.Object.{Object}
 use Rattle.ledger_state.specs.declared.value.Value.{Value}
 use Rattle.ledger_state.specs.declared.value.Value.TheVariants as values
-use Rattle.program_call_laws.specs.Places.{place_value}
-use Rattle.program_call_laws.specs.Calls.{operand_of}
-use Rattle.program_call_laws.specs.Configuration.{Frame}
-use Rattle.target_laws.specs.Choosing.{frame_steps}
-use Rattle.target_laws.specs.Frames.{frame_after}
+use Rattle.value_laws.specs.Places.{place_value}
+use Rattle.ledger_steps.specs.LedgerCallsCalls.{operand_of}
+use Rattle.value_laws.specs.Configuration.{Frame}
+use Rattle.value_laws.specs.Choosing.{frame_steps}
+use Rattle.value_laws.specs.Frames.{frame_after}
 use Rattle.ledger_steps.specs.InnerSteps.{with_exception}
-use Rattle.program_call_laws.specs.Heaps.{HasEarlierLinks}
-use Rattle.program_call_laws.proofs.Laws.{evolving_heaps-links, numbers_are_in_range}
-use Rattle.tracking_laws.proofs.Laws.{exceptions_are_the_librarys, exceptions_keep_links-evolves}
-use Rattle.tracking_laws.specs.Agreement.{Stands}
-use Rattle.tracking_laws.specs.PlainForms.{HasPlainForms}
-use Rattle.range_laws.specs.Nexts.{IsNullCall}
-use Rattle.tracking_laws.proofs.CallNames.{plain_no_reset}
-use Rattle.tracking_laws.proofs.Ready.{call_sets, plain_step}
-use Rattle.tracking_laws.proofs.Unmet.{way_of_call}
-use Rattle.kept_argument_laws.specs.PlaceFacts.{AreCovered, Covers}
-use Rattle.kept_argument_laws.specs.Ranges.{FieldsInRange, LocalsInRange}
+use Rattle.value_laws.specs.Heaps.{HasEarlierLinks}
+use Rattle.value_laws.proofs.HeapLaws.{evolving_heaps-links, numbers_are_in_range}
+use Rattle.value_laws.proofs.LibraryCallLaws.{exceptions_are_the_librarys, exceptions_keep_links-evolves}
+use Rattle.value_laws.specs.Agreement.{Stands}
+use Rattle.value_laws.specs.PlainForms.{HasPlainForms}
+use Rattle.value_laws.specs.Nexts.{IsNullCall}
+use Rattle.value_laws.proofs.Ready.{call_sets}
+use Rattle.value_laws.proofs.Unmet.{way_of_call}
+use Rattle.value_laws.specs.PlaceFacts.{AreCovered, IsUnowned, gives_none}
+use Rattle.value_laws.specs.Ranges.{FieldsInRange, LocalsInRange}
 use Rattle.covering_laws.proofs.CallSteps.{call_covered}
+use Rattle.covering_laws.proofs.Gifts.{all_keep_gifts}
 use Rattle.covering_laws.proofs.InnerJoins.{exception_class_is}
 use Rattle.covering_laws.proofs.InnerSteps.{no_object, same_goes_on}
 use Rattle.covering_laws.proofs.KnownNames.{AreKept}
 use Rattle.covering_laws.proofs.LightExceptions.{null_pointer_is_light}
 use Rattle.covering_laws.proofs.LocalSteps.{LocalsIn, all_there, holds_there, local_step}
+use Rattle.covering_laws.proofs.Owners.{AllKeepGifts, given_kept, owners_kept, stays_apart}
+use Rattle.covering_laws.proofs.StoreOwners.{thrown_below, thrown_owners_go, thrown_same}
 use Rattle.covering_laws.proofs.TopSteps.{IsLocalStep}
 use Rattle.covering_laws.proofs.Waiting.{AllHeldBefore, Carries, KeepsFields, KeepsRoots, KeepsUnfinished, all_held_before, all_keep, all_ready, all_wait, frames_ready, keeps_roots, linked_roots, new_root, no_other}
 use Rattle.covering_laws.proofs.LinkedExceptions.{LinkedWere}
@@ -71,7 +73,7 @@ module _ (p : Program) (h : HeapContents) (links : HasEarlierLinks h) (e : Class
 
   pub thrown_carries : Carries h (with_exception p e h)
   thrown_carries o y at below = elim (exceptions_are_the_librarys p (Some e) h o y at) [
-    | inl old ↦ (y, old, refl, (λ is. same_goes_on y))
+    | inl old ↦ (y, old, refl, (λ is. (same_goes_on y, λ library. library)))
     | inr new ↦ absurd (let number = new.0 in omega (arith, number, below))
   ]
 
@@ -114,26 +116,41 @@ module _ (p : Program) (ac : Accept p) (forms : HasPlainForms p) (h : HeapConten
   local = local_step p ac forms fr st i s here (call_sets s.action call.row) (way_of_call s call.row)
 
   -- what the step makes is the exception
-  made : (q : Place) (o : ℕ) (y : Object) → place_value p k fr.method after.locals q ≡ v → root_of k v ≡ Some o → object_at k o ≡ Some y → is_heavy_class p y.class ≡ true → Covers p k after q o y
-  made q o y is root' at heavy =
+  made : (frs : List Frame) (q : Place) (o : ℕ) (y : Object) → place_value p k fr.method after.locals q ≡ v → root_of k v ≡ Some o → object_at k o ≡ Some y → is_heavy_class p y.class ≡ true → IsUnowned p k false frs after q o y
+  made frs q o y is root' at heavy =
       let number : next_number h ≡ o = (let both : Some (next_number h) ≡ Some o = sym (ap Some (exception_root p h links npe)) ∙ root' in (let one : next_number h ≡ o = cc in one)) in
       absurd (true≢false (sym heavy ∙ ap (is_heavy_class p) (exception_class_is p npe h y (ap (object_at k) number ∙ at)) ∙ null_pointer_is_light p ac))
 
   none_kept : (held : PlaceSet) (names : Names) → AreKept p st.number s.action held names (promises_at p s.action s.edge)
   none_kept held names = subst (λ (ps : List Promise). AreKept p st.number s.action held names ps) (sym (null_promises p s.action s.edge call.target)) tt
 
+  -- owners stay
+  same_owner : (o : ℕ) (x y : Object) → object_at h o ≡ Some x → object_at k o ≡ Some y → y.owner ≡ x.owner
+  same_owner o x y before at = ap (λ (z : Object). z.owner) (thrown_same p (Some npe) h o x y before at)
+
   pub null_covered : (frs : List Frame) → LocalsIn h (fr ∷ frs) → AreCovered p h (fr ∷ frs) → AreCovered p k (after ∷ frs)
   null_covered frs in' covered = (
     call_covered p ac h k links (thrown_carries p h links npe) (thrown_fields p h links npe) fr st i s here local
         (holds_there p h ranges fr (All-head (λ (x : Frame). LocalsInRange h x.locals) fr frs in'))
-        (keeps_roots p h k (thrown_roots p h links npe) fr (holds_there p h ranges fr (All-head (λ (x : Frame). LocalsInRange h x.locals) fr frs in'))) v call.row (plain_no_reset p s.action (plain_step p ac forms fr st i s here)) covered.0 (all_ready p h k (thrown_unfinished p h links npe) fr)
-        (λ o x y n before at root' other interest done goes heavy owes. absurd (no_object h (operand_of fr.locals s.action 0) o call.null root'))
-        (λ z o x y c before at g more trusted done goes wide some owes. none_kept c.fact.places y.called)
-        (λ z o x c before some owes gives. absurd (true≢false (sym gives ∙ null_gives_none p s.action s.edge c.fact.places call.target)))
-        (λ q o y small local' none there is root' at heavy owes. inl (made q o y is root' at heavy)),
+        (keeps_roots p h k (thrown_roots p h links npe) fr (holds_there p h ranges fr (All-head (λ (x : Frame). LocalsInRange h x.locals) fr frs in'))) v call.row
+        frs gives_none (λ o c gives. absurd (true≢false (sym gives))) covered.0 (all_ready p h k (thrown_unfinished p h links npe) fr) (given_kept p h k frs gifts)
+        (stays_apart p None (length frs + 1) h k (thrown_owners_go p (Some npe) h None (length frs + 1)) (length frs + 1) fr (omega arith) (λ w none this. no_object_into w none))
+        (λ o x y before at done heavy kept mine. same_owner o x y before at ∙ mine)
+        (λ o x y n before at root' other interest stays done goes heavy owes. absurd (no_object h (operand_of fr.locals s.action 0) o call.null root'))
+        (λ o x y c before at g more trusted stays done goes wide some owes. none_kept c.fact.places y.called)
+        (λ o x c before some owes gives. absurd (true≢false (sym gives ∙ null_gives_none p s.action s.edge c.fact.places call.target)))
+        (λ q o y small local' none there is root' at heavy owes. inr (inl (made frs q o y is root' at heavy))),
     all_wait p h k links (thrown_roots p h links npe) (thrown_carries p h links npe) frs (all_keep p h k (thrown_fields p h links npe) frs)
-        (all_there p h ranges frs (All-tail (λ (x : Frame). LocalsInRange h x.locals) fr frs in')) (frames_ready p h k (thrown_unfinished p h links npe) frs) covered.1,
+        (all_there p h ranges frs (All-tail (λ (x : Frame). LocalsInRange h x.locals) fr frs in')) (frames_ready p h k (thrown_unfinished p h links npe) frs) gifts
+        (owners_kept p None (length frs + 1) h k (thrown_owners_go p (Some npe) h None (length frs + 1)) frs (omega arith) tt) covered.1,
+    thrown_below p (Some npe) h (length frs + 1) covered.2,
   )
+    where
+      gifts : AllKeepGifts p h k frs
+      gifts = all_keep_gifts p h k (thrown_roots p h links npe) frs (All-tail (λ (x : Frame). LocalsInRange h x.locals) fr frs in')
+
+      no_object_into : (w : ℕ) → ◌≡◌ {A = Option ℕ} None (Some w) → ⊥
+      no_object_into w none = cc
 
   pub null_held_before : (frs : List Frame) → LocalsIn h frs → AllHeldBefore p h k frs
   null_held_before frs in' = all_held_before p h k (thrown_roots p h links npe) frs (all_keep p h k (thrown_fields p h links npe) frs) (all_there p h ranges frs in')

@@ -19,13 +19,13 @@ use Rattle.program_model.specs.declared.program.Promise.{Promise}
 use Rattle.program_model.specs.Lookups.{field_at, method_at}
 use Rattle.program_model.specs.Overrides.{is_library, methods_of, super_classes}
 use Rattle.program_model.specs.SuperTests.{is_under}
-use Rattle.value_type_laws.specs.MustCallSets.{must_of}
-use Rattle.value_type_laws.specs.Signatures.{is_of_field, promised_names}
-use Rattle.target_laws.specs.Accept.{Accept}
+use Rattle.ledger_obligations.specs.MustCallSets.{must_of}
+use Rattle.ownership_rules.specs.Signatures.{is_of_field, promised_names}
+use Rattle.value_laws.specs.Accept.{Accept}
 use Rattle.ledger_obligations.specs.Obligations.{is_name, is_named, is_named_in, is_the_one, method_by, method_named, own_promises, promises_written}
-use Rattle.program_call_laws.specs.Leading.{CallsOnField}
-use Rattle.program_call_laws.proofs.NoteLists.{name_from_all, name_where}
-use Rattle.tracking_laws.specs.PlainForms.{HasPlainForms, run_by}
+use Rattle.value_laws.specs.Leading.{CallsOnField}
+use Rattle.value_laws.proofs.NoteLists.{name_from_all, name_where}
+use Rattle.value_laws.specs.PlainForms.{HasPlainForms, may_be_made, run_by}
 use Rattle.covering_laws.proofs.PromisedFields.{IsOwnField, promised_field}
 
 found_passes : {X : Type 0} (test : X → Bool) (xs : List X) (x : X) → find test xs ≡ Some x → test x ≡ true
@@ -106,8 +106,8 @@ module _ (p : Program) (ac : Accept p) (forms' : HasPlainForms p) (c : ClassId) 
   own_must = ap (λ (z : ClassId). set.contains (must_of p z) name.0) own_class ∙ (and_parts (set.contains (must_of p c) name.0) (set.is_subset (must_of p c) (set.insert set.empty name.0)) one).0
 
   -- objects of the class run it, whichever method of the name a call names
-  pub own_runs : (named : MethodId) (n : Method) → method_at p named ≡ Some n → n.sig.interest ≡ Some name → is_under p c n.class ≡ true → run_by p named c ≡ own.number
-  own_runs named n named_at interest under =
+  pub own_runs : may_be_made p c ≡ true → (named : MethodId) (n : Method) → method_at p named ≡ Some n → n.sig.interest ≡ Some name → is_under p c n.class ≡ true → run_by p named c ≡ own.number
+  own_runs made named n named_at interest under =
       ap (run_by p named) (sym own_class)
-      ∙ forms'.own named own.number n own.method f field name named_at own.at declared owning ((calls.0 field declared).0 ∙ sym own_class) interest own.interest own_must
+      ∙ forms'.own named own.number n own.method f field name named_at own.at (ap (may_be_made p) own_class ∙ made) declared owning ((calls.0 field declared).0 ∙ sym own_class) interest own.interest own_must
       (ap (λ (z : ClassId). is_under p z n.class) own_class ∙ under)

@@ -1,6 +1,6 @@
 -- A call of the program ends that counts for the one name of the class of its receiver, which a constructor has linked: the class's own method ran, and
 -- called this name on what the field of the link holds.
-use Rattle.std.proofs.Common.{◌≡◌, ◌∙◌, ap, refl, sym, inr, ℕ, Bool, true, false, true≢false, not, ◌||◌, eq-eqb, Option, Some, None, List, slice_get}
+use Rattle.std.proofs.Common.{◌≡◌, ◌∙◌, ap, refl, sym, inr, ℕ, Bool, true, false, true≢false, not, ◌||◌, eq-eqb, Option, Some, None, List, ◌∷◌, slice_get}
 use Rattle.std.specs.FinSet as set
 use Rattle.rlc_base.proofs.SetLaws.{within_at}
 use Rattle.rlc_base.specs.declared.name_id.NameId.{NameId}
@@ -13,9 +13,9 @@ use Rattle.program_model.specs.declared.program.Program.{Program}
 use Rattle.program_model.specs.declared.program.Promise.{Promise}
 use Rattle.program_model.specs.Lookups.{field_at, method_at}
 use Rattle.program_model.specs.SuperTests.{is_class, is_under}
-use Rattle.value_type_laws.specs.Bodies.{has_field_place, is_field_in, is_finalizer, is_finalizer_in, method_in, method_of}
-use Rattle.value_type_laws.specs.MustCallSets.{is_empty, is_heavy_class, must_of, must_of_optional}
-use Rattle.value_type_laws.specs.Signatures.{is_of_field, promised_names, type_of_field}
+use Rattle.ledger_obligations.specs.Bodies.{has_field_place, is_field_in, is_finalizer, is_finalizer_in, method_in, method_of}
+use Rattle.ledger_obligations.specs.MustCallSets.{is_empty, is_heavy_class, must_of, must_of_optional}
+use Rattle.ownership_rules.specs.Signatures.{is_of_field, promised_names, type_of_field}
 use Rattle.java_control.specs.Calls.{called_method}
 use Rattle.java_control.specs.Control.{Step}
 use Rattle.java_control.specs.Owned.{is_owning_field}
@@ -24,7 +24,8 @@ use Rattle.java_control.specs.declared.action.Action.TheVariants as actions
 use Rattle.java_control.specs.declared.action.Completion.{Completion}
 use Rattle.java_control.specs.declared.action.TargetForm.{TargetForm}
 use Rattle.java_control.specs.declared.action.TargetForm.TheVariants as forms
-use Rattle.target_laws.specs.Accept.{Accept}
+use Rattle.value_laws.specs.Accept.{Accept}
+use Rattle.ledger_state.specs.Classes.{class_in}
 use Rattle.ledger_state.specs.Contents.{HeapContents}
 use Rattle.ledger_state.specs.Fields.{field_value}
 use Rattle.ledger_state.specs.Heaps.{object_at, root_of}
@@ -35,18 +36,18 @@ use Rattle.ledger_state.specs.declared.object.Object.{Object}
 use Rattle.ledger_state.specs.declared.value.Value.TheVariants as values
 use Rattle.ledger_obligations.specs.declared.note.Note.{Note}
 use Rattle.ledger_obligations.specs.Obligations.{has_note, is_the_one, note}
-use Rattle.program_call_laws.specs.Calls.{form_of, interest_in, note_by_form, operand_of, receiver_note}
-use Rattle.program_call_laws.specs.Configuration.{Frame}
-use Rattle.target_laws.specs.Choosing.{frame_steps}
-use Rattle.program_call_laws.specs.Heaps.{HasEarlierLinks}
-use Rattle.program_call_laws.specs.Leading.{CallsOnField, Leads, by_library, by_program, goes_on_from, here, is_passed_on}
-use Rattle.program_call_laws.proofs.Laws.{leading_links-root}
-use Rattle.tracking_laws.specs.Agreement.{Stands}
-use Rattle.tracking_laws.specs.PlainForms.{HasPlainForms, run_by}
-use Rattle.kept_argument_laws.specs.Covering.{HoldsHeavy}
-use Rattle.kept_argument_laws.specs.FieldContents.{IsDispatched, is_chosen_by_class, promised_on}
-use Rattle.kept_argument_laws.specs.PlaceFacts.{IsCovered, may_owe}
-use Rattle.kept_argument_laws.proofs.Laws.{promises_are_kept_at_end}
+use Rattle.ledger_steps.specs.LedgerCallsCalls.{form_of, interest_in, note_by_form, operand_of, receiver_note}
+use Rattle.value_laws.specs.Configuration.{Frame}
+use Rattle.value_laws.specs.Choosing.{frame_steps}
+use Rattle.value_laws.specs.Heaps.{HasEarlierLinks}
+use Rattle.value_laws.specs.Leading.{CallsOnField, Leads, by_library, by_program, goes_on_from, here, is_passed_on}
+use Rattle.value_laws.proofs.HeapLaws.{leading_links-root}
+use Rattle.value_laws.specs.Agreement.{HasMadeClasses, Stands}
+use Rattle.value_laws.specs.PlainForms.{HasPlainForms, run_by}
+use Rattle.covering_laws.specs.Covering.{HoldsHeavy, IsNotGiven}
+use Rattle.value_laws.specs.FieldContents.{IsDispatched, is_chosen_by_class, promised_on}
+use Rattle.value_laws.specs.PlaceFacts.{IsCovered, gives_none, may_owe}
+use Rattle.covering_laws.proofs.CoveredFieldLaws.{promises_are_kept_at_end}
 use Rattle.covering_laws.proofs.OwnMethods.{IsOwn, own, own_class, own_must, own_runs, promised_own}
 
 -- a note is made of a call alone whose method the class of the target chooses
@@ -61,11 +62,11 @@ chosen_by_note l a m n noted = go (form_of a) noted
 
 -- ---- the end of the call
 
-module _ (p : Program) (ac : Accept p) (forms' : HasPlainForms p) (h : HeapContents) (links : HasEarlierLinks h) (fr caller : Frame) (st : Stands p fr) (covered : IsCovered p h fr)
+module _ (p : Program) (ac : Accept p) (forms' : HasPlainForms p) (h : HeapContents) (links : HasEarlierLinks h) (fr caller : Frame) (rest : List Frame) (st : Stands p fr) (covered : IsCovered p h gives_none (caller ∷ rest) fr)
     (i : ℕ) (s : Step) (q : Completion) (there : slice_get (frame_steps p fr) i ≡ Some s) (is : s.action ≡ actions.End q) (j : ℕ) (t : Step) (waits : slice_get (frame_steps p caller) j ≡ Some t)
     (named : MethodId) (n : Method) (called : called_method t.action ≡ Some named) (named_at : method_at p named ≡ Some n) (dispatched : IsDispatched p h fr caller) (name : NameId)
     (interest : n.sig.interest ≡ Some name) (chosen : is_chosen_by_class (form_of t.action) ≡ true) (o : ℕ) (y : Object) (now : object_at h o ≡ Some y) (heavy : is_heavy_class p y.class ≡ true)
-    (owes : may_owe y ≡ true) (done : y.finished ≡ true) where
+    (owes : may_owe y ≡ true) (done : y.finished ≡ true) (made : HasMadeClasses p h) (spared : IsNotGiven p h (caller ∷ rest) fr o y) where
   module _ (k c : ℕ) (x : Object) (f : FieldId) (field : Field) (target : operand_of caller.locals t.action 0 ≡ values.Object k) (at : object_at h k ≡ Some x) (declared : field_at p f ≡ Some field)
       (owning : field.owning ≡ true) (calls : CallsOnField p x.class f) (held : field_value p h k f ≡ values.Object c) (inner : Leads p h c o) (one : is_the_one (must_of p x.class) name ≡ true) where
     abbrev its : IsOwn p x.class name
@@ -81,7 +82,7 @@ module _ (p : Program) (ac : Accept p) (forms' : HasPlainForms p) (h : HeapConte
     run = dispatched j t named n k x waits called named_at chosen target at
 
     method : method_at p fr.method ≡ Some d
-    method = ap (method_at p) (run.0 ∙ own_runs p ac forms' x.class f field declared owning calls name one named n named_at interest run.1) ∙ its.at
+    method = ap (method_at p) (run.0 ∙ own_runs p ac forms' x.class f field declared owning calls name one (made (values.Object k) x.class (ap class_in at)) named n named_at interest run.1) ∙ its.at
 
     body_method : method_of p st.number ≡ Some d
     body_method = ap (method_in p) st.at ∙ ap (method_at p) st.method ∙ method
@@ -107,7 +108,7 @@ module _ (p : Program) (ac : Accept p) (forms' : HasPlainForms p) (h : HeapConte
     }
 
     name_called : set.contains y.called name.0 ≡ true
-    name_called = within_at (promised_on f d) y.called (promises_are_kept_at_end p ac h fr st covered i s q d f k o y there is method place (inr finalizer) holds done) name.0
+    name_called = within_at (promised_on f d) y.called (promises_are_kept_at_end p ac h (caller ∷ rest) fr st covered i s q d f k o y there is method place (inr finalizer) holds spared done) name.0
         (ap (λ (us : List Promise). set.contains (promised_names (λ u. is_of_field u f) us) name.0) (sym its.promises) ∙ promised_own p ac forms' x.class f field declared owning calls name one)
 
   -- a name that the link of the receiver stops was called on its root

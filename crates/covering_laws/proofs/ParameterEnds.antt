@@ -9,9 +9,9 @@ use Rattle.program_model.specs.declared.kinds.FieldId.{FieldId}
 use Rattle.program_model.specs.declared.kinds.Target.TheVariants as promised
 use Rattle.program_model.specs.declared.program.Program.{Program}
 use Rattle.program_model.specs.declared.program.Promise.{Promise}
-use Rattle.value_type_laws.specs.Bodies.{alias_position, method_of, promises_in, throwing_promises_in}
-use Rattle.value_type_laws.specs.MustCallSets.{is_heavy_as, is_heavy_class}
-use Rattle.value_type_laws.specs.Signatures.{is_present, when}
+use Rattle.ledger_obligations.specs.Bodies.{alias_position, method_of, promises_in, throwing_promises_in}
+use Rattle.ledger_obligations.specs.MustCallSets.{is_heavy_as, is_heavy_class}
+use Rattle.ownership_rules.specs.Signatures.{is_present, when}
 use Rattle.java_control.specs.Control.{Step}
 use Rattle.java_control.specs.declared.action.Action.{Action}
 use Rattle.java_control.specs.declared.action.Action.TheVariants as actions
@@ -23,27 +23,26 @@ use Rattle.java_control.specs.declared.fact.Mode.TheVariants as modes
 use Rattle.java_control.specs.declared.fact.Origin.{Origin}
 use Rattle.java_control.specs.declared.fact.OriginKind.{OriginKind}
 use Rattle.java_control.specs.declared.fact.Rule.TheVariants as rules
-use Rattle.java_control.specs.declared.place.Place.{Place}
 use Rattle.java_control.specs.declared.place.Place.TheVariants as places
-use Rattle.target_laws.specs.Facts.{PlaceSet, has, is_alias, is_origin_at, is_own}
-use Rattle.called_methods.specs.CalledRows.{holds_field}
-use Rattle.called_methods.specs.Promises.{is_of_held_field, is_of_origin, promised_by_end, promised_on_both, promised_on_fields, promised_on_position}
+use Rattle.ownership_rules.specs.Facts.{PlaceSet, has, is_alias, is_origin_at, is_own}
+use Rattle.value_laws.specs.CalledRows.{holds_field}
+use Rattle.value_laws.specs.Promises.{is_of_held_field, is_of_origin, promised_by_end, promised_on_both, promised_on_fields, promised_on_position}
 use Rattle.ownership_rules.specs.Heavy.{is_owned}
 use Rattle.ownership_rules.specs.MovesAtReturns.{heavy_result, kept_alias, moved_at_return, owned_result, owning_result_in, result_type}
 use Rattle.ownership_rules.specs.declared.moved.Moved.TheVariants as moves
-use Rattle.flow_rules.specs.Ends.{is_throw}
-use Rattle.flow_rules.specs.Flow.{flow}
-use Rattle.flow_rules.specs.Paths.{Reach, move_of, relation_of}
-use Rattle.target_laws.specs.Accept.{Accept}
+use Rattle.value_laws.specs.Ends.{is_throw}
+use Rattle.value_laws.specs.Flow.{flow}
+use Rattle.value_laws.specs.Paths.{Reach, move_of, relation_of}
+use Rattle.value_laws.specs.Accept.{Accept}
 use Rattle.ledger_state.specs.Contents.{HeapContents}
 use Rattle.ledger_state.specs.declared.object.Object.{Object}
-use Rattle.program_call_laws.specs.Configuration.{Frame}
-use Rattle.target_laws.specs.Choosing.{body_id, frame_steps}
-use Rattle.tracking_laws.specs.Agreement.{Stands}
-use Rattle.tracking_laws.specs.Outcomes.{IsFault}
-use Rattle.fact_step_laws.proofs.Ending as at_ends
-use Rattle.kept_argument_laws.specs.PlaceFacts.{Covers}
-use Rattle.kept_argument_laws.proofs.Following.{breaks_nothing, same_body, step_there}
+use Rattle.value_laws.specs.Configuration.{Frame}
+use Rattle.value_laws.specs.Choosing.{body_id, frame_steps}
+use Rattle.value_laws.specs.Agreement.{Stands}
+use Rattle.value_laws.specs.Outcomes.{IsFault}
+use Rattle.value_laws.proofs.Ending as at_ends
+use Rattle.value_laws.specs.PlaceFacts.{Covers}
+use Rattle.covering_laws.proofs.Following.{breaks_nothing, same_body, step_there}
 
 -- ---- what is not owned is no result, but an alias
 
@@ -131,7 +130,7 @@ throw_asks p b (completions.Continue pos) throws kind held = absurd (true≢fals
 -- ---- the end of a frame
 
 module _ (p : Program) (ac : Accept p) (h : HeapContents) (fr : Frame) (st : Stands p fr) (i : ℕ) (s : Step) (q : Completion) (here : slice_get (frame_steps p fr) i ≡ Some s) (is : s.action ≡ actions.End q)
-    (z : Place) (o : ℕ) (x : Object) (c : Covers p h fr z o x) (alias : moved_at_return p st.number c.origin (actions.End q) c.fact ≡ moves.Moves → c.fact.mode ≡ modes.Alias) (known : set.is_subset c.fact.called x.called ≡ true)
+    (frs : List Frame) (o : ℕ) (x : Object) (c : Covers p h false frs fr o x) (alias : moved_at_return p st.number c.origin (actions.End q) c.fact ≡ moves.Moves → c.fact.mode ≡ modes.Alias) (known : set.is_subset c.fact.called x.called ≡ true)
     (xs : List Promise) (asks : AsksFor p st.number q xs) where
   reached : Reach p st.number (relation_of p st.number) c.origin fr.control c.fact
   reached = subst (λ (b : BodyId). Reach p b (relation_of p b) c.origin fr.control c.fact) (same_body c.body st.number (body_id p fr.method) c.id st.id) c.reached

@@ -14,9 +14,9 @@ use Rattle.program_model.specs.declared.program.Program.{Program}
 use Rattle.program_model.specs.declared.program.Promise.{Promise}
 use Rattle.program_model.specs.Lookups.{class_at, field_at, method_at}
 use Rattle.program_model.specs.Validity.{IsFieldOf}
-use Rattle.tracking_laws.specs.Targets.{fields_in, field_name, is_owning_named, is_position_text, own_fields, owning_field, position_of, target_of}
-use Rattle.target_laws.specs.Accept.{Accept}
-use Rattle.tracking_laws.proofs.SignedPromises.{Promises, written}
+use Rattle.value_laws.specs.EffectiveSignaturesTargets.{fields_in, field_name, is_owning_named, is_position_text, own_fields, owning_field, position_of, target_of}
+use Rattle.value_laws.specs.Accept.{Accept}
+use Rattle.value_laws.proofs.SignedPromises.{Promises, written}
 
 -- ---- targets
 

@@ -4,15 +4,15 @@ use Rattle.program_model.specs.declared.kinds.MethodId.{MethodId}
 use Rattle.program_model.specs.declared.program.Method.{Method}
 use Rattle.program_model.specs.declared.program.Program.{Program}
 use Rattle.program_model.specs.Lookups.{method_at}
-use Rattle.target_laws.specs.Accept.{Accept}
+use Rattle.value_laws.specs.Accept.{Accept}
 use Rattle.stub_conduct.specs.declared.choice.Choices.{Choices}
 use Rattle.ledger_state.specs.Heaps.{object_in}
 use Rattle.ledger_state.specs.declared.object.Object.{Object}
-use Rattle.target_laws.specs.Starts.{start_config}
-use Rattle.target_laws.specs.Moves.{has_body}
-use Rattle.kept_argument_laws.specs.PlaceFacts.{AreCovered}
+use Rattle.value_laws.specs.Starts.{start_config}
+use Rattle.value_laws.specs.Moves.{has_body}
+use Rattle.value_laws.specs.PlaceFacts.{AreCovered}
 use Rattle.covering_laws.specs.Making.{AreBeingMade}
-use Rattle.covering_laws.specs.Throws.{ExceptionsAreUnlinked}
+use Rattle.covering_laws.specs.Linking.{LinkedAreAliases}
 
 no_object : (o : ℕ) (x : Object) → object_in [] o ≡ Some x → ⊥
 no_object zero x is = let never : ◌≡◌ {A = Option Object} None (Some x) = is in cc
@@ -21,12 +21,12 @@ no_object (suc k) x is = let never : ◌≡◌ {A = Option Object} None (Some x)
 pub covered_at_start : (p : Program) → Accept p → (main : MethodId) (m : Method) (choices : Choices) → method_at p main ≡ Some m → has_body m.body ≡ true
     → AreCovered p (start_config p main choices).heap (start_config p main choices).frames
 unfolding start_config
-covered_at_start p ac main m choices named body = ((λ q o x small root at heavy owes. absurd (no_object o x at)), tt)
+covered_at_start p ac main m choices named body = ((λ q o x small root at heavy owes. absurd (no_object o x at)), tt, (λ o x at. absurd (no_object o x at)))
 
 pub being_made_at_start : (p : Program) (main : MethodId) (choices : Choices) → AreBeingMade p (start_config p main choices).heap (start_config p main choices).frames
 unfolding start_config
 being_made_at_start p main choices = tt
 
-pub unlinked_exceptions_at_start : (p : Program) (main : MethodId) (choices : Choices) → ExceptionsAreUnlinked p (start_config p main choices).heap
+pub linked_are_aliases_at_start : (p : Program) (main : MethodId) (choices : Choices) → LinkedAreAliases p (start_config p main choices).heap
 unfolding start_config
-unlinked_exceptions_at_start p main choices k x l at some = absurd (no_object k x at)
+linked_are_aliases_at_start p main choices k x l at some = absurd (no_object k x at)

@@ -1,5 +1,5 @@
 -- Each step of a run keeps what the places of frames hold covered, and the objects that are being made unfinished.
-use Rattle.std.proofs.Common.{◌≡◌, ◌⊎◌, inl, inr, ℕ, ◌+◌, true, true≢false, Option, Some, List, [], ◌∷◌, length, slice_get, refl, sym, ap, ◌∙◌, subst}
+use Rattle.std.proofs.Common.{◌≡◌, ◌⊎◌, inl, inr, ℕ, ◌+◌, true, true≢false, Option, Some, List, [], ◌∷◌, length, slice_get, refl, sym, ap, ◌∙◌, subst, arith}
 use Rattle.std.proofs.lemmas.List.Elements.{All-head, All-tail}
 use Rattle.rlc_base.specs.declared.place.Pos.{Pos}
 use Rattle.program_model.specs.declared.kinds.BodyId.{BodyId}
@@ -7,14 +7,13 @@ use Rattle.program_model.specs.declared.kinds.ClassId.{ClassId}
 use Rattle.program_model.specs.declared.kinds.MethodId.{MethodId}
 use Rattle.program_model.specs.declared.program.Program.{Program}
 use Rattle.program_model.specs.Lookups.{method_at}
-use Rattle.program_conditions.specs.Conditions.{MakesNoString}
-use Rattle.value_type_laws.specs.WellFormed.{HasSmallInterests}
+use Rattle.ledger_obligations.specs.WellFormed.{HasSmallInterests}
 use Rattle.java_control.specs.Calls.{called_method}
 use Rattle.java_control.specs.Control.{Step, next_of}
 use Rattle.java_control.specs.declared.action.Action.{Action}
 use Rattle.java_control.specs.declared.action.Action.TheVariants as actions
 use Rattle.java_control.specs.declared.action.Completion.{Completion}
-use Rattle.target_laws.specs.Accept.{Accept}
+use Rattle.value_laws.specs.Accept.{Accept}
 use Rattle.stub_conduct.specs.declared.choice.Conduct.{Conduct}
 use Rattle.ledger_state.specs.Contents.{HeapContents}
 use Rattle.ledger_obligations.specs.Obligations.{end_frame}
@@ -23,52 +22,55 @@ use Rattle.ledger_state.specs.declared.locals.Locals.{Locals}
 use Rattle.ledger_state.specs.declared.value.Value.{Value}
 use Rattle.ledger_state.specs.declared.value.Value.TheVariants as values
 use Rattle.ledger_obligations.specs.Obligations.{lose}
-use Rattle.program_call_laws.specs.Operations.{made_value, next_choice}
-use Rattle.program_call_laws.specs.Calls.{argument_values, begun}
-use Rattle.program_call_laws.specs.Conducts.{arguments_shared, conduct_value, positions}
-use Rattle.program_call_laws.specs.Configuration.{Config, Frame, held_by}
-use Rattle.target_laws.specs.Choosing.{frame_steps, steps_by}
-use Rattle.target_laws.specs.Frames.{frame_after}
-use Rattle.target_laws.specs.Moves.{Move, Inner, Start, Library, End, Stray, Rest, next_move, standing}
-use Rattle.target_laws.specs.Moves.{Return, Back, StrayBack, NoWay, return_move}
+use Rattle.value_laws.specs.Operations.{made_value, next_choice}
+use Rattle.ledger_steps.specs.LedgerCallsCalls.{argument_values, begun}
+use Rattle.ledger_steps.specs.Conducts.{arguments_shared, conduct_value, positions}
+use Rattle.value_laws.specs.Configuration.{Config, Frame, held_by}
+use Rattle.value_laws.specs.Choosing.{frame_steps, steps_by}
+use Rattle.value_laws.specs.Frames.{frame_after}
+use Rattle.value_laws.specs.Moves.{Move, Inner, Start, Library, End, Stray, Rest, next_move, standing}
+use Rattle.value_laws.specs.Moves.{Return, Back, StrayBack, NoWay, return_move}
 use Rattle.ledger_steps.specs.CallSteps.{began_heap, library_heap, self_begun}
 use Rattle.ledger_steps.specs.Ends.{answered, exception_class, result_value, returned_heap, thrown_in}
 use Rattle.ledger_steps.specs.InnerSteps.{thrown_value, with_exception}
-use Rattle.target_laws.specs.Outcomes.{went, ended, stray}
-use Rattle.target_laws.specs.Steps.{began, end, library_went, main_ended, moved, moved_by, returned, returned_by, step, top_move, within}
-use Rattle.program_call_laws.specs.Heaps.{HasEarlierLinks}
-use Rattle.tracking_laws.proofs.Ways.{one_action}
-use Rattle.tracking_laws.specs.Agreement.{Agree, Agrees, IsMadeAfter, IsMadeBy, Stands, WaitsFor, RunsItself}
-use Rattle.tracking_laws.specs.PlainForms.{HasPlainForms, MayRun}
-use Rattle.range_laws.specs.Nexts.{IsBack, IsBackStep, IsInnerStep, IsLibraryMove, IsNext, IsNullCall, IsOwningStore, IsPlainStep, IsStartMove}
-use Rattle.range_laws.proofs.Cases.{next_is}
-use Rattle.range_laws.proofs.Returns.{back_is}
-use Rattle.target_laws.specs.Frames.{HaveTargets}
-use Rattle.tracking_laws.proofs.Ready.{plain_step, step_here}
-use Rattle.tracking_laws.proofs.Unmet.{call_may, row_of}
-use Rattle.tracking_laws.specs.Outcomes.{IsCallRow}
-use Rattle.value_type_laws.specs.Types.{AreCalled, HaveTypes, KeepAll}
-use Rattle.value_type_laws.proofs.Moved as typed_moves
-use Rattle.value_type_laws.proofs.Moved.{IsConstantRead}
-use Rattle.kept_argument_laws.specs.FieldContents.{FieldsHold, IsBeingMade, is_new}
-use Rattle.kept_argument_laws.specs.PlaceFacts.{AreCovered}
-use Rattle.kept_argument_laws.specs.Ranges.{AreInRange, FieldsInRange, LocalsInRange}
+use Rattle.value_laws.specs.LedgerRunsOutcomes.{went, ended, stray}
+use Rattle.value_laws.specs.LedgerRunsSteps.{began, end, library_went, main_ended, moved, moved_by, returned, returned_by, step, top_move, within}
+use Rattle.value_laws.specs.Heaps.{HasEarlierLinks}
+use Rattle.value_laws.proofs.CallWays.{one_action}
+use Rattle.value_laws.specs.Agreement.{Agree, Agrees, HasMadeClasses, IsMadeAfter, IsMadeBy, Stands, WaitsFor, RunsItself}
+use Rattle.value_laws.specs.PlainForms.{HasPlainForms, MayRun}
+use Rattle.value_laws.specs.Nexts.{IsBack, IsBackStep, IsInnerStep, IsLibraryMove, IsNext, IsNullCall, IsOwningStore, IsPlainStep, IsStartMove}
+use Rattle.value_laws.proofs.Cases.{next_is}
+use Rattle.value_laws.proofs.Returns.{back_is}
+use Rattle.value_laws.specs.Frames.{HaveTargets}
+use Rattle.value_laws.proofs.Ready.{plain_step, step_here}
+use Rattle.value_laws.proofs.Unmet.{call_may, row_of}
+use Rattle.value_laws.specs.Outcomes.{IsCallRow}
+use Rattle.value_laws.specs.Types.{AreCalled, HaveTypes, KeepAll, is_text}
+use Rattle.value_laws.proofs.Moved as typed_moves
+use Rattle.value_laws.proofs.Moved.{IsConstantRead}
+use Rattle.value_laws.specs.FieldContents.{FieldsHold, IsBeingMade, is_new}
+use Rattle.value_laws.specs.PlaceFacts.{AreCovered}
+use Rattle.value_laws.specs.Ranges.{AreInRange, FieldsInRange, LocalsInRange}
 use Rattle.covering_laws.specs.Making.{AreBeingMade, HoldNone, IsUnheld}
 use Rattle.covering_laws.specs.Running.{HasPlainRuns}
-use Rattle.covering_laws.specs.Throws.{ExceptionsAreUnlinked, ThrowsNoNullPointer, EndsByException, TopEndsByException}
+use Rattle.covering_laws.specs.Linking.{LinkedAreAliases}
+use Rattle.covering_laws.specs.Throws.{EndsByException, RaisesExceptions, TopEndsByException, TopRaisesExceptions}
 use Rattle.covering_laws.proofs.BeingMade.{all_apart, apart_from, making_on}
 use Rattle.covering_laws.proofs.EndJoins.{ended_apart, ended_covered, ended_held_before, ended_unfinished}
 use Rattle.covering_laws.proofs.InnerJoins.{plain_covered, plain_held_before, plain_linked, plain_unfinished}
-use Rattle.covering_laws.proofs.LibraryJoins.{library_after_unfinished, library_covered, library_held_before, library_linked}
+use Rattle.covering_laws.proofs.ResetJoins.{left_covered, left_held_before, left_linked, left_unfinished}
 use Rattle.covering_laws.proofs.LocalSteps.{LocalsIn, all_there}
-use Rattle.covering_laws.proofs.Lost.{all_lost, frame_linked, lost_held_before, lost_linked, lost_unfinished, was_there}
+use Rattle.covering_laws.proofs.Lost.{all_lost, are_held, frame_linked, lost_held_before, lost_linked, lost_unfinished, was_there}
 use Rattle.covering_laws.proofs.NullCalls.{null_covered, null_held_before, thrown_linked, thrown_unfinished}
 use Rattle.covering_laws.proofs.StartHeaps.{new_unfinished}
 use Rattle.covering_laws.proofs.StartJoins.{callee_this, start_covered, start_held_before, started_linked, started_unfinished}
 use Rattle.covering_laws.proofs.StoreJoins.{store_held_before, store_linked, store_unfinished, stores_covered}
 use Rattle.covering_laws.proofs.Waiting.{AllHeldBefore, KeepsUnfinished, held_before_further, next_not_held, no_other, none_held_on}
-use Rattle.covering_laws.proofs.LinkedExceptions.{still_unlinked}
-use Rattle.argument_laws.specs.Arguments.{HasArguments, HaveArguments}
+use Rattle.covering_laws.proofs.LinkedExceptions.{still_aliases}
+use Rattle.value_laws.specs.Arguments.{HasArguments, HaveArguments}
+use Rattle.covering_laws.specs.Texts.{HasLightTexts, TextsAreLight}
+use Rattle.covering_laws.proofs.Texts.{texts_are_light}
 
 -- a `new` begins on the next object
 new_self : (l : Locals) (a : Action) (h : HeapContents) → is_new a ≡ true → self_begun l a h ≡ values.Object (next_number h)
@@ -77,13 +79,16 @@ new_self l (actions.New m d n) h new = refl
 new_self l a h new = absurd (true≢false (sym new))
 
 abbrev pub AreKept : Program → Config → Type 0
-AreKept p c = AreCovered p c.heap c.frames × AreBeingMade p c.heap c.frames × ExceptionsAreUnlinked p c.heap
+AreKept p c = AreCovered p c.heap c.frames × AreBeingMade p c.heap c.frames × LinkedAreAliases p c.heap
 
-module _ (p : Program) (ac : Accept p) (forms : HasPlainForms p) (raises : ThrowsNoNullPointer p) (runs : HasPlainRuns p) (names : HasSmallInterests p) (texts : MakesNoString p) (c d : Config) (types : HaveTypes p c) (fr : Frame) (frs : List Frame)
-    (agrees : Agrees p (fr ∷ frs) c.heap c.entries) (targets : HaveTargets p (fr ∷ frs)) (keeps : KeepAll p (fr ∷ frs)) (called : AreCalled p (fr ∷ frs)) (in' : LocalsIn c.heap (fr ∷ frs)) (ranges : FieldsInRange c.heap)
-    (hold : FieldsHold p (fr ∷ frs) c.heap) (making : AreBeingMade p c.heap (fr ∷ frs)) (linked : ExceptionsAreUnlinked p c.heap) (covered : AreCovered p c.heap (fr ∷ frs)) where
+module _ (p : Program) (ac : Accept p) (forms : HasPlainForms p) (runs : HasPlainRuns p) (names : HasSmallInterests p) (texts : HasLightTexts p) (c d : Config) (types : HaveTypes p c) (fr : Frame) (frs : List Frame)
+    (agrees : Agrees p (fr ∷ frs) c.heap c.entries) (targets : HaveTargets p (fr ∷ frs)) (keeps : KeepAll (is_text p c.heap) p (fr ∷ frs)) (called : AreCalled p (fr ∷ frs)) (in' : LocalsIn c.heap (fr ∷ frs)) (ranges : FieldsInRange c.heap)
+    (hold : FieldsHold p (fr ∷ frs) c.heap) (making : AreBeingMade p c.heap (fr ∷ frs)) (linked : LinkedAreAliases p c.heap) (covered : AreCovered p c.heap (fr ∷ frs)) (raises : RaisesExceptions p c.heap fr) where
   abbrev h : HeapContents
   h = c.heap
+
+  light_here : TextsAreLight p c.heap
+  light_here = texts_are_light p ac texts c.heap linked
 
   st : Stands p fr
   st = agrees.standing.0
@@ -98,13 +103,13 @@ module _ (p : Program) (ac : Accept p) (forms : HasPlainForms p) (raises : Throw
   carried x is kept = subst (AreKept p) (let same : x ≡ d = cc in same) kept
 
   -- the top frame goes on as another on the same object, and the heap loses what no place holds
-  goes : (k : HeapContents) (after : Frame) → after.locals.this ≡ fr.locals.this → KeepsUnfinished h k no_other → AllHeldBefore p h k frs → ExceptionsAreUnlinked p k → AreCovered p k (after ∷ frs)
-      → AreCovered p (lose (held_by (after ∷ frs)) k) (after ∷ frs) × AreBeingMade p (lose (held_by (after ∷ frs)) k) (after ∷ frs) × ExceptionsAreUnlinked p (lose (held_by (after ∷ frs)) k)
+  goes : (k : HeapContents) (after : Frame) → after.locals.this ≡ fr.locals.this → KeepsUnfinished h k no_other → AllHeldBefore p h k frs → LinkedAreAliases p k → AreCovered p k (after ∷ frs)
+      → AreCovered p (lose (held_by (after ∷ frs)) k) (after ∷ frs) × AreBeingMade p (lose (held_by (after ∷ frs)) k) (after ∷ frs) × LinkedAreAliases p (lose (held_by (after ∷ frs)) k)
   goes k after same unready before apart all = (
-    all_lost p k (held_by (after ∷ frs)) (after ∷ frs) all,
+    all_lost p k (held_by (after ∷ frs)) (after ∷ frs) (are_held p k (after ∷ frs)) all,
     making_on p h (lose (held_by (after ∷ frs)) k) no_other (lost_unfinished p k (held_by (after ∷ frs)) h no_other unready) fr after frs same in' (all_apart (fr ∷ frs))
         (held_before_further p h k (lose (held_by (after ∷ frs)) k) frs before (lost_held_before p k (held_by (after ∷ frs)) frs)) making,
-    still_unlinked p k (lose (held_by (after ∷ frs)) k) (lost_linked p k (held_by (after ∷ frs))) apart,
+    still_aliases p k (lose (held_by (after ∷ frs)) k) (lost_linked p k (held_by (after ∷ frs))) apart,
   )
 
   -- ---- steps within the frame
@@ -113,14 +118,14 @@ module _ (p : Program) (ac : Accept p) (forms : HasPlainForms p) (raises : Throw
   plain_kept e s i here next =
       goes _
       (frame_after p h fr s (thrown_value h e (made_value p h c.arrays c.statics (next_choice c.choices c.used) fr.locals s.action))) refl
-      (plain_unfinished p ac forms raises texts c types links ranges fr st keeps.0 i s here e next) (plain_held_before p ac forms raises texts c types links ranges fr st keeps.0 i s here e next frs others_in)
-      (plain_linked p ac forms raises texts c types links ranges fr st keeps.0 i s here e next linked) (plain_covered p ac forms raises texts c types links ranges fr st keeps.0 i s here e next frs in' covered)
+      (plain_unfinished p ac forms c texts types links ranges linked fr st keeps.0 raises i s here e next) (plain_held_before p ac forms c texts types links ranges linked fr st keeps.0 raises i s here e next frs others_in)
+      (plain_linked p ac forms c texts types links ranges linked fr st keeps.0 raises i s here e next linked) (plain_covered p ac forms c texts types links ranges linked fr st keeps.0 raises i s here e next frs in' covered)
 
   null_kept : (e : Option ClassId) (s : Step) (i : ℕ) (here : slice_get (frame_steps p fr) i ≡ Some s) → IsNullCall p fr.locals e s → AreKept p (within p c fr frs e s)
   null_kept e s i here next = subst (λ (x : Option ClassId). AreKept p (within p c fr frs x s)) (sym next.thrown)
       (goes (with_exception p p.core.null_pointer_exception h) (frame_after p h fr s (values.Object (next_number h))) refl
       (thrown_unfinished p h links p.core.null_pointer_exception) (null_held_before p ac forms h links ranges fr st i s here e next frs others_in)
-      (still_unlinked p h (with_exception p p.core.null_pointer_exception h) (thrown_linked p h links p.core.null_pointer_exception) linked) (null_covered p ac forms h links ranges fr st i s here e next frs in' covered))
+      (still_aliases p h (with_exception p p.core.null_pointer_exception h) (thrown_linked p h links p.core.null_pointer_exception) linked) (null_covered p ac forms h links ranges fr st i s here e next frs in' covered))
 
   store_kept : (e : Option ClassId) (s : Step) (i : ℕ) (here : slice_get (frame_steps p fr) i ≡ Some s) → IsOwningStore e s → AreKept p (within p c fr frs e s)
   store_kept e s i here next = subst (λ (x : Option ClassId). AreKept p (within p c fr frs x s)) (sym next.normal)
@@ -155,6 +160,9 @@ module _ (p : Program) (ac : Accept p) (forms : HasPlainForms p) (raises : Throw
     abbrev held : List (List Value)
     held = held_by frames
 
+    position : length frames ≡ length (fr ∷ frs) + 1
+    position = omega arith
+
     top : LocalsInRange h fr.locals
     top = All-head (λ (x : Frame). LocalsInRange h x.locals) fr frs in'
 
@@ -162,36 +170,36 @@ module _ (p : Program) (ac : Accept p) (forms : HasPlainForms p) (raises : Throw
     k = began_heap p fr.locals s.action (method_at p named) (length frames) h
 
     later : KeepsUnfinished h (lose held k) no_other
-    later = lost_unfinished p k held h no_other (started_unfinished p ac forms runs texts h links ranges types.fields fr st keeps.0 top covered.0 c.arrays named r a next (length frames))
+    later = lost_unfinished p k held h no_other (started_unfinished p ac forms runs h light_here links ranges types.fields fr frs st keeps.0 top covered.0 covered.2 c.arrays named r a next (length frames) position)
 
     -- the object of a `new` that begins
     begins : IsBeingMade p (lose held k) callee fr
     begins j u w y at new this now =
         let one : u.action ≡ s.action = one_action p st.number fr.control next.index j s u (step_here p fr st next.index s next.here) (step_here p fr st j u at) (call_may s.action (subst IsCallRow (sym next.same) next.row)) in
-        let self : values.Object w ≡ values.Object (next_number h) = sym this ∙ callee_this p ac forms runs texts h links ranges types.fields fr st keeps.0 top covered.0 c.arrays named r a next (length frames)
+        let self : values.Object w ≡ values.Object (next_number h) = sym this ∙ callee_this p ac forms runs h light_here links ranges types.fields fr frs st keeps.0 top covered.0 covered.2 c.arrays named r a next (length frames) position
         ∙ new_self fr.locals s.action h (ap is_new (sym one) ∙ new) in
         let z = was_there p k held w y now in
         z.2.finished ∙ new_unfinished p fr.locals s.action (method_at p named) (length frames) h links z.0 (ap (object_at k) (let number : next_number h ≡ w = cc in number) ∙ z.1)
 
     held_before : AllHeldBefore p h (lose held k) (fr ∷ frs)
     held_before = held_before_further p h k (lose held k) (fr ∷ frs)
-        (start_held_before p ac forms runs texts h links ranges types.fields fr st keeps.0 top covered.0 c.arrays named r a next (length frames) (fr ∷ frs) in') (lost_held_before p k held (fr ∷ frs))
+        (start_held_before p ac forms runs h light_here links ranges types.fields fr frs st keeps.0 top covered.0 covered.2 c.arrays named r a next (length frames) position (fr ∷ frs) in') (lost_held_before p k held (fr ∷ frs))
 
     -- which no frame holds yet
     unheld : IsUnheld p (lose held k) callee fr frs
     unheld j u w at new this =
         let one : u.action ≡ s.action = one_action p st.number fr.control next.index j s u (step_here p fr st next.index s next.here) (step_here p fr st j u at) (call_may s.action (subst IsCallRow (sym next.same) next.row)) in
-        let self : values.Object w ≡ values.Object (next_number h) = sym this ∙ callee_this p ac forms runs texts h links ranges types.fields fr st keeps.0 top covered.0 c.arrays named r a next (length frames)
+        let self : values.Object w ≡ values.Object (next_number h) = sym this ∙ callee_this p ac forms runs h light_here links ranges types.fields fr frs st keeps.0 top covered.0 covered.2 c.arrays named r a next (length frames) position
         ∙ new_self fr.locals s.action h (ap is_new (sym one) ∙ new) in
         subst (λ (n : ℕ). HoldNone p (lose held k) n (fr ∷ frs)) (let number : next_number h ≡ w = cc in number)
         (none_held_on p h (lose held k) (next_number h) (fr ∷ frs) held_before (next_not_held p h links (fr ∷ frs) (all_there p h ranges (fr ∷ frs) in')))
 
     began_kept : AreKept p (began p c fr frs named r a pos)
     began_kept = subst (λ (b : Action). AreKept p (began p c fr frs named r b pos)) next.same (
-      all_lost p k held frames (start_covered p ac forms runs texts h links ranges types.fields fr st keeps.0 top covered.0 c.arrays named r a next (length frames) frs in' covered),
+      all_lost p k held frames (are_held p k frames) (start_covered p ac forms runs h light_here links ranges types.fields fr frs st keeps.0 top covered.0 covered.2 c.arrays named r a next (length frames) position in' covered.1),
       (begins, unheld, making_on p h (lose held k) no_other later fr fr frs refl in' (all_apart (fr ∷ frs)) held_before.1 making),
-      still_unlinked p k (lose held k) (lost_linked p k held)
-          (still_unlinked p h k (started_linked p ac forms runs texts h links ranges types.fields fr st keeps.0 top covered.0 c.arrays named r a next (length frames)) linked),
+      still_aliases p k (lose held k) (lost_linked p k held)
+          (still_aliases p h k (started_linked p ac forms runs h light_here links ranges types.fields fr frs st keeps.0 top covered.0 covered.2 c.arrays named r a next (length frames) position) linked),
     )
 
   -- ---- calls of the library
@@ -201,10 +209,10 @@ module _ (p : Program) (ac : Accept p) (forms : HasPlainForms p) (raises : Throw
   library_kept named m x s next row = subst (λ (z : MethodId). AreKept p (library_went p c fr frs named z x s)) (sym next.same)
       (goes (library_heap p fr.locals s.action (method_at p named) (method_at p named) x (length frs + 1) h)
       (frame_after p h fr s (conduct_value count (method_at p named) (positions fr.locals s.action (next_number h) x) (next_number h) x)) refl
-      (library_after_unfinished p ac forms names h links ranges fr st mine c.arrays named x s named_next (length frs + 1) count hold.leads)
-      (library_held_before p ac forms names h links ranges fr st mine c.arrays named x s named_next (length frs + 1) count hold.leads frs others_in)
-      (library_linked p ac forms names h links ranges fr st mine c.arrays named x s named_next (length frs + 1) count hold.leads linked)
-      (library_covered p ac forms names h links ranges fr st mine c.arrays named x s named_next (length frs + 1) count hold.leads row frs in' covered))
+      (left_unfinished p ac forms names h links ranges fr frs st mine c.arrays named x s named_next count hold.leads)
+      (left_held_before p ac forms names h links ranges fr frs st mine c.arrays named x s named_next count hold.leads frs others_in)
+      (left_linked p ac forms names h links ranges fr frs st mine c.arrays named x s named_next count hold.leads linked)
+      (left_covered p ac forms names h links ranges fr frs st mine c.arrays named x s named_next count hold.leads hold.owning linked row in' covered))
     where
       named_next : IsLibraryMove p h c.arrays fr.locals (frame_steps p fr) named named x s
       named_next = subst (λ (z : MethodId). IsLibraryMove p h c.arrays fr.locals (frame_steps p fr) named z x s) next.same next
@@ -217,10 +225,13 @@ module _ (p : Program) (ac : Accept p) (forms : HasPlainForms p) (raises : Throw
 
 -- ---- ends
 
-module _ (p : Program) (ac : Accept p) (forms : HasPlainForms p) (raises : ThrowsNoNullPointer p) (runs : HasPlainRuns p) (names : HasSmallInterests p) (texts : MakesNoString p) (c d : Config) (fr caller : Frame) (rest : List Frame)
-    (agrees : Agrees p (fr ∷ caller ∷ rest) c.heap c.entries) (targets : HaveTargets p (fr ∷ caller ∷ rest)) (keeps : KeepAll p (fr ∷ caller ∷ rest)) (called : AreCalled p (fr ∷ caller ∷ rest)) (in' : LocalsIn c.heap (fr ∷ caller ∷ rest))
-    (ranges : FieldsInRange c.heap) (hold : FieldsHold p (fr ∷ caller ∷ rest) c.heap) (making : AreBeingMade p c.heap (fr ∷ caller ∷ rest)) (linked : ExceptionsAreUnlinked p c.heap) (covered : AreCovered p c.heap (fr ∷ caller ∷ rest))
+module _ (p : Program) (ac : Accept p) (forms : HasPlainForms p) (runs : HasPlainRuns p) (names : HasSmallInterests p) (texts : HasLightTexts p) (c d : Config) (fr caller : Frame) (rest : List Frame)
+    (agrees : Agrees p (fr ∷ caller ∷ rest) c.heap c.entries) (targets : HaveTargets p (fr ∷ caller ∷ rest)) (keeps : KeepAll (is_text p c.heap) p (fr ∷ caller ∷ rest)) (called : AreCalled p (fr ∷ caller ∷ rest)) (in' : LocalsIn c.heap (fr ∷ caller ∷ rest))
+    (ranges : FieldsInRange c.heap) (hold : FieldsHold p (fr ∷ caller ∷ rest) c.heap) (making : AreBeingMade p c.heap (fr ∷ caller ∷ rest)) (linked : LinkedAreAliases p c.heap) (covered : AreCovered p c.heap (fr ∷ caller ∷ rest))
     (i : ℕ) (s : Step) (q : Completion) (here : slice_get (frame_steps p fr) i ≡ Some s) (is : s.action ≡ actions.End q) (args : HasArguments p caller fr) (exits : EndsByException p c.heap fr) where
+  light_at_end : TextsAreLight p c.heap
+  light_at_end = texts_are_light p ac texts c.heap linked
+
   abbrev e : Option ClassId
   e = exception_class p c.heap (thrown_in fr.locals q)
 
@@ -267,16 +278,16 @@ module _ (p : Program) (ac : Accept p) (forms : HasPlainForms p) (raises : Throw
 
     returned_kept : AreKept p (returned p c fr caller rest pos q e named t)
     returned_kept = (
-      all_lost p ended_heap held_after (after ∷ rest) (ended_covered p ac forms runs names texts c.heap agrees.links linked ranges fr caller agrees.standing.0 below targets.1.0 keeps.0 called.0 hold.dispatched.0 making.0 mine covered.0 i s q here is t named back
-          may makes itself (length rest + 1) args exits hold.leads agrees.ends made_after rest making.1 below_in covered.1),
-      making_on p c.heap (lose held_after ended_heap) apart (lost_unfinished p ended_heap held_after c.heap apart (ended_unfinished p ac forms runs names texts c.heap agrees.links linked ranges fr caller agrees.standing.0 below targets.1.0 keeps.0 called.0 hold.dispatched.0 making.0
-          mine covered.0 i s q here is t named back may makes itself (length rest + 1) args exits hold.leads agrees.ends made_after)) caller after rest refl below_in
+      all_lost p ended_heap held_after (after ∷ rest) (are_held p ended_heap (after ∷ rest)) (ended_covered p ac forms runs names c.heap light_at_end agrees.links linked ranges fr caller rest agrees.standing.0 below targets.1.0 keeps.0 called.0 hold.dispatched.0 making.0 mine covered.0 i s q here is t named back
+          may makes itself args exits hold.leads agrees.ends made_after agrees.classes making.1 below_in agrees.standing.1.1 covered.1 covered.2),
+      making_on p c.heap (lose held_after ended_heap) apart (lost_unfinished p ended_heap held_after c.heap apart (ended_unfinished p ac forms runs names c.heap light_at_end agrees.links linked ranges fr caller rest agrees.standing.0 below targets.1.0 keeps.0 called.0 hold.dispatched.0 making.0
+          mine covered.0 i s q here is t named back may makes itself args exits hold.leads agrees.ends made_after agrees.classes making.1 below_in)) caller after rest refl below_in
           (apart_from apart (caller ∷ rest) (λ w other. hold.fresh.0 back.index t w back.here other.1 other.0))
-          (held_before_further p c.heap ended_heap (lose held_after ended_heap) rest (ended_held_before p ac forms runs names texts c.heap agrees.links linked ranges fr caller agrees.standing.0 below targets.1.0 keeps.0 called.0 hold.dispatched.0 making.0
-          mine covered.0 i s q here is t named back may makes itself (length rest + 1) args exits hold.leads agrees.ends made_after rest making.1 below_in) (lost_held_before p ended_heap held_after rest)) making.2,
-      still_unlinked p ended_heap (lose held_after ended_heap) (lost_linked p ended_heap held_after)
-          (ended_apart p ac forms runs names texts c.heap agrees.links linked ranges fr caller agrees.standing.0 below targets.1.0 keeps.0 called.0 hold.dispatched.0 making.0 mine covered.0 i s q here is t named back may makes itself (length rest + 1) args exits
-          hold.leads agrees.ends made_after),
+          (held_before_further p c.heap ended_heap (lose held_after ended_heap) rest (ended_held_before p ac forms runs names c.heap light_at_end agrees.links linked ranges fr caller rest agrees.standing.0 below targets.1.0 keeps.0 called.0 hold.dispatched.0 making.0
+          mine covered.0 i s q here is t named back may makes itself args exits hold.leads agrees.ends made_after agrees.classes making.1 below_in) (lost_held_before p ended_heap held_after rest)) making.2,
+      still_aliases p ended_heap (lose held_after ended_heap) (lost_linked p ended_heap held_after)
+          (ended_apart p ac forms runs names c.heap light_at_end agrees.links linked ranges fr caller rest agrees.standing.0 below targets.1.0 keeps.0 called.0 hold.dispatched.0 making.0 mine covered.0 i s q here is t named back may makes itself args exits
+          hold.leads agrees.ends made_after agrees.classes making.1 below_in),
     )
 
   back_kept : c.frames ≡ fr ∷ caller ∷ rest → (pos : Pos) (r : Return) → IsBack p (frame_steps p caller) e waits.named r → returned_by p c fr caller rest pos q r ≡ went d → AreKept p d
@@ -284,61 +295,63 @@ module _ (p : Program) (ac : Accept p) (forms : HasPlainForms p) (raises : Throw
       subst (AreKept p) (let one : returned p c fr caller rest pos q x named t ≡ d = cc in one)
       (subst (λ (z : Option ClassId). AreKept p (returned p c fr caller rest pos q z named t)) (sym back.0) (returned_kept pos t named back.1 (subst (λ (z : MethodId). IsBackStep p (frame_steps p caller) e z t) (sym back.1) back.2)))
   back_kept frames pos (StrayBack x at) back same = absurd (let never : stray x at ≡ went d = same in cc)
-  back_kept frames pos NoWay back same = subst (AreKept p) (let one : c ≡ d = cc in one) (subst (λ (gs : List Frame). AreCovered p c.heap gs × AreBeingMade p c.heap gs × ExceptionsAreUnlinked p c.heap) (sym frames) (covered, making, linked))
+  back_kept frames pos NoWay back same = subst (AreKept p) (let one : c ≡ d = cc in one) (subst (λ (gs : List Frame). AreCovered p c.heap gs × AreBeingMade p c.heap gs × LinkedAreAliases p c.heap) (sym frames) (covered, making, linked))
 
 -- ---- all steps
 
-module _ (p : Program) (ac : Accept p) (forms : HasPlainForms p) (raises : ThrowsNoNullPointer p) (runs : HasPlainRuns p) (names : HasSmallInterests p) (texts : MakesNoString p) (c d : Config) (types : HaveTypes p c)
-    (given : (fr caller : Frame) (rest : List Frame) → c.frames ≡ fr ∷ caller ∷ rest → HasArguments p caller fr × EndsByException p c.heap fr) where
-  ended_kept : (fr : Frame) (frs : List Frame) → c.frames ≡ fr ∷ frs → Agrees p (fr ∷ frs) c.heap c.entries → HaveTargets p (fr ∷ frs) → KeepAll p (fr ∷ frs) → AreCalled p (fr ∷ frs) → LocalsIn c.heap (fr ∷ frs) → FieldsInRange c.heap
-      → FieldsHold p (fr ∷ frs) c.heap → AreBeingMade p c.heap (fr ∷ frs) → ExceptionsAreUnlinked p c.heap → AreCovered p c.heap (fr ∷ frs) → (pos : Pos) (q : Completion) (i : ℕ) (s : Step) → slice_get (frame_steps p fr) i ≡ Some s → s.action ≡ actions.End q
+module _ (p : Program) (ac : Accept p) (forms : HasPlainForms p) (runs : HasPlainRuns p) (names : HasSmallInterests p) (texts : HasLightTexts p) (c d : Config) (types : HaveTypes p c)
+    (given : (fr caller : Frame) (rest : List Frame) → c.frames ≡ fr ∷ caller ∷ rest → HasArguments p caller fr × EndsByException p c.heap fr)
+    (raised : (fr : Frame) (frs : List Frame) → c.frames ≡ fr ∷ frs → RaisesExceptions p c.heap fr) where
+  ended_kept : (fr : Frame) (frs : List Frame) → c.frames ≡ fr ∷ frs → Agrees p (fr ∷ frs) c.heap c.entries → HaveTargets p (fr ∷ frs) → KeepAll (is_text p c.heap) p (fr ∷ frs) → AreCalled p (fr ∷ frs) → LocalsIn c.heap (fr ∷ frs) → FieldsInRange c.heap
+      → FieldsHold p (fr ∷ frs) c.heap → AreBeingMade p c.heap (fr ∷ frs) → LinkedAreAliases p c.heap → AreCovered p c.heap (fr ∷ frs) → (pos : Pos) (q : Completion) (i : ℕ) (s : Step) → slice_get (frame_steps p fr) i ≡ Some s → s.action ≡ actions.End q
       → end p c fr frs pos q ≡ went d → AreKept p d
-  ended_kept fr [] frames agrees targets keeps called in' ranges hold making linked covered pos q i s here is same = subst (AreKept p) (let one : main_ended p c fr pos q ≡ d = cc in one) (tt, tt, still_unlinked p c.heap (end_frame 1 c.heap) (frame_linked 1 c.heap) linked)
+  ended_kept fr [] frames agrees targets keeps called in' ranges hold making linked covered pos q i s here is same = subst (AreKept p) (let one : main_ended p c fr pos q ≡ d = cc in one) (tt, tt, still_aliases p c.heap (end_frame 1 c.heap) (frame_linked 1 c.heap) linked)
   ended_kept fr (caller ∷ rest) frames agrees targets keeps called in' ranges hold making linked covered pos q i s here is same =
-      back_kept p ac forms raises runs names texts c d fr caller rest agrees targets keeps called in' ranges hold making linked covered i s q here is (given fr caller rest frames).0 (given fr caller rest frames).1 frames pos
+      back_kept p ac forms runs names texts c d fr caller rest agrees targets keeps called in' ranges hold making linked covered i s q here is (given fr caller rest frames).0 (given fr caller rest frames).1 frames pos
       (return_move p (frame_steps p caller) (exception_class p c.heap (thrown_in fr.locals q)))
       (back_is p caller agrees.standing.1.0 agrees.stacked.0.named agrees.stacked.0.index agrees.stacked.0.step agrees.stacked.0.here agrees.stacked.0.calls (exception_class p c.heap (thrown_in fr.locals q)))
       same
 
-  moved_kept : (fr : Frame) (frs : List Frame) → c.frames ≡ fr ∷ frs → Agrees p (fr ∷ frs) c.heap c.entries → HaveTargets p (fr ∷ frs) → KeepAll p (fr ∷ frs) → AreCalled p (fr ∷ frs) → LocalsIn c.heap (fr ∷ frs) → FieldsInRange c.heap
-      → FieldsHold p (fr ∷ frs) c.heap → AreBeingMade p c.heap (fr ∷ frs) → ExceptionsAreUnlinked p c.heap → AreCovered p c.heap (fr ∷ frs) → (mv : Move) → IsNext p c.heap c.arrays fr.method fr.locals (frame_steps p fr) mv
+  moved_kept : (fr : Frame) (frs : List Frame) → c.frames ≡ fr ∷ frs → Agrees p (fr ∷ frs) c.heap c.entries → HaveTargets p (fr ∷ frs) → KeepAll (is_text p c.heap) p (fr ∷ frs) → AreCalled p (fr ∷ frs) → LocalsIn c.heap (fr ∷ frs) → FieldsInRange c.heap
+      → FieldsHold p (fr ∷ frs) c.heap → AreBeingMade p c.heap (fr ∷ frs) → LinkedAreAliases p c.heap → AreCovered p c.heap (fr ∷ frs) → (mv : Move) → IsNext p c.heap c.arrays fr.method fr.locals (frame_steps p fr) mv
       → typed_moves.IsNext p c.heap c.arrays fr.method fr.locals (frame_steps p fr) mv → moved p c fr frs mv ≡ went d → AreKept p d
   moved_kept fr frs frames agrees targets keeps called in' ranges hold making linked covered (Inner e s) next typed same =
       subst (AreKept p) (let one : within p c fr frs e s ≡ d = cc in one)
-      (inner_kept p ac forms raises runs names texts c d types fr frs agrees targets keeps called in' ranges hold making linked covered e s next.0 next.1 next.2)
+      (inner_kept p ac forms runs names texts c d types fr frs agrees targets keeps called in' ranges hold making linked covered (raised fr frs frames) e s next.0 next.1 next.2)
   moved_kept fr frs frames agrees targets keeps called in' ranges hold making linked covered (Start named r a pos) next typed same =
       subst (AreKept p) (let one : began p c fr frs named r a pos ≡ d = cc in one)
-      (began_kept p ac forms raises runs names texts c d types fr frs agrees targets keeps called in' ranges hold making linked covered named r a pos next)
+      (began_kept p ac forms runs names texts c d types fr frs agrees targets keeps called in' ranges hold making linked covered (raised fr frs frames) named r a pos next)
   moved_kept fr frs frames agrees targets keeps called in' ranges hold making linked covered (Library named m x s) next typed same =
       subst (AreKept p) (let one : library_went p c fr frs named m x s ≡ d = cc in one)
-      (library_kept p ac forms raises runs names texts c d types fr frs agrees targets keeps called in' ranges hold making linked covered named m x s next typed.row)
+      (library_kept p ac forms runs names texts c d types fr frs agrees targets keeps called in' ranges hold making linked covered (raised fr frs frames) named m x s next typed.row)
   moved_kept fr frs frames agrees targets keeps called in' ranges hold making linked covered (End pos q) next typed same =
       ended_kept fr frs frames agrees targets keeps called in' ranges hold making linked covered pos q next.0 next.1 next.2 next.3 same
   moved_kept fr frs frames agrees targets keeps called in' ranges hold making linked covered (Stray e pos) next typed same = absurd (let never : stray e pos ≡ went d = same in cc)
   moved_kept fr frs frames agrees targets keeps called in' ranges hold making linked covered Rest next typed same =
-      subst (AreKept p) (let one : c ≡ d = cc in one) (subst (λ (gs : List Frame). AreCovered p c.heap gs × AreBeingMade p c.heap gs × ExceptionsAreUnlinked p c.heap) (sym frames) (covered, making, linked))
+      subst (AreKept p) (let one : c ≡ d = cc in one) (subst (λ (gs : List Frame). AreCovered p c.heap gs × AreBeingMade p c.heap gs × LinkedAreAliases p c.heap) (sym frames) (covered, making, linked))
 
   -- what comes next, as the laws on types see it
-  typed_next : (fr : Frame) (st : Stands p fr) → typed_moves.IsNext p c.heap c.arrays fr.method fr.locals (frame_steps p fr)
+  typed_next : (fr : Frame) (st : Stands p fr) → HasMadeClasses p c.heap → typed_moves.IsNext p c.heap c.arrays fr.method fr.locals (frame_steps p fr)
       (next_move p c.heap c.arrays (next_choice c.choices c.used) fr.method fr.locals (frame_steps p fr) (standing (slice_get fr.control 0)))
-  typed_next fr st =
+  typed_next fr st made =
       subst (λ (steps : List Step). typed_moves.IsNext p c.heap c.arrays fr.method fr.locals steps (next_move p c.heap c.arrays (next_choice c.choices c.used) fr.method fr.locals steps (standing (slice_get fr.control 0))))
       (sym same)
-      (typed_moves.next_is p st.number fr.control (λ i s here. plain_step p ac forms fr st i s (ap (λ (steps : List Step). slice_get steps i) same ∙ here)) c.heap c.arrays (next_choice c.choices c.used) fr.method fr.locals)
+      (typed_moves.next_is p st.number fr.control (λ i s here. plain_step p ac forms fr st i s (ap (λ (steps : List Step). slice_get steps i) same ∙ here)) c.heap c.arrays (next_choice c.choices c.used) fr.method fr.locals made)
     where
       same : frame_steps p fr ≡ next_of p st.number fr.control
       same = ap (λ (b : Option BodyId). steps_by p b fr.control) st.id
 
-  by_frames : (frs : List Frame) → c.frames ≡ frs → Agrees p frs c.heap c.entries → HaveTargets p frs → KeepAll p frs → AreCalled p frs → LocalsIn c.heap frs → FieldsInRange c.heap → FieldsHold p frs c.heap → AreBeingMade p c.heap frs
-      → ExceptionsAreUnlinked p c.heap → AreCovered p c.heap frs → moved_by p c frs (top_move p c frs) ≡ went d → AreKept p d
+  by_frames : (frs : List Frame) → c.frames ≡ frs → Agrees p frs c.heap c.entries → HaveTargets p frs → KeepAll (is_text p c.heap) p frs → AreCalled p frs → LocalsIn c.heap frs → FieldsInRange c.heap → FieldsHold p frs c.heap → AreBeingMade p c.heap frs
+      → LinkedAreAliases p c.heap → AreCovered p c.heap frs → moved_by p c frs (top_move p c frs) ≡ went d → AreKept p d
   by_frames [] frames agrees targets keeps called in' ranges hold making linked covered same = absurd (let never : ended c.ended ≡ went d = same in cc)
   by_frames (fr ∷ frs) frames agrees targets keeps called in' ranges hold making linked covered same =
-      moved_kept fr frs frames agrees targets keeps called in' ranges hold making linked covered (top_move p c (fr ∷ frs)) (next_is p ac forms c.heap c.arrays (next_choice c.choices c.used) fr agrees.standing.0 targets.0)
-      (typed_next fr agrees.standing.0) same
+      moved_kept fr frs frames agrees targets keeps called in' ranges hold making linked covered (top_move p c (fr ∷ frs)) (next_is p ac forms c.heap c.arrays (next_choice c.choices c.used) fr agrees.standing.0 targets.0 agrees.classes)
+      (typed_next fr agrees.standing.0 agrees.classes) same
 
-pub kept_step : (p : Program) → Accept p → HasPlainForms p → ThrowsNoNullPointer p → HasPlainRuns p → HasSmallInterests p → MakesNoString p → (c d : Config) → Agree p c → HaveTargets p c.frames → HaveTypes p c → AreInRange c
-    → FieldsHold p c.frames c.heap → AreBeingMade p c.heap c.frames → ExceptionsAreUnlinked p c.heap → AreCovered p c.heap c.frames → HaveArguments p c.frames → TopEndsByException p c.heap c.frames → step p c ≡ went d → AreKept p d
+pub kept_step : (p : Program) → Accept p → HasPlainForms p → HasPlainRuns p → HasSmallInterests p → HasLightTexts p → (c d : Config) → Agree p c → HaveTargets p c.frames → HaveTypes p c → AreInRange c
+    → FieldsHold p c.frames c.heap → AreBeingMade p c.heap c.frames → LinkedAreAliases p c.heap → AreCovered p c.heap c.frames → HaveArguments p c.frames → TopEndsByException p c.heap c.frames → TopRaisesExceptions p c.heap c.frames → step p c ≡ went d → AreKept p d
 unfolding step
-kept_step p ac forms raises runs names texts c d agrees targets types ranges fields making linked covered args exits same =
-    by_frames p ac forms raises runs names texts c d types
-    (λ fr caller rest frames. ((subst (λ (gs : List Frame). HaveArguments p gs) frames args).0, subst (λ (gs : List Frame). TopEndsByException p c.heap gs) frames exits)) c.frames refl agrees targets types.frames types.called ranges.frames ranges.fields fields making linked covered same
+kept_step p ac forms runs names texts c d agrees targets types ranges fields making linked covered args exits raises same =
+    by_frames p ac forms runs names texts c d types
+    (λ fr caller rest frames. ((subst (λ (gs : List Frame). HaveArguments p gs) frames args).0, subst (λ (gs : List Frame). TopEndsByException p c.heap gs) frames exits))
+    (λ fr frs frames. subst (λ (gs : List Frame). TopRaisesExceptions p c.heap gs) frames raises) c.frames refl agrees targets types.frames types.called ranges.frames ranges.fields fields making linked covered same

@@ -20,12 +20,13 @@ use Rattle.ledger_state.specs.declared.locals.Locals.{Locals}
 use Rattle.ledger_state.specs.declared.object.Object.{Object}
 use Rattle.ledger_state.specs.declared.object.StoredField.{StoredField}
 use Rattle.ledger_steps.specs.CallSteps.{began_heap}
-use Rattle.program_call_laws.specs.Heaps.{HasEarlierLinks}
-use Rattle.program_call_laws.proofs.Laws.{numbers_are_in_range}
-use Rattle.kept_argument_laws.specs.Ranges.{FieldsInRange, IsStoredInRange}
-use Rattle.program_call_laws.proofs.Begun.{begun_from}
-use Rattle.range_laws.proofs.Growth.{began_grows}
+use Rattle.value_laws.specs.Heaps.{HasEarlierLinks}
+use Rattle.value_laws.proofs.HeapLaws.{numbers_are_in_range}
+use Rattle.value_laws.specs.Ranges.{FieldsInRange, IsStoredInRange}
+use Rattle.value_laws.proofs.Begun.{begun_from}
+use Rattle.value_laws.proofs.Growth.{began_grows}
 use Rattle.covering_laws.proofs.MadeObjects.{grown_fields}
+use Rattle.covering_laws.proofs.StartOwners.{start_keeps_library}
 use Rattle.covering_laws.proofs.Waiting.{Carries, KeepsFields, KeepsRoots, KeepsUnfinished, carried_roots, no_other}
 use Rattle.covering_laws.proofs.LinkedExceptions.{LinkedWere}
 
@@ -36,7 +37,7 @@ module _ (p : Program) (l : Locals) (a : Action) (named : Option Method) (j : �
   pub start_carries : Carries h begun
   start_carries n y at below = elim (begun_from p l a named j h links n y at) [
     | inl new ↦ absurd (let number = new.number in omega (arith, number, below))
-    | inr old ↦ (old.before, old.at, old.goes_on.class, (λ done. old.goes_on))
+    | inr old ↦ (old.before, old.at, old.goes_on.class, (λ done. (old.goes_on, λ library. start_keeps_library p l a named j h links n old.before y old.at at done library)))
   ]
 
   pub start_roots : KeepsRoots h begun

@@ -1,8 +1,8 @@
 -- A call of a method of the program begins a frame: what its places hold is in facts of the body's entry.
 use Rattle.std.specs.Prelude.{◌-◌, ◌<◌, ◌||◌, ◌&&◌, not, replicate, if◌then◌else◌}
 use Rattle.std.specs.FinSet as set
-use Rattle.std.proofs.Common.{◌≡◌, ◌⊎◌, inl, inr, ℕ, zero, suc, ◌+◌, ◌≤◌, Bool, true, false, not, Option, Some, None, List, [], ◌∷◌, ◌++◌, length, IsSomeAnd, slice_get, nat_le, nat_lt, refl, sym, ap, ◌∙◌, subst, true≢false, eqb-true, eq-eqb, arith}
-use Rattle.std.proofs.lemmas.Bool.{and_parts}
+use Rattle.std.proofs.Common.{◌≡◌, ◌⊎◌, inl, inr, ℕ, zero, suc, ◌+◌, ◌≤◌, Bool, true, false, not, Option, Some, None, List, [], ◌∷◌, ◌++◌, length, IsSomeAnd, slice_get, nat_le, nat_lt, refl, sym, ap, ◌∙◌, subst, true≢false, eqb-true, eq-eqb, ltb-false, ltb-true, arith}
+use Rattle.std.proofs.lemmas.Bool.{and_from, and_parts, or_left, or_right}
 use Rattle.std.proofs.lemmas.Bool.Decides.{nat_tests}
 use Rattle.std.proofs.lemmas.List.FromFn.{length-map-range_with_len}
 use Rattle.std.proofs.lemmas.Option.{slice_get-get_or, slice_get_within}
@@ -26,78 +26,89 @@ use Rattle.program_model.specs.Lookups.{field_at, method_at}
 use Rattle.program_model.specs.Overrides.{is_type}
 use Rattle.program_model.specs.SuperTests.{is_class}
 use Rattle.program_model.specs.Validity.{HasParameters, IsBodyOf, is_class_type}
-use Rattle.value_type_laws.specs.OverrideCases.{differ}
-use Rattle.program_conditions.specs.Conditions.{MakesNoString}
-use Rattle.value_type_laws.specs.Bodies.{alias_in, constructs, fields_in, fields_of, fields_of_method, has_field_place, is_class_of, is_constructor_kind, is_field_in, method_in, method_of}
-use Rattle.value_type_laws.specs.MustCallSets.{Names, is_empty, is_heavy_class, must_of, must_of_optional, must_of_type, no_names}
-use Rattle.value_type_laws.specs.Signatures.{is_present, type_of_field}
-use Rattle.java_control.specs.Calls.{called_method, operand_at, temp_at}
+use Rattle.ledger_obligations.specs.OverrideCases.{differ}
+use Rattle.ledger_obligations.specs.Bodies.{alias_in, constructs, fields_in, fields_of, fields_of_method, has_field_place, is_class_of, is_constructor_kind, is_field_in, method_in, method_of}
+use Rattle.ledger_obligations.specs.MustCallSets.{Names, is_empty, is_heavy_class, must_of, must_of_optional, must_of_type, no_names}
+use Rattle.ownership_rules.specs.Signatures.{is_present, type_of_field}
+use Rattle.java_control.specs.Calls.{called_method, temp_at}
 use Rattle.java_control.specs.Control.{Step}
 use Rattle.java_control.specs.Owned.{is_owning_field}
 use Rattle.java_control.specs.declared.action.Action.{Action}
 use Rattle.java_control.specs.declared.action.Action.TheVariants as actions
 use Rattle.java_control.specs.declared.action.TargetForm.{TargetForm}
 use Rattle.java_control.specs.declared.action.TargetForm.TheVariants as forms
+use Rattle.java_control.specs.PlaceNumbers.{IsSmall}
+use Rattle.java_control.specs.declared.fact.Fact.{Fact}
 use Rattle.java_control.specs.declared.fact.Mode.{Mode}
 use Rattle.java_control.specs.declared.fact.Mode.TheVariants as modes
 use Rattle.java_control.specs.declared.fact.Origin.{Origin}
 use Rattle.java_control.specs.declared.fact.OriginKind.TheVariants as kinds
 use Rattle.java_control.specs.declared.place.Place.{Place}
 use Rattle.java_control.specs.declared.place.Place.TheVariants as places
-use Rattle.target_laws.specs.Callees.{callee_in}
-use Rattle.target_laws.specs.Facts.{has_temp, is_held, is_own}
-use Rattle.target_laws.specs.SmallActions.{IsSmallAction, IsSmallTemp}
-use Rattle.target_laws.proofs.SmallOperands.{operand_has_room}
+use Rattle.ownership_rules.specs.Callees.{callee, callee_in}
+use Rattle.ownership_rules.specs.Facts.{has, has_temp, is_held, is_own}
+use Rattle.ownership_rules.specs.SmallActions.{IsSmallAction}
 use Rattle.ownership_rules.specs.Births.{births_at_entry, fact_at, field_birth, has_this, origin_of, owning_field_birth, parameter_mode, this_birth, this_mode}
-use Rattle.flow_rules.specs.Paths.{move_of}
-use Rattle.target_laws.specs.Accept.{Accept}
+use Rattle.value_laws.specs.Paths.{move_of}
+use Rattle.value_laws.specs.Accept.{Accept}
 use Rattle.ledger_state.specs.Contents.{HeapContents}
 use Rattle.ledger_state.specs.Fields.{field_of, field_value}
 use Rattle.ledger_state.specs.Heaps.{next_number, object_at, root_of}
 use Rattle.ledger_state.specs.Locals.{temp_in, temp_value, variable_value}
 use Rattle.ledger_state.specs.Values.{number_of, value_or_nothing}
 use Rattle.ledger_state.specs.declared.array.ArrayObject.{ArrayObject}
+use Rattle.ledger_state.specs.declared.entry.Owner.{Owner}
+use Rattle.ledger_state.specs.declared.entry.Owner.TheVariants as owners
 use Rattle.ledger_state.specs.declared.locals.Locals.{Locals}
+use Rattle.ledger_obligations.specs.Obligations.{may_move}
 use Rattle.ledger_state.specs.declared.object.Object.{Object}
 use Rattle.ledger_state.specs.declared.value.Value.{Value}
 use Rattle.ledger_state.specs.declared.value.Value.TheVariants as values
-use Rattle.program_call_laws.specs.Places.{field_place_value, owning_field_beside}
-use Rattle.program_call_laws.specs.Calls.{argument_values, begun, body_of, control_in, operand_of, params_in, running, variable_count}
-use Rattle.program_call_laws.specs.Configuration.{Frame}
-use Rattle.target_laws.specs.Choosing.{frame_steps}
+use Rattle.value_laws.specs.Places.{field_place_value, owning_field_beside, place_value}
+use Rattle.ledger_steps.specs.LedgerCallsCalls.{argument_values, begun, body_of, control_in, operand_of, params_in, running, variable_count}
+use Rattle.value_laws.specs.Configuration.{Frame}
+use Rattle.value_laws.specs.Choosing.{frame_steps}
 use Rattle.ledger_steps.specs.CallSteps.{began_heap, self_begun}
-use Rattle.program_call_laws.specs.Heaps.{HasEarlierLinks}
-use Rattle.field_place_laws.proofs.FieldPlaces.{IsBeside, place_of_beside}
-use Rattle.tracking_laws.specs.Naming.{IsOfItsKind}
-use Rattle.tracking_laws.proofs.Reached.{names_what_is_there}
-use Rattle.tracking_laws.specs.Outcomes.{IsCallRow}
-use Rattle.tracking_laws.specs.Agreement.{Stands}
-use Rattle.tracking_laws.specs.PlainForms.{HasPlainForms, IsPlainAction, calls_constructor, is_lent_parameter}
-use Rattle.range_laws.specs.Nexts.{IsStartMove}
-use Rattle.operand_source_laws.specs.Operands as operand_types
-use Rattle.operand_source_laws.specs.Operands.{NoObject}
-use Rattle.tracking_laws.proofs.Entries.{HasBegun, argument_at, has_begun, same_count}
-use Rattle.tracking_laws.proofs.Ready.{plain_step, ready, step_there}
-use Rattle.tracking_laws.proofs.Unmet.{way_of_call}
-use Rattle.value_type_laws.specs.Types.{KeepsTypes, StoredHoldNone}
-use Rattle.value_type_laws.proofs.Fields.{field_is_none}
-use Rattle.value_type_laws.proofs.Laws.{argument_is_no_object}
-use Rattle.kept_argument_laws.specs.PlaceFacts.{AreCovered, Covers, IsCovered, IsTrueOf, claims, fits_field, fits_in, is_heavy_field, is_heavy_in, makes_alone, may_owe, is_lent}
-use Rattle.kept_argument_laws.proofs.HeavyFields.{claims_alone, claims_owned}
-use Rattle.kept_argument_laws.proofs.KeptFacts.{parameter_unheld}
-use Rattle.kept_argument_laws.specs.Ranges.{FieldsInRange, IsInRange, IsNumber, LocalsInRange}
-use Rattle.range_laws.proofs.Values.{field_in_range, operand_in_range}
+use Rattle.value_laws.specs.Heaps.{HasEarlierLinks, IsGiven}
+use Rattle.value_laws.proofs.Begun.{begun_from, begun_given}
+use Rattle.value_laws.proofs.FieldPlaces.{IsBeside, place_of_beside}
+use Rattle.value_laws.specs.Naming.{IsOfItsKind}
+use Rattle.value_laws.proofs.NamedReached.{names_what_is_there}
+use Rattle.value_laws.specs.Outcomes.{IsCallRow}
+use Rattle.value_laws.specs.Agreement.{Stands}
+use Rattle.value_laws.specs.PlainForms.{HasPlainForms, IsPlainAction, calls_constructor, is_lent_parameter}
+use Rattle.value_laws.specs.Nexts.{IsStartMove}
+use Rattle.value_laws.specs.Operands as operand_types
+use Rattle.value_laws.specs.Operands.{NoObject}
+use Rattle.value_laws.proofs.Entries.{HasBegun, argument_at, has_begun, same_count}
+use Rattle.value_laws.proofs.Ready.{plain_step, ready, step_there}
+use Rattle.value_laws.proofs.Unmet.{way_of_call}
+use Rattle.value_laws.specs.Types.{KeepsTypes, StoredHoldNone, is_text}
+use Rattle.value_laws.proofs.ValueTypeFields.{field_is_none}
+use Rattle.value_laws.proofs.ValueTypeLaws.{argument_is_no_object}
+use Rattle.value_laws.specs.PlaceFacts.{AreCovered, AreWaiting, Covers, IsCovered, IsKeyed, IsTrueOf, IsUnowned, OwnersBelow, claims, fits_field, fits_in, gives_none, is_apart, is_content, is_field_of, is_frame_below, is_frame_from, is_given, is_heavy_field, is_heavy_in, is_lent, is_owning_fact, makes_alone, may_owe, owned, unowned}
+use Rattle.covering_laws.proofs.HeavyFields.{claims_alone, claims_owned, owning_claims}
+use Rattle.value_laws.proofs.KeptFacts.{parameter_unheld}
+use Rattle.value_laws.specs.Ranges.{FieldsInRange, IsInRange, IsNumber, LocalsInRange}
+use Rattle.value_laws.proofs.RangeValues.{field_in_range, operand_in_range}
 use Rattle.covering_laws.specs.Running.{HasPlainRuns, is_on_object}
 use Rattle.covering_laws.proofs.Bodies.{body_is_of_program}
 use Rattle.covering_laws.proofs.BegunFrames.{entered_covers, parameter_born}
 use Rattle.covering_laws.proofs.EntryBirths.{alike_parameter, argument_or_nothing, of_field, of_parameter, of_this, same_mark}
-use Rattle.covering_laws.proofs.GivenArguments.{given_is_true}
+use Rattle.covering_laws.proofs.GivenArguments.{away_owner, given_is_true, given_owner, operand_may_move, operand_owned, two_operands}
+use Rattle.covering_laws.proofs.GivenAway.{given_at_step, given_taken, moved_given, step_gives, taken_given}
+use Rattle.covering_laws.proofs.CallResults.{born_unowned}
+use Rattle.covering_laws.proofs.Gifts.{all_keep_gifts}
+use Rattle.covering_laws.proofs.Owners.{KeepsOwners, OwnersGo, owners_kept, stays_apart}
+use Rattle.covering_laws.proofs.OwnerSteps.{below_not_from, own_frame}
+use Rattle.covering_laws.proofs.StartOwners.{below_further, start_below, start_owner, start_owners_go}
 use Rattle.covering_laws.proofs.LocalSteps.{LocalsIn, all_there}
 use Rattle.covering_laws.proofs.StartHeaps.{new_holds_nothing, start_carries, start_keeps, start_linked, start_roots, start_unfinished}
 use Rattle.covering_laws.proofs.Waiting.{AllHeldBefore, IsCarried, KeepsRoots, KeepsUnfinished, all_held_before, all_keep, all_wait, frames_ready, no_other, numbered, owed_before, value_root}
 use Rattle.covering_laws.proofs.KnownNames.{operand_temp}
 use Rattle.covering_laws.proofs.LinkedExceptions.{LinkedWere}
 use Rattle.covering_laws.proofs.BornTruths.{field_unlent}
+use Rattle.covering_laws.specs.Texts.{TextsAreLight}
 
 -- ---- words
 
@@ -182,9 +193,9 @@ not_back : (b : Bool) → not b ≡ true → b ≡ false
 not_back true is = absurd (true≢false (sym is))
 not_back false is = refl
 
-module _ (p : Program) (ac : Accept p) (forms' : HasPlainForms p) (plain : HasPlainRuns p) (texts : MakesNoString p) (h : HeapContents) (links : HasEarlierLinks h) (ranges : FieldsInRange h) (stored : StoredHoldNone p h)
-    (fr : Frame) (st : Stands p fr) (keeps : KeepsTypes p fr) (in' : LocalsInRange h fr.locals) (covered : IsCovered p h fr) (arrays : List ArrayObject) (named runs : MethodId) (a : Action)
-    (next : IsStartMove p h arrays fr.locals (frame_steps p fr) named runs a) (j : ℕ) where
+module _ (p : Program) (ac : Accept p) (forms' : HasPlainForms p) (plain : HasPlainRuns p) (h : HeapContents) (texts : TextsAreLight p h) (links : HasEarlierLinks h) (ranges : FieldsInRange h) (stored : StoredHoldNone (is_text p h) p h)
+    (fr : Frame) (frs : List Frame) (st : Stands p fr) (keeps : KeepsTypes (is_text p h) p fr) (in' : LocalsInRange h fr.locals) (covered : IsCovered p h gives_none frs fr) (low : OwnersBelow h (length frs + 1)) (arrays : List ArrayObject) (named runs : MethodId) (a : Action)
+    (next : IsStartMove p h arrays fr.locals (frame_steps p fr) named runs a) (j : ℕ) (position : j ≡ length (fr ∷ frs) + 1) where
   abbrev s : Step
   s = next.step
 
@@ -259,8 +270,93 @@ module _ (p : Program) (ac : Accept p) (forms' : HasPlainForms p) (plain : HasPl
   root_before : (v : Value) (o : ℕ) → IsInRange h v → root_of K v ≡ Some o → root_of h v ≡ Some o
   root_before v o there root = sym (value_root h K roots v there) ∙ root
 
+  -- the frames below the one that begins
+  abbrev stack : List Frame
+  stack = fr ∷ frs
+
+  same_callee : callee p s.action ≡ method_at p named
+  same_callee = ap (callee_in p) calls'
+
+  -- ---- what is given away
+
+  -- what moves to the callee is given away by the caller
+  gave : (o : ℕ) (x : Object) → IsGiven p (operand_of l s.action) 1 (params_in (method_at p named)) h o x → is_given p K fr o x.class ≡ true
+  gave o x g =
+      let t = given_taken p h l s.action o x.class (moved_given p h l s.action (method_at p named) o x same_callee g) in
+      step_gives p K fr next.index s o x.class next.here
+      (taken_given p K l s.action o x.class t.0 t.2.index t.2.param t.1 t.2.at t.2.owning t.2.fit
+      (value_root h K roots (operand_of l s.action (t.2.index + 1)) (operand_in_range h l in' s.action (t.2.index + 1))
+      ∙ ap (λ (k : ℕ). root_of h (operand_of l s.action k)) (let same : t.2.index + 1 ≡ 0 + t.2.index + 1 = omega arith in same) ∙ t.2.root))
+
+  -- what it was not given no frame from the callee's position on owns
+  not_given : (o : ℕ) (y : Object) → object_at K o ≡ Some y → y.finished ≡ true → is_given p K fr o y.class ≡ false → is_frame_from (length stack + 1) y.owner ≡ false
+  not_given o y at done none = elim (begun_from p l s.action (method_at p named) j h links o y at) [
+    | inl new ↦ absurd (true≢false (sym done ∙ new.unfinished))
+    | inr old ↦ elim (start_owner p l s.action (method_at p named) j h links o old.before y old.at at) [
+      | inl same ↦ ap (is_frame_from (length stack + 1)) same
+          ∙ ap (λ (n : ℕ). is_frame_from n old.before.owner) (let number : length stack + 1 ≡ length frs + 1 + 1 = omega arith in number) ∙ low o old.before old.at
+      | inr given ↦ absurd (true≢false (sym (ap (is_given p K fr o) old.goes_on.class ∙ gave o old.before given.1) ∙ none))
+    ]
+  ]
+
+  field_below : (v : Value) (n : ℕ) (w : Owner) → is_field_of v w ≡ true → is_frame_from n w ≡ false
+  field_below (values.Object k) n (owners.Field u f) is = refl
+  field_below (values.Object k) n (owners.Frame i) is = absurd (true≢false (sym is))
+  field_below (values.Object k) n owners.Library is = refl
+  field_below (values.Object k) n owners.Released is = refl
+  field_below (values.Object k) n owners.Lost is = refl
+  field_below (values.Object k) n owners.Unowned is = refl
+  field_below v n w is = absurd (true≢false (sym is))
+
+  -- nor what a field of `this` holds
+  apart_below : (o : ℕ) (y : Object) (f : Fact) → object_at K o ≡ Some y → (is_held f.mode ≡ true → makes_alone (method_at p begun_frame.method) ≡ true → ⊥) → y.finished ≡ true → is_apart p K stack begun_frame o y f ≡ true
+      → is_frame_from (length stack + 1) y.owner ≡ false
+  apart_below o y f at alone done apart = go (is_given p K fr o y.class) refl
+    where
+      content : is_content p begun_frame y.owner f ≡ true → is_frame_from (length stack + 1) y.owner ≡ false
+      content is' = by (makes_alone (method_at p begun_frame.method)) refl parts.1
+        where
+          parts : (is_held f.mode ≡ true) × ((makes_alone (method_at p begun_frame.method) || not (constructs (method_at p begun_frame.method)) && is_field_of begun_frame.locals.this y.owner) ≡ true)
+          parts = and_parts (is_held f.mode) (makes_alone (method_at p begun_frame.method) || not (constructs (method_at p begun_frame.method)) && is_field_of begun_frame.locals.this y.owner) is'
+
+          by : (b : Bool) → makes_alone (method_at p begun_frame.method) ≡ b → (b || not (constructs (method_at p begun_frame.method)) && is_field_of begun_frame.locals.this y.owner) ≡ true → is_frame_from (length stack + 1) y.owner ≡ false
+          by true made one = absurd (alone parts.0 made)
+          by false made one = field_below begun_frame.locals.this (length stack + 1) y.owner (and_parts (not (constructs (method_at p begun_frame.method))) (is_field_of begun_frame.locals.this y.owner) one).1
+
+      go : (b : Bool) → is_given p K fr o y.class ≡ b → is_frame_from (length stack + 1) y.owner ≡ false
+      go false none = not_given o y at done none
+      go true some = split (is_frame_below (length stack + 1) y.owner) refl (sym (ap (λ (b : Bool). not b || is_content p begun_frame y.owner f || is_frame_below (length stack + 1) y.owner) some) ∙ apart)
+        where
+          first : (a b : Bool) → b ≡ false → (a || b) ≡ true → a ≡ true
+          first true b off one = refl
+          first false b off one = absurd (true≢false (sym one ∙ off))
+
+          split : (b : Bool) → is_frame_below (length stack + 1) y.owner ≡ b → (is_content p begun_frame y.owner f || is_frame_below (length stack + 1) y.owner) ≡ true → is_frame_from (length stack + 1) y.owner ≡ false
+          split true low' one = below_not_from (length stack + 1) y.owner low'
+          split false high one = content (first (is_content p begun_frame y.owner f) (is_frame_below (length stack + 1) y.owner) high one)
+
+  -- ---- the places of the frame that begins
+
+  -- an owning parameter of a type that has an obligation takes the object that the place holds
+  abbrev TakesAt : Place → ℕ → Type 0
+  TakesAt q o = (i : ℕ) × (q ≡ places.Var i) × (x : ParamSig) × (slice_get next.method.sig.params.items i ≡ Some x) × (x.owning ≡ true) × (not (is_empty (must_of_optional p (Some x.vtype))) ≡ true)
+      × (root_of h (operand_of l s.action (i + 1)) ≡ Some o)
+
+  -- the place is in a fact that says that the frame owns the object, which was an argument, or in one that does not say so
   abbrev Covered : Place → ℕ → Object → Type 0
-  Covered q o y = Covers p K begun_frame q o y
+  Covered q o y =
+      ((c : Covers p K false stack begun_frame o y) × (has c.fact.places q ≡ true) × (is_owning_fact p c.origin c.fact ≡ true) × TakesAt q o) ⊎ IsUnowned p K false stack begun_frame q o y
+
+  unowned_born : (q : Place) (o : ℕ) (y : Object) (g : Origin) (f : Fact) → (c : Covers p K false stack begun_frame o y) × (has c.fact.places q ≡ true) × (c.origin ≡ g) × (c.fact ≡ f) → (is_owning_fact p g f ≡ true → ⊥) → Covered q o y
+  unowned_born q o y g f c none = inr (born_unowned p K stack begun_frame q o y g f c (go (is_owning_fact p g f) refl))
+    where
+      go : (b : Bool) → is_owning_fact p g f ≡ b → is_owning_fact p g f ≡ false
+      go true is' = absurd (none is')
+      go false is' = is'
+
+  -- a fact in another mode does not say so
+  not_owning : (g : Origin) (f : Fact) → (is_own f.mode || is_held f.mode) ≡ false → is_owning_fact p g f ≡ true → ⊥
+  not_owning g f none is' = true≢false (sym (or_left (is_own f.mode) (is_held f.mode) (and_parts (is_heavy_class p g.class) (is_own f.mode) is').1) ∙ none)
 
   -- ---- parameters
 
@@ -306,8 +402,11 @@ module _ (p : Program) (ac : Accept p) (forms' : HasPlainForms p) (plain : HasPl
             let n = parameter_born p begun'.stands.body run.sig 0 i i run.sig.params.items like.0 var.0 c (omega arith) like.1 var.1 type' in
             of_parameter p begun'.stands.number begun'.stands.body run begun'.stands.at own_method n.0 ((origin_of p (kinds.Param i) var.0.pos c None), fact_at (places.Var i) (parameter_mode run.sig (i + 1) like.0) like.0.before true) n.1
 
-        covers : (claims p (method_at p begun_frame.method) (origin_of p (kinds.Param i) var.0.pos c None) (fact_at (places.Var i) (parameter_mode run.sig (i + 1) like.0) like.0.before true) ≡ true → IsTrueOf p y (origin_of p (kinds.Param i) var.0.pos c None) (fact_at (places.Var i) (parameter_mode run.sig (i + 1) like.0) like.0.before true)) → Covered (places.Var i) o y
-        covers truth = entered_covers p K begun_frame begun'.stands begun'.starts (places.Var i) o y (origin_of p (kinds.Param i) var.0.pos c None) (parameter_mode run.sig (i + 1) like.0) like.0.before true birth.0 room birth.1 root truth lent'
+        covers : (claims p (method_at p begun_frame.method) (origin_of p (kinds.Param i) var.0.pos c None) (fact_at (places.Var i) (parameter_mode run.sig (i + 1) like.0) like.0.before true) ≡ true → IsTrueOf p y (origin_of p (kinds.Param i) var.0.pos c None) (fact_at (places.Var i) (parameter_mode run.sig (i + 1) like.0) like.0.before true))
+            → (z : Covers p K false stack begun_frame o y) × (has z.fact.places (places.Var i) ≡ true) × (z.origin ≡ (origin_of p (kinds.Param i) var.0.pos c None)) × (z.fact ≡ (fact_at (places.Var i) (parameter_mode run.sig (i + 1) like.0) like.0.before true))
+        covers truth = entered_covers p K begun_frame begun'.stands begun'.starts stack (places.Var i) o y (origin_of p (kinds.Param i) var.0.pos c None) (parameter_mode run.sig (i + 1) like.0) like.0.before true birth.0 room birth.1 root truth lent'
+            (λ held. absurd (true≢false (sym held ∙ parameter_unheld run.sig (i + 1) like.0)))
+            (apart_below o y (fact_at (places.Var i) (parameter_mode run.sig (i + 1) like.0) like.0.before true) at (λ held. absurd (true≢false (sym held ∙ parameter_unheld run.sig (i + 1) like.0))))
             (λ held. absurd (true≢false (sym held ∙ parameter_unheld run.sig (i + 1) like.0)))
             (λ k same claimed. absurd (let never : places.Var i ≡ places.Field k = same in cc)) (λ k same heavy'. absurd (let never : places.Var i ≡ places.Field k = same in cc))
           where
@@ -321,29 +420,40 @@ module _ (p : Program) (ac : Accept p) (forms' : HasPlainForms p) (plain : HasPl
                 let first = and_parts (not like.0.owning) (is_empty like.0.before) parts.0 in
                 (rw (not_back like.0.owning first.0) (lent_or_none _ _), ap (λ (t : VType). not (is_empty (must_of_type p t))) (sym type') ∙ parts.1, first.1)
 
-        -- the temp of the argument, and what covers it in the caller
-        temp : (n : ℕ) × (operand_at s.action (i + 1) ≡ Some n) × (operand_of l s.action (i + 1) ≡ temp_value l n)
-        temp = operand_temp l s.action (i + 1) h o operand_root
-
-        temp_room : temp.0 < 64
-        temp_room = subst IsSmallTemp temp.1 (operand_has_room p s.action (i + 1) small)
-
-        cover : Covers p h fr (places.Temp temp.0) o carried.0
-        cover = covered (places.Temp temp.0) o carried.0 temp_room (ap (root_of h) (sym temp.2) ∙ operand_root) carried.1 (ap (is_heavy_class p) (sym carried.2) ∙ heavy) (owed_before carried.0 y carried.3 owes)
-
+        -- what covers the argument in the caller says that the caller owns it
         given : like.0.owning ≡ true → is_heavy_class p c ≡ true → IsTrueOf p y (origin_of p (kinds.Param i) var.0.pos c None) (fact_at (places.Var i) modes.Own like.0.before true)
         given owning heavy' =
-            given_is_true p ac h fr st next.index s next.here row (places.Temp temp.0) o carried.0 y cover next.method i param.0 (ap (callee_in p) calls' ∙ next.named_at) param_at
-            (same_mark like.0.owning param.0.owning like.3 owning) (ap (has_temp cover.fact.places) temp.1 ∙ cover.here) c type heavy' carried.3 (kinds.Param i) var.0.pos (places.Var i) like.0.before
+            let owning' = same_mark like.0.owning param.0.owning like.3 owning in
+            let cover = operand_owned p ac h fr st frs next.index s next.here row covered o carried.0 carried.1 (ap (is_heavy_class p) (sym carried.2) ∙ heavy) (owed_before carried.0 y carried.3 owes) next.method i param.0
+            (same_callee ∙ next.named_at) param_at owning' operand_root (subst (λ (t : VType). not (is_empty (must_of_optional p (Some t))) ≡ true) (sym type) heavy') in
+            given_is_true p ac h fr st frs next.index s next.here row o carried.0 y cover.0 next.method i param.0 (same_callee ∙ next.named_at) param_at owning'
+            (ap (has_temp cover.0.fact.places) (operand_temp l s.action (i + 1) h o operand_root).1 ∙ cover.1) c type heavy' (λ done. (carried.3 done).0) (kinds.Param i) var.0.pos (places.Var i) like.0.before
             (next.fit.asks i like.0 param.0 like.1 param_at)
 
+        owned_by : (b : Bool) → is_heavy_class p c ≡ b → like.0.owning ≡ true → Covered (places.Var i) o y
+        owned_by true heavy' owning =
+            let z = covers (subst (λ (m : Mode). claims p (method_at p begun_frame.method) (origin_of p (kinds.Param i) var.0.pos c None) (fact_at (places.Var i) m like.0.before true) ≡ true → IsTrueOf p y (origin_of p (kinds.Param i) var.0.pos c None) (fact_at (places.Var i) m like.0.before true)) (sym (rw owning refl))
+            (λ claimed. given owning heavy')) in
+            inl (
+              z.0,
+              z.1,
+              ap (λ (u : Origin). is_owning_fact p u z.0.fact) z.2 ∙ ap (is_owning_fact p (origin_of p (kinds.Param i) var.0.pos c None)) z.3 ∙ and_from (is_heavy_class p c) (is_own (parameter_mode run.sig (i + 1) like.0)) heavy' (rw owning refl),
+              (i, refl, param.0, param_at, same_mark like.0.owning param.0.owning like.3 owning, subst (λ (t : VType). not (is_empty (must_of_optional p (Some t))) ≡ true) (sym type) heavy', operand_root),
+            )
+        owned_by false light owning = unowned_born (places.Var i) o y (origin_of p (kinds.Param i) var.0.pos c None) (fact_at (places.Var i) (parameter_mode run.sig (i + 1) like.0) like.0.before true)
+            (covers (λ claimed. absurd (true≢false (sym (claims_owned p (method_at p begun_frame.method) (origin_of p (kinds.Param i) var.0.pos c None) (fact_at (places.Var i) (parameter_mode run.sig (i + 1) like.0) like.0.before true) claimed).0 ∙ light))))
+            (λ is'. true≢false (sym (and_parts (is_heavy_class p c) (is_own (parameter_mode run.sig (i + 1) like.0)) is').0 ∙ light))
+
         by : (b : Bool) → like.0.owning ≡ b → Covered (places.Var i) o y
-        by true owning = covers (subst (λ (m : Mode). claims p (method_at p begun_frame.method) (origin_of p (kinds.Param i) var.0.pos c None) (fact_at (places.Var i) m like.0.before true) ≡ true → IsTrueOf p y (origin_of p (kinds.Param i) var.0.pos c None) (fact_at (places.Var i) m like.0.before true)) (sym (rw owning refl))
-            (λ claimed. given owning (and_parts (is_heavy_class p c) true claimed).0))
-        by false other = covers (λ claimed. absurd (unclaimed_mode p (method_at p begun_frame.method) (origin_of p (kinds.Param i) var.0.pos c None) (places.Var i) (parameter_mode run.sig (i + 1) like.0) like.0.before true (rw other (lent_or_none _ _)) claimed))
+        by true owning = owned_by (is_heavy_class p c) refl owning
+        by false other = unowned_born (places.Var i) o y (origin_of p (kinds.Param i) var.0.pos c None) (fact_at (places.Var i) (parameter_mode run.sig (i + 1) like.0) like.0.before true)
+            (covers (λ claimed. absurd (unclaimed_mode p (method_at p begun_frame.method) (origin_of p (kinds.Param i) var.0.pos c None) (places.Var i) (parameter_mode run.sig (i + 1) like.0) like.0.before true (rw other (lent_or_none _ _)) claimed)))
+            (not_owning (origin_of p (kinds.Param i) var.0.pos c None) (fact_at (places.Var i) (parameter_mode run.sig (i + 1) like.0) like.0.before true) (rw other (lent_or_none _ _)))
 
     of_none : is_class_type param.0.vtype ≡ false → ⊥
-    of_none none = no_number h (operand_of l s.action (i + 1)) o (argument_is_no_object p ac texts fr keeps next.index s named i param.0 next.here calls' param.1 none) operand_root
+    of_none none =
+        true≢false (sym (ap (is_heavy_class p) (sym carried.2) ∙ heavy)
+        ∙ texts (operand_of l s.action (i + 1)) o carried.0 (argument_is_no_object (is_text p h) p ac fr keeps next.index s named i param.0 next.here calls' param.1 none) operand_root carried.1)
 
     variable_covered : Covered (places.Var i) o y
     variable_covered = by param.0.vtype refl
@@ -379,16 +489,21 @@ module _ (p : Program) (ac : Accept p) (forms' : HasPlainForms p) (plain : HasPl
       go (actions.Call m d n forms.Other) it is' = inl (instance m d n forms.Other it refl)
       go b it is' = absurd (subst IsCallRow it row)
 
-  this_covered : (o : ℕ) (y : Object) → root_of K begun_frame.locals.this ≡ Some o → Covered places.This o y
-  this_covered o y root =
+  this_covered : (o : ℕ) (y : Object) → root_of K begun_frame.locals.this ≡ Some o → object_at K o ≡ Some y → Covered places.This o y
+  this_covered o y root at =
       let w = object_value K self o (ap (root_of K) (sym begun'.this) ∙ root) in
       let born = this_born p run (elim (kind_by w.0 w.1) [ inl one ↦ ap has_this one | inr new ↦ ap has_this new ]) in
       let g : Origin = origin_of p kinds.ThisRef run.pos run.class None in
       let n = of_this p begun'.stands.number begun'.stands.body run begun'.stands.at own_method (g, fact_at places.This (this_mode run.sig run.kind) no_names true) born in
-      entered_covers p K begun_frame begun'.stands begun'.starts places.This o y g (this_mode run.sig run.kind) no_names true n.0 tt n.1 root
+      unowned_born places.This o y g (fact_at places.This (this_mode run.sig run.kind) no_names true)
+      (entered_covers p K begun_frame begun'.stands begun'.starts stack places.This o y g (this_mode run.sig run.kind) no_names true n.0 tt n.1 root
       (λ claimed. absurd (unclaimed_mode p (method_at p begun_frame.method) g places.This (this_mode run.sig run.kind) no_names true (this_unowned run.sig run.kind) claimed))
       (λ lent. (this_unowned run.sig run.kind, ap (λ (m : Option Method). is_lent p m kinds.ThisRef) (sym (ap (method_at p) begun'.method ∙ begun'.named)) ∙ lent, within_self no_names)) (λ held. within_self no_names)
-      (λ k same claimed. absurd (let never : places.This ≡ places.Field k = same in cc)) (λ k same heavy'. absurd (let never : places.This ≡ places.Field k = same in cc))
+      (apart_below o y (fact_at places.This (this_mode run.sig run.kind) no_names true) at
+      (λ held. absurd (true≢false (sym (or_right (is_own (this_mode run.sig run.kind)) (is_held (this_mode run.sig run.kind)) held) ∙ this_unowned run.sig run.kind))))
+      (λ held. absurd (true≢false (sym (or_right (is_own (this_mode run.sig run.kind)) (is_held (this_mode run.sig run.kind)) held) ∙ this_unowned run.sig run.kind)))
+      (λ k same claimed. absurd (let never : places.This ≡ places.Field k = same in cc)) (λ k same heavy'. absurd (let never : places.This ≡ places.Field k = same in cc)))
+      (not_owning g (fact_at places.This (this_mode run.sig run.kind) no_names true) (this_unowned run.sig run.kind))
 
   -- ---- owning fields of `this`
 
@@ -450,10 +565,13 @@ module _ (p : Program) (ac : Accept p) (forms' : HasPlainForms p) (plain : HasPl
         ∙ slice_get-get_or field.holder.fields.items field.among'.0 f field.among'.1 ∙ ap Some field.among'.2
 
     of_field_class : (c : ClassId) → field.field.vtype ≡ types.Obj c → Covered (places.Field n) o y
-    of_field_class c type = entered_covers p K begun_frame begun'.stands begun'.starts (places.Field n) o y (origin_of p (kinds.FieldAt f) field.field.pos c None) modes.Held no_names true birth.0 room birth.1
+    of_field_class c type = unowned_born (places.Field n) o y (origin_of p (kinds.FieldAt f) field.field.pos c None) (fact_at (places.Field n) modes.Held no_names true)
+        (entered_covers p K begun_frame begun'.stands begun'.starts stack (places.Field n) o y (origin_of p (kinds.FieldAt f) field.field.pos c None) modes.Held no_names true birth.0 room birth.1
         (ap (λ (x : Option FieldId). root_of K (field_place_value p K begun_frame.locals.this x)) beside ∙ root) (λ claimed. absurd (unmade (claims_alone p (method_at p begun_frame.method) (origin_of p (kinds.FieldAt f) field.field.pos c None) (fact_at (places.Field n) modes.Held no_names true) refl claimed)))
         (λ lent. absurd (true≢false (sym lent ∙ field_unlent p f (method_at p begun_frame.method)))) (λ held. within_self no_names)
-        (λ k same wide. subst (λ (j : ℕ). fits_field p begun_frame.method j c ≡ true) (let is : places.Field n ≡ places.Field k = same in (let one : n ≡ k = cc in one)) fits_here) (λ k same heavy'. (refl, sym heavy_here ∙ heavy'))
+        (apart_below o y (fact_at (places.Field n) modes.Held no_names true) at (λ held. unmade)) (λ held. unmade)
+        (λ k same wide. subst (λ (j : ℕ). fits_field p begun_frame.method j c ≡ true) (let is : places.Field n ≡ places.Field k = same in (let one : n ≡ k = cc in one)) fits_here) (λ k same heavy'. (refl, sym heavy_here ∙ heavy')))
+        (λ is'. true≢false (sym (and_parts (is_heavy_class p c) false is').1))
       where
         born : field_birth p begun'.stands.number None f ≡ Some ((origin_of p (kinds.FieldAt f) field.field.pos c None), fact_at (places.Field n) modes.Held no_names true)
         born = ap (λ (b : Bool). if b then owning_field_birth p f None (field_at p f) else None) has_place ∙ ap (owning_field_birth p f None) field.at
@@ -477,7 +595,12 @@ module _ (p : Program) (ac : Accept p) (forms' : HasPlainForms p) (plain : HasPl
             true≢false (sym makes ∙ ap constructs (ap (method_at p) begun'.method ∙ begun'.named) ∙ ap is_constructor_kind is_instance)
 
     of_no_class : is_class_type field.field.vtype ≡ false → ⊥
-    of_no_class none = no_number h (field_value p h w f) o (field_is_none p h w f stored (subst (λ (x : Option Field). NoObject (operand_types.type_of_field x)) (sym field.at) none)) held_root
+    of_no_class none =
+        true≢false (sym (ap (is_heavy_class p) (sym held_before.2) ∙ heavy)
+        ∙ texts (field_value p h w f) o held_before.0 (field_is_none (is_text p h) p h w f stored (subst (λ (x : Option Field). NoObject (operand_types.type_of_field x)) (sym field.at) none)) held_root held_before.1)
+      where
+        held_before : IsCarried h o y
+        held_before = was (field_value p h w f) o y held_root (numbered h links (field_value p h w f) o held_root (field_in_range p h ranges (values.Object w) f)) at
 
     field_covered : Covered (places.Field n) o y
     field_covered = by field.field.vtype refl
@@ -491,26 +614,78 @@ module _ (p : Program) (ac : Accept p) (forms' : HasPlainForms p) (plain : HasPl
 
   -- ---- all places
 
-  callee_covered : IsCovered p K begun_frame
-  callee_covered (places.Var i) o y room root at heavy owes =
+  placed : (q : Place) (o : ℕ) (y : Object) → IsSmall q → root_of K (place_value p K begun_frame.method begun_frame.locals q) ≡ Some o → object_at K o ≡ Some y → is_heavy_class p y.class ≡ true → may_owe y ≡ true → Covered q o y
+  placed (places.Var i) o y room root at heavy owes =
       let rest : ℕ = variable_count p (body_of (method_at p runs)) - length arguments in
       let is : variable_value begun_frame.locals i ≡ value_or_nothing (slice_get (arguments ++ replicate rest values.Nothing) i) = ap (λ (x : Locals). variable_value x i) locals_are in
       elim (argument_or_nothing arguments rest i) [
         | inl arg ↦ variable_covered i o y room root at heavy owes (value_or_nothing (slice_get (arguments ++ replicate rest values.Nothing) i)) arg is
         | inr none ↦ absurd (let never : None ≡ Some o = ap (root_of K) (sym (is ∙ none)) ∙ root in cc)
       ]
-  callee_covered (places.Temp d) o y room root at heavy owes = absurd (no_temp d o (ap (λ (x : Locals). root_of K (temp_value x d)) (sym locals_are) ∙ root))
+  placed (places.Temp d) o y room root at heavy owes = absurd (no_temp d o (ap (λ (x : Locals). root_of K (temp_value x d)) (sym locals_are) ∙ root))
     where
       no_temp : (k o' : ℕ) → root_of K (value_or_nothing (slice_get [] k)) ≡ Some o' → ⊥
       no_temp zero o' is = let never : None ≡ Some o' = is in cc
       no_temp (suc k) o' is = let never : None ≡ Some o' = is in cc
-  callee_covered places.This o y room root at heavy owes = this_covered o y root
-  callee_covered (places.Field n) o y room root at heavy owes = go (owning_field_beside p begun_frame.method n) refl root
+  placed places.This o y room root at heavy owes = this_covered o y root at
+  placed (places.Field n) o y room root at heavy owes = go (owning_field_beside p begun_frame.method n) refl root
     where
       go : (x : Option FieldId) → owning_field_beside p begun_frame.method n ≡ x → root_of K (field_place_value p K begun_frame.locals.this x) ≡ Some o → Covered (places.Field n) o y
       go None is root' = absurd (let never : None ≡ Some o = root' in cc)
       go (Some f) is root' = field_covered n o y room at heavy owes f is root'
-  callee_covered places.Super o y room root at heavy owes = absurd (let never : None ≡ Some o = root in cc)
+  placed places.Super o y room root at heavy owes = absurd (let never : None ≡ Some o = root in cc)
+
+  -- no two owning parameters take the same object
+  not_twice : (q r : Place) (o : ℕ) (y : Object) → object_at K o ≡ Some y → is_heavy_class p y.class ≡ true → may_owe y ≡ true → TakesAt q o → TakesAt r o → q ≡ r
+  not_twice q r o y at heavy owes (i, q_is, x, x_at, x_owns, x_heavy, x_root) (i', r_is, z, z_at, z_owns, z_heavy, z_root) = by (lt_or i i')
+    where
+      old : IsCarried h o y
+      old = was (operand_of l s.action (i + 1)) o y x_root (numbered h links (operand_of l s.action (i + 1)) o x_root (operand_in_range h l in' s.action (i + 1))) at
+
+      never : (m n : ℕ) (u w : ParamSig) → m < n → slice_get next.method.sig.params.items m ≡ Some u → slice_get next.method.sig.params.items n ≡ Some w → u.owning ≡ true → w.owning ≡ true
+          → not (is_empty (must_of_optional p (Some u.vtype))) ≡ true → not (is_empty (must_of_optional p (Some w.vtype))) ≡ true → root_of h (operand_of l s.action (m + 1)) ≡ Some o → root_of h (operand_of l s.action (n + 1)) ≡ Some o → ⊥
+      never m n u w less u_at w_at u_owns w_owns u_heavy w_heavy u_root w_root =
+          two_operands p ac h fr st frs next.index s next.here row covered o old.0 old.1 (ap (is_heavy_class p) (sym old.2) ∙ heavy) (owed_before old.0 y old.3 owes) next.method m n u w less (same_callee ∙ next.named_at) u_at w_at u_owns w_owns
+          u_heavy w_heavy u_root w_root
+
+      lt_or : (m n : ℕ) → (m < n) ⊎ ((n < m) ⊎ (m ≡ n))
+      lt_or m n = go (nat_lt m n) refl (nat_lt n m) refl
+        where
+          go : (b : Bool) → nat_lt m n ≡ b → (d : Bool) → nat_lt n m ≡ d → (m < n) ⊎ ((n < m) ⊎ (m ≡ n))
+          go true e d e' = inl (ltb-true m n e)
+          go false e true e' = inr (inl (ltb-true n m e'))
+          go false e false e' = let low' = ltb-false m n e in let high = ltb-false n m e' in inr (inr (omega (arith, low', high)))
+
+      by : (i < i') ⊎ ((i' < i) ⊎ (i ≡ i')) → q ≡ r
+      by (inl less) = absurd (never i i' x z less x_at z_at x_owns z_owns x_heavy z_heavy x_root z_root)
+      by (inr (inl less)) = absurd (never i' i z x less z_at x_at z_owns x_owns z_heavy x_heavy z_root x_root)
+      by (inr (inr same)) = q_is ∙ ap places.Var same ∙ sym r_is
+
+  -- what a parameter takes is the callee's
+  taken_owner : (q : Place) (o : ℕ) (y : Object) → object_at K o ≡ Some y → is_heavy_class p y.class ≡ true → may_owe y ≡ true → TakesAt q o → (g : Origin) (f : Fact) → IsTrueOf p y g f → y.owner ≡ owners.Frame (length stack + 1)
+  taken_owner q o y at heavy owes (i, q_is, x, x_at, x_owns, x_heavy, x_root) g f truth =
+      begun_given p l s.action (method_at p named) j h links i x o old.0 y (ap (λ (m : Option Method). slice_get (params_in m) i) next.named_at ∙ x_at) x_owns
+      (ap (λ (k : ℕ). root_of h (operand_of l s.action k)) (let same : 1 + i ≡ i + 1 = omega arith in same) ∙ x_root) old.1 may at ∙ ap owners.Frame position
+    where
+      old : IsCarried h o y
+      old = was (operand_of l s.action (i + 1)) o y x_root (numbered h links (operand_of l s.action (i + 1)) o x_root (operand_in_range h l in' s.action (i + 1))) at
+
+      may : may_move p x.vtype old.0 ≡ true
+      may = operand_may_move p ac h fr st frs next.index s next.here row covered o old.0 old.1 (ap (is_heavy_class p) (sym old.2) ∙ heavy) (owed_before old.0 y old.3 owes) next.method i x (same_callee ∙ next.named_at) x_at x_owns x_root x_heavy
+
+  callee_covered : IsCovered p K gives_none stack begun_frame
+  callee_covered q o y small' root at heavy owes = by (placed q o y small' root at heavy owes)
+    where
+      by : Covered q o y → IsKeyed p K false stack begun_frame q o y
+      by (inr u) = unowned u
+      by (inl (c, here', owning, takes)) = owned c here' (record {
+        owning = owning;
+        owner = λ mine. taken_owner q o y at heavy owes takes c.origin c.fact (c.true' (owning_claims p (method_at p begun_frame.method) c.origin c.fact owning) refl);
+        others = λ r small'' root'. elim (placed r o y small'' root' at heavy owes) [
+          | inl d ↦ inl (subst (λ (u : Place). has c.fact.places u ≡ true) (not_twice q r o y at heavy owes takes d.3) here')
+          | inr u ↦ inr u
+        ];
+      })
 
   pub callee_this : begun_frame.locals.this ≡ self
   callee_this = begun'.this
@@ -521,12 +696,79 @@ module _ (p : Program) (ac : Accept p) (forms' : HasPlainForms p) (plain : HasPl
   pub started_unfinished : KeepsUnfinished h K no_other
   started_unfinished = start_unfinished p l s.action (method_at p named) j h links
 
-  pub start_covered : (frs : List Frame) → LocalsIn h (fr ∷ frs) → AreCovered p h (fr ∷ frs) → AreCovered p K (begun_frame ∷ fr ∷ frs)
-  start_covered frs all covered' = (
+  -- ---- the caller, which waits
+
+  -- what is known of an object is not given away
+  known_kept : (o : ℕ) (x : Object) → object_at h o ≡ Some x → is_heavy_class p x.class ≡ true → may_owe x ≡ true → is_frame_from (length frs + 1) x.owner ≡ false → is_given p h fr o x.class ≡ false
+  known_kept o x there heavy owes apart = go (is_given p h fr o x.class) refl
+    where
+      go : (b : Bool) → is_given p h fr o x.class ≡ b → is_given p h fr o x.class ≡ false
+      go false none = none
+      go true some =
+          let gives = given_at_step p h fr st next.index s o x.class next.here row some in
+          let owner = away_owner p ac h fr st frs next.index s next.here row covered o x there heavy owes gives in
+          absurd (true≢false (sym (own_frame (length frs + 1) x.owner owner) ∙ apart))
+
+  module _ (o : ℕ) (x : Object) (there : object_at h o ≡ Some x) (heavy : is_heavy_class p x.class ≡ true) (owes : may_owe x ≡ true) where
+    abbrev away : Bool
+    away = is_given p h fr o x.class
+
+    waiting : Covers p h false frs fr o x → Covers p h away frs fr o x
+    waiting c = record {
+      body = c.body;
+      id = c.id;
+      origin = c.origin;
+      fact = c.fact;
+      reached = c.reached;
+      alone = c.alone;
+      places = c.places;
+      true' = λ claimed spared. c.true' claimed refl;
+      free = c.free;
+      lent = c.lent;
+      known = λ done tells apart. (let known = c.known done tells apart in (known_kept o x there heavy owes known.1, known.1, known.2));
+      fields = c.fields;
+      held = c.held;
+    }
+
+    unowned_waits : (q : Place) → IsUnowned p h false frs fr q o x → IsUnowned p h away frs fr q o x
+    unfolding waiting
+    unowned_waits q u = record { covers = waiting u.covers; here = u.here; unowned = u.unowned }
+
+    keyed_waits : (q : Place) → IsKeyed p h false frs fr q o x → IsKeyed p h away frs fr q o x
+    unfolding waiting
+    keyed_waits q (unowned u) = unowned (unowned_waits q u)
+    keyed_waits q (owned c here' own) = owned (waiting c) here' (record {
+      owning = own.owning;
+      owner = λ spared. own.owner refl;
+      others = λ r small' root'. elim (own.others r small' root') [ inl in'' ↦ inl in'' | inr u ↦ inr (unowned_waits r u) ];
+    })
+
+  caller_waits : IsCovered p h (is_given p h fr) frs fr
+  caller_waits q o x small' root at heavy owes = keyed_waits o x at heavy owes q (covered q o x small' root at heavy owes)
+
+  -- ---- who owns what
+
+  goes : OwnersGo p None (length frs + 1) h K
+  goes = start_owners_go p l s.action (method_at p named) j h links None (length frs + 1) (omega (arith, position)) (given_owner p ac h fr st frs next.index s next.here row covered (method_at p named) same_callee)
+
+  caller_keeps : KeepsOwners p h K (is_given p h fr) (length frs + 1) fr
+  caller_keeps = record {
+    own = λ q o x y small' part root before now done heavy spared mine. elim (start_owner p l s.action (method_at p named) j h links o x y before now) [
+      | inl same ↦ same ∙ mine
+      | inr given ↦ absurd (true≢false (sym (step_gives p h fr next.index s o x.class next.here (moved_given p h l s.action (method_at p named) o x same_callee given.1)) ∙ spared))
+    ];
+    others = stays_apart p None (length frs + 1) h K goes (length frs + 1) fr (omega arith) (λ w is this. absurd (let never : None ≡ Some w = is in cc));
+  }
+
+  pub start_covered : LocalsIn h (fr ∷ frs) → AreWaiting p h frs → AreCovered p K (begun_frame ∷ fr ∷ frs)
+  start_covered all waits = (
     callee_covered,
     all_wait p h K links roots (start_carries p l s.action (method_at p named) j h links) (fr ∷ frs) (all_keep p h K (start_keeps p l s.action (method_at p named) j h links) (fr ∷ frs))
-        (all_there p h ranges (fr ∷ frs) all) (frames_ready p h K started_unfinished (fr ∷ frs)) covered',
+        (all_there p h ranges (fr ∷ frs) all) (frames_ready p h K started_unfinished (fr ∷ frs)) (all_keep_gifts p h K roots (fr ∷ frs) all)
+        (caller_keeps, owners_kept p None (length frs + 1) h K goes frs (omega arith) tt) (caller_waits, waits),
+    subst (OwnersBelow K) position (start_below p l s.action (method_at p named) j h links (λ o x at. ap (λ (n : ℕ). is_frame_from n x.owner) (let number : j + 1 ≡ length frs + 1 + 1 + 1 = omega (arith, position) in number)
+        ∙ below_further h (length frs + 1) low o x at)),
   )
 
-  pub start_held_before : (frs : List Frame) → LocalsIn h frs → AllHeldBefore p h K frs
-  start_held_before frs all = all_held_before p h K roots frs (all_keep p h K (start_keeps p l s.action (method_at p named) j h links) frs) (all_there p h ranges frs all)
+  pub start_held_before : (rest : List Frame) → LocalsIn h rest → AllHeldBefore p h K rest
+  start_held_before rest all = all_held_before p h K roots rest (all_keep p h K (start_keeps p l s.action (method_at p named) j h links) rest) (all_there p h ranges rest all)

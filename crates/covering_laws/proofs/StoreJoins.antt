@@ -1,53 +1,92 @@
 -- The top frame, a constructor, stores into an owning field of the object that its `new` makes.
-use Rattle.std.specs.Prelude.{◌&&◌}
-use Rattle.std.proofs.Common.{◌≡◌, ℕ, Bool, true, false, Option, Some, None, List, [], ◌∷◌, slice_get, refl, sym, ap, ◌∙◌, subst, true≢false}
+use Rattle.std.specs.Prelude.{◌&&◌, is_some, not}
+use Rattle.std.specs.FinSet as set
+use Rattle.std.proofs.Common.{◌≡◌, ◌⊎◌, inl, inr, ℕ, suc, ◌+◌, ◌<◌, Bool, true, false, Option, Some, None, List, [], ◌∷◌, length, slice_get, eq-eqb, refl, sym, ap, ◌∙◌, subst, true≢false, arith}
+use Rattle.std.proofs.lemmas.Bool.{and_from, and_parts}
 use Rattle.std.proofs.lemmas.List.Elements.{All-head, All-tail}
 use Rattle.program_model.specs.declared.kinds.ClassId.{ClassId}
 use Rattle.program_model.specs.declared.kinds.FieldId.{FieldId}
 use Rattle.program_model.specs.declared.kinds.MethodId.{MethodId}
 use Rattle.program_model.specs.declared.program.Field.{Field}
+use Rattle.program_model.specs.declared.program.Method.{Method}
 use Rattle.program_model.specs.declared.program.Program.{Program}
 use Rattle.program_model.specs.Lookups.{field_at, method_at}
-use Rattle.value_type_laws.specs.Bodies.{constructs, is_class_of, is_field_in, method_in, method_of}
+use Rattle.ledger_obligations.specs.Bodies.{alias_in, alias_position, constructs, is_class_of, is_constructor, is_constructor_kind, is_field_in, method_in, method_of}
+use Rattle.ledger_obligations.specs.MustCallSets.{fits_type, is_heavy_class, must_of, must_of_optional, must_of_type}
+use Rattle.ownership_rules.specs.Signatures.{field_type, is_present, type_of_field}
 use Rattle.java_control.specs.Calls.{called_method}
 use Rattle.java_control.specs.Control.{Step}
 use Rattle.java_control.specs.Owned.{is_owning, is_owning_field}
 use Rattle.java_control.specs.declared.action.Action.{Action}
+use Rattle.java_control.specs.declared.place.Place.TheVariants as places
 use Rattle.java_control.specs.declared.action.Action.TheVariants as actions
-use Rattle.flow_rules.specs.Paths.{move_of}
-use Rattle.target_laws.specs.Accept.{Accept}
+use Rattle.value_laws.specs.Paths.{move_of}
+use Rattle.value_laws.specs.Accept.{Accept}
 use Rattle.ledger_state.specs.Contents.{HeapContents}
 use Rattle.ledger_state.specs.Fields.{field_of}
-use Rattle.ledger_state.specs.Heaps.{object_at, unfinished}
-use Rattle.ledger_state.specs.Locals.{temp_value}
+use Rattle.ledger_state.specs.Heaps.{object_at, root_of, same_root, unfinished}
+use Rattle.ledger_state.specs.Locals.{temp_value, variable_value}
+use Rattle.ledger_state.specs.declared.entry.Owner.{Owner}
+use Rattle.ledger_state.specs.declared.entry.Owner.TheVariants as owners
+use Rattle.ledger_state.specs.declared.locals.Locals.{Locals}
 use Rattle.ledger_state.specs.Values.{number_of}
 use Rattle.ledger_state.specs.declared.object.Object.{Object}
 use Rattle.ledger_state.specs.declared.value.Value.{Value}
 use Rattle.ledger_state.specs.declared.value.Value.TheVariants as values
-use Rattle.ledger_obligations.specs.Obligations.{finished_in, resets_holder, stored_owning}
-use Rattle.program_call_laws.specs.Configuration.{Frame}
-use Rattle.target_laws.specs.Choosing.{frame_steps}
-use Rattle.target_laws.specs.Frames.{frame_after}
-use Rattle.ledger_steps.specs.InnerSteps.{heap_stored, is_bound, store_into, store_of, store_unless, thrown_heap}
-use Rattle.program_call_laws.specs.Heaps.{HasEarlierLinks}
-use Rattle.tracking_laws.specs.Naming.{IsOfItsKind}
-use Rattle.tracking_laws.proofs.Reached.{names_what_is_there}
-use Rattle.tracking_laws.specs.Outcomes.{IsCallRow}
-use Rattle.tracking_laws.specs.Agreement.{AllStand, IsCalledFrom, IsMadeBy, RunsItself, Stands}
-use Rattle.tracking_laws.specs.PlainForms.{HasPlainForms, IsPlainSignature, calls_constructor}
-use Rattle.store_laws.proofs.Fields.{holds_here, holds_other}
-use Rattle.store_laws.proofs.Objects.{stored_back, stored_forward, stored_goes_on, unfinished_stays}
-use Rattle.tracking_laws.proofs.Chains.{object_there}
-use Rattle.tracking_laws.proofs.Ready.{plain_call, plain_step, step_there}
-use Rattle.kept_argument_laws.specs.FieldContents.{DeclaresOwning, FieldsHold}
-use Rattle.kept_argument_laws.specs.PlaceFacts.{AreCovered, IsCovered}
-use Rattle.kept_argument_laws.specs.Ranges.{FieldsInRange, LocalsInRange}
-use Rattle.covering_laws.specs.Throws.{ExceptionsAreUnlinked}
+use Rattle.ledger_obligations.specs.Obligations as obligations
+use Rattle.ledger_obligations.specs.Obligations.{finished_in, is_library_owner, may_move, resets_holder, stored_owning, with_owner}
+use Rattle.ledger_steps.specs.LedgerCallsCalls as ledger_calls
+use Rattle.ledger_steps.specs.LedgerCallsCalls.{object_by}
+use Rattle.value_laws.specs.Configuration.{Frame}
+use Rattle.value_laws.specs.Choosing.{frame_steps}
+use Rattle.value_laws.specs.Frames.{frame_after}
+use Rattle.ledger_steps.specs.InnerSteps.{heap_stored, is_bound, parameter, root_of_number, store_into, store_of, store_unless, thrown_heap}
+use Rattle.value_laws.specs.Heaps.{HasEarlierLinks}
+use Rattle.value_laws.specs.Naming.{IsOfItsKind}
+use Rattle.value_laws.proofs.NamedReached.{names_what_is_there}
+use Rattle.value_laws.specs.Outcomes.{IsCallRow}
+use Rattle.value_laws.specs.Agreement.{AllStand, IsCalledFrom, IsMadeBy, RunsItself, Stands}
+use Rattle.value_laws.specs.PlainForms.{HasPlainForms, IsPlainSignature, calls_constructor}
+use Rattle.value_laws.proofs.Fields.{holds_here, holds_other}
+use Rattle.value_laws.proofs.StoredObjects.{bound_back, stored_back, stored_forward, stored_goes_on, stored_takes, unfinished_stays}
+use Rattle.value_laws.specs.Stores.{IsMovedIn, IsStored}
+use Rattle.value_laws.proofs.Chains.{object_there}
+use Rattle.value_laws.proofs.Ready.{plain_call, plain_step, step_there}
+use Rattle.value_laws.specs.FieldContents.{DeclaresOwning, FieldsHold}
+use Rattle.value_laws.specs.PlaceFacts.{AreCovered, IsCovered, IsKeyed, gives_none, is_frame_from, is_heavy_in, may_owe, owned, unowned}
+use Rattle.covering_laws.proofs.HeavyFields.{heavy_by_fit}
+use Rattle.covering_laws.proofs.KeptArguments.{argument_alone}
+use Rattle.covering_laws.proofs.Storing.{small}
+use Rattle.value_laws.specs.Ranges.{FieldsInRange, LocalsInRange}
+use Rattle.covering_laws.specs.Linking.{LinkedAreAliases}
 use Rattle.covering_laws.proofs.LocalSteps.{LocalsIn, all_there, holds_there}
-use Rattle.covering_laws.proofs.StoreSteps.{ArgumentIsLent, others_stay, store_covered}
-use Rattle.covering_laws.proofs.Bodies.{argument_is_lent}
+use Rattle.covering_laws.proofs.Gifts.{all_keep_gifts}
+use Rattle.covering_laws.proofs.Owners.{AllKeepGifts, OwnersGo, StaysApart, constructor_apart, from_frame, given_kept, owners_kept}
+use Rattle.covering_laws.proofs.StoreOwners.{store_below, store_keeps_library, store_owners_go}
+use Rattle.covering_laws.proofs.StoreSteps.{ArgumentIsLent, FieldTakes, OwnerStays, others_stay, store_covered, temp_is_taken}
+use Rattle.covering_laws.proofs.Bodies.{aliased_parameter, argument_is_lent}
 use Rattle.covering_laws.proofs.Waiting.{AllHeldBefore, AllKeep, Carries, KeepsRoots, KeepsUnfinished, all_held_before, all_ready, all_wait, frames_ready, linked_roots, no_other}
-use Rattle.covering_laws.proofs.LinkedExceptions.{LinkedWere, still_unlinked}
+use Rattle.covering_laws.proofs.LinkedExceptions.{LinkedWere, still_aliases}
+
+number_root : (h : HeapContents) (v : Value) → root_of_number h (number_of v) ≡ root_of h v
+number_root h values.Nothing = refl
+number_root h (values.Object k) = refl
+number_root h v = refl
+
+all_true : (a b c : Bool) → a ≡ true → b ≡ true → c ≡ true → (a && b && c) ≡ true
+all_true true true true x y z = refl
+all_true false b c x y z = absurd (true≢false (sym x))
+all_true true false c x y z = absurd (true≢false (sym y))
+all_true true true false x y z = absurd (true≢false (sym z))
+
+-- the value that has the root of the aliased argument is bound
+bound_when : (h : HeapContents) (m : Option Method) (l : Locals) (u : Value) (v o : ℕ) → constructs m ≡ true → alias_in m ≡ Some (suc v) → root_of h u ≡ Some o → root_of h (variable_value l v) ≡ Some o
+    → is_bound h m l u ≡ true
+bound_when h None l u v o new alias held argument = absurd (true≢false (sym new))
+bound_when h (Some m) l u v o new alias held argument =
+    all_true (is_constructor_kind m.kind) (is_some m.sig.alias) (same_root (root_of h u) (root_of_number h (object_by (parameter l) m.sig.alias))) new (ap is_some alias)
+    (ap (λ (k : Option ℕ). same_root (root_of h u) (root_of_number h (object_by (parameter l) k))) alias ∙ ap (λ (r : Option ℕ). same_root r (root_of_number h (number_of (variable_value l v)))) held
+    ∙ ap (same_root (Some o)) (number_root h (variable_value l v) ∙ argument) ∙ eq-eqb o o refl)
 
 -- a constructor that runs for a `new`: `this` is the object, and its signature is plain
 pub record RunsForNew (p : Program) (h : HeapContents) (fr : Frame) : Type 0 where
@@ -142,8 +181,14 @@ module _ (p : Program) (ac : Accept p) (forms : HasPlainForms p) (h : HeapConten
   still : resets_holder p h w f bound (field_of p h (values.Object w) f) v ≡ false
   still = unfinished_stays p h w f v bound (field_of p h (values.Object w) f) (ap finished_in new.there ∙ unfinished')
 
+  back : (n : ℕ) (y : Object) → object_at stored n ≡ Some y → (x : Object) × (object_at h n ≡ Some x) × IsStored p h w f v n x y
+  back n y at = stored_back p h w f v bound n y still at
+
   carries : Carries h stored
-  carries n y at below = let x = stored_back p h w f v bound n y still at in let on = stored_goes_on p h w f v n x.0 y x.2 in (x.0, x.1, on.class, (λ done. on))
+  carries n y at below =
+      let x = back n y at in
+      let on = stored_goes_on p h w f v n x.0 y x.2 in
+      (x.0, x.1, on.class, (λ done. (on, store_keeps_library p h stored w f v back n x.0 y x.1 at done)))
 
   stored_roots : KeepsRoots h stored
   stored_roots = linked_roots h stored links (λ n x at. let y = stored_forward p h w f v bound n x still at in (y.0, y.1, (stored_goes_on p h w f v n x y.0 y.2).link))
@@ -175,25 +220,148 @@ module _ (p : Program) (ac : Accept p) (forms : HasPlainForms p) (h : HeapConten
       let on = stored_goes_on p h w f v n x.0 y x.2 in
       (x.0, x.1, sym on.link ∙ some, on.class)
 
-  pub store_linked : ExceptionsAreUnlinked p h → ExceptionsAreUnlinked p store_heap
-  store_linked = still_unlinked p h store_heap (subst (LinkedWere h) (sym heap_is) stored_linked)
+  pub store_linked : LinkedAreAliases p h → LinkedAreAliases p store_heap
+  store_linked = still_aliases p h store_heap (subst (LinkedWere h) (sym heap_is) stored_linked)
 
   pub store_unfinished : KeepsUnfinished h store_heap no_other
   store_unfinished = subst (λ (k : HeapContents). KeepsUnfinished h k no_other) (sym heap_is) stored_unfinished
 
-  others : LocalsIn h (fr ∷ frs) → IsCovered p h fr → AllKeep p h stored frs
-  others in' covered =
-      others_stay p ac forms h stored links stored_roots carries fr st covered lent i d s f here is w new.this (holds_here p h w f bound v) (holds_other p h w f bound v)
-      (holds_there p h ranges fr (All-head (λ (x : Frame). LocalsInRange h x.locals) fr frs in')) (all_ready p h stored stored_unfinished fr) made frs (hold.new.0 w declared constructor new.this)
+  -- ---- owners
 
-  pub store_held_before : LocalsIn h (fr ∷ frs) → IsCovered p h fr → AllHeldBefore p h store_heap frs
+  -- an object as it was, or as the field gave it up, or as it moved to the field
+  was : (o : ℕ) (x y : Object) → object_at h o ≡ Some x → object_at stored o ≡ Some y → IsStored p h w f v o x y
+  was o x y before at =
+      let z = back o y at in
+      subst (λ (u : Object). IsStored p h w f v o u y) (let both : Some z.0 ≡ Some x = sym z.1 ∙ before in (let one : z.0 ≡ x = cc in one)) z.2
+
+  -- the field's type
+  type_bounds : (c : ClassId) → set.is_subset (must_of p c) (must_of_type p (obligations.type_of_field (field_at p f))) ≡ true → fits_type p c (field_type p f) ≡ true
+  type_bounds c is' =
+      ap (λ (x : Option Field). set.is_subset (must_of p c) (must_of_optional p (type_of_field x))) owned_here.1
+      ∙ sym (ap (λ (x : Option Field). set.is_subset (must_of p c) (must_of_type p (obligations.type_of_field x))) owned_here.1) ∙ is'
+
+  type_moves : (c : ClassId) → fits_type p c (field_type p f) ≡ true → set.is_subset (must_of p c) (must_of_type p (obligations.type_of_field (field_at p f))) ≡ true
+  type_moves c fit =
+      ap (λ (x : Option Field). set.is_subset (must_of p c) (must_of_type p (obligations.type_of_field x))) owned_here.1
+      ∙ sym (ap (λ (x : Option Field). set.is_subset (must_of p c) (must_of_optional p (type_of_field x))) owned_here.1) ∙ fit
+
+  heavy_field : (o : ℕ) (x : Object) → is_heavy_class p x.class ≡ true → IsMovedIn p h f v o x → is_heavy_in p (Some f) ≡ true
+  heavy_field o x heavy moved = heavy_by_fit p x.class f heavy
+      (type_bounds x.class (and_parts (x.finished && not (is_library_owner x.owner)) (set.is_subset (must_of p x.class) (must_of_type p (obligations.type_of_field (field_at p f)))) moved.may).1)
+
+  alias_form : (alias_position p st.number ≡ None) ⊎ ((n : ℕ) × (alias_position p st.number ≡ Some (suc n)))
+  alias_form = by (alias_position p st.number) refl
+    where
+      by : (a : Option ℕ) → alias_position p st.number ≡ a → (alias_position p st.number ≡ None) ⊎ ((n : ℕ) × (alias_position p st.number ≡ Some (suc n)))
+      by None none = inl none
+      by (Some k) some = inr (aliased_parameter p ac fr st new.plain constructor k some)
+
+  module _ (covered : IsCovered p h gives_none frs fr) where
+    -- in a constructor with an aliased argument nothing else moves to the field, and the argument stays
+    stays_bound : (o : ℕ) (x y : Object) → object_at h o ≡ Some x → object_at stored o ≡ Some y → is_heavy_class p x.class ≡ true → may_owe x ≡ true → IsMovedIn p h f v o x → (n : ℕ) → alias_position p st.number ≡ Some (suc n)
+        → (y ≡ x) ⊎ (x.owner ≡ owners.Field w f)
+    stays_bound o x y before at heavy owes moved n alias =
+        let held = argument_alone p ac forms h frs fr st covered i d s f o x n here is constructor alias (heavy_field o x heavy moved) moved.root before heavy owes in
+        let ties : bound ≡ true = bound_when h (method_at p fr.method) fr.locals v n o constructor (sym (ap alias_in body_method) ∙ alias) moved.root held in
+        let z = bound_back p h w f v o y (subst (λ (b : Bool). object_at (stored_owning p h w f b v) o ≡ Some y) ties at) in
+        let same : z.0 ≡ x = (let both : Some z.0 ≡ Some x = sym z.1 ∙ before in (let one : z.0 ≡ x = cc in one)) in
+        elim z.2 [ inl still' ↦ inl (still' ∙ same) | inr gone ↦ inr (ap (λ (u : Object). u.owner) (sym same) ∙ gone.0.owner) ]
+
+    -- what moves to the field the frame owns, or no frame does
+    moves_from : (o : ℕ) (x y : Object) → object_at h o ≡ Some x → object_at stored o ≡ Some y → is_heavy_class p x.class ≡ true → may_owe x ≡ true → IsMovedIn p h f v o x → y ≡ with_owner (owners.Field w f) x
+        → (x.owner ≡ owners.Frame (length frs + 1)) ⊎ (is_frame_from 0 x.owner ≡ false)
+    moves_from o x y before at heavy owes moved now = elim alias_form [ inl none ↦ by none (covered (places.Temp d) o x room moved.root before heavy owes) | inr alias ↦ inr (in_field (stays_bound o x y before at heavy owes moved alias.0 alias.1)) ]
+      where
+        room : d < 64
+        room = (small p ac forms h frs fr st covered i d s f here is).0
+
+        in_field : (y ≡ x) ⊎ (x.owner ≡ owners.Field w f) → is_frame_from 0 x.owner ≡ false
+        in_field (inl same) = ap (λ (z : Object). is_frame_from 0 z.owner) (sym same ∙ now)
+        in_field (inr field) = ap (is_frame_from 0) field
+
+        by : alias_position p st.number ≡ None → IsKeyed p h false frs fr (places.Temp d) o x → (x.owner ≡ owners.Frame (length frs + 1)) ⊎ (is_frame_from 0 x.owner ≡ false)
+        by none (owned c in' key) = inl (key.owner refl)
+        by none (unowned u) = elim (temp_is_taken p ac forms h frs fr st covered i d s f here is o x u.covers u.here (heavy_field o x heavy moved) none) [
+          | inl own ↦ absurd (true≢false (sym own ∙ u.unowned))
+          | inr free ↦ inr free
+        ]
+
+    owners_go : OwnersGo p (Some w) (length frs + 1) h stored
+    owners_go = store_owners_go p h stored w f v back (length frs + 1) moves_from
+
+    owner_stays : OwnerStays p h stored (length frs + 1) fr st f d
+    owner_stays o x y before at heavy owes own = by (was o x y before at)
+      where
+        no_field : x.owner ≡ owners.Field w f → ⊥
+        no_field field = true≢false (sym (ap (is_frame_from 0) own ∙ from_frame 0 (length frs + 1) (omega arith)) ∙ ap (is_frame_from 0) field)
+
+        by : IsStored p h w f v o x y → (y.owner ≡ owners.Frame (length frs + 1)) ⊎ ((root_of h (temp_value fr.locals d) ≡ Some o) × (alias_position p st.number ≡ None) × (is_heavy_in p (Some f) ≡ true))
+        by (inl same) = inl (ap (λ (z : Object). z.owner) same ∙ own)
+        by (inr (inl gone)) = absurd (no_field gone.0.owner)
+        by (inr (inr moved)) = elim alias_form [
+          | inl none ↦ inr (moved.0.root, none, heavy_field o x heavy moved.0)
+          | inr alias ↦ elim (stays_bound o x y before at heavy owes moved.0 alias.0 alias.1) [ inl same ↦ inl (ap (λ (z : Object). z.owner) same ∙ own) | inr field ↦ absurd (no_field field) ]
+        ]
+
+  field_takes : FieldTakes p h stored (length frs + 1) fr st f d
+  field_takes o x y before at heavy root done fit plain own = ap (is_frame_from 0) (stored_takes p h w f v o x y unties root before may (subst (λ (b : Bool). object_at (stored_owning p h w f b v) o ≡ Some y) untied at))
+    where
+      makes_it : is_constructor p st.number ≡ true
+      makes_it = ap constructs body_method ∙ constructor
+
+      no_alias : (a : Option ℕ) → (true && is_present a) ≡ false → is_some a ≡ false
+      no_alias None none = refl
+      no_alias (Some k) none = absurd (true≢false none)
+
+      none_aliased : is_some (alias_in (method_at p fr.method)) ≡ false
+      none_aliased = ap (λ (m : Option Method). is_some (alias_in m)) (sym body_method)
+          ∙ no_alias (alias_position p st.number) (sym (ap (λ (b : Bool). b && is_present (alias_position p st.number)) makes_it) ∙ plain)
+
+      same_alias : (m : Option Method) → ledger_calls.alias_position m ≡ alias_in m
+      same_alias None = refl
+      same_alias (Some m) = refl
+
+      nothing : (a b c : Bool) → b ≡ false → (a && b && c) ≡ false
+      nothing true true c none = absurd (true≢false none)
+      nothing true false c none = refl
+      nothing false b c none = refl
+
+      untied : bound ≡ false
+      untied = nothing (constructs (method_at p fr.method)) (is_some (ledger_calls.alias_position (method_at p fr.method)))
+          (same_root (root_of h v) (root_of_number h (ledger_calls.alias_target (parameter fr.locals) (method_at p fr.method)))) (ap is_some (same_alias (method_at p fr.method)) ∙ none_aliased)
+
+      unties : resets_holder p h w f false (field_of p h (values.Object w) f) v ≡ false
+      unties = unfinished_stays p h w f v false (field_of p h (values.Object w) f) (ap finished_in new.there ∙ unfinished')
+
+      may : may_move p (obligations.type_of_field (field_at p f)) x ≡ true
+      may = and_from (x.finished && not (is_library_owner x.owner)) (set.is_subset (must_of p x.class) (must_of_type p (obligations.type_of_field (field_at p f))))
+          (and_from x.finished (not (is_library_owner x.owner)) done (ap (λ (a : Owner). not (is_library_owner a)) own)) (type_moves x.class fit)
+
+  -- ---- the frames
+
+  gifts : LocalsIn h (fr ∷ frs) → AllKeepGifts p h stored frs
+  gifts in' = all_keep_gifts p h stored stored_roots frs (All-tail (λ (x : Frame). LocalsInRange h x.locals) fr frs in')
+
+  others : LocalsIn h (fr ∷ frs) → IsCovered p h gives_none frs fr → AllKeep p h stored frs
+  others in' covered =
+      others_stay p ac forms h stored links stored_roots carries frs fr st covered lent i d s f here is w new.this (holds_here p h w f bound v) (holds_other p h w f bound v)
+      (holds_there p h ranges fr (All-head (λ (x : Frame). LocalsInRange h x.locals) fr frs in')) (all_ready p h stored stored_unfinished fr) made (given_kept p h stored frs (gifts in')) (apart covered) field_takes (owner_stays covered) frs
+      (hold.new.0 w declared constructor new.this)
+    where
+      apart : IsCovered p h gives_none frs fr → StaysApart p h stored (length frs + 1) fr
+      apart cover = constructor_apart p (Some w) (length frs + 1) h stored (owners_go cover) (length frs + 1) fr (omega arith) constructor
+
+  pub store_held_before : LocalsIn h (fr ∷ frs) → IsCovered p h gives_none frs fr → AllHeldBefore p h store_heap frs
   store_held_before in' covered = subst (λ (k : HeapContents). AllHeldBefore p h k frs) (sym heap_is)
       (all_held_before p h stored stored_roots frs (others in' covered) (all_there p h ranges frs (All-tail (λ (x : Frame). LocalsInRange h x.locals) fr frs in')))
 
   pub stores_covered : LocalsIn h (fr ∷ frs) → AreCovered p h (fr ∷ frs) → AreCovered p store_heap (after ∷ frs)
   stores_covered in' covered = subst (λ (k : HeapContents). AreCovered p k (after ∷ frs)) (sym heap_is) (
-    store_covered p ac forms h stored links stored_roots carries fr st covered.0 lent i d s f here is w new.this (holds_here p h w f bound v) (holds_other p h w f bound v)
-        (holds_there p h ranges fr (All-head (λ (x : Frame). LocalsInRange h x.locals) fr frs in')) (all_ready p h stored stored_unfinished fr) made,
+    store_covered p ac forms h stored links stored_roots carries frs fr st covered.0 lent i d s f here is w new.this (holds_here p h w f bound v) (holds_other p h w f bound v)
+        (holds_there p h ranges fr (All-head (λ (x : Frame). LocalsInRange h x.locals) fr frs in')) (all_ready p h stored stored_unfinished fr) made (given_kept p h stored frs (gifts in'))
+        (constructor_apart p (Some w) (length frs + 1) h stored (owners_go covered.0) (length frs + 1) fr (omega arith) constructor) field_takes (owner_stays covered.0),
     all_wait p h stored links stored_roots carries frs
-        (others in' covered.0) (all_there p h ranges frs (All-tail (λ (x : Frame). LocalsInRange h x.locals) fr frs in')) (frames_ready p h stored stored_unfinished frs) covered.1,
+        (others in' covered.0) (all_there p h ranges frs (All-tail (λ (x : Frame). LocalsInRange h x.locals) fr frs in')) (frames_ready p h stored stored_unfinished frs) (gifts in')
+        (owners_kept p (Some w) (length frs + 1) h stored (owners_go covered.0) frs (omega arith) (hold.new.0 w declared constructor new.this)) covered.1,
+    store_below p h stored w f v back (length frs + 1) covered.2,
   )

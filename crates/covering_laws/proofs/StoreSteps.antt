@@ -1,14 +1,14 @@
 -- The top frame, a constructor, stores into an owning field of `this`: what the places of the frames hold stays covered.
-use Rattle.std.proofs.Common.{◌≡◌, ◌⊎◌, inl, inr, ℕ, ◌+◌, ◌<◌, Bool, true, false, not, cond, Option, Some, None, List, [], ◌∷◌, slice_get, nat_eq, eq-eqb, eqb-true, refl, sym, ap, ◌∙◌, subst, true≢false, if◌then◌else◌}
+use Rattle.std.proofs.Common.{◌≡◌, ◌⊎◌, inl, inr, ℕ, ◌+◌, ◌<◌, arith, Bool, true, false, not, ◌&&◌, ◌||◌, cond, Option, Some, None, List, [], ◌∷◌, length, slice_get, nat_eq, eq-eqb, eqb-true, refl, sym, ap, ◌∙◌, subst, true≢false, if◌then◌else◌}
 use Rattle.std.specs.FinSet as set
-use Rattle.std.proofs.lemmas.Bool.{and_parts, or_left, or_right, not-true}
+use Rattle.std.proofs.lemmas.Bool.{and_from, and_parts, or_left, or_right, not-true}
 use Rattle.rlc_base.proofs.SetLaws.{within_trans}
 use Rattle.program_model.specs.declared.kinds.FieldId.{FieldId}
 use Rattle.program_model.specs.declared.program.Method.{Method}
 use Rattle.program_model.specs.declared.program.Program.{Program}
-use Rattle.value_type_laws.specs.Bodies.{alias_in, alias_position, constructs, is_alias_constructor, is_constructor}
-use Rattle.value_type_laws.specs.MustCallSets.{Names, fits_type, is_heavy_class}
-use Rattle.value_type_laws.specs.Signatures.{field_type, is_present}
+use Rattle.ledger_obligations.specs.Bodies.{alias_in, alias_position, constructs, is_alias_constructor, is_constructor}
+use Rattle.ledger_obligations.specs.MustCallSets.{Names, fits_type, is_heavy_class, must_of, must_of_optional}
+use Rattle.ownership_rules.specs.Signatures.{field_type, is_present}
 use Rattle.java_control.specs.Control.{Step}
 use Rattle.java_control.specs.Owned.{field_number, place_of_field}
 use Rattle.java_control.specs.PlaceNumbers.{IsSmall, number_of}
@@ -21,38 +21,41 @@ use Rattle.java_control.specs.declared.fact.Origin.{Origin}
 use Rattle.java_control.specs.declared.fact.OriginKind.{OriginKind}
 use Rattle.java_control.specs.declared.place.Place.{Place}
 use Rattle.java_control.specs.declared.place.Place.TheVariants as places
-use Rattle.target_laws.specs.Facts.{PlaceSet, has, is_held, is_origin_at, is_own}
-use Rattle.target_laws.specs.SmallActions.{IsSmallAction}
-use Rattle.tracking_laws.specs.Stores.{is_heavy_store}
-use Rattle.flow_rules.specs.Paths.{Reach, relation_of}
-use Rattle.target_laws.specs.Accept.{Accept}
+use Rattle.ownership_rules.specs.Facts.{PlaceSet, has, is_held, is_origin_at, is_own}
+use Rattle.ownership_rules.specs.SmallActions.{IsSmallAction}
+use Rattle.value_laws.specs.OwningFieldsStores.{is_heavy_store}
+use Rattle.value_laws.specs.Paths.{Reach, move_of, relation_of}
+use Rattle.value_laws.specs.Accept.{Accept}
 use Rattle.ledger_state.specs.Contents.{HeapContents}
 use Rattle.ledger_state.specs.Fields.{field_of, field_value}
-use Rattle.ledger_state.specs.Heaps.{root_of}
+use Rattle.ledger_state.specs.Heaps.{object_at, root_of}
+use Rattle.ledger_state.specs.declared.entry.Owner.TheVariants as owners
 use Rattle.ledger_state.specs.Locals.{temp_value}
 use Rattle.ledger_state.specs.declared.object.Object.{Object}
 use Rattle.ledger_state.specs.declared.value.Value.{Value}
 use Rattle.ledger_state.specs.declared.value.Value.TheVariants as values
-use Rattle.program_call_laws.specs.Places.{field_place_value, owning_field_beside, place_value}
-use Rattle.program_call_laws.specs.Configuration.{Frame}
-use Rattle.target_laws.specs.Choosing.{body_by, frame_steps, method_body}
-use Rattle.target_laws.specs.Frames.{frame_after}
-use Rattle.program_call_laws.specs.Heaps.{GoesOn, HasEarlierLinks}
-use Rattle.field_place_laws.specs.Places.{HasTarget, is_local}
-use Rattle.field_place_laws.proofs.Laws.{places_stay_in_range, single_place-same, value_comes_from_source}
-use Rattle.field_place_laws.proofs.SetLaws.{has_copied}
-use Rattle.tracking_laws.specs.Agreement.{Stands}
-use Rattle.tracking_laws.specs.PlainForms.{HasPlainForms}
-use Rattle.fact_step_laws.specs.Going.{ArePlaces, IsLeft, IsTaken, StoresAs, left, taken}
-use Rattle.kept_argument_laws.specs.FieldContents.{RunOnOthers}
-use Rattle.kept_argument_laws.specs.PlaceFacts.{Covers, IsCovered, IsTrueOf, claims, fits_field, fits_in, is_heavy_field, is_heavy_in, is_lent, makes_alone, tells_calls}
-use Rattle.field_place_laws.proofs.FieldPlaces.{place_of_beside}
-use Rattle.field_place_laws.proofs.ValuesAfter.{IsFrom, value_is_from}
-use Rattle.kept_argument_laws.proofs.HeavyFields.{HasPlace, claims_alone, claims_as, claims_owned, held_mode, held_tells, lent_tells, own_claims, tells_by}
-use Rattle.kept_argument_laws.proofs.Following.{method_here}
-use Rattle.kept_argument_laws.proofs.Storing.{Goes, goes, now, small, there}
+use Rattle.value_laws.specs.Places.{field_place_value, owning_field_beside, place_value}
+use Rattle.value_laws.specs.Configuration.{Frame}
+use Rattle.value_laws.specs.Choosing.{body_by, frame_steps, method_body}
+use Rattle.value_laws.specs.Frames.{frame_after}
+use Rattle.value_laws.specs.Heaps.{HasEarlierLinks}
+use Rattle.value_laws.specs.PlacePlaces.{HasTarget, is_local}
+use Rattle.value_laws.proofs.PlaceLaws.{places_stay_in_range, single_place-same, value_comes_from_source}
+use Rattle.value_laws.proofs.SetLaws.{has_copied}
+use Rattle.value_laws.specs.PlaceRows.{copied}
+use Rattle.value_laws.specs.Agreement.{Stands}
+use Rattle.value_laws.specs.PlainForms.{HasPlainForms}
+use Rattle.value_laws.specs.FactGoing.{ArePlaces, IsLeft, IsTaken, StoresAs, left, taken}
+use Rattle.value_laws.specs.FieldContents.{RunOnOthers}
+use Rattle.value_laws.specs.PlaceFacts.{Covers, IsCovered, IsKeyed, IsOwned, IsTrueOf, IsUnowned, claims, fits_field, fits_in, gives_none, is_apart, is_content, is_field_of, is_frame_below, is_frame_from, is_heavy_field, is_heavy_in, is_lent, is_owning_fact, makes_alone, may_owe, owned, tells_calls, unowned, was_given}
+use Rattle.value_laws.proofs.FieldPlaces.{place_of_beside}
+use Rattle.value_laws.proofs.ValuesAfter.{IsFrom, value_is_from}
+use Rattle.covering_laws.proofs.HeavyFields.{HasPlace, apart_low, apart_where, claims_alone, claims_as, claims_owned, heavy_here, held_claims, held_mode, held_tells, lent_tells, own_claims, owning_in_no_field, tells_by}
+use Rattle.covering_laws.proofs.Following.{method_here, step_there}
+use Rattle.covering_laws.proofs.Storing.{Goes, alone_here, goes, now, small, there}
+use Rattle.covering_laws.proofs.Owners.{KeepsGiven, StaysApart, apart_before, from_frame, no_frame_from}
 use Rattle.covering_laws.proofs.TopSteps.{in_this}
-use Rattle.covering_laws.proofs.Waiting.{AllKeep, Carries, HoldsThere, IsCarried, KeepsReady, KeepsRoots, numbered, owed_before, still_true, value_root, stays_unowned}
+use Rattle.covering_laws.proofs.Waiting.{AllKeep, Carries, Continues, HoldsThere, IsCarried, KeepsReady, KeepsRoots, numbered, owed_before, still_true, value_root, stays_unowned}
 use Rattle.program_model.specs.Lookups.{method_at}
 
 -- where the store is one of what has an obligation, the class or the field's type has one
@@ -66,20 +69,61 @@ light_type p o f light heavy = true≢false (sym (or_right (is_heavy_class p o.c
 abbrev pub ArgumentIsLent : (p : Program) → (fr : Frame) → Stands p fr → Type 0
 ArgumentIsLent p fr st = is_alias_constructor p st.number ≡ true → (kind : OriginKind) → is_origin_at kind (alias_position p st.number) ≡ true → is_lent p (method_at p fr.method) kind ≡ true
 
+-- where the frame, at this position, owns the object in t(d), and the field's type bounds it, no frame does after the store, unless the constructor has an aliased
+-- argument
+abbrev pub FieldTakes : (p : Program) → HeapContents → HeapContents → ℕ → (fr : Frame) → Stands p fr → FieldId → ℕ → Type 0
+FieldTakes p h k j fr st f d =
+    (o : ℕ) (x y : Object) → object_at h o ≡ Some x → object_at k o ≡ Some y → is_heavy_class p x.class ≡ true → root_of h (temp_value fr.locals d) ≡ Some o → x.finished ≡ true → fits_type p x.class (field_type p f) ≡ true
+    → is_alias_constructor p st.number ≡ false → x.owner ≡ owners.Frame j → is_frame_from 0 y.owner ≡ false
+
+-- what the frame owns it goes on owning, or t(d) holds it, the field's type has an obligation, and the constructor has no aliased argument
+abbrev pub OwnerStays : (p : Program) → HeapContents → HeapContents → ℕ → (fr : Frame) → Stands p fr → FieldId → ℕ → Type 0
+OwnerStays p h k j fr st f d =
+    (o : ℕ) (x y : Object) → object_at h o ≡ Some x → object_at k o ≡ Some y → is_heavy_class p x.class ≡ true → may_owe x ≡ true → x.owner ≡ owners.Frame j
+    → (y.owner ≡ owners.Frame j) ⊎ ((root_of h (temp_value fr.locals d) ≡ Some o) × (alias_position p st.number ≡ None) × (is_heavy_in p (Some f) ≡ true))
+
+-- What a fact with t(d) stands for the frame owns, or none does, where the field's type has an obligation and the constructor has no aliased argument
+pub temp_is_taken : (p : Program) (ac : Accept p) (forms : HasPlainForms p) (h : HeapContents) (frs : List Frame) (fr : Frame) (st : Stands p fr) (covered : IsCovered p h gives_none frs fr) (i d : ℕ) (s : Step) (f : FieldId)
+    (here : slice_get (frame_steps p fr) i ≡ Some s) (is : s.action ≡ actions.PutOwn f d) (o : ℕ) (x : Object) (c : Covers p h false frs fr o x) → has c.fact.places (places.Temp d) ≡ true → is_heavy_in p (Some f) ≡ true
+    → alias_position p st.number ≡ None → (is_owning_fact p c.origin c.fact ≡ true) ⊎ (is_frame_from 0 x.owner ≡ false)
+temp_is_taken p ac forms h frs fr st covered i d s f here is o x c in' heavy plain =
+    by (goes p ac forms h frs fr st covered i d s f here is o x c (place_of_field p f)
+    (has_copied c.fact.places (place_of_field p f) (places.Temp d) (place_of_field p f) room.1 room.1 ∙ rw (eq-eqb (field_number p f) (field_number p f) refl) in'))
+  where
+    mine : HasPlace p fr f
+    mine = there p ac forms h frs fr st covered i d s f here is
+
+    room : IsSmallAction p (actions.PutOwn f d)
+    room = small p ac forms h frs fr st covered i d s f here is
+
+    not_aliased : is_alias_constructor p st.number ≡ true → ⊥
+    not_aliased aliased = true≢false (sym (and_parts (is_constructor p st.number) (is_present (alias_position p st.number)) aliased).1 ∙ ap (λ (a : Option ℕ). is_present a) plain)
+
+    in_field : (b : Bool) → has c.fact.places (place_of_field p f) ≡ b → (has c.fact.places (place_of_field p f) ≡ false → is_heavy_store p c.origin f ≡ false) → is_frame_from 0 x.owner ≡ false
+    in_field false out light = absurd (light_type p c.origin f (light out) heavy)
+    in_field true there' light =
+        let was = c.held (field_number p f) mine.small there' (heavy_here p h fr f mine heavy) in
+        c.free (held_claims p (method_at p fr.method) c.origin c.fact (alone_here p ac forms h frs fr st covered i d s f here is plain) was.0 was.1) (ap is_held was.0)
+
+    by : (g : Fact) × Reach p st.number (relation_of p st.number) c.origin s.to g × Goes p ac forms h frs fr st covered i d s f here is o x c g → (is_owning_fact p c.origin c.fact ≡ true) ⊎ (is_frame_from 0 x.owner ≡ false)
+    by (g, reach, (same, taken reset called full t)) = elim t.may [ inl own ↦ inl (and_from (is_heavy_class p c.origin.class) (is_own c.fact.mode) t.heavy (ap is_own own)) | inr alias ↦ absurd (not_aliased alias.0) ]
+    by (g, reach, (same, left reset called full l)) = inr (in_field (has c.fact.places (place_of_field p f)) refl (l.light in'))
+
 module _ (p : Program) (ac : Accept p) (forms : HasPlainForms p) (h k : HeapContents) (links : HasEarlierLinks h) (roots : KeepsRoots h k) (carries : Carries h k)
-    (fr : Frame) (st : Stands p fr) (covered : IsCovered p h fr) (lent' : ArgumentIsLent p fr st)
+    (frs : List Frame) (fr : Frame) (st : Stands p fr) (covered : IsCovered p h gives_none frs fr) (lent' : ArgumentIsLent p fr st)
     (i d : ℕ) (s : Step) (f : FieldId) (here : slice_get (frame_steps p fr) i ≡ Some s) (is : s.action ≡ actions.PutOwn f d) (w : ℕ) (this : fr.locals.this ≡ values.Object w)
     (holds_here : field_value p k w f ≡ temp_value fr.locals d)
     (holds_other : (u : ℕ) (g : FieldId) → ((u ≡ w) × (g ≡ f) → ⊥) → field_value p k u g ≡ field_value p h u g)
-    (inside : HoldsThere p h fr) (ready : KeepsReady p h k fr) (v : Value) where
+    (inside : HoldsThere p h fr) (ready : KeepsReady p h k fr) (v : Value) (gifts : KeepsGiven p h k frs) (others : StaysApart p h k (length frs + 1) fr) (takes : FieldTakes p h k (length frs + 1) fr st f d)
+    (stays : OwnerStays p h k (length frs + 1) fr st f d) where
   abbrev after : Frame
   after = frame_after p h fr s v
 
   mine : HasPlace p fr f
-  mine = there p ac forms h fr st covered i d s f here is
+  mine = there p ac forms h frs fr st covered i d s f here is
 
   room : IsSmallAction p (actions.PutOwn f d)
-  room = small p ac forms h fr st covered i d s f here is
+  room = small p ac forms h frs fr st covered i d s f here is
 
   body_here : method_body p fr.method ≡ Some st.body
   body_here = ap (body_by p) st.id ∙ st.at
@@ -153,11 +197,37 @@ module _ (p : Program) (ac : Accept p) (forms : HasPlainForms p) (h k : HeapCont
       let none = (and_parts (constructs (method_at p fr.method)) (not (is_present (alias_in (method_at p fr.method)))) alone).1 in
       true≢false (sym here' ∙ ap (λ (m : Option Method). is_present (alias_in m)) (method_here p fr st) ∙ not-true (is_present (alias_in (method_at p fr.method))) none)
 
+  makes : constructs (method_at p fr.method) ≡ true
+  makes = ap constructs (sym (method_here p fr st)) ∙ (forms.stores st.number i (move_of s) f d st.control (step_there p fr st i s here) is).0
+
+  -- where it has one, what it is given is all that the call did not give away
+  was_not_given : (o : ℕ) (y : Object) (g : Fact) → is_alias_constructor p st.number ≡ true → (not (was_given p k frs o y.class) || is_content p after y.owner g) ≡ true → was_given p k frs o y.class ≡ false
+  was_not_given o y g aliased apart = go (was_given p k frs o y.class) refl
+    where
+      silent : (a b m n : Bool) → m ≡ false → n ≡ true → (not a || b && (m || not n && is_field_of after.locals.this y.owner)) ≡ true → a ≡ false
+      silent false b m n none new is' = refl
+      silent true true false true none new is' = absurd (true≢false (sym is'))
+      silent true true true n none new is' = absurd (true≢false none)
+      silent true true false false none new is' = absurd (true≢false (sym new))
+      silent true false m n none new is' = absurd (true≢false (sym is'))
+
+      none_alone : (b : Bool) → makes_alone (method_at p fr.method) ≡ b → b ≡ false
+      none_alone true alone = absurd (not_alone aliased alone)
+      none_alone false other = refl
+
+      go : (b : Bool) → was_given p k frs o y.class ≡ b → was_given p k frs o y.class ≡ false
+      go b same = silent (was_given p k frs o y.class) (is_held g.mode) (makes_alone (method_at p fr.method)) (constructs (method_at p fr.method)) (none_alone (makes_alone (method_at p fr.method)) refl) makes apart
+
   -- ---- a fact over the store
 
-  module _ (z : Place) (o : ℕ) (x y : Object) (goes_on : x.finished ≡ true → GoesOn x y) (done : y.finished ≡ true → x.finished ≡ true) (c : Covers p h fr z o x) where
+  -- the frame owns what the field takes
+  abbrev IsTakenFrom : (o : ℕ) (x : Object) → Covers p h false frs fr o x → Type 0
+  IsTakenFrom o x c = is_owning_fact p c.origin c.fact ≡ true → x.owner ≡ owners.Frame (length frs + 1)
+
+  module _ (o : ℕ) (x y : Object) (before : object_at h o ≡ Some x) (at : object_at k o ≡ Some y) (class : y.class ≡ x.class) (broad : is_heavy_class p x.class ≡ true)
+      (goes_on : x.finished ≡ true → Continues x y) (done : y.finished ≡ true → x.finished ≡ true) (c : Covers p h false frs fr o x) (owned_by : IsTakenFrom o x c) where
     abbrev later : PlaceSet
-    later = now p ac forms h fr st covered i d s f here is z o x c
+    later = now p ac forms h frs fr st covered i d s f here is o x c
 
     has_later : (q : Place) → IsSmall q → has later q ≡ (if is_place (place_of_field p f) q then has c.fact.places (places.Temp d) else has c.fact.places q)
     has_later q less = has_copied c.fact.places (place_of_field p f) (places.Temp d) q room.1 less
@@ -180,8 +250,8 @@ module _ (p : Program) (ac : Accept p) (forms : HasPlainForms p) (h k : HeapCont
 
     truth : (g : Fact) → g.called ≡ c.fact.called → g.full ≡ c.fact.full → claims p (method_at p fr.method) c.origin c.fact ≡ true → IsTrueOf p y c.origin g
     truth g called full claimed =
-        let was = c.true' claimed in
-        let still = still_true p x y c.origin c.fact (goes_on was.finished) was in
+        let was = c.true' claimed refl in
+        let still = still_true p x y c.origin c.fact (goes_on was.finished).0 was in
         record {
           finished = still.finished;
           class = still.class;
@@ -192,7 +262,7 @@ module _ (p : Program) (ac : Accept p) (forms : HasPlainForms p) (h k : HeapCont
 
     names : (g : Fact) → g.called ≡ c.fact.called → y.finished ≡ true → (x.finished ≡ true → set.is_subset c.fact.called x.called ≡ true) → set.is_subset g.called y.called ≡ true
     names g called finished' known =
-        ap (λ (t : Names). set.is_subset t y.called) called ∙ within_trans c.fact.called x.called y.called (known (done finished')) (goes_on (done finished')).called
+        ap (λ (t : Names). set.is_subset t y.called) called ∙ within_trans c.fact.called x.called y.called (known (done finished')) (goes_on (done finished')).0.called
 
     same_number : (n : ℕ) → is_place (place_of_field p f) (places.Field n) ≡ true → is_heavy_field p fr.method (places.Field n) ≡ is_heavy_in p (Some f)
     same_number n e = ap (λ (j : ℕ). is_heavy_in p (owning_field_beside p fr.method j)) (sym (eqb-true (field_number p f) n e)) ∙ ap (is_heavy_in p) mine.beside
@@ -204,22 +274,22 @@ module _ (p : Program) (ac : Accept p) (forms : HasPlainForms p) (h k : HeapCont
       in_later : (n : ℕ) → has g.places (places.Field n) ≡ true → has later (places.Field n) ≡ true
       in_later n in' = sym (same (161 + n)) ∙ in'
 
-      abbrev Result : Place → Type 0
-      Result q = has later q ≡ true → Covers p k after q o y
+      abbrev Result : Type 0
+      Result = (e : Covers p k false frs after o y) × (e.origin ≡ c.origin) × (e.fact ≡ g)
 
-      by_taken : g.called ≡ c.fact.called → g.full ≡ c.fact.full → IsTaken p st.number c.origin f d c.fact g → (q : Place) → Result q
-      by_taken called full t q in' = record {
+      by_taken : g.called ≡ c.fact.called → g.full ≡ c.fact.full → IsTaken p st.number c.origin f d c.fact g → Covers p k false frs after o y
+      by_taken called full t = record {
         body = st.number;
         id = st.id;
         origin = c.origin;
         fact = g;
         reached = reach;
         alone = λ n one. places_stay_in_range p st.number (actions.PutOwn f d) s.edge c.fact.places room c.alone n (sym (same n) ∙ one);
-        here = same (number_of q) ∙ in';
         places = λ u less one. holds_later u less (sym (same (number_of u)) ∙ one);
-        true' = λ claimed. taken_truth t.may claimed;
+        true' = λ claimed mine'. taken_truth t.may claimed;
         lent = λ lent. (ap is_own t.mode, t.heavy);
-        known = λ finished' tells. names g called finished' (λ was. taken_known t.may was);
+        free = λ claimed held. taken_free t.may claimed;
+        known = λ finished' tells apart. taken_known t.may finished' apart;
         fields = λ n less wide one. elim (was_in (places.Field n) less (in_later n one)) [
           | inl field ↦ same_fit n field.0 ∙ t.fits
           | inr other ↦ c.fields n less t.heavy other.1
@@ -231,23 +301,64 @@ module _ (p : Program) (ac : Accept p) (forms : HasPlainForms p) (h k : HeapCont
           taken_truth (inl own) claimed = truth g called full (own_claims p (method_at p fr.method) c.origin c.fact own t.heavy)
           taken_truth (inr alias) claimed = absurd (not_alone alias.0 (claims_alone p (method_at p fr.method) c.origin g t.mode claimed))
 
-          taken_known : (c.fact.mode ≡ modes.Own) ⊎ ((is_alias_constructor p st.number ≡ true) × (c.fact.mode ≡ modes.Alias)) → x.finished ≡ true → set.is_subset c.fact.called x.called ≡ true
-          taken_known (inl own) was = (c.true' (own_claims p (method_at p fr.method) c.origin c.fact own t.heavy)).called
-          taken_known (inr alias) was = c.known was (lent_tells p fr.method c.origin c.fact (lent' alias.0 c.origin.kind (t.alias alias.0)))
+          -- the field takes it from the frame
+          released : c.fact.mode ≡ modes.Own → is_frame_from 0 y.owner ≡ false
+          released own =
+              let truth = c.true' (own_claims p (method_at p fr.method) c.origin c.fact own t.heavy) refl in
+              takes o x y before at broad (c.places (places.Temp d) room.0 t.there) truth.finished
+              (within_trans (must_of p x.class) (must_of p c.origin.class) (must_of_optional p (field_type p f)) truth.class t.fits)
+              plain (owned_by (and_from (is_heavy_class p c.origin.class) (is_own c.fact.mode) t.heavy (ap is_own own)))
+            where
+              plain : is_alias_constructor p st.number ≡ false
+              plain = by (is_alias_constructor p st.number) refl
+                where
+                  by : (b : Bool) → is_alias_constructor p st.number ≡ b → is_alias_constructor p st.number ≡ false
+                  by false none = none
+                  by true aliased = absurd (true≢false (sym (ap is_own own) ∙ (c.lent (lent' aliased c.origin.kind (t.alias aliased))).0))
 
-      by_left : g.called ≡ c.fact.called → g.full ≡ c.fact.full → IsLeft p c.origin f d c.fact g → (q : Place) → Result q
-      by_left called full l q in' = record {
+          taken_free : (c.fact.mode ≡ modes.Own) ⊎ ((is_alias_constructor p st.number ≡ true) × (c.fact.mode ≡ modes.Alias)) → claims p (method_at p fr.method) c.origin g ≡ true → is_frame_from 0 y.owner ≡ false
+          taken_free (inl own) claimed = released own
+          taken_free (inr alias) claimed = absurd (not_alone alias.0 (claims_alone p (method_at p fr.method) c.origin g t.mode claimed))
+
+          taken_known : (c.fact.mode ≡ modes.Own) ⊎ ((is_alias_constructor p st.number ≡ true) × (c.fact.mode ≡ modes.Alias)) → y.finished ≡ true → is_apart p k frs after o y g ≡ true
+              → (false ≡ false) × (is_frame_from (length frs + 1) y.owner ≡ false) × (set.is_subset g.called y.called ≡ true)
+          taken_known (inl own) finished' apart = (
+            refl,
+            no_frame_from 0 (length frs + 1) y.owner (omega arith) (released own),
+            names g called finished' (λ was. (c.true' (own_claims p (method_at p fr.method) c.origin c.fact own t.heavy) refl).called),
+          )
+          taken_known (inr alias) finished' apart =
+              let was = c.known (done finished') (lent_tells p fr.method c.origin c.fact (lent' alias.0 c.origin.kind (t.alias alias.0)))
+              (split (is_frame_below (length frs + 1) y.owner) refl) in
+              (refl, others.apart o x y before at (done finished') broad was.1, names g called finished' (λ was'. was.2))
+            where
+              first : (a b : Bool) → b ≡ false → (a || b) ≡ true → a ≡ true
+              first true b off one = refl
+              first false b off one = absurd (true≢false (sym one ∙ off))
+
+              split : (b : Bool) → is_frame_below (length frs + 1) y.owner ≡ b → is_apart p h frs fr o x c.fact ≡ true
+              split true low = apart_low p h frs fr o x c.fact (others.low o x y before at (done finished') broad low)
+              split false high = apart_where p h frs fr o x c.fact (sym (gifts o x.class) ∙ ap (was_given p k frs o) (sym class)
+                  ∙ was_not_given o y g alias.0 (first (not (was_given p k frs o y.class) || is_content p after y.owner g) (is_frame_below (length frs + 1) y.owner) high apart))
+
+      by_left : g.called ≡ c.fact.called → g.full ≡ c.fact.full → IsLeft p c.origin f d c.fact g → Covers p k false frs after o y
+      by_left called full l = record {
         body = st.number;
         id = st.id;
         origin = c.origin;
         fact = g;
         reached = reach;
         alone = λ n one. places_stay_in_range p st.number (actions.PutOwn f d) s.edge c.fact.places room c.alone n (sym (same n) ∙ one);
-        here = same (number_of q) ∙ in';
         places = λ u less one. holds_later u less (sym (same (number_of u)) ∙ one);
-        true' = λ claimed. truth g called full (claims_as p (method_at p fr.method) c.origin c.fact g (l.mode (claims_owned p (method_at p fr.method) c.origin g claimed).1) claimed);
+        true' = λ claimed mine'. truth g called full (claims_as p (method_at p fr.method) c.origin c.fact g (l.mode (claims_owned p (method_at p fr.method) c.origin g claimed).1) claimed);
         lent = λ lent. (stays_unowned c.fact.mode g.mode l.mode (c.lent lent).0, (c.lent lent).1);
-        known = λ finished' tells. names g called finished' (λ was. c.known was (told (tells_by p fr.method c.origin g tells)));
+        free = λ claimed held'.
+            let was = claims_as p (method_at p fr.method) c.origin c.fact g (l.mode (claims_owned p (method_at p fr.method) c.origin g claimed).1) claimed in
+            others.free o x y before at (c.true' was refl).finished broad (c.free was (held_before held'));
+        known = λ finished' tells apart.
+            let was = c.known (done finished') (told (tells_by p fr.method c.origin g tells))
+            (apart_before p h k frs fr o x y c.fact g gifts class held_before (λ plain own. absurd (true≢false (sym makes ∙ plain))) (λ low. others.low o x y before at (done finished') broad low) apart) in
+            (refl, others.apart o x y before at (done finished') broad was.1, names g called finished' (λ was'. was.2));
         fields = λ n less wide one. elim (was_in (places.Field n) less (in_later n one)) [
           | inl field ↦ field_claimed n less wide field.0 field.1 (has c.fact.places (place_of_field p f)) refl
           | inr other ↦ c.fields n less wide other.1
@@ -258,6 +369,9 @@ module _ (p : Program) (ac : Accept p) (forms : HasPlainForms p) (h k : HeapCont
         ];
       }
         where
+          held_before : is_held g.mode ≡ true → is_held c.fact.mode ≡ true
+          held_before held' = ap is_held (sym (l.mode (or_right (is_own g.mode) (is_held g.mode) held'))) ∙ held'
+
           told : (is_lent p (method_at p fr.method) c.origin.kind ≡ true) ⊎ ((is_heavy_class p c.origin.class ≡ true) × (is_held g.mode ≡ true)) → tells_calls p fr.method c.origin c.fact ≡ true
           told (inl lent) = lent_tells p fr.method c.origin c.fact lent
           told (inr held) =
@@ -276,38 +390,133 @@ module _ (p : Program) (ac : Accept p) (forms : HasPlainForms p) (h k : HeapCont
               (l.held was.0 (in_this g.places n less one), was.1)
           field_held n less one heavy e temp false out = absurd (light_type p c.origin f (l.light temp out) (sym (same_number n e) ∙ heavy))
 
-      by_row : StoresAs p st.number c.origin f d c.fact g → (q : Place) → Result q
-      by_row (taken reset called full t) q in' = by_taken called full t q in'
-      by_row (left reset called full l) q in' = by_left called full l q in'
+      by_row : StoresAs p st.number c.origin f d c.fact g → Result
+      unfolding by_taken by_left
+      by_row (taken reset called full t) = (by_taken called full t, refl, refl)
+      by_row (left reset called full l) = (by_left called full l, refl, refl)
 
-    store_covers : (q : Place) → has later q ≡ true → Covers p k after q o y
-    store_covers q in' = by (goes p ac forms h fr st covered i d s f here is z o x c q in')
+    -- where the fact goes on owning the object, it did, and it is left
+    left_owned : (g : Fact) → StoresAs p st.number c.origin f d c.fact g → is_owning_fact p c.origin g ≡ true → (is_owning_fact p c.origin c.fact ≡ true) × (has c.fact.places (places.Temp d) ≡ true → ⊥)
+    left_owned g (taken reset called full t) owning = absurd (true≢false (sym (and_parts (is_heavy_class p c.origin.class) (is_own g.mode) owning).1 ∙ ap is_own t.mode))
+    left_owned g (left reset called full l) owning =
+        let parts = and_parts (is_heavy_class p c.origin.class) (is_own g.mode) owning in
+        let was : is_owning_fact p c.origin c.fact ≡ true = and_from (is_heavy_class p c.origin.class) (is_own c.fact.mode) parts.0 (ap is_own (sym (l.mode (or_left (is_own g.mode) (is_held g.mode) parts.1))) ∙ parts.1) in
+        (was, (λ in'. in_field was parts.0 in' (has c.fact.places (place_of_field p f)) refl))
       where
-        by : (g : Fact) × Reach p st.number (relation_of p st.number) c.origin s.to g × Goes p ac forms h fr st covered i d s f here is z o x c g → Covers p k after q o y
-        by g = by_row g.0 g.1 g.2.0 g.2.1 q in'
+        in_field : is_owning_fact p c.origin c.fact ≡ true → is_heavy_class p c.origin.class ≡ true → has c.fact.places (places.Temp d) ≡ true → (b : Bool) → has c.fact.places (place_of_field p f) ≡ b → ⊥
+        in_field was heavy in' true there' = owning_in_no_field p h false frs fr o x c was (field_number p f) mine.small there'
+        in_field was heavy in' false out = light_class p c.origin f (l.light in' out) heavy
+
+    -- the fact at the places after the store
+    abbrev After : Type 0
+    After = (g : Fact) × (e : Covers p k false frs after o y) × (e.origin ≡ c.origin) × (e.fact ≡ g) × (ArePlaces g.places later) × (StoresAs p st.number c.origin f d c.fact g)
+
+    store_covers : (q : Place) → has later q ≡ true → After
+    store_covers q in' = by (goes p ac forms h frs fr st covered i d s f here is o x c q in')
+      where
+        by : (g : Fact) × Reach p st.number (relation_of p st.number) c.origin s.to g × Goes p ac forms h frs fr st covered i d s f here is o x c g → After
+        by (g, reach, (same, row)) = let e = by_row g reach same row in (g, e.0, e.1, e.2, same, row)
 
   -- ---- the top frame
 
-  pub store_covered : IsCovered p k after
-  store_covered q o y less root at heavy owes = go (is_place (place_of_field p f) q) refl
-    where
-      on : (z : Place) → IsSmall z → root_of h (place_value p h fr.method fr.locals z) ≡ Some o
-          → ((x : Object) (c : Covers p h fr z o x) → (if is_place (place_of_field p f) q then has c.fact.places (places.Temp d) else has c.fact.places q) ≡ true) → Covers p k after q o y
-      on z less' was joins = by (carries o y at (numbered h links (place_value p h fr.method fr.locals z) o was (inside z less')).1)
-        where
-          by : IsCarried h o y → Covers p k after q o y
-          by (x, before, class, goes_on) =
-              let c : Covers p h fr z o x = covered z o x less' was before (ap (is_heavy_class p) (sym class) ∙ heavy) (owed_before x y goes_on owes) in
-              let done : y.finished ≡ true → x.finished ≡ true = ready z o x y less' was before at in
-              store_covers z o x y goes_on done c q (has_later z o x y goes_on done c q less ∙ joins x c)
+  -- a place held the object before the store, whose facts have the other place after it
+  abbrev ComesFrom : Place → ℕ → Type 0
+  ComesFrom q o = (z : Place) × IsSmall z × (root_of h (place_value p h fr.method fr.locals z) ≡ Some o) × ((held : PlaceSet) → has held z ≡ true → has (copied held (place_of_field p f) (places.Temp d)) q ≡ true)
 
-      go : (b : Bool) → is_place (place_of_field p f) q ≡ b → Covers p k after q o y
-      go true e =
-          on (places.Temp d) room.0
-          (sym (value_root h k roots (temp_value fr.locals d) (inside (places.Temp d) room.0)) ∙ ap (root_of k) (sym at_field)
-          ∙ subst (λ (u : Place). root_of k (place_value p k fr.method after.locals u) ≡ Some o) (sym (single_place-same (place_of_field p f) q e)) root)
-          (λ x c. rw e c.here)
-      go false e = on q less (had_root q o less e root) (λ x c. rw e c.here)
+  origin_of_place : (q : Place) (o : ℕ) → IsSmall q → root_of k (place_value p k fr.method after.locals q) ≡ Some o → ComesFrom q o
+  origin_of_place q o less root = go (is_place (place_of_field p f) q) refl
+    where
+      joins : (held : PlaceSet) (b : Bool) → is_place (place_of_field p f) q ≡ b → (if b then has held (places.Temp d) else has held q) ≡ true → has (copied held (place_of_field p f) (places.Temp d)) q ≡ true
+      joins held b e one = has_copied held (place_of_field p f) (places.Temp d) q room.1 less ∙ ap (λ (u : Bool). if u then has held (places.Temp d) else has held q) e ∙ one
+
+      go : (b : Bool) → is_place (place_of_field p f) q ≡ b → ComesFrom q o
+      go true e = (
+        places.Temp d,
+        room.0,
+        sym (value_root h k roots (temp_value fr.locals d) (inside (places.Temp d) room.0)) ∙ ap (root_of k) (sym at_field)
+            ∙ subst (λ (u : Place). root_of k (place_value p k fr.method after.locals u) ≡ Some o) (sym (single_place-same (place_of_field p f) q e)) root,
+        (λ held one. joins held true e one),
+      )
+      go false e = (q, less, had_root q o less e root, (λ held one. joins held false e one))
+
+  module _ (o : ℕ) (x y : Object) (before : object_at h o ≡ Some x) (at : object_at k o ≡ Some y) (class : y.class ≡ x.class) (broad : is_heavy_class p x.class ≡ true) (owes : may_owe x ≡ true)
+      (goes_on : x.finished ≡ true → Continues x y) (done : y.finished ≡ true → x.finished ≡ true) where
+    here_after : (c : Covers p h false frs fr o x) (owned_by : IsTakenFrom o x c) (q : Place) → has (copied c.fact.places (place_of_field p f) (places.Temp d)) q ≡ true → (n : After o x y before at class broad goes_on done c owned_by) → has n.1.fact.places q ≡ true
+    here_after c owned_by q in' n = ap (λ (u : Fact). has u.places q) n.3 ∙ n.4 (number_of q) ∙ in'
+
+    owning_after : (c : Covers p h false frs fr o x) (owned_by : IsTakenFrom o x c) (n : After o x y before at class broad goes_on done c owned_by) → is_owning_fact p n.1.origin n.1.fact ≡ is_owning_fact p c.origin n.0
+    owning_after c owned_by n = ap (λ (u : Origin). is_owning_fact p u n.1.fact) n.2 ∙ ap (is_owning_fact p c.origin) n.3
+
+    -- a fact that does not own it
+    unowned_on : (z q : Place) → IsUnowned p h false frs fr z o x → ((held : PlaceSet) → has held z ≡ true → has (copied held (place_of_field p f) (places.Temp d)) q ≡ true) → IsUnowned p k false frs after q o y
+    unowned_on z q u goes_to = by (store_covers o x y before at class broad goes_on done u.covers never q (goes_to u.covers.fact.places u.here))
+      where
+        never : IsTakenFrom o x u.covers
+        never owning = absurd (true≢false (sym owning ∙ u.unowned))
+
+        by : After o x y before at class broad goes_on done u.covers never → IsUnowned p k false frs after q o y
+        by n = record {
+          covers = n.1;
+          here = here_after u.covers never q (goes_to u.covers.fact.places u.here) n;
+          unowned = not_owning (is_owning_fact p u.covers.origin n.0) refl;
+        }
+          where
+            not_owning : (b : Bool) → is_owning_fact p u.covers.origin n.0 ≡ b → is_owning_fact p n.1.origin n.1.fact ≡ false
+            not_owning false none = owning_after u.covers never n ∙ none
+            not_owning true owning = absurd (true≢false (sym (left_owned o x y before at class broad goes_on done u.covers never n.0 n.5 owning).0 ∙ u.unowned))
+
+    -- the fact that owns it
+    module _ (c : Covers p h false frs fr o x) (key : IsOwned p h false frs fr o x c) where
+      owned_by : IsTakenFrom o x c
+      owned_by owning = key.owner refl
+
+      abbrev Now : Type 0
+      Now = After o x y before at class broad goes_on done c owned_by
+
+      -- the store takes it from a fact that has t(d), or not at all
+      still_owner : (n : Now) → is_owning_fact p c.origin n.0 ≡ true → y.owner ≡ owners.Frame (length frs + 1)
+      still_owner n owning = elim (stays o x y before at broad owes (key.owner refl)) [
+        | inl same ↦ same
+        | inr moved ↦ absurd (elim (key.others (places.Temp d) room.0 moved.0) [
+          | inl in' ↦ (left_owned o x y before at class broad goes_on done c owned_by n.0 n.5 owning).1 in'
+          | inr u ↦ elim (temp_is_taken p ac forms h frs fr st covered i d s f here is o x u.covers u.here moved.2 moved.1) [
+            | inl own ↦ true≢false (sym own ∙ u.unowned)
+            | inr free ↦ true≢false (sym (ap (is_frame_from 0) (key.owner refl) ∙ from_frame 0 (length frs + 1) (omega arith)) ∙ free)
+          ]
+        ])
+      ]
+
+      keyed_by : (n : Now) (q : Place) → has (copied c.fact.places (place_of_field p f) (places.Temp d)) q ≡ true → IsKeyed p k false frs after q o y
+      keyed_by n q in' = go (is_owning_fact p c.origin n.0) refl
+        where
+          each : (u : Place) → IsSmall u → root_of k (place_value p k after.method after.locals u) ≡ Some o → (has n.1.fact.places u ≡ true) ⊎ IsUnowned p k false frs after u o y
+          each u less is' =
+              let from = origin_of_place u o less is' in
+              elim (key.others from.0 from.1 from.2) [ inl in'' ↦ inl (here_after c owned_by u (from.3 c.fact.places in'') n) | inr free ↦ inr (unowned_on from.0 u free from.3) ]
+
+          go : (b : Bool) → is_owning_fact p c.origin n.0 ≡ b → IsKeyed p k false frs after q o y
+          go true owning = owned n.1 (here_after c owned_by q in' n) (record { owning = owning_after c owned_by n ∙ owning; owner = λ mine'. still_owner n owning; others = each })
+          go false none = unowned (record { covers = n.1; here = here_after c owned_by q in' n; unowned = owning_after c owned_by n ∙ none })
+
+      keyed_on : (q : Place) → has (copied c.fact.places (place_of_field p f) (places.Temp d)) q ≡ true → IsKeyed p k false frs after q o y
+      keyed_on q in' = keyed_by (store_covers o x y before at class broad goes_on done c owned_by q in') q in'
+
+    keyed_from : (q : Place) → ComesFrom q o → IsKeyed p k false frs after q o y
+    keyed_from q (z, small', held, goes_to) = by (covered z o x small' held before broad owes)
+      where
+        by : IsKeyed p h false frs fr z o x → IsKeyed p k false frs after q o y
+        by (owned c in' key) = keyed_on c key q (goes_to c.fact.places in')
+        by (unowned u) = unowned (unowned_on z q u goes_to)
+
+  pub store_covered : IsCovered p k gives_none frs after
+  store_covered q o y less root at heavy owes = came (origin_of_place q o less root)
+    where
+      came : ComesFrom q o → IsKeyed p k false frs after q o y
+      came from = by (carries o y at (numbered h links (place_value p h fr.method fr.locals from.0) o from.2 (inside from.0 from.1)).1)
+        where
+          by : IsCarried h o y → IsKeyed p k false frs after q o y
+          by (x, before, class, goes_on) =
+              keyed_from o x y before at class (ap (is_heavy_class p) (sym class) ∙ heavy) (owed_before x y goes_on owes) goes_on (ready from.0 o x y from.1 from.2 before at) q from
 
   -- ---- the frames that wait
 

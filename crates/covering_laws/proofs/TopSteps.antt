@@ -1,12 +1,13 @@
 -- The top frame takes a step of its own that stores into no owning field, or a step of a call that has ended: what its places hold
 -- stays covered.
-use Rattle.std.proofs.Common.{◌≡◌, ◌⊎◌, inl, inr, ℕ, zero, suc, ◌+◌, ◌<◌, ◌≤◌, Bool, cond, true, false, ◌||◌, Option, Some, None, slice_get, nat_eq, eqb-true, refl, sym, ap, ◌∙◌, subst, true≢false, arith}
+use Rattle.std.proofs.Common.{◌≡◌, ◌⊎◌, inl, inr, ℕ, zero, suc, ◌+◌, ◌<◌, ◌≤◌, Bool, cond, true, false, ◌&&◌, ◌||◌, Option, Some, None, List, length, slice_get, nat_eq, eqb-true, refl, sym, ap, ◌∙◌, subst, true≢false, arith}
 use Rattle.std.specs.FinSet as set
 use Rattle.std.proofs.lemmas.Bool.Decides.{nat_tests}
-use Rattle.std.proofs.lemmas.Bool.{and_parts, or_left, or_right}
+use Rattle.std.proofs.lemmas.Bool.{and_from, and_parts, or_left, or_right}
 use Rattle.program_model.specs.declared.kinds.BodyId.{BodyId}
+use Rattle.program_model.specs.declared.kinds.ClassId.{ClassId}
 use Rattle.program_model.specs.declared.program.Program.{Program}
-use Rattle.value_type_laws.specs.MustCallSets.{Names, is_heavy_class}
+use Rattle.ledger_obligations.specs.MustCallSets.{Names, is_heavy_class, must_of}
 use Rattle.java_control.specs.Calls.{is_reset_of_this}
 use Rattle.java_control.specs.Control.{Step}
 use Rattle.java_control.specs.PlaceNumbers.{IsSmall, number_of}
@@ -14,37 +15,41 @@ use Rattle.java_control.specs.Sources.{source}
 use Rattle.java_control.specs.declared.action.Action.TheVariants as actions
 use Rattle.java_control.specs.declared.action.PlainValue.{PlainValue}
 use Rattle.java_control.specs.declared.fact.Fact.{Fact}
+use Rattle.java_control.specs.declared.fact.Mode.TheVariants as modes
 use Rattle.java_control.specs.declared.fact.Origin.{Origin}
 use Rattle.java_control.specs.declared.place.Place.{Place}
 use Rattle.java_control.specs.declared.place.Place.TheVariants as places
-use Rattle.target_laws.specs.Facts.{PlaceSet, has, has_field, has_field_from, has_part, is_held, is_own}
-use Rattle.target_laws.specs.SmallActions.{IsSmallAction}
-use Rattle.alias_sets.specs.Aliases.{gives_alias}
-use Rattle.alias_sets.specs.PlaceRows.{places_after}
-use Rattle.called_methods.specs.CalledRows.{called_after}
-use Rattle.flow_rules.specs.Flow.{flow}
-use Rattle.flow_rules.specs.Paths.{Reach, move_of, relation_of}
-use Rattle.target_laws.specs.Accept.{Accept}
+use Rattle.ownership_rules.specs.Facts.{PlaceSet, has, has_field, has_field_from, has_part, is_held, is_own}
+use Rattle.ownership_rules.specs.SmallActions.{IsSmallAction}
+use Rattle.value_laws.specs.Aliases.{gives_alias}
+use Rattle.value_laws.specs.PlaceRows.{places_after}
+use Rattle.value_laws.specs.CalledRows.{called_after}
+use Rattle.value_laws.specs.Flow.{flow}
+use Rattle.value_laws.specs.Paths.{Reach, move_of, relation_of}
+use Rattle.value_laws.specs.Accept.{Accept}
 use Rattle.ledger_state.specs.Contents.{HeapContents}
 use Rattle.ledger_state.specs.Heaps.{object_at, root_of}
+use Rattle.ledger_state.specs.declared.entry.Owner.TheVariants as owners
 use Rattle.ledger_state.specs.declared.object.Object.{Object}
 use Rattle.ledger_state.specs.declared.value.Value.{Value}
-use Rattle.program_call_laws.specs.Places.{place_value}
-use Rattle.program_call_laws.specs.Configuration.{Frame}
-use Rattle.target_laws.specs.Choosing.{body_by, body_id, frame_steps, method_body}
-use Rattle.target_laws.specs.Frames.{frame_after, is_made, made_place}
-use Rattle.program_call_laws.specs.Heaps.{GoesOn, HasEarlierLinks}
-use Rattle.field_place_laws.specs.Places.{HasTarget, IsWay, SetsLocals, has_source, is_local, takes_alias}
-use Rattle.field_place_laws.proofs.Laws.{alias_stands, places_come_from_sources, places_stay_in_range, source_is_small, value_comes_from_source}
-use Rattle.tracking_laws.specs.Agreement.{Stands}
-use Rattle.tracking_laws.specs.Outcomes.{After}
-use Rattle.fact_step_laws.specs.Going.{GoesAs, is_in_this, is_owned_in}
-use Rattle.kept_argument_laws.specs.PlaceFacts.{Covers, IsCovered, IsTrueOf, claims, may_owe, is_lent}
-use Rattle.kept_argument_laws.proofs.HeavyFields.{claims_as, claims_owned, held_mode, held_tells, lent_tells, tells_by}
-use Rattle.field_place_laws.proofs.OtherPlaces.{stays_aside}
-use Rattle.field_place_laws.proofs.ValuesAfter.{IsFrom, value_is_from}
-use Rattle.kept_argument_laws.proofs.Following.{followed, same_body, step_there}
-use Rattle.covering_laws.proofs.Waiting.{Carries, HoldsThere, IsCarried, KeepsFields, KeepsReady, KeepsRootsOf, numbered, owed_before, same_place, still_true, stays_unowned}
+use Rattle.value_laws.specs.Places.{place_value}
+use Rattle.value_laws.specs.Configuration.{Frame}
+use Rattle.value_laws.specs.Choosing.{body_by, body_id, frame_steps, method_body}
+use Rattle.value_laws.specs.Frames.{frame_after, is_made, made_place}
+use Rattle.value_laws.specs.Heaps.{GoesOn, HasEarlierLinks}
+use Rattle.value_laws.specs.PlacePlaces.{HasTarget, IsWay, SetsLocals, has_source, is_local, takes_alias}
+use Rattle.value_laws.proofs.PlaceLaws.{alias_stands, places_come_from_sources, places_stay_in_range, single_place-same, source_is_small, value_comes_from_source}
+use Rattle.value_laws.specs.Agreement.{Stands}
+use Rattle.value_laws.specs.Outcomes.{After}
+use Rattle.value_laws.specs.FactGoing.{GoesAs, is_in_this, is_owned_in}
+use Rattle.value_laws.specs.PlaceFacts.{Covers, IsCovered, IsKeyed, IsOwned, IsTrueOf, IsUnowned, claims, gives_none, is_lent, is_owning_fact, may_owe, owned, tells_calls, unowned}
+use Rattle.covering_laws.proofs.HeavyFields.{apart_alone, claims_alone, claims_as, claims_owned, held_mode, held_tells, lent_tells, owning_claims, tells_by}
+use Rattle.value_laws.proofs.OtherPlaces.{stays_aside}
+use Rattle.value_laws.proofs.ValuesAfter.{IsFrom, value_is_from}
+use Rattle.covering_laws.proofs.Following.{followed, same_body, step_there}
+use Rattle.covering_laws.proofs.Owners.{KeepsGiven, StaysApart, apart_before}
+use Rattle.value_laws.proofs.Needs.{origin_needs_all}
+use Rattle.covering_laws.proofs.Waiting.{Carries, Continues, HoldsThere, IsCarried, KeepsFields, KeepsReady, KeepsRootsOf, numbered, owed_before, same_place, still_true, stays_unowned}
 use Rattle.rlc_base.proofs.SetLaws.{within_trans}
 use Rattle.program_model.specs.Lookups.{method_at}
 use Rattle.java_control.specs.declared.fact.Outcome.{Outcome}
@@ -88,6 +93,12 @@ pub record IsLocalStep (p : Program) (fr : Frame) (st : Stands p fr) (s : Step) 
   pub target : HasTarget fr.locals s.action
   pub no_reset : is_reset_of_this p s.action ≡ false
   pub way : IsWay s.action s.edge
+
+-- no fact of the frame goes on owning the object
+abbrev pub StopsOwning : (p : Program) → HeapContents → Frame → List Frame → (ℕ → ClassId → Bool) → (Origin → Fact → Fact → Type 0) → ℕ → Type 0
+StopsOwning p h fr frs gives More o =
+    (x : Object) → object_at h o ≡ Some x → (z : Place) → IsSmall z → root_of h (place_value p h fr.method fr.locals z) ≡ Some o → (c : Covers p h (gives o x.class) frs fr o x) → IsOwned p h (gives o x.class) frs fr o x c
+    → (g : Fact) → More c.origin c.fact g → is_own g.mode ≡ false
 
 module _ (p : Program) (ac : Accept p) (h k : HeapContents) (links : HasEarlierLinks h) (carries : Carries h k) (fields : KeepsFields p h k)
     (fr : Frame) (st : Stands p fr) (i : ℕ) (s : Step) (here : slice_get (frame_steps p fr) i ≡ Some s) (r : IsLocalStep p fr st s) (inside : HoldsThere p h fr) (roots : KeepsRootsOf p h k fr) (v : Value) where
@@ -149,106 +160,376 @@ module _ (p : Program) (ac : Accept p) (h k : HeapContents) (links : HasEarlierL
   IsTrusted g f = (is_owned_in f.mode ≡ true) ⊎ (is_lent p (method_at p fr.method) g.kind ≡ true)
 
   -- the step lets the fact go on, and what it knows to have been called was
-  module _ (o : ℕ) (x y : Object) (goes : x.finished ≡ true → GoesOn x y) (z : Place) (c : Covers p h fr z o x)
+  module _ (frs : List Frame) (away : Bool) (o : ℕ) (x y : Object) (before : object_at h o ≡ Some x) (at : object_at k o ≡ Some y) (class : y.class ≡ x.class) (wide : is_heavy_class p x.class ≡ true)
+      (goes : x.finished ≡ true → Continues x y) (ready : y.finished ≡ true → x.finished ≡ true) (gifts : KeepsGiven p h k frs) (others : StaysApart p h k (length frs + 1) fr) (c : Covers p h away frs fr o x)
       (More : Fact → Type 0)
       (row : (q : Place) → has (later c.fact.places) q ≡ true
       → After (λ (g : Fact). GoesAs c.fact (later c.fact.places) (called_after p st.number s.action s.edge c.fact) g × More g) (flow p st.number c.origin s.action s.edge c.fact))
-      (ready : y.finished ≡ true → x.finished ≡ true)
-      (known : (g : Fact) → More g → IsTrusted c.origin g → x.finished ≡ true → is_heavy_class p c.origin.class ≡ true → set.is_subset c.fact.called y.called ≡ true
+      (spared : (g : Fact) → More g → is_own g.mode ≡ true → is_owning_fact p c.origin c.fact ≡ true → away ≡ false)
+      (known : (g : Fact) → More g → IsTrusted c.origin g → away ≡ false → x.finished ≡ true → is_heavy_class p c.origin.class ≡ true → set.is_subset c.fact.called y.called ≡ true
       → set.is_subset (called_after p st.number s.action s.edge c.fact) y.called ≡ true)
       (alias : GivesIt c.fact.places o) where
     reached : Reach p st.number (relation_of p st.number) c.origin fr.control c.fact
     reached = subst (λ (b : BodyId). Reach p b (relation_of p b) c.origin fr.control c.fact) (same_body c.body st.number (body_id p fr.method) c.id st.id) c.reached
 
-    pub covers_on : (q : Place) → IsSmall q → has (later c.fact.places) q ≡ true → Covers p k after q o y
-    covers_on q small is = by (followed p ac st.number c.origin i (move_of s) c.fact (λ (g : Fact). GoesAs c.fact (later c.fact.places) (called_after p st.number s.action s.edge c.fact) g × More g) reached (step_there p fr st i s here) (row q is))
+    -- it goes on as this fact
+    abbrev pub Goes : Fact → Type 0
+    Goes g = Reach p st.number (relation_of p st.number) c.origin s.to g × (GoesAs c.fact (later c.fact.places) (called_after p st.number s.action s.edge c.fact) g × More g)
+
+    pub gone_on : (q : Place) → has (later c.fact.places) q ≡ true → (g : Fact) × Goes g
+    gone_on q is = by (followed p ac st.number c.origin i (move_of s) c.fact (λ (g : Fact). GoesAs c.fact (later c.fact.places) (called_after p st.number s.action s.edge c.fact) g × More g) reached (step_there p fr st i s here) (row q is))
       where
-        aside : (n : ℕ) → n < 16 → has (later c.fact.places) (places.Field n) ≡ has c.fact.places (places.Field n)
-        aside n inside = stays_aside (places.Field n) inside refl p st.number s.edge c.fact.places s.action r.small r.sets r.moves r.makes r.no_reset
+        by : (g : Fact) × Reach p st.number (relation_of p st.number) c.origin s.to g × (GoesAs c.fact (later c.fact.places) (called_after p st.number s.action s.edge c.fact) g × More g) → (g : Fact) × Goes g
+        by (g, reach, rest) = (g, (reach, rest))
 
-        by : (g : Fact) × Reach p st.number (relation_of p st.number) c.origin s.to g × (GoesAs c.fact (later c.fact.places) (called_after p st.number s.action s.edge c.fact) g × More g) → Covers p k after q o y
-        by (g, reach, (on, more)) = record {
-          body = st.number;
-          id = st.id;
-          origin = c.origin;
-          fact = g;
-          reached = reach;
-          alone = λ n inside. places_stay_in_range p st.number s.action s.edge c.fact.places r.small c.alone n (sym (on.places n) ∙ inside);
-          here = on.places (number_of q) ∙ is;
-          places = λ z' small' inside. still_holds c.fact.places o c.places alias z' small' (sym (on.places (number_of z')) ∙ inside);
-          true' = λ claimed. truth claimed (claims_owned p (method_at p fr.method) c.origin g claimed);
-          lent = λ lent. (stays_unowned c.fact.mode g.mode on.mode (c.lent lent).0, (c.lent lent).1);
-          known = λ done tells. within_trans g.called (called_after p st.number s.action s.edge c.fact) y.called on.known (told (ready done) (tells_by p fr.method c.origin g tells));
-          fields = λ n inside wide there. c.fields n inside wide (sym (aside n inside) ∙ sym (on.places (161 + n)) ∙ there);
-          held = λ n inside there heavy.
-              let was = c.held n inside (sym (aside n inside) ∙ sym (on.places (161 + n)) ∙ there) heavy in
-              (on.held was.0 (in_this (later c.fact.places) n inside (sym (on.places (161 + n)) ∙ there)), was.1);
-        }
-          where
-            -- what the fact knew goes on to be true
-            told : x.finished ≡ true → (is_lent p (method_at p fr.method) c.origin.kind ≡ true) ⊎ ((is_heavy_class p c.origin.class ≡ true) × (is_held g.mode ≡ true))
-                → set.is_subset (called_after p st.number s.action s.edge c.fact) y.called ≡ true
-            told done (inl lent) =
-                known g more (inr lent) done (c.lent lent).1 (within_trans c.fact.called x.called y.called (c.known done (lent_tells p fr.method c.origin c.fact lent)) (goes done).called)
-            told done (inr held) =
-                let owned : is_owned_in g.mode ≡ true = or_right (is_own g.mode) (is_held g.mode) held.1 in
-                let was : is_held c.fact.mode ≡ true = ap is_held (sym (on.mode owned)) ∙ held.1 in
-                known g more (inl owned) done held.0 (within_trans c.fact.called x.called y.called (c.known done (held_tells p fr.method c.origin c.fact (held_mode c.fact.mode was) held.0)) (goes done).called)
+    module _ (g : Fact) (goes_on : Goes g) where
+      on : GoesAs c.fact (later c.fact.places) (called_after p st.number s.action s.edge c.fact) g
+      on = goes_on.1.0
 
-            truth : claims p (method_at p fr.method) c.origin g ≡ true → (is_heavy_class p c.origin.class ≡ true) × (is_owned_in g.mode ≡ true) → IsTrueOf p y c.origin g
-            truth claimed (heavy, owned) =
-                let was = c.true' (claims_as p (method_at p fr.method) c.origin c.fact g (on.mode owned) claimed) in
-                let still = still_true p x y c.origin c.fact (goes was.finished) was in
-                record {
-                  finished = still.finished;
-                  class = still.class;
-                  bounded = still.bounded;
-                  need = subst (λ (b : Bool). set.is_subset y.must (cond b c.origin.full c.origin.first) ≡ true) (sym on.full) still.need;
-                  called = ap (λ (t : Names). set.is_subset t y.called) (on.called owned) ∙ known g more (inl owned) was.finished heavy still.called;
-                }
+      more : More g
+      more = goes_on.1.1
+
+      aside : (n : ℕ) → n < 16 → has (later c.fact.places) (places.Field n) ≡ has c.fact.places (places.Field n)
+      aside n inside = stays_aside (places.Field n) inside refl p st.number s.edge c.fact.places s.action r.small r.sets r.moves r.makes r.no_reset
+
+      -- where it says that the frame owns the object, so did the fact before
+      pub owning_before : is_owning_fact p c.origin g ≡ true → is_owning_fact p c.origin c.fact ≡ true
+      owning_before owning =
+          let parts = and_parts (is_heavy_class p c.origin.class) (is_own g.mode) owning in
+          and_from (is_heavy_class p c.origin.class) (is_own c.fact.mode) parts.0 (ap is_own (sym (on.mode (or_left (is_own g.mode) (is_held g.mode) parts.1))) ∙ parts.1)
+
+      held_before : is_held g.mode ≡ true → is_held c.fact.mode ≡ true
+      held_before held = ap is_held (sym (on.mode (or_right (is_own g.mode) (is_held g.mode) held))) ∙ held
+
+      stays_owned : is_heavy_class p c.origin.class ≡ true → is_own g.mode ≡ true → away ≡ false
+      stays_owned heavy own = spared g more own (owning_before (and_from (is_heavy_class p c.origin.class) (is_own g.mode) heavy own))
+
+      -- what it claims is claimed of an object that is not given away, or that a field holds
+      not_given : claims p (method_at p fr.method) c.origin g ≡ true → (away && is_own c.fact.mode) ≡ false
+      not_given claimed = by (is_own g.mode) refl
+        where
+          owned : (is_heavy_class p c.origin.class ≡ true) × (is_owned_in g.mode ≡ true)
+          owned = claims_owned p (method_at p fr.method) c.origin g claimed
+
+          none : (a b : Bool) → b ≡ false → (a && b) ≡ false
+          none true b is = is
+          none false b is = refl
+
+          by : (b : Bool) → is_own g.mode ≡ b → (away && is_own c.fact.mode) ≡ false
+          by true own = ap (λ (b : Bool). b && is_own c.fact.mode) (stays_owned owned.0 own)
+          by false other = none away (is_own c.fact.mode) (ap is_own (sym (on.mode owned.1)) ∙ other)
+
+      was_true : claims p (method_at p fr.method) c.origin g ≡ true → IsTrueOf p x c.origin c.fact
+      was_true claimed = c.true' (claims_as p (method_at p fr.method) c.origin c.fact g (on.mode (claims_owned p (method_at p fr.method) c.origin g claimed).1) claimed) (not_given claimed)
+
+      not_away : claims p (method_at p fr.method) c.origin g ≡ true → away ≡ false
+      not_away claimed = by (is_own g.mode) refl
+        where
+          owned : (is_heavy_class p c.origin.class ≡ true) × (is_owned_in g.mode ≡ true)
+          owned = claims_owned p (method_at p fr.method) c.origin g claimed
+
+          second : (a b : Bool) → (a || b) ≡ true → a ≡ false → b ≡ true
+          second true b is none = absurd (true≢false none)
+          second false b is none = is
+
+          by : (b : Bool) → is_own g.mode ≡ b → away ≡ false
+          by true own = stays_owned owned.0 own
+          by false other =
+              let held : is_held g.mode ≡ true = second (is_own g.mode) (is_held g.mode) owned.1 other in
+              let was : c.fact.mode ≡ modes.Held = held_mode c.fact.mode (held_before held) in
+              (c.known (was_true claimed).finished (held_tells p fr.method c.origin c.fact was owned.0)
+              (apart_alone p h frs fr o x c.fact was (claims_alone p (method_at p fr.method) c.origin g (held_mode g.mode held) claimed))).0
+
+      truth : claims p (method_at p fr.method) c.origin g ≡ true → IsTrueOf p y c.origin g
+      truth claimed =
+          let owned = claims_owned p (method_at p fr.method) c.origin g claimed in
+          let was = was_true claimed in
+          let still = still_true p x y c.origin c.fact (goes was.finished).0 was in
+          record {
+            finished = still.finished;
+            class = still.class;
+            bounded = still.bounded;
+            need = by_full still on.full;
+            called = within_trans g.called (called_after p st.number s.action s.edge c.fact) y.called on.known (known g more (inl owned.1) (not_away claimed) was.finished owned.0 still.called);
+          }
+        where
+          -- needed is what was, or all that the class asks for
+          by_full : IsTrueOf p y c.origin c.fact → (g.full ≡ c.fact.full) ⊎ (g.full ≡ true) → set.is_subset y.must (cond g.full c.origin.full c.origin.first) ≡ true
+          by_full was (inl same) = subst (λ (b : Bool). set.is_subset y.must (cond b c.origin.full c.origin.first) ≡ true) (sym same) was.need
+          by_full was (inr all) =
+              subst (λ (b : Bool). set.is_subset y.must (cond b c.origin.full c.origin.first) ≡ true) (sym all)
+              (within_trans y.must (must_of p y.class) c.origin.full was.bounded
+              (subst (λ (t : Names). set.is_subset (must_of p y.class) t ≡ true) (sym (origin_needs_all p st.number c.origin fr.control c.fact reached)) was.class))
+
+      -- what it tells of the object
+      tells_before : (is_lent p (method_at p fr.method) c.origin.kind ≡ true) ⊎ ((is_heavy_class p c.origin.class ≡ true) × (is_held g.mode ≡ true))
+          → (tells_calls p fr.method c.origin c.fact ≡ true) × IsTrusted c.origin g × (is_heavy_class p c.origin.class ≡ true)
+      tells_before (inl lent) = (lent_tells p fr.method c.origin c.fact lent, inr lent, (c.lent lent).1)
+      tells_before (inr held) = (held_tells p fr.method c.origin c.fact (held_mode c.fact.mode (held_before held.1)) held.0, inl (or_right (is_own g.mode) (is_held g.mode) held.1), held.0)
+
+      pub covers_on : Covers p k false frs after o y
+      covers_on = record {
+        body = st.number;
+        id = st.id;
+        origin = c.origin;
+        fact = g;
+        reached = goes_on.0;
+        alone = λ n inside'. places_stay_in_range p st.number s.action s.edge c.fact.places r.small c.alone n (sym (on.places n) ∙ inside');
+        places = λ z' small' inside'. still_holds c.fact.places o c.places alias z' small' (sym (on.places (number_of z')) ∙ inside');
+        true' = λ claimed spared'. truth claimed;
+        lent = λ lent. (stays_unowned c.fact.mode g.mode on.mode (c.lent lent).0, (c.lent lent).1);
+        free = λ claimed held. others.free o x y before at (was_true claimed).finished wide (c.free (claims_as p (method_at p fr.method) c.origin c.fact g (on.mode (claims_owned p (method_at p fr.method) c.origin g claimed).1) claimed) (held_before held));
+        known = λ done tells apart.
+            let was_done = ready done in
+            let told = tells_before (tells_by p fr.method c.origin g tells) in
+            let was = c.known was_done told.0 (apart_before p h k frs fr o x y c.fact g gifts class held_before (λ plain own. others.content o x y before at was_done wide plain own) (λ low. others.low o x y before at was_done wide low) apart) in (
+              refl,
+              others.apart o x y before at was_done wide was.1,
+              within_trans g.called (called_after p st.number s.action s.edge c.fact) y.called on.known
+                  (known g more told.1 was.0 was_done told.2 (within_trans c.fact.called x.called y.called was.2 (goes was_done).0.called)),
+            );
+        fields = λ n inside' wide' there. c.fields n inside' wide' (sym (aside n inside') ∙ sym (on.places (161 + n)) ∙ there);
+        held = λ n inside' there heavy.
+            let was = c.held n inside' (sym (aside n inside') ∙ sym (on.places (161 + n)) ∙ there) heavy in
+            (on.held was.0 (in_this (later c.fact.places) n inside' (sym (on.places (161 + n)) ∙ there)), was.1);
+      }
+
+      pub has_on : (q : Place) → has (later c.fact.places) q ≡ true → has g.places q ≡ true
+      has_on q is = on.places (number_of q) ∙ is
 
   -- a place held the object before the step, whose facts have the other place after it
   abbrev pub ComesFrom : Place → ℕ → Type 0
   ComesFrom q o = (z : Place) × IsSmall z × (root_of h (place_value p h fr.method fr.locals z) ≡ Some o) × ((held : PlaceSet) → has held z ≡ true → has (later held) q ≡ true)
 
-  -- all that the frame's places hold after the step was held before it, or the step made it
-  module _ (covered : IsCovered p h fr) (ready : KeepsReady p h k fr)
-      (More : Origin → Fact → Fact → Type 0)
-      (row : (z : Place) (o : ℕ) (x : Object) (c : Covers p h fr z o x) (q : Place) → has (later c.fact.places) q ≡ true
-      → After (λ (g : Fact). GoesAs c.fact (later c.fact.places) (called_after p st.number s.action s.edge c.fact) g × More c.origin c.fact g) (flow p st.number c.origin s.action s.edge c.fact))
-      (known : (z : Place) (o : ℕ) (x y : Object) (c : Covers p h fr z o x) → object_at h o ≡ Some x → object_at k o ≡ Some y → (g : Fact) → More c.origin c.fact g → IsTrusted c.origin g → x.finished ≡ true → GoesOn x y → is_heavy_class p c.origin.class ≡ true
-      → is_heavy_class p x.class ≡ true → may_owe x ≡ true → set.is_subset c.fact.called y.called ≡ true → set.is_subset (called_after p st.number s.action s.edge c.fact) y.called ≡ true)
-      (alias : (z : Place) (o : ℕ) (x : Object) (c : Covers p h fr z o x) → object_at h o ≡ Some x → is_heavy_class p x.class ≡ true → may_owe x ≡ true → GivesIt c.fact.places o)
-      (made : (q : Place) (o : ℕ) (y : Object) → IsSmall q → is_local q ≡ true → source p st.body s.action s.edge q ≡ None → is_made (made_place s.action) q ≡ true → place_value p k fr.method after.locals q ≡ v → root_of k v ≡ Some o → object_at k o ≡ Some y → is_heavy_class p y.class ≡ true
-      → may_owe y ≡ true → Covers p k after q o y ⊎ ComesFrom q o) where
-    -- an object that a place held before the step
-    held_before : (z q : Place) (o : ℕ) (y : Object) → IsSmall z → IsSmall q → root_of h (place_value p h fr.method fr.locals z) ≡ Some o → object_at k o ≡ Some y → is_heavy_class p y.class ≡ true
-        → may_owe y ≡ true → ((held : PlaceSet) → has held z ≡ true → has (later held) q ≡ true) → Covers p k after q o y
-    held_before z q o y small small' root at heavy owes goes_to = by (carries o y at (numbered h links (place_value p h fr.method fr.locals z) o root (inside z small)).1)
-      where
-        by : IsCarried h o y → Covers p k after q o y
-        by (x, before, class, goes) =
-            let heavy' : is_heavy_class p x.class ≡ true = ap (is_heavy_class p) (sym class) ∙ heavy in
-            let owes' = owed_before x y goes owes in
-            let c : Covers p h fr z o x = covered z o x small root before heavy' owes' in
-            covers_on o x y goes z c (More c.origin c.fact) (row z o x c) (ready z o x y small root before at) (λ g more trusted done wide was. known z o x y c before at g more trusted done (goes done) wide heavy' owes' was) (alias z o x c before heavy' owes') q small' (goes_to c.fact.places c.here)
+  -- The step gives the object to the place. A fact is born there, and no fact of the frame goes on owning the object; or a fact that does not own it stands
+  -- there; or it comes from another place.
+  abbrev pub IsMadeSo : List Frame → (ℕ → ClassId → Bool) → (Origin → Fact → Fact → Type 0) → Place → ℕ → Object → Type 0
+  IsMadeSo frs gives More q o y =
+      ((d : Covers p k false frs after o y) × (has d.fact.places q ≡ true) × (y.owner ≡ owners.Frame (length frs + 1)) × StopsOwning p h fr frs gives More o) ⊎ (IsUnowned p k false frs after q o y ⊎ ComesFrom q o)
 
-    pub top_covered : IsCovered p k after
-    top_covered q o y small root at heavy owes = go (is_local q) refl
+  -- a fact that says after the step that the frame owns the object said so before it, or no other fact goes on owning it
+  abbrev pub IsOwnedFrom : List Frame → (ℕ → ClassId → Bool) → (Origin → Fact → Fact → Type 0) → ℕ → Origin → Fact → Type 0
+  IsOwnedFrom frs gives More o origin g =
+      ((x : Object) × (object_at h o ≡ Some x) × (c : Covers p h (gives o x.class) frs fr o x) × IsOwned p h (gives o x.class) frs fr o x c × (origin ≡ c.origin) × More c.origin c.fact g)
+      ⊎ StopsOwning p h fr frs gives More o
+
+  -- the place is in a fact that owns the object so, or in one that does not
+  abbrev pub IsKeyedFrom : List Frame → (ℕ → ClassId → Bool) → (Origin → Fact → Fact → Type 0) → Place → ℕ → Object → Type 0
+  IsKeyedFrom frs gives More q o y =
+      ((c : Covers p k false frs after o y) × (has c.fact.places q ≡ true) × IsOwned p k false frs after o y c × IsOwnedFrom frs gives More o c.origin c.fact) ⊎ IsUnowned p k false frs after q o y
+
+  -- all that the frame's places hold after the step was held before it, or the step made it
+  module _ (frs : List Frame) (gives : ℕ → ClassId → Bool) (covered : IsCovered p h gives frs fr) (ready : KeepsReady p h k fr) (gifts : KeepsGiven p h k frs) (others : StaysApart p h k (length frs + 1) fr)
+      (More : Origin → Fact → Fact → Type 0)
+      (row : (o : ℕ) (x : Object) (c : Covers p h (gives o x.class) frs fr o x) (q : Place) → has (later c.fact.places) q ≡ true
+      → After (λ (g : Fact). GoesAs c.fact (later c.fact.places) (called_after p st.number s.action s.edge c.fact) g × More c.origin c.fact g) (flow p st.number c.origin s.action s.edge c.fact))
+      (known : (o : ℕ) (x y : Object) (c : Covers p h (gives o x.class) frs fr o x) → object_at h o ≡ Some x → object_at k o ≡ Some y → (g : Fact) → More c.origin c.fact g → IsTrusted c.origin g → gives o x.class ≡ false → x.finished ≡ true → GoesOn x y
+      → is_heavy_class p c.origin.class ≡ true → is_heavy_class p x.class ≡ true → may_owe x ≡ true → set.is_subset c.fact.called y.called ≡ true → set.is_subset (called_after p st.number s.action s.edge c.fact) y.called ≡ true)
+      (alias : (o : ℕ) (x : Object) (c : Covers p h (gives o x.class) frs fr o x) → object_at h o ≡ Some x → is_heavy_class p x.class ≡ true → may_owe x ≡ true → GivesIt c.fact.places o)
+      (own : (o : ℕ) (x y : Object) (c : Covers p h (gives o x.class) frs fr o x) → IsOwned p h (gives o x.class) frs fr o x c → object_at h o ≡ Some x → object_at k o ≡ Some y → is_heavy_class p x.class ≡ true → may_owe x ≡ true
+      → (g : Fact) → More c.origin c.fact g → is_own g.mode ≡ true → (gives o x.class ≡ false) × (x.finished ≡ true → x.owner ≡ owners.Frame (length frs + 1) → y.owner ≡ owners.Frame (length frs + 1)))
+      (made : (q : Place) (o : ℕ) (y : Object) → IsSmall q → is_local q ≡ true → source p st.body s.action s.edge q ≡ None → is_made (made_place s.action) q ≡ true → place_value p k fr.method after.locals q ≡ v → root_of k v ≡ Some o → object_at k o ≡ Some y
+      → is_heavy_class p y.class ≡ true → may_owe y ≡ true → IsMadeSo frs gives More q o y) where
+    -- the place takes what the step makes
+    abbrev IsMadeAt : Place → Type 0
+    IsMadeAt q = (is_local q ≡ true) × (source p st.body s.action s.edge q ≡ None) × (is_made (made_place s.action) q ≡ true) × (place_value p k fr.method after.locals q ≡ v)
+
+    origin_of_place : (q : Place) (o : ℕ) → IsSmall q → root_of k (place_value p k fr.method after.locals q) ≡ Some o → ComesFrom q o ⊎ IsMadeAt q
+    origin_of_place q o small held = go (is_local q) refl
       where
-        from : is_local q ≡ true → (z : Option Place) → source p st.body s.action s.edge q ≡ z → IsFrom p h k fr.method st.body fr.locals s.action s.edge v body_here q z → Covers p k after q o y
-        from local None e is = elim (made q o y small local e is.0 is.1 (ap (root_of k) (sym is.1) ∙ root) at heavy owes) [
-          | inl covers ↦ covers
-          | inr comes ↦ held_before comes.0 q o y comes.1 small comes.2 at heavy owes comes.3
-        ]
+        from : is_local q ≡ true → (z : Option Place) → source p st.body s.action s.edge q ≡ z → IsFrom p h k fr.method st.body fr.locals s.action s.edge v body_here q z → ComesFrom q o ⊎ IsMadeAt q
+        from local None e is = inr (local, e, is.0, is.1)
         from local (Some z) e is =
             let small' = source_is_small p st.body s.action s.edge q z r.small small e in
-            held_before z q o y small' small (root_earlier z o small' (ap (root_of k) (sym is) ∙ root)) at heavy owes
-            (λ held one. places_come_from_sources p st.number st.body s.action s.edge held q st.at r.small small local r.way
-            ∙ or_right (takes_alias p s.action s.edge held q) (has_source held (source p st.body s.action s.edge q)) (ap (has_source held) e ∙ one))
+            inl (
+              z,
+              small',
+              root_earlier z o small' (ap (root_of k) (sym is) ∙ held),
+              (λ held' one. places_come_from_sources p st.number st.body s.action s.edge held' q st.at r.small small local r.way
+                  ∙ or_right (takes_alias p s.action s.edge held' q) (has_source held' (source p st.body s.action s.edge q)) (ap (has_source held') e ∙ one)),
+            )
 
-        go : (b : Bool) → is_local q ≡ b → Covers p k after q o y
-        go true local = from local (source p st.body s.action s.edge q) refl (value_is_from p h k fr.method st.body fr.locals s.action s.edge v body_here q o small local root)
-        go false out =
-            held_before q q o y small small (root_earlier q o small (ap (root_of k) (sym (other q out ∙ same_place p h k fields fr.method fr.locals q)) ∙ root)) at heavy owes
-            (λ held one. stays_aside q small out p st.number s.edge held s.action r.small r.sets r.moves r.makes r.no_reset ∙ one)
+        go : (b : Bool) → is_local q ≡ b → ComesFrom q o ⊎ IsMadeAt q
+        go true local = from local (source p st.body s.action s.edge q) refl (value_is_from p h k fr.method st.body fr.locals s.action s.edge v body_here q o small local held)
+        go false out = inl (
+          q,
+          small,
+          root_earlier q o small (ap (root_of k) (sym (other q out ∙ same_place p h k fields fr.method fr.locals q)) ∙ held),
+          (λ held' one. stays_aside q small out p st.number s.edge held' s.action r.small r.sets r.moves r.makes r.no_reset ∙ one),
+        )
+
+    -- an object that was there
+    module _ (o : ℕ) (x y : Object) (before : object_at h o ≡ Some x) (at : object_at k o ≡ Some y) (class : y.class ≡ x.class) (wide : is_heavy_class p x.class ≡ true) (owes : may_owe x ≡ true) (wide' : is_heavy_class p y.class ≡ true) (owes' : may_owe y ≡ true)
+        (goes : x.finished ≡ true → Continues x y) (done : y.finished ≡ true → x.finished ≡ true) where
+      abbrev away : Bool
+      away = gives o x.class
+
+      -- a fact that does not own it
+      unowned_on : (z q : Place) → IsUnowned p h away frs fr z o x → ((held : PlaceSet) → has held z ≡ true → has (later held) q ≡ true) → IsUnowned p k false frs after q o y
+      unfolding covers_on
+      unowned_on z q u goes_to = by (gone_on frs away o x y before at class wide goes done gifts others u.covers (More u.covers.origin u.covers.fact) (row o x u.covers) spared trusted (alias o x u.covers before wide owes) q (goes_to u.covers.fact.places u.here))
+        where
+          spared : (g : Fact) → More u.covers.origin u.covers.fact g → is_own g.mode ≡ true → is_owning_fact p u.covers.origin u.covers.fact ≡ true → away ≡ false
+          spared g its mine owning = absurd (true≢false (sym owning ∙ u.unowned))
+
+          trusted : (g : Fact) → More u.covers.origin u.covers.fact g → IsTrusted u.covers.origin g → away ≡ false → x.finished ≡ true → is_heavy_class p u.covers.origin.class ≡ true → set.is_subset u.covers.fact.called y.called ≡ true
+              → set.is_subset (called_after p st.number s.action s.edge u.covers.fact) y.called ≡ true
+          trusted g its trust stays finished heavy was = known o x y u.covers before at g its trust stays finished (goes finished).0 heavy wide owes was
+
+          by : (g : Fact) × Goes frs away o x y before at class wide goes done gifts others u.covers (More u.covers.origin u.covers.fact) (row o x u.covers) spared trusted (alias o x u.covers before wide owes) g → IsUnowned p k false frs after q o y
+          by (g, on) = record {
+            covers = covers_on frs away o x y before at class wide goes done gifts others u.covers (More u.covers.origin u.covers.fact) (row o x u.covers) spared trusted (alias o x u.covers before wide owes) g on;
+            here = has_on frs away o x y before at class wide goes done gifts others u.covers (More u.covers.origin u.covers.fact) (row o x u.covers) spared trusted (alias o x u.covers before wide owes) g on q (goes_to u.covers.fact.places u.here);
+            unowned = not_owning (is_owning_fact p u.covers.origin g) refl;
+          }
+            where
+              not_owning : (b : Bool) → is_owning_fact p u.covers.origin g ≡ b → is_owning_fact p u.covers.origin g ≡ false
+              not_owning false none = none
+              not_owning true owning =
+                  absurd (true≢false (sym (owning_before frs away o x y before at class wide goes done gifts others u.covers (More u.covers.origin u.covers.fact) (row o x u.covers) spared trusted (alias o x u.covers before wide owes) g on owning) ∙ u.unowned))
+
+      -- the fact that owns it
+      module _ (c : Covers p h away frs fr o x) (key : IsOwned p h away frs fr o x c) (z : Place) (small : IsSmall z) (held : root_of h (place_value p h fr.method fr.locals z) ≡ Some o) where
+        spared : (g : Fact) → More c.origin c.fact g → is_own g.mode ≡ true → is_owning_fact p c.origin c.fact ≡ true → away ≡ false
+        spared g its mine owning = (own o x y c key before at wide owes g its mine).0
+
+        trusted : (g : Fact) → More c.origin c.fact g → IsTrusted c.origin g → away ≡ false → x.finished ≡ true → is_heavy_class p c.origin.class ≡ true → set.is_subset c.fact.called y.called ≡ true
+            → set.is_subset (called_after p st.number s.action s.edge c.fact) y.called ≡ true
+        trusted g its trust stays finished heavy was = known o x y c before at g its trust stays finished (goes finished).0 heavy wide owes was
+
+        abbrev GoesSo : Fact → Type 0
+        GoesSo g = Goes frs away o x y before at class wide goes done gifts others c (More c.origin c.fact) (row o x c) spared trusted (alias o x c before wide owes) g
+
+        goes_so : (q : Place) → has (later c.fact.places) q ≡ true → (g : Fact) × GoesSo g
+        goes_so q is = gone_on frs away o x y before at class wide goes done gifts others c (More c.origin c.fact) (row o x c) spared trusted (alias o x c before wide owes) q is
+
+        module _ (g : Fact) (on : GoesSo g) where
+          abbrev now : Covers p k false frs after o y
+          now = covers_on frs away o x y before at class wide goes done gifts others c (More c.origin c.fact) (row o x c) spared trusted (alias o x c before wide owes) g on
+
+          there : (q : Place) → has (later c.fact.places) q ≡ true → has g.places q ≡ true
+          there q is = has_on frs away o x y before at class wide goes done gifts others c (More c.origin c.fact) (row o x c) spared trusted (alias o x c before wide owes) g on q is
+
+          -- where it goes on owning it, each other place is in it, or in one that does not
+          still_owned : is_owning_fact p c.origin g ≡ true → IsOwned p k false frs after o y now
+          unfolding covers_on
+          still_owned owning = record {
+            owning = owning;
+            owner = λ stays. (let mine = own o x y c key before at wide owes g on.1.1 owned in
+                mine.1 (c.true' (owning_claims p (method_at p fr.method) c.origin c.fact key.owning) (ap (λ (b : Bool). b && is_own c.fact.mode) mine.0)).finished (key.owner mine.0));
+            others = each;
+          }
+            where
+              owned : is_own g.mode ≡ true
+              owned = (and_parts (is_heavy_class p c.origin.class) (is_own g.mode) owning).1
+
+              comes : (q : Place) → ComesFrom q o → (has g.places q ≡ true) ⊎ IsUnowned p k false frs after q o y
+              comes q (u, less, was, goes_to) = elim (key.others u less was) [ inl in' ↦ inl (there q (goes_to c.fact.places in')) | inr free ↦ inr (unowned_on u q free goes_to) ]
+
+              makes : (q : Place) → IsMadeSo frs gives More q o y → (has g.places q ≡ true) ⊎ IsUnowned p k false frs after q o y
+              makes q (inl (d, has', mine, ends)) = absurd (true≢false (sym owned ∙ ends x before z small held c key g on.1.1))
+              makes q (inr (inl free)) = inr free
+              makes q (inr (inr from)) = comes q from
+
+              each : (q : Place) → IsSmall q → root_of k (place_value p k after.method after.locals q) ≡ Some o → (has g.places q ≡ true) ⊎ IsUnowned p k false frs after q o y
+              each q less is = elim (origin_of_place q o less is) [
+                | inl from ↦ comes q from
+                | inr new ↦ makes q (made q o y less new.0 new.1 new.2 new.3 (ap (root_of k) (sym new.3) ∙ is) at wide' owes')
+              ]
+
+          keyed_by : (q : Place) → has (later c.fact.places) q ≡ true → IsKeyedFrom frs gives More q o y
+          unfolding covers_on
+          keyed_by q is = go (is_owning_fact p c.origin g) refl
+            where
+              go : (b : Bool) → is_owning_fact p c.origin g ≡ b → IsKeyedFrom frs gives More q o y
+              go true owning = inl (now, there q is, still_owned owning, inl (x, before, c, key, refl, on.1.1))
+              go false none = inr (record { covers = now; here = there q is; unowned = none })
+
+        keyed_on : (q : Place) → has (later c.fact.places) q ≡ true → IsKeyedFrom frs gives More q o y
+        keyed_on q is = let on = goes_so q is in keyed_by on.0 on.1 q is
+
+        -- where no fact goes on owning it
+        freed_on : StopsOwning p h fr frs gives More o → (q : Place) → has (later c.fact.places) q ≡ true → IsUnowned p k false frs after q o y
+        unfolding covers_on
+        freed_on ends q is = by (goes_so q is)
+          where
+            by : (g : Fact) × GoesSo g → IsUnowned p k false frs after q o y
+            by (g, on) = record {
+              covers = now g on;
+              here = there g on q is;
+              unowned = none (is_heavy_class p c.origin.class) (is_own g.mode) (ends x before z small held c key g on.1.1);
+            }
+              where
+                none : (a b : Bool) → b ≡ false → (a && b) ≡ false
+                none true b off = off
+                none false b off = refl
+
+      -- a place held it before
+      was_keyed : (z : Place) → IsSmall z → root_of h (place_value p h fr.method fr.locals z) ≡ Some o → IsKeyed p h away frs fr z o x
+      was_keyed z small held = covered z o x small held before wide owes
+
+      keyed_from : (q : Place) → ComesFrom q o → IsKeyedFrom frs gives More q o y
+      keyed_from q (z, small, held, goes_to) = by (was_keyed z small held)
+        where
+          by : IsKeyed p h away frs fr z o x → IsKeyedFrom frs gives More q o y
+          by (owned c in' key) = keyed_on c key z small held q (goes_to c.fact.places in')
+          by (unowned u) = inr (unowned_on z q u goes_to)
+
+      freed_from : StopsOwning p h fr frs gives More o → (q : Place) → ComesFrom q o → IsUnowned p k false frs after q o y
+      freed_from ends q (z, small, held, goes_to) = by (was_keyed z small held)
+        where
+          by : IsKeyed p h away frs fr z o x → IsUnowned p k false frs after q o y
+          by (owned c in' key) = freed_on c key z small held ends q (goes_to c.fact.places in')
+          by (unowned u) = unowned_on z q u goes_to
+
+    -- the object was there where a place held it
+    module _ (o : ℕ) (y : Object) (at : object_at k o ≡ Some y) (wide' : is_heavy_class p y.class ≡ true) (owes' : may_owe y ≡ true) where
+      carried_from : (q : Place) → ComesFrom q o → IsCarried h o y
+      carried_from q (z, small, held, goes_to) = carries o y at (numbered h links (place_value p h fr.method fr.locals z) o held (inside z small)).1
+
+      came : (q : Place) → ComesFrom q o → IsKeyedFrom frs gives More q o y
+      came q from = by (carried_from q from)
+        where
+          by : IsCarried h o y → IsKeyedFrom frs gives More q o y
+          by (x, before, class, goes) =
+              keyed_from o x y before at class (ap (is_heavy_class p) (sym class) ∙ wide') (owed_before x y goes owes') wide' owes' goes (ready from.0 o x y from.1 from.2 before at) q from
+
+      freed : StopsOwning p h fr frs gives More o → (q : Place) → ComesFrom q o → IsUnowned p k false frs after q o y
+      freed ends q from = by (carried_from q from)
+        where
+          by : IsCarried h o y → IsUnowned p k false frs after q o y
+          by (x, before, class, goes) =
+              freed_from o x y before at class (ap (is_heavy_class p) (sym class) ∙ wide') (owed_before x y goes owes') wide' owes' goes (ready from.0 o x y from.1 from.2 before at) ends q from
+
+      -- a step makes one place
+      one_made : (m : Option Place) (q z : Place) → is_made m q ≡ true → is_made m z ≡ true → q ≡ z
+      one_made None q z one two = absurd (true≢false (sym one))
+      one_made (Some u) q z one two = sym (single_place-same u q one) ∙ single_place-same u z two
+
+      makes : (q : Place) → IsSmall q → IsMadeAt q → IsMadeSo frs gives More q o y → IsKeyedFrom frs gives More q o y
+      makes q less new (inr (inl free)) = inr free
+      makes q less new (inr (inr from)) = came q from
+      makes q less new (inl (d, in', mine, ends)) = go (is_owning_fact p d.origin d.fact) refl
+        where
+          each : (z : Place) → IsSmall z → root_of k (place_value p k after.method after.locals z) ≡ Some o → (has d.fact.places z ≡ true) ⊎ IsUnowned p k false frs after z o y
+          each z small is = elim (origin_of_place z o small is) [
+            | inl from ↦ inr (freed ends z from)
+            | inr also ↦ inl (ap (has d.fact.places) (one_made (made_place s.action) z q also.2 new.2) ∙ in')
+          ]
+
+          go : (b : Bool) → is_owning_fact p d.origin d.fact ≡ b → IsKeyedFrom frs gives More q o y
+          go true owning = inl (d, in', record { owning = owning; owner = λ stays. mine; others = each }, inr ends)
+          go false none = inr (record { covers = d; here = in'; unowned = none })
+
+    pub top_from : (q : Place) (o : ℕ) (y : Object) → IsSmall q → root_of k (place_value p k after.method after.locals q) ≡ Some o → object_at k o ≡ Some y → is_heavy_class p y.class ≡ true → may_owe y ≡ true
+        → IsKeyedFrom frs gives More q o y
+    top_from q o y small held at heavy owes = elim (origin_of_place q o small held) [
+      | inl from ↦ came o y at heavy owes q from
+      | inr new ↦ makes o y at heavy owes q small new (made q o y small new.0 new.1 new.2 new.3 (ap (root_of k) (sym new.3) ∙ held) at heavy owes)
+    ]
+
+    pub top_covered : IsCovered p k gives_none frs after
+    top_covered q o y small held at heavy owes = elim (top_from q o y small held at heavy owes) [
+      | inl key ↦ owned key.0 key.1 key.2
+      | inr free ↦ unowned free
+    ]

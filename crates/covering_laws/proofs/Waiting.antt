@@ -1,5 +1,5 @@
 -- A frame whose places stay as they are goes on to be covered, where the objects that they hold go on.
-use Rattle.std.proofs.Common.{◌≡◌, ℕ, ◌<◌, ◌≤◌, Bool, true, false, not, ◌&&◌, true≢false, Option, Some, None, List, [], ◌∷◌, refl, sym, ap, ◌∙◌, arith, ◌||◌}
+use Rattle.std.proofs.Common.{◌≡◌, inl, inr, ℕ, ◌+◌, ◌<◌, ◌≤◌, Bool, true, false, not, ◌&&◌, true≢false, Option, Some, None, List, [], ◌∷◌, length, refl, sym, ap, ◌∙◌, subst, arith, ◌||◌}
 use Rattle.std.proofs.lemmas.Bool.{and_from, and_parts, or_left}
 use Rattle.std.specs.FinSet as set
 use Rattle.rlc_base.proofs.SetLaws.{within_trans}
@@ -7,14 +7,14 @@ use Rattle.program_model.specs.declared.kinds.ClassId.{ClassId}
 use Rattle.program_model.specs.declared.kinds.FieldId.{FieldId}
 use Rattle.program_model.specs.declared.kinds.MethodId.{MethodId}
 use Rattle.program_model.specs.declared.program.Program.{Program}
-use Rattle.value_type_laws.specs.MustCallSets.{Names, fits, is_empty, is_heavy_class, must_of}
+use Rattle.ledger_obligations.specs.MustCallSets.{Names, fits, is_heavy_class, must_of}
 use Rattle.java_control.specs.Owned.{is_owning}
 use Rattle.java_control.specs.PlaceNumbers.{IsSmall}
 use Rattle.java_control.specs.declared.fact.Fact.{Fact}
 use Rattle.java_control.specs.declared.fact.Origin.{Origin}
 use Rattle.java_control.specs.declared.place.Place.{Place}
 use Rattle.java_control.specs.declared.place.Place.TheVariants as places
-use Rattle.target_laws.specs.Facts.{need, is_held, is_own}
+use Rattle.ownership_rules.specs.Facts.{has, need, is_held, is_own}
 use Rattle.ledger_state.specs.Contents.{HeapContents}
 use Rattle.ledger_state.specs.Fields.{field_of, field_value}
 use Rattle.ledger_state.specs.Heaps.{next_number, object_at, root, root_of, unfinished}
@@ -22,33 +22,41 @@ use Rattle.ledger_state.specs.declared.locals.Locals.{Locals}
 use Rattle.ledger_state.specs.declared.object.Object.{Object}
 use Rattle.ledger_state.specs.declared.value.Value.{Value}
 use Rattle.ledger_state.specs.declared.value.Value.TheVariants as values
-use Rattle.program_call_laws.specs.Places.{class_by, class_of_method, field_place_value, owning_field_beside, place_value}
-use Rattle.program_call_laws.specs.Configuration.{Frame}
+use Rattle.value_laws.specs.Places.{class_by, class_of_method, field_place_value, owning_field_beside, place_value}
+use Rattle.value_laws.specs.Configuration.{Frame}
 use Rattle.program_model.specs.Lookups.{method_at}
 use Rattle.java_control.specs.Owned.{fields_in}
-use Rattle.program_call_laws.specs.Heaps.{GoesOn, HasEarlierLinks, KeepsLinks}
-use Rattle.program_call_laws.proofs.Laws.{numbers_are_in_range, roots_go_on-number, roots_of_links-absent, roots_of_links-itself, roots_of_links-there}
-use Rattle.kept_argument_laws.specs.PlaceFacts.{AreCovered, Covers, IsCovered, IsTrueOf, may_owe}
-use Rattle.kept_argument_laws.specs.Ranges.{IsInRange, IsNumber}
+use Rattle.value_laws.specs.Heaps.{GoesOn, HasEarlierLinks, KeepsLinks}
+use Rattle.value_laws.proofs.HeapLaws.{numbers_are_in_range, roots_go_on-number, roots_of_links-absent, roots_of_links-itself, roots_of_links-there}
+use Rattle.ledger_obligations.specs.Obligations.{is_library_owner}
+use Rattle.value_laws.specs.PlaceFacts.{AreWaiting, Covers, IsCovered, IsKeyed, IsOwned, IsTrueOf, IsUnowned, is_given, may_owe, owned, unowned}
+use Rattle.covering_laws.proofs.HeavyFields.{owning_claims, owning_in_no_field}
+use Rattle.value_laws.specs.Ranges.{IsInRange, IsNumber}
 use Rattle.covering_laws.specs.Making.{HoldNone}
-use Rattle.tracking_laws.proofs.Chains.{object_there}
-use Rattle.field_place_laws.proofs.FieldPlaces.{passes}
+use Rattle.covering_laws.proofs.Owners.{AllKeepGifts, AllKeepOwners, KeepsGifts, KeepsGiven, KeepsOwners, apart_before, given_kept, is_field_place}
+use Rattle.value_laws.proofs.Chains.{object_there}
+use Rattle.value_laws.proofs.FieldPlaces.{passes}
 use Rattle.java_control.specs.declared.fact.Mode.{Mode}
+use Rattle.java_control.specs.declared.fact.Mode.TheVariants as modes
+
+-- a finished object goes on, and what the library owns it goes on owning
+abbrev pub Continues : Object → Object → Type 0
+Continues x y = GoesOn x y × (is_library_owner x.owner ≡ true → is_library_owner y.owner ≡ true)
 
 -- the object of this number was there: it is of its class, and where it was finished it goes on
 abbrev pub IsCarried : HeapContents → ℕ → Object → Type 0
-IsCarried h o y = (x : Object) × (object_at h o ≡ Some x) × (y.class ≡ x.class) × (x.finished ≡ true → GoesOn x y)
+IsCarried h o y = (x : Object) × (object_at h o ≡ Some x) × (y.class ≡ x.class) × (x.finished ≡ true → Continues x y)
 
 -- what may owe a call might before
-pub owed_before : (x y : Object) → (x.finished ≡ true → GoesOn x y) → may_owe y ≡ true → may_owe x ≡ true
-owed_before x y goes owes = go (x.finished && is_empty x.must) refl
+pub owed_before : (x y : Object) → (x.finished ≡ true → Continues x y) → may_owe y ≡ true → may_owe x ≡ true
+owed_before x y goes owes = go (x.finished && is_library_owner x.owner) refl
   where
-    go : (b : Bool) → (x.finished && is_empty x.must) ≡ b → not (x.finished && is_empty x.must) ≡ true
+    go : (b : Bool) → (x.finished && is_library_owner x.owner) ≡ b → not (x.finished && is_library_owner x.owner) ≡ true
     go false e = ap not e
     go true e =
-        let parts = and_parts x.finished (is_empty x.must) e in
+        let parts = and_parts x.finished (is_library_owner x.owner) e in
         let on = goes parts.0 in
-        absurd (true≢false (sym owes ∙ ap not (and_from y.finished (is_empty y.must) (on.finished ∙ parts.0) (ap is_empty on.must ∙ parts.1))))
+        absurd (true≢false (sym owes ∙ ap not (and_from y.finished (is_library_owner y.owner) (on.0.finished ∙ parts.0) (on.1 parts.1))))
 
 -- so is each object of the heap `k` that the heap `h` had
 abbrev pub Carries : HeapContents → HeapContents → Type 0
@@ -60,6 +68,21 @@ KeepsUnfinished h k apart = (o : ℕ) (x y : Object) → (apart o → ⊥) → o
 
 abbrev pub no_other : ℕ → Type 0
 no_other o = ⊥
+
+-- a fact that says that a field holds the object does not say that the frame owns it
+pub not_own : (away : Bool) (m : Mode) → is_held m ≡ true → (away && is_own m) ≡ false
+not_own away m held = none away (is_own m) (apart m held)
+  where
+    apart : (n : Mode) → is_held n ≡ true → is_own n ≡ false
+    apart modes.Own is = absurd (true≢false (sym is))
+    apart modes.None is = refl
+    apart modes.Held is = refl
+    apart modes.Lent is = refl
+    apart modes.Alias is = refl
+
+    none : (a b : Bool) → b ≡ false → (a && b) ≡ false
+    none true b is = is
+    none false b is = refl
 
 -- what is true of an object stays so as it goes on
 pub still_true : (p : Program) (x y : Object) (o : Origin) (f : Fact) → GoesOn x y → IsTrueOf p x o f → IsTrueOf p y o f
@@ -192,36 +215,77 @@ HoldsThere p h fr = (q : Place) → IsSmall q → IsInRange h (place_value p h f
 abbrev pub KeepsRootsOf : Program → HeapContents → HeapContents → Frame → Type 0
 KeepsRootsOf p h k fr = (q : Place) → IsSmall q → root_of k (place_value p h fr.method fr.locals q) ≡ root_of h (place_value p h fr.method fr.locals q)
 
-module _ (p : Program) (h k : HeapContents) (fr : Frame) (roots : KeepsRootsOf p h k fr) (same : KeepsPlaces p h k fr)
-    (was : (q : Place) (o : ℕ) (y : Object) → IsSmall q → root_of h (place_value p h fr.method fr.locals q) ≡ Some o → object_at k o ≡ Some y → IsCarried h o y) (ready : KeepsReady p h k fr) where
+module _ (p : Program) (h k : HeapContents) (gives : ℕ → ClassId → Bool) (frs : List Frame) (fr : Frame) (roots : KeepsRootsOf p h k fr) (same : KeepsPlaces p h k fr)
+    (was : (q : Place) (o : ℕ) (y : Object) → IsSmall q → root_of h (place_value p h fr.method fr.locals q) ≡ Some o → object_at k o ≡ Some y → IsCarried h o y) (ready : KeepsReady p h k fr)
+    (gifts : KeepsGiven p h k frs) (keeps : KeepsOwners p h k gives (length frs + 1) fr) where
   root_before : (q : Place) (o : ℕ) → IsSmall q → root_of k (place_value p k fr.method fr.locals q) ≡ Some o → root_of h (place_value p h fr.method fr.locals q) ≡ Some o
   root_before q o small is = sym (roots q small) ∙ ap (root_of k) (sym (same q small)) ∙ is
 
   root_after : (q : Place) (o : ℕ) → IsSmall q → root_of h (place_value p h fr.method fr.locals q) ≡ Some o → root_of k (place_value p k fr.method fr.locals q) ≡ Some o
   root_after q o small is = ap (root_of k) (same q small) ∙ roots q small ∙ is
 
-  pub stays_covered : IsCovered p h fr → IsCovered p k fr
+  -- a finished object goes on
+  module _ (o : ℕ) (x y : Object) (before : object_at h o ≡ Some x) (at : object_at k o ≡ Some y) (class : y.class ≡ x.class) (heavy : is_heavy_class p x.class ≡ true) (goes : x.finished ≡ true → Continues x y)
+      (done : y.finished ≡ true → x.finished ≡ true) (away : Bool) (spared : away ≡ false → gives o x.class ≡ false) where
+    pub covers_after : Covers p h away frs fr o x → Covers p k away frs fr o y
+    covers_after c = record {
+      body = c.body;
+      id = c.id;
+      origin = c.origin;
+      fact = c.fact;
+      reached = c.reached;
+      alone = c.alone;
+      places = λ z small' is. root_after z o small' (c.places z small' is);
+      true' = λ claimed spared. still_true p x y c.origin c.fact (goes (c.true' claimed spared).finished).0 (c.true' claimed spared);
+      lent = c.lent;
+      free = λ claimed held. keeps.others.free o x y before at (c.true' claimed (not_own away c.fact.mode held)).finished heavy (c.free claimed held);
+      known = λ finished tells is.
+          let was_done = done finished in
+          let known = c.known was_done tells (apart_before p h k frs fr o x y c.fact c.fact gifts class (λ held. held) (λ plain own. keeps.others.content o x y before at was_done heavy plain own) (λ low. keeps.others.low o x y before at was_done heavy low) is) in
+          (known.0, keeps.others.apart o x y before at was_done heavy known.1, within_trans c.fact.called x.called y.called known.2 (goes was_done).0.called);
+      fields = c.fields;
+      held = c.held;
+    }
+
+    unowned_after : (q : Place) → IsUnowned p h away frs fr q o x → IsUnowned p k away frs fr q o y
+    unfolding covers_after
+    unowned_after q u = record { covers = covers_after u.covers; here = u.here; unowned = u.unowned }
+
+    owned_after : (q : Place) → IsSmall q → root_of h (place_value p h fr.method fr.locals q) ≡ Some o → (c : Covers p h away frs fr o x) → has c.fact.places q ≡ true → IsOwned p h away frs fr o x c
+        → IsOwned p k away frs fr o y (covers_after c)
+    unfolding covers_after
+    owned_after q small held c here key = record {
+      owning = key.owning;
+      owner = λ stays. keeps.own q o x y small (part q small here) held before at
+          (c.true' (owning_claims p (method_at p fr.method) c.origin c.fact key.owning) (ap (λ (b : Bool). b && is_own c.fact.mode) stays)).finished heavy (spared stays) (key.owner stays);
+      others = λ z small' is. elim (key.others z small' (root_before z o small' is)) [ inl in' ↦ inl in' | inr u ↦ inr (unowned_after z u) ];
+    }
+      where
+        part : (z : Place) → IsSmall z → has c.fact.places z ≡ true → is_field_place z ≡ false
+        part (places.Field n) inside there = absurd (owning_in_no_field p h away frs fr o x c key.owning n inside there)
+        part (places.Var i) inside there = refl
+        part places.This inside there = refl
+        part (places.Temp d) inside there = refl
+        part places.Super inside there = refl
+
+    pub keyed_after : (q : Place) → IsSmall q → root_of h (place_value p h fr.method fr.locals q) ≡ Some o → IsKeyed p h away frs fr q o x → IsKeyed p k away frs fr q o y
+    unfolding covers_after
+    keyed_after q small held (owned c here key) = owned (covers_after c) here (owned_after q small held c here key)
+    keyed_after q small held (unowned u) = unowned (unowned_after q u)
+
+  pub stays_covered : IsCovered p h gives frs fr → IsCovered p k gives frs fr
   stays_covered covered q o y small root at heavy owes = by (was q o y small (root_before q o small root) at)
     where
-      by : IsCarried h o y → Covers p k fr q o y
+      by : IsCarried h o y → IsKeyed p k (gives o y.class) frs fr q o y
       by (x, before, class, goes) =
-          let c : Covers p h fr q o x = covered q o x small (root_before q o small root) before (ap (is_heavy_class p) (sym class) ∙ heavy) (owed_before x y goes owes) in
-          record {
-            body = c.body;
-            id = c.id;
-            origin = c.origin;
-            fact = c.fact;
-            reached = c.reached;
-            alone = c.alone;
-            here = c.here;
-            places = λ z small' is. root_after z o small' (c.places z small' is);
-            true' = λ claimed. still_true p x y c.origin c.fact (goes (c.true' claimed).finished) (c.true' claimed);
-            lent = c.lent;
-            known = λ done lent. (let was_done = ready q o x y small (root_before q o small root) before at done in
-                within_trans c.fact.called x.called y.called (c.known was_done lent) (goes was_done).called);
-            fields = c.fields;
-            held = c.held;
-          }
+          let heavy' : is_heavy_class p x.class ≡ true = ap (is_heavy_class p) (sym class) ∙ heavy in
+          let root' = root_before q o small root in
+          subst (λ (c : ClassId). IsKeyed p k (gives o c) frs fr q o y) (sym class)
+          (keyed_after o x y before at class heavy' goes (ready q o x y small root' before at) (gives o x.class) (λ none. none) q small root' (covered q o x small root' before heavy' (owed_before x y goes owes)))
+
+-- what is covered where these objects are given away is so where the same ones are
+pub given_alike : (p : Program) (h : HeapContents) (f g : ℕ → ClassId → Bool) (frs : List Frame) (fr : Frame) → ((o : ℕ) (c : ClassId) → g o c ≡ f o c) → IsCovered p h f frs fr → IsCovered p h g frs fr
+given_alike p h f g frs fr same covered q o x small root at heavy owes = subst (λ (b : Bool). IsKeyed p h b frs fr q o x) (sym (same o x.class)) (covered q o x small root at heavy owes)
 
 abbrev pub AllKeep : Program → HeapContents → HeapContents → List Frame → Type 0
 AllKeep p h k [] = Unit {0}
@@ -260,18 +324,21 @@ all_keep_other_roots p h k w roots (fr ∷ frs) inside none = (
 )
 
 module _ (p : Program) (h k : HeapContents) (links : HasEarlierLinks h) (carries : Carries h k) where
-  waits_on : (fr : Frame) → KeepsRootsOf p h k fr → KeepsPlaces p h k fr → HoldsThere p h fr → KeepsReady p h k fr → IsCovered p h fr → IsCovered p k fr
-  waits_on fr roots same inside ready covered = stays_covered p h k fr roots same
-      (λ q o y small root at. carries o y at (numbered h links (place_value p h fr.method fr.locals q) o root (inside q small)).1) ready covered
+  waits_on : (frs : List Frame) (fr : Frame) → KeepsRootsOf p h k fr → KeepsPlaces p h k fr → HoldsThere p h fr → KeepsReady p h k fr → KeepsGifts p h k fr → KeepsGiven p h k frs → KeepsOwners p h k (is_given p h fr) (length frs + 1) fr
+      → IsCovered p h (is_given p h fr) frs fr → IsCovered p k (is_given p k fr) frs fr
+  waits_on frs fr roots same inside ready mine gifts keeps covered = given_alike p k (is_given p h fr) (is_given p k fr) frs fr mine
+      (stays_covered p h k (is_given p h fr) frs fr roots same
+      (λ q o y small root at. carries o y at (numbered h links (place_value p h fr.method fr.locals q) o root (inside q small)).1) ready gifts keeps covered)
 
   -- frames that wait stay covered
-  pub all_wait_on : (frs : List Frame) → AllKeepRoots p h k frs → AllKeep p h k frs → AllThere p h frs → AllReady p h k frs → AreCovered p h frs → AreCovered p k frs
-  all_wait_on [] roots same inside ready covered = tt
-  all_wait_on (fr ∷ frs) roots same inside ready covered = (waits_on fr roots.0 same.0 inside.0 ready.0 covered.0, all_wait_on frs roots.1 same.1 inside.1 ready.1 covered.1)
+  pub all_wait_on : (frs : List Frame) → AllKeepRoots p h k frs → AllKeep p h k frs → AllThere p h frs → AllReady p h k frs → AllKeepGifts p h k frs → AllKeepOwners p h k frs → AreWaiting p h frs → AreWaiting p k frs
+  all_wait_on [] roots same inside ready gifts keeps covered = tt
+  all_wait_on (fr ∷ frs) roots same inside ready gifts keeps covered =
+      (waits_on frs fr roots.0 same.0 inside.0 ready.0 gifts.0 (given_kept p h k frs gifts.1) keeps.0 covered.0, all_wait_on frs roots.1 same.1 inside.1 ready.1 gifts.1 keeps.1 covered.1)
 
 module _ (p : Program) (h k : HeapContents) (links : HasEarlierLinks h) (roots : KeepsRoots h k) (carries : Carries h k) where
   -- where all roots stay
-  pub all_wait : (frs : List Frame) → AllKeep p h k frs → AllThere p h frs → AllReady p h k frs → AreCovered p h frs → AreCovered p k frs
+  pub all_wait : (frs : List Frame) → AllKeep p h k frs → AllThere p h frs → AllReady p h k frs → AllKeepGifts p h k frs → AllKeepOwners p h k frs → AreWaiting p h frs → AreWaiting p k frs
   all_wait frs same inside = all_wait_on p h k links carries frs (all_keep_roots p h k roots frs inside) same inside
 
 -- all frames keep their places where owning fields hold what they held

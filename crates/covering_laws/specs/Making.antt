@@ -7,10 +7,10 @@ use Rattle.java_control.specs.declared.place.Place.{Place}
 use Rattle.ledger_state.specs.Contents.{HeapContents}
 use Rattle.ledger_state.specs.Heaps.{root_of}
 use Rattle.ledger_state.specs.declared.value.Value.TheVariants as values
-use Rattle.program_call_laws.specs.Places.{place_value}
-use Rattle.program_call_laws.specs.Configuration.{Frame}
-use Rattle.target_laws.specs.Choosing.{frame_steps}
-use Rattle.kept_argument_laws.specs.FieldContents.{IsBeingMade, is_new}
+use Rattle.value_laws.specs.Places.{place_value}
+use Rattle.value_laws.specs.Configuration.{Frame}
+use Rattle.value_laws.specs.Choosing.{frame_steps}
+use Rattle.value_laws.specs.FieldContents.{IsBeingMade, is_new}
 
 -- no place of these frames holds object `w`
 abbrev pub HoldNone : Program → HeapContents → ℕ → List Frame → Type 0

@@ -7,14 +7,14 @@ use Rattle.program_model.specs.declared.program.Method.{Method}
 use Rattle.program_model.specs.declared.program.Program.{Program}
 use Rattle.program_model.specs.Lookups.{method_at}
 use Rattle.program_model.specs.Overrides.{is_library}
-use Rattle.value_type_laws.specs.MustCallSets.{is_empty, must_of_optional}
+use Rattle.ledger_obligations.specs.MustCallSets.{is_empty, must_of_optional}
 use Rattle.java_control.specs.Calls.{called_method}
 use Rattle.java_control.specs.Remaining.{Todo}
 use Rattle.java_control.specs.declared.action.Action.{Action}
 use Rattle.java_control.specs.declared.action.Action.TheVariants as actions
 use Rattle.java_control.specs.declared.action.TargetForm.TheVariants as forms
-use Rattle.flow_rules.specs.Paths.{Comes, Move, relation_of}
-use Rattle.tracking_laws.specs.PlainForms.{MayRun}
+use Rattle.value_laws.specs.Paths.{Comes, Move, relation_of}
+use Rattle.value_laws.specs.PlainForms.{MayRun}
 
 -- a call that has a target
 abbrev pub is_on_object : Action → Bool

@@ -1,32 +1,34 @@
--- Which exceptions the bodies of a program throw by `throw`, and which objects exceptions are.
-use Rattle.std.specs.Prelude.{◌≡◌, ℕ, false, Some, List, slice_get, None, [], ◌∷◌}
-use Rattle.program_model.specs.declared.kinds.BodyId.{BodyId}
+-- What is thrown, and which objects exceptions are.
+use Rattle.std.specs.Prelude.{◌≡◌, ℕ, true, false, Option, Some, List, slice_get, None, [], ◌∷◌}
 use Rattle.program_model.specs.declared.kinds.ClassId.{ClassId}
 use Rattle.program_model.specs.declared.program.Program.{Program}
-use Rattle.program_model.specs.SuperTests.{is_class, is_under}
-use Rattle.java_control.specs.Remaining.{Todo}
+use Rattle.program_model.specs.SuperTests.{is_under}
 use Rattle.java_control.specs.declared.action.Action.TheVariants as actions
 use Rattle.ledger_state.specs.Contents.{HeapContents}
 use Rattle.ledger_state.specs.Heaps.{object_at}
+use Rattle.ledger_state.specs.Locals.{temp_value}
 use Rattle.ledger_state.specs.declared.object.Link.{Link}
 use Rattle.ledger_state.specs.declared.object.Object.{Object}
-use Rattle.flow_rules.specs.Paths.{Comes, Move, relation_of}
+use Rattle.ledger_state.specs.declared.value.Value.TheVariants as values
 use Rattle.rlc_base.specs.declared.place.Pos.{Pos}
 use Rattle.java_control.specs.Control.{Step}
-use Rattle.program_call_laws.specs.Configuration.{Frame}
-use Rattle.target_laws.specs.Choosing.{frame_steps}
+use Rattle.value_laws.specs.Configuration.{Frame}
+use Rattle.value_laws.specs.Choosing.{frame_steps}
 use Rattle.ledger_steps.specs.Ends.{exception_class, thrown_in}
 use Rattle.java_control.specs.declared.action.Completion.TheVariants as completions
-
--- No `throw` has an expression whose static type is NullPointerException itself. (By the one edge of such a `throw` the flow rules do not
--- tell the object that is thrown from the one that a null makes, JLS 14.18.)
-abbrev pub ThrowsNoNullPointer : Program → Type 0
-ThrowsNoNullPointer p = (b : BodyId) (k : List Todo) (i : ℕ) (t : Move (List Todo)) (d : ℕ) (c : ClassId) → Comes (relation_of p b) k → slice_get ((relation_of p b).next k) i ≡ Some t
-    → t.action ≡ actions.Raise d (Some c) → is_class c p.core.null_pointer_exception ≡ false
 
 -- no object that is linked to another one is of a class of exceptions: no exception is an alias of a resource
 abbrev pub ExceptionsAreUnlinked : Program → HeapContents → Type 0
 ExceptionsAreUnlinked p h = (k : ℕ) (x : Object) (l : Link) → object_at h k ≡ Some x → x.link ≡ Some l → is_under p x.class p.core.throwable ≡ false
+
+-- an object that a `throw` of the frame throws is an exception (JLS 14.18)
+abbrev pub RaisesExceptions : Program → HeapContents → Frame → Type 0
+RaisesExceptions p h fr = (i : ℕ) (s : Step) (d : ℕ) (c : Option ClassId) (k : ℕ) → slice_get (frame_steps p fr) i ≡ Some s → s.action ≡ actions.Raise d c → temp_value fr.locals d ≡ values.Object k
+    → (x : Object) × (object_at h k ≡ Some x) × (is_under p x.class p.core.throwable ≡ true)
+
+abbrev pub TopRaisesExceptions : Program → HeapContents → List Frame → Type 0
+TopRaisesExceptions p h [] = Unit {0}
+TopRaisesExceptions p h (fr ∷ frs) = RaisesExceptions p h fr
 
 -- an exception by which the frame ends has a class
 abbrev pub EndsByException : Program → HeapContents → Frame → Type 0

@@ -5,26 +5,27 @@ ghost use Rattle.program_model.specs.declared.kinds.MethodId.{MethodId};
 ghost use Rattle.program_model.specs.declared.program.Method.{Method};
 ghost use Rattle.program_model.specs.declared.program.Program.{Program};
 ghost use Rattle.program_model.specs.Lookups.{method_at};
-ghost use Rattle.program_conditions.specs.Conditions.{MakesNoString};
-ghost use Rattle.value_type_laws.specs.WellFormed.{HasSmallInterests};
-ghost use Rattle.target_laws.specs.Accept.{Accept};
+ghost use Rattle.ledger_obligations.specs.WellFormed.{HasSmallInterests};
+ghost use Rattle.value_laws.specs.Accept.{Accept};
 ghost use Rattle.stub_conduct.specs.declared.choice.Choices.{Choices};
-ghost use Rattle.program_call_laws.specs.Configuration.{Config};
-ghost use Rattle.target_laws.specs.Moves.{has_body};
-ghost use Rattle.target_laws.specs.Outcomes.{went};
-ghost use Rattle.target_laws.specs.Starts.{start_config};
-ghost use Rattle.target_laws.specs.Steps.{step};
-ghost use Rattle.tracking_laws.specs.Agreement.{Agree};
-ghost use Rattle.tracking_laws.specs.PlainForms.{HasPlainForms};
-ghost use Rattle.target_laws.specs.Frames.{HaveTargets};
-ghost use Rattle.argument_laws.specs.Arguments.{HaveArguments};
-ghost use Rattle.value_type_laws.specs.Types.{HaveTypes};
-ghost use Rattle.kept_argument_laws.specs.FieldContents.{FieldsHold};
-ghost use Rattle.kept_argument_laws.specs.PlaceFacts.{AreCovered};
-ghost use Rattle.kept_argument_laws.specs.Ranges.{AreInRange};
+ghost use Rattle.value_laws.specs.Configuration.{Config};
+ghost use Rattle.value_laws.specs.Moves.{has_body};
+ghost use Rattle.value_laws.specs.LedgerRunsOutcomes.{went};
+ghost use Rattle.value_laws.specs.Starts.{start_config};
+ghost use Rattle.value_laws.specs.LedgerRunsSteps.{step};
+ghost use Rattle.value_laws.specs.Agreement.{Agree};
+ghost use Rattle.value_laws.specs.PlainForms.{HasPlainForms};
+ghost use Rattle.value_laws.specs.Frames.{HaveTargets};
+ghost use Rattle.value_laws.specs.Arguments.{HaveArguments};
+ghost use Rattle.value_laws.specs.Types.{HaveTypes};
+ghost use Rattle.value_laws.specs.FieldContents.{FieldsHold};
+ghost use Rattle.value_laws.specs.PlaceFacts.{AreCovered};
+ghost use Rattle.value_laws.specs.Ranges.{AreInRange};
 ghost use Rattle.covering_laws.specs.Making.{AreBeingMade};
 ghost use Rattle.covering_laws.specs.Running.{HasPlainRuns};
-ghost use Rattle.covering_laws.specs.Throws.{ExceptionsAreUnlinked, ThrowsNoNullPointer, TopEndsByException};
+ghost use Rattle.covering_laws.specs.Linking.{LinkedAreAliases};
+ghost use Rattle.covering_laws.specs.Texts.{HasLightTexts};
+ghost use Rattle.covering_laws.specs.Throws.{TopEndsByException, TopRaisesExceptions};
 
 /// A run begins with the frame of `main`, whose places hold no object.
 pub fn covered_at_start()
@@ -34,9 +35,9 @@ pub fn covered_at_start()
 
 /// Each step that is not stray leaves each place of the frames in a fact that is true of what it holds.
 pub fn covered_step()
-    ensures { (p : Program) → Accept p → HasPlainForms p → ThrowsNoNullPointer p → HasPlainRuns p → HasSmallInterests p → MakesNoString p → (c d : Config) → Agree p c → HaveTargets p c.frames → HaveTypes p c
-        → AreInRange c → FieldsHold p c.frames c.heap → AreBeingMade p c.heap c.frames → ExceptionsAreUnlinked p c.heap → AreCovered p c.heap c.frames
-        → HaveArguments p c.frames → TopEndsByException p c.heap c.frames → step p c ≡ went d → AreCovered p d.heap d.frames }
+    ensures { (p : Program) → Accept p → HasPlainForms p → HasPlainRuns p → HasSmallInterests p → HasLightTexts p → (c d : Config) → Agree p c → HaveTargets p c.frames → HaveTypes p c
+        → AreInRange c → FieldsHold p c.frames c.heap → AreBeingMade p c.heap c.frames → LinkedAreAliases p c.heap → AreCovered p c.heap c.frames
+        → HaveArguments p c.frames → TopEndsByException p c.heap c.frames → TopRaisesExceptions p c.heap c.frames → step p c ≡ went d → AreCovered p d.heap d.frames }
 {}
 
 /// A run begins with one frame, which waits for none.
@@ -46,19 +47,19 @@ pub fn being_made_at_start()
 
 /// Each step that is not stray leaves the objects unfinished whose constructors still run.
 pub fn being_made_step()
-    ensures { (p : Program) → Accept p → HasPlainForms p → ThrowsNoNullPointer p → HasPlainRuns p → HasSmallInterests p → MakesNoString p → (c d : Config) → Agree p c → HaveTargets p c.frames → HaveTypes p c
-        → AreInRange c → FieldsHold p c.frames c.heap → AreBeingMade p c.heap c.frames → ExceptionsAreUnlinked p c.heap → AreCovered p c.heap c.frames
-        → HaveArguments p c.frames → TopEndsByException p c.heap c.frames → step p c ≡ went d → AreBeingMade p d.heap d.frames }
+    ensures { (p : Program) → Accept p → HasPlainForms p → HasPlainRuns p → HasSmallInterests p → HasLightTexts p → (c d : Config) → Agree p c → HaveTargets p c.frames → HaveTypes p c
+        → AreInRange c → FieldsHold p c.frames c.heap → AreBeingMade p c.heap c.frames → LinkedAreAliases p c.heap → AreCovered p c.heap c.frames
+        → HaveArguments p c.frames → TopEndsByException p c.heap c.frames → TopRaisesExceptions p c.heap c.frames → step p c ≡ went d → AreBeingMade p d.heap d.frames }
 {}
 
 /// A run begins without objects.
-pub fn unlinked_exceptions_at_start()
-    ensures { (p : Program) (main : MethodId) (choices : Choices) → ExceptionsAreUnlinked p (start_config p main choices).heap }
+pub fn linked_are_aliases_at_start()
+    ensures { (p : Program) (main : MethodId) (choices : Choices) → LinkedAreAliases p (start_config p main choices).heap }
 {}
 
-/// No step that is not stray makes an exception an alias of a resource.
-pub fn unlinked_exceptions_step()
-    ensures { (p : Program) → Accept p → HasPlainForms p → ThrowsNoNullPointer p → HasPlainRuns p → HasSmallInterests p → MakesNoString p → (c d : Config) → Agree p c → HaveTargets p c.frames → HaveTypes p c
-        → AreInRange c → FieldsHold p c.frames c.heap → AreBeingMade p c.heap c.frames → ExceptionsAreUnlinked p c.heap → AreCovered p c.heap c.frames
-        → HaveArguments p c.frames → TopEndsByException p c.heap c.frames → step p c ≡ went d → ExceptionsAreUnlinked p d.heap }
+/// After each step that is not stray, what is linked to another object is of a class whose objects some method or constructor gives as aliases.
+pub fn linked_are_aliases_step()
+    ensures { (p : Program) → Accept p → HasPlainForms p → HasPlainRuns p → HasSmallInterests p → HasLightTexts p → (c d : Config) → Agree p c → HaveTargets p c.frames → HaveTypes p c
+        → AreInRange c → FieldsHold p c.frames c.heap → AreBeingMade p c.heap c.frames → LinkedAreAliases p c.heap → AreCovered p c.heap c.frames
+        → HaveArguments p c.frames → TopEndsByException p c.heap c.frames → TopRaisesExceptions p c.heap c.frames → step p c ≡ went d → LinkedAreAliases p d.heap }
 {}

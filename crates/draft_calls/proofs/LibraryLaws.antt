@@ -16,14 +16,14 @@ use Rattle.ledger_state.specs.Contents.{HeapContents}
 use Rattle.ledger_state.specs.Heaps.{has_number, link_of, next_number, object_at}
 use Rattle.rlc_base.specs.declared.place.Pos.{Pos}
 use Rattle.ledger_state.specs.declared.entry.Entry.{Entry}
-use Rattle.ledger_entries.specs.Entries.{birth_entries, called_entries, owner_entries, reset_entries}
+use Rattle.draft_lines.specs.Entries.{birth_entries, called_entries, owner_entries, reset_entries}
 use Rattle.ledger_obligations.specs.Obligations.{finished, first_set, reached, reset_roots}
 use Rattle.ledger_calls.specs.Calls.{arguments_moved, position_of, reset_target}
 use Rattle.ledger_calls.specs.Conducts.{fresh_born, library_birth, positions}
-use Rattle.ledger_steps.specs.CallSteps.{library_called, library_entries, library_heap, library_made}
+use Rattle.draft_steps.specs.CallSteps.{library_called, library_entries, library_heap, library_made}
 use Rattle.draft_lines.specs.declared.leaks.Leak.{Leak}
 use Rattle.draft_lines.specs.DraftLines.{AllOfHeap, IsOfHeap}
-use Rattle.settled_heaps.specs.Settled.{Settled, is_settled}
+use Rattle.draft_steps.specs.Settled.{Settled, is_settled}
 use Rattle.object_index.specs.declared.index.ObjectIndex.{ObjectIndex}
 use Rattle.object_index.specs.ObjectIndexes.{Indexed}
 use Rattle.heap_drafts.specs.declared.saved.SavedObject.{SavedObject}

@@ -5,15 +5,15 @@ ghost use Rattle.draft_steps.specs.Steps.{IsDraft};
 ghost use Rattle.heap_drafts.specs.Drafts.{Drafted, snapshots};
 ghost use Rattle.ledger_calls.specs.Conducts.{library_birth, library_notes, object_made};
 ghost use Rattle.ledger_calls.specs.Calls.{arguments_moved};
-ghost use Rattle.ledger_entries.specs.Entries.{birth_entries, called_entries, owner_entries};
+ghost use Rattle.draft_lines.specs.Entries.{birth_entries, called_entries, owner_entries};
 ghost use Rattle.ledger_obligations.specs.Obligations.{held_in};
 ghost use Rattle.ledger_state.specs.declared.entry.Owner.TheVariants as owners;
 ghost use Rattle.ledger_state.specs.Heaps.{link_of, object_at};
 ghost use Rattle.ledger_state.specs.Locals.{held};
-ghost use Rattle.ledger_steps.specs.CallSteps.{library_called, library_done, library_made};
+ghost use Rattle.draft_steps.specs.CallSteps.{library_called, library_done, library_made};
 ghost use Rattle.object_index.specs.ObjectIndexes.{Indexed};
 ghost use Rattle.program_model.specs.Lookups.{method_at};
-ghost use Rattle.settled_heaps.specs.Settled.{Settled};
+ghost use Rattle.draft_steps.specs.Settled.{Settled};
 
 use draft_lines::add_birth_lines;
 use draft_stages::{changes_after, draft_arguments, draft_end, draft_reset, held_roots};

@@ -1,1 +1,2 @@
 pub mod DraftLines
+pub use Rattle.ledger_entries.specs.Entries

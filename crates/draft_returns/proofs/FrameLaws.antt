@@ -1,5 +1,5 @@
 -- What frames and constructors give up as they end.
-use Rattle.std.proofs.Common.{◌≡◌, ◌∙◌, ap, sym, refl, subst, ℕ, zero, suc, ◌<◌, ◌≤◌, Bool, true, false, ◌||◌, Option, Some, None, List, ◌++◌, length, append-nil, arith}
+use Rattle.std.proofs.Common.{◌≡◌, ◌∙◌, ap, sym, refl, subst, ℕ, zero, suc, ◌<◌, ◌≤◌, Bool, true, false, ◌||◌, Option, Some, None, List, [], ◌++◌, length, append-nil, arith}
 use Rattle.std.proofs.lemmas.Grind.{common_steps}
 use Rattle.std.specs.Prelude.{if◌then◌else◌}
 use Rattle.program_model.specs.declared.kinds.ClassId.{ClassId}
@@ -15,12 +15,11 @@ use Rattle.ledger_state.specs.declared.value.Value.{Value}
 use Rattle.ledger_state.specs.Contents.{HeapContents}
 use Rattle.ledger_state.specs.Heaps.{has_number, object_at}
 use Rattle.ledger_state.specs.Values.{number_of}
-use Rattle.ledger_entries.specs.Entries.{leak_entries}
+use Rattle.ledger_steps.specs.Entries.{leak_entries}
 use Rattle.ledger_obligations.specs.Obligations.{end_holder, given_up, given_up_by_frame, given_up_by_holder, is_frame, is_held_by}
 use Rattle.ledger_steps.specs.Ends.{constructor_ended}
-use Rattle.plain_calls.proofs.LineLaws.{no_leaks}
 use Rattle.object_index.specs.declared.index.ObjectIndex.{ObjectIndex}
-use Rattle.frame_owners.specs.FrameOwners.{list_at, lists_in}
+use Rattle.object_index.specs.FrameOwners.{list_at, lists_in}
 use Rattle.object_index.specs.ObjectIndexes.{contents_of, is_content}
 use Rattle.object_index.proofs.IndexLaws.{content_of}
 use Rattle.draft_lines.specs.declared.change.ObjectChange.{ObjectChange}
@@ -33,6 +32,7 @@ use Rattle.heap_drafts.proofs.DraftLaws.{renewed_has}
 use Rattle.heap_drafts.proofs.PlacedLaws.{saved_joined}
 use Rattle.draft_stages.specs.Stages.{IndexedRest, saved_numbers}
 use Rattle.draft_stages.proofs.AliasLaws.{saved_has}
+use Rattle.draft_steps.proofs.StepLaws.{no_changes}
 use Rattle.draft_returns.specs.DraftReturns.{ListedRest, OwnedSaved, holder_ended}
 
 number_above : (h : HeapContents) (k : ℕ) (x : Object) → object_at h k ≡ Some x → 0 < k
@@ -133,5 +133,5 @@ none_ended self runs e h none = sym (ap (λ o. end_holder o h) none) ∙ ended_h
 pub none_leaks : (p : Program) (word : LeakWord) (pos : Pos) (h f : HeapContents) (ls : List Leak) → h ≡ f → leak_entries_of ls ≡ leak_entries_of ls ++ leak_entries p word pos h f
 none_leaks p word pos h f ls same =
     sym (append-nil (leak_entries_of ls))
-    ∙ ap (λ es. leak_entries_of ls ++ es) (sym (no_leaks p word pos h))
+    ∙ ap (λ es. leak_entries_of ls ++ es) (sym (leak_between p word pos h h [] (no_changes h)))
     ∙ ap (λ (i : HeapContents). leak_entries_of ls ++ leak_entries p word pos h i) same

@@ -15,13 +15,13 @@ use Rattle.java_control.specs.declared.action.Action.{Action}
 use Rattle.ledger_state.specs.declared.entry.Entry.{Entry}
 use Rattle.ledger_state.specs.declared.entry.LeakWord.TheVariants as words
 use Rattle.ledger_state.specs.declared.locals.Locals.{Locals}
-use Rattle.ledger_entries.specs.Entries.{by_number, leak_entries, owner_entries}
+use Rattle.ledger_steps.specs.Entries.{by_number, leak_entries, owner_entries}
 use Rattle.ledger_steps.specs.Ends.{call_end_entries, call_ended, frame_end_leaks, frame_gone, result_moved, returned, returned_heap}
 use Rattle.ledger_state.specs.Contents.{HeapContents}
 use Rattle.ledger_state.specs.Heaps.{has_number, object_at}
 use Rattle.ledger_obligations.specs.Obligations.{held_at, holds, is_frame, is_unmet, lose}
-use Rattle.settled_heaps.specs.Settled.{Settled, is_kept, is_settled}
-use Rattle.frame_owners.specs.FrameOwners.{Listed, is_listed, list_at}
+use Rattle.draft_steps.specs.Settled.{Settled, is_kept, is_settled}
+use Rattle.object_index.specs.FrameOwners.{Listed, is_listed, list_at}
 use Rattle.heap_drafts.specs.declared.saved.SavedObject.{SavedObject}
 use Rattle.heap_drafts.specs.Drafts.{Drafted, is_saved, roots_of}
 use Rattle.heap_drafts.proofs.DraftLaws.{drafted_on}

@@ -20,9 +20,8 @@ use Rattle.ledger_state.specs.Heaps.{change_one, has_number, link_of, linked_by,
 use Rattle.ledger_state.proofs.HeapLemmas.{change_one_put}
 use Rattle.ledger_calls.specs.Calls.{is_alias}
 use Rattle.ledger_calls.specs.Conducts.{owning_in, result_in}
-use Rattle.ledger_entries.specs.Entries.{birth_entries, owner_entries}
+use Rattle.ledger_steps.specs.Entries.{birth_entries, owner_entries}
 use Rattle.ledger_steps.specs.Ends.{moved_as, object_finished, program_birth, result_moved, self_finished}
-use Rattle.plain_calls.proofs.LineLaws.{no_births}
 use Rattle.draft_returns.specs.DraftReturns.{newborn}
 use Rattle.draft_lines.specs.declared.change.ObjectChange.{ObjectChange}
 use Rattle.draft_lines.specs.DraftLines.{birth_changes, owner_changes}
@@ -33,6 +32,7 @@ use Rattle.heap_drafts.proofs.DraftLaws.{among_same}
 use Rattle.heap_drafts.proofs.RootLaws.{free_among, move_among}
 use Rattle.draft_stages.specs.Stages.{changes_since, saved_numbers}
 use Rattle.draft_stages.proofs.StageLaws.{rows_after}
+use Rattle.draft_steps.proofs.StepLaws.{no_changes}
 
 -- The result
 
@@ -99,5 +99,5 @@ none_born p i a named self alias None h none = refl
 pub none_births : (p : Program) (pos : Pos) (h f : HeapContents) (es : List Entry) → h ≡ f → es ≡ es ++ birth_entries p pos h f
 none_births p pos h f es same =
     sym (append-nil es)
-    ∙ ap (λ fs. es ++ fs) (sym (no_births p pos h))
+    ∙ ap (λ fs. es ++ fs) (sym (birth_between p pos h h [] (no_changes h)))
     ∙ ap (λ (i : HeapContents). es ++ birth_entries p pos h i) same

@@ -4,7 +4,7 @@ ghost use Rattle.std.specs.Prelude.{◌≡◌, ◌++◌, ◌∷◌, [], true, No
 ghost use Rattle.draft_returns.specs.DraftReturns.{newborn};
 ghost use Rattle.heap_drafts.specs.Drafts.{Drafted, HasNumbers, numbers_rise};
 ghost use Rattle.ledger_calls.specs.Calls.{alias_target, operand_of};
-ghost use Rattle.ledger_entries.specs.Entries.{birth_entries};
+ghost use Rattle.ledger_steps.specs.Entries.{birth_entries};
 ghost use Rattle.ledger_state.specs.Heaps.{change_one, object_at};
 ghost use Rattle.ledger_state.specs.Values.{number_of};
 ghost use Rattle.ledger_steps.specs.Ends.{object_finished, program_birth};

@@ -5,7 +5,7 @@ ghost use Rattle.draft_lines.specs.DraftLines.{AllOfHeap, leak_entries_of};
 ghost use Rattle.draft_returns.specs.DraftReturns.{ListedRest, OwnedSaved, holder_ended};
 ghost use Rattle.draft_stages.specs.Stages.{IndexedRest};
 ghost use Rattle.heap_drafts.specs.Drafts.{Drafted};
-ghost use Rattle.ledger_entries.specs.Entries.{leak_entries, owner_entries};
+ghost use Rattle.ledger_steps.specs.Entries.{leak_entries, owner_entries};
 ghost use Rattle.ledger_obligations.specs.Obligations.{end_frame, end_holder};
 ghost use Rattle.ledger_state.specs.declared.entry.LeakWord.TheVariants as words;
 ghost use Rattle.ledger_steps.specs.Ends.{constructor_ended, frame_end_leaks, frame_ended, frame_gone, result_moved};

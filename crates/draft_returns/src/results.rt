@@ -3,7 +3,7 @@
 ghost use Rattle.std.specs.Prelude.{◌≡◌, ◌∷◌, ◌++◌, [], true, IfOk, OnOk};
 ghost use Rattle.heap_drafts.specs.Drafts.{Drafted, HasNumbers, numbers_rise, roots_of};
 ghost use Rattle.ledger_calls.specs.Conducts.{result_in};
-ghost use Rattle.ledger_entries.specs.Entries.{owner_entries};
+ghost use Rattle.ledger_steps.specs.Entries.{owner_entries};
 ghost use Rattle.ledger_steps.specs.Ends.{moved_as, moved_normally, result_moved};
 ghost use Rattle.program_model.specs.Lookups.{method_at};
 

@@ -4,7 +4,7 @@ ghost use Rattle.std.specs.Prelude.{◌≡◌, ◌+◌, ◌<◌, ◌^◌, ◌∷
 ghost use Rattle.draft_returns.specs.DraftReturns.{ListedRest};
 ghost use Rattle.draft_stages.specs.Stages.{IndexedRest};
 ghost use Rattle.draft_steps.specs.Steps.{IsDraft};
-ghost use Rattle.frame_owners.specs.FrameOwners.{Listed, list_at, lists_in};
+ghost use Rattle.object_index.specs.FrameOwners.{Listed, list_at, lists_in};
 ghost use Rattle.heap_drafts.specs.Drafts.{Drafted};
 ghost use Rattle.ledger_calls.specs.Calls.{operand_of, receiver_note, reset_target};
 ghost use Rattle.ledger_obligations.specs.Obligations.{held_in};
@@ -12,7 +12,7 @@ ghost use Rattle.ledger_state.specs.Locals.{held};
 ghost use Rattle.ledger_steps.specs.Ends.{call_end_entries, call_ended, returned};
 ghost use Rattle.object_index.specs.ObjectIndexes.{Indexed};
 ghost use Rattle.program_model.specs.Lookups.{method_at};
-ghost use Rattle.settled_heaps.specs.Settled.{Settled};
+ghost use Rattle.draft_steps.specs.Settled.{Settled};
 
 use crate::births::draft_birth;
 use crate::frames::draft_frame_gone;

@@ -6,7 +6,7 @@ use Rattle.ledger_state.specs.declared.object.Object.{Object}
 use Rattle.ledger_state.specs.Contents.{HeapContents}
 use Rattle.ledger_state.specs.Heaps.{has_number, is_reached, link_of, linked_by, object_at, root}
 use Rattle.object_index.specs.declared.index.ObjectIndex.{ObjectIndex}
-use Rattle.frame_owners.specs.FrameOwners.{list_at, lists_in}
+use Rattle.object_index.specs.FrameOwners.{list_at, lists_in}
 use Rattle.object_index.specs.ObjectIndexes.{aliases_of, is_alias, is_free, is_indexed}
 use Rattle.object_index.proofs.AliasLaws.{root_among}
 use Rattle.object_index.proofs.IndexLaws.{alias_of}

@@ -10,7 +10,7 @@ use Rattle.ledger_state.specs.declared.value.Value.{Value}
 use Rattle.ledger_state.specs.Contents.{HeapContents}
 use Rattle.ledger_state.specs.Heaps.{has_number, is_reached, object_at, root}
 use Rattle.ledger_obligations.specs.Obligations.{emptied, reset_in, reset_roots}
-use Rattle.settled_heaps.specs.Settled.{is_settled}
+use Rattle.heap_drafts.specs.Settled.{is_settled}
 use Rattle.draft_lines.specs.declared.change.ObjectChange.{ObjectChange}
 use Rattle.draft_lines.specs.declared.leaks.Leak.{Leak}
 use Rattle.draft_lines.specs.DraftLines.{AllOfHeap, Changes, ResetBy, leak_changes}

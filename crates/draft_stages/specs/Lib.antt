@@ -1,1 +1,2 @@
 pub mod Stages
+pub use Rattle.ledger_calls.specs.Calls as LedgerCallsCalls

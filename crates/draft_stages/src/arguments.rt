@@ -3,7 +3,7 @@
 ghost use Rattle.std.specs.Prelude.{◌≡◌, ◌++◌, true, IfOk, OnOk};
 ghost use Rattle.heap_drafts.specs.Drafts.{Drafted, HasNumbers, numbers_rise, roots_of};
 ghost use Rattle.ledger_calls.specs.Calls.{argument_values as values_of_arguments, arguments_moved};
-ghost use Rattle.ledger_entries.specs.Entries.{owner_entries};
+ghost use Rattle.draft_lines.specs.Entries.{owner_entries};
 ghost use Rattle.program_model.specs.Lookups.{method_at};
 
 use crate::rows::changes_after;

@@ -8,9 +8,9 @@ ghost use Rattle.ledger_obligations.specs.Obligations.{held_in, lose};
 ghost use Rattle.ledger_state.specs.declared.object.Object.{Object as Found};
 ghost use Rattle.ledger_state.specs.Heaps.{has_number, object_at};
 ghost use Rattle.ledger_state.specs.Locals.{held};
-ghost use Rattle.ledger_entries.specs.Entries.{by_number, leak_entries};
+ghost use Rattle.draft_lines.specs.Entries.{by_number, leak_entries};
 ghost use Rattle.ledger_state.specs.declared.entry.LeakWord.TheVariants as words;
-ghost use Rattle.settled_heaps.specs.Settled.{Settled, is_settled};
+ghost use Rattle.heap_drafts.specs.Settled.{Settled, is_settled};
 
 use crate::aliases::add_saved;
 use crate::rows::changes_after;

@@ -3,7 +3,7 @@
 ghost use Rattle.std.specs.Prelude.{◌≡◌, ◌++◌, true, IfOk, OnOk};
 ghost use Rattle.draft_stages.specs.Stages.{AllWithRoots, IndexedRest};
 ghost use Rattle.heap_drafts.specs.Drafts.{Drafted};
-ghost use Rattle.ledger_entries.specs.Entries.{reset_entries};
+ghost use Rattle.draft_lines.specs.Entries.{reset_entries};
 ghost use Rattle.ledger_obligations.specs.Obligations.{reached, reset_roots};
 
 use crate::aliases::reached_objects;

@@ -17,11 +17,11 @@ use Rattle.ledger_state.specs.declared.object.Object.{Object}
 use Rattle.ledger_state.specs.declared.value.Value.{Value}
 use Rattle.ledger_state.specs.Contents.{HeapContents}
 use Rattle.ledger_state.specs.Heaps.{object_at}
-use Rattle.ledger_entries.specs.Entries.{by_number, leak_entries, owner_entries}
+use Rattle.draft_lines.specs.Entries.{by_number, leak_entries, owner_entries}
 use Rattle.ledger_obligations.specs.Obligations.{held_at, holds, is_unmet, lose}
-use Rattle.ledger_calls.specs.Calls.{arguments_moved}
-use Rattle.ledger_steps.specs.CallSteps.{began_entries, began_heap, object_of_new, started}
-use Rattle.settled_heaps.specs.Settled.{Settled, is_kept, is_settled}
+use Rattle.draft_stages.specs.LedgerCallsCalls.{arguments_moved}
+use Rattle.draft_steps.specs.CallSteps.{began_entries, began_heap, object_of_new, started}
+use Rattle.draft_steps.specs.Settled.{Settled, is_kept, is_settled}
 use Rattle.draft_lines.specs.declared.leaks.Leak.{Leak}
 use Rattle.draft_lines.specs.DraftLines.{AllOfHeap, IsOfHeap}
 use Rattle.heap_drafts.specs.declared.saved.SavedObject.{SavedObject}

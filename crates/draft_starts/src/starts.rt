@@ -5,9 +5,9 @@ ghost use Rattle.draft_steps.specs.Steps.{IsDraft};
 ghost use Rattle.heap_drafts.specs.Drafts.{Drafted};
 ghost use Rattle.ledger_obligations.specs.Obligations.{held_in};
 ghost use Rattle.ledger_state.specs.Locals.{held};
-ghost use Rattle.ledger_steps.specs.CallSteps.{object_begun, object_of_new, started};
+ghost use Rattle.draft_steps.specs.CallSteps.{object_begun, object_of_new, started};
 ghost use Rattle.program_model.specs.Lookups.{method_at};
-ghost use Rattle.settled_heaps.specs.Settled.{Settled};
+ghost use Rattle.draft_steps.specs.Settled.{Settled};
 
 use draft_stages::{draft_arguments, draft_end};
 use draft_steps::{DraftStep, step_of};

@@ -6,9 +6,8 @@ use Rattle.ledger_state.specs.Contents.{HeapContents}
 use Rattle.ledger_state.specs.Heaps.{has_number, object_at, only_at}
 use Rattle.ledger_obligations.specs.declared.note.Note.{Note}
 use Rattle.ledger_obligations.specs.Obligations.{noted, noted_object}
-use Rattle.plain_calls.specs.declared.change.Numbered.{Numbered}
-use Rattle.plain_calls.specs.PlainCalls.{put_noted}
-use Rattle.spread_notes.specs.SpreadNotes.{NotedAs, has_object, put_each, rises_beyond}
+use Rattle.spread_notes.specs.declared.numbered.Numbered.{Numbered}
+use Rattle.spread_notes.specs.SpreadNotes.{NotedAs, has_object, put_each, put_numbered, rises_beyond}
 use Rattle.spread_notes.proofs.PlacedLaws.{each_placed, placed_at, placed_other}
 use Rattle.spread_notes.proofs.SpreadLaws.{noted_as}
 use Rattle.heap_drafts.specs.Drafts.{ChangesAmong, LinksStay, numbers_rise}
@@ -26,11 +25,11 @@ numbers_rising j (b ∷ bs) = ap (λ t. nat_lt j b.number && t) (numbers_rising 
 
 put_fields : (bs : List Numbered) (h : HeapContents) → (put_each bs h).fields ≡ h.fields
 put_fields [] h = refl
-put_fields (b ∷ bs) h = put_fields bs (put_noted (Some b) h)
+put_fields (b ∷ bs) h = put_fields bs (put_numbered b h)
 
 put_count : (bs : List Numbered) (h : HeapContents) → length (put_each bs h).objects ≡ length h.objects
 put_count [] h = refl
-put_count (b ∷ bs) h = put_count bs (put_noted (Some b) h) ∙ length_changed (only_at b.number (λ _. b.object)) 1 h.objects
+put_count (b ∷ bs) h = put_count bs (put_numbered b h) ∙ length_changed (only_at b.number (λ _. b.object)) 1 h.objects
 
 pub notes_rise : (p : Program) (h : HeapContents) (first : List Note) (bs : List Numbered) → NotedAs p h first bs → numbers_rise 0 (numbers_in bs) ≡ true
 notes_rise p h first bs as' = numbers_rising 0 bs ∙ as'.rises

@@ -7,16 +7,16 @@ use Rattle.rlc_base.specs.declared.faults.NoMemory.{NoMemory}
 use Rattle.ledger_state.specs.declared.entry.Entry.{Entry}
 use Rattle.ledger_state.specs.declared.value.Value.{Value}
 use Rattle.ledger_steps.specs.Effects.{Effect}
-use Rattle.settled_heaps.specs.Settled.{Settled}
+use Rattle.heap_drafts.specs.Settled.{Settled}
 use Rattle.draft_steps.specs.declared.steps.DraftStep.{DraftStep}
 use Rattle.program_model.specs.Lookups.{optional}
 use Rattle.ledger_state.specs.declared.object.Object.{Object}
 use Rattle.ledger_state.specs.Contents.{HeapContents}
 use Rattle.ledger_state.specs.Heaps.{has_number, object_at}
-use Rattle.plain_calls.specs.declared.change.Numbered.{Numbered}
-use Rattle.plain_calls.specs.PlainCalls.{add_made, numbered, put_noted}
-use Rattle.spread_notes.specs.SpreadNotes.{has_object, put_each}
+use Rattle.spread_notes.specs.declared.numbered.Numbered.{Numbered}
+use Rattle.spread_notes.specs.SpreadNotes.{add_made, has_object, numbered, put_each, put_numbered}
 use Rattle.spread_notes.proofs.PlacedLaws.{AllAre, placed, placed_at, placed_found, placed_other}
+use Rattle.draft_lines.specs.DraftLines.{Changes}
 use Rattle.heap_drafts.specs.declared.saved.SavedObject.{SavedObject}
 use Rattle.heap_drafts.specs.Drafts.{Drafted, HasNumbers, is_saved}
 use Rattle.heap_drafts.proofs.PlacedLaws.{object_there, object_within, same_heaps}
@@ -98,7 +98,7 @@ get_none : (xs : List Object) → slice_get xs (length xs) ≡ None
 get_none [] = refl
 get_none (x ∷ xs) = get_none xs
 
-made_last : (o : Option Object) (h : HeapContents) → object_at (add_made o h) (suc (length h.objects)) ≡ o
+pub made_last : (o : Option Object) (h : HeapContents) → object_at (add_made o h) (suc (length h.objects)) ≡ o
 made_last None h = get_none h.objects
 made_last (Some z) h = get_last h.objects z
 
@@ -106,11 +106,15 @@ made_count : (o : Option Object) (h : HeapContents) → length h.objects ≤ len
 made_count None h = omega arith
 made_count (Some z) h = let more = length-append h.objects (z ∷ []) in omega (arith, more)
 
+-- no object changes
+pub no_changes : (h : HeapContents) → Changes h h []
+no_changes h = record { rises = refl; between = tt; others = λ k x found none. found }
+
 -- The whole step
 
 put_fields : (bs : List Numbered) (h : HeapContents) → (put_each bs h).fields ≡ h.fields
 put_fields [] h = refl
-put_fields (b ∷ bs) h = put_fields bs (put_noted (Some b) h)
+put_fields (b ∷ bs) h = put_fields bs (put_numbered b h)
 
 -- each object as it is after the step, in its place, makes the heap after the step of the one before it
 pub step_made : (bs : List SavedObject) (h g : HeapContents) (ks : List ℕ) (o : Option Object) → Drafted [] h bs g → HasNumbers (saved_numbers bs) ks → length g.objects ≤ length h.objects + 1 → o ≡ object_at g (length h.objects + 1) → put_each (numbered_in g ks) (add_made o h) ≡ g

@@ -10,10 +10,9 @@ use Rattle.ledger_state.specs.declared.value.Value.{Value}
 use Rattle.ledger_state.specs.Contents.{HeapContents}
 use Rattle.ledger_state.specs.Heaps.{object_at, put_field}
 use Rattle.ledger_steps.specs.Effects.{Effect}
-use Rattle.settled_heaps.specs.Settled.{Settled}
-use Rattle.plain_calls.specs.declared.change.Numbered.{Numbered}
-use Rattle.plain_calls.specs.PlainCalls.{add_made, numbered}
-use Rattle.spread_notes.specs.SpreadNotes.{put_each}
+use Rattle.heap_drafts.specs.Settled.{Settled}
+use Rattle.spread_notes.specs.declared.numbered.Numbered.{Numbered}
+use Rattle.spread_notes.specs.SpreadNotes.{add_made, numbered, put_each}
 use Rattle.heap_drafts.specs.declared.saved.SavedObject.{SavedObject}
 use Rattle.heap_drafts.specs.Drafts.{Drafted}
 use Rattle.draft_steps.specs.declared.steps.DraftStep.{DraftStep}

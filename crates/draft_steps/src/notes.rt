@@ -3,7 +3,7 @@
 ghost use Rattle.std.specs.Prelude.{◌≡◌, ◌++◌, true, IfOk, OnOk};
 ghost use Rattle.draft_steps.specs.Steps.{numbers_in};
 ghost use Rattle.heap_drafts.specs.Drafts.{Drafted};
-ghost use Rattle.ledger_entries.specs.Entries.{called_entries};
+ghost use Rattle.draft_lines.specs.Entries.{called_entries};
 ghost use Rattle.ledger_obligations.specs.Obligations.{noted};
 ghost use Rattle.spread_notes.specs.SpreadNotes.{NotedAs, put_each};
 
@@ -12,10 +12,9 @@ use draft_stages::changes_after;
 use heap_drafts::{SavedObject, save};
 use ledger_obligations::Note;
 use ledger_state::{Entry, Heap};
-use plain_calls::Numbered;
 use program_model::Program;
 use rlc_base::{NoMemory, Pos};
-use spread_notes::{noted_objects, put_each};
+use spread_notes::{Numbered, noted_objects, put_each};
 use std::alloc::Global;
 
 fn numbers_in(alloc: Global, objects: &[Numbered]) -> Result<Vec<u64>, NoMemory>

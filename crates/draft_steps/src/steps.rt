@@ -6,8 +6,8 @@ ghost use Rattle.draft_steps.specs.Steps.{IsDrafted, IsDraftedBy, numbered_in};
 use draft_stages::candidates;
 use heap_drafts::SavedObject;
 use ledger_state::{Entry, Heap, Object, StoredField};
-use plain_calls::Numbered;
 use rlc_base::NoMemory;
+use spread_notes::Numbered;
 use std::alloc::Global;
 
 /// What a step changes of the heap, and the lines of the ledger that it writes.

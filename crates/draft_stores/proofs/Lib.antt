@@ -1,1 +1,2 @@
-pub mod StoreLaws
+mod OperationLaws
+mod StoreLaws

@@ -1,10 +1,11 @@
--- Stores into owning fields.
+-- Stores into fields.
 use Rattle.std.proofs.Common.{◌≡◌, ◌∙◌, ap, sym, refl, subst, ℕ, ◌+◌, Bool, true, false, not, ◌&&◌, ◌||◌, nat_eq, Option, Some, None, List, [], ◌∷◌, ◌++◌, arith}
 use Rattle.std.proofs.lemmas.Grind.{common_steps}
 use Rattle.std.specs.Prelude.{Err, IfOk, IfSome, Ok, Result, nat_lt, if◌then◌else◌}
 use Rattle.program_model.specs.declared.kinds.ClassId.{ClassId}
 use Rattle.program_model.specs.declared.kinds.FieldId.{FieldId}
 use Rattle.program_model.specs.declared.kinds.MethodId.{MethodId}
+use Rattle.program_model.specs.declared.program.Method.{Method}
 use Rattle.program_model.specs.declared.program.Program.{Program}
 use Rattle.program_model.specs.Lookups.{method_at, optional}
 use Rattle.rlc_base.specs.declared.faults.NoMemory.{NoMemory}
@@ -21,15 +22,14 @@ use Rattle.ledger_state.specs.Contents.{HeapContents}
 use Rattle.ledger_state.specs.Heaps.{changed_from, has_number, object_at, put_field, same_root, with_objects}
 use Rattle.ledger_obligations.specs.declared.stores.OwningStore.{OwningStore}
 use Rattle.ledger_obligations.specs.Obligations.{displaced, given_up, held_at, holds, is_unmet, lose, lost_object, moved_where, owner_holds, released_where, stored_owning, with_owner}
-use Rattle.ledger_entries.specs.Entries.{by_number, leak_entries}
+use Rattle.ledger_steps.specs.Entries.{by_number, leak_entries}
 use Rattle.java_control.specs.declared.action.Action.{Action}
 use Rattle.java_control.specs.Owned.{is_owning}
 use Rattle.ledger_steps.specs.declared.store.Store.{Store}
 use Rattle.ledger_steps.specs.Effects.{left}
-use Rattle.ledger_steps.specs.InnerSteps.{displaced_entries, heap_stored, inner, is_bound, owning_lines, store_entries, store_of, store_unless}
+use Rattle.ledger_steps.specs.InnerSteps.{displaced_entries, displaced_lines, heap_stored, inner, is_bound, owning_lines, store_entries, store_lines, store_of, store_unless, stored_by, thrown_heap}
 use Rattle.settled_heaps.specs.Settled.{Settled, is_kept, is_settled}
-use Rattle.plain_calls.specs.PlainCalls.{add_made}
-use Rattle.spread_notes.specs.SpreadNotes.{put_each}
+use Rattle.draft_steps.specs.SpreadNotes.{add_made, put_each}
 use Rattle.heap_drafts.specs.declared.saved.SavedObject.{SavedObject}
 use Rattle.heap_drafts.specs.Drafts.{ChangesAmong, Drafted, is_saved, numbers_rise, roots_of}
 use Rattle.heap_drafts.proofs.DraftLaws.{among_same}
@@ -122,13 +122,6 @@ stored_whole p pos (Err x) (Ok (Some e)) s h g held lines leaks by draft none = 
 stored_whole p pos (Ok None) (Ok (Some e)) s h g held lines leaks by draft none = absurd by
 stored_whole p pos (Ok (Some d)) (Ok (Some e)) s h g held lines leaks by draft none = stored_one p pos d e s h g held lines leaks by draft none
 
-pub stored_none : (step result : Result (Option DraftStep) NoMemory) (s : OwningStore) → IfOk result (λ o. IfSome o (λ e. StoredBy step s e)) → IfOk result (λ o. IfSome o (λ e. e.made ≡ None))
-stored_none step (Err x) s by = tt
-stored_none step (Ok None) s by = tt
-stored_none (Err x) (Ok (Some e)) s by = absurd by
-stored_none (Ok None) (Ok (Some e)) s by = absurd by
-stored_none (Ok (Some d)) (Ok (Some e)) s by = by.none
-
 pub some_on : {X : Type 0} (o : Option X) (P Q : X → Type 0) → ((x : X) → P x → Q x) → IfSome o P → IfSome o Q
 some_on None P Q f h = h
 some_on (Some x) P Q f h = f x h
@@ -138,13 +131,26 @@ pub store_rest : (first bs : List SavedObject) (h g : HeapContents) (old new : L
 store_rest first bs h g old new rest roots settled drafted is k x there unsaved none =
     rest_settled h g old new rest k x there drafted.links drafted.longer (ap (λ ks. has_number ks k) (sym is) ∙ none) (settled k x (sym (drafted.others k unsaved) ∙ there))
 
--- a step that stores into an owning field
-pub inner_as : (p : Program) (h : HeapContents) (method : MethodId) (l : Locals) (thrown : Option ClassId) (a : Action) (pos : Pos) (held : List (List Value)) (st : Store) (s : OwningStore) → store_unless thrown (store_of l a) ≡ Some st → is_owning p st.field ≡ true → s.holder ≡ st.holder → s.field ≡ st.field → s.value ≡ st.value → s.bound ≡ is_bound h (method_at p method) l st.value → left p pos held (store_written p pos h s) (store_leaks p pos h s) (stored_owning p h s.holder s.field s.bound s.value) ≡ inner p h method l thrown a pos held
-inner_as p h method l (Some x) a pos held st s done own holder field value bound = absurd (cc)
-inner_as p h method l None a pos held st s done own holder field value bound =
+-- What a step comes to that stores
+
+pub owning_as : (p : Program) (h : HeapContents) (m : Option Method) (l : Locals) (pos : Pos) (held : List (List Value)) (st : Store) (s : OwningStore) → is_owning p st.field ≡ true → s.holder ≡ st.holder → s.field ≡ st.field → s.value ≡ st.value → s.bound ≡ is_bound h m l st.value → left p pos held (store_written p pos h s) (store_leaks p pos h s) (stored_owning p h s.holder s.field s.bound s.value) ≡ left p pos held (store_lines p pos m l st h) (displaced_lines p pos st h) (stored_by p m l st h)
+owning_as p h m l pos held st s own holder field value bound =
     (λ i. left p pos held (store_written p pos h (now i)) (store_leaks p pos h (now i)) (stored_owning p h (holder i) (field i) (bound i) (value i)))
-    ∙ (λ i. left p pos held (if sym own i then owning_lines p pos st (is_bound h (method_at p method) l st.value) h else []) (if sym own i then leak_entries p words.Overwritten pos h (displaced p h st.holder st.field st.value) else []) (if sym own i then stored_owning p h st.holder st.field (is_bound h (method_at p method) l st.value) st.value else put_field st.holder st.field st.value h))
-    ∙ (λ i. left p pos held (store_entries p pos (method_at p method) l (sym done i) h) (displaced_entries p pos (sym done i) h) (heap_stored p (method_at p method) l (sym done i) h))
+    ∙ (λ i. left p pos held (if sym own i then owning_lines p pos st (is_bound h m l st.value) h else []) (if sym own i then leak_entries p words.Overwritten pos h (displaced p h st.holder st.field st.value) else []) (if sym own i then stored_owning p h st.holder st.field (is_bound h m l st.value) st.value else put_field st.holder st.field st.value h))
   where
-    now : s ≡ record { holder = st.holder; field = st.field; bound = is_bound h (method_at p method) l st.value; value = st.value }
+    now : s ≡ record { holder = st.holder; field = st.field; bound = is_bound h m l st.value; value = st.value }
     now = λ i. record { holder = holder i; field = field i; bound = bound i; value = value i }
+
+pub put_as : (p : Program) (h : HeapContents) (m : Option Method) (l : Locals) (pos : Pos) (held : List (List Value)) (st : Store) → is_owning p st.field ≡ false → left p pos held [] [] (put_field st.holder st.field st.value h) ≡ left p pos held (store_lines p pos m l st h) (displaced_lines p pos st h) (stored_by p m l st h)
+put_as p h m l pos held st none =
+    λ i. left p pos held (if sym none i then owning_lines p pos st (is_bound h m l st.value) h else []) (if sym none i then leak_entries p words.Overwritten pos h (displaced p h st.holder st.field st.value) else []) (if sym none i then stored_owning p h st.holder st.field (is_bound h m l st.value) st.value else put_field st.holder st.field st.value h)
+
+pub inner_stored : (p : Program) (h : HeapContents) (method : MethodId) (l : Locals) (thrown : Option ClassId) (a : Action) (pos : Pos) (held : List (List Value)) (st : Store) → store_unless thrown (store_of l a) ≡ Some st → left p pos held (store_lines p pos (method_at p method) l st h) (displaced_lines p pos st h) (stored_by p (method_at p method) l st h) ≡ inner p h method l thrown a pos held
+inner_stored p h method l (Some x) a pos held st done = absurd (cc)
+inner_stored p h method l None a pos held st done =
+    λ i. left p pos held (store_entries p pos (method_at p method) l (sym done i) h) (displaced_entries p pos (sym done i) h) (heap_stored p (method_at p method) l (sym done i) h)
+
+-- and of one that stores nothing
+pub inner_kept : (p : Program) (h : HeapContents) (method : MethodId) (l : Locals) (thrown : Option ClassId) (a : Action) (pos : Pos) (held : List (List Value)) → store_unless thrown (store_of l a) ≡ None → left p pos held [] [] (thrown_heap p thrown h) ≡ inner p h method l thrown a pos held
+inner_kept p h method l thrown a pos held none =
+    λ i. left p pos held (store_entries p pos (method_at p method) l (sym none i) (thrown_heap p thrown h)) (displaced_entries p pos (sym none i) (thrown_heap p thrown h)) (heap_stored p (method_at p method) l (sym none i) (thrown_heap p thrown h))

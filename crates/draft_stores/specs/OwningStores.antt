@@ -9,7 +9,7 @@ use Rattle.ledger_state.specs.declared.object.StoredField.{StoredField}
 use Rattle.ledger_state.specs.Contents.{HeapContents}
 use Rattle.ledger_obligations.specs.declared.stores.OwningStore.{OwningStore}
 use Rattle.ledger_obligations.specs.Obligations.{displaced, holder_roots, moved_in, reset_roots}
-use Rattle.ledger_entries.specs.Entries.{leak_entries, owner_entries, reset_entries}
+use Rattle.ledger_steps.specs.Entries.{leak_entries, owner_entries, reset_entries}
 use Rattle.draft_steps.specs.declared.steps.DraftStep.{DraftStep}
 
 -- the root has the number 0, which no object has
@@ -34,11 +34,10 @@ store_leaks p pos h s = leak_entries p words.Overwritten pos h (displaced p h s.
 abbrev pub field_of_store : OwningStore → StoredField
 field_of_store s = record { holder = s.holder; field = s.field; value = s.value }
 
--- the same step, which makes no object and stores the value besides
+-- the same step, which stores the value besides
 pub record StoresToo (d : DraftStep) (s : OwningStore) (e : DraftStep) : Type 0 where
   pub changes : e.changes ≡ d.changes
   pub made : e.made ≡ d.made
-  pub none : e.made ≡ None
   pub stored : e.stored ≡ Some (field_of_store s)
   pub lines : e.lines ≡ d.lines
 

@@ -4,7 +4,7 @@ ghost use Rattle.std.specs.Prelude.{◌≡◌, ◌++◌, true, IfOk, IfSome, OnO
 ghost use Rattle.draft_lines.specs.DraftLines.{AllOfHeap, leak_entries_of};
 ghost use Rattle.draft_stores.specs.OwningStores.{is_zero};
 ghost use Rattle.heap_drafts.specs.Drafts.{Drafted, snapshots};
-ghost use Rattle.ledger_entries.specs.Entries.{leak_entries, owner_entries};
+ghost use Rattle.ledger_steps.specs.Entries.{leak_entries, owner_entries};
 ghost use Rattle.ledger_obligations.specs.Obligations.{given_up, moved_where, released_where, roots_where};
 ghost use Rattle.ledger_state.specs.declared.entry.LeakWord.TheVariants as words;
 ghost use Rattle.ledger_state.specs.Heaps.{change_some};

@@ -1,12 +1,12 @@
 //! Stores into owning fields.
 
-ghost use Rattle.std.specs.Prelude.{◌≡◌, ◌∷◌, ◌++◌, None, map, reverse, IfOk, IfSome};
+ghost use Rattle.std.specs.Prelude.{◌≡◌, ◌∷◌, ◌++◌, map, reverse, IfOk, IfSome};
 ghost use Rattle.draft_lines.specs.DraftLines.{AllOfHeap, leak_entries_of};
 ghost use Rattle.draft_stages.specs.Stages.{IndexedRest};
 ghost use Rattle.draft_steps.specs.Steps.{IsDraft};
 ghost use Rattle.draft_stores.specs.OwningStores.{StoredBy, store_leaks, store_left, store_written};
 ghost use Rattle.heap_drafts.specs.Drafts.{Drafted};
-ghost use Rattle.ledger_entries.specs.Entries.{owner_entries, reset_entries};
+ghost use Rattle.ledger_steps.specs.Entries.{owner_entries, reset_entries};
 ghost use Rattle.ledger_obligations.specs.Obligations.{displaced, held_in, moved_in, reset_roots, roots_where, stored_owning};
 ghost use Rattle.ledger_state.specs.Locals.{held};
 ghost use Rattle.ledger_steps.specs.Effects.{left};
@@ -169,7 +169,8 @@ fn store_in_place(
     }
 }
 
-fn with_store(
+/// The same step, which stores the value besides.
+pub(crate) fn with_store(
     step: Result<Option<DraftStep>, NoMemory>,
     s: OwningStore,
 ) -> Result<Option<DraftStep>, NoMemory>
@@ -183,9 +184,6 @@ fn with_store(
                 stored: _,
                 lines,
             } = found;
-            if made.is_some() {
-                return Ok(None);
-            }
             let field = StoredField {
                 holder: s.holder,
                 field: s.field,
@@ -193,7 +191,7 @@ fn with_store(
             };
             Ok(Some(DraftStep {
                 changes,
-                made: None,
+                made,
                 stored: Some(field),
                 lines,
             }))
@@ -220,7 +218,6 @@ pub(crate) fn draft_store(
     requires indexed { Indexed index.now heap.old }
     ensures kept { heap.new ≡ heap.old }
     ensures draft { IfOk result (λ o. IfSome o (λ d. IsDraft d heap.old (held now.now ∷ map held_in (reverse below.now)) (left p.now pos (held now.now ∷ map held_in (reverse below.now)) (store_written p.now pos heap.old s) (store_leaks p.now pos heap.old s) (stored_owning p.now heap.old s.holder s.field s.bound s.value)))) }
-    ensures made { IfOk result (λ o. IfSome o (λ d. d.made ≡ None)) }
 {
     let count = heap.objects.len();
     let mut saved = Vec::new(alloc);

@@ -1,3 +1,4 @@
-pub mod DraftLaws
 mod EndLaws
+mod IndexLaws
+mod ListLaws
 mod StoredLaws

@@ -7,9 +7,8 @@ use Rattle.ledger_state.specs.Heaps.{put_field, with_objects}
 use Rattle.frame_owners.specs.FrameOwners.{Listed}
 use Rattle.object_index.specs.declared.index.ObjectIndex.{ObjectIndex}
 use Rattle.object_index.specs.ObjectIndexes.{Indexed}
-use Rattle.plain_calls.specs.declared.change.Numbered.{Numbered}
-use Rattle.plain_calls.specs.PlainCalls.{add_made, put_noted}
-use Rattle.spread_notes.specs.SpreadNotes.{put_each}
+use Rattle.spread_notes.specs.declared.numbered.Numbered.{Numbered}
+use Rattle.spread_notes.specs.SpreadNotes.{add_made, put_each, put_numbered}
 use Rattle.draft_steps.specs.Steps.{put_stored}
 
 -- the lists and the index of the objects stay
@@ -24,7 +23,7 @@ indexed_stored index (Some s) h indexed = λ k x found. indexed k x found
 -- objects are put before the field takes the value or afterwards
 field_later : (bs : List Numbered) (s : StoredField) (h : HeapContents) → put_each bs (put_field s.holder s.field s.value h) ≡ put_field s.holder s.field s.value (put_each bs h)
 field_later [] s h = refl
-field_later (b ∷ bs) s h = field_later bs s (put_noted (Some b) h)
+field_later (b ∷ bs) s h = field_later bs s (put_numbered b h)
 
 pub stored_later : (bs : List Numbered) (s : Option StoredField) (h : HeapContents) → put_each bs (put_stored s h) ≡ put_stored s (put_each bs h)
 stored_later bs None h = refl

@@ -2,30 +2,42 @@
 
 ghost use Rattle.std.specs.Prelude.{◌≡◌, ◌-◌, Option, is_some, length, take, OnErr, OnOk};
 ghost use Rattle.draft_steps.specs.Steps.{put_stored};
-ghost use Rattle.drafted_heaps.specs.DraftedHeaps.{drafted_by};
+ghost use Rattle.drafted_heaps.specs.DraftedHeaps.{drafted_by, heap_left};
 ghost use Rattle.ledger_state.specs.declared.object.Object.{Object};
 ghost use Rattle.ledger_state.specs.Contents.{HeapContents};
 ghost use Rattle.ledger_state.specs.Heaps.{with_objects};
-ghost use Rattle.plain_calls.specs.PlainCalls.{add_made};
+ghost use Rattle.spread_notes.specs.SpreadNotes.{add_made};
 
 use ledger_state::{Heap, Object, StoredField};
-use plain_calls::{PlainChange, apply_change};
 use rlc_base::NoMemory;
-use spread_calls::SpreadChange;
-use spread_notes::put_each;
+use spread_notes::{Numbered, put_each};
 
 /// What a step changes of the heap: objects that are there become others, there is one object more, and a field takes a value.
 #[derive(Drop)]
 pub struct DraftChange {
-    pub objects: SpreadChange,
+    pub changed: Vec<Numbered>,
+    pub made: Option<Object>,
     pub stored: Option<StoredField>,
 }
 
+/// What a step leaves of the heap.
+#[derive(Drop)]
+pub enum HeapChange {
+    /// Another heap.
+    Whole(Heap),
+    /// The same heap, in which some objects change, one is made, or a field takes a value.
+    Drafted(DraftChange),
+}
+
+// Puts the object that a step makes behind the others. Where memory runs out the heap stays as it was.
 fn add_made(heap: &mut Heap, made: Option<Object>) -> Result<(), NoMemory>
     ensures ok { OnOk result (heap.new ≡ add_made made heap.old) }
     ensures err { OnErr result (heap.new ≡ heap.old) }
 {
-    apply_change(heap, PlainChange { noted: None, made })
+    match made {
+        None => Ok(()),
+        Some(object) => Ok(heap.objects.push(object)?),
+    }
 }
 
 fn put_stored(heap: &mut Heap, stored: Option<StoredField>) -> Result<(), NoMemory>
@@ -74,12 +86,26 @@ fn add_and_store(
     }
 }
 
-/// Changes the heap as the step does. Where memory runs out the heap stays as it was.
-pub fn apply_draft(heap: &mut Heap, change: &DraftChange) -> Result<(), NoMemory>
+// Changes the heap as the step does. Where memory runs out the heap stays as it was.
+fn apply_draft(heap: &mut Heap, change: &DraftChange) -> Result<(), NoMemory>
     ensures ok { OnOk result (heap.new ≡ drafted_by change.now heap.old) }
     ensures err { OnErr result (heap.new ≡ heap.old) }
 {
-    add_and_store(heap, change.objects.made, change.stored)?;
-    put_each(heap, &change.objects.noted);
+    add_and_store(heap, change.made, change.stored)?;
+    put_each(heap, &change.changed);
     Ok(())
+}
+
+/// The heap becomes what a step leaves of it. Where memory runs out it stays.
+pub fn take_change(heap: &mut Heap, change: HeapChange) -> Result<(), NoMemory>
+    ensures ok { OnOk result (heap.new ≡ heap_left change heap.old) }
+    ensures err { OnErr result (heap.new ≡ heap.old) }
+{
+    match change {
+        HeapChange::Whole(after) => {
+            *heap = after;
+            Ok(())
+        }
+        HeapChange::Drafted(found) => apply_draft(heap, &found),
+    }
 }

@@ -2,9 +2,13 @@
 #![tactic(auto)]
 
 mod change;
+mod ending;
+mod indexing;
 mod listing;
-mod returning;
+mod results;
 
-pub use change::{DraftChange, apply_draft};
-pub use listing::{index_draft, list_draft};
-pub use returning::return_draft;
+pub use change::{DraftChange, HeapChange, take_change};
+pub use ending::end_top_list;
+pub use indexing::index_change;
+pub use listing::list_change;
+pub use results::{StepResult, draft_result, whole_result};

@@ -21,9 +21,9 @@ use Rattle.java_control.specs.Exceptions.{action_ways, caught, clauses_in, enter
 use Rattle.java_control.specs.Exceptions as control
 use Rattle.java_control.specs.Statements.{close_front}
 use Rattle.java_control.specs.Remaining.{Todo, Do, Ev, Act, Cond, NullFork, BoolFork, LoopEnd, For, Leave, Catch, Fin, Close, Finish, Supp, Out, Ended, skip, way}
-use Rattle.checked_exceptions.specs.Completions.{completion}
-use Rattle.checked_exceptions.specs.Exceptions.{is_caught, statement_exceptions, throws_clause}
-use Rattle.checked_exceptions.specs.TreeOrder.{PartsComeFirst}
+use Rattle.exception_laws.specs.Completions.{completion}
+use Rattle.exception_laws.specs.Exceptions.{is_caught, statement_exceptions, throws_clause}
+use Rattle.exception_laws.specs.TreeOrder.{PartsComeFirst}
 use Rattle.exception_laws.proofs.Finishes.{AtEnd, Finishes, finishes_front, finishes_weaker}
 use Rattle.exception_laws.proofs.Handlers.{IsSafe, class_out, gets_out, in_front, is_plain}
 use Rattle.exception_laws.proofs.Lists.{None', alone, left, or_first, or_neither, or_second, right}

@@ -18,8 +18,8 @@ use Rattle.program_model.proofs.HierarchyLaws.{is_under_law}
 use Rattle.java_control.specs.Exceptions.{unchecked}
 use Rattle.class_overrides.specs.Cases.{may_throw, throws_no_more}
 use Rattle.class_overrides.specs.Cases as overriding
-use Rattle.checked_exceptions.specs.Coverage.{CoversItsExceptions, is_checked, is_declared, is_undeclared}
-use Rattle.checked_exceptions.specs.Exceptions.{throws_in}
+use Rattle.exception_laws.specs.Coverage.{CoversItsExceptions, is_checked, is_declared, is_undeclared}
+use Rattle.exception_laws.specs.Exceptions.{throws_in}
 use Rattle.ledger_calls.specs.Calls.{leaves_by}
 use Rattle.exception_laws.specs.Ends.{EndsBy, LeavesCall}
 use Rattle.exception_laws.proofs.Lists.{and_one, and_two}

@@ -1,3 +1,4 @@
+pub mod Depths
 pub mod Conditions
 pub mod Exits
 pub mod ExpressionFronts

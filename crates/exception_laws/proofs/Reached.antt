@@ -19,9 +19,9 @@ use Rattle.java_control.specs.Control.{Step, control_place, next_of, start_in, s
 use Rattle.java_control.specs.Remaining.{Todo, Way}
 use Rattle.java_control.specs.Statements.{body_front}
 use Rattle.flow_rules.specs.Paths.{Comes, Move, move_of, on, relation_of, start}
-use Rattle.checked_exceptions.specs.Coverage.{CoversItsExceptions, is_checked, is_declared, is_undeclared}
-use Rattle.checked_exceptions.specs.Exceptions.{body_exceptions, throws_clause}
-use Rattle.checked_exceptions.specs.TreeOrder.{PartsComeFirst}
+use Rattle.exception_laws.specs.Coverage.{CoversItsExceptions, is_checked, is_declared, is_undeclared}
+use Rattle.exception_laws.specs.Exceptions.{body_exceptions, throws_clause}
+use Rattle.exception_laws.specs.TreeOrder.{PartsComeFirst}
 use Rattle.exception_laws.specs.Ends.{EndsBy}
 use Rattle.exception_laws.proofs.Exits.{ways_keep}
 use Rattle.exception_laws.proofs.Handlers.{gets_out, not_found}

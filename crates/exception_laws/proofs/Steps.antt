@@ -26,10 +26,10 @@ use Rattle.java_control.specs.Exceptions.{clauses_in, clauses_of_kind}
 use Rattle.java_control.specs.Expressions.{expression_front}
 use Rattle.java_control.specs.Statements.{clauses_front, finally_front, for_condition, for_turn, head_front, loop_turn, resources_front, statement_front, try_front}
 use Rattle.java_control.specs.Remaining.{Todo, Todos, Do, Ev, Cond, LoopEnd, For, Way, one, nil, skip, todos}
-use Rattle.checked_exceptions.specs.Completions.{completion}
-use Rattle.checked_exceptions.specs.Exceptions.{exceptions_in, expression_exceptions, protected_exceptions, statement_exceptions, thrown_by_call, thrown_by_statement}
-use Rattle.checked_exceptions.specs.TreeOrder.{PartsComeFirst}
-use Rattle.checked_exceptions.proofs.Depths.{thrown_law, value_law}
+use Rattle.exception_laws.specs.Completions.{completion}
+use Rattle.exception_laws.specs.Exceptions.{exceptions_in, expression_exceptions, protected_exceptions, statement_exceptions, thrown_by_call, thrown_by_statement}
+use Rattle.exception_laws.specs.TreeOrder.{PartsComeFirst}
+use Rattle.exception_laws.proofs.Depths.{thrown_law, value_law}
 use Rattle.exception_laws.proofs.Conditions.{condition_ends}
 use Rattle.exception_laws.proofs.ExpressionFronts.{Quiet, quiet_condition, values}
 use Rattle.exception_laws.proofs.ExpressionFronts as value_fronts

@@ -11,8 +11,8 @@ ghost use Rattle.program_model.specs.Lookups.{body_at, method_at};
 ghost use Rattle.program_model.specs.SuperTests.{is_under};
 ghost use Rattle.program_model.specs.Validity.{IsTypedProgram};
 ghost use Rattle.class_overrides.specs.Cases.{throws_no_more};
-ghost use Rattle.checked_exceptions.specs.Coverage.{CoversItsExceptions, is_undeclared};
-ghost use Rattle.checked_exceptions.specs.Exceptions.{throws_clause};
+ghost use Rattle.exception_laws.specs.Coverage.{CoversItsExceptions, is_undeclared};
+ghost use Rattle.exception_laws.specs.Exceptions.{throws_clause};
 ghost use Rattle.exception_laws.specs.Ends.{EndsBy, LeavesCall};
 
 /// Where the program covers its exceptions, each class by which an exception that ends a body is known is one of exceptions, and it is

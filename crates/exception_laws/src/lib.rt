@@ -1,4 +1,7 @@
-//! By which classes exceptions end frames and leave calls, in programs whose checked exceptions are caught or declared (JLS 11.2).
+//! Checked exceptions (JLS 11.2):
+//!
+//! - Which checked exceptions the bodies of a program can throw, and that each of them is caught or declared (JLS 11.2).
+//! - By which classes exceptions end frames and leave calls, in programs whose checked exceptions are caught or declared (JLS 11.2).
 #![tactic(auto)]
 
 mod laws;

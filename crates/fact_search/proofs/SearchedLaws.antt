@@ -4,12 +4,12 @@ use Rattle.std.specs.Prelude.{slice_get}
 use Rattle.rlc_base.specs.declared.faults.Stop.{Stop}
 use Rattle.rlc_base.specs.declared.faults.Stop.TheVariants as stops
 use Rattle.rlc_base.specs.declared.place.Pos.{Pos}
-use Rattle.breadth_first.specs.Searches.{Extends, IsAt, IsSearch, IsShortest, Source, Stands}
-use Rattle.breadth_first.specs.Turns.{AreStarts, AreSteps}
-use Rattle.breadth_first.specs.Walks.{IsWalk}
-use Rattle.breadth_first.proofs.ListLaws.{at_map, at_within, length_mapped}
-use Rattle.breadth_first.proofs.SearchLaws.{search_done}
-use Rattle.breadth_first.proofs.TurnLaws.{search_first, search_reached, search_turned}
+use Rattle.reached_pairs.specs.Searches.{Extends, IsAt, IsSearch, IsShortest, Source, Stands}
+use Rattle.reached_pairs.specs.Turns.{AreStarts, AreSteps}
+use Rattle.reached_pairs.specs.Walks.{IsWalk}
+use Rattle.reached_pairs.proofs.ListLaws.{at_map, at_within, length_mapped}
+use Rattle.reached_pairs.proofs.SearchLaws.{search_done}
+use Rattle.reached_pairs.proofs.TurnLaws.{search_first, search_reached, search_turned}
 use Rattle.fact_pool.specs.declared.handle.Handle.{Handle}
 use Rattle.reached_pairs.specs.Additions.{ArePast, IsAddCause}
 use Rattle.reached_pairs.specs.Visited.{AreVisits, fact_in, found_in, known_in, pairs_in, sources_in}

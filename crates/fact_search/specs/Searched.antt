@@ -3,8 +3,8 @@ use Rattle.std.specs.Prelude.{◌≡◌, ◌<◌, ◌≤◌, ℕ, Option, Some, 
 use Rattle.rlc_base.specs.declared.faults.Stop.{Stop}
 use Rattle.rlc_base.specs.declared.faults.Stop.TheVariants as stops
 use Rattle.rlc_base.specs.declared.place.Pos.{Pos}
-use Rattle.breadth_first.specs.Searches.{AreOnce, HasStarts, IsAt, IsSearch}
-use Rattle.breadth_first.specs.Walks.{IsWalk}
+use Rattle.reached_pairs.specs.Searches.{AreOnce, HasStarts, IsAt, IsSearch}
+use Rattle.reached_pairs.specs.Walks.{IsWalk}
 use Rattle.fact_pool.specs.declared.handle.Handle.{Handle}
 use Rattle.reached_pairs.specs.Additions.{too_many}
 use Rattle.reached_pairs.specs.Visited.{AreVisits, found_in, sources_in}

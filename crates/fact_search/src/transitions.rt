@@ -1,8 +1,8 @@
 //! What a search goes on by.
 
 ghost use Rattle.std.specs.Prelude.{ℕ, IfOk, Option};
-ghost use Rattle.breadth_first.specs.Turns.{AreStarts, AreSteps};
-ghost use Rattle.breadth_first.specs.Walks.{IsWalk};
+ghost use Rattle.reached_pairs.specs.Turns.{AreStarts, AreSteps};
+ghost use Rattle.reached_pairs.specs.Walks.{IsWalk};
 ghost use Rattle.reached_pairs.specs.Additions.{points_in};
 
 use reached_pairs::Point;

@@ -4,7 +4,7 @@ use Rattle.std.specs.Prelude.{◌||◌, slice_get}
 use Rattle.std.specs.List.{list_any}
 use Rattle.std.proofs.lemmas.Bool.{or_cases}
 use Rattle.breadth_first.specs.Searches.{IsAt, Stands}
-use Rattle.body_origins.proofs.OriginLaws.{take_whole}
+use Rattle.obligation_paths.proofs.OriginLaws.{take_whole}
 
 module _ {X : Type 0} (test : X → Bool) where
   pub any_none : (xs : List X) → list_any test (take 0 xs) ≡ false

@@ -12,14 +12,14 @@ use Rattle.java_control.specs.declared.fact.Fact.{Fact}
 use Rattle.java_control.specs.declared.fact.Origin.{Origin}
 use Rattle.java_cfg.specs.Graphs.{IsGraphOf}
 use Rattle.java_cfg.specs.declared.arc.Arc.{Arc}
-use Rattle.ownership_rules.specs.Births.{births_of_step}
+use Rattle.flow_rules.specs.Births.{births_of_step}
 use Rattle.flow_rules.specs.Flow.{flow}
 use Rattle.flow_rules.specs.Paths.{IsPath, Move, Taken, relation_of, taken, start, on, entered, born, flowed}
 use Rattle.flow_rules.specs.Paths.{move_of as control_move}
 use Rattle.flow_rules.specs.declared.path_step.PathStep.{PathStep}
-use Rattle.body_origins.specs.Nodes.{arcs_at, move_of, relation_in}
-use Rattle.graph_relation.proofs.NodeLaws.{arc_of_step, step_of_arc}
-use Rattle.shortest_paths.specs.Telling.{told}
+use Rattle.obligation_paths.specs.Nodes.{arcs_at, move_of, relation_in}
+use Rattle.obligation_paths.proofs.NodeLaws.{arc_of_step, step_of_arc}
+use Rattle.obligation_paths.specs.Telling.{told}
 use Rattle.fault_order.specs.declared.fault.FaultAt.{FaultAt}
 use Rattle.obligation_paths.specs.Paths.{IsTold, IsToldPathTo}
 use Rattle.fault_paths.specs.Paths.{IsFaultPath}

@@ -11,15 +11,15 @@ use Rattle.java_control.specs.declared.fact.Outcome.{Outcome}
 use Rattle.java_control.specs.declared.fact.Outcome.TheVariants.{Next, Gone, Fault}
 use Rattle.java_control.specs.declared.fact.Rule.{Rule}
 use Rattle.obligation_facts.specs.Facts.{Names}
-use Rattle.ownership_rules.specs.Births.{births_of_step}
+use Rattle.flow_rules.specs.Births.{births_of_step}
 use Rattle.flow_rules.specs.Flow.{flow}
 use Rattle.flow_rules.specs.Numbering.{numbered, numbered_outcome}
 use Rattle.flow_rules.specs.Paths.{IsPath, Move, Taken, taken, start, on, entered, born, flowed}
 use Rattle.flow_rules.specs.declared.path_step.PathStep.{PathStep}
 use Rattle.flow_rules.proofs.NumberingLaws.{flow-numbered}
-use Rattle.body_origins.specs.Nodes.{arcs_at, move_of, relation_in}
+use Rattle.obligation_paths.specs.Nodes.{arcs_at, move_of, relation_in}
 use Rattle.fault_order.specs.declared.fault.FaultAt.{FaultAt}
-use Rattle.shortest_paths.specs.Telling.{told, told_fact}
+use Rattle.obligation_paths.specs.Telling.{told, told_fact}
 use Rattle.fault_paths.specs.Steps.{CanBecome, CanBreak, CanEnter, CanLead, GoesOn, GoesTo, IsStepOf, TellsPathTo}
 
 next_of : (m : ℕ) (x : Outcome) (g : Fact) → numbered_outcome m x ≡ Next g → (f : Fact) × ((x ≡ Next f) × (numbered m f ≡ g))

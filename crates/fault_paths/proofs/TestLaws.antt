@@ -30,13 +30,13 @@ use Rattle.java_control.specs.declared.fact.Outcome.TheVariants.{Next, Gone, Fau
 use Rattle.java_control.specs.declared.fact.Rule.{Rule}
 use Rattle.java_control.proofs.EqLemmas.{exact_action, exact_pos}
 use Rattle.obligation_facts.specs.Facts.{Names}
-use Rattle.ownership_rules.specs.Births.{Birth, births_at_entry}
+use Rattle.flow_rules.specs.Births.{Birth, births_at_entry}
 use Rattle.flow_rules.specs.Flow.{flow}
 use Rattle.flow_rules.specs.Numbering.{numbered}
 use Rattle.flow_rules.specs.declared.path_step.PathStep.{PathStep}
-use Rattle.body_origins.specs.Nodes.{arcs_at}
-use Rattle.body_origins.specs.Origins.{arc_births, same_origin}
-use Rattle.reached_facts.proofs.FactLaws.{exact_fact, exact_origin}
+use Rattle.obligation_paths.specs.Nodes.{arcs_at}
+use Rattle.obligation_paths.specs.Origins.{arc_births, same_origin}
+use Rattle.obligation_paths.proofs.FactLaws.{exact_fact, exact_origin}
 use Rattle.fault_order.specs.declared.fault.FaultAt.{FaultAt}
 use Rattle.fault_paths.specs.Steps.{CanBecome, CanBreak, CanEnter, CanLead, GoesOn, GoesTo, IsFirstFact, IsStepOf}
 use Rattle.fault_paths.specs.Tests.{breaks, breaks_with, can_become, can_break_by, can_enter, can_lead_by, goes_on, goes_to, is_breach, is_first, is_next, is_step_of, leads}

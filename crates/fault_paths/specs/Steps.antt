@@ -9,15 +9,15 @@ use Rattle.java_control.specs.declared.fact.Fact.{Fact}
 use Rattle.java_control.specs.declared.fact.Origin.{Origin}
 use Rattle.java_control.specs.declared.fact.Outcome.TheVariants.{Next, Fault}
 use Rattle.obligation_facts.specs.Facts.{Names}
-use Rattle.ownership_rules.specs.Births.{Birth, births_at_entry}
+use Rattle.flow_rules.specs.Births.{Birth, births_at_entry}
 use Rattle.flow_rules.specs.Flow.{flow}
 use Rattle.flow_rules.specs.Numbering.{numbered}
 use Rattle.flow_rules.specs.Paths.{Taken}
 use Rattle.flow_rules.specs.declared.path_step.PathStep.{PathStep}
-use Rattle.body_origins.specs.Nodes.{arcs_at, relation_in}
-use Rattle.body_origins.specs.Origins.{arc_births}
+use Rattle.obligation_paths.specs.Nodes.{arcs_at, relation_in}
+use Rattle.obligation_paths.specs.Origins.{arc_births}
 use Rattle.fault_order.specs.declared.fault.FaultAt.{FaultAt}
-use Rattle.shortest_paths.specs.Telling.{told}
+use Rattle.obligation_paths.specs.Telling.{told}
 use Rattle.obligation_paths.specs.Paths.{IsPathTo}
 
 -- The steps tell a path whose last step breaks the rule of the fault at its place, with no other missing names than those of

@@ -14,12 +14,12 @@ use Rattle.java_control.specs.declared.fact.Fact.{Fact}
 use Rattle.java_control.specs.declared.fact.Origin.{Origin}
 use Rattle.java_control.specs.declared.fact.Outcome.{Outcome}
 use Rattle.java_control.specs.declared.fact.Outcome.TheVariants.{Next, Gone, Fault}
-use Rattle.ownership_rules.specs.Births.{Birth, births_at_entry}
+use Rattle.flow_rules.specs.Births.{Birth, births_at_entry}
 use Rattle.flow_rules.specs.Flow.{flow}
 use Rattle.flow_rules.specs.Numbering.{numbered}
 use Rattle.flow_rules.specs.declared.path_step.PathStep.{PathStep}
-use Rattle.body_origins.specs.Nodes.{arcs_at}
-use Rattle.body_origins.specs.Origins.{arc_births, same_origin}
+use Rattle.obligation_paths.specs.Nodes.{arcs_at}
+use Rattle.obligation_paths.specs.Origins.{arc_births, same_origin}
 use Rattle.fault_order.specs.declared.fault.FaultAt.{FaultAt}
 
 -- the step is told of the arc

@@ -3,7 +3,7 @@
 ghost use Rattle.std.specs.Prelude.{◌≡◌, ◌↔◌, IsTrue, length};
 ghost use Rattle.java_cfg.specs.Contents.{arcs_of, nodes_of};
 ghost use Rattle.java_cfg.specs.Graphs.{IsGraphOf};
-ghost use Rattle.body_origins.specs.Nodes.{FitsRows, arcs_at};
+ghost use Rattle.obligation_paths.specs.Nodes.{FitsRows, arcs_at};
 ghost use Rattle.obligation_paths.specs.Paths.{IsToldPathTo};
 ghost use Rattle.fault_paths.specs.Paths.{IsFaultPath, fault_of};
 ghost use Rattle.fault_paths.specs.Tests.{breaks, goes_on, goes_to, leads};

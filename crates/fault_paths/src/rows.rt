@@ -5,9 +5,9 @@ ghost use Rattle.std.specs.List.{list_any};
 ghost use Rattle.breadth_first.specs.Searches.{IsAt};
 ghost use Rattle.must_call_sets.specs.WellFormed.{HasSmallInterests};
 ghost use Rattle.obligation_facts.specs.SmallActions.{IsSmallAction};
-ghost use Rattle.ownership_rules.specs.Room.{HasRoom};
+ghost use Rattle.flow_rules.specs.Room.{HasRoom};
 ghost use Rattle.java_cfg.specs.declared.arc.Arc.{Arc as DeclaredArc};
-ghost use Rattle.body_origins.specs.Origins.{arc_births};
+ghost use Rattle.obligation_paths.specs.Origins.{arc_births};
 ghost use Rattle.fault_paths.specs.Tests.{can_break_by, can_lead_by};
 
 use crate::steps::{can_break_by, can_lead_by};

@@ -4,9 +4,9 @@ ghost use Rattle.std.specs.Prelude.{◌≡◌, ◌<◌, ◌^◌, length};
 ghost use Rattle.std.specs.List.{list_any};
 ghost use Rattle.must_call_sets.specs.WellFormed.{HasSmallInterests};
 ghost use Rattle.obligation_facts.specs.SmallActions.{IsSmallAction};
-ghost use Rattle.ownership_rules.specs.Births.{births_at_entry};
-ghost use Rattle.ownership_rules.specs.Room.{HasRoom};
-ghost use Rattle.body_origins.specs.Origins.{arc_births};
+ghost use Rattle.flow_rules.specs.Births.{births_at_entry};
+ghost use Rattle.flow_rules.specs.Room.{HasRoom};
+ghost use Rattle.obligation_paths.specs.Origins.{arc_births};
 ghost use Rattle.flow_rules.specs.Numbering.{numbered};
 ghost use Rattle.fault_paths.specs.Tests.{breaks_with, can_become, can_break_by, can_enter, can_lead_by, is_breach, is_first, is_next, is_step_of};
 

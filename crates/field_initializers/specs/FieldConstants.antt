@@ -11,7 +11,7 @@ use Rattle.program_model.specs.declared.program.Program.{Program}
 use Rattle.program_model.specs.Lookups.{class_at, field_at}
 use Rattle.java_syntax.specs.ExpressionTrees.{ExprTree}
 use Rattle.class_names.specs.declared.class_name.ClassName.{ClassName}
-use Rattle.class_declarations.specs.Members.{WrittenField}
+use Rattle.source_classes.specs.ClassDeclarationsMembers.{WrittenField}
 use Rattle.java_typed_expressions.specs.Typings.{value_facts}
 use Rattle.source_classes.specs.DeclaredVariables.{constant_value}
 use Rattle.field_initializers.specs.FieldInitializers.{initializer_of, initializer_surroundings}

@@ -9,7 +9,7 @@ use Rattle.program_model.specs.declared.program.Field.{Field}
 use Rattle.program_model.specs.declared.program.Program.{Program}
 use Rattle.program_model.specs.Lookups.{field_at}
 use Rattle.java_syntax.specs.ExpressionTrees.{ExprTree, expr_of}
-use Rattle.class_declarations.specs.Members.{WrittenField}
+use Rattle.source_classes.specs.ClassDeclarationsMembers.{WrittenField}
 use Rattle.java_typed_trees.specs.declared.facts.Answer.{Answer}
 use Rattle.java_typed_trees.specs.declared.shapes.TargetShape.TheVariants as targets
 use Rattle.java_typed_trees.specs.Answers.{value_at}

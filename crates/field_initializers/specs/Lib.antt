@@ -1,7 +1,6 @@
 pub mod FieldConstants
 pub mod FieldInitializers
-pub use Rattle.source_classes.specs.Members
 pub use Rattle.source_classes.specs.Parameters
 pub use Rattle.source_classes.specs.SourceClasses
-pub use Rattle.java_typed_expressions.specs.Cases
+pub use Rattle.source_classes.specs.Members as SourceClassesMembers
 pub use Rattle.java_typed_expressions.specs.Typings

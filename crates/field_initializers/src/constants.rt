@@ -1,7 +1,7 @@
 //! The fields that are constant variables of a primitive type (JLS 4.12.4).
 
 ghost use Rattle.std.specs.Prelude.{◌≡◌, ◌∷◌, [], IfOk, OnOk, fold, map, slice_set};
-ghost use Rattle.class_declarations.specs.Members.{written_field_of};
+ghost use Rattle.source_classes.specs.ClassDeclarationsMembers.{written_field_of};
 ghost use Rattle.source_classes.specs.Members.{environment_in, numbered_field_of};
 ghost use Rattle.source_classes.specs.SourceClasses.{source_class_of};
 ghost use Rattle.field_initializers.specs.FieldInitializers.{initializer_of};

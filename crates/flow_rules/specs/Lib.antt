@@ -3,3 +3,20 @@ pub mod Calls
 pub mod Flow
 pub mod Paths
 pub mod Numbering
+pub use Rattle.alias_sets.specs.Aliases
+pub use Rattle.ownership_rules.specs.Births
+pub use Rattle.must_call_sets.specs.Bodies
+pub use Rattle.called_methods.specs.CalledRows
+pub use Rattle.alias_sets.specs.Cases
+pub use Rattle.obligation_facts.specs.Facts
+pub use Rattle.ownership_rules.specs.MovesAtReturns
+pub use Rattle.must_call_sets.specs.MustCallSets
+pub use Rattle.owning_fields.specs.Stores as OwningFieldsStores
+pub use Rattle.alias_sets.specs.PlaceRows
+pub use Rattle.called_methods.specs.Preconditions
+pub use Rattle.called_methods.specs.Promises
+pub use Rattle.alias_sets.specs.Results
+pub use Rattle.ownership_rules.specs.Room
+pub use Rattle.must_call_sets.specs.Signatures
+pub use Rattle.obligation_facts.specs.SmallActions
+pub use Rattle.must_call_sets.specs.WellFormed

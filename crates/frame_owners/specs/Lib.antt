@@ -1,1 +1,2 @@
 pub mod FrameOwners
+pub use Rattle.ledger_obligations.specs.Obligations

@@ -17,8 +17,8 @@ use Rattle.java_control.specs.declared.action.Action.{Action}
 use Rattle.java_control.specs.declared.action.Edge.{Edge}
 use Rattle.java_control.specs.Calls.{is_reset_of_this}
 use Rattle.java_control.specs.Owned.{is_owning}
-use Rattle.must_call_sets.specs.Bodies as bodies
-use Rattle.ownership_rules.specs.Births.{Birth, birth_on, births_at_entry, births_of_step, entry_births_in, entry_births_of, field_birth, field_births, held_births, owning_field_birth, parameter_birth, parameter_births, reset_births, this_birth}
+use Rattle.must_call_types.specs.Bodies as bodies
+use Rattle.graph_relation.specs.Births.{Birth, birth_on, births_at_entry, births_of_step, entry_births_in, entry_births_of, field_birth, field_births, held_births, owning_field_birth, parameter_birth, parameter_births, reset_births, this_birth}
 use Rattle.java_cfg.specs.Limits.{HasTooManyPlaces, owning_count, variables_in}
 use Rattle.graph_limits.proofs.Counting.{given_few, length_chosen, length_optional}
 use Rattle.graph_limits.proofs.FieldRooms.{class_fields, few_fields, few_variables, has_owned}

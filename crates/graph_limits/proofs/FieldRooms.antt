@@ -13,9 +13,9 @@ use Rattle.program_model.specs.declared.program.Program.{Program}
 use Rattle.program_model.specs.declared.tree.Body.{Body}
 use Rattle.program_model.specs.Lookups.{body_at, class_at, field_at}
 use Rattle.java_control.specs.Owned.{field_number, fields_beside, fields_in, is_owning, is_owning_field, owning_before}
-use Rattle.must_call_sets.specs.Bodies as bodies
-use Rattle.ownership_rules.specs.Room as rooms
-use Rattle.ownership_rules.specs.Room.{HasRoom}
+use Rattle.must_call_types.specs.Bodies as bodies
+use Rattle.graph_relation.specs.Room as rooms
+use Rattle.graph_relation.specs.Room.{HasRoom}
 use Rattle.java_cfg.specs.Limits.{HasTooManyPlaces, class_in, fields, method_in, method_of, owning_count, variable_count, variables, variables_in}
 use Rattle.java_cfg.proofs.ListLemmas.{stands}
 use Rattle.graph_limits.specs.ListedFields.{HasListedFields}

@@ -12,9 +12,9 @@ use Rattle.java_control.specs.declared.fact.Origin.{Origin}
 use Rattle.java_control.specs.Remaining.{Todo}
 use Rattle.java_cfg.specs.declared.arc.Arc.{Arc}
 use Rattle.java_cfg.specs.Graphs.{IsGraphOf}
-use Rattle.flow_rules.specs.Paths.{Reach, Relation, relation_of}
-use Rattle.body_origins.specs.Nodes.{relation_in}
-use Rattle.body_origins.specs.Pairs.{IsPairsCause, IsReachedPair, Pair, ReachesMorePairs, most_pairs}
+use Rattle.graph_relation.specs.Paths.{Reach, Relation, relation_of}
+use Rattle.graph_relation.specs.Nodes.{relation_in}
+use Rattle.graph_relation.specs.Pairs.{IsPairsCause, IsReachedPair, Pair, ReachesMorePairs, most_pairs}
 use Rattle.graph_relation.proofs.FaultLaws.{control_reach, node_reach}
 
 -- Each pair that the first relation reaches is one of the second, whose control stands for that of the first alone.

@@ -11,12 +11,12 @@ use Rattle.program_model.specs.declared.program.Class.{Class}
 use Rattle.program_model.specs.declared.program.Program.{Program}
 use Rattle.program_model.specs.declared.program.RawAnno.{RawAnno}
 use Rattle.program_model.specs.Validity.{IsTypedProgram}
-use Rattle.effective_signatures.specs.Effective.{is_plain}
-use Rattle.must_call_sets.specs.WellFormed.{HasSmallInterests}
+use Rattle.must_call_types.specs.Effective.{is_plain}
+use Rattle.must_call_types.specs.WellFormed.{HasSmallInterests}
 use Rattle.must_call_types.specs.NameTable.{IsNameTable, past_limit, with_names}
 use Rattle.must_call_types.specs.Signed.{IsSigned}
 use Rattle.must_call_types.proofs.SignedTables.{SameClass, at_same, before, same_classes}
-use Rattle.effective_signatures.specs.SignedMethods.{IsSignedMethod}
+use Rattle.must_call_types.specs.SignedMethods.{IsSignedMethod}
 use Rattle.graph_limits.specs.ListedFields.{HasListedFields}
 
 -- ---- names

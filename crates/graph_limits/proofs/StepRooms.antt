@@ -9,17 +9,17 @@ use Rattle.breadth_first.specs.Searches.{IsAt}
 use Rattle.breadth_first.proofs.ListLaws.{at_map, at_place, at_within, map_at}
 use Rattle.java_control.specs.Control.{Step, next_of}
 use Rattle.java_control.specs.Remaining.{Todo}
-use Rattle.obligation_facts.specs.SmallActions.{IsSmallAction}
+use Rattle.java_cfg.specs.SmallActions.{IsSmallAction}
 use Rattle.java_cfg.specs.declared.arc.Arc.{Arc}
 use Rattle.java_cfg.specs.Graphs.{IsArcOf, IsGraphOf, IsReachable, targets_of}
 use Rattle.java_cfg.specs.Limits.{HasTooManyPlaces, steps}
 use Rattle.java_cfg.specs.SmallTests.{is_small_action}
 use Rattle.java_cfg.proofs.ListLemmas.{contains, zip_places_left}
 use Rattle.java_cfg.proofs.SmallLemmas.{Decides-action}
-use Rattle.must_call_sets.specs.WellFormed.{HasSmallInterests}
-use Rattle.flow_rules.specs.Paths.{Comes, FitsPlaces, Move, on, relation_of, start}
-use Rattle.flow_rules.specs.Paths.{move_of as control_move}
-use Rattle.body_origins.specs.Nodes.{FitsRows, row_in}
+use Rattle.must_call_types.specs.WellFormed.{HasSmallInterests}
+use Rattle.graph_relation.specs.Paths.{Comes, FitsPlaces, Move, on, relation_of, start}
+use Rattle.graph_relation.specs.Paths.{move_of as control_move}
+use Rattle.graph_relation.specs.Nodes.{FitsRows, row_in}
 use Rattle.graph_limits.specs.ListedFields.{HasListedFields}
 use Rattle.graph_limits.proofs.BirthCounts.{few_at_entry, few_by_step}
 use Rattle.graph_limits.proofs.Counting.{stable}

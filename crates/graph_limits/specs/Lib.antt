@@ -1,1 +1,3 @@
 pub mod ListedFields
+pub use Rattle.graph_relation.specs.Nodes
+pub use Rattle.graph_relation.specs.Pairs

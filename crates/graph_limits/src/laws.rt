@@ -5,11 +5,11 @@ ghost use Rattle.program_model.specs.Validity.{IsTypedProgram};
 ghost use Rattle.java_control.specs.Remaining.{Todo};
 ghost use Rattle.java_cfg.specs.Graphs.{IsGraphOf};
 ghost use Rattle.java_cfg.specs.Limits.{HasTooManyPlaces};
-ghost use Rattle.must_call_sets.specs.WellFormed.{HasSmallInterests};
+ghost use Rattle.must_call_types.specs.WellFormed.{HasSmallInterests};
 ghost use Rattle.must_call_types.specs.Signed.{IsSigned};
-ghost use Rattle.flow_rules.specs.Paths.{FitsPlaces, relation_of};
-ghost use Rattle.body_origins.specs.Nodes.{FitsRows, relation_in};
-ghost use Rattle.body_origins.specs.Pairs.{IsPairsCause};
+ghost use Rattle.graph_relation.specs.Paths.{FitsPlaces, relation_of};
+ghost use Rattle.graph_relation.specs.Nodes.{FitsRows, relation_in};
+ghost use Rattle.graph_relation.specs.Pairs.{IsPairsCause};
 ghost use Rattle.graph_limits.specs.ListedFields.{HasListedFields};
 
 use java_cfg::Arc;

@@ -13,11 +13,11 @@ use Rattle.java_cfg.specs.declared.arc.Arc.{Arc}
 use Rattle.java_control.specs.declared.fact.Fact.{Fact}
 use Rattle.java_control.specs.declared.fact.Origin.{Origin}
 use Rattle.java_control.specs.declared.fact.Rule.{Rule}
-use Rattle.obligation_facts.specs.Facts.{Names}
-use Rattle.ownership_rules.specs.Births.{births_of_step}
-use Rattle.flow_rules.specs.Flow.{flow}
-use Rattle.flow_rules.specs.Paths.{Comes, Faulty, Move, Reach, relation_of, start, on, entered, born, flowed}
-use Rattle.flow_rules.specs.Paths.{move_of as control_move}
+use Rattle.java_cfg.specs.Facts.{Names}
+use Rattle.body_origins.specs.Births.{births_of_step}
+use Rattle.body_origins.specs.Flow.{flow}
+use Rattle.body_origins.specs.Paths.{Comes, Faulty, Move, Reach, relation_of, start, on, entered, born, flowed}
+use Rattle.body_origins.specs.Paths.{move_of as control_move}
 use Rattle.body_origins.specs.Nodes.{arcs_at, move_of, relation_in}
 use Rattle.graph_relation.proofs.NodeLaws.{arc_of_step, step_of_arc}
 

@@ -12,7 +12,7 @@ use Rattle.java_control.specs.Remaining.{Todo}
 use Rattle.java_cfg.specs.Graphs.{IsArcOf, IsGraphOf, targets_of}
 use Rattle.java_cfg.specs.Reach.{IsReached, IsWalk}
 use Rattle.java_cfg.specs.declared.arc.Arc.{Arc}
-use Rattle.flow_rules.specs.Paths.{Comes, start, on}
+use Rattle.body_origins.specs.Paths.{Comes, start, on}
 use Rattle.body_origins.specs.Nodes.{AreNodes, arcs_at, move_of, relation_in, row_in}
 
 contains_at : {X : Type 0} (xs : List X) (x : X) → Contains xs x → (k : ℕ) × IsAt xs k x

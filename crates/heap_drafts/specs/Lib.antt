@@ -1,2 +1,3 @@
 pub mod Drafts
 pub mod LostObjects
+pub use Rattle.settled_heaps.specs.Settled

@@ -11,8 +11,8 @@ use Rattle.program_model.specs.declared.program.Program.{Program}
 use Rattle.program_model.specs.declared.program.Promise.{Promise}
 use Rattle.program_model.specs.Lookups.{optional}
 use Rattle.program_model.specs.NameSets.{when}
-use Rattle.must_call_sets.specs.MustCallSets.{must_of}
-use Rattle.must_call_sets.specs.Signatures.{is_of_field, promised_names}
+use Rattle.ledger_obligations.specs.MustCallSets.{must_of}
+use Rattle.ledger_obligations.specs.Signatures.{is_of_field, promised_names}
 use Rattle.ledger_state.specs.Classes.{class_in}
 use Rattle.ledger_state.specs.Contents.{HeapContents}
 use Rattle.ledger_state.specs.Fields.{field_value}

@@ -6,7 +6,7 @@ use Rattle.program_model.specs.declared.program.Program.{Program}
 use Rattle.program_model.specs.Lookups.{optional}
 use Rattle.rlc_base.specs.declared.name_id.NameId.{NameId}
 use Rattle.rlc_base.specs.declared.place.Pos.{Pos}
-use Rattle.must_call_sets.specs.MustCallSets.{is_heavy_class}
+use Rattle.ledger_obligations.specs.MustCallSets.{is_heavy_class}
 use Rattle.ledger_state.specs.Contents.{HeapContents}
 use Rattle.ledger_state.specs.Heaps.{is_reached, object_at}
 use Rattle.ledger_state.specs.declared.entry.Entry.{Entry}
@@ -17,7 +17,7 @@ use Rattle.ledger_state.specs.declared.object.Link.{Link}
 use Rattle.ledger_state.specs.declared.object.Object.{Object}
 use Rattle.ledger_state.specs.declared.value.Value.{Value}
 use Rattle.ledger_obligations.specs.Obligations.{end_frame, end_holder, given_up, given_up_by_frame, given_up_by_holder, is_frame, is_held_by, is_unmet, lose}
-use Rattle.ledger_entries.specs.Entries.{birth, birth_entries, birth_in, by_number, called_entries, called_in, called_line, heavy_lines, is_among, is_lost, is_owned, leak_entries, leak_in, leak_line, leaks_of, lines, lines_from, names_in_order, new_names, owner_before, owner_entries, owner_in, reset_entries, reset_in, same_owner, was_finished}
+use Rattle.ledger_steps.specs.Entries.{birth, birth_entries, birth_in, by_number, called_entries, called_in, called_line, heavy_lines, is_among, is_lost, is_owned, leak_entries, leak_in, leak_line, leaks_of, lines, lines_from, names_in_order, new_names, owner_before, owner_entries, owner_in, reset_entries, reset_in, same_owner, was_finished}
 use Rattle.ledger_steps.specs.Effects.{left}
 use Rattle.ledger_state.specs.Leaks.{is_leak}
 use Rattle.heap_laws.proofs.ObjectLaws.{changed_at}

@@ -13,7 +13,7 @@ use Rattle.ledger_state.specs.declared.object.Object.{Object}
 use Rattle.ledger_state.specs.declared.value.Value.{Value}
 use Rattle.ledger_obligations.specs.declared.note.Note.{Note}
 use Rattle.ledger_obligations.specs.Obligations.{all_notes, end_frame, end_holder, given_up, given_up_by_frame, given_up_by_holder, is_frame, is_held_by, is_unmet, lose, lost_object, may_move, move, moved_to, noted, noted_object, owner_holds, with_owner}
-use Rattle.ledger_steps.specs.Calls.{move_params}
+use Rattle.ledger_steps.specs.LedgerCallsCalls.{move_params}
 use Rattle.heap_laws.specs.Heaps.{Evolves, GoesOn, HasEarlierLinks}
 use Rattle.heap_laws.proofs.EndLaws.{changed_back, given_up_goes_on}
 use Rattle.heap_laws.proofs.MoveLaws.{moved_back, params_caused, params_older}

@@ -9,7 +9,7 @@ use Rattle.ledger_state.specs.declared.entry.Owner.{Owner}
 use Rattle.ledger_state.specs.declared.object.Object.{Object}
 use Rattle.ledger_state.specs.declared.value.Value.{Value}
 use Rattle.ledger_obligations.specs.Obligations.{may_move, move, moved_to, with_owner}
-use Rattle.ledger_steps.specs.Calls.{move_param, move_params}
+use Rattle.ledger_steps.specs.LedgerCallsCalls.{move_param, move_params}
 use Rattle.heap_laws.specs.Heaps.{Evolves, GoesOn, IsGiven, IsMovedFrom, IsOlder}
 use Rattle.heap_laws.proofs.ObjectLaws.{changed_at, changed_count, evolves_further, evolves_self, goes_on_further, goes_on_self, root_of_value_changed}
 

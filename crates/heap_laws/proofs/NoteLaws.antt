@@ -6,7 +6,7 @@ use Rattle.std.specs.List.{flat_map}
 use Rattle.rlc_base.specs.declared.name_id.NameId.{NameId}
 use Rattle.rlc_base.proofs.SetLaws.{new_member, within_at, within_insert, within_self, within_trans}
 use Rattle.program_model.specs.declared.program.Program.{Program}
-use Rattle.must_call_sets.specs.MustCallSets.{Names}
+use Rattle.ledger_obligations.specs.MustCallSets.{Names}
 use Rattle.ledger_state.specs.Contents.{HeapContents}
 use Rattle.ledger_state.specs.declared.object.Object.{Object}
 use Rattle.ledger_obligations.specs.declared.note.Note.{Note}

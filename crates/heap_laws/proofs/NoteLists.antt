@@ -13,7 +13,7 @@ use Rattle.program_model.specs.declared.program.Program.{Program}
 use Rattle.program_model.specs.declared.program.Promise.{Promise}
 use Rattle.program_model.specs.Lookups.{optional}
 use Rattle.program_model.specs.NameSets.{names_of_all, when}
-use Rattle.must_call_sets.specs.MustCallSets.{Names}
+use Rattle.ledger_obligations.specs.MustCallSets.{Names}
 use Rattle.ledger_state.specs.Classes.{class_in}
 use Rattle.ledger_state.specs.Contents.{HeapContents}
 use Rattle.ledger_state.specs.Heaps.{object_at}

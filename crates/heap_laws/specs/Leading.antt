@@ -7,8 +7,8 @@ use Rattle.program_model.specs.declared.kinds.FieldId.{FieldId}
 use Rattle.program_model.specs.declared.program.Field.{Field}
 use Rattle.program_model.specs.declared.program.Program.{Program}
 use Rattle.program_model.specs.Lookups.{field_at}
-use Rattle.must_call_sets.specs.MustCallSets.{is_empty, must_of, must_of_type}
-use Rattle.must_call_sets.specs.Signatures.{is_of_field, promised_names}
+use Rattle.ledger_obligations.specs.MustCallSets.{is_empty, must_of, must_of_type}
+use Rattle.ledger_obligations.specs.Signatures.{is_of_field, promised_names}
 use Rattle.ledger_state.specs.Contents.{HeapContents}
 use Rattle.ledger_state.specs.Fields.{field_value}
 use Rattle.ledger_state.specs.Heaps.{next_number, object_at}

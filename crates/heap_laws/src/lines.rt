@@ -11,7 +11,7 @@ ghost use Rattle.ledger_state.specs.declared.entry.LeakWord.{LeakWord};
 ghost use Rattle.ledger_state.specs.declared.object.Object.{Object};
 ghost use Rattle.ledger_state.specs.declared.value.Value.{Value};
 ghost use Rattle.ledger_obligations.specs.Obligations.{end_frame, end_holder, is_frame, is_held_by, is_unmet, lose};
-ghost use Rattle.ledger_entries.specs.Entries.{birth_entries, called_entries, leak_entries, owner_entries, reset_entries};
+ghost use Rattle.ledger_steps.specs.Entries.{birth_entries, called_entries, leak_entries, owner_entries, reset_entries};
 ghost use Rattle.ledger_steps.specs.Effects.{left};
 ghost use Rattle.ledger_state.specs.Leaks.{is_leak};
 

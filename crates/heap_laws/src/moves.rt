@@ -10,7 +10,7 @@ ghost use Rattle.ledger_state.specs.declared.entry.Owner.{Owner};
 ghost use Rattle.ledger_state.specs.declared.object.Object.{Object};
 ghost use Rattle.ledger_state.specs.declared.value.Value.{Value};
 ghost use Rattle.ledger_obligations.specs.Obligations.{may_move, move};
-ghost use Rattle.ledger_steps.specs.Calls.{move_params};
+ghost use Rattle.ledger_steps.specs.LedgerCallsCalls.{move_params};
 ghost use Rattle.heap_laws.specs.Heaps.{Evolves, IsGiven, IsMovedFrom, IsOlder};
 
 /// Each object goes on, with its owner or the new one.

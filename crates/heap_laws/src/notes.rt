@@ -6,7 +6,7 @@ ghost use Rattle.std.specs.FinSet as set;
 ghost use Rattle.rlc_base.specs.declared.name_id.NameId.{NameId};
 ghost use Rattle.program_model.specs.declared.kinds.FieldId.{FieldId};
 ghost use Rattle.program_model.specs.declared.program.Program.{Program};
-ghost use Rattle.must_call_sets.specs.Signatures.{is_of_field, promised_names};
+ghost use Rattle.ledger_obligations.specs.Signatures.{is_of_field, promised_names};
 ghost use Rattle.ledger_state.specs.Contents.{HeapContents};
 ghost use Rattle.ledger_state.specs.Fields.{field_value};
 ghost use Rattle.ledger_state.specs.Heaps.{object_at};

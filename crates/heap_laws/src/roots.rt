@@ -13,7 +13,7 @@ ghost use Rattle.ledger_state.specs.declared.object.Object.{Object};
 ghost use Rattle.ledger_state.specs.declared.value.Value.{Value};
 ghost use Rattle.ledger_obligations.specs.declared.note.Note.{Note};
 ghost use Rattle.ledger_obligations.specs.Obligations.{end_frame, end_holder, lose, move, noted};
-ghost use Rattle.ledger_steps.specs.Calls.{move_params};
+ghost use Rattle.ledger_steps.specs.LedgerCallsCalls.{move_params};
 ghost use Rattle.heap_laws.specs.Heaps.{Evolves, HasEarlierLinks, KeepsLinks};
 
 /// The end of the links of an object: it is an object that is not linked.

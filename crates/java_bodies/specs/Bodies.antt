@@ -18,12 +18,12 @@ use Rattle.class_declarations.specs.Members.{Written, MethodOf, ConstructorOf, I
 use Rattle.java_typed_trees.specs.declared.scope.Local.{Local}
 use Rattle.java_typed_trees.specs.StatementTrees.{StmtTree}
 use Rattle.java_expression_rules.specs.Surroundings.{Surroundings}
-use Rattle.body_variables.specs.Contexts.{StatementContext}
+use Rattle.java_typed_statements.specs.Contexts.{StatementContext}
 use Rattle.java_typed_statements.specs.StatementCases.{statements_cases}
 use Rattle.java_typed_statements.specs.StatementTrees.{statement_trees}
 use Rattle.body_variables.specs.BodyVariables.{body_variables}
 use Rattle.body_variables.specs.Declarations.{BodyVariable}
-use Rattle.field_initializers.specs.Members.{Environment, numbered_methods, surroundings_in}
+use Rattle.field_initializers.specs.SourceClassesMembers.{Environment, numbered_methods, surroundings_in}
 use Rattle.field_initializers.specs.Parameters.{parameters, parameters_cases}
 use Rattle.field_initializers.specs.SourceClasses.{SourceClass, source_class_of}
 use Rattle.field_initializers.specs.FieldInitializers.{initializer_statements, initializers_cases}

@@ -1,5 +1,15 @@
 pub mod Bodies
 pub mod SuperCalls
+pub use Rattle.body_variables.specs.BodyVariables
+pub use Rattle.class_declarations.specs.Members as ClassDeclarationsMembers
+pub use Rattle.body_variables.specs.Declarations
 pub use Rattle.field_initializers.specs.FieldConstants
 pub use Rattle.field_initializers.specs.FieldInitializers
-pub use Rattle.body_variables.specs.Declarations
+pub use Rattle.field_initializers.specs.Parameters
+pub use Rattle.field_initializers.specs.SourceClasses
+pub use Rattle.field_initializers.specs.SourceClassesMembers
+pub use Rattle.java_typed_statements.specs.StatementCases
+pub use Rattle.java_typed_statements.specs.StatementCompletions
+pub use Rattle.java_typed_statements.specs.StatementContexts
+pub use Rattle.java_typed_statements.specs.StatementTrees
+pub use Rattle.java_typed_statements.specs.VariableCounts

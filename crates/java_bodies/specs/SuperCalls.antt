@@ -21,7 +21,7 @@ use Rattle.java_typed_trees.specs.StatementTrees as forms
 use Rattle.java_expression_rules.specs.Calls.{method_in, of_method, super_class, trees_for}
 use Rattle.java_expression_rules.specs.Surroundings.{Surroundings}
 use Rattle.java_expression_rules.specs.TypedParts.{Typing}
-use Rattle.field_initializers.specs.Cases.{argument_cases}
+use Rattle.java_typed_statements.specs.Cases.{argument_cases}
 use Rattle.field_initializers.specs.Typings.{typings}
 use Rattle.java_bodies.specs.declared.super_calls.ConstructorCall.{ConstructorCall}
 

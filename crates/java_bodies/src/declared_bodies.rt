@@ -2,7 +2,7 @@
 
 ghost use Rattle.std.specs.Prelude.{◌≡◌, ◌++◌, IfOk, OnOk, map};
 ghost use Rattle.std.specs.Option.{option_copied, option_map};
-ghost use Rattle.field_initializers.specs.Members.{environment_in, numbered_method_of};
+ghost use Rattle.field_initializers.specs.SourceClassesMembers.{environment_in, numbered_method_of};
 ghost use Rattle.field_initializers.specs.SourceClasses.{source_class_of};
 ghost use Rattle.java_bodies.specs.Bodies.{all_bodies, bodies_among, bodies_in, source_body, source_body_of, written_body_of};
 

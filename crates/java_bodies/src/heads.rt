@@ -3,7 +3,7 @@
 ghost use Rattle.std.specs.Prelude.{◌≡◌, ◌++◌, OnOk, map};
 ghost use Rattle.java_expression_rules.specs.Surroundings.{surroundings_of};
 ghost use Rattle.java_typed_trees.specs.StatementTrees.{statement_of};
-ghost use Rattle.field_initializers.specs.Members.{environment_in};
+ghost use Rattle.field_initializers.specs.SourceClassesMembers.{environment_in};
 ghost use Rattle.java_bodies.specs.Bodies.{argument_surroundings, head_cases, head_statements, locals_in, source_body_of};
 
 use crate::declared_bodies::DeclaredBody;

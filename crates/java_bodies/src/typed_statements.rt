@@ -4,7 +4,7 @@ ghost use Rattle.std.specs.Prelude.{◌≡◌, ◌++◌, IfOk, OnOk, length, map
 ghost use Rattle.java_typed_trees.specs.StatementTrees.{statement_of};
 ghost use Rattle.java_typed_statements.specs.Scopes.{context_at};
 ghost use Rattle.body_variables.specs.Declarations.{variable_in};
-ghost use Rattle.field_initializers.specs.Members.{environment_in};
+ghost use Rattle.field_initializers.specs.SourceClassesMembers.{environment_in};
 ghost use Rattle.java_bodies.specs.Bodies.{body_cases, body_context, body_trees, body_variables_in, has_this, initialized_in, locals_in, source_body_of};
 
 use crate::declared_bodies::DeclaredBody;

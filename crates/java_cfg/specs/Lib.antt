@@ -6,3 +6,5 @@ pub mod SmallTests
 pub mod RowTests
 pub mod Tables
 pub mod Contents
+pub use Rattle.obligation_facts.specs.Facts
+pub use Rattle.obligation_facts.specs.SmallActions

@@ -75,10 +75,14 @@ evaluations_step old new es i end next d whole within is deeper before =
 pub evaluation_small : (old new : List Item) (e : ExprId) (end n : ℕ) → new ≡ old ++ its.Ev e end ∷ [] → highest_of old ≡ n → highest_of new ≡ n
 evaluation_small old new e end n is before = ap highest_of is ∙ flat_small old (its.Ev e end ∷ []) ∙ omega (arith, before)
 
-pub dos_means : (d : ℕ) (ss : List StmtId) → map bare (map (λ s. its.Do s d) ss) ≡ map (λ s. Do s d) ss
-dos_means d [] = refl
-dos_means d (s ∷ ss) = ap (λ xs. Do s d ∷ xs) (dos_means d ss)
+-- statements that are added one by one
+pub dos_step : (old new : List Item) (ss : List StmtId) (i d : ℕ) (s : StmtId) (whole : List Todo) → i < length ss → new ≡ old ++ its.Do (get_or ss i s) d ∷ [] → map bare old ++ map (λ x. Do x d) (drop i ss) ≡ whole → map bare new ++ map (λ x. Do x d) (drop (i + 1) ss) ≡ whole
+dos_step old new ss i d s whole within is before =
+    ap (λ ys. map bare ys ++ map (λ x. Do x d) (drop (i + 1) ss)) is
+    ∙ ap (λ ys. ys ++ map (λ x. Do x d) (drop (i + 1) ss)) (flat_means old (its.Do (get_or ss i s) d ∷ []))
+    ∙ append_assoc (map bare old) (Do (get_or ss i s) d ∷ []) (map (λ x. Do x d) (drop (i + 1) ss))
+    ∙ ap (λ ys. map bare old ++ map (λ x. Do x d) ys) (sym (drop_at ss i s within))
+    ∙ before
 
-pub dos_small : (d : ℕ) (ss : List StmtId) → highest_of (map (λ s. its.Do s d) ss) ≡ 0
-dos_small d [] = refl
-dos_small d (s ∷ ss) = omega (arith, dos_small d ss)
+pub do_small : (old new : List Item) (s : StmtId) (d n : ℕ) → new ≡ old ++ its.Do s d ∷ [] → highest_of old ≡ n → highest_of new ≡ n
+do_small old new s d n is before = ap highest_of is ∙ flat_small old (its.Do s d ∷ []) ∙ omega (arith, before)

@@ -1,6 +1,6 @@
--- The exceptions that an action throws (JLS 11.1.1, 15.6), and the catch clauses that take them (JLS 11.3, 14.20).
+-- The exceptions that an action throws (JLS 11.1.1, 15.6), and the ways into catch clauses and past them (JLS 11.3, 14.20).
 use Rattle.std.specs.Prelude.{ℕ, zero, suc, ◌+◌, min, Bool, true, false, ◌||◌, ◌&&◌, not, Option, Some, None, List, [], ◌∷◌, ◌++◌, map, length, if◌then◌else◌}
-use Rattle.std.specs.List.{list_any, position_from}
+use Rattle.std.specs.List.{list_any}
 use Rattle.program_model.specs.declared.kinds.ClassId.{ClassId}
 use Rattle.program_model.specs.declared.kinds.MethodId.{MethodId}
 use Rattle.program_model.specs.declared.kinds.BinaryOperator.{BinaryOperator}
@@ -9,11 +9,8 @@ use Rattle.program_model.specs.declared.program.Program.{Program}
 use Rattle.program_model.specs.declared.program.Method.{Method}
 use Rattle.program_model.specs.declared.tree.Body.{Body}
 use Rattle.program_model.specs.declared.tree.CatchClause.{CatchClause}
-use Rattle.program_model.specs.declared.tree.TStmt.{TStmt}
-use Rattle.program_model.specs.declared.tree.StatementKind.{StatementKind}
-use Rattle.program_model.specs.declared.tree.StatementKind.TheVariants as statements
 use Rattle.program_model.specs.declared.kinds.StmtId.{StmtId}
-use Rattle.program_model.specs.Lookups.{optional, method_at, statement_at}
+use Rattle.program_model.specs.Lookups.{optional, method_at}
 use Rattle.program_model.specs.SuperTests.{has_class, is_under, is_ignored}
 use Rattle.java_control.specs.declared.action.ClauseId.{ClauseId}
 use Rattle.rlc_base.specs.declared.place.Pos.{Pos}
@@ -25,6 +22,7 @@ use Rattle.java_control.specs.declared.action.Operator.{Operator}
 use Rattle.java_control.specs.declared.action.Operator.TheVariants as operators
 use Rattle.java_control.specs.declared.action.Scope.TheVariants as scopes
 use Rattle.java_control.specs.Remaining.{Todo, Do, Leave, Out, Way, way, skip, statement_place}
+pub use Rattle.try_statements.specs.Clauses.{clause_taken, clauses_in, clauses_of_kind, may_take, takes_some, takes_wholly}
 
 -- classes with one more, each once and at its first place
 abbrev pub with_class : List ClassId → ClassId → List ClassId
@@ -150,17 +148,6 @@ throws a pos k c = way a (edges.Throws c) (Out (completions.Throw (exception_dep
 abbrev pub action_ways : Program → Action → Pos → List Todo → List Way
 action_ways p a pos k = goes_on a k ++ map (throws a pos k) (exceptions_of p a)
 
--- each exception of class `t` is taken by the clause
-abbrev pub takes_wholly : Program → ClassId → CatchClause → Bool
-takes_wholly p t clause = list_any (λ c. is_under p t c) clause.classes.items
-
--- a class of the clause is under `t`
-abbrev pub takes_some : Program → ClassId → CatchClause → Bool
-takes_some p t clause = list_any (λ c. is_under p c t) clause.classes.items
-
-abbrev pub may_take : Program → ClassId → CatchClause → Bool
-may_take p t clause = takes_wholly p t clause || takes_some p t clause
-
 abbrev pub clause_at : StmtId → ℕ → ClauseId
 clause_at s i = record { statement = s; index = i }
 
@@ -177,16 +164,3 @@ caught p body s i [] b d t pos k = skip (Out (completions.Throw d t pos) ∷ k)
 caught p body s i (x ∷ xs) b d t pos k =
     if takes_wholly p t x then enters body s i b d x k ∷ []
     else (if may_take p t x then enters body s i b d x k ∷ caught p body s (i + 1) xs b d t pos k else caught p body s (i + 1) xs b d t pos k)
-
-abbrev pub clauses_of_kind : StatementKind → List CatchClause
-clauses_of_kind (statements.Try t) = t.catches.items
-clauses_of_kind _ = []
-
-abbrev pub clauses_in : Option TStmt → List CatchClause
-clauses_in None = []
-clauses_in (Some s) = clauses_of_kind s.kind
-
--- which clause of the statement takes an exception whose own class is `c`: the first that has a class which `c` is under
--- (JLS 11.3), by its number; None where it passes on
-abbrev pub clause_taken : Program → Body → StmtId → ClassId → Option ℕ
-clause_taken p body s c = position_from (takes_wholly p c) 0 (clauses_in (statement_at body s))

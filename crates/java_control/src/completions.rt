@@ -14,7 +14,6 @@ ghost use Rattle.java_control.specs.Tables.{Keeps, bare, highest, highest_of, vi
 
 use crate::action::{Action, ClauseId, Completion, Edge, Scope, TargetForm};
 use crate::change::{Change, Front};
-use crate::exceptions::{may_take, takes_wholly};
 use crate::fronts::{deeper, flat, front_of, one_way, put};
 use crate::item::{Closing, Item};
 use crate::lists::Lists;
@@ -23,6 +22,7 @@ use crate::places::statement_place;
 use program_model::{Body, CatchClause, ClassId, Program, StatementKind, StmtId};
 use rlc_base::{NoMemory, Pos};
 use std::alloc::Global;
+use try_statements::{may_take, takes_wholly};
 
 // The completion with its value in the temp of depth `b`.
 fn at_depth(c: Completion, b: u32) -> Completion

@@ -1,23 +1,19 @@
-//! The exceptions that an action throws, and the catch clauses that take them.
+//! The exceptions that an action throws.
 
 ghost use Rattle.std.specs.Prelude.{◌≡◌, ◌++◌, ◌∷◌, [], map, IfOk, OnOk};
 ghost use Rattle.program_model.specs.Lookups.{optional};
-ghost use Rattle.std.specs.List.{position_from};
 ghost use Rattle.java_control.specs.Leaving.{HasEdges};
 ghost use Rattle.program_model.specs.Hierarchy.{IsHierarchy};
 ghost use Rattle.program_model.specs.SuperTests.{has_class};
 ghost use Rattle.java_control.specs.Becoming.{action_becomes, go_change, throw_change};
 ghost use Rattle.java_control.specs.Changes.{bare_change, highest_changes};
-ghost use Rattle.java_control.specs.Exceptions.{binary_exceptions, class_count, clause_taken, clauses_of_kind, exception_depth, exceptions_of, heeded, heeded_by_call, is_heeded_under, is_wholly_ignored, may_take, operator_exceptions, receiver_exceptions, some_heeded, takes_some, takes_wholly, throws_clause, throws_some_heeded, unchecked, with_class, with_classes};
+ghost use Rattle.java_control.specs.Exceptions.{binary_exceptions, class_count, exception_depth, exceptions_of, heeded, heeded_by_call, is_heeded_under, is_wholly_ignored, operator_exceptions, receiver_exceptions, some_heeded, throws_clause, throws_some_heeded, unchecked, with_class, with_classes};
 
 use crate::action::{Action, Completion, Edge, Operator, Scope};
 use crate::change::Change;
 use crate::fronts::{flat, one_way, put};
 use crate::item::Item;
-use program_model::{
-    BinaryOperator, Body, CatchClause, ClassId, MethodId, Program, StatementKind, StmtId,
-    is_ignored, under,
-};
+use program_model::{BinaryOperator, ClassId, MethodId, Program, is_ignored, under};
 use rlc_base::{NoMemory, Pos};
 use std::alloc::Global;
 
@@ -299,50 +295,6 @@ pub fn action_changes(
         add_throw(alloc, &mut changes, action, *class, pos)?;
     }
     Ok(changes)
-}
-
-pub fn takes_wholly(p: &Program, t: ClassId, clause: &CatchClause) -> bool
-    ensures { result ≡ takes_wholly p.now t clause.now }
-{
-    clause.classes.iter().any(|c| under(p, t, *c))
-}
-
-fn takes_some(p: &Program, t: ClassId, clause: &CatchClause) -> bool
-    ensures { result ≡ takes_some p.now t clause.now }
-{
-    clause.classes.iter().any(|c| under(p, *c, t))
-}
-
-pub fn may_take(p: &Program, t: ClassId, clause: &CatchClause) -> bool
-    ensures { result ≡ may_take p.now t clause.now }
-{
-    takes_wholly(p, t, clause) || takes_some(p, t, clause)
-}
-
-fn first_taking(p: &Program, clauses: &[CatchClause], class: ClassId) -> Option<usize>
-    ensures { result ≡ position_from (takes_wholly p.now class) 0 clauses.now }
-{
-    clauses.iter().position(|c| takes_wholly(p, class, c))
-}
-
-fn clause_of_kind(p: &Program, kind: &StatementKind, class: ClassId) -> Option<usize>
-    ensures { result ≡ position_from (takes_wholly p.now class) 0 (clauses_of_kind kind.now) }
-{
-    match kind {
-        StatementKind::Try(found) => first_taking(p, &found.catches, class),
-        _ => first_taking(p, &[], class),
-    }
-}
-
-/// Which catch clause of a `try` statement takes an exception whose own class is `class` (JLS 11.3): the first that names a
-/// class which it is under, by the number of clauses before it. None where no clause takes it, and it goes on.
-pub fn clause_taken(p: &Program, body: &Body, s: StmtId, class: ClassId) -> Option<usize>
-    ensures { result ≡ clause_taken p.now body.now s class }
-{
-    match body.statement(s) {
-        None => None,
-        Some(found) => clause_of_kind(p, &found.kind, class),
-    }
 }
 
 /// The law of the edges by which exceptions leave: where the hierarchy of the program is valid, an exception leaves an action

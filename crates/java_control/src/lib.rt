@@ -28,7 +28,7 @@ pub use action::{Action, ClauseId, Completion, Edge, Operator, PlainValue, Scope
 pub use calls::{called_method, completion_temp, is_reset_of_this, operand_at, target_form};
 pub use cell::Cell;
 pub use control::{next, start};
-pub use exceptions::{clause_taken, edges_of_exceptions, exceptions_of};
+pub use exceptions::{edges_of_exceptions, exceptions_of};
 pub use fact::{Fact, Mode, Origin, OriginKind, Outcome, Rule};
 pub use item::{Closing, Condition, Item};
 pub use lists::Lists;
@@ -37,3 +37,4 @@ pub use place::{Place, Places};
 pub use scopes::is_dropped;
 pub use sources::source;
 pub use triple::Triple;
+pub use try_statements::clause_taken;

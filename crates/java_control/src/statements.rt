@@ -1,6 +1,6 @@
 //! What a statement and the end of a loop's turn become.
 
-ghost use Rattle.std.specs.Prelude.{◌≡◌, ◌≤◌, ◌++◌, ◌∷◌, [], map, flat_map, reverse, length, IfOk};
+ghost use Rattle.std.specs.Prelude.{◌≡◌, ◌≤◌, ◌++◌, ◌∷◌, [], map, flat_map, length, IfOk};
 ghost use Rattle.java_control.specs.Changes.{front_in, highest_front};
 ghost use Rattle.java_control.specs.Remaining.{Act, Cond, Do, Ev, For, Leave, one};
 ghost use Rattle.java_control.specs.declared.action.Action.TheVariants as actions;
@@ -8,7 +8,6 @@ ghost use Rattle.java_control.specs.declared.action.Scope.TheVariants as scopes;
 ghost use Rattle.program_model.specs.Lookups.{statement_at, type_at};
 ghost use Rattle.java_control.specs.Statements.{body_front, class_of_type, declaration_front, declarator_front, expression_statement, finally_front, first_items, first_items_at, clauses_front, for_condition, for_turn, head_front, initial_front, list_of_branch, listed_front, loop_turn, opens, closes, resources_front, return_front, statement_front, super_front, try_front, turn_front};
 ghost use Rattle.java_control.specs.Tables.{Keeps, bare, highest_of, list_at};
-ghost use Rattle.java_control.specs.declared.item.Item.TheVariants as items;
 
 use crate::action::{Action, Completion, PlainValue, Scope};
 use crate::change::Front;
@@ -24,6 +23,7 @@ use program_model::{
 };
 use rlc_base::{NoMemory, Pos};
 use std::alloc::Global;
+use try_statements::closing_order;
 
 #[tactic(auto, using(crate::proofs::FlatLemmas::flat_means, crate::proofs::FlatLemmas::flat_small))]
 fn block_items(
@@ -41,19 +41,15 @@ fn block_items(
     Ok(items)
 }
 
-#[tactic(auto, using(crate::proofs::FlatLemmas::flat_means, crate::proofs::FlatLemmas::flat_small))]
 // Statements, one after the other.
-fn do_items(alloc: Global, statements: &[StmtId], d: u32) -> Result<Vec<Item>, NoMemory>
-    ensures { IfOk result (λ v. v.items ≡ map (λ s. items.Do s d) statements.now) }
-{
-    Ok(statements.iter().map(|s| Item::Do(*s, d)).collect(alloc)?)
-}
-
 fn dos(alloc: Global, statements: &[StmtId], d: u32) -> Result<Vec<Item>, NoMemory>
     ensures means { IfOk result (λ v. map bare v.items ≡ map (λ s. Do s d) statements.now) }
     ensures small { IfOk result (λ v. highest_of v.items ≡ 0) }
 {
-    let items = do_items(alloc, statements, d)?;
+    let mut items = Vec::new(alloc);
+    for s in statements {
+        items.push(Item::Do(*s, d))?;
+    }
     Ok(items)
 }
 
@@ -222,13 +218,6 @@ fn opening_items(alloc: Global, resources: &[Resource], d: u32) -> Result<Vec<It
     Ok(items)
 }
 
-// The resources in the opposite order.
-fn reversed(alloc: Global, resources: &[Resource]) -> Result<Vec<Resource>, NoMemory>
-    ensures { IfOk result (λ v. v.items ≡ reverse resources.now) }
-{
-    Ok(resources.iter().rev().copied().collect(alloc)?)
-}
-
 // The closing of resources, in the order of the list.
 fn closing_items(
     alloc: Global,
@@ -253,8 +242,8 @@ fn resource_items(alloc: Global, s: StmtId, t: &TryStatement, d: u32) -> Result<
     ensures small { IfOk result (λ v. highest_of v.items ≡ 0) }
 {
     let mut items = opening_items(alloc, &t.resources, d)?;
-    let reversed = reversed(alloc, &t.resources)?;
-    let closing = closing_items(alloc, s, &reversed, d)?;
+    let in_order = closing_order(alloc, &t.resources)?;
+    let closing = closing_items(alloc, s, &in_order, d)?;
     items.push(Item::Do(t.block, d))?;
     items.extend_from_slice(&closing)?;
     Ok(items)

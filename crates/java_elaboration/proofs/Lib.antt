@@ -1,2 +1,3 @@
 mod BodySteps
 mod NoCases
+pub use Rattle.java_laying.proofs.BodyLaws

@@ -4,9 +4,9 @@ use Rattle.std.proofs.lemmas.List.Elements.{All-cons, All-head, All-nil, All-tai
 use Rattle.java_syntax.specs.declared.declaration_trees.Unit.{Unit}
 use Rattle.rlc_base.specs.declared.faults.Refusal.{Refusal}
 use Rattle.program_model.specs.declared.program.Program.{Program}
-use Rattle.refusal_order.specs.Refusals.{least, lesser_of}
-use Rattle.source_classes.specs.Members.{Environment}
-use Rattle.source_classes.specs.SourceClasses.{source_classes}
+use Rattle.java_types.specs.Refusals.{least, lesser_of}
+use Rattle.java_types.specs.SourceClassesMembers.{Environment}
+use Rattle.java_types.specs.SourceClasses.{source_classes}
 use Rattle.java_types.specs.Bodies.{SourceBody, all_bodies, body_cases}
 use Rattle.java_types.specs.ProgramCases.{bodies_cases, environment_of, field_cases, member_cases, program_cases, typed_program, typing_cases}
 use Rattle.java_types.specs.TypedBodies.{TypedBody, typed_bodies, typed_body}

@@ -7,13 +7,13 @@ use Rattle.java_syntax.specs.declared.declaration_trees.Unit as tree
 use Rattle.program_model.specs.declared.program.Program.{Program}
 use Rattle.program_model.specs.declared.tree.Body.{Body}
 use Rattle.program_model.specs.Trees.{IsForest}
-use Rattle.refusal_order.specs.Refusals.{least}
-use Rattle.java_typed_trees.specs.WellFormedStatements.{AreWellFormedStatements}
+use Rattle.java_types.specs.Refusals.{least}
+use Rattle.java_laying.specs.WellFormedStatements.{AreWellFormedStatements}
 use Rattle.java_laying.specs.Bodies.{IsLaid}
-use Rattle.body_variables.specs.Declarations.{variable_in}
+use Rattle.java_types.specs.Declarations.{variable_in}
 use Rattle.program_bodies.specs.ProgramBodies.{HasBodies}
-use Rattle.source_classes.specs.SourceClasses.{source_classes}
-use Rattle.source_classes.specs.Members.{Environment}
+use Rattle.java_types.specs.SourceClasses.{source_classes}
+use Rattle.java_types.specs.SourceClassesMembers.{Environment}
 use Rattle.java_types.specs.Bodies.{SourceBody, all_bodies, body_cases}
 use Rattle.java_types.specs.ProgramCases.{environment_of, program_cases}
 use Rattle.java_types.specs.TypedBodies.{TypedBody, typed_body}

@@ -1,8 +1,8 @@
 //! The program that a table is with the bodies of its source files.
 
 ghost use Rattle.std.specs.Prelude.{◌≡◌, [], All, IfErr, IfOk, OnOk, map};
-ghost use Rattle.class_names.specs.ClassNames.{doubles};
-ghost use Rattle.source_classes.specs.SourceClasses.{all_names};
+ghost use Rattle.java_types.specs.ClassNames.{doubles};
+ghost use Rattle.java_types.specs.SourceClasses.{all_names};
 ghost use Rattle.java_types.specs.ProgramCases.{program_cases, typed_program};
 ghost use Rattle.java_types.specs.TypedBodies.{typed_body_of};
 ghost use Rattle.java_elaboration.specs.Elaborations.{AreWellFormedUnlessRefused, HasWellFormedStatements, IsElaborationStop, IsProgramOf};

@@ -1,1 +1,2 @@
 pub mod FrontTrees
+pub use Rattle.java_meaning.specs.Evaluation

@@ -3,4 +3,7 @@ pub mod Declarations
 pub mod Heads
 pub mod Resources
 pub mod Scopes
+pub use Rattle.java_typed_expressions.specs.Accepted
 pub use Rattle.java_typed_expressions.specs.Cases
+pub use Rattle.java_typed_expressions.specs.Targets
+pub use Rattle.java_typed_expressions.specs.Typings

@@ -9,7 +9,7 @@ use Rattle.program_model.specs.declared.program.Program.{Program}
 use Rattle.program_model.specs.SuperTests.{is_under}
 use Rattle.program_model.specs.Typing.{class_of}
 use Rattle.java_syntax.specs.declared.names.Name.{Name}
-use Rattle.class_names.specs.ClassNames as class_names
+use Rattle.java_expression_rules.specs.ClassNames as class_names
 use Rattle.java_conversions.specs.Types.{type_of_class}
 use Rattle.java_typed_trees.specs.declared.facts.Answer.{Answer}
 use Rattle.java_typed_trees.specs.declared.facts.Answer.TheVariants as answers

@@ -22,7 +22,7 @@ use Rattle.java_laying.proofs.Forests.{laid_stand, length_flat, length_flats}
 use Rattle.java_laying.proofs.Joins.{first_inside, inside, more_inside}
 use Rattle.java_laying.proofs.StatementForests.{length_flat_expressions}
 use Rattle.java_typing_laws.specs.LaidParts.{AreTypedArguments}
-use Rattle.java_typing_laws.specs.TypedStatements.{HasTypedTrees, HaveTypedTrees}
+use Rattle.java_typing_laws.specs.StatementExpressions.{HasTypedTrees, HaveTypedTrees}
 use Rattle.java_typing_laws.specs.TypedTrees.{AreArguments, AreTypedTrees, IsTypedNode, IsTypedTree, Part, first_is_this, first_type, part_of, parts_in}
 use Rattle.java_typing_laws.specs.TypingContexts.{IsBodyIn, TypingContext}
 use Rattle.java_typing_laws.proofs.Conversions.{none_is_some, same_in}

@@ -22,13 +22,13 @@ use Rattle.java_literals.specs.Values.{literal_value}
 use Rattle.class_names.specs.WrittenTypes.{written_type}
 use Rattle.java_typed_trees.specs.Answers.{type_of}
 use Rattle.java_typed_trees.specs.ExpressionTrees.{and_expression, no_expression, expressions}
-use Rattle.java_operator_rules.specs.Arrays.{element_by, new_array_by}
-use Rattle.java_operator_rules.specs.Casts.{cast_by, instance_of_by}
-use Rattle.java_operator_rules.specs.Conditionals.{conditional_by}
-use Rattle.java_operator_rules.specs.Literals.{literal_by, literal_under_minus_by}
-use Rattle.java_operator_rules.specs.Operators.{binary_by, unary_by}
-use Rattle.java_member_rules.specs.Assignments.{assignment_by}
-use Rattle.java_member_rules.specs.Names.{this_by}
+use Rattle.java_expression_rules.specs.Arrays.{element_by, new_array_by}
+use Rattle.java_expression_rules.specs.Casts.{cast_by, instance_of_by}
+use Rattle.java_expression_rules.specs.Conditionals.{conditional_by}
+use Rattle.java_expression_rules.specs.Literals.{literal_by, literal_under_minus_by}
+use Rattle.java_expression_rules.specs.JavaOperatorRulesOperators.{binary_by, unary_by}
+use Rattle.java_expression_rules.specs.JavaMemberRulesAssignments.{assignment_by}
+use Rattle.java_expression_rules.specs.JavaMemberRulesNames.{this_by}
 use Rattle.java_expression_rules.specs.Assignments.{assigned_target, compound_by, implied_one, is_through_this, may_assign, may_update, postfix_by, prefix_by}
 use Rattle.java_expression_rules.specs.Calls.{argument_trees, call_by, class_call, is_written_this, new_by, object_call, super_by, with_implied_this, parameters_in, trees_for}
 use Rattle.java_expression_rules.specs.Fields.{class_access, object_access}
@@ -36,8 +36,8 @@ use Rattle.java_expression_rules.specs.Names.{cast_type, class_meant, element_ty
 use Rattle.java_expression_rules.specs.Operators.{operator_of, step_operator_of, unary_operator_of}
 use Rattle.java_expression_rules.specs.Surroundings.{Surroundings}
 use Rattle.java_expression_rules.specs.TypedParts.{Typing, one, operand, parts_of, shape_of, three, two, typing_by, with_last, have_types, trees_in}
-use Rattle.java_typed_expressions.specs.Targets.{call_on, field_on, target_typing}
-use Rattle.java_typed_expressions.specs.Typings.{answer_under, answer_under_minus, operand_typing, tree, typing, typings, value_facts}
+use Rattle.java_statement_parts.specs.Targets.{call_on, field_on, target_typing}
+use Rattle.java_statement_parts.specs.Typings.{answer_under, answer_under_minus, operand_typing, tree, typing, typings, value_facts}
 use Rattle.java_typing_laws.specs.TypingContexts.{IfDeclarable, IsInBody, TypingContext, context_with}
 use Rattle.java_typing_laws.specs.TypedTrees.{IsTypedTree, is_this_shape, part_of, parts_in}
 use Rattle.java_typing_laws.proofs.AssignmentRules.{assignment_rule, compound_rule, last_typed, parts_typed, postfix_rule, prefix_rule, updated_law}

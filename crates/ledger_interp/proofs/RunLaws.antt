@@ -3,7 +3,7 @@ use Rattle.std.proofs.Common.{◌≡◌, ◌∙◌, sym, ap, refl, arith, ℕ, �
 use Rattle.program_model.specs.declared.kinds.ClassId.{ClassId}
 use Rattle.program_model.specs.declared.program.Program.{Program}
 use Rattle.rlc_base.specs.declared.place.Pos.{Pos}
-use Rattle.ledger_calls.specs.Configuration.{Config, Frame}
+use Rattle.ledger_runs.specs.Configuration.{Config, Frame}
 use Rattle.ledger_machine.specs.declared.turn.Turn.TheVariants as turns
 use Rattle.ledger_runs.specs.Outcomes.{Outcome, went, ended, stray, config_after}
 use Rattle.ledger_machine.specs.Turns.{turn_of}

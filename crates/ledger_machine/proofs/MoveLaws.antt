@@ -5,12 +5,12 @@ use Rattle.program_model.specs.declared.kinds.MethodId.{MethodId}
 use Rattle.program_model.specs.declared.program.Program.{Program}
 use Rattle.rlc_base.specs.declared.place.Pos.{Pos}
 use Rattle.java_control.specs.declared.action.Completion.{Completion}
-use Rattle.ledger_calls.specs.Configuration.{Config, Frame}
+use Rattle.ledger_moves.specs.Configuration.{Config, Frame}
 use Rattle.ledger_moves.specs.Moves.{Move, End, Rest, Stray, Back, NoWay, StrayBack, return_move}
 use Rattle.ledger_runs.specs.Steps.{moved_by, returned, returned_by}
-use Rattle.ledger_steps.specs.Ends.{exception_class, thrown_in}
+use Rattle.ledger_runs.specs.Ends.{exception_class, thrown_in}
 use Rattle.java_control.specs.Control.{Step}
-use Rattle.ledger_frames.specs.Choosing.{frame_steps}
+use Rattle.ledger_moves.specs.Choosing.{frame_steps}
 use Rattle.ledger_runs.specs.Outcomes.{ended, stray, went}
 
 -- the end of a frame that has a caller, where the caller stands at no call

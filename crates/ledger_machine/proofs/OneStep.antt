@@ -1,7 +1,7 @@
 -- One step of the machine, from what comes next.
 use Rattle.std.proofs.Common.{◌≡◌, length}
 use Rattle.program_model.specs.declared.program.Program.{Program}
-use Rattle.ledger_calls.specs.Configuration.{Config}
+use Rattle.ledger_moves.specs.Configuration.{Config}
 use Rattle.ledger_machine.proofs.MoveLaws.{over_moved}
 use Rattle.ledger_runs.specs.Outcomes.{ended}
 use Rattle.ledger_runs.specs.Steps.{moved_by, step, top_move}

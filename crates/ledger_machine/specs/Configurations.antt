@@ -1,5 +1,5 @@
 -- What contracts see of the machine.
-use Rattle.ledger_calls.specs.Configuration.{Config}
+use Rattle.ledger_moves.specs.Configuration.{Config}
 use Rattle.ledger_machine.specs.declared.machine.Machine.{Machine}
 use Rattle.machine_state.specs.RunStates.{config_of}
 

@@ -7,7 +7,7 @@ ghost use Rattle.machine_state.specs.RunStates.{HasNothingToLose, config_of};
 ghost use Rattle.ledger_moves.specs.Frames.{control_left, highest_control, move_seen};
 ghost use Rattle.ledger_runs.specs.Outcomes.{config_after};
 ghost use Rattle.ledger_machine.specs.Turns.{turn_of};
-ghost use Rattle.ledger_obligations.specs.Obligations.{held_in};
+ghost use Rattle.frame_owners.specs.Obligations.{held_in};
 ghost use Rattle.object_index.specs.ObjectIndexes.{Indexed};
 ghost use Rattle.settled_heaps.specs.Settled.{Settled};
 ghost use Rattle.ledger_runs.specs.Starts.{start_config};

@@ -5,7 +5,7 @@ use Rattle.std.specs.Option.{option_map}
 use Rattle.java_control.specs.Changes.{step_in}
 use Rattle.java_control.specs.declared.cell.Cell.{Cell}
 use Rattle.java_control.specs.declared.triple.Triple.{Triple}
-use Rattle.ledger_frames.specs.Calls.{begun, body_of, control_in, variable_count}
+use Rattle.ledger_frames.specs.LedgerCallsCalls.{begun, body_of, control_in, variable_count}
 use Rattle.ledger_moves.specs.Frames.{start_by}
 use Rattle.ledger_state.specs.declared.locals.Locals.{Locals}
 use Rattle.ledger_state.specs.declared.value.Value.{Value}

@@ -32,7 +32,7 @@ use Rattle.ledger_state.specs.Contents.{HeapContents}
 use Rattle.ledger_state.specs.declared.value.Value.{Value}
 use Rattle.ledger_obligations.specs.Obligations.{is_library_method}
 use Rattle.ledger_frames.specs.Operations.{thrown_by_operation}
-use Rattle.ledger_frames.specs.Calls.{body_of, form_of, has_null_target, is_stray_from, leaves_by, operand_of, position_of, running}
+use Rattle.ledger_frames.specs.LedgerCallsCalls.{body_of, form_of, has_null_target, is_stray_from, leaves_by, operand_of, position_of, running}
 use Rattle.ledger_frames.specs.Conducts.{library_method, on_this, settled}
 use Rattle.ledger_frames.specs.Choosing.{agrees, goes_by}
 use Rattle.ledger_moves.specs.declared.standing.FirstAction.{FirstAction}

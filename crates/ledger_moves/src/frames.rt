@@ -5,7 +5,7 @@ ghost use Rattle.java_control.specs.Changes.{highest_steps, step_in};
 ghost use Rattle.java_control.specs.Control.{start_of};
 ghost use Rattle.java_control.specs.Remaining.{todos};
 ghost use Rattle.java_control.specs.Tables.{Keeps, list_at};
-ghost use Rattle.ledger_frames.specs.Calls.{begun, body_of, variable_count};
+ghost use Rattle.ledger_frames.specs.LedgerCallsCalls.{begun, body_of, variable_count};
 ghost use Rattle.ledger_frames.specs.Choosing.{frame_steps};
 ghost use Rattle.ledger_moves.specs.Frames.{frame_seen, start_by};
 ghost use Rattle.ledger_state.specs.declared.value.Value.TheVariants as values;

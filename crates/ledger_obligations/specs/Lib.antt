@@ -1,2 +1,9 @@
 pub mod Obligations
+pub use Rattle.must_call_sets.specs.AliasCases
+pub use Rattle.must_call_sets.specs.Assigned
 pub use Rattle.must_call_sets.specs.Bodies
+pub use Rattle.must_call_sets.specs.MustCallSets
+pub use Rattle.must_call_sets.specs.OverrideCases
+pub use Rattle.must_call_sets.specs.Refusals
+pub use Rattle.must_call_sets.specs.Signatures
+pub use Rattle.must_call_sets.specs.WellFormed

@@ -3,3 +3,9 @@ pub mod Starts
 pub mod Steps
 pub mod Runs
 pub mod Mains
+pub use Rattle.ledger_moves.specs.Choosing
+pub use Rattle.ledger_moves.specs.Configuration
+pub use Rattle.ledger_steps.specs.Ends
+pub use Rattle.ledger_moves.specs.Frames
+pub use Rattle.ledger_moves.specs.Moves
+pub use Rattle.ledger_moves.specs.Operations

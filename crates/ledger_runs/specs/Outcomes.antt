@@ -2,7 +2,7 @@
 use Rattle.std.specs.Prelude.{Option}
 use Rattle.program_model.specs.declared.kinds.ClassId.{ClassId}
 use Rattle.rlc_base.specs.declared.place.Pos.{Pos}
-use Rattle.ledger_steps.specs.Configuration.{Config}
+use Rattle.ledger_moves.specs.Configuration.{Config}
 
 -- a configuration, or none: no frame is left, and `main` ended by an exception of this class, or by none; or the next step throws
 -- an ignored exception of this class, at this place, and is not taken

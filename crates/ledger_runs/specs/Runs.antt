@@ -8,7 +8,7 @@ use Rattle.ledger_runs.specs.Starts.{start_config}
 use Rattle.ledger_runs.specs.Steps.{step}
 use Rattle.ledger_text.specs.declared.how.How.{How}
 use Rattle.ledger_text.specs.declared.how.How.TheVariants as hows
-use Rattle.ledger_steps.specs.Configuration.{Config, Frame}
+use Rattle.ledger_moves.specs.Configuration.{Config, Frame}
 
 pub record Run : Type 0 where
   pub config : Config

@@ -5,8 +5,8 @@ use Rattle.program_model.specs.declared.kinds.MethodId.{MethodId}
 use Rattle.program_model.specs.declared.program.Program.{Program}
 use Rattle.stub_conduct.specs.declared.choice.Choices.{Choices}
 use Rattle.ledger_state.specs.declared.value.Value.TheVariants as values
-use Rattle.ledger_steps.specs.Calls.{begun}
-use Rattle.ledger_steps.specs.Configuration.{Config}
+use Rattle.ledger_steps.specs.LedgerCallsCalls.{begun}
+use Rattle.ledger_moves.specs.Configuration.{Config}
 use Rattle.ledger_state.specs.Classes.{library_array}
 
 -- one frame, of `main`, whose argument is an array of texts that the library chooses; no object, no line, and no choice used

@@ -13,12 +13,12 @@ use Rattle.ledger_steps.specs.CallSteps.{library_done, self_begun, started}
 use Rattle.ledger_steps.specs.Ends.{answered, exception_class, main_gone, result_value, thrown_in}
 use Rattle.ledger_steps.specs.Ends as ends
 use Rattle.ledger_steps.specs.InnerSteps.{inner, thrown_value}
-use Rattle.ledger_steps.specs.Calls.{argument_values, begun}
+use Rattle.ledger_steps.specs.LedgerCallsCalls.{argument_values, begun}
 use Rattle.ledger_steps.specs.Conducts.{arguments_shared, arrays_given, conduct_value, positions, result_in}
-use Rattle.ledger_steps.specs.Configuration.{Config, Frame, held_by}
+use Rattle.ledger_moves.specs.Configuration.{Config, Frame, held_by}
 use Rattle.ledger_moves.specs.Choosing.{frame_steps}
 use Rattle.ledger_moves.specs.Frames.{frame_after}
-use Rattle.ledger_operations.specs.Operations.{arrays_after, made_value, next_choice, one_more_used, statics_after, used_after}
+use Rattle.ledger_moves.specs.Operations.{arrays_after, made_value, next_choice, one_more_used, statics_after, used_after}
 use Rattle.ledger_state.specs.Heaps.{next_number}
 use Rattle.ledger_moves.specs.Moves.{Move, Inner, Start, Library, End, Stray, Rest, next_move, standing}
 use Rattle.ledger_moves.specs.Moves.{Return, Back, StrayBack, NoWay, return_move}

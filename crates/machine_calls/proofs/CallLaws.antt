@@ -19,7 +19,7 @@ use Rattle.ledger_frames.specs.Frames.{locals_after}
 use Rattle.machine_state.proofs.FrameLaws.{frame_with, moved_top, count_seen, held_seen, frames_kept, highest_append, last_seen}
 use Rattle.ledger_moves.specs.Frames.{frame_seen, frames_seen, highest_control}
 use Rattle.ledger_moves.specs.Moves.{End, Library, Start, Return, return_move}
-use Rattle.ledger_runs.specs.Steps.{began, library_went, moved_by, returned, within}
+use Rattle.machine_state.specs.LedgerRunsSteps.{began, library_went, moved_by, returned, within}
 use Rattle.ledger_obligations.specs.declared.active_frame.ActiveFrame.{ActiveFrame}
 use Rattle.ledger_obligations.specs.Obligations.{held_in}
 use Rattle.ledger_operations.specs.Operations.{one_more_used}
@@ -38,7 +38,7 @@ use Rattle.java_control.specs.Tables.{Keeps}
 use Rattle.ledger_frames.specs.Choosing.{frame_steps}
 use Rattle.machine_state.specs.declared.run_state.RunState.{RunState}
 use Rattle.machine_state.specs.RunStates.{config_of}
-use Rattle.ledger_runs.specs.Outcomes.{went}
+use Rattle.machine_state.specs.LedgerRunsOutcomes.{went}
 use Rattle.ledger_state.specs.Contents.{HeapContents}
 use Rattle.ledger_state.specs.declared.entry.Entry.{Entry}
 

@@ -1,2 +1,1 @@
 mod CallLaws
-mod DropLaws

@@ -1,7 +1,6 @@
-//! Steps of a run that begin and end calls. One that changes few objects is done in place; for any other the heap is looked through.
+//! Steps of a run that begin and end calls, as drafts; where none is known the step is done on the whole heap.
 #![tactic(auto)]
 
-mod change;
 mod library;
 mod returning;
 mod starting;

@@ -1,34 +1,30 @@
 //! Steps that end frames.
 
-ghost use Rattle.std.specs.Prelude.{◌≡◌, ◌+◌, ◌-◌, ◌∷◌, ◌++◌, ◌<◌, ◌≤◌, List, None, length, map, reverse, take, vec_len, ℕ, IfOk, IfSome, OnErr, OnOk, false, true};
+ghost use Rattle.std.specs.Prelude.{◌≡◌, ◌+◌, ◌-◌, ◌∷◌, ◌++◌, ◌<◌, ◌≤◌, List, length, map, reverse, take, vec_len, IfOk, IfSome, OnErr, OnOk, false, true};
 ghost use Rattle.draft_steps.specs.Steps.{IsDraft};
+ghost use Rattle.drafted_heaps.specs.DraftedHeaps.{heap_left};
 ghost use Rattle.java_control.specs.Changes.{step_in};
 ghost use Rattle.ledger_calls.specs.Configuration.{Frame};
 ghost use Rattle.ledger_frames.specs.Choosing.{frame_steps};
-ghost use Rattle.ledger_frames.specs.Frames.{locals_after};
-ghost use Rattle.machine_state.specs.RunStates.{HasNothingToLose, NothingToLose, config_of};
-ghost use Rattle.ledger_moves.specs.Frames.{control_back, frame_seen, frames_seen, highest_control, return_seen};
+ghost use Rattle.machine_state.specs.RunStates.{HasNothingToLose, config_of};
+ghost use Rattle.ledger_moves.specs.Frames.{control_back, highest_control, return_seen};
 ghost use Rattle.ledger_moves.specs.Moves.{End, return_move};
-ghost use Rattle.ledger_runs.specs.Outcomes.{went};
-ghost use Rattle.ledger_runs.specs.Steps.{moved_by, returned};
+ghost use Rattle.machine_state.specs.LedgerRunsOutcomes.{went};
+ghost use Rattle.machine_state.specs.LedgerRunsSteps.{moved_by, returned};
 ghost use Rattle.ledger_obligations.specs.Obligations.{held_in};
 ghost use Rattle.ledger_state.specs.Locals.{held};
-ghost use Rattle.ledger_steps.specs.Ends.{answered, exception_class, result_value, thrown_in};
+ghost use Rattle.ledger_steps.specs.Ends.{exception_class, thrown_in};
 ghost use Rattle.ledger_steps.specs.Ends as ends;
 ghost use Rattle.frame_owners.specs.FrameOwners.{Listed, lists_in};
-ghost use Rattle.machine_calls.specs.HeapChanges.{CanReturn, HasChange, heap_returned};
-ghost use Rattle.owned_returns.specs.OwnedReturns.{left_by_frame};
-ghost use Rattle.plain_calls.specs.PlainCalls.{put_noted};
-ghost use Rattle.ledger_state.specs.Contents.{HeapContents};
 ghost use Rattle.object_index.specs.ObjectIndexes.{Indexed};
-ghost use Rattle.settled_heaps.specs.Settled.{Settled};
-ghost use Rattle.spread_notes.specs.SpreadNotes.{put_each};
+ghost use Rattle.draft_steps.specs.Settled.{Settled};
 ghost use Rattle.program_model.specs.Lookups.{method_at};
 
-use crate::change::{HeapReturn, ReturnResult, index_return_of};
 use draft_returns::draft_returned;
 use draft_steps::DraftStep;
-use drafted_heaps::return_draft;
+use drafted_heaps::{
+    StepResult, draft_result, end_top_list, index_change, list_change, take_change, whole_result,
+};
 use java_control::{Completion, Triple};
 use ledger_frames::locals_after;
 use ledger_moves::{CallEnd, call_end};
@@ -39,88 +35,11 @@ use ledger_steps::{
 };
 use machine_state::{RunState, add_lines, both, put_top};
 use object_index::ObjectIndex;
-use owned_returns::{OwnedReturn, owned_return, return_objects};
 use program_model::{ClassId, MethodId, Program};
 use rlc_base::{NoMemory, Pos};
-use spread_calls::SpreadChange;
 use std::alloc::Global;
 
-// What the end of the top frame and of its call change, where nothing but the frame's own objects and two more change, and the heap is
-// `settled`. `locals` are the values of the caller after it, and `ended` those of the frame that ends.
-fn return_found(
-    alloc: Global,
-    p: &Program,
-    heap: &Heap,
-    end: FrameEnd,
-    ended: &Locals,
-    caller: &ActiveFrame,
-    below: &[ActiveFrame],
-    named: MethodId,
-    t: Triple,
-    locals: &Locals,
-    settled: bool,
-    lists: &mut Vec<Vec<u64>>,
-) -> Result<Option<OwnedReturn>, NoMemory>
-    requires { settled ≡ true → NothingToLose heap.now (held ended.now ∷ held caller.now.locals ∷ map held_in (reverse below.now)) (lists_in lists.old.items) }
-    ensures heap { IfOk result (λ o. IfSome o (λ r. (ends.returned p.now heap.now (length below.now + 1) end.this caller.now.locals t.action (method_at p.now end.method) (method_at p.now named) end.value end.thrown end.pos t.pos (held locals.now ∷ map held_in (reverse below.now))).heap ≡ put_noted r.change.noted (left_by_frame (length below.now + 1) r.change.moved heap.now))) }
-    ensures lines { IfOk result (λ o. IfSome o (λ r. (ends.returned p.now heap.now (length below.now + 1) end.this caller.now.locals t.action (method_at p.now end.method) (method_at p.now named) end.value end.thrown end.pos t.pos (held locals.now ∷ map held_in (reverse below.now))).lines ≡ r.lines.items)) }
-    ensures settled { IfOk result (λ o. IfSome o (λ r. Settled (put_noted r.change.noted (left_by_frame (length below.now + 1) r.change.moved heap.now)) (held locals.now ∷ map held_in (reverse below.now)))) }
-    ensures change { IfOk result (λ o. IfSome o (λ r. HasChange (length below.now + 1) (lists_in lists.new.items) heap.now r.change)) }
-    ensures kept { settled ≡ true → Listed (lists_in lists.new.items) heap.now }
-{
-    if !settled {
-        return Ok(None);
-    }
-    let position = below.len() as u64 + 1;
-    owned_return(
-        alloc,
-        p,
-        t.pos,
-        position,
-        &caller.locals,
-        t.action,
-        named,
-        end,
-        heap,
-        ended,
-        locals,
-        below,
-        lists,
-    )
-}
-
-fn owned_end(locals: Locals, found: OwnedReturn) -> ReturnResult
-    ensures locals { result.locals ≡ locals }
-    ensures change { result.change ≡ HeapReturn.Owned found.change }
-    ensures lines { result.lines.items ≡ found.lines.items }
-{
-    let OwnedReturn { change, lines } = found;
-    let change = HeapReturn::Owned(change);
-    ReturnResult {
-        locals,
-        change,
-        lines,
-        settled: true,
-    }
-}
-
-fn changed_end(locals: Locals, effect: StepEffect) -> ReturnResult
-    ensures locals { result.locals ≡ locals }
-    ensures change { result.change ≡ HeapReturn.Whole effect.heap }
-    ensures lines { result.lines.items ≡ effect.lines.items }
-    ensures settled { result.settled ≡ false }
-{
-    let StepEffect { heap: after, lines } = effect;
-    let change = HeapReturn::Whole(after);
-    ReturnResult {
-        locals,
-        change,
-        lines,
-        settled: false,
-    }
-}
-
-// What the end of the top frame and of its call leave, whatever they change. `locals` are the values of the caller after it.
+// What the end of the top frame and of its call leave of the heap, whatever they change. `locals` are the values of the caller after it.
 fn whole_return(
     alloc: Global,
     p: &Program,
@@ -130,13 +49,11 @@ fn whole_return(
     below: &[ActiveFrame],
     named: MethodId,
     t: Triple,
-    locals: Locals,
-) -> Result<ReturnResult, NoMemory>
-    ensures locals { IfOk result (λ r. r.locals ≡ locals) }
-    ensures heap { IfOk result (λ r. heap_returned r.change (length below.now + 1) heap.now ≡ (ends.returned p.now heap.now (length below.now + 1) end.this caller.now.locals t.action (method_at p.now end.method) (method_at p.now named) end.value end.thrown end.pos t.pos (held locals ∷ map held_in (reverse below.now))).heap) }
-    ensures lines { IfOk result (λ r. r.lines.items ≡ (ends.returned p.now heap.now (length below.now + 1) end.this caller.now.locals t.action (method_at p.now end.method) (method_at p.now named) end.value end.thrown end.pos t.pos (held locals ∷ map held_in (reverse below.now))).lines) }
+    locals: &Locals,
+) -> Result<StepResult, NoMemory>
+    ensures heap { IfOk result (λ r. heap_left r.change heap.now ≡ (ends.returned p.now heap.now (length below.now + 1) end.this caller.now.locals t.action (method_at p.now end.method) (method_at p.now named) end.value end.thrown end.pos t.pos (held locals.now ∷ map held_in (reverse below.now))).heap) }
+    ensures lines { IfOk result (λ r. r.lines.items ≡ (ends.returned p.now heap.now (length below.now + 1) end.this caller.now.locals t.action (method_at p.now end.method) (method_at p.now named) end.value end.thrown end.pos t.pos (held locals.now ∷ map held_in (reverse below.now))).lines) }
     ensures settled { IfOk result (λ r. r.settled ≡ false) }
-    ensures change { IfOk result (λ r. (lists : List (List ℕ)) → CanReturn r.change (length below.now + 1) lists heap.now) }
 {
     let position = below.len() as u64 + 1;
     let effect = return_effect(
@@ -149,14 +66,14 @@ fn whole_return(
         named,
         end,
         heap,
-        &locals,
+        locals,
         below,
     )?;
-    Ok(changed_end(locals, effect))
+    Ok(whole_result(effect))
 }
 
-// What the end of the top frame and of its call change, whatever it is, where the heap is `settled`. `locals` are the values of the caller
-// after it, and `ended` those of the frame that ends.
+// What the end of the top frame and of its call change of the heap, where that is `settled`. `locals` are the values of the caller after
+// it, and `ended` those of the frame that ends.
 fn return_drafted(
     alloc: Global,
     p: &Program,
@@ -177,9 +94,6 @@ fn return_drafted(
     requires settled { settled ≡ true → Settled heap.old (held ended.now ∷ held caller.now.locals ∷ map held_in (reverse below.now)) }
     ensures same { heap.new ≡ heap.old }
     ensures draft { IfOk result (λ o. IfSome o (λ d. IsDraft d heap.old (held locals.now ∷ map held_in (reverse below.now)) (ends.returned p.now heap.old (length below.now + 1) end.this caller.now.locals t.action (method_at p.now end.method) (method_at p.now named) end.value end.thrown end.pos t.pos (held locals.now ∷ map held_in (reverse below.now))))) }
-    ensures made { IfOk result (λ o. IfSome o (λ d. d.made ≡ None)) }
-    ensures stored { IfOk result (λ o. IfSome o (λ d. d.stored ≡ None)) }
-    ensures known { IfOk result (λ o. IfSome o (λ d. settled ≡ true)) }
 {
     if !settled {
         return Ok(None);
@@ -203,67 +117,8 @@ fn return_drafted(
     )
 }
 
-// What a return leaves that changes these objects.
-fn drafted_end(locals: Locals, found: DraftStep) -> ReturnResult
-    ensures locals { result.locals ≡ locals }
-    ensures heap { (i : ℕ) (h : HeapContents) → heap_returned result.change i h ≡ put_each found.changes.items h }
-    ensures lines { result.lines.items ≡ found.lines.items }
-    ensures change { (i : ℕ) (lists : List (List ℕ)) (h : HeapContents) → Listed lists h → CanReturn result.change i lists h }
-{
-    let DraftStep {
-        changes,
-        made: _,
-        stored: _,
-        lines,
-    } = found;
-    let change = HeapReturn::Drafted(SpreadChange {
-        noted: changes,
-        made: None,
-    });
-    ReturnResult {
-        locals,
-        change,
-        lines,
-        settled: true,
-    }
-}
-
-// What the end of the top frame and of its call leave that the way above does not take. `locals` are the values of the caller after it.
-fn drafted_return(
-    alloc: Global,
-    p: &Program,
-    heap: &mut Heap,
-    end: FrameEnd,
-    ended: &Locals,
-    caller: &ActiveFrame,
-    below: &[ActiveFrame],
-    named: MethodId,
-    t: Triple,
-    locals: Locals,
-    settled: bool,
-    lists: &[Vec<u64>],
-    index: &ObjectIndex,
-) -> Result<ReturnResult, NoMemory>
-    requires indexed { settled ≡ true → Indexed index.now heap.old }
-    requires listed { settled ≡ true → Listed (lists_in lists.now) heap.old }
-    requires settled { settled ≡ true → Settled heap.old (held ended.now ∷ held caller.now.locals ∷ map held_in (reverse below.now)) }
-    ensures same { heap.new ≡ heap.old }
-    ensures locals { IfOk result (λ r. r.locals ≡ locals) }
-    ensures heap { IfOk result (λ r. heap_returned r.change (length below.now + 1) heap.old ≡ (ends.returned p.now heap.old (length below.now + 1) end.this caller.now.locals t.action (method_at p.now end.method) (method_at p.now named) end.value end.thrown end.pos t.pos (held locals ∷ map held_in (reverse below.now))).heap) }
-    ensures lines { IfOk result (λ r. r.lines.items ≡ (ends.returned p.now heap.old (length below.now + 1) end.this caller.now.locals t.action (method_at p.now end.method) (method_at p.now named) end.value end.thrown end.pos t.pos (held locals ∷ map held_in (reverse below.now))).lines) }
-    ensures settled { IfOk result (λ r. r.settled ≡ true → Settled (heap_returned r.change (length below.now + 1) heap.old) (held locals ∷ map held_in (reverse below.now))) }
-    ensures change { IfOk result (λ r. CanReturn r.change (length below.now + 1) (lists_in lists.now) heap.old) }
-{
-    let found = return_drafted(
-        alloc, p, heap, end, ended, caller, below, named, t, &locals, settled, lists, index,
-    )?;
-    match found {
-        Some(step) => Ok(drafted_end(locals, step)),
-        None => whole_return(alloc, p, heap, end, caller, below, named, t, locals),
-    }
-}
-
-// What the end of the top frame, which held `ended`, and of its call leave of the caller's frame and of the heap.
+// What the end of the top frame, which held `ended`, and of its call leave of the heap, in which nothing is left to lose where `settled`
+// says so. `locals` are the values of the caller after it.
 fn return_result(
     alloc: Global,
     p: &Program,
@@ -274,64 +129,25 @@ fn return_result(
     below: &[ActiveFrame],
     named: MethodId,
     t: Triple,
+    locals: &Locals,
     settled: bool,
-    lists: &mut Vec<Vec<u64>>,
+    lists: &[Vec<u64>],
     index: &ObjectIndex,
-) -> Result<ReturnResult, NoMemory>
+) -> Result<StepResult, NoMemory>
     requires indexed { settled ≡ true → Indexed index.now heap.old }
-    requires settled { settled ≡ true → NothingToLose heap.old (held ended.now ∷ held caller.now.locals ∷ map held_in (reverse below.now)) (lists_in lists.old.items) }
+    requires listed { settled ≡ true → Listed (lists_in lists.now) heap.old }
+    requires settled { settled ≡ true → Settled heap.old (held ended.now ∷ held caller.now.locals ∷ map held_in (reverse below.now)) }
     ensures same { heap.new ≡ heap.old }
-    ensures locals { IfOk result (λ r. r.locals ≡ locals_after p.now heap.old caller.now.method caller.now.locals t.action t.edge (answered end.this t.action end.value end.thrown)) }
-    ensures heap { IfOk result (λ r. heap_returned r.change (length below.now + 1) heap.old ≡ (ends.returned p.now heap.old (length below.now + 1) end.this caller.now.locals t.action (method_at p.now end.method) (method_at p.now named) end.value end.thrown end.pos t.pos (held r.locals ∷ map held_in (reverse below.now))).heap) }
-    ensures lines { IfOk result (λ r. r.lines.items ≡ (ends.returned p.now heap.old (length below.now + 1) end.this caller.now.locals t.action (method_at p.now end.method) (method_at p.now named) end.value end.thrown end.pos t.pos (held r.locals ∷ map held_in (reverse below.now))).lines) }
-    ensures settled { IfOk result (λ r. r.settled ≡ true → Settled (heap_returned r.change (length below.now + 1) heap.old) (held r.locals ∷ map held_in (reverse below.now))) }
-    ensures change { IfOk result (λ r. CanReturn r.change (length below.now + 1) (lists_in lists.new.items) heap.old) }
-    ensures kept { settled ≡ true → Listed (lists_in lists.new.items) heap.old }
+    ensures heap { IfOk result (λ r. heap_left r.change heap.old ≡ (ends.returned p.now heap.old (length below.now + 1) end.this caller.now.locals t.action (method_at p.now end.method) (method_at p.now named) end.value end.thrown end.pos t.pos (held locals.now ∷ map held_in (reverse below.now))).heap) }
+    ensures lines { IfOk result (λ r. r.lines.items ≡ (ends.returned p.now heap.old (length below.now + 1) end.this caller.now.locals t.action (method_at p.now end.method) (method_at p.now named) end.value end.thrown end.pos t.pos (held locals.now ∷ map held_in (reverse below.now))).lines) }
+    ensures settled { IfOk result (λ r. r.settled ≡ true → Settled (heap_left r.change heap.old) (held locals.now ∷ map held_in (reverse below.now))) }
 {
-    let value = answered(end.this, t.action, end.value, end.thrown);
-    let locals = locals_after(
-        alloc,
-        p,
-        heap,
-        caller.method,
-        &caller.locals,
-        t.action,
-        t.edge,
-        value,
-    )?;
-    let found = return_found(
-        alloc, p, heap, end, ended, caller, below, named, t, &locals, settled, lists,
+    let found = return_drafted(
+        alloc, p, heap, end, ended, caller, below, named, t, locals, settled, lists, index,
     )?;
     match found {
-        Some(result) => Ok(owned_end(locals, result)),
-        None => drafted_return(
-            alloc, p, heap, end, ended, caller, below, named, t, locals, settled, lists, index,
-        ),
-    }
-}
-
-// The heap becomes what a return leaves of it, where the caller stands above these frames. Says whether the lists are those of its frames.
-fn take_return(
-    heap: &mut Heap,
-    lists: &mut Vec<Vec<u64>>,
-    below: &[ActiveFrame],
-    change: HeapReturn,
-) -> bool
-    requires { CanReturn change (length below.now + 1) (lists_in lists.old.items) heap.old }
-    ensures heap { heap.new ≡ heap_returned change (length below.now + 1) heap.old }
-    ensures lists { result ≡ true → Listed (lists_in lists.new.items) heap.new }
-{
-    match change {
-        HeapReturn::Whole(after) => {
-            *heap = after;
-            false
-        }
-        HeapReturn::Owned(found) => {
-            let position = below.len() as u64 + 1;
-            return_objects(heap, lists, position, found.moved, found.noted);
-            true
-        }
-        HeapReturn::Drafted(found) => return_draft(heap, lists, &found),
+        Some(step) => Ok(draft_result(step)),
+        None => whole_return(alloc, p, heap, end, caller, below, named, t, locals),
     }
 }
 
@@ -374,6 +190,17 @@ pub fn run_return(
                 value,
                 thrown,
             };
+            let answer = answered(end.this, t.action, end.value, end.thrown);
+            let locals = locals_after(
+                alloc,
+                p,
+                &m.heap,
+                method,
+                &caller.locals,
+                t.action,
+                t.edge,
+                answer,
+            )?;
             let taken = return_result(
                 alloc,
                 p,
@@ -384,21 +211,23 @@ pub fn run_return(
                 below,
                 named,
                 t,
+                &locals,
                 m.settled,
-                &mut m.owned,
+                &m.owned,
                 &m.index,
             )?;
-            let ReturnResult {
-                locals,
+            let StepResult {
                 change,
                 lines,
                 settled,
             } = taken;
             m.entries.reserve(lines.len())?;
-            let indexed = index_return_of(alloc, &mut m.index, &m.heap, &change, m.settled);
-            let listed = take_return(&mut m.heap, &mut m.owned, below, change);
+            let listed = list_change(&mut m.owned, &m.heap, &change, m.settled);
+            let indexed = index_change(alloc, &mut m.index, &m.heap, &change, m.settled);
+            take_change(&mut m.heap, change)?;
+            let ended = end_top_list(&m.heap, &mut m.owned, listed);
             add_lines(&mut m.entries, &lines);
-            let known = both(listed, indexed);
+            let known = both(ended, indexed);
             m.settled = both(settled, known);
             drop_top(&mut m.frames);
             put_top(

@@ -4,16 +4,16 @@ use Rattle.std.proofs.lemmas.List.{length-map, length-reverse, reverse-append, s
 use Rattle.java_control.specs.declared.cell.Cell.{Cell}
 use Rattle.java_control.specs.Remaining.{todos}
 use Rattle.java_control.specs.Tables.{Keeps}
-use Rattle.ledger_calls.specs.Configuration.{Config, Frame, held_by}
+use Rattle.ledger_runs.specs.Configuration.{Config, Frame, held_by}
 use Rattle.program_model.specs.declared.kinds.MethodId.{MethodId}
 use Rattle.program_model.specs.declared.program.Program.{Program}
-use Rattle.ledger_moves.specs.Moves.{Move}
+use Rattle.ledger_runs.specs.Moves.{Move}
 use Rattle.ledger_runs.specs.Steps.{has_ended, moved, moved_by}
 use Rattle.ledger_state.specs.declared.locals.Locals.{Locals}
 use Rattle.java_control.specs.declared.lists.Lists.{Lists}
 use Rattle.machine_state.specs.declared.run_state.RunState.{RunState}
 use Rattle.machine_state.specs.RunStates.{config_of}
-use Rattle.ledger_moves.specs.Frames.{frame_seen, frames_seen, highest_control}
+use Rattle.ledger_runs.specs.Frames.{frame_seen, frames_seen, highest_control}
 use Rattle.ledger_obligations.specs.declared.active_frame.ActiveFrame.{ActiveFrame}
 use Rattle.ledger_obligations.specs.Obligations.{held_in}
 

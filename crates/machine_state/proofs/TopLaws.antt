@@ -11,7 +11,7 @@ use Rattle.object_index.specs.declared.index.ObjectIndex.{ObjectIndex}
 use Rattle.object_index.specs.ObjectIndexes.{Indexed}
 use Rattle.settled_heaps.specs.Settled.{Settled}
 use Rattle.machine_state.specs.declared.run_state.RunState.{RunState}
-use Rattle.frame_owners.specs.FrameOwners.{Listed, lists_in}
+use Rattle.object_index.specs.FrameOwners.{Listed, lists_in}
 use Rattle.machine_state.specs.RunStates.{HasNothingToLose, NothingToLose, config_of}
 
 pub top_held : (xs ys : List ActiveFrame) (y : ActiveFrame) → xs ≡ ys ++ y ∷ [] → map held_in (reverse xs) ≡ held_in y ∷ map held_in (reverse ys)

@@ -1,9 +1,9 @@
 -- A run as a configuration: its frames stand bottom first, and the control of each is a number in a table of lists.
 use Rattle.std.specs.Prelude.{ℕ, ◌≡◌, true, List, map, reverse}
-use Rattle.frame_owners.specs.FrameOwners.{Listed, lists_in}
-use Rattle.ledger_calls.specs.Configuration.{Config}
+use Rattle.object_index.specs.FrameOwners.{Listed, lists_in}
+use Rattle.ledger_runs.specs.Configuration.{Config}
 use Rattle.machine_state.specs.declared.run_state.RunState.{RunState}
-use Rattle.ledger_moves.specs.Frames.{frames_seen}
+use Rattle.ledger_runs.specs.Frames.{frames_seen}
 use Rattle.ledger_obligations.specs.Obligations.{held_in}
 use Rattle.ledger_state.specs.declared.value.Value.{Value}
 use Rattle.ledger_state.specs.Contents.{HeapContents}

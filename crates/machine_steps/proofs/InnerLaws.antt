@@ -5,12 +5,12 @@ use Rattle.program_model.specs.declared.program.Program.{Program}
 use Rattle.java_control.specs.Changes.{step_in}
 use Rattle.java_control.specs.declared.cell.Cell.{Cell}
 use Rattle.java_control.specs.declared.triple.Triple.{Triple}
-use Rattle.ledger_calls.specs.Configuration.{Config}
+use Rattle.ledger_frames.specs.Configuration.{Config}
 use Rattle.ledger_frames.specs.Frames.{locals_after}
 use Rattle.machine_state.proofs.FrameLaws.{frame_with, moved_top, held_seen, last_seen}
-use Rattle.ledger_moves.specs.Frames.{frame_seen, frames_seen}
-use Rattle.ledger_moves.specs.Moves.{Inner}
-use Rattle.ledger_runs.specs.Steps.{if_thrown, moved_by, within}
+use Rattle.machine_state.specs.Frames.{frame_seen, frames_seen}
+use Rattle.machine_state.specs.Moves.{Inner}
+use Rattle.machine_state.specs.LedgerRunsSteps.{if_thrown, moved_by, within}
 use Rattle.ledger_obligations.specs.declared.active_frame.ActiveFrame.{ActiveFrame}
 use Rattle.ledger_obligations.specs.Obligations.{held_in}
 use Rattle.ledger_operations.specs.Operations.{arrays_after, made_value, next_choice, statics_after, used_after}
@@ -21,7 +21,7 @@ use Rattle.ledger_state.specs.Locals.{held}
 use Rattle.ledger_steps.specs.InnerSteps.{inner, thrown_value}
 use Rattle.machine_state.specs.declared.run_state.RunState.{RunState}
 use Rattle.machine_state.specs.RunStates.{config_of}
-use Rattle.ledger_runs.specs.Outcomes.{went}
+use Rattle.machine_state.specs.LedgerRunsOutcomes.{went}
 use Rattle.ledger_state.specs.Contents.{HeapContents}
 use Rattle.ledger_state.specs.declared.entry.Entry.{Entry}
 use Rattle.ledger_state.specs.declared.object.StoredStatic.{StoredStatic}

@@ -1,2 +1,1 @@
 mod InnerLaws
-mod ListLaws

@@ -1,46 +1,41 @@
 //! Steps within a frame.
 
-ghost use Rattle.std.specs.Prelude.{◌≡◌, ◌+◌, ◌∷◌, ◌++◌, ◌<◌, ◌≤◌, length, map, reverse, vec_len, IfOk, IfSome, OnErr, OnOk, true, false};
-ghost use Rattle.draft_steps.specs.Steps.{IsDraft, drafted};
+ghost use Rattle.std.specs.Prelude.{◌≡◌, ◌∷◌, ◌<◌, ◌≤◌, length, map, reverse, vec_len, IfOk, IfSome, OnErr, OnOk, false, true};
+ghost use Rattle.draft_steps.specs.Steps.{IsDraft};
+ghost use Rattle.drafted_heaps.specs.DraftedHeaps.{heap_left};
 ghost use Rattle.java_control.specs.Changes.{step_in};
 ghost use Rattle.ledger_frames.specs.Frames.{locals_after};
-ghost use Rattle.ledger_moves.specs.Frames.{highest_control};
-ghost use Rattle.ledger_moves.specs.Moves.{Inner};
+ghost use Rattle.machine_state.specs.Frames.{highest_control};
+ghost use Rattle.machine_state.specs.Moves.{Inner};
 ghost use Rattle.ledger_obligations.specs.Obligations.{held_in};
-ghost use Rattle.ledger_runs.specs.Outcomes.{went};
-ghost use Rattle.ledger_runs.specs.Steps.{moved_by};
+ghost use Rattle.machine_state.specs.LedgerRunsOutcomes.{went};
+ghost use Rattle.machine_state.specs.LedgerRunsSteps.{moved_by};
 ghost use Rattle.ledger_state.specs.Locals.{held};
 ghost use Rattle.ledger_steps.specs.InnerSteps.{inner, thrown_value};
 ghost use Rattle.machine_state.specs.RunStates.{HasNothingToLose, config_of};
-ghost use Rattle.ledger_state.specs.Contents.{HeapContents};
-ghost use Rattle.machine_steps.specs.HeapSteps.{CanStep, heap_stepped};
 ghost use Rattle.object_index.specs.ObjectIndexes.{Indexed};
-ghost use Rattle.plain_steps.specs.PlainSteps.{stepped};
-ghost use Rattle.plain_stores.specs.PlainStores.{OwnersKept};
-ghost use Rattle.settled_heaps.specs.Settled.{Settled};
+ghost use Rattle.draft_steps.specs.Settled.{Settled};
 
-use crate::change::{HeapStep, InnerResult, index_change, list_change, take_step};
 use crate::stores::{room_for, store_results, used_by};
 use draft_steps::DraftStep;
 use draft_stores::draft_inner;
-use drafted_heaps::DraftChange;
+use drafted_heaps::{
+    StepResult, draft_result, index_change, list_change, take_change, whole_result,
+};
 use java_control::Triple;
 use ledger_frames::locals_after;
 use ledger_obligations::ActiveFrame;
 use ledger_operations::{made_value, next_choice};
 use ledger_state::{Heap, Locals, Value};
-use ledger_steps::{StepEffect, inner_effect, thrown_value};
+use ledger_steps::{inner_effect, thrown_value};
 use machine_state::{RunState, add_lines, both, put_top};
 use object_index::ObjectIndex;
-use plain_steps::{PlainStep, plain_step};
 use program_model::{ClassId, Program};
 use rlc_base::NoMemory;
-use spread_calls::SpreadChange;
 use std::alloc::Global;
 
-// What a plain step within the top frame leaves, where this is one and the heap is `settled`. `locals` are the values of the frame after
-// it.
-fn plain_found(
+// What a step within the top frame leaves of the heap, whatever it changes. `locals` are the values of the frame after it.
+fn whole_inner(
     alloc: Global,
     p: &Program,
     heap: &Heap,
@@ -49,66 +44,10 @@ fn plain_found(
     below: &[ActiveFrame],
     thrown: Option<ClassId>,
     s: Triple,
-    settled: bool,
-) -> Result<Option<PlainStep>, NoMemory>
-    requires { settled ≡ true → Settled heap.now (held top.now.locals ∷ map held_in (reverse below.now)) }
-    ensures heap { IfOk result (λ o. IfSome o (λ r. (inner p.now heap.now top.now.method top.now.locals thrown s.action s.pos (held locals.now ∷ map held_in (reverse below.now))).heap ≡ stepped r.change heap.now)) }
-    ensures lines { IfOk result (λ o. IfSome o (λ r. (inner p.now heap.now top.now.method top.now.locals thrown s.action s.pos (held locals.now ∷ map held_in (reverse below.now))).lines ≡ r.lines.items)) }
-    ensures settled { IfOk result (λ o. IfSome o (λ r. Settled (stepped r.change heap.now) (held locals.now ∷ map held_in (reverse below.now)))) }
-    ensures owners { IfOk result (λ o. IfSome o (λ r. OwnersKept heap.now (stepped r.change heap.now))) }
-    ensures was { IfOk result (λ o. IfSome o (λ r. settled ≡ true)) }
-{
-    if !settled {
-        return Ok(None);
-    }
-    let position = below.len() as u64 + 1;
-    plain_step(
-        alloc,
-        p,
-        s.pos,
-        top.method,
-        &top.locals,
-        thrown,
-        s.action,
-        position,
-        heap,
-        locals,
-        below,
-    )
-}
-
-// What a plain step within the top frame leaves of the frame and of the heap.
-fn plain_result(locals: Locals, found: PlainStep) -> InnerResult
-    ensures locals { result.locals ≡ locals }
-    ensures change { result.change ≡ HeapStep.Plain found.change }
-    ensures lines { result.lines.items ≡ found.lines.items }
-{
-    let PlainStep { change, lines } = found;
-    let change = HeapStep::Plain(change);
-    InnerResult {
-        locals,
-        change,
-        lines,
-        settled: true,
-    }
-}
-
-// What a step within the top frame leaves of the heap, whatever it changes. `locals` are the values of the frame after it.
-fn changed_result(
-    alloc: Global,
-    p: &Program,
-    heap: &Heap,
-    locals: Locals,
-    top: &ActiveFrame,
-    below: &[ActiveFrame],
-    thrown: Option<ClassId>,
-    s: Triple,
-) -> Result<InnerResult, NoMemory>
-    ensures locals { IfOk result (λ r. r.locals ≡ locals) }
-    ensures heap { IfOk result (λ r. heap_stepped r.change heap.now ≡ (inner p.now heap.now top.now.method top.now.locals thrown s.action s.pos (held locals ∷ map held_in (reverse below.now))).heap) }
-    ensures lines { IfOk result (λ r. r.lines.items ≡ (inner p.now heap.now top.now.method top.now.locals thrown s.action s.pos (held locals ∷ map held_in (reverse below.now))).lines) }
+) -> Result<StepResult, NoMemory>
+    ensures heap { IfOk result (λ r. heap_left r.change heap.now ≡ (inner p.now heap.now top.now.method top.now.locals thrown s.action s.pos (held locals.now ∷ map held_in (reverse below.now))).heap) }
+    ensures lines { IfOk result (λ r. r.lines.items ≡ (inner p.now heap.now top.now.method top.now.locals thrown s.action s.pos (held locals.now ∷ map held_in (reverse below.now))).lines) }
     ensures settled { IfOk result (λ r. r.settled ≡ false) }
-    ensures owners { IfOk result (λ r. CanStep r.change heap.now) }
 {
     let effect = inner_effect(
         alloc,
@@ -119,21 +58,13 @@ fn changed_result(
         thrown,
         s.action,
         heap,
-        &locals,
+        locals,
         below,
     )?;
-    let StepEffect { heap: after, lines } = effect;
-    let change = HeapStep::Whole(after);
-    Ok(InnerResult {
-        locals,
-        change,
-        lines,
-        settled: false,
-    })
+    Ok(whole_result(effect))
 }
 
-// What a step within the top frame changes of the heap, whatever it is, where the heap is `settled`. `locals` are the values of the frame
-// after it.
+// What a step within the top frame changes of the heap, where that is `settled`. `locals` are the values of the frame after it.
 fn inner_drafted(
     alloc: Global,
     p: &Program,
@@ -150,7 +81,6 @@ fn inner_drafted(
     requires settled { settled ≡ true → Settled heap.old (held top.now.locals ∷ map held_in (reverse below.now)) }
     ensures same { heap.new ≡ heap.old }
     ensures draft { IfOk result (λ o. IfSome o (λ d. IsDraft d heap.old (held locals.now ∷ map held_in (reverse below.now)) (inner p.now heap.old top.now.method top.now.locals thrown s.action s.pos (held locals.now ∷ map held_in (reverse below.now))))) }
-    ensures was { IfOk result (λ o. IfSome o (λ d. settled ≡ true)) }
 {
     if !settled {
         return Ok(None);
@@ -170,89 +100,50 @@ fn inner_drafted(
     )
 }
 
-// What a step within the top frame leaves of the heap that changes these objects.
-fn drafted_step(locals: Locals, found: DraftStep) -> InnerResult
-    ensures locals { result.locals ≡ locals }
-    ensures heap { (h : HeapContents) → heap_stepped result.change h ≡ drafted found h }
-    ensures lines { result.lines.items ≡ found.lines.items }
-    ensures owners { (h : HeapContents) → CanStep result.change h }
-{
-    let DraftStep {
-        changes,
-        made,
-        stored,
-        lines,
-    } = found;
-    let objects = SpreadChange {
-        noted: changes,
-        made,
-    };
-    let change = HeapStep::Drafted(DraftChange { objects, stored });
-    InnerResult {
-        locals,
-        change,
-        lines,
-        settled: true,
-    }
-}
-
-// What a step within the top frame leaves of the heap that is not a plain one. `locals` are the values of the frame after it.
-fn drafted_result(
-    alloc: Global,
-    p: &Program,
-    heap: &mut Heap,
-    locals: Locals,
-    top: &ActiveFrame,
-    below: &[ActiveFrame],
-    thrown: Option<ClassId>,
-    s: Triple,
-    settled: bool,
-    index: &ObjectIndex,
-) -> Result<InnerResult, NoMemory>
-    requires indexed { settled ≡ true → Indexed index.now heap.old }
-    requires settled { settled ≡ true → Settled heap.old (held top.now.locals ∷ map held_in (reverse below.now)) }
-    ensures same { heap.new ≡ heap.old }
-    ensures locals { IfOk result (λ r. r.locals ≡ locals) }
-    ensures heap { IfOk result (λ r. heap_stepped r.change heap.old ≡ (inner p.now heap.old top.now.method top.now.locals thrown s.action s.pos (held locals ∷ map held_in (reverse below.now))).heap) }
-    ensures lines { IfOk result (λ r. r.lines.items ≡ (inner p.now heap.old top.now.method top.now.locals thrown s.action s.pos (held locals ∷ map held_in (reverse below.now))).lines) }
-    ensures settled { IfOk result (λ r. r.settled ≡ true → Settled (heap_stepped r.change heap.old) (held locals ∷ map held_in (reverse below.now))) }
-    ensures owners { IfOk result (λ r. CanStep r.change heap.old) }
-    ensures was { IfOk result (λ r. r.settled ≡ true → settled ≡ true) }
-{
-    let found = inner_drafted(
-        alloc, p, heap, &locals, top, below, thrown, s, settled, index,
-    )?;
-    match found {
-        Some(step) => Ok(drafted_step(locals, step)),
-        None => changed_result(alloc, p, heap, locals, top, below, thrown, s),
-    }
-}
-
-// What a step within the top frame leaves of the frame and of the heap, in which nothing is left to lose where `settled` says so.
+// What a step within the top frame leaves of the heap, in which nothing is left to lose where `settled` says so. `locals` are the values
+// of the frame after it.
 fn inner_result(
     alloc: Global,
     p: &Program,
     heap: &mut Heap,
-    made: Value,
+    locals: &Locals,
     top: &ActiveFrame,
     below: &[ActiveFrame],
     thrown: Option<ClassId>,
     s: Triple,
     settled: bool,
     index: &ObjectIndex,
-) -> Result<InnerResult, NoMemory>
+) -> Result<StepResult, NoMemory>
     requires indexed { settled ≡ true → Indexed index.now heap.old }
     requires settled { settled ≡ true → Settled heap.old (held top.now.locals ∷ map held_in (reverse below.now)) }
     ensures same { heap.new ≡ heap.old }
-    ensures locals { IfOk result (λ r. r.locals ≡ locals_after p.now heap.old top.now.method top.now.locals s.action s.edge (thrown_value heap.old thrown made)) }
-    ensures heap { IfOk result (λ r. heap_stepped r.change heap.old ≡ (inner p.now heap.old top.now.method top.now.locals thrown s.action s.pos (held r.locals ∷ map held_in (reverse below.now))).heap) }
-    ensures lines { IfOk result (λ r. r.lines.items ≡ (inner p.now heap.old top.now.method top.now.locals thrown s.action s.pos (held r.locals ∷ map held_in (reverse below.now))).lines) }
-    ensures settled { IfOk result (λ r. r.settled ≡ true → Settled (heap_stepped r.change heap.old) (held r.locals ∷ map held_in (reverse below.now))) }
-    ensures owners { IfOk result (λ r. CanStep r.change heap.old) }
-    ensures was { IfOk result (λ r. r.settled ≡ true → settled ≡ true) }
+    ensures heap { IfOk result (λ r. heap_left r.change heap.old ≡ (inner p.now heap.old top.now.method top.now.locals thrown s.action s.pos (held locals.now ∷ map held_in (reverse below.now))).heap) }
+    ensures lines { IfOk result (λ r. r.lines.items ≡ (inner p.now heap.old top.now.method top.now.locals thrown s.action s.pos (held locals.now ∷ map held_in (reverse below.now))).lines) }
+    ensures settled { IfOk result (λ r. r.settled ≡ true → Settled (heap_left r.change heap.old) (held locals.now ∷ map held_in (reverse below.now))) }
+{
+    let found = inner_drafted(
+        alloc, p, heap, locals, top, below, thrown, s, settled, index,
+    )?;
+    match found {
+        Some(step) => Ok(draft_result(step)),
+        None => whole_inner(alloc, p, heap, locals, top, below, thrown, s),
+    }
+}
+
+// The values of the top frame after a step within it that makes this value.
+fn locals_inner(
+    alloc: Global,
+    p: &Program,
+    heap: &Heap,
+    made: Value,
+    top: &ActiveFrame,
+    thrown: Option<ClassId>,
+    s: Triple,
+) -> Result<Locals, NoMemory>
+    ensures { IfOk result (λ l. l ≡ locals_after p.now heap.now top.now.method top.now.locals s.action s.edge (thrown_value heap.now thrown made)) }
 {
     let value = thrown_value(heap, thrown, made);
-    let locals = locals_after(
+    locals_after(
         alloc,
         p,
         heap,
@@ -261,14 +152,7 @@ fn inner_result(
         s.action,
         s.edge,
         value,
-    )?;
-    let found = plain_found(alloc, p, heap, &locals, top, below, thrown, s, settled)?;
-    match found {
-        Some(step) => Ok(plain_result(locals, step)),
-        None => drafted_result(
-            alloc, p, heap, locals, top, below, thrown, s, settled, index,
-        ),
-    }
+    )
 }
 
 /// Takes a step within the top frame, which throws an exception of this class, or none. Where memory runs out all stays.
@@ -300,11 +184,12 @@ pub fn run_inner(
             &top.locals,
             s.action,
         );
+        let locals = locals_inner(alloc, p, &m.heap, made, top, thrown, s)?;
         let taken = inner_result(
             alloc,
             p,
             &mut m.heap,
-            made,
+            &locals,
             top,
             below,
             thrown,
@@ -313,8 +198,7 @@ pub fn run_inner(
             &m.index,
         )?;
         let used = used_by(&m.arrays, &m.choices, m.used, &top.locals, thrown, s.action);
-        let InnerResult {
-            locals,
+        let StepResult {
             change,
             lines,
             settled,
@@ -329,9 +213,9 @@ pub fn run_inner(
             s.action,
             lines.len(),
         )?;
-        let listed = list_change(&mut m.owned, &m.heap, &change, settled);
-        let indexed = index_change(alloc, &mut m.index, &m.heap, &change, settled);
-        take_step(&mut m.heap, change)?;
+        let listed = list_change(&mut m.owned, &m.heap, &change, m.settled);
+        let indexed = index_change(alloc, &mut m.index, &m.heap, &change, m.settled);
+        take_change(&mut m.heap, change)?;
         store_results(
             &mut m.arrays,
             &mut m.statics,
@@ -342,7 +226,8 @@ pub fn run_inner(
         );
         add_lines(&mut m.entries, &lines);
         m.used = used;
-        m.settled = both(listed, indexed);
+        let known = both(listed, indexed);
+        m.settled = both(settled, known);
         put_top(
             &mut m.frames,
             ActiveFrame {

@@ -1,7 +1,6 @@
-//! Steps within a frame of a run. One that changes few objects is done in place; for any other the heap is looked through.
+//! Steps within a frame of a run, as drafts; where none is known the step is done on the whole heap.
 #![tactic(auto)]
 
-mod change;
 mod inner_run;
 mod stores;
 

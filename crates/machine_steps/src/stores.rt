@@ -2,7 +2,7 @@
 
 ghost use Rattle.std.specs.Prelude.{◌≡◌, ◌+◌, ◌++◌, ◌<◌, ◌≤◌, None, OnOk, IfOk, vec_capacity, vec_len};
 ghost use Rattle.ledger_operations.specs.Operations.{array_made, arrays_after, elements_after, statics_after, statics_with, used_after};
-ghost use Rattle.ledger_runs.specs.Steps.{if_thrown};
+ghost use Rattle.machine_state.specs.LedgerRunsSteps.{if_thrown};
 ghost use Rattle.program_model.specs.Lookups.{optional};
 
 use java_control::Action;

@@ -1,0 +1,1 @@
+pub use Rattle.class_order.proofs.CaseLemmas

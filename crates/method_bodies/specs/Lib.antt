@@ -1,1 +1,2 @@
 pub mod MethodBodies
+pub use Rattle.class_order.specs.Modifiers

@@ -8,3 +8,4 @@ pub mod OverrideCases
 pub mod OwningCases
 pub mod ResetCases
 pub mod WellFormed
+pub use Rattle.refusal_order.specs.Refusals

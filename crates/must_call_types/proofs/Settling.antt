@@ -8,7 +8,7 @@ use Rattle.std.proofs.lemmas.Bool.{cases_eq, cases_lt}
 use Rattle.program_model.specs.declared.kinds.ClassId.{ClassId}
 use Rattle.program_model.specs.declared.program.Class.{Class}
 use Rattle.program_model.specs.NameSets.{Names, no_names}
-use Rattle.must_call_sets.specs.MustCallSets.{must_in}
+use Rattle.annotation_rules.specs.MustCallSets.{must_in}
 use Rattle.effective_signatures.specs.Sets.{own_or}
 use Rattle.must_call_types.specs.MustSets.{but_set, inherited_or_own, named_supers, set_at, settled, with_own_set, with_set, IsDue, IsGraded, IsMustSet, IsSettledTo}
 

@@ -6,7 +6,7 @@ use Rattle.program_model.specs.declared.program.Field.{Field}
 use Rattle.program_model.specs.declared.program.Method.{Method}
 use Rattle.std.proofs.lemmas.List.{length-map}
 use Rattle.rlc_base.specs.declared.faults.Refusal.{Refusal}
-use Rattle.refusal_order.specs.Refusals.{least, verdict_of}
+use Rattle.annotation_rules.specs.Refusals.{least, verdict_of}
 use Rattle.effective_signatures.specs.Effective.{signed_parameter}
 use Rattle.effective_signatures.specs.SignedMethods.{IsSignedMethod}
 

@@ -5,7 +5,7 @@ use Rattle.program_model.specs.declared.kinds.ClassId.{ClassId}
 use Rattle.program_model.specs.declared.program.Class.{Class}
 use Rattle.program_model.specs.Lookups.{optional}
 use Rattle.program_model.specs.NameSets.{Names, no_names}
-use Rattle.must_call_sets.specs.MustCallSets.{must_in}
+use Rattle.annotation_rules.specs.MustCallSets.{must_in}
 use Rattle.effective_signatures.specs.Sets.{own_or, own_set}
 
 -- the classes and interfaces that a class names as its super types

@@ -3,7 +3,7 @@ use Rattle.std.specs.Prelude.{◌≡◌, Some, map, All}
 use Rattle.std.specs.List.{AllZip}
 use Rattle.rlc_base.specs.declared.faults.Stop.{Stop}
 use Rattle.rlc_base.specs.declared.faults.Stop.TheVariants as stops
-use Rattle.refusal_order.specs.Refusals.{least}
+use Rattle.annotation_rules.specs.Refusals.{least}
 use Rattle.annotation_rules.specs.AnnotationCases.{annotation_cases}
 use Rattle.program_model.specs.declared.program.Program.{Program}
 use Rattle.must_call_types.specs.NameTable.{IsNameStop, IsNameTable}

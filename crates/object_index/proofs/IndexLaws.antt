@@ -7,7 +7,7 @@ use Rattle.ledger_state.specs.declared.entry.Owner.TheVariants as owners
 use Rattle.ledger_state.specs.declared.object.Object.{Object}
 use Rattle.ledger_state.specs.Contents.{HeapContents}
 use Rattle.ledger_state.specs.Heaps.{change_each, change_one, has_number, linked_by, next_number, object_at, only_at, with_objects}
-use Rattle.ledger_obligations.specs.Obligations.{end_frame, given_up, given_up_by_frame, is_frame, is_held_by, is_unmet, with_owner}
+use Rattle.frame_owners.specs.Obligations.{end_frame, given_up, given_up_by_frame, is_frame, is_held_by, is_unmet, with_owner}
 use Rattle.frame_owners.specs.FrameOwners.{HasAll, list_at, lists_in}
 use Rattle.frame_owners.proofs.ListLaws.{object_within}
 use Rattle.frame_owners.proofs.ReleaseLaws.{before_each}

@@ -1,1 +1,2 @@
 pub mod ObjectIndexes
+pub use Rattle.frame_owners.specs.FrameOwners

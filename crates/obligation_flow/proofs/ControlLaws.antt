@@ -6,8 +6,8 @@ use Rattle.java_control.specs.Remaining.{Todo}
 use Rattle.java_cfg.specs.Graphs.{IsGraphOf}
 use Rattle.java_cfg.specs.declared.arc.Arc.{Arc}
 use Rattle.flow_rules.specs.Paths.{relation_of}
-use Rattle.body_origins.specs.Nodes.{relation_in}
-use Rattle.graph_relation.proofs.FaultLaws.{control_faulty, node_faulty}
+use Rattle.obligation_paths.specs.Nodes.{relation_in}
+use Rattle.body_walk.proofs.FaultLaws.{control_faulty, node_faulty}
 use Rattle.fault_order.specs.declared.fault.FaultAt.{FaultAt}
 use Rattle.obligation_flow.specs.Faults.{AreFaultsOf}
 

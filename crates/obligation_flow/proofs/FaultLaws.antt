@@ -14,10 +14,10 @@ use Rattle.java_cfg.specs.declared.arc.Arc.{Arc}
 use Rattle.java_control.specs.declared.fact.Fact.{Fact}
 use Rattle.java_control.specs.declared.fact.Origin.{Origin}
 use Rattle.java_control.specs.declared.fact.Rule.{Rule}
-use Rattle.obligation_facts.specs.Facts.{Names}
+use Rattle.flow_rules.specs.Facts.{Names}
 use Rattle.flow_rules.specs.Paths.{Faulty}
 use Rattle.reached_pairs.specs.declared.visit.Visit.{Visit}
-use Rattle.body_origins.specs.Nodes.{relation_in}
+use Rattle.obligation_paths.specs.Nodes.{relation_in}
 use Rattle.body_faults.specs.Breaches.{AreBreaches, IsFirstBreach}
 use Rattle.body_faults.specs.Broken.{same_breach}
 use Rattle.body_faults.specs.declared.breach.Breach.{Breach}

@@ -11,9 +11,9 @@ use Rattle.java_cfg.proofs.ListLemmas.{once_length}
 use Rattle.java_control.specs.declared.fact.Fact.{Fact}
 use Rattle.java_control.specs.declared.fact.Origin.{Origin}
 use Rattle.flow_rules.specs.Numbering.{numbered}
-use Rattle.body_origins.specs.Nodes.{relation_in}
-use Rattle.body_origins.specs.Origins.{origins_of}
-use Rattle.body_origins.specs.Pairs.{IsReachedPair, Pair, ReachesMorePairs, most_pairs}
+use Rattle.obligation_paths.specs.Nodes.{relation_in}
+use Rattle.obligation_paths.specs.Origins.{origins_of}
+use Rattle.reached_facts.specs.Pairs.{IsReachedPair, Pair, ReachesMorePairs, most_pairs}
 use Rattle.reached_facts.specs.Reading.{AreReachedPairs}
 use Rattle.body_faults.proofs.ListedLaws.{reach_listed}
 use Rattle.obligation_paths.proofs.BirthLaws.{fact_same, reach_unnumbered}

@@ -10,7 +10,7 @@ use Rattle.java_control.specs.declared.fact.Origin.{Origin}
 use Rattle.java_cfg.specs.Graphs.{IsGraphOf}
 use Rattle.java_cfg.specs.declared.arc.Arc.{Arc}
 use Rattle.flow_rules.specs.declared.path_step.PathStep.{PathStep}
-use Rattle.body_origins.specs.Nodes.{relation_in}
+use Rattle.obligation_paths.specs.Nodes.{relation_in}
 use Rattle.body_faults.specs.Breaches.{IsFirstBreach}
 use Rattle.body_faults.specs.declared.breach.Breach.{Breach}
 use Rattle.fault_order.specs.declared.fault.FaultAt.{FaultAt}

@@ -9,7 +9,7 @@ use Rattle.program_model.specs.declared.program.Program.{Program}
 use Rattle.breadth_first.specs.Searches.{IsAt, Stands}
 use Rattle.java_control.specs.declared.fact.Origin.{Origin}
 use Rattle.java_control.specs.declared.fact.Rule.{Rule}
-use Rattle.obligation_facts.specs.Facts.{Names}
+use Rattle.flow_rules.specs.Facts.{Names}
 use Rattle.flow_rules.specs.Paths.{Faulty, Relation}
 use Rattle.body_faults.specs.declared.breach.Breach.{Breach}
 use Rattle.body_faults.specs.declared.breach.Breached.{Breached}

@@ -4,13 +4,13 @@ use Rattle.program_model.specs.declared.kinds.BodyId.{BodyId}
 use Rattle.program_model.specs.declared.program.Program.{Program}
 use Rattle.breadth_first.specs.Searches.{IsAt}
 use Rattle.fact_pool.specs.declared.handle.Handle.{Handle}
-use Rattle.fact_search.specs.Searched.{IsSearched}
+use Rattle.reached_facts.specs.Searched.{IsSearched}
 use Rattle.java_cfg.specs.declared.arc.Arc.{Arc}
 use Rattle.java_control.specs.Remaining.{Todo}
 use Rattle.java_control.specs.declared.fact.Fact.{Fact}
 use Rattle.java_control.specs.declared.fact.Origin.{Origin}
 use Rattle.reached_pairs.specs.declared.visit.Visit.{Visit}
-use Rattle.body_origins.specs.Nodes.{relation_in}
+use Rattle.obligation_paths.specs.Nodes.{relation_in}
 use Rattle.reached_facts.specs.Steps.{Begins, IsReady, Leads}
 use Rattle.body_faults.specs.Breaches.{IsFirstBreach}
 use Rattle.fault_order.specs.declared.fault.FaultAt.{FaultAt}

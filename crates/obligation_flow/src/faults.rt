@@ -4,9 +4,9 @@ ghost use Rattle.std.specs.Prelude.{◌≡◌, ◌<◌, ℕ, length, map, IfOk, 
 ghost use Rattle.std.specs.List.Sorted.{IsNonDecreasingBy, IsPermutation};
 ghost use Rattle.breadth_first.specs.Searches.{IsAt};
 ghost use Rattle.fact_pool.specs.Regions.{list_of};
-ghost use Rattle.fact_search.specs.Searched.{IsSearched};
+ghost use Rattle.reached_facts.specs.Searched.{IsSearched};
 ghost use Rattle.java_cfg.specs.Contents.{arcs_of, nodes_of};
-ghost use Rattle.body_origins.specs.Origins.{origins_of};
+ghost use Rattle.obligation_paths.specs.Origins.{origins_of};
 ghost use Rattle.reached_facts.specs.Steps.{Begins, IsReady, Leads};
 ghost use Rattle.body_faults.specs.declared.breach.Breach.{Breach as DeclaredBreach};
 ghost use Rattle.body_faults.specs.declared.breach.Breached.{Breached as DeclaredBreached};

@@ -36,11 +36,11 @@ use Rattle.java_control.specs.declared.fact.OriginKind.TheVariants as kinds
 use Rattle.java_control.specs.declared.fact.Outcome.TheVariants.{Next}
 use Rattle.java_control.specs.declared.place.Place.{Place}
 use Rattle.java_control.specs.declared.place.Place.TheVariants as places
-use Rattle.must_call_sets.specs.MustCallSets.{Names, is_heavy_class, no_names}
-use Rattle.must_call_sets.specs.Signatures.{field_type, is_present}
-use Rattle.must_call_sets.specs.Bodies.{fields_of, has_field_place}
-use Rattle.ownership_rules.specs.MovesAtReturns.{result_in}
-use Rattle.ownership_rules.specs.Births.{Birth, birth_on, birth_on_go, births_at_entry, births_of_step, born, born_in, class_of, constant_birth, entry_births_in, entry_births_of, fact_at, field_birth, field_birth_place, field_births, has_this, held_births, new_birth, origin_of, owning_field_birth, parameter_birth, parameter_births, parameter_mode, read_birth, reset_births, result_birth, result_fact, this_birth, this_mode}
+use Rattle.flow_rules.specs.MustCallSets.{Names, is_heavy_class, no_names}
+use Rattle.flow_rules.specs.Signatures.{field_type, is_present}
+use Rattle.flow_rules.specs.Bodies.{fields_of, has_field_place}
+use Rattle.flow_rules.specs.MovesAtReturns.{result_in}
+use Rattle.flow_rules.specs.Births.{Birth, birth_on, birth_on_go, births_at_entry, births_of_step, born, born_in, class_of, constant_birth, entry_births_in, entry_births_of, fact_at, field_birth, field_birth_place, field_births, has_this, held_births, new_birth, origin_of, owning_field_birth, parameter_birth, parameter_births, parameter_mode, read_birth, reset_births, result_birth, result_fact, this_birth, this_mode}
 use Rattle.flow_rules.specs.Flow.{flow}
 use Rattle.flow_rules.specs.Numbering.{numbered, numbered_outcome}
 use Rattle.flow_rules.specs.Paths.{IsPath, Reach, Relation, Taken, start, on, entered, born as born_on, flowed}

@@ -6,15 +6,15 @@ use Rattle.program_model.specs.declared.program.Program.{Program}
 use Rattle.breadth_first.specs.Searches.{IsAt, IsChain}
 use Rattle.breadth_first.proofs.ListLaws.{at_map, at_same, length_mapped, map_append}
 use Rattle.fact_pool.specs.declared.handle.Handle.{Handle}
-use Rattle.fact_search.specs.Searched.{IsSearched}
-use Rattle.fact_search.proofs.SearchedLaws.{searched_all}
+use Rattle.reached_facts.specs.Searched.{IsSearched}
+use Rattle.reached_facts.proofs.SearchedLaws.{searched_all}
 use Rattle.java_cfg.specs.declared.arc.Arc.{Arc}
 use Rattle.java_control.specs.declared.fact.Fact.{Fact}
 use Rattle.java_control.specs.declared.fact.Origin.{Origin}
 use Rattle.java_control.specs.declared.fact.Outcome.{Outcome}
 use Rattle.java_control.specs.declared.fact.Outcome.TheVariants.{Next, Gone, Fault}
 use Rattle.java_control.specs.declared.fact.Rule.{Rule}
-use Rattle.obligation_facts.specs.Facts.{Names}
+use Rattle.flow_rules.specs.Facts.{Names}
 use Rattle.flow_rules.specs.Flow.{flow}
 use Rattle.flow_rules.specs.Numbering.{numbered, numbered_outcome}
 use Rattle.flow_rules.specs.Paths.{IsPath, Taken, taken}
@@ -23,7 +23,7 @@ use Rattle.flow_rules.proofs.NumberingLaws.{flow-numbered}
 use Rattle.reached_pairs.specs.Visited.{fact_in, known_in, sources_in}
 use Rattle.reached_pairs.specs.declared.visit.Source.{Source as Step}
 use Rattle.reached_pairs.specs.declared.visit.Visit.{Visit}
-use Rattle.body_origins.specs.Nodes.{arcs_at, move_of, relation_in}
+use Rattle.graph_relation.specs.Nodes.{arcs_at, move_of, relation_in}
 use Rattle.reached_facts.specs.Steps.{Begins, Leads}
 use Rattle.shortest_paths.specs.Telling.{IsShortestPath, IsToldStep, step_from, told}
 use Rattle.shortest_paths.proofs.TellingLaws.{length_push}

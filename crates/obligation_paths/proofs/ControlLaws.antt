@@ -15,13 +15,13 @@ use Rattle.java_cfg.specs.declared.arc.Arc.{Arc}
 use Rattle.java_control.specs.declared.fact.Fact.{Fact}
 use Rattle.java_control.specs.declared.fact.Origin.{Origin}
 use Rattle.java_control.specs.declared.fact.Rule.{Rule}
-use Rattle.obligation_facts.specs.Facts.{Names}
-use Rattle.ownership_rules.specs.Births.{births_of_step}
+use Rattle.flow_rules.specs.Facts.{Names}
+use Rattle.flow_rules.specs.Births.{births_of_step}
 use Rattle.flow_rules.specs.Flow.{flow}
 use Rattle.flow_rules.specs.Paths.{IsPath, Move, Taken, relation_of, taken, start, on, entered, born, flowed}
 use Rattle.flow_rules.specs.Paths.{move_of as control_move}
 use Rattle.flow_rules.specs.declared.path_step.PathStep.{PathStep}
-use Rattle.body_origins.specs.Nodes.{arcs_at, move_of, relation_in}
+use Rattle.graph_relation.specs.Nodes.{arcs_at, move_of, relation_in}
 use Rattle.graph_relation.proofs.NodeLaws.{arc_of_step, step_of_arc}
 use Rattle.shortest_paths.specs.Telling.{told, told_fact}
 use Rattle.shortest_paths.proofs.TellingLaws.{length_push}

@@ -14,7 +14,7 @@ use Rattle.flow_rules.specs.Flow.{flow}
 use Rattle.flow_rules.specs.Numbering.{numbered, numbered_outcome}
 use Rattle.flow_rules.specs.Paths.{IsPath, Taken, taken, start, on, entered, born, flowed}
 use Rattle.flow_rules.proofs.NumberingLaws.{flow-numbered}
-use Rattle.body_origins.specs.Nodes.{arcs_at, move_of, relation_in}
+use Rattle.graph_relation.specs.Nodes.{arcs_at, move_of, relation_in}
 use Rattle.reached_facts.specs.Steps.{Begins, Leads}
 use Rattle.shortest_paths.proofs.TellingLaws.{length_push}
 

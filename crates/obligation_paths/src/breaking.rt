@@ -4,12 +4,12 @@ ghost use Rattle.std.specs.Prelude.{◌≡◌, ◌<◌, ℕ, length, Some, IfOk}
 ghost use Rattle.breadth_first.specs.Searches.{IsAt};
 ghost use Rattle.fact_pool.specs.Regions.{list_of};
 ghost use Rattle.fact_pool.specs.declared.handle.Handle.{Handle as DeclaredHandle};
-ghost use Rattle.fact_search.specs.Searched.{IsSearched};
+ghost use Rattle.reached_facts.specs.Searched.{IsSearched};
 ghost use Rattle.java_cfg.specs.Contents.{arcs_of, nodes_of};
 ghost use Rattle.java_cfg.specs.declared.arc.Arc.{Arc as DeclaredArc};
 ghost use Rattle.java_control.specs.declared.fact.Origin.{Origin as DeclaredOrigin};
 ghost use Rattle.reached_pairs.specs.Visited.{fact_in};
-ghost use Rattle.body_origins.specs.Nodes.{arcs_at, relation_in};
+ghost use Rattle.graph_relation.specs.Nodes.{arcs_at, relation_in};
 ghost use Rattle.reached_facts.specs.Steps.{Begins, IsReady, Leads};
 ghost use Rattle.shortest_paths.specs.Telling.{step_from};
 ghost use Rattle.body_faults.specs.Breaches.{IsFirstBreach};

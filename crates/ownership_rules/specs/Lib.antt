@@ -4,3 +4,14 @@ pub mod MovesAtReturns
 pub mod Births
 pub mod Picks
 pub mod Room
+pub use Rattle.must_call_sets.specs.AliasCases
+pub use Rattle.must_call_sets.specs.Assigned
+pub use Rattle.must_call_sets.specs.Bodies
+pub use Rattle.obligation_facts.specs.Callees
+pub use Rattle.obligation_facts.specs.Facts
+pub use Rattle.must_call_sets.specs.MustCallSets
+pub use Rattle.must_call_sets.specs.OverrideCases
+pub use Rattle.must_call_sets.specs.Overridings
+pub use Rattle.must_call_sets.specs.Signatures
+pub use Rattle.obligation_facts.specs.SmallActions
+pub use Rattle.must_call_sets.specs.WellFormed

@@ -1,1 +1,2 @@
 pub mod Stores
+pub use Rattle.refusal_order.specs.Refusals

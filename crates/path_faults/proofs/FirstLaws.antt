@@ -7,22 +7,22 @@ use Rattle.program_model.specs.declared.program.Program.{Program}
 use Rattle.breadth_first.specs.Searches.{IsAt, IsChain, IsSearch, Source}
 use Rattle.breadth_first.proofs.ListLaws.{map_at}
 use Rattle.fact_pool.specs.declared.handle.Handle.{Handle}
-use Rattle.fact_search.specs.Searched.{IsSearched}
-use Rattle.fact_search.proofs.SearchedLaws.{searched_all}
+use Rattle.shortest_paths.specs.Searched.{IsSearched}
+use Rattle.shortest_paths.proofs.SearchedLaws.{searched_all}
 use Rattle.java_cfg.specs.declared.arc.Arc.{Arc}
 use Rattle.java_control.specs.declared.fact.Fact.{Fact}
 use Rattle.java_control.specs.declared.fact.Origin.{Origin}
 use Rattle.java_control.specs.declared.fact.Outcome.TheVariants.{Fault}
 use Rattle.java_control.specs.declared.fact.Rule.{Rule}
-use Rattle.obligation_facts.specs.Facts.{Names}
-use Rattle.flow_rules.specs.Flow.{flow}
-use Rattle.flow_rules.specs.Numbering.{numbered, numbered_outcome}
-use Rattle.flow_rules.specs.Paths.{IsPath, Move, Taken}
-use Rattle.flow_rules.proofs.NumberingLaws.{flow-numbered}
+use Rattle.java_cfg.specs.Facts.{Names}
+use Rattle.shortest_paths.specs.Flow.{flow}
+use Rattle.shortest_paths.specs.Numbering.{numbered, numbered_outcome}
+use Rattle.shortest_paths.specs.Paths.{IsPath, Move, Taken}
+use Rattle.shortest_paths.proofs.NumberingLaws.{flow-numbered}
 use Rattle.reached_pairs.specs.Visited.{found_in, known_in, sources_in}
 use Rattle.reached_pairs.specs.declared.visit.Source.{Source as Step}
 use Rattle.reached_pairs.specs.declared.visit.Visit.{Visit}
-use Rattle.body_origins.specs.Nodes.{arcs_at, move_of, relation_in}
+use Rattle.shortest_paths.specs.Nodes.{arcs_at, move_of, relation_in}
 use Rattle.shortest_paths.specs.Steps.{Begins, Leads}
 use Rattle.shortest_paths.proofs.TellingLaws.{path_walk}
 use Rattle.path_faults.specs.Broken.{IsBroken}

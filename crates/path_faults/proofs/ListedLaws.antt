@@ -10,10 +10,10 @@ use Rattle.breadth_first.proofs.ListLaws.{at_behind, at_last, map_at, stands_app
 use Rattle.java_cfg.specs.declared.arc.Arc.{Arc}
 use Rattle.java_control.specs.declared.fact.Fact.{Fact}
 use Rattle.java_control.specs.declared.fact.Origin.{Origin}
-use Rattle.ownership_rules.specs.Births.{Birth, births_at_entry, births_of_step}
-use Rattle.flow_rules.specs.Paths.{Move, Reach, entered, born, flowed}
-use Rattle.body_origins.specs.Nodes.{arcs_at, move_of, relation_in, row_in}
-use Rattle.body_origins.specs.Origins.{arc_births, births_in, origins_in, origins_of, row_births, same_origin}
+use Rattle.shortest_paths.specs.Births.{Birth, births_at_entry, births_of_step}
+use Rattle.shortest_paths.specs.Paths.{Move, Reach, entered, born, flowed}
+use Rattle.shortest_paths.specs.Nodes.{arcs_at, move_of, relation_in, row_in}
+use Rattle.shortest_paths.specs.Origins.{arc_births, births_in, origins_in, origins_of, row_births, same_origin}
 use Rattle.shortest_paths.proofs.FactLaws.{exact_origin}
 use Rattle.shortest_paths.proofs.ListPoints.{stands_flat}
 

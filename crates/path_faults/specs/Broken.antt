@@ -9,11 +9,11 @@ use Rattle.java_control.specs.declared.fact.Fact.{Fact}
 use Rattle.java_control.specs.declared.fact.Origin.{Origin}
 use Rattle.java_control.specs.declared.fact.Outcome.TheVariants.{Fault}
 use Rattle.java_control.specs.declared.fact.Rule.{Rule}
-use Rattle.obligation_facts.specs.Facts.{Names}
-use Rattle.flow_rules.specs.Flow.{flow}
+use Rattle.java_cfg.specs.Facts.{Names}
+use Rattle.shortest_paths.specs.Flow.{flow}
 use Rattle.reached_pairs.specs.Visited.{fact_in}
 use Rattle.reached_pairs.specs.declared.visit.Visit.{Visit}
-use Rattle.body_origins.specs.Nodes.{arcs_at}
+use Rattle.shortest_paths.specs.Nodes.{arcs_at}
 
 -- an arc of the node of the visit breaks the rule for the visit's fact, whose origin has this number; these names are missing
 pub record IsBroken (p : Program) (b : BodyId) (rows : List (List Arc)) (origins : List Origin) (facts : List Fact) (v : Visit) (i : ℕ) (m : ℕ) (rule : Rule) (at : Pos) (names : Names) : Type 0 where

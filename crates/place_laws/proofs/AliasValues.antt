@@ -11,12 +11,12 @@ use Rattle.java_control.specs.declared.place.Place.{Place}
 use Rattle.java_control.specs.declared.place.Place.TheVariants as places
 use Rattle.java_control.specs.PlaceNumbers.{IsSmall}
 use Rattle.java_control.specs.Sources.{emptied, is_temp_among, source}
-use Rattle.obligation_facts.specs.Facts.{PlaceSet}
-use Rattle.alias_sets.specs.Aliases.{alias_operand, gives_alias}
+use Rattle.step_laws.specs.Facts.{PlaceSet}
+use Rattle.step_laws.specs.Aliases.{alias_operand, gives_alias}
 use Rattle.ledger_state.specs.Contents.{HeapContents}
 use Rattle.ledger_state.specs.declared.locals.Locals.{Locals}
 use Rattle.ledger_state.specs.declared.value.Value.{Value}
-use Rattle.ledger_operations.specs.Places.{place_value}
+use Rattle.ledger_frames.specs.Places.{place_value}
 use Rattle.ledger_frames.specs.Choosing.{method_body}
 use Rattle.ledger_frames.specs.Frames.{is_made, locals_after, made_place}
 use Rattle.place_laws.specs.Places.{HasTarget, is_local, takes_alias}

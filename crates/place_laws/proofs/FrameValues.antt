@@ -28,8 +28,8 @@ use Rattle.ledger_state.specs.Values.{value_or_nothing}
 use Rattle.ledger_state.specs.declared.locals.Locals.{Locals}
 use Rattle.ledger_state.specs.declared.value.Value.{Value}
 use Rattle.ledger_state.specs.declared.value.Value.TheVariants as values
-use Rattle.ledger_obligations.specs.Obligations.{holds}
-use Rattle.ledger_operations.specs.Places.{place_value}
+use Rattle.ledger_frames.specs.Obligations.{holds}
+use Rattle.ledger_frames.specs.Places.{place_value}
 use Rattle.ledger_frames.specs.Choosing.{method_body}
 use Rattle.ledger_frames.specs.Frames.{depth_in, depth_of, is_made, locals_after, made_place, sourced, source_by, value_after}
 use Rattle.place_laws.specs.Places.{HasTarget, HasVariable, is_local}

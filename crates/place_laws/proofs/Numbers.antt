@@ -11,7 +11,7 @@ use Rattle.java_control.specs.declared.place.Place.{Place}
 use Rattle.java_control.specs.declared.place.Place.TheVariants as places
 use Rattle.java_control.specs.PlaceNumbers.{IsSmall, number_of}
 use Rattle.java_control.specs.Sources.{is_place}
-use Rattle.obligation_facts.specs.Facts.{PlaceSet, has, is_nowhere}
+use Rattle.step_laws.specs.Facts.{PlaceSet, has, is_nowhere}
 use Rattle.place_laws.specs.Places.{HasPlacesAlone}
 
 -- ---- one number, one place

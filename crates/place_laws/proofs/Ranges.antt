@@ -19,10 +19,10 @@ use Rattle.java_control.specs.Owned.{place_of_field}
 use Rattle.java_control.specs.PlaceNumbers.{IsSmall, number_of}
 use Rattle.java_control.specs.Scopes.{is_dropped}
 use Rattle.java_control.specs.Sources.{emptied, is_null_pointer, is_part, is_place, is_temp, is_temp_among, is_temp_from, is_throws, is_variable, next_depth, source, source_or_itself, temp_of}
-use Rattle.obligation_facts.specs.Facts.{PlaceSet, has, has_temp, with_place, without, without_parts, without_scope, without_temps}
-use Rattle.obligation_facts.specs.SmallActions.{IsSmallAction, IsSmallTemp}
-use Rattle.alias_sets.specs.Aliases.{gives_alias, without_operands, without_reset}
-use Rattle.alias_sets.specs.PlaceRows.{below, entered, copied, dropped, places_after, stored}
+use Rattle.step_laws.specs.Facts.{PlaceSet, has, has_temp, with_place, without, without_parts, without_scope, without_temps}
+use Rattle.step_laws.specs.SmallActions.{IsSmallAction, IsSmallTemp}
+use Rattle.step_laws.specs.Aliases.{gives_alias, without_operands, without_reset}
+use Rattle.step_laws.specs.PlaceRows.{below, entered, copied, dropped, places_after, stored}
 use Rattle.place_laws.specs.Places.{HasPlacesAlone, SetsLocals, is_local}
 use Rattle.place_laws.proofs.SetLaws.{IsWithin, alone_with, alone_within, has_with, parts_within, temps_within, variables_within, without_within}
 

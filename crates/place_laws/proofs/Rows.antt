@@ -19,10 +19,10 @@ use Rattle.java_control.specs.Owned.{place_of_field}
 use Rattle.java_control.specs.PlaceNumbers.{IsSmall}
 use Rattle.java_control.specs.Scopes.{is_dropped}
 use Rattle.java_control.specs.Sources.{emptied, is_null_pointer, is_part, is_place, is_temp, is_temp_among, is_temp_from, is_variable, next_depth, put_source, settle_source, source, source_or_itself, temp_of}
-use Rattle.obligation_facts.specs.Facts.{PlaceSet, has, has_temp, with_place, without, without_parts, without_scope, without_temps}
-use Rattle.obligation_facts.specs.SmallActions.{IsSmallAction, IsSmallScope}
-use Rattle.alias_sets.specs.Aliases.{alias_operand, called_places, gives_alias, without_operands, without_reset}
-use Rattle.alias_sets.specs.PlaceRows.{below, cast, copied, dropped, entered, places_after, settled, stored}
+use Rattle.step_laws.specs.Facts.{PlaceSet, has, has_temp, with_place, without, without_parts, without_scope, without_temps}
+use Rattle.step_laws.specs.SmallActions.{IsSmallAction, IsSmallScope}
+use Rattle.step_laws.specs.Aliases.{alias_operand, called_places, gives_alias, without_operands, without_reset}
+use Rattle.step_laws.specs.PlaceRows.{below, cast, copied, dropped, entered, places_after, settled, stored}
 use Rattle.ledger_frames.specs.Frames.{is_made, made_place}
 use Rattle.place_laws.specs.Places.{IsStoreEdge, IsWay, has_source, is_local, takes_alias}
 use Rattle.place_laws.proofs.SetLaws.{has_copied, has_temps, has_variables, has_with, has_without, parts_aside, variable_aside}

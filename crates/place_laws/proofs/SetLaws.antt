@@ -12,8 +12,8 @@ use Rattle.java_control.specs.declared.place.Place.TheVariants as places
 use Rattle.java_control.specs.PlaceNumbers.{IsSmall, number_of}
 use Rattle.java_control.specs.Scopes.{drops_variable}
 use Rattle.java_control.specs.Sources.{is_place, is_temp_among}
-use Rattle.obligation_facts.specs.Facts.{PlaceSet, has, with_place, without, without_fields, without_fields_from, without_parts, without_temps, without_variables}
-use Rattle.alias_sets.specs.PlaceRows.{copied}
+use Rattle.step_laws.specs.Facts.{PlaceSet, has, with_place, without, without_fields, without_fields_from, without_parts, without_temps, without_variables}
+use Rattle.step_laws.specs.PlaceRows.{copied}
 use Rattle.place_laws.specs.Places.{HasPlacesAlone, is_local}
 use Rattle.place_laws.proofs.Numbers.{number_small, same_number}
 

@@ -1,6 +1,6 @@
 -- Words for the laws on places: which are a frame's own, where a place of a fact comes from, and what a step sets.
-pub use Rattle.ledger_operations.specs.Places.{class_by, class_of_method, owning_field, owning_field_beside, place_value}
-pub use Rattle.ledger_operations.specs.Places.{class_of_method, place_value}
+pub use Rattle.ledger_frames.specs.Places.{class_by, class_of_method, owning_field, owning_field_beside, place_value}
+pub use Rattle.ledger_frames.specs.Places.{class_of_method, place_value}
 use Rattle.std.specs.Prelude.{◌≡◌, ℕ, ◌<◌, Bool, true, false, ◌&&◌, Option, Some, None, length}
 use Rattle.std.specs.FinSet as set
 use Rattle.program_model.specs.declared.program.Program.{Program}
@@ -10,8 +10,8 @@ use Rattle.java_control.specs.declared.action.Edge.{Edge}
 use Rattle.java_control.specs.declared.action.Edge.TheVariants as edges
 use Rattle.java_control.specs.declared.place.Place.{Place}
 use Rattle.java_control.specs.declared.place.Place.TheVariants as places
-use Rattle.obligation_facts.specs.Facts.{PlaceSet, has}
-use Rattle.alias_sets.specs.Aliases.{gives_alias}
+use Rattle.step_laws.specs.Facts.{PlaceSet, has}
+use Rattle.step_laws.specs.Aliases.{gives_alias}
 use Rattle.ledger_state.specs.declared.locals.Locals.{Locals}
 use Rattle.ledger_frames.specs.Frames.{is_made, made_place}
 

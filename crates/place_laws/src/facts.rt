@@ -11,9 +11,9 @@ ghost use Rattle.java_control.specs.declared.action.Edge.{Edge};
 ghost use Rattle.java_control.specs.declared.place.Place.{Place};
 ghost use Rattle.java_control.specs.PlaceNumbers.{IsSmall, number_of};
 ghost use Rattle.java_control.specs.Sources.{is_place, source};
-ghost use Rattle.obligation_facts.specs.Facts.{PlaceSet, has, is_nowhere};
-ghost use Rattle.obligation_facts.specs.SmallActions.{IsSmallAction};
-ghost use Rattle.alias_sets.specs.PlaceRows.{places_after};
+ghost use Rattle.step_laws.specs.Facts.{PlaceSet, has, is_nowhere};
+ghost use Rattle.step_laws.specs.SmallActions.{IsSmallAction};
+ghost use Rattle.step_laws.specs.PlaceRows.{places_after};
 ghost use Rattle.place_laws.specs.Places.{HasPlacesAlone, IsWay, SetsLocals, has_source, is_local, takes_alias};
 
 /// A number of a set of places is that of one place.

@@ -1,2 +1,15 @@
 pub mod Outcomes
 pub mod WellFormedBodies
+pub use Rattle.elaboration_laws.proofs.BodyTables
+pub use Rattle.elaboration_laws.proofs.BodyTyping
+pub use Rattle.elaboration_laws.proofs.FieldOrders
+pub use Rattle.elaboration_laws.proofs.FinalString
+pub use Rattle.elaboration_laws.proofs.Goodness
+pub use Rattle.elaboration_laws.proofs.ParameterTyping
+pub use Rattle.elaboration_laws.proofs.PlainStatements
+pub use Rattle.elaboration_laws.proofs.Stands
+pub use Rattle.elaboration_laws.proofs.StatementTyping
+pub use Rattle.elaboration_laws.proofs.StringClass
+pub use Rattle.elaboration_laws.proofs.SuperCallTyping
+pub use Rattle.elaboration_laws.proofs.TableNames
+pub use Rattle.elaboration_laws.proofs.Values

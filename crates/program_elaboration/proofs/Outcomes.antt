@@ -8,11 +8,11 @@ use Rattle.program_model.specs.declared.program.Program.{Program}
 use Rattle.program_model.specs.Validity.{HasBodies, IsValid}
 use Rattle.refusal_order.specs.Refusals.{least, lesser_of}
 use Rattle.method_bodies.specs.MethodBodies.{body_cases}
-use Rattle.elaborated_typing.specs.ProgramCases.{program_cases, typed_program}
+use Rattle.java_elaboration.specs.ProgramCases.{program_cases, typed_program}
 use Rattle.java_elaboration.specs.Elaborations.{IsProgramOf}
 use Rattle.java_elaboration.specs.Elaborations as bodies
-use Rattle.elaborated_typing.proofs.BuiltStrings.{elaborated_valid}
-use Rattle.elaborated_typing.proofs.MethodsWithBodies.{has_bodies}
+use Rattle.elaboration_laws.proofs.BuiltStrings.{elaborated_valid}
+use Rattle.elaboration_laws.proofs.MethodsWithBodies.{has_bodies}
 use Rattle.program_elaboration.specs.Elaborations.{IsElaborationStop}
 use Rattle.program_elaboration.specs.Tables.{IsTableOf}
 

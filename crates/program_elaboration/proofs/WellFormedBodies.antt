@@ -3,13 +3,13 @@ use Rattle.std.proofs.Common.{List, [], ◌∷◌, All}
 use Rattle.std.proofs.lemmas.List.Elements.{All-cons, All-nil}
 use Rattle.java_syntax.specs.declared.declaration_trees.Unit as tree
 use Rattle.program_model.specs.declared.program.Program.{Program}
-use Rattle.body_laws.specs.CatchParameters.{HasCatchTypes}
-use Rattle.body_laws.proofs.LeastClasses.{valid_has_catch_types}
-use Rattle.source_classes.specs.Members.{Environment}
-use Rattle.source_classes.specs.SourceClasses.{source_classes}
-use Rattle.elaborated_typing.specs.Bodies.{SourceBody, all_bodies}
-use Rattle.body_laws.proofs.BodyLaws.{body_well}
-use Rattle.elaborated_typing.specs.ProgramCases.{environment_of}
+use Rattle.elaboration_laws.specs.CatchParameters.{HasCatchTypes}
+use Rattle.elaboration_laws.proofs.LeastClasses.{valid_has_catch_types}
+use Rattle.java_elaboration.specs.SourceClassesMembers.{Environment}
+use Rattle.java_elaboration.specs.SourceClasses.{source_classes}
+use Rattle.java_elaboration.specs.Bodies.{SourceBody, all_bodies}
+use Rattle.elaboration_laws.proofs.BodyLaws.{body_well}
+use Rattle.java_elaboration.specs.ProgramCases.{environment_of}
 use Rattle.java_elaboration.specs.Elaborations.{AreWellFormedUnlessRefused, IsWellFormedUnlessRefused}
 use Rattle.program_elaboration.specs.Tables.{IsTableOf}
 

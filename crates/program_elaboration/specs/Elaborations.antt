@@ -7,7 +7,7 @@ use Rattle.java_syntax.specs.declared.declaration_trees.Unit as tree
 use Rattle.program_model.specs.declared.program.Program.{Program}
 use Rattle.refusal_order.specs.Refusals.{least}
 use Rattle.method_bodies.specs.MethodBodies.{body_cases}
-use Rattle.elaborated_typing.specs.ProgramCases.{program_cases}
+use Rattle.java_elaboration.specs.ProgramCases.{program_cases}
 pub use Rattle.java_elaboration.specs.Elaborations.{IsProgramOf}
 
 -- the least refusal of methods whose body is missing or stands where none may, and else that of the program's members and bodies

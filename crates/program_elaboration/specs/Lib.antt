@@ -1,2 +1,26 @@
 pub mod Elaborations
 pub mod Tables
+pub use Rattle.java_elaboration.specs.Bodies
+pub use Rattle.elaboration_laws.specs.BodiesOfTables
+pub use Rattle.elaboration_laws.specs.BodyVariables
+pub use Rattle.java_elaboration.specs.Declarations
+pub use Rattle.elaboration_laws.specs.ElaboratedBodies
+pub use Rattle.elaboration_laws.specs.FieldInitializers
+pub use Rattle.java_elaboration.specs.Elaborations as JavaElaborationElaborations
+pub use Rattle.method_bodies.specs.MethodBodies
+pub use Rattle.elaboration_laws.specs.OrderedTrees
+pub use Rattle.elaboration_laws.specs.Parameters
+pub use Rattle.java_elaboration.specs.ProgramBodies
+pub use Rattle.java_elaboration.specs.ProgramCases
+pub use Rattle.elaboration_laws.specs.Scopes
+pub use Rattle.java_elaboration.specs.SourceClasses
+pub use Rattle.java_elaboration.specs.SourceClassesMembers
+pub use Rattle.elaboration_laws.specs.StatementCases
+pub use Rattle.elaboration_laws.specs.StatementTrees
+pub use Rattle.elaboration_laws.specs.StringTables
+pub use Rattle.elaboration_laws.specs.SuperCalls
+pub use Rattle.elaboration_laws.specs.Surroundings
+pub use Rattle.java_elaboration.specs.TypedBodies
+pub use Rattle.elaboration_laws.specs.TypedStatements
+pub use Rattle.elaboration_laws.specs.TypedTrees
+pub use Rattle.elaboration_laws.specs.TypingContexts

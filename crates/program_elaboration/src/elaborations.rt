@@ -3,7 +3,7 @@
 ghost use Rattle.std.specs.Prelude.{◌≡◌, [], IfErr, IfOk, OnOk};
 ghost use Rattle.program_model.specs.Validity.{HasBodies, IsValid};
 ghost use Rattle.method_bodies.specs.MethodBodies.{body_cases};
-ghost use Rattle.elaborated_typing.specs.ProgramCases.{program_cases, typed_program};
+ghost use Rattle.java_elaboration.specs.ProgramCases.{program_cases, typed_program};
 ghost use Rattle.java_elaboration.specs.Elaborations.{IsProgramOf};
 ghost use Rattle.program_elaboration.specs.Elaborations.{IsElaborationStop};
 ghost use Rattle.program_elaboration.specs.Tables.{IsTableOf};

@@ -12,8 +12,8 @@ use Rattle.java_cfg.specs.Limits.{HasTooManyPlaces, IsCause, PassesLimit, Reache
 use Rattle.java_cfg.specs.declared.arc.Arc.{Arc}
 use Rattle.java_control.specs.Remaining.{Todo}
 use Rattle.flow_rules.specs.Paths.{relation_of}
-use Rattle.body_origins.specs.Nodes.{relation_in}
-use Rattle.body_origins.specs.Pairs.{IsPairsCause, ReachesMorePairs, most_pairs}
+use Rattle.graph_limits.specs.Nodes.{relation_in}
+use Rattle.graph_limits.specs.Pairs.{IsPairsCause, ReachesMorePairs, most_pairs}
 use Rattle.fault_order.specs.declared.fault.FaultAt.{FaultAt}
 use Rattle.graph_limits.proofs.PairLaws.{node_pairs, same_cause}
 use Rattle.obligation_flow.specs.Faults.{AreFaultsOf}

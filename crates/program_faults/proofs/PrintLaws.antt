@@ -7,7 +7,7 @@ use Rattle.program_model.specs.declared.kinds.BodyId.{BodyId}
 use Rattle.program_model.specs.declared.program.Program.{Program}
 use Rattle.breadth_first.specs.Searches.{IsAt}
 use Rattle.breadth_first.proofs.ListLaws.{append_none, at_same}
-use Rattle.body_origins.proofs.OriginLaws.{take_next}
+use Rattle.obligation_flow.proofs.OriginLaws.{take_next}
 use Rattle.java_cfg.proofs.ListLemmas.{zip_weaker}
 use Rattle.java_control.specs.Remaining.{Todo}
 use Rattle.fault_order.specs.declared.fault.FaultAt.{FaultAt}

@@ -11,7 +11,7 @@ use Rattle.java_control.specs.Remaining.{Todo}
 use Rattle.java_cfg.specs.Limits.{PassesLimit, method_place, refusal}
 use Rattle.flow_rules.specs.Paths.{Taken, relation_of}
 use Rattle.flow_rules.specs.declared.path_step.PathStep.{PathStep}
-use Rattle.body_origins.specs.Pairs.{ReachesMorePairs, most_pairs}
+use Rattle.graph_limits.specs.Pairs.{ReachesMorePairs, most_pairs}
 use Rattle.fault_order.specs.declared.fault.FaultAt.{FaultAt}
 use Rattle.obligation_flow.specs.Paths.{IsShortestPathTo}
 use Rattle.obligation_flow.specs.Faults.{AreFaultsOf}

@@ -11,7 +11,7 @@ use Rattle.program_model.specs.declared.program.Program.{Program}
 use Rattle.breadth_first.specs.Searches.{IsAt}
 use Rattle.java_control.specs.declared.fact.Origin.{Origin}
 use Rattle.java_control.specs.declared.fact.Rule.{Rule}
-use Rattle.obligation_facts.specs.Facts.{Names}
+use Rattle.flow_rules.specs.Facts.{Names}
 use Rattle.flow_rules.specs.Paths.{Faulty, relation_of}
 use Rattle.fault_order.specs.declared.fault.FaultAt.{FaultAt}
 use Rattle.leak_report.specs.declared.report.Report.{Report}

@@ -11,7 +11,7 @@ ghost use Rattle.graph_limits.specs.ListedFields.{HasListedFields};
 ghost use Rattle.java_cfg.specs.Contents.{arcs_of, nodes_of};
 ghost use Rattle.java_cfg.specs.Graphs.{IsGraphOf};
 ghost use Rattle.java_cfg.specs.Limits.{HasTooManyPlaces, PassesLimit, refusal};
-ghost use Rattle.must_call_sets.specs.WellFormed.{HasSmallInterests};
+ghost use Rattle.flow_rules.specs.WellFormed.{HasSmallInterests};
 ghost use Rattle.obligation_flow.specs.Traces.{IsTraceOf, faults_of};
 ghost use Rattle.program_faults.specs.BodyReports.{AppendsReports, IsBodyStop, IsReportOf, PrintReports, most_faults};
 

@@ -1,7 +1,7 @@
 //! The faults of a program.
 
 ghost use Rattle.std.specs.Prelude.{◌≡◌, ◌<◌, IfErr, IfOk};
-ghost use Rattle.must_call_sets.specs.WellFormed.{HasSmallInterests};
+ghost use Rattle.flow_rules.specs.WellFormed.{HasSmallInterests};
 ghost use Rattle.graph_limits.specs.ListedFields.{HasListedFields};
 ghost use Rattle.program_faults.specs.ProgramReports.{IsFaultCount, IsFaultStop, IsFaulty, IsReportText};
 

@@ -11,13 +11,13 @@ use Rattle.program_model.specs.declared.program.Field.{Field}
 use Rattle.program_model.specs.declared.program.Method.{Method}
 use Rattle.program_model.specs.declared.program.Program.{Program}
 use Rattle.program_model.specs.declared.program.RawAnno.{RawAnno}
-use Rattle.effective_signatures.specs.Effective.{is_plain, number_in, signed_parameter}
-use Rattle.effective_signatures.specs.SignedMethods.{IsSignedMethod}
-use Rattle.must_call_sets.specs.WellFormed.{HasSmallInterests}
+use Rattle.must_call_types.specs.Effective.{is_plain, number_in, signed_parameter}
+use Rattle.must_call_types.specs.SignedMethods.{IsSignedMethod}
+use Rattle.must_call_types.specs.WellFormed.{HasSmallInterests}
 use Rattle.must_call_types.specs.NameTable.{past_limit, with_names}
 use Rattle.must_call_types.specs.Signed.{IsSigned}
 use Rattle.must_call_types.proofs.SignedTables.{before}
-use Rattle.table_members.specs.Methods.{HasFewParameters}
+use Rattle.class_table.specs.Methods.{HasFewParameters}
 
 -- ---- tables
 

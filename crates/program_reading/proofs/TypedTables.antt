@@ -6,11 +6,11 @@ use Rattle.java_syntax.specs.declared.settings.Settings.{Settings}
 use Rattle.program_model.specs.declared.program.Method.{Method}
 use Rattle.program_model.specs.declared.program.Program.{Program}
 use Rattle.program_model.specs.declared.tree.Body.{Body}
-use Rattle.program_bodies.specs.ProgramBodies.{HasBodies, methods_from}
-use Rattle.table_members.specs.Methods.{HasFewParameters}
-use Rattle.method_bodies.specs.MethodBodies.{body_cases}
+use Rattle.program_elaboration.specs.ProgramBodies.{HasBodies, methods_from}
+use Rattle.class_table.specs.Methods.{HasFewParameters}
+use Rattle.program_elaboration.specs.MethodBodies.{body_cases}
 use Rattle.class_table.specs.Passes.{IsBuilt, classes_of}
-use Rattle.java_types.specs.ProgramCases.{program_cases, typed_program}
+use Rattle.program_elaboration.specs.ProgramCases.{program_cases, typed_program}
 use Rattle.program_elaboration.specs.Elaborations.{IsProgramOf}
 use Rattle.program_reading.specs.TypedPrograms.{IsTyped}
 

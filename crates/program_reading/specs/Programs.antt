@@ -4,7 +4,7 @@ use Rattle.rlc_base.specs.declared.faults.Stop.{Stop}
 use Rattle.java_syntax.specs.declared.declaration_trees.Unit as tree
 use Rattle.java_syntax.specs.declared.settings.Settings.{Settings}
 use Rattle.program_model.specs.declared.program.Program.{Program}
-use Rattle.must_call_sets.specs.WellFormed.{IsWellFormed}
+use Rattle.must_call_types.specs.WellFormed.{IsWellFormed}
 use Rattle.signature_rules.specs.RulePasses.{HasNoRuleCase}
 use Rattle.program_reading.specs.Fronts.{IsFilesStop, IsFront}
 use Rattle.program_reading.specs.SignedPrograms.{IsAnnotated, IsSigningStop}

@@ -7,7 +7,7 @@ use Rattle.program_model.specs.declared.program.Field.{Field}
 use Rattle.program_model.specs.declared.program.Program.{Program}
 use Rattle.program_model.specs.Lookups.{field_at}
 use Rattle.program_model.specs.Validity.{IsListedField}
-use Rattle.annotation_rules.specs.AnnotationCases.{annotation_cases}
+use Rattle.must_call_types.specs.AnnotationCases.{annotation_cases}
 use Rattle.must_call_types.specs.Signed.{IsSignatureStop, IsSigned}
 use Rattle.signature_rules.specs.RulePasses.{rule_refusal}
 

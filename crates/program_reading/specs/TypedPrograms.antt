@@ -5,8 +5,8 @@ use Rattle.java_syntax.specs.declared.declaration_trees.Unit as tree
 use Rattle.java_syntax.specs.declared.settings.Settings.{Settings}
 use Rattle.program_model.specs.declared.program.Program.{Program}
 use Rattle.class_table.specs.Passes.{IsBuilt, IsTableStop, classes_of}
-use Rattle.method_bodies.specs.MethodBodies.{body_cases}
-use Rattle.java_types.specs.ProgramCases.{program_cases, typed_program}
+use Rattle.program_elaboration.specs.MethodBodies.{body_cases}
+use Rattle.program_elaboration.specs.ProgramCases.{program_cases, typed_program}
 use Rattle.program_elaboration.specs.Elaborations.{IsProgramOf}
 use Rattle.program_elaboration.specs.Elaborations.{IsElaborationStop}
 

@@ -1,8 +1,8 @@
 //! The program that the files of a command make.
 
 ghost use Rattle.std.specs.Prelude.{◌-◌, ◌<◌, ◌^◌, All, IfErr, IfOk, length, map};
-ghost use Rattle.must_call_sets.specs.WellFormed.{HasSmallInterests};
-ghost use Rattle.table_members.specs.Methods.{HasFewParameters};
+ghost use Rattle.must_call_types.specs.WellFormed.{HasSmallInterests};
+ghost use Rattle.class_table.specs.Methods.{HasFewParameters};
 ghost use Rattle.program_reading.specs.Programs.{IsProgram, IsProgramStop};
 ghost use Rattle.program_reading.specs.SignedPrograms.{HasListedFields};
 

@@ -2,8 +2,8 @@
 
 ghost use Rattle.std.specs.Prelude.{All, IfErr, IfOk, OnOk};
 ghost use Rattle.program_model.specs.Validity.{HasBodies, IsNumbered, IsValid};
-ghost use Rattle.must_call_sets.specs.WellFormed.{HasSmallInterests, IsWellFormed};
-ghost use Rattle.table_members.specs.Methods.{HasFewParameters};
+ghost use Rattle.must_call_types.specs.WellFormed.{HasSmallInterests, IsWellFormed};
+ghost use Rattle.class_table.specs.Methods.{HasFewParameters};
 ghost use Rattle.signature_rules.specs.RulePasses.{HasNoRuleCase};
 ghost use Rattle.program_reading.specs.SignedPrograms.{IsAnnotated, IsRuleStop, IsSigningStop};
 

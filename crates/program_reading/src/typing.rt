@@ -2,7 +2,7 @@
 
 ghost use Rattle.std.specs.Prelude.{All, IfErr, IfOk};
 ghost use Rattle.program_model.specs.Validity.{HasBodies, IsValid};
-ghost use Rattle.table_members.specs.Methods.{HasFewParameters};
+ghost use Rattle.class_table.specs.Methods.{HasFewParameters};
 ghost use Rattle.program_reading.specs.TypedPrograms.{IsTyped, IsTypingStop};
 
 use class_table::build_table;

@@ -9,7 +9,7 @@ use Rattle.java_cfg.specs.declared.arc.Arc.{Arc}
 use Rattle.java_control.specs.Remaining.{Todo}
 use Rattle.java_control.specs.declared.fact.Fact.{Fact}
 use Rattle.java_control.specs.declared.fact.Origin.{Origin}
-use Rattle.body_origins.specs.Nodes.{relation_in}
+use Rattle.graph_relation.specs.Nodes.{relation_in}
 use Rattle.graph_relation.proofs.FaultLaws.{control_reach, node_reach}
 use Rattle.reached_facts.specs.Reading.{AreReachedPairs}
 use Rattle.reached_controls.specs.Reached.{AreReachedControls}

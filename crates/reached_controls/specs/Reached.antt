@@ -7,8 +7,8 @@ use Rattle.fact_pool.specs.declared.handle.Handle.{Handle}
 use Rattle.java_control.specs.Remaining.{Todo}
 use Rattle.java_control.specs.declared.fact.Fact.{Fact}
 use Rattle.java_control.specs.declared.fact.Origin.{Origin}
-use Rattle.flow_rules.specs.Numbering.{numbered}
-use Rattle.flow_rules.specs.Paths.{Reach, relation_of}
+use Rattle.reached_facts.specs.Numbering.{numbered}
+use Rattle.graph_relation.specs.Paths.{Reach, relation_of}
 
 -- a path reaches the control with the fact, but for the number of its origin in the list
 abbrev pub IsReachedAt : Program → BodyId → List Origin → List Todo → Fact → Type 0

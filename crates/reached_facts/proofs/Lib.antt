@@ -4,3 +4,4 @@ pub mod PathLaws
 pub mod PointLaws
 pub mod ReachedLaws
 pub use Rattle.body_origins.proofs.OriginLaws
+pub use Rattle.fact_search.proofs.SearchedLaws

@@ -5,8 +5,8 @@ use Rattle.std.specs.List.{flat_map, position_or_len}
 use Rattle.std.proofs.lemmas.List.Quantifiers.{position-Some}
 use Rattle.std.proofs.lemmas.List.Sums.{position_or_len_is}
 use Rattle.std.proofs.lemmas.Option.{get_or_from_slice_get, slice_get-get_or, slice_get_within}
-use Rattle.breadth_first.specs.Searches.{IsAt, Stands}
-use Rattle.breadth_first.proofs.ListLaws.{append_none, at_behind, stands_append, stands_split}
+use Rattle.reached_pairs.specs.Searches.{IsAt, Stands}
+use Rattle.reached_pairs.proofs.ListLaws.{append_none, at_behind, stands_append, stands_split}
 use Rattle.reached_facts.specs.Points.{flat_from}
 
 behind : {X : Type 0} (xs ys : List X) (y : X) → Stands ys y → Stands (xs ++ ys) y

@@ -5,9 +5,9 @@ use Rattle.rlc_base.specs.declared.faults.Stop.TheVariants as stops
 use Rattle.rlc_base.specs.declared.place.Pos.{Pos}
 use Rattle.program_model.specs.declared.kinds.BodyId.{BodyId}
 use Rattle.program_model.specs.declared.program.Program.{Program}
-use Rattle.breadth_first.specs.Searches.{AreOnce, IsAt}
-use Rattle.breadth_first.specs.Walks.{IsWalk}
-use Rattle.breadth_first.proofs.ListLaws.{at_map, at_same}
+use Rattle.reached_pairs.specs.Searches.{AreOnce, IsAt}
+use Rattle.fact_search.specs.Walks.{IsWalk}
+use Rattle.reached_pairs.proofs.ListLaws.{at_map, at_same}
 use Rattle.fact_search.specs.Searched.{IsSearchCause, ReachMany}
 use Rattle.java_cfg.specs.declared.arc.Arc.{Arc}
 use Rattle.java_control.specs.declared.fact.Fact.{Fact}

@@ -3,16 +3,16 @@ use Rattle.std.proofs.Common.{◌≡◌, ◌∙◌, sym, ap, refl, subst, ℕ, z
 use Rattle.std.specs.Prelude.{position}
 use Rattle.program_model.specs.declared.kinds.BodyId.{BodyId}
 use Rattle.program_model.specs.declared.program.Program.{Program}
-use Rattle.breadth_first.specs.Searches.{AreOnce, IsAt, Source, Stands}
-use Rattle.breadth_first.specs.Turns.{AreStarts, AreSteps}
-use Rattle.breadth_first.proofs.ListLaws.{at_same, map_at, stands_map}
+use Rattle.reached_pairs.specs.Searches.{AreOnce, IsAt, Source, Stands}
+use Rattle.fact_search.specs.Turns.{AreStarts, AreSteps}
+use Rattle.reached_pairs.proofs.ListLaws.{at_same, map_at, stands_map}
 use Rattle.java_cfg.specs.declared.arc.Arc.{Arc}
 use Rattle.java_control.specs.declared.fact.Fact.{Fact}
 use Rattle.java_control.specs.declared.fact.Origin.{Origin}
 use Rattle.java_control.specs.declared.fact.Outcome.{Outcome}
 use Rattle.java_control.specs.declared.fact.Outcome.TheVariants.{Next, Gone, Fault}
 use Rattle.java_control.specs.contracts.fact.OriginEq.TheImpl.Laws as origin_laws
-use Rattle.ownership_rules.specs.Births.{Birth, births_at_entry}
+use Rattle.body_origins.specs.Births.{Birth, births_at_entry}
 use Rattle.body_origins.specs.Flow.{flow}
 use Rattle.body_origins.specs.Numbering.{numbered}
 use Rattle.reached_pairs.specs.Additions.{point_of, points_in}

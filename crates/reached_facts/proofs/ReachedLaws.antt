@@ -3,9 +3,9 @@ use Rattle.std.proofs.Common.{◌≡◌, ◌∙◌, sym, ap, refl, subst, ℕ, z
 use Rattle.std.specs.Prelude.{map, slice_get}
 use Rattle.program_model.specs.declared.kinds.BodyId.{BodyId}
 use Rattle.program_model.specs.declared.program.Program.{Program}
-use Rattle.breadth_first.specs.Searches.{AreOnce, IsAt, Stands}
-use Rattle.breadth_first.specs.Walks.{IsWalk}
-use Rattle.breadth_first.proofs.ListLaws.{at_behind, at_place, at_within, map_at}
+use Rattle.reached_pairs.specs.Searches.{AreOnce, IsAt, Stands}
+use Rattle.fact_search.specs.Walks.{IsWalk}
+use Rattle.reached_pairs.proofs.ListLaws.{at_behind, at_place, at_within, map_at}
 use Rattle.fact_pool.specs.declared.handle.Handle.{Handle}
 use Rattle.fact_search.specs.Searched.{IsSearched}
 use Rattle.fact_search.proofs.SearchedLaws.{searched_all, visit_reached}
@@ -13,7 +13,7 @@ use Rattle.java_cfg.specs.declared.arc.Arc.{Arc}
 use Rattle.java_control.specs.declared.fact.Fact.{Fact}
 use Rattle.java_control.specs.declared.fact.Origin.{Origin}
 use Rattle.java_control.specs.declared.fact.Outcome.TheVariants.{Next}
-use Rattle.ownership_rules.specs.Births.{births_of_step}
+use Rattle.body_origins.specs.Births.{births_of_step}
 use Rattle.body_origins.specs.Flow.{flow}
 use Rattle.body_origins.specs.Numbering.{numbered, numbered_outcome}
 use Rattle.body_origins.specs.Paths.{Comes, Move, Reach, start, on, entered, born, flowed}

@@ -8,7 +8,7 @@ use Rattle.java_control.specs.declared.fact.Fact.{Fact}
 use Rattle.java_control.specs.declared.fact.Origin.{Origin}
 use Rattle.java_control.specs.declared.fact.Outcome.{Outcome}
 use Rattle.java_control.specs.declared.fact.Outcome.TheVariants.{Next, Gone, Fault}
-use Rattle.ownership_rules.specs.Births.{Birth, births_at_entry}
+use Rattle.body_origins.specs.Births.{Birth, births_at_entry}
 use Rattle.body_origins.specs.Flow.{flow}
 use Rattle.body_origins.specs.Numbering.{numbered}
 use Rattle.reached_pairs.specs.declared.visit.Point.{Point}

@@ -2,7 +2,7 @@
 use Rattle.std.specs.Prelude.{◌≡◌, ℕ, List}
 use Rattle.program_model.specs.declared.kinds.BodyId.{BodyId}
 use Rattle.program_model.specs.declared.program.Program.{Program}
-use Rattle.breadth_first.specs.Searches.{AreOnce, IsAt, Stands}
+use Rattle.reached_pairs.specs.Searches.{AreOnce, IsAt, Stands}
 use Rattle.fact_pool.specs.declared.handle.Handle.{Handle}
 use Rattle.java_control.specs.declared.fact.Fact.{Fact}
 use Rattle.java_control.specs.declared.fact.Origin.{Origin}

@@ -1,12 +1,12 @@
 //! The points to which one step leads.
 
 ghost use Rattle.std.specs.Prelude.{◌≡◌, ◌<◌, ◌≤◌, ◌^◌, ◌++◌, ℕ, Some, length, position, IfOk, OnOk};
-ghost use Rattle.breadth_first.specs.Searches.{IsAt};
+ghost use Rattle.reached_pairs.specs.Searches.{IsAt};
 ghost use Rattle.java_cfg.specs.declared.arc.Arc.{Arc as DeclaredArc};
-ghost use Rattle.must_call_sets.specs.WellFormed.{HasSmallInterests};
-ghost use Rattle.obligation_facts.specs.SmallActions.{IsSmallAction};
-ghost use Rattle.ownership_rules.specs.Births.{births_at_entry};
-ghost use Rattle.ownership_rules.specs.Room.{HasRoom};
+ghost use Rattle.body_origins.specs.WellFormed.{HasSmallInterests};
+ghost use Rattle.java_cfg.specs.SmallActions.{IsSmallAction};
+ghost use Rattle.body_origins.specs.Births.{births_at_entry};
+ghost use Rattle.body_origins.specs.Room.{HasRoom};
 ghost use Rattle.body_origins.specs.Origins.{arc_births, same_origin};
 ghost use Rattle.reached_facts.specs.Points.{bare_points, birth_point, birth_points, entry_points, fact_points, flat_from};
 

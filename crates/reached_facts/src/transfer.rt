@@ -1,8 +1,8 @@
 //! The search of a body.
 
 ghost use Rattle.std.specs.Prelude.{◌≡◌, ◌≤◌, ◌<◌, ◌^◌, ℕ, [], length, Option, IfOk, IfErr};
-ghost use Rattle.breadth_first.specs.Turns.{AreStarts, AreSteps};
-ghost use Rattle.breadth_first.specs.Walks.{IsWalk};
+ghost use Rattle.fact_search.specs.Turns.{AreStarts, AreSteps};
+ghost use Rattle.fact_search.specs.Walks.{IsWalk};
 ghost use Rattle.fact_pool.specs.Regions.{IsLive, list_of, with_list};
 ghost use Rattle.fact_search.specs.Searched.{IsSearchCause, IsSearched};
 ghost use Rattle.reached_pairs.specs.Additions.{points_in};

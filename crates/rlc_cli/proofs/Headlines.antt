@@ -20,14 +20,15 @@ use Rattle.check_command.specs.Programs.{IsProgramOf}
 use Rattle.check_command.specs.Refusals.{IsSettingsAnswer, IsStopAnswer}
 use Rattle.check_command.specs.Checks.{IsCheckAnswer, IsChecked, IsUnchecked, accepted, by_limit, by_program, by_settings, leaking, read, unchecked, unread}
 use Rattle.program_model.specs.declared.program.Program.{Program}
-use Rattle.accepted_programs.specs.Accept.{Accept}
+use Rattle.soundness_laws.specs.Accept.{Accept}
 use Rattle.check_command.specs.ProgramReports.{IsFaulty}
-use Rattle.run_inputs.specs.RunAnswers.{answer_outcome}
+use Rattle.soundness_laws.specs.RunAnswers.{answer_outcome}
 use Rattle.run_inputs.specs.Runs.{IsChoicesAnswer, IsRun, IsRunAnswer, IsRunOf, Run}
 use Rattle.run_inputs.specs.Runs as runs
 use Rattle.stub_conduct.specs.declared.choice.Choices.{Choices}
-use Rattle.safe_run_laws.proofs.Answers.{safe_answer}
-use Rattle.safe_run_laws.proofs.Runs.{accepted_is_safe}
+use Rattle.soundness_laws.proofs.Answers.{safe_answer}
+use Rattle.soundness_laws.proofs.SafeRuns.{accepted_is_safe}
+use Rattle.file_condition_laws.proofs.Conditions.{read_conditions}
 use Rattle.rlc_cli.specs.Answers.{IsAnswer}
 use Rattle.rlc_cli.specs.Headline.{IsAcceptedCheck, IsHeadline, IsLeakingCheck, IsLeakingRun}
 
@@ -103,7 +104,7 @@ check_accepted : (told : Option Contents) (names : FileNames) (c : Counts) (answ
 check_accepted told names c answer (unread why) is = halting_not_accepted answer.outcome (unread_halts told names c answer why) is
 check_accepted told names c answer (read files texts none checked) is =
     let found = checked_accepted files answer checked is in
-    record { files = files; texts = texts; program = found.0; is_program = found.1.0; accepted = found.1.1; safe = accepted_is_safe found.0 found.1.1 }
+    record { files = files; texts = texts; program = found.0; is_program = found.1.0; accepted = found.1.1; safe = accepted_is_safe found.0 found.1.1 (read_conditions _ found.0 found.1.0.program) }
 
 check_leaking : (told : Option Contents) (names : FileNames) (c : Counts) (answer : Answer) → IsCheckAnswer told names c answer → statuses.Leaks ≡ status_of answer.outcome → IsLeakingCheck told names
 check_leaking told names c answer (unread why) is = halting_not_leaking answer.outcome (unread_halts told names c answer why) is
@@ -139,7 +140,7 @@ ran_leaking told names r files choices answer texts ran is =
       program = p;
       is_program = ran.is_program;
       unsafe = λ safe. safe_answer p safe r.class choices r.steps leaks;
-      unaccepted = λ first accept. safe_answer p (accepted_is_safe p accept first) r.class choices r.steps leaks;
+      unaccepted = λ first accept. safe_answer p (accepted_is_safe p accept (read_conditions _ p ran.is_program.program) first) r.class choices r.steps leaks;
     }
 
 run_of_leaking : (told : Option Contents) (names : FileNames) (r : Run) (files : FileTexts) (answer : Answer) → AreFileTexts told names files → IsRunOf r files answer

@@ -7,10 +7,10 @@ use Rattle.command_answers.specs.declared.statuses.Status.TheVariants as statuse
 use Rattle.command_inputs.specs.Inputs.{AreFileTexts, FileNames, FileTexts}
 use Rattle.check_command.specs.Programs.{IsProgramOf}
 use Rattle.program_model.specs.declared.program.Program.{Program}
-use Rattle.accepted_programs.specs.Accept.{Accept}
+use Rattle.soundness_laws.specs.Accept.{Accept}
 use Rattle.check_command.specs.ProgramReports.{IsFaulty}
-use Rattle.safety.specs.Safety.{IsSafe}
-use Rattle.safe_run_laws.specs.Plain.{IsPlain}
+use Rattle.soundness_laws.specs.Safety.{IsSafe}
+use Rattle.soundness_laws.specs.Plain.{IsPlain}
 use Rattle.rlc_cli.specs.Answers.{check_names, run_names}
 
 -- the files of these names make a program that is accepted: it is well formed, no body of it passes a limit, and no path in a body

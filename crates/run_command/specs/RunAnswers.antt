@@ -4,7 +4,7 @@ use Rattle.std.specs.List.{list_any}
 use Rattle.command_answers.specs.Texts.{placeless_text}
 use Rattle.command_answers.specs.declared.answers.Outcome.{Outcome}
 use Rattle.command_answers.specs.declared.answers.Outcome.TheVariants as outcomes
-use Rattle.ledger_runs.specs.Runs.{Run, run}
+use Rattle.ledger_interp.specs.Runs.{Run, run}
 use Rattle.ledger_state.specs.Leaks.{is_leak}
 use Rattle.ledger_text.specs.Ledger.{ledger_text}
 use Rattle.ledger_text.specs.declared.how.How.{How}
@@ -12,7 +12,7 @@ use Rattle.ledger_text.specs.declared.how.How.TheVariants as hows
 use Rattle.program_model.specs.declared.kinds.MethodId.{MethodId}
 use Rattle.program_model.specs.declared.program.Program.{Program}
 use Rattle.rlc_base.specs.declared.code.Code.TheVariants as refused
-use Rattle.ledger_runs.specs.Mains.{main_of}
+use Rattle.ledger_interp.specs.Mains.{main_of}
 use Rattle.stub_conduct.specs.declared.choice.Choices.{Choices}
 
 -- what a run came to, by whether its ledger has a leak and by how it ended

@@ -4,7 +4,7 @@ ghost use Rattle.std.specs.Prelude.{◌≡◌, IfOk};
 ghost use Rattle.std.specs.List.{list_any};
 ghost use Rattle.ledger_interp.specs.Configurations.{configuration};
 ghost use Rattle.command_answers.specs.Texts.{placeless_text};
-ghost use Rattle.ledger_runs.specs.Runs.{run};
+ghost use Rattle.ledger_interp.specs.Runs.{run};
 ghost use Rattle.ledger_text.specs.Ledger.{ledger_text};
 ghost use Rattle.ledger_state.specs.Leaks.{is_leak};
 ghost use Rattle.run_command.specs.RunAnswers.{answer_outcome, answer_text, outcome_of, run_outcome, run_text};

@@ -4,7 +4,7 @@ ghost use Rattle.std.specs.Prelude.{◌≡◌};
 ghost use Rattle.std.specs.List.{find};
 ghost use Rattle.std.specs.Option.{option_copied};
 ghost use Rattle.program_model.specs.Lookups.{method_at};
-ghost use Rattle.ledger_runs.specs.Mains.{class_named, is_main, is_main_in, is_program_class_named, is_static, is_texts, main_in, main_of, takes_texts};
+ghost use Rattle.ledger_interp.specs.Mains.{class_named, is_main, is_main_in, is_program_class_named, is_static, is_texts, main_in, main_of, takes_texts};
 
 use program_model::{Class, ElementType, Method, MethodId, MethodKind, ParamSig, Program, VType};
 

@@ -10,15 +10,15 @@ use Rattle.java_control.specs.declared.action.Edge.TheVariants as edges
 use Rattle.java_control.specs.declared.fact.Origin.{Origin}
 use Rattle.java_control.specs.declared.fact.Rule.{Rule}
 use Rattle.obligation_facts.specs.Facts.{Names}
-use Rattle.ownership_rules.specs.Births.{births_of_step}
-use Rattle.flow_rules.specs.Flow.{flow}
-use Rattle.flow_rules.specs.Paths.{Faulty, Move, Relation, relation_of}
+use Rattle.soundness_laws.specs.Births.{births_of_step}
+use Rattle.soundness_laws.specs.Flow.{flow}
+use Rattle.soundness_laws.specs.Paths.{Faulty, Move, Relation, relation_of}
 use Rattle.safety_examples.specs.Certificates.{IsCertificate, IsFollowed, IsListed, Placed, placed}
-use Rattle.safety_examples.specs.Controls.{controls}
-use Rattle.safety_examples.specs.Programs.{careful, in_source, no_names, socket_constructor}
+use Rattle.safety_examples.specs.CarefulControls.{controls}
+use Rattle.safety_examples.specs.CarefulPrograms.{careful, in_source, no_names, socket_constructor}
 use Rattle.safety_examples.proofs.Certified.{no_fault}
-use Rattle.safety_examples.proofs.Flows.{after_call, after_drop, body, calls, closed_names, copies, drops, fact, in_both, in_temp, in_variable, leaves, moves, origin, returns, throws}
-use Rattle.safety_examples.proofs.Sets.{close_not_none}
+use Rattle.safety_examples.proofs.CarefulFlows.{after_call, after_drop, body, calls, closed_names, copies, drops, fact, in_both, in_temp, in_variable, leaves, moves, origin, returns, throws}
+use Rattle.safety_examples.proofs.CarefulSets.{close_not_none}
 use Rattle.safety_examples.proofs.Tests.{all_none, all_of}
 
 abbrev pub relation : Relation (List Todo)

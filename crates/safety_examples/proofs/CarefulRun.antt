@@ -7,19 +7,19 @@ use Rattle.stub_conduct.specs.declared.choice.Choice.{Choice}
 use Rattle.ledger_state.specs.declared.entry.Owner.TheVariants as owners
 use Rattle.ledger_state.specs.declared.value.Value.TheVariants as values
 use Rattle.ledger_text.specs.declared.how.How.TheVariants as hows
-use Rattle.ledger_calls.specs.Configuration.{Config}
-use Rattle.ledger_moves.specs.Moves.{call, call_of, library_as, library_call, next_move, null_target, operate, take, take_plain}
-use Rattle.ledger_runs.specs.Outcomes.{went}
-use Rattle.ledger_runs.specs.Starts.{start_config}
-use Rattle.ledger_runs.specs.Steps.{step}
-use Rattle.ledger_runs.specs.Runs.{come_to, go_on, run, run_from}
-use Rattle.safety_examples.specs.Controls.{closes, drops, keeps, makes, reads, second, thrown}
-use Rattle.safety_examples.specs.Programs.{careful, close_alone, expression_number, io_exception, main_method, no_names}
+use Rattle.soundness_laws.specs.Configuration.{Config}
+use Rattle.soundness_laws.specs.Moves.{call, call_of, library_as, library_call, next_move, null_target, operate, take, take_plain}
+use Rattle.soundness_laws.specs.LedgerRunsOutcomes.{went}
+use Rattle.soundness_laws.specs.Starts.{start_config}
+use Rattle.soundness_laws.specs.LedgerRunsSteps.{step}
+use Rattle.soundness_laws.specs.Runs.{come_to, go_on, run, run_from}
+use Rattle.safety_examples.specs.CarefulControls.{closes, drops, keeps, makes, reads, second, thrown}
+use Rattle.safety_examples.specs.CarefulPrograms.{careful, close_alone, expression_number, io_exception, main_method, no_names}
 use Rattle.safety_examples.specs.Runs.{birth, close, then_throws}
-use Rattle.ledger_steps.specs.Effects.{Effect}
+use Rattle.soundness_laws.specs.Effects.{Effect}
 use Rattle.safety_examples.proofs.Effects.{close_effect, new_effect}
 use Rattle.safety_examples.proofs.Moments.{at, ended_by, the_exception, the_socket}
-use Rattle.safety_examples.proofs.Sets.{close_not_none, within_itself}
+use Rattle.safety_examples.proofs.CarefulSets.{close_not_none, within_itself}
 
 abbrev choices : List Choice
 choices = then_throws.list.items

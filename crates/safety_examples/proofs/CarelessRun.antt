@@ -5,21 +5,21 @@ use Rattle.java_control.specs.Control.{next_of, start_of}
 use Rattle.java_control.specs.Exceptions.{some_heeded}
 use Rattle.ledger_state.specs.declared.entry.Owner.TheVariants as owners
 use Rattle.ledger_state.specs.declared.value.Value.TheVariants as values
-use Rattle.ledger_calls.specs.Configuration.{Config}
-use Rattle.ledger_moves.specs.Moves.{call, call_of, library_as, library_call, next_move, null_target, operate, take, take_plain}
-use Rattle.ledger_runs.specs.Outcomes.{went}
-use Rattle.ledger_runs.specs.Starts.{start_config}
-use Rattle.ledger_runs.specs.Steps.{step}
-use Rattle.ledger_runs.specs.Runs.{go_on, run, run_from}
+use Rattle.soundness_laws.specs.Configuration.{Config}
+use Rattle.soundness_laws.specs.Moves.{call, call_of, library_as, library_call, next_move, null_target, operate, take, take_plain}
+use Rattle.soundness_laws.specs.LedgerRunsOutcomes.{went}
+use Rattle.soundness_laws.specs.Starts.{start_config}
+use Rattle.soundness_laws.specs.LedgerRunsSteps.{step}
+use Rattle.soundness_laws.specs.Runs.{go_on, run, run_from}
 use Rattle.ledger_state.specs.Leaks.{is_leak}
-use Rattle.safety.specs.Safety.{IsSafe}
-use Rattle.safety_examples.specs.Controls.{keeps, makes}
-use Rattle.safety_examples.specs.Programs.{careless, main_method, no_names}
+use Rattle.soundness_laws.specs.Safety.{IsSafe}
+use Rattle.safety_examples.specs.CarefulControls.{keeps, makes}
+use Rattle.safety_examples.specs.CarefulPrograms.{careless, main_method, no_names}
 use Rattle.safety_examples.specs.Runs.{birth, leak, plainly}
-use Rattle.ledger_steps.specs.Effects.{Effect}
+use Rattle.soundness_laws.specs.Effects.{Effect}
 use Rattle.safety_examples.proofs.Effects.{new_effect}
 use Rattle.safety_examples.proofs.Moments.{at, ended_by, the_socket}
-use Rattle.safety_examples.proofs.Sets.{close_not_none}
+use Rattle.safety_examples.proofs.CarefulSets.{close_not_none}
 
 abbrev making : Config
 making = at (makes ∷ keeps ∷ []) values.Nothing [] [] [] [] 0

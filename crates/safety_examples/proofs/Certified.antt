@@ -8,9 +8,9 @@ use Rattle.java_control.specs.declared.fact.Fact.{Fact}
 use Rattle.java_control.specs.declared.fact.Origin.{Origin}
 use Rattle.java_control.specs.declared.fact.Rule.{Rule}
 use Rattle.obligation_facts.specs.Facts.{Names}
-use Rattle.ownership_rules.specs.Births.{births_at_entry, births_of_step}
-use Rattle.flow_rules.specs.Flow.{flow}
-use Rattle.flow_rules.specs.Paths.{Comes, Faulty, Move, Reach, Relation, start, on, entered, born, flowed}
+use Rattle.soundness_laws.specs.Births.{births_at_entry, births_of_step}
+use Rattle.soundness_laws.specs.Flow.{flow}
+use Rattle.soundness_laws.specs.Paths.{Comes, Faulty, Move, Reach, Relation, start, on, entered, born, flowed}
 use Rattle.safety_examples.proofs.Tests.{all_at}
 use Rattle.safety_examples.specs.Certificates.{IsCertificate, IsFollowed, IsListed, Placed, placed}
 

@@ -18,12 +18,12 @@ use Rattle.ledger_state.specs.declared.entry.Owner.TheVariants as owners
 use Rattle.ledger_state.specs.declared.locals.Locals.{Locals}
 use Rattle.ledger_state.specs.declared.value.Value.{Value}
 use Rattle.ledger_state.specs.declared.value.Value.TheVariants as values
-use Rattle.ledger_steps.specs.CallSteps.{library_done}
-use Rattle.ledger_steps.specs.Effects.{Effect, left}
-use Rattle.safety_examples.specs.Programs.{close_alone, close_declared, close_name, constructor_declared, in_source, io_exception, no_names, socket, socket_close, socket_constructor}
+use Rattle.soundness_laws.specs.CallSteps.{library_done}
+use Rattle.soundness_laws.specs.Effects.{Effect, left}
+use Rattle.safety_examples.specs.CarefulPrograms.{close_alone, close_declared, close_name, constructor_declared, in_source, io_exception, no_names, socket, socket_close, socket_constructor}
 use Rattle.safety_examples.specs.Runs.{birth, close}
 use Rattle.safety_examples.proofs.Moments.{the_exception, the_socket}
-use Rattle.safety_examples.proofs.Sets.{close_is_new, close_not_none, nothing_is_new, within_itself}
+use Rattle.safety_examples.proofs.CarefulSets.{close_is_new, close_not_none, nothing_is_new, within_itself}
 
 abbrev effect : HeapContents → List Entry → Effect
 effect h found = record { heap = h; lines = found }

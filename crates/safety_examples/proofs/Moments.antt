@@ -12,8 +12,8 @@ use Rattle.ledger_state.specs.declared.object.Object.{Object}
 use Rattle.ledger_state.specs.declared.value.Value.{Value}
 use Rattle.ledger_state.specs.declared.value.Value.TheVariants as values
 use Rattle.ledger_state.specs.Classes.{library_array}
-use Rattle.ledger_calls.specs.Configuration.{Config}
-use Rattle.safety_examples.specs.Programs.{close_alone, io_exception, main_method, no_names, socket}
+use Rattle.soundness_laws.specs.Configuration.{Config}
+use Rattle.safety_examples.specs.CarefulPrograms.{close_alone, io_exception, main_method, no_names, socket}
 
 -- `main` stands at a control; what `s` and the temps hold, the objects, the lines, the choices and how many of them are used
 abbrev pub at : List Todo → Value → List Value → List Object → List Entry → List Choice → ℕ → Config

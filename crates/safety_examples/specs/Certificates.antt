@@ -7,9 +7,9 @@ use Rattle.java_control.specs.declared.fact.Fact.{Fact}
 use Rattle.java_control.specs.declared.fact.Origin.{Origin}
 use Rattle.java_control.specs.declared.fact.Outcome.{Outcome}
 use Rattle.java_control.specs.declared.fact.Outcome.TheVariants.{Next, Gone, Fault}
-use Rattle.ownership_rules.specs.Births.{Birth, births_at_entry, births_of_step}
-use Rattle.flow_rules.specs.Flow.{flow}
-use Rattle.flow_rules.specs.Paths.{Move, Relation}
+use Rattle.soundness_laws.specs.Births.{Birth, births_at_entry, births_of_step}
+use Rattle.soundness_laws.specs.Flow.{flow}
+use Rattle.soundness_laws.specs.Paths.{Move, Relation}
 
 -- a fact of an origin, at a control
 pub record Placed (K : Type 0) : Type 0 where

@@ -5,7 +5,7 @@ use Rattle.ledger_state.specs.declared.entry.Entry.{Entry}
 use Rattle.ledger_state.specs.declared.entry.Entry.TheVariants as lines
 use Rattle.ledger_state.specs.declared.entry.LeakWord.TheVariants as words
 use Rattle.ledger_state.specs.declared.entry.Owner.TheVariants as owners
-use Rattle.safety_examples.specs.Programs.{close_name, in_source, none, socket, two}
+use Rattle.safety_examples.specs.CarefulPrograms.{close_name, in_source, none, socket, two}
 
 -- each call of the library returns plainly
 abbrev pub plainly : Choices

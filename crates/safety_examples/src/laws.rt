@@ -8,17 +8,17 @@ ghost use Rattle.program_model.specs.declared.kinds.BodyId.{BodyId};
 ghost use Rattle.java_control.specs.declared.fact.Origin.{Origin};
 ghost use Rattle.java_control.specs.declared.fact.Rule.{Rule};
 ghost use Rattle.obligation_facts.specs.Facts.{Names};
-ghost use Rattle.accepted_programs.specs.Accept.{Accept};
-ghost use Rattle.flow_rules.specs.Paths.{Faulty, relation_of};
+ghost use Rattle.soundness_laws.specs.Accept.{Accept};
+ghost use Rattle.soundness_laws.specs.Paths.{Faulty, relation_of};
 ghost use Rattle.annotation_rules.specs.AnnotationCases.{annotation_cases};
 ghost use Rattle.class_overrides.specs.Cases.{class_cases};
 ghost use Rattle.must_call_sets.specs.WellFormed.{IsWellFormed};
-ghost use Rattle.must_call_types.specs.Signed.{IsSigned};
+ghost use Rattle.soundness_laws.specs.Signed.{IsSigned};
 ghost use Rattle.must_call_sets.specs.MustCallSets.{is_heavy_class};
 ghost use Rattle.ledger_text.specs.declared.how.How.TheVariants as hows;
-ghost use Rattle.ledger_runs.specs.Runs.{run};
-ghost use Rattle.safety.specs.Safety.{IsSafe};
-ghost use Rattle.safety_examples.specs.Programs.{careful, careless, io_exception, main_method, socket};
+ghost use Rattle.soundness_laws.specs.Runs.{run};
+ghost use Rattle.soundness_laws.specs.Safety.{IsSafe};
+ghost use Rattle.safety_examples.specs.CarefulPrograms.{careful, careless, io_exception, main_method, socket};
 ghost use Rattle.safety_examples.specs.Runs.{birth, close, then_throws};
 
 /// A program that makes a socket and never closes it is not safe.

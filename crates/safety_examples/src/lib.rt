@@ -1,9 +1,46 @@
-//! Programs that show that what is said of safety is not empty.
+//! Programs that show that what is said of safety, and of accepted plain programs, is not empty:
+//!
+//! - Programs that show that what is said of safety is not empty.
+//! - Programs that show that what is said of accepted plain programs is not empty: one that closes its socket, and one that takes a stream
+//!   of its socket, an alias of it, and closes the stream alone.
+//! - A program that shows that what is said of accepted plain programs speaks of owning fields: a holder keeps a resource in one, and its
+//!   `close` has it closed by a method of the library that promises this.
+//! - A program that shows that what is said of accepted plain programs speaks of methods of the program itself that promise something of a
+//!   parameter that they are lent: `shut` closes its argument, as its annotation says, and `main` makes a resource and has it closed so.
+//! - A program that shows that what is said of accepted plain programs speaks of methods of the program itself that return their aliased
+//!   argument: `main` makes a resource, passes it through `pass`, and closes what it gets back.
+//! - A program that shows that what is said of accepted plain programs speaks of constructors of the program itself that make a resource alias: a
+//!   wrapper keeps its argument in an owning field, and its `close` has this closed.
+//! - A program that shows that what is said of accepted plain programs speaks of classes with owning fields that extend other classes: the
+//!   constructor of holders calls a super constructor before it stores into the field.
+//! - A program that shows that what is said of accepted plain programs speaks of calls that create obligations anew, beside owning fields: it makes a
+//!   socket on which nothing must be called, connects it, and gives it to a holder, whose constructor connects it anew before it keeps it in an owning field,
+//!   and which has it closed.
 #![tactic(auto)]
 
+mod aliasing;
+mod careful;
+mod extending;
+mod holding;
 mod laws;
+mod lending;
+mod resetting;
+mod streaming;
+mod wrapping;
 
+pub use aliasing::{aliasing_has_main, aliasing_is_accepted, aliasing_is_plain, aliasing_is_safe};
+pub use careful::{careful_is_plain, careful_is_safe};
+pub use extending::{
+    extending_has_main, extending_is_accepted, extending_is_plain, extending_is_safe,
+};
+pub use holding::{holding_has_main, holding_is_accepted, holding_is_plain, holding_is_safe};
 pub use laws::{
     careful_has_no_fault, careful_is_accepted, careful_is_valid, careful_is_well_formed,
     careful_run_ends, careless_is_not_safe,
 };
+pub use lending::{lending_has_main, lending_is_accepted, lending_is_plain, lending_is_safe};
+pub use resetting::{
+    resetting_has_main, resetting_is_accepted, resetting_is_plain, resetting_is_safe,
+};
+pub use streaming::{streaming_is_accepted, streaming_is_plain, streaming_is_safe};
+pub use wrapping::{wrapping_has_main, wrapping_is_accepted, wrapping_is_plain, wrapping_is_safe};

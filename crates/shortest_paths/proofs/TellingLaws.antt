@@ -8,14 +8,14 @@ use Rattle.breadth_first.specs.Searches.{IsAt, IsChain, Stands}
 use Rattle.breadth_first.specs.Walks.{IsWalk}
 use Rattle.breadth_first.proofs.ListLaws.{at_behind, at_map, at_place, at_same, at_within, length_mapped, map_append, map_at, stands_append}
 use Rattle.fact_pool.specs.declared.handle.Handle.{Handle}
-use Rattle.fact_search.specs.Searched.{IsSearched}
-use Rattle.fact_search.proofs.SearchedLaws.{searched_all}
+use Rattle.reached_facts.specs.Searched.{IsSearched}
+use Rattle.reached_facts.proofs.SearchedLaws.{searched_all}
 use Rattle.java_cfg.specs.declared.arc.Arc.{Arc}
 use Rattle.java_control.specs.declared.fact.Fact.{Fact}
 use Rattle.java_control.specs.declared.fact.Origin.{Origin}
 use Rattle.java_control.specs.declared.fact.Outcome.{Outcome}
 use Rattle.java_control.specs.declared.fact.Outcome.TheVariants.{Next, Gone, Fault}
-use Rattle.ownership_rules.specs.Births.{births_of_step}
+use Rattle.flow_rules.specs.Births.{births_of_step}
 use Rattle.flow_rules.specs.Flow.{flow}
 use Rattle.flow_rules.specs.Numbering.{numbered, numbered_outcome}
 use Rattle.flow_rules.specs.Paths.{IsPath, Move, Taken, taken, start, on, entered, born, flowed}

@@ -1,2 +1,9 @@
 pub mod Telling
+pub use Rattle.flow_rules.specs.Births
+pub use Rattle.flow_rules.specs.Flow
+pub use Rattle.reached_facts.specs.Nodes
+pub use Rattle.flow_rules.specs.Numbering
+pub use Rattle.reached_facts.specs.Origins
+pub use Rattle.flow_rules.specs.Paths
+pub use Rattle.reached_facts.specs.Searched
 pub use Rattle.reached_facts.specs.Steps

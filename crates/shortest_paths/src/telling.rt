@@ -4,7 +4,7 @@ ghost use Rattle.std.specs.Prelude.{◌≡◌, ◌<◌, ℕ, length, reverse, sl
 ghost use Rattle.breadth_first.specs.Searches.{IsAt};
 ghost use Rattle.fact_pool.specs.Regions.{list_of};
 ghost use Rattle.fact_pool.specs.declared.handle.Handle.{Handle as DeclaredHandle};
-ghost use Rattle.fact_search.specs.Searched.{IsSearched};
+ghost use Rattle.reached_facts.specs.Searched.{IsSearched};
 ghost use Rattle.java_cfg.specs.Contents.{arcs_of, nodes_of};
 ghost use Rattle.java_cfg.specs.declared.arc.Arc.{Arc as DeclaredArc};
 ghost use Rattle.java_control.specs.declared.fact.Fact.{Fact as DeclaredFact};

@@ -2,11 +2,11 @@
 use Rattle.std.proofs.Common.{◌≡◌, refl, Option, None, Some, List, [], ◌∷◌, Result, Ok, Err, OnOk}
 use Rattle.rlc_base.specs.declared.faults.Refusal.{Refusal}
 use Rattle.program_model.specs.declared.program.Program.{Program}
-use Rattle.refusal_order.specs.Refusals.{least, verdict_of}
-use Rattle.must_call_sets.specs.AliasCases.{alias_cases}
-use Rattle.must_call_sets.specs.OverrideCases.{override_cases}
-use Rattle.must_call_sets.specs.OwningCases.{owning_cases}
-use Rattle.must_call_sets.specs.ResetCases.{reset_cases}
+use Rattle.owning_fields.specs.Refusals.{least, verdict_of}
+use Rattle.alias_sets.specs.AliasCases.{alias_cases}
+use Rattle.called_methods.specs.OverrideCases.{override_cases}
+use Rattle.must_call_reset.specs.OwningCases.{owning_cases}
+use Rattle.must_call_reset.specs.ResetCases.{reset_cases}
 use Rattle.signature_rules.specs.RulePasses.{HasNoRuleCase}
 
 no_least : (cases : List Refusal) → least cases ≡ None → cases ≡ []

@@ -4,11 +4,11 @@
 use Rattle.std.specs.Prelude.{◌≡◌, Option, Some, None, []}
 use Rattle.rlc_base.specs.declared.faults.Refusal.{Refusal}
 use Rattle.program_model.specs.declared.program.Program.{Program}
-use Rattle.refusal_order.specs.Refusals.{least}
-use Rattle.must_call_sets.specs.AliasCases.{alias_cases}
-use Rattle.must_call_sets.specs.OverrideCases.{override_cases}
-use Rattle.must_call_sets.specs.OwningCases.{owning_cases}
-use Rattle.must_call_sets.specs.ResetCases.{reset_cases}
+use Rattle.owning_fields.specs.Refusals.{least}
+use Rattle.alias_sets.specs.AliasCases.{alias_cases}
+use Rattle.called_methods.specs.OverrideCases.{override_cases}
+use Rattle.must_call_reset.specs.OwningCases.{owning_cases}
+use Rattle.must_call_reset.specs.ResetCases.{reset_cases}
 
 -- the refusal of a pass, or where it has none that of the later ones
 abbrev pub or_later : Option Refusal → Option Refusal → Option Refusal

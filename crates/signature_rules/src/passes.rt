@@ -2,7 +2,7 @@
 
 ghost use Rattle.std.specs.Prelude.{◌≡◌, OnOk};
 ghost use Rattle.program_model.specs.Validity.{IsNumbered};
-ghost use Rattle.refusal_order.specs.Refusals.{verdict_of};
+ghost use Rattle.owning_fields.specs.Refusals.{verdict_of};
 ghost use Rattle.signature_rules.specs.RulePasses.{HasNoRuleCase, rule_refusal};
 
 use alias_sets::alias_rule;

@@ -13,10 +13,10 @@ use Rattle.program_model.specs.declared.program.Program.{Program}
 use Rattle.program_model.specs.declared.program.Sig.{Sig}
 use Rattle.program_model.specs.Lookups.{method_at}
 use Rattle.program_model.specs.Validity.{IsOfKind}
-use Rattle.conduct_laws.specs.Bodies.{constructs, is_constructor_kind}
-use Rattle.conduct_laws.specs.MustCallSets.{Names, fits, must_of, must_of_optional, must_of_type}
-use Rattle.conduct_laws.specs.OverrideCases.{differ}
-use Rattle.conduct_laws.specs.Signatures.{is_present}
+use Rattle.ledger_obligations.specs.Bodies.{constructs, is_constructor_kind}
+use Rattle.ledger_obligations.specs.MustCallSets.{Names, fits, must_of, must_of_optional, must_of_type}
+use Rattle.ledger_obligations.specs.OverrideCases.{differ}
+use Rattle.ownership_rules.specs.Signatures.{is_present}
 use Rattle.java_control.specs.Calls.{called_method}
 use Rattle.java_control.specs.Control.{Step}
 use Rattle.java_control.specs.declared.action.Action.{Action}
@@ -26,8 +26,8 @@ use Rattle.java_control.specs.declared.action.Edge.TheVariants as edges
 use Rattle.java_control.specs.declared.action.TargetForm.{TargetForm}
 use Rattle.java_control.specs.declared.fact.OriginKind.TheVariants as kinds
 use Rattle.ownership_rules.specs.Births.{origin_of}
-use Rattle.parameter_fact_laws.specs.Accept.{Accept}
-use Rattle.named_step_laws.specs.Paths.{move_of}
+use Rattle.content_laws.specs.Accept.{Accept}
+use Rattle.content_laws.specs.Paths.{move_of}
 use Rattle.ledger_state.specs.Contents.{HeapContents}
 use Rattle.ledger_state.specs.Heaps.{object_at, root_of}
 use Rattle.ledger_state.specs.Values.{number_of}
@@ -35,25 +35,25 @@ use Rattle.ledger_state.specs.declared.object.Object.{Object}
 use Rattle.ledger_state.specs.declared.value.Value.{Value}
 use Rattle.ledger_state.specs.declared.value.Value.TheVariants as values
 use Rattle.ledger_obligations.specs.Obligations.{is_unmet}
-use Rattle.filled_field_laws.specs.Places.{class_of_method}
-use Rattle.conduct_laws.specs.Calls.{is_alias, reset_position}
-use Rattle.conduct_laws.specs.Conducts as conducts
-use Rattle.conduct_laws.specs.Configuration.{Frame}
-use Rattle.content_heap_laws.specs.Choosing.{frame_steps}
-use Rattle.content_heap_laws.specs.Frames.{frame_after}
+use Rattle.content_laws.specs.Places.{class_of_method}
+use Rattle.ledger_steps.specs.LedgerCallsCalls.{is_alias, reset_position}
+use Rattle.ledger_steps.specs.Conducts as conducts
+use Rattle.content_laws.specs.Configuration.{Frame}
+use Rattle.content_laws.specs.Choosing.{frame_steps}
+use Rattle.content_laws.specs.LedgerFramesFrames.{frame_after}
 use Rattle.ledger_steps.specs.Ends.{answered, exception_class, result_value, thrown_in}
-use Rattle.library_call_laws.specs.Heaps.{GoesOn}
-use Rattle.covering_laws.specs.ProgramCalls.{IsFinished, IsReturned, is_new}
-use Rattle.named_step_laws.specs.Naming.{IsOfItsKind}
-use Rattle.named_step_laws.proofs.Reached.{names_what_is_there}
-use Rattle.content_heap_laws.specs.Agreement.{IsMade, IsMadeAfter, IsMadeBy, Stands, Tracks}
-use Rattle.content_heap_laws.specs.PlainForms.{HasPlainForms, IsPlainAction, RunsFor}
-use Rattle.content_heap_laws.specs.Outcomes.{IsCallRow}
-use Rattle.covering_laws.specs.Steps.{RootsStay}
-use Rattle.covering_laws.proofs.Births.{heavy_by_unmet, new_tracks, result_tracks}
-use Rattle.covering_laws.proofs.Carried.{still_bounded}
-use Rattle.covering_laws.proofs.Ready.{plain_step, step_there}
-use Rattle.covering_laws.proofs.Unmet.{may_lies, nothing_to_call, object_type_of, unmet_before, way_of_call}
+use Rattle.content_laws.specs.Heaps.{GoesOn}
+use Rattle.content_laws.specs.ProgramCalls.{IsFinished, IsReturned, is_new}
+use Rattle.content_laws.specs.Naming.{IsOfItsKind}
+use Rattle.content_laws.proofs.NamedReached.{names_what_is_there}
+use Rattle.content_laws.specs.Agreement.{IsMade, IsMadeAfter, IsMadeBy, Stands, Tracks}
+use Rattle.content_laws.specs.PlainForms.{HasPlainForms, IsPlainAction, RunsFor}
+use Rattle.content_laws.specs.Outcomes.{IsCallRow}
+use Rattle.content_laws.specs.Steps.{RootsStay}
+use Rattle.content_laws.proofs.Births.{heavy_by_unmet, new_tracks, result_tracks}
+use Rattle.content_laws.proofs.Carried.{still_bounded}
+use Rattle.content_laws.proofs.Ready.{plain_step, step_there}
+use Rattle.content_laws.proofs.Unmet.{may_lies, nothing_to_call, object_type_of, unmet_before, way_of_call}
 
 -- the caller's step of the call, when the frame ends
 pub record IsAnswered (p : Program) (h : HeapContents) (fr caller : Frame) (q : Completion) (t : Step) (named : MethodId) : Type 0 where

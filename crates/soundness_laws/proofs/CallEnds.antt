@@ -1,5 +1,5 @@
 -- A frame ends, and with it the call at which the frame below waits.
-use Rattle.std.proofs.Common.{if◌then◌else◌, ◌≡◌, ◌⊎◌, inl, inr, ℕ, ◌+◌, ◌<◌, Bool, true, false, not, Option, Some, None, List, ◌∷◌, ◌++◌, length, option_map, slice_get, nat_eq, refl, sym, ap, ◌∙◌, subst, true≢false, arith, eq-eqb, eqb-true}
+use Rattle.std.proofs.Common.{if◌then◌else◌, ◌≡◌, ◌⊎◌, inl, inr, ℕ, ◌+◌, ◌<◌, Bool, true, false, not, Option, Some, None, List, ◌∷◌, ◌++◌, length, option_map, slice_get, nat_eq, refl, sym, ap, ◌∙◌, subst, true≢false, arith, eq-eqb, eqb-true, lt-ltb}
 use Rattle.std.specs.FinSet as set
 use Rattle.std.specs.Prelude.{MatchBool}
 use Rattle.rlc_base.specs.declared.name_id.NameId.{NameId}
@@ -13,10 +13,10 @@ use Rattle.program_model.specs.declared.kinds.VType.{VType}
 use Rattle.program_model.specs.declared.program.Method.{Method}
 use Rattle.program_model.specs.declared.program.Program.{Program}
 use Rattle.program_model.specs.Lookups.{method_at}
-use Rattle.conduct_laws.specs.Bodies.{alias_in, constructs, method_in}
-use Rattle.conduct_laws.specs.Signatures.{is_present}
-use Rattle.conduct_laws.specs.MustCallSets.{is_heavy_class, must_of}
-use Rattle.conduct_laws.specs.WellFormed.{HasSmallInterests}
+use Rattle.ledger_obligations.specs.Bodies.{alias_in, constructs, method_in, reset_in}
+use Rattle.ownership_rules.specs.Signatures.{is_present}
+use Rattle.ledger_obligations.specs.MustCallSets.{is_heavy_class, must_of}
+use Rattle.ledger_obligations.specs.WellFormed.{HasSmallInterests}
 use Rattle.java_control.specs.Calls.{called_method}
 use Rattle.java_control.specs.Control.{Step}
 use Rattle.java_control.specs.declared.action.Action.{Action}
@@ -24,15 +24,15 @@ use Rattle.java_control.specs.declared.action.Action.TheVariants as actions
 use Rattle.java_control.specs.declared.action.Completion.{Completion}
 use Rattle.java_control.specs.declared.action.Edge.{Edge}
 use Rattle.java_control.specs.declared.action.Edge.TheVariants as edges
-use Rattle.obligation_facts.specs.Callees.{callee_in}
-use Rattle.obligation_facts.specs.Callees as callees
-use Rattle.obligation_facts.specs.Facts.{PlaceSet}
-use Rattle.obligation_facts.specs.SmallActions.{IsSmallAction}
-use Rattle.covered_field_laws.specs.Aliases.{gives_alias}
-use Rattle.parameter_fact_laws.specs.CalledRows.{holds_receiver, interest_in, promises_at}
-use Rattle.named_step_laws.specs.Flow.{flow}
-use Rattle.parameter_fact_laws.specs.Accept.{Accept}
-use Rattle.named_step_laws.specs.Paths.{Reach, move_of, relation_of}
+use Rattle.ownership_rules.specs.Callees.{callee_in}
+use Rattle.ownership_rules.specs.Callees as callees
+use Rattle.ownership_rules.specs.Facts.{PlaceSet}
+use Rattle.ownership_rules.specs.SmallActions.{IsSmallAction}
+use Rattle.content_laws.specs.Aliases.{gives_alias}
+use Rattle.content_laws.specs.CalledRows.{holds_receiver, interest_in, promises_at}
+use Rattle.content_laws.specs.Flow.{flow}
+use Rattle.content_laws.specs.Accept.{Accept}
+use Rattle.content_laws.specs.Paths.{Reach, move_of, relation_of}
 use Rattle.ownership_rules.specs.MovesAtReturns.{moved_at_return, owning_result_in, result_in}
 use Rattle.ownership_rules.specs.declared.moved.Moved.TheVariants as moves
 use Rattle.program_model.specs.declared.kinds.BodyId.{BodyId}
@@ -46,56 +46,58 @@ use Rattle.ledger_state.specs.declared.object.Object.{Object}
 use Rattle.ledger_state.specs.Values.{number_of}
 use Rattle.ledger_state.specs.declared.value.Value.{Value}
 use Rattle.ledger_obligations.specs.declared.note.Note.{Note}
-use Rattle.ledger_obligations.specs.Obligations.{all_notes, end_holder, is_frame, is_held_by, is_unmet, may_move, note, noted_object, with_owner}
-use Rattle.conduct_laws.specs.Calls.{alias_position, alias_target, is_alias, object_by, operand_of, receiver_note}
-use Rattle.conduct_laws.specs.Calls as calls
-use Rattle.conduct_laws.specs.Conducts as conducts
-use Rattle.conduct_laws.specs.Configuration.{Frame, held_by}
-use Rattle.content_heap_laws.specs.Choosing.{body_id, frame_steps}
-use Rattle.content_heap_laws.specs.Frames.{frame_after}
-use Rattle.ledger_entries.specs.Entries.{owner_entries}
+use Rattle.ledger_obligations.specs.Obligations.{all_notes, end_holder, is_frame, is_held_by, is_library_owner, is_unmet, may_move, note, noted_object, with_owner}
+use Rattle.ledger_steps.specs.LedgerCallsCalls.{alias_position, alias_target, is_alias, object_by, operand_of, receiver_note, reset_position}
+use Rattle.ledger_steps.specs.LedgerCallsCalls as calls
+use Rattle.ledger_steps.specs.Conducts as conducts
+use Rattle.content_laws.specs.Configuration.{Frame, held_by}
+use Rattle.content_laws.specs.Choosing.{body_id, frame_steps}
+use Rattle.content_laws.specs.LedgerFramesFrames.{frame_after}
+use Rattle.ledger_steps.specs.Entries.{owner_entries}
 use Rattle.ledger_steps.specs.Effects.{left}
 use Rattle.ledger_steps.specs.Ends.{answered, call_end_entries, call_ended, constructor_ended, exception_class, frame_ended, frame_gone, result_moved, result_value, returned, returned_heap, thrown_in}
-use Rattle.library_call_laws.specs.Heaps.{GoesOn, HasEarlierLinks, IsKeptOr, KeepsLinks}
-use Rattle.library_call_laws.specs.Leading.{Leads, LinksOne, is_passed_on}
-use Rattle.library_call_laws.proofs.Laws.{changed_object_at-object, evolving_heaps-links, leading_links-on, noted_names_reach_roots, notes_add_names-object, roots_go_on-number, roots_go_on-root, roots_go_on-value, roots_of_links-itself, roots_over_a_link-linked, roots_over_a_link-value, unchanged_fields_keep_contents}
-use Rattle.library_call_laws.proofs.RootLaws.{has_object}
-use Rattle.library_call_laws.proofs.ObjectLaws.{goes_on_further}
-use Rattle.library_call_laws.proofs.Links.{passed_on}
-use Rattle.covering_laws.specs.ProgramCalls.{IsLinkedTo, IsOlderAtResult, IsReturned, is_new}
-use Rattle.covering_laws.proofs.EndLinks.{end_keeps, end_links, end_links_one, gone_evolves, gone_links}
-use Rattle.covering_laws.proofs.Returned.{IsFrom, end_back, end_count, end_lines, finished_by, gone_back, gone_count, gone_unowned, result_back, result_takes}
-use Rattle.content_heap_laws.proofs.FrameEnds.{contents_end_met, nothing_unmet_goes}
+use Rattle.content_laws.specs.Heaps.{GoesOn, HasEarlierLinks, IsKeptOr, KeepsLinks}
+use Rattle.content_laws.specs.Leading.{Leads, LinksOne, is_passed_on}
+use Rattle.content_laws.proofs.LibraryCallLaws.{changed_object_at-object, evolving_heaps-links, leading_links-on, noted_names_reach_roots, notes_add_names-object, roots_go_on-number, roots_go_on-root, roots_go_on-value, roots_of_links-itself, roots_over_a_link-linked, roots_over_a_link-value, unchanged_fields_keep_contents}
+use Rattle.content_laws.proofs.RootLaws.{has_object}
+use Rattle.content_laws.proofs.ObjectLaws.{goes_on_further}
+use Rattle.content_laws.proofs.Links.{passed_on}
+use Rattle.content_laws.specs.ProgramCalls.{IsLinkedTo, IsOlderAtResult, IsReturned, is_new}
+use Rattle.content_laws.proofs.EndLinks.{end_keeps, end_links, end_links_one, gone_evolves, gone_links}
+use Rattle.content_laws.proofs.Returned.{IsFrom, end_back, end_count, end_lines, finished_by, gone_back, gone_count, gone_unowned, result_back, result_takes}
+use Rattle.content_laws.proofs.HeapFrameEnds.{contents_end_met, nothing_unmet_goes}
 use Rattle.soundness_laws.specs.Supports.{Supports}
-use Rattle.content_heap_laws.specs.Chains.{HaveEnds, IsLast}
-use Rattle.content_heap_laws.specs.Agreement.{Agrees, Awaits, IsAwaited, IsMadeAfter, IsMadeBy, IsTracked, Stands, Tracks, is_answering}
-use Rattle.content_heap_laws.specs.PlainForms.{HasPlainForms, IsPlainAction}
-use Rattle.thrown_value_laws.specs.FieldContents as fields
-use Rattle.thrown_value_laws.specs.FieldContents.{IsBeingMade, LinksLead}
-use Rattle.thrown_value_laws.specs.PlaceFacts.{IsCovered, may_owe}
-use Rattle.content_heap_laws.proofs.Growth.{gone_grows}
-use Rattle.content_heap_laws.specs.Outcomes.{IsFault}
-use Rattle.content_heap_laws.proofs.Ends.{end_row}
-use Rattle.content_heap_laws.proofs.OwedFacts.{owed}
-use Rattle.covering_laws.proofs.CallNames.{IsReceiver, noted_receiver, object_with_root, same_interest, small_name}
-use Rattle.covering_laws.proofs.Births.{heavy_by_unmet}
-use Rattle.covering_laws.proofs.EndHeaps.{small_notes}
-use Rattle.content_heap_laws.proofs.Goes.{unmet_owes}
-use Rattle.covering_laws.proofs.OwnNames.{chosen_by_note, own_name_called}
-use Rattle.covering_laws.proofs.KnownNames.{AreKept, known_after_call}
-use Rattle.covering_laws.proofs.LocalSteps.{resets_nothing}
+use Rattle.content_laws.specs.Chains.{HaveEnds, IsLast}
+use Rattle.content_laws.specs.Agreement.{Agrees, Awaits, HasMadeClasses, IsAwaited, IsMadeAfter, IsMadeBy, IsTracked, Stands, Tracks, is_answering}
+use Rattle.content_laws.specs.PlainForms.{HasPlainForms, IsPlainAction}
+use Rattle.content_laws.specs.FieldContents as fields
+use Rattle.content_laws.specs.FieldContents.{IsBeingMade, LinksLead}
+use Rattle.content_laws.specs.PlaceFacts.{IsCovered, gives_none, is_frame_below, may_owe}
+use Rattle.content_laws.proofs.Growth.{gone_grows}
+use Rattle.content_laws.specs.Outcomes.{IsFault}
+use Rattle.content_laws.proofs.FactEnds.{end_row}
+use Rattle.content_laws.proofs.OwedFacts.{owed}
+use Rattle.content_laws.proofs.CallNames.{IsReceiver, noted_receiver, object_with_root, same_interest, small_name}
+use Rattle.content_laws.proofs.Births.{heavy_by_unmet}
+use Rattle.content_laws.proofs.EndHeaps.{small_notes}
+use Rattle.content_laws.proofs.Goes.{not_the_librarys_owes}
+use Rattle.content_laws.proofs.OwnNames.{chosen_by_note, own_name_called}
+use Rattle.content_laws.proofs.KnownNames.{AreKept, known_after_call}
+use Rattle.content_laws.proofs.LocalSteps.{resets_nothing}
 use Rattle.soundness_laws.proofs.KeptPromises.{GivesRoot, ReturnsAlias, ShowsOperands}
-use Rattle.covering_laws.specs.Steps.{RootsStay}
-use Rattle.covering_laws.proofs.Carried.{still_awaited}
-use Rattle.covering_laws.proofs.Following.{breaks_nothing}
-use Rattle.covering_laws.proofs.Chains.{IsLastOwned, IsOwnedAs, IsSame, ends_on, given_up_last, kept_owner, object_there}
-use Rattle.library_call_laws.proofs.EndLaws.{frame_back, holder_back, is_held}
-use Rattle.covering_laws.proofs.Landing.{landed}
-use Rattle.covering_laws.proofs.Ready.{plain_step, ready, step_there}
-use Rattle.covering_laws.proofs.Results.{IsGivenBack, moved_is_result}
-use Rattle.covering_laws.proofs.Stacks.{KeepsClasses, below_top, called_on, tracked_bounded}
-use Rattle.covering_laws.proofs.Tracking.{same_body, tracks_call}
-use Rattle.covering_laws.proofs.Unmet.{owner_of, may_go, unmet_before, way_of_call}
+use Rattle.content_laws.specs.Steps.{RootsStay}
+use Rattle.content_laws.proofs.Carried.{still_awaited}
+use Rattle.content_laws.proofs.FrameFollowing.{breaks_nothing}
+use Rattle.content_laws.proofs.Chains.{IsLastOwned, IsOwnedAs, IsSame, ends_on, given_up_last, kept_owner, object_there}
+use Rattle.content_laws.proofs.EndLaws.{frame_back, holder_back, is_held}
+use Rattle.content_laws.proofs.Landing.{landed}
+use Rattle.soundness_laws.proofs.MadeClasses.{classes_on}
+use Rattle.content_laws.proofs.Ready.{plain_step, ready, resets_plainly, step_there}
+use Rattle.content_laws.proofs.Results.{IsGivenBack, moved_is_result}
+use Rattle.content_laws.proofs.Stacks.{KeepsClasses, below_top, called_on, tracked_bounded}
+use Rattle.content_laws.proofs.TargetTracks.{untargeted}
+use Rattle.content_laws.proofs.Tracking.{same_body, tracks_call}
+use Rattle.content_laws.proofs.Unmet.{owner_of, may_go, unmet_before, way_of_call}
 use Rattle.soundness_laws.proofs.LibrarySteps.{same_alias}
 use Rattle.soundness_laws.proofs.Supporting.{object_of_number}
 use Rattle.soundness_laws.proofs.Answered.{IsAnswered, finished_tracks, returned_tracks}
@@ -146,7 +148,7 @@ pub record IsKept (p : Program) (i : ℕ) (runs : Option Method) (v : Value) (e 
 module _ (p : Program) (ac : Accept p) (forms : HasPlainForms p) (names : HasSmallInterests p) (fr caller : Frame) (frs : List Frame) (h : HeapContents) (es : List Entry)
     (agrees : Agrees p (fr ∷ caller ∷ frs) h es) (i : ℕ) (s : Step) (here : slice_get (frame_steps p fr) i ≡ Some s) (q : Completion) (is : s.action ≡ actions.End q)
     (j : ℕ) (t : Step) (there : slice_get (frame_steps p caller) j ≡ Some t) (named : MethodId) (answer : IsAnswered p h fr caller q t named) (sup : Supports p h fr) (making : IsBeingMade p h fr caller)
-    (shows : ShowsOperands p h fr caller) (led : LinksLead p h) (covered : IsCovered p h fr) (dispatched : fields.IsDispatched p h fr caller) where
+    (shows : ShowsOperands p h fr caller (length frs + 1)) (led : LinksLead p h) (covered : IsCovered p h gives_none (caller ∷ frs) fr) (dispatched : fields.IsDispatched p h fr caller) where
   st : Stands p fr
   st = agrees.standing.0
 
@@ -351,17 +353,20 @@ module _ (p : Program) (ac : Accept p) (forms : HasPlainForms p) (names : HasSma
         (λ same. true≢false (sym (and_parts x.finished (not (set.is_subset x.must x.called)) unmet).0 ∙ being_made n x one.2 (one.3 ∙ ap Some (sym same)) before)))
   ]
 
+  class_before : (n : ℕ) (y : Object) → IsFrom p at fr.locals.this caller.locals t.action (method_at p named) gone answer.no_reset e n y → (x : Object) × (object_at h n ≡ Some x) × (y.class ≡ x.class)
+  class_before n y (inl made) = let z = was_there n made.0 made.1 in (z.0, z.1, made.2.class ∙ z.2.class)
+  class_before n y (inr (inl alias)) = let z = was_there n alias.0 alias.1 in (z.0, z.1, alias.2.class ∙ z.2.class)
+  class_before n y (inr (inr noted)) = let z = was_there n noted.0 noted.1 in (z.0, z.1, sym (ap (λ (u : Object). u.class) noted.2) ∙ z.2.class)
+
   keeps : KeepsClasses h heap
   keeps = record {
     count = (let same = end_count p at fr.locals.this caller.locals t.action (method_at p named) gone answer.no_reset e in
         let more = gone_count p at fr.locals.this runs v e h in omega (arith, same, more));
-    class = λ n y now small. by n y (from n y now);
+    class = λ n y now small. class_before n y (from n y now);
   }
-    where
-      by : (n : ℕ) (y : Object) → IsFrom p at fr.locals.this caller.locals t.action (method_at p named) gone answer.no_reset e n y → (x : Object) × (object_at h n ≡ Some x) × (y.class ≡ x.class)
-      by n y (inl made) = let z = was_there n made.0 made.1 in (z.0, z.1, made.2.class ∙ z.2.class)
-      by n y (inr (inl alias)) = let z = was_there n alias.0 alias.1 in (z.0, z.1, alias.2.class ∙ z.2.class)
-      by n y (inr (inr noted)) = let z = was_there n noted.0 noted.1 in (z.0, z.1, sym (ap (λ (u : Object). u.class) noted.2) ∙ z.2.class)
+
+  classes : HasMadeClasses p heap
+  classes = classes_on p h heap agrees.classes (λ n y now. inl (class_before n y (from n y now)))
 
   abbrev all : ℕ → Object → Object
   all = noted_object (all_notes p gone (receiver_note caller.locals t.action (method_at p named)))
@@ -396,13 +401,17 @@ module _ (p : Program) (ac : Accept p) (forms : HasPlainForms p) (names : HasSma
 
   -- ---- the names of the call
 
-  module _ (n : ℕ) (y : Object) (old : IsOld n y) (unmet : is_unmet y ≡ true) (heavy : is_heavy_class p old.before.class ≡ true) (name : NameId)
+  module _ (n : ℕ) (y : Object) (old : IsOld n y) (unmet : is_unmet y ≡ true) (mine : old.before.owner ≡ owners.Frame at) (heavy : is_heavy_class p old.before.class ≡ true) (name : NameId)
       (r : IsReceiver h caller.locals t.action (method_at p named) n name) (interest : interest_in (callees.callee p t.action) ≡ Some name) where
     was_unmet : is_unmet old.before ≡ true
     was_unmet = unmet_before old.before y old.goes_on unmet
 
     owes : may_owe old.before ≡ true
-    owes = unmet_owes old.before was_unmet
+    owes = not_the_librarys_owes old.before (ap is_library_owner mine)
+
+    -- the caller, a frame below, owns the object
+    low : is_frame_below (length (caller ∷ frs) + 1) old.before.owner ≡ true
+    low = ap (is_frame_below (length (caller ∷ frs) + 1)) mine ∙ lt-ltb at (length (caller ∷ frs) + 1) (omega arith)
 
     first : (x : Object) × (object_at h r.object ≡ Some x)
     first = has_object h r.object n old.before r.root old.there
@@ -433,9 +442,9 @@ module _ (p : Program) (ac : Accept p) (forms : HasPlainForms p) (names : HasSma
     own_called : is_passed_on p its first.0 ≡ false → set.contains y.called name.0 ≡ true
     own_called stopped =
         within_at old.before.called y.called old.goes_on.called name.0
-        (own_name_called p ac forms h agrees.links fr caller st covered i s q here is j t there named answer.method answer.calls answer.named_at dispatched name
+        (own_name_called p ac forms h agrees.links fr caller frs st covered i s q here is j t there named answer.method answer.calls answer.named_at dispatched name
         (ap interest_in (sym (same_callee ∙ answer.named_at)) ∙ interest) (chosen_by_note caller.locals t.action (method_at p named) its r.noted) n old.before old.there heavy owes
-        (and_parts old.before.finished (not (set.is_subset old.before.must old.before.called)) was_unmet).0 r.object first.0 r.value first.1 way stopped)
+        (and_parts old.before.finished (not (set.is_subset old.before.must old.before.called)) was_unmet).0 agrees.classes (inr (inl low)) r.object first.0 r.value first.1 way stopped)
 
     name_called : set.contains y.called name.0 ≡ true
     name_called = go (is_passed_on p its first.0) refl
@@ -488,38 +497,39 @@ module _ (p : Program) (ac : Accept p) (forms : HasPlainForms p) (names : HasSma
     were_unmet : is_unmet old.before ≡ true
     were_unmet = unmet_before old.before y old.goes_on unmet
 
-    goes_on : Awaits p h caller n old.before → Tracks p heap after n y
-    goes_on w =
+    goes_on : old.before.owner ≡ owners.Frame at → Awaits p h caller n old.before → Tracks p heap after n y
+    goes_on mine w =
         tracks_call p ac forms h heap caller below j t there (way_of_call t answer.row) given n old.before y (stays n old.before old.there were_unmet) old.goes_on unmet w.tracks answer.row
-        (known_after_call p below.number t.action t.edge w.tracks.fact y.called answer.row (resets_nothing p t.action form)
+        (untargeted p t.action w.tracks.fact.places (ap reset_in (ap (callee_in p) answer.calls ∙ answer.named_at) ∙ sym (ap reset_position answer.named_at) ∙ answer.no_reset))
+        (known_after_call p below.number t.action t.edge w.tracks.fact y.called answer.row (resets_nothing p below.number caller.control t.action (resets_plainly p ac forms caller below j t there))
         (within_trans w.tracks.fact.called old.before.called y.called w.tracks.follows.called old.goes_on.called) noted
         shown.0)
         (λ gives. given_root n old.before old.there were_unmet (gives_normally w.tracks.fact.places gives) (shown.1 gives))
         (w.stays j t there)
       where
         shown : AreKept p below.number t.action w.tracks.fact.places y.called (promises_at p t.action t.edge) × ReturnsAlias p h fr caller t.action t.edge w.tracks.fact.places q n
-        shown = shows below i j s t q n old.before y w.tracks here is there answer.row answer.normal answer.thrown old.there were_unmet old.goes_on (w.stays j t there)
+        shown = shows below i j s t q n old.before y w.tracks here is there answer.row answer.normal answer.thrown old.there were_unmet old.goes_on mine (w.stays j t there)
 
         noted : (name : NameId) → holds_receiver t.action w.tracks.fact.places ≡ true → interest_in (callees.callee p t.action) ≡ Some name → set.contains y.called name.0 ≡ true
         noted name receives interest =
-            name_called n y old unmet (heavy_by_unmet p old.before.class old.before were_unmet w.tracks.follows.bounded) name
+            name_called n y old unmet mine (heavy_by_unmet p old.before.class old.before were_unmet w.tracks.follows.bounded) name
             (subst (λ (m : Option Method). IsReceiver h caller.locals t.action m n name) (ap (callee_in p) answer.calls)
             (noted_receiver p ac h caller.method caller.locals t.action n w.tracks.fact.places name form (ready p ac forms caller below j t there (way_of_call t answer.row)).small
             w.tracks.follows.places receives interest)) interest
 
-    waited : IsAwaited p h (caller ∷ frs) n old.before k → IsTracked p heap (after ∷ frs) n y k
-    waited w = go (nat_eq (length frs + 1) k) w
+    waited : old.before.owner ≡ owners.Frame k → IsAwaited p h (caller ∷ frs) n old.before k → IsTracked p heap (after ∷ frs) n y k
+    waited mine w = go (nat_eq (length frs + 1) k) refl w
       where
-        go : (b : Bool) → MatchBool b (Awaits p h caller n old.before) (IsAwaited p h frs n old.before k) → MatchBool b (Tracks p heap after n y) (IsAwaited p heap frs n y k)
-        go true w' = goes_on w'
-        go false w' = still_awaited p h heap frs n old.before y k (stays n old.before old.there were_unmet) old.goes_on w'
+        go : (b : Bool) → nat_eq (length frs + 1) k ≡ b → MatchBool b (Awaits p h caller n old.before) (IsAwaited p h frs n old.before k) → MatchBool b (Tracks p heap after n y) (IsAwaited p heap frs n y k)
+        go true here' w' = goes_on (mine ∙ ap owners.Frame (sym (eqb-true (length frs + 1) k here'))) w'
+        go false other w' = still_awaited p h heap frs n old.before y k (stays n old.before old.there were_unmet) old.goes_on w'
 
     at_top : at ≡ k → Tracks p heap after n y → IsTracked p heap (after ∷ frs) n y k
     at_top same w = rw (eq-eqb (length frs + 1) k same) w
 
     old_tracked : y.owner ≡ owners.Frame k → IsTracked p heap (after ∷ frs) n y k
     old_tracked owner = elim old.owner [
-      | inl same ↦ waited (below_top p h fr (caller ∷ frs) n old.before k
+      | inl same ↦ waited (sym same ∙ owner) (below_top p h fr (caller ∷ frs) n old.before k
           (λ (top : length (caller ∷ frs) + 1 ≡ k). none n old.between old.present old.unmet (frame_is old.between.owner (old.owned ∙ owner) top))
           (agrees.tracked n old.before k old.there (unmet_before old.before y old.goes_on unmet) (sym same ∙ owner)))
       | inr given ↦ at_top (let same : owners.Frame at ≡ owners.Frame k = sym given.owner ∙ owner in cc)
@@ -680,5 +690,5 @@ module _ (p : Program) (ac : Accept p) (forms : HasPlainForms p) (names : HasSma
       let lines = call_end_entries p t.pos at fr.locals.this caller.locals t.action (method_at p named) e gone ++ owner_entries p t.pos h moved in
       subst (λ (leaks : List Entry). Agrees p (after ∷ frs) (left p t.pos (held_by (after ∷ frs)) lines leaks heap).heap (es ++ (left p t.pos (held_by (after ∷ frs)) lines leaks heap).lines))
       (sym (contents_end_met p at fr.locals.this runs v e h none free pos))
-      (landed p (after ∷ frs) heap es t.pos lines (stands, agrees.standing.1.1) (called_on p h heap keeps caller after frs refl refl agrees.stacked.1) links ends tracked answers agrees.no_leak
+      (landed p (after ∷ frs) heap es t.pos lines (stands, agrees.standing.1.1) (called_on p h heap keeps caller after frs refl refl agrees.stacked.1) links ends classes tracked answers agrees.no_leak
       (end_lines p t.pos at fr.locals.this caller.locals t.action (method_at p named) e gone h moved))

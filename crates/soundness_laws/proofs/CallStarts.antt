@@ -1,6 +1,7 @@
 -- A call of a method of the program begins a frame.
 use Rattle.std.proofs.Common.{◌≡◌, ◌⊎◌, inl, inr, ℕ, ◌+◌, ◌<◌, ◌≤◌, Bool, true, false, not, ◌&&◌, Option, Some, None, List, ◌∷◌, ◌++◌, length, slice_get, nat_eq, nat_le, nat_lt, refl, sym, ap, ◌∙◌, subst, true≢false, if◌then◌else◌, arith, eq-eqb, eqb-true}
 use Rattle.std.specs.FinSet as set
+use Rattle.std.specs.Option.{IsSomeAnd}
 use Rattle.std.specs.Prelude.{MatchBool}
 use Rattle.std.proofs.lemmas.Bool.Decides.{nat_tests}
 use Rattle.std.proofs.lemmas.Bool.{and_parts}
@@ -15,17 +16,18 @@ use Rattle.program_model.specs.declared.program.Method.{Method}
 use Rattle.program_model.specs.declared.program.ParamSig.{ParamSig}
 use Rattle.program_model.specs.declared.program.Program.{Program}
 use Rattle.program_model.specs.Lookups.{method_at}
-use Rattle.conduct_laws.specs.Bodies.{constructs}
-use Rattle.conduct_laws.specs.MustCallSets.{Names, fits, is_empty, is_heavy_class, must_of, must_of_type}
+use Rattle.program_model.specs.Overrides.{is_abstract}
+use Rattle.ledger_obligations.specs.Bodies.{constructs}
+use Rattle.ledger_obligations.specs.MustCallSets.{Names, fits, is_heavy_class, must_of, must_of_type}
 use Rattle.java_control.specs.Calls.{called_method, temp_at}
 use Rattle.java_control.specs.Control.{Step}
 use Rattle.java_control.specs.declared.action.Action.{Action}
 use Rattle.java_control.specs.declared.action.Action.TheVariants as actions
-use Rattle.obligation_facts.specs.Callees as callees
-use Rattle.obligation_facts.specs.Callees.{callee_in}
+use Rattle.ownership_rules.specs.Callees as callees
+use Rattle.ownership_rules.specs.Callees.{callee_in}
 use Rattle.ownership_rules.specs.MovesAtCalls.{moved_at_call}
 use Rattle.ownership_rules.specs.declared.moved.Moved.TheVariants as moves
-use Rattle.parameter_fact_laws.specs.Accept.{Accept}
+use Rattle.content_laws.specs.Accept.{Accept}
 use Rattle.ledger_state.specs.Contents.{HeapContents}
 use Rattle.ledger_state.specs.Heaps.{next_number, object_at, root_of, unfinished}
 use Rattle.ledger_state.specs.Locals.{temp_in, temp_value, variable_value}
@@ -35,41 +37,45 @@ use Rattle.ledger_state.specs.declared.locals.Locals.{Locals}
 use Rattle.ledger_state.specs.declared.object.Object.{Object}
 use Rattle.ledger_state.specs.declared.value.Value.TheVariants as values
 use Rattle.ledger_obligations.specs.Obligations.{is_unmet, may_move}
-use Rattle.filled_field_laws.specs.Places.{class_of_method}
-use Rattle.conduct_laws.specs.Calls.{alias_position, argument_values, object_by, operand_of, params_in}
-use Rattle.conduct_laws.specs.Configuration.{Frame, held_by}
-use Rattle.content_heap_laws.specs.Choosing.{frame_steps}
+use Rattle.content_laws.specs.Places.{class_of_method}
+use Rattle.ledger_steps.specs.LedgerCallsCalls.{alias_position, argument_values, object_by, operand_of, params_in}
+use Rattle.content_laws.specs.Configuration.{Frame, held_by}
+use Rattle.content_laws.specs.Choosing.{frame_steps}
 use Rattle.ledger_steps.specs.CallSteps.{began_entries, began_heap, object_of_new, self_begun, started}
-use Rattle.call_step_laws.proofs.Ways.{one_action}
-use Rattle.library_call_laws.specs.Heaps.{GoesOn, HasEarlierLinks, IsGiven, KeepsLinks}
-use Rattle.library_call_laws.proofs.Laws.{appended_object_at-object, moved_arguments_are_given, moved_arguments_are_older-older, evolving_heaps-links, numbers_are_in_range, roots_go_on-root, roots_go_on-value}
-use Rattle.covering_laws.specs.ProgramCalls.{IsNewAtStart, IsOlderAtStart}
-use Rattle.covering_laws.proofs.Begun.{begun_count, begun_evolves, begun_from, begun_given, begun_leaks_nothing, begun_links, begun_makes}
-use Rattle.content_heap_laws.specs.Chains.{HaveEnds, IsLast}
-use Rattle.content_heap_laws.specs.Agreement.{Agrees, Awaits, IsAwaited, IsMade, IsMadeAfter, IsMadeBy, IsTracked, RunsItself, RunsOnSame, Tracks, WaitsFor, is_answering}
-use Rattle.content_heap_laws.specs.PlainForms.{HasPlainForms, MayRun, RunsFor}
-use Rattle.content_heap_laws.specs.Outcomes.{IsCallRow}
+use Rattle.content_laws.specs.Paths.{move_of}
+use Rattle.content_laws.specs.Constructors.{MakesConcrete}
+use Rattle.content_laws.proofs.ConstructorReached.{makes_concrete}
+use Rattle.content_laws.proofs.CallWays.{one_action}
+use Rattle.content_laws.specs.Heaps.{GoesOn, HasEarlierLinks, IsGiven, KeepsLinks}
+use Rattle.content_laws.proofs.LibraryCallLaws.{appended_object_at-object, moved_arguments_are_given, moved_arguments_are_older-older, evolving_heaps-links, numbers_are_in_range, roots_go_on-root, roots_go_on-value}
+use Rattle.content_laws.specs.ProgramCalls.{IsNewAtStart, IsOlderAtStart}
+use Rattle.content_laws.proofs.Begun.{begun_count, begun_evolves, begun_from, begun_given, begun_leaks_nothing, begun_links, begun_makes}
+use Rattle.content_laws.specs.Chains.{HaveEnds, IsLast}
+use Rattle.content_laws.specs.Agreement.{Agrees, Awaits, HasMadeClasses, IsAwaited, IsMade, IsMadeAfter, IsMadeBy, IsTracked, RunsItself, RunsOnSame, Tracks, WaitsFor, is_answering}
+use Rattle.content_laws.specs.PlainForms.{HasPlainForms, MayRun, RunsFor, may_be_made}
+use Rattle.content_laws.specs.Outcomes.{IsCallRow}
 use Rattle.soundness_laws.specs.Supports.{Supports}
-use Rattle.soundness_laws.proofs.Supporting.{not_true}
-use Rattle.target_step_laws.specs.Targets.{FindsIt}
-use Rattle.thrown_value_laws.specs.Frames.{KeepsTargets, holds_this}
-use Rattle.thrown_value_laws.proofs.Begun.{finds}
-use Rattle.obligation_facts.specs.SmallActions.{IsSmallAction}
-use Rattle.covering_laws.specs.Steps.{RootsStay}
-use Rattle.covering_laws.proofs.Carried.{still_awaited, tracks_on}
-use Rattle.covering_laws.proofs.Entries.{HasBegun, argument_at, entered_tracks, like_parameter}
-use Rattle.covering_laws.proofs.Births.{heavy_by_unmet}
-use Rattle.covering_laws.proofs.Given.{given_argument}
-use Rattle.covering_laws.proofs.GivenArguments.{asked_of_operand}
-use Rattle.covering_laws.proofs.Chains.{IsOwnedAs, ends_on}
-use Rattle.covering_laws.proofs.Landing.{landed}
-use Rattle.thrown_value_laws.specs.PlaceFacts.{IsCovered, may_owe}
-use Rattle.thrown_value_laws.specs.Ranges.{LocalsInRange}
-use Rattle.covering_laws.proofs.Values.{operand_in_range}
-use Rattle.covering_laws.proofs.Returned.{finished_by}
-use Rattle.covering_laws.proofs.Ready.{ready, step_here}
-use Rattle.covering_laws.proofs.Stacks.{KeepsClasses, called_on, tracked_bounded, tracked_within}
-use Rattle.covering_laws.proofs.Unmet.{call_may, nothing_to_call, owner_of, may_lies, object_type_of, unmet_before, way_of_call}
+use Rattle.soundness_laws.proofs.MadeClasses.{classes_on, concrete_may}
+use Rattle.content_laws.specs.StepTargets.{FindsIt}
+use Rattle.content_laws.specs.Frames.{KeepsTargets, holds_this}
+use Rattle.content_laws.proofs.TargetBegun.{finds}
+use Rattle.ownership_rules.specs.SmallActions.{IsSmallAction}
+use Rattle.content_laws.specs.Steps.{RootsStay}
+use Rattle.content_laws.proofs.Carried.{still_awaited, tracks_on}
+use Rattle.content_laws.proofs.Entries.{HasBegun, argument_at, entered_tracks, like_parameter}
+use Rattle.content_laws.proofs.Births.{heavy_by_unmet}
+use Rattle.content_laws.proofs.TrackingGiven.{given_argument}
+use Rattle.content_laws.proofs.GivenArguments.{asked_of_operand}
+use Rattle.content_laws.proofs.OwnerSteps.{movable_owes}
+use Rattle.content_laws.proofs.Chains.{IsOwnedAs, ends_on}
+use Rattle.content_laws.proofs.Landing.{landed}
+use Rattle.content_laws.specs.PlaceFacts.{IsCovered, gives_none, may_owe}
+use Rattle.content_laws.specs.Ranges.{LocalsInRange}
+use Rattle.content_laws.proofs.RangeValues.{operand_in_range}
+use Rattle.content_laws.proofs.Returned.{finished_by}
+use Rattle.content_laws.proofs.Ready.{ready, step_here, step_there}
+use Rattle.content_laws.proofs.Stacks.{KeepsClasses, called_on, tracked_bounded, tracked_within}
+use Rattle.content_laws.proofs.Unmet.{call_may, owner_of, may_lies, object_type_of, unmet_before, way_of_call}
 
 -- the frame of a call that the machine begins
 pub record IsStarted (p : Program) (fr callee : Frame) (h : HeapContents) (s : Step) (named runs : MethodId) : Type 0 where
@@ -92,7 +98,7 @@ first_value l d n some small =
     ap (λ (t : Bool). temp_in l (if t then Some (d + 0) else None)) (is_there d n some small) ∙ ap (temp_value l) (let same : d + 0 ≡ d = omega arith in same)
 
 module _ (p : Program) (ac : Accept p) (forms : HasPlainForms p) (fr callee : Frame) (frs : List Frame) (h : HeapContents) (es : List Entry) (agrees : Agrees p (fr ∷ frs) h es)
-    (i : ℕ) (s : Step) (here : slice_get (frame_steps p fr) i ≡ Some s) (named runs : MethodId) (start : IsStarted p fr callee h s named runs) (sup : Supports p h fr) (targets : KeepsTargets p fr) (ranges : LocalsInRange h fr.locals) (covered : IsCovered p h fr) where
+    (i : ℕ) (s : Step) (here : slice_get (frame_steps p fr) i ≡ Some s) (named runs : MethodId) (start : IsStarted p fr callee h s named runs) (sup : Supports p h fr) (targets : KeepsTargets p fr) (ranges : LocalsInRange h fr.locals) (covered : IsCovered p h gives_none frs fr) where
   abbrev frames : List Frame
   frames = callee ∷ fr ∷ frs
 
@@ -194,13 +200,13 @@ module _ (p : Program) (ac : Accept p) (forms : HasPlainForms p) (fr callee : Fr
       asked : (c : ClassId) → g.param.vtype ≡ types.Obj c → (q : ParamSig) → slice_get start.running.sig.params.items g.index ≡ Some q → set.is_subset (must_of p x.class) (must_of_type p g.param.vtype) ≡ true → is_unmet x ≡ true
           → slice_get start.method.sig.params.items g.index ≡ Some g.param → set.is_subset q.before y.called ≡ true
       asked c type q q_at lies unmet' at =
-          let owes : may_owe x ≡ true = ap not (not_true (x.finished && is_empty x.must) (λ both. nothing_to_call x unmet' (and_parts x.finished (is_empty x.must) both).1)) in
+          let owes : may_owe x ≡ true = movable_owes p g.param.vtype x g.may in
           let heavy : is_heavy_class p c ≡ true =
           heavy_by_unmet p c x unmet' (subst (λ (t : VType). set.is_subset x.must (must_of_type p t) ≡ true) type (within_trans x.must (must_of p x.class) (must_of_type p g.param.vtype) bound lies)) in
           let here_root : root_of h (operand_of fr.locals s.action (g.index + 1)) ≡ Some o = ap (λ (k : ℕ). root_of h (operand_of fr.locals s.action k)) (let same : g.index + 1 ≡ 1 + g.index = omega arith in same) ∙ g.root in
           within_trans q.before g.param.before y.called (start.fit.asks g.index q g.param q_at at)
           (within_trans g.param.before x.called y.called
-          (asked_of_operand p ac h fr agrees.standing.0 i s here start.row covered o x before (heavy_by_unmet p x.class x unmet' bound) owes start.method g.index g.param (same_callee ∙ start.named_at) at g.owning c type heavy here_root) goes.called)
+          (asked_of_operand p ac h fr agrees.standing.0 frs i s here start.row covered o x before (heavy_by_unmet p x.class x unmet' bound) owes start.method g.index g.param (same_callee ∙ start.named_at) at g.owning here_root c type heavy) goes.called)
 
       count : (k : ℕ) (q : ParamSig) → slice_get (params_in (method_at p named)) k ≡ Some q → k < length (params_in (method_at p named))
       count k q at = slice_get_within (params_in (method_at p named)) k q at
@@ -333,9 +339,35 @@ module _ (p : Program) (ac : Accept p) (forms : HasPlainForms p) (fr callee : Fr
   ends : HaveEnds heap
   ends = ends_on h heap agrees.ends keeps.count owned
 
+  -- what the call makes is of a class that is not abstract
+  concrete : MakesConcrete p s.action
+  concrete = makes_concrete p ac.well_formed.valid.typed agrees.standing.0.number agrees.standing.0.body fr.control i (move_of s) agrees.standing.0.at agrees.standing.0.control (step_there p fr agrees.standing.0 i s here)
+
+  made_class : (a : Action) → MakesConcrete p a → called_method a ≡ Some named → (o : ℕ) (x : Object) → object_at (object_of_new a (method_at p named) h) o ≡ Some x
+      → (may_be_made p x.class ≡ true) ⊎ (object_at h o ≡ Some x)
+  made_class actions.Skip makes calls o x at = inr at
+  made_class (actions.New m d n) makes calls o x at =
+      go (method_at p named)
+      (subst (λ (k : MethodId). IsSomeAnd (method_at p k) (λ z. is_abstract p z.class ≡ false)) (let both : Some m ≡ Some named = calls in (let one : m ≡ named = cc in one)) makes) at
+    where
+      appended : (c : ClassId) → is_abstract p c ≡ false → (b : Bool) → nat_eq o (next_number h) ≡ b → (if b then Some (unfinished c) else object_at h o) ≡ Some x
+          → (may_be_made p x.class ≡ true) ⊎ (object_at h o ≡ Some x)
+      appended c plain true here' same = inl (subst (λ (z : Object). may_be_made p z.class ≡ true) (let one : unfinished c ≡ x = cc in one) (concrete_may p c plain))
+      appended c plain false here' same = inr same
+
+      go : (k : Option Method) → IsSomeAnd k (λ z. is_abstract p z.class ≡ false) → object_at (object_of_new (actions.New m d n) k h) o ≡ Some x → (may_be_made p x.class ≡ true) ⊎ (object_at h o ≡ Some x)
+      go None plain at' = inr at'
+      go (Some k) plain at' = appended k.class plain (nat_eq o (next_number h)) refl (sym (appended_object_at-object h k.class o) ∙ at')
+  made_class a makes calls o x at = inr at
+
+  classes : HasMadeClasses p heap
+  classes = classes_on p h heap agrees.classes (λ o y at.
+      let old = moved_arguments_are_older-older p (owners.Frame (length frames)) (operand_of fr.locals s.action) 1 (params_in (method_at p named)) (object_of_new s.action (method_at p named) h) o y at in
+      elim (made_class s.action concrete start.calls o old.before old.at) [ inl new ↦ inr (ap (may_be_made p) old.goes_on.class ∙ new) | inr was ↦ inl (old.before, was, old.goes_on.class) ])
+
   pub began_agrees : (pos : Pos)
       → Agrees p frames (started p h fr.locals s.action (method_at p named) (length frames) pos (held_by frames)).heap
       (es ++ (started p h fr.locals s.action (method_at p named) (length frames) pos (held_by frames)).lines)
   began_agrees pos = landed p frames heap es pos (began_entries p pos fr.locals s.action (method_at p named) (length frames) h)
-      (start.begun.stands, agrees.standing) (waits, called_on p h heap keeps fr fr frs refl refl agrees.stacked) links ends tracked answered agrees.no_leak
+      (start.begun.stands, agrees.standing) (waits, called_on p h heap keeps fr fr frs refl refl agrees.stacked) links ends classes tracked answered agrees.no_leak
       (begun_leaks_nothing p fr.locals s.action (method_at p named) (length frames) h agrees.links pos)

@@ -8,15 +8,15 @@ use Rattle.program_model.specs.NameSets.{Names}
 use Rattle.program_model.specs.declared.kinds.ClassId.{ClassId}
 use Rattle.program_model.specs.declared.kinds.FieldId.{FieldId}
 use Rattle.program_model.specs.declared.program.Program.{Program}
-use Rattle.conduct_laws.specs.MustCallSets.{must_of, must_of_type}
-use Rattle.conduct_laws.specs.OwningCases.{finalized}
-use Rattle.parameter_fact_laws.specs.Accept.{Accept}
+use Rattle.ledger_obligations.specs.MustCallSets.{must_of, must_of_type}
+use Rattle.must_call_reset.specs.OwningCases.{finalized}
+use Rattle.content_laws.specs.Accept.{Accept}
 use Rattle.ledger_state.specs.Contents.{HeapContents}
 use Rattle.ledger_state.specs.declared.object.Object.{Object}
 use Rattle.ledger_obligations.specs.Obligations.{is_unmet}
-use Rattle.conduct_laws.specs.Configuration.{Frame}
-use Rattle.thrown_value_laws.specs.FieldContents.{IsContent, promised_on}
-use Rattle.filled_field_laws.proofs.Finalizers.{is_promised, owned_names}
+use Rattle.content_laws.specs.Configuration.{Frame}
+use Rattle.content_laws.specs.FieldContents.{IsContent, promised_on}
+use Rattle.content_laws.proofs.Finalizers.{is_promised, owned_names}
 
 module _ (p : Program) (ac : Accept p) (frs : List Frame) (h : HeapContents) (o : ℕ) (x : Object) (w : ℕ) (f : FieldId) (content : IsContent p frs h o x w f) (finished : content.holder.finished ≡ true) where
   -- a name of the content, where the holder is met

@@ -12,10 +12,10 @@ use Rattle.java_control.specs.declared.action.Action.{Action}
 use Rattle.java_control.specs.declared.action.Action.TheVariants as actions
 use Rattle.java_control.specs.declared.action.Edge.{Edge}
 use Rattle.java_control.specs.declared.action.Edge.TheVariants as edges
-use Rattle.obligation_facts.specs.Callees.{may_be_null_target}
-use Rattle.obligation_facts.specs.Facts.{PlaceSet}
-use Rattle.covered_field_laws.specs.Aliases.{gives_alias}
-use Rattle.parameter_fact_laws.specs.Accept.{Accept}
+use Rattle.ownership_rules.specs.Callees.{may_be_null_target}
+use Rattle.ownership_rules.specs.Facts.{PlaceSet}
+use Rattle.content_laws.specs.Aliases.{gives_alias}
+use Rattle.content_laws.specs.Accept.{Accept}
 use Rattle.ledger_state.specs.Contents.{HeapContents}
 use Rattle.ledger_state.specs.Heaps.{next_number, object_at}
 use Rattle.ledger_state.specs.Values.{number_of}
@@ -27,34 +27,38 @@ use Rattle.ledger_state.specs.declared.locals.Locals.{Locals}
 use Rattle.ledger_state.specs.declared.object.Object.{Object}
 use Rattle.ledger_state.specs.declared.value.Value.{Value}
 use Rattle.ledger_obligations.specs.Obligations.{is_unmet}
-use Rattle.conduct_laws.specs.Calls.{operand_of}
-use Rattle.conduct_laws.specs.Configuration.{Frame, held_by}
-use Rattle.content_heap_laws.specs.Choosing.{frame_steps}
-use Rattle.content_heap_laws.specs.Frames.{frame_after}
+use Rattle.ledger_steps.specs.LedgerCallsCalls.{operand_of}
+use Rattle.content_laws.specs.Configuration.{Frame, held_by}
+use Rattle.content_laws.specs.Choosing.{frame_steps}
+use Rattle.content_laws.specs.LedgerFramesFrames.{frame_after}
 use Rattle.ledger_steps.specs.declared.store.Store.{Store}
 use Rattle.ledger_steps.specs.InnerSteps.{displaced_entries, heap_stored, inner, store_entries, store_into, store_of, store_unless, thrown_heap}
 use Rattle.rlc_base.proofs.SetLaws.{within_self}
-use Rattle.library_call_laws.specs.Heaps.{GoesOn, HasEarlierLinks, KeepsLinks}
-use Rattle.content_heap_laws.specs.Chains.{HaveEnds, IsLast}
-use Rattle.content_heap_laws.specs.Agreement.{Agrees, IsTracked, Stands, Tracks, is_answering}
-use Rattle.content_heap_laws.specs.PlainForms.{HasPlainForms, IsPlainAction}
-use Rattle.content_heap_laws.specs.Outcomes.{IsCallRow, IsPlainRow}
-use Rattle.filled_field_laws.specs.Nexts.{IsNullCall, IsPlainStep}
-use Rattle.covering_laws.specs.Steps.{RootsStay}
-use Rattle.covering_laws.proofs.CallNames.{operand_of_fact, receiver_operand}
-use Rattle.covering_laws.proofs.KnownNames.{known_after_call}
-use Rattle.covering_laws.proofs.LocalSteps.{resets_nothing}
+use Rattle.content_laws.specs.Heaps.{GoesOn, HasEarlierLinks, KeepsLinks}
+use Rattle.content_laws.specs.Chains.{HaveEnds, IsLast}
+use Rattle.content_laws.specs.LibraryClasses.{ThrowsMadeClasses}
+use Rattle.content_laws.specs.Agreement.{Agrees, HasMadeClasses, IsTracked, Stands, Tracks, is_answering}
+use Rattle.content_laws.specs.PlainForms.{HasPlainForms, IsPlainAction, may_be_made}
+use Rattle.content_laws.specs.Outcomes.{IsCallRow, IsPlainRow}
+use Rattle.content_laws.specs.Nexts.{IsNullCall, IsPlainStep}
+use Rattle.content_laws.specs.Steps.{RootsStay}
+use Rattle.content_laws.proofs.CallNames.{operand_of_fact, receiver_operand}
+use Rattle.content_laws.proofs.KnownNames.{known_after_call}
+use Rattle.content_laws.proofs.LocalSteps.{resets_nothing}
+use Rattle.content_laws.proofs.Operations.{null_pointer_class, operations_throw_made_classes}
 use Rattle.soundness_laws.proofs.KeptPromises.{null_target_promises}
-use Rattle.covering_laws.proofs.Chains.{ends_on}
-use Rattle.covering_laws.proofs.Landing.{landed}
-use Rattle.library_call_laws.proofs.Counts.{thrown_count}
-use Rattle.library_call_laws.proofs.Laws.{roots_go_on-value}
-use Rattle.library_call_laws.proofs.Laws.{exceptions_are_the_librarys, exceptions_keep_links-evolves, unfinished_objects_stay_unowned-exception}
-use Rattle.covering_laws.proofs.Stacks.{KeepsClasses, called_on}
-use Rattle.covering_laws.proofs.Unmet.{way_of_call}
-use Rattle.covering_laws.proofs.Moving.{moved_is_given}
-use Rattle.covering_laws.proofs.Ready.{plain_step, ready}
-use Rattle.covering_laws.proofs.Tracking.{is_owing, null_is_no_object, stack_tracks, tracks_call, tracks_plain}
+use Rattle.soundness_laws.proofs.MadeClasses.{classes_on}
+use Rattle.content_laws.proofs.Chains.{ends_on}
+use Rattle.content_laws.proofs.Landing.{landed}
+use Rattle.content_laws.proofs.Counts.{thrown_count}
+use Rattle.content_laws.proofs.LibraryCallLaws.{roots_go_on-value}
+use Rattle.content_laws.proofs.LibraryCallLaws.{exceptions_are_the_librarys, exceptions_keep_links-evolves, unfinished_objects_stay_unowned-exception}
+use Rattle.content_laws.proofs.Stacks.{KeepsClasses, called_on}
+use Rattle.content_laws.proofs.Unmet.{way_of_call}
+use Rattle.content_laws.proofs.Moving.{moved_is_given}
+use Rattle.content_laws.proofs.Ready.{plain_step, ready, resets_plainly}
+use Rattle.content_laws.proofs.TargetTracks.{target_or_not, tracks_target}
+use Rattle.content_laws.proofs.Tracking.{is_owing, null_is_no_object, stack_tracks, tracks_call, tracks_plain}
 
 -- an object as it is goes on
 pub same_goes_on : (x : Object) → GoesOn x x
@@ -128,7 +132,7 @@ module _ (p : Program) (ac : Accept p) (forms : HasPlainForms p) (fr : Frame) (f
   ])
 
   -- an object was there before, or is the library's
-  was_there : (o : ℕ) (y : Object) → object_at heap o ≡ Some y → (object_at h o ≡ Some y) ⊎ ((o ≡ next_number h) × (y.owner ≡ owners.Library) × (y.link ≡ None))
+  was_there : (o : ℕ) (y : Object) → object_at heap o ≡ Some y → (object_at h o ≡ Some y) ⊎ ((o ≡ next_number h) × (y.owner ≡ owners.Library) × (y.link ≡ None) × (e ≡ Some y.class))
   was_there o y at = exceptions_are_the_librarys p e h o y (sym (plain_stored p (method_at p fr.method) fr.locals store (thrown_heap p e h) o is_plain) ∙ at)
 
   links : HasEarlierLinks heap
@@ -151,16 +155,19 @@ module _ (p : Program) (ac : Accept p) (forms : HasPlainForms p) (fr : Frame) (f
       let row = call.row in
       let st = agrees.standing.0 in
       let way = way_of_call s row in
-      let form = plain_step p ac forms fr st i s here in
       let small = (ready p ac forms fr st i s here way).small in
-      tracks_call p ac forms h heap fr st i s here way v o y y (stays o y before) (same_goes_on y) unmet t row
-      (known_after_call p st.number s.action s.edge t.fact y.called row (resets_nothing p s.action form) t.follows.called
-      (λ n held named. absurd (null_is_no_object h (operand_of fr.locals s.action 0) o call.null
-      (operand_of_fact p h fr.method fr.locals s.action o 0 t.fact.places small (omega arith) t.follows.places (receiver_operand p h fr.method fr.locals o s.action t.fact.places t.follows.places held).1)))
-      (null_target_promises p st.number s.action s.edge t.fact.places y.called call.target))
-      (λ gives. absurd (null_gives_none p s.action s.edge t.fact.places call.target gives))
-      (λ moved. true≢false (sym ((moved_is_given p t.origin s.action s.edge t.fact moved).started call.target)
-      ∙ is_owing p ac forms h heap fr st i s here way v o y y (stays o y before) (same_goes_on y) unmet t))
+      elim (target_or_not p s.action t.fact.places) [
+        | inl target ↦ tracks_target p ac forms h heap fr st i s here way v o y y (stays o y before) refl t.follows.bounded unmet t row target
+            (λ gives. absurd (null_gives_none p s.action s.edge t.fact.places call.target gives))
+        | inr out ↦ tracks_call p ac forms h heap fr st i s here way v o y y (stays o y before) (same_goes_on y) unmet t row out
+            (known_after_call p st.number s.action s.edge t.fact y.called row (resets_nothing p st.number fr.control s.action (resets_plainly p ac forms fr st i s here)) t.follows.called
+            (λ n held named. absurd (null_is_no_object h (operand_of fr.locals s.action 0) o call.null
+            (operand_of_fact p h fr.method fr.locals s.action o 0 t.fact.places small (omega arith) t.follows.places (receiver_operand p h fr.method fr.locals o s.action t.fact.places t.follows.places held).1)))
+            (null_target_promises p st.number s.action s.edge t.fact.places y.called call.target))
+            (λ gives. absurd (null_gives_none p s.action s.edge t.fact.places call.target gives))
+            (λ moved. true≢false (sym ((moved_is_given p t.origin s.action s.edge t.fact moved).started call.target)
+            ∙ is_owing p ac forms h heap fr st i s here way v o y y (stays o y before) (same_goes_on y) unmet t))
+      ]
 
   top : (o : ℕ) (y : Object) → object_at h o ≡ Some y → is_unmet y ≡ true → Tracks p h fr o y → Tracks p heap after o y
   top o y before unmet t = elim kind [
@@ -191,9 +198,19 @@ module _ (p : Program) (ac : Accept p) (forms : HasPlainForms p) (fr : Frame) (f
       by_finished o y at false unmade = inr (agrees.ends.unfinished o y
           (unfinished_objects_stay_unowned-exception p e h o y (sym (plain_stored p (method_at p fr.method) fr.locals store (thrown_heap p e h) o is_plain) ∙ at) unmade) unmade)
 
-  pub inner_agrees : Stands p after
+  -- what is thrown is of a class of which there may be objects
+  thrown_class : ThrowsMadeClasses p → (c : ClassId) → e ≡ Some c → may_be_made p c ≡ true
+  thrown_class throws c is = elim kind [
+    | inl step ↦ operations_throw_made_classes p throws h arrays fr.locals s.action c (sym step.thrown ∙ is)
+    | inr null ↦ subst (λ (k : ClassId). may_be_made p k ≡ true) (let both : Some p.core.null_pointer_exception ≡ Some c = sym null.thrown ∙ is in (let one : p.core.null_pointer_exception ≡ c = cc in one)) (null_pointer_class p throws)
+  ]
+
+  classes : ThrowsMadeClasses p → HasMadeClasses p heap
+  classes throws = classes_on p h heap agrees.classes (λ o y at. elim (was_there o y at) [ inl old ↦ inl (y, old, refl) | inr new ↦ inr (thrown_class throws y.class new.3) ])
+
+  pub inner_agrees : ThrowsMadeClasses p → Stands p after
       → Agrees p (after ∷ frs) (inner p h fr.method fr.locals e s.action s.pos (held_by (after ∷ frs))).heap
       (es ++ (inner p h fr.method fr.locals e s.action s.pos (held_by (after ∷ frs))).lines)
-  inner_agrees stands =
-      let agreed = landed p (after ∷ frs) heap es s.pos [] (stands, agrees.standing.1) (called_on p h heap keeps fr after frs refl refl agrees.stacked) links ends tracked answered agrees.no_leak refl in
+  inner_agrees throws stands =
+      let agreed = landed p (after ∷ frs) heap es s.pos [] (stands, agrees.standing.1) (called_on p h heap keeps fr after frs refl refl agrees.stacked) links ends (classes throws) tracked answered agrees.no_leak refl in
       rw (plain_lines p s.pos (method_at p fr.method) fr.locals store (thrown_heap p e h) is_plain, plain_displaced p s.pos store (thrown_heap p e h) is_plain) agreed

@@ -1,6 +1,6 @@
 -- What the signature of a call promises was called on the object of a fact whose places are variables and temps; and what the end of a frame shows of
 -- such objects.
-use Rattle.std.proofs.Common.{◌≡◌, inl, inr, ℕ, Bool, true, Some, None, List, [], ◌∷◌, slice_get, refl, sym, ap, ◌∙◌, subst, true≢false, if◌then◌else◌}
+use Rattle.std.proofs.Common.{◌≡◌, inl, inr, ℕ, ◌+◌, Bool, true, false, Some, None, List, [], ◌∷◌, length, slice_get, refl, sym, ap, ◌∙◌, subst, true≢false, if◌then◌else◌}
 use Rattle.std.specs.FinSet as set
 use Rattle.rlc_base.proofs.SetLaws.{within_from}
 use Rattle.program_model.specs.declared.kinds.BodyId.{BodyId}
@@ -11,17 +11,17 @@ use Rattle.program_model.specs.declared.kinds.Target.TheVariants as promised
 use Rattle.program_model.specs.declared.program.Program.{Program}
 use Rattle.program_model.specs.declared.program.Promise.{Promise}
 use Rattle.program_model.specs.Lookups.{method_at}
-use Rattle.conduct_laws.specs.Bodies.{throwing_promises_in}
-use Rattle.conduct_laws.specs.MustCallSets.{Names, is_heavy_class}
+use Rattle.ledger_obligations.specs.Bodies.{throwing_promises_in}
+use Rattle.ledger_obligations.specs.MustCallSets.{Names, is_heavy_class}
 use Rattle.java_control.specs.declared.action.Action.{Action}
 use Rattle.java_control.specs.declared.action.Edge.{Edge}
 use Rattle.java_control.specs.declared.action.Edge.TheVariants as edges
-use Rattle.obligation_facts.specs.Callees.{callee, may_be_null_target}
-use Rattle.obligation_facts.specs.Facts.{PlaceSet}
-use Rattle.obligation_facts.specs.SmallActions.{IsSmallAction}
-use Rattle.parameter_fact_laws.specs.CalledRows.{holds_target, promises_at}
-use Rattle.covered_field_laws.specs.Aliases.{gives_alias}
-use Rattle.parameter_fact_laws.specs.Accept.{Accept}
+use Rattle.ownership_rules.specs.Callees.{callee, may_be_null_target}
+use Rattle.ownership_rules.specs.Facts.{PlaceSet}
+use Rattle.ownership_rules.specs.SmallActions.{IsSmallAction}
+use Rattle.content_laws.specs.CalledRows.{holds_target, promises_at}
+use Rattle.content_laws.specs.Aliases.{gives_alias}
+use Rattle.content_laws.specs.Accept.{Accept}
 use Rattle.stub_conduct.specs.declared.choice.Conduct.{Conduct}
 use Rattle.stub_conduct.specs.declared.choice.Conduct.TheVariants as conducts
 use Rattle.ledger_state.specs.Contents.{HeapContents}
@@ -30,33 +30,35 @@ use Rattle.ledger_state.specs.declared.locals.Locals.{Locals}
 use Rattle.ledger_state.specs.declared.object.Object.{Object}
 use Rattle.ledger_state.specs.declared.value.Value.{Value}
 use Rattle.ledger_state.specs.declared.value.Value.TheVariants as values
-use Rattle.conduct_laws.specs.Calls.{alias_position, operand_of, reset_position}
-use Rattle.conduct_laws.specs.Conducts.{promises_by}
+use Rattle.ledger_steps.specs.LedgerCallsCalls.{alias_position, operand_of}
+use Rattle.ledger_steps.specs.Conducts.{promises_by}
 use Rattle.ledger_steps.specs.CallSteps.{library_heap}
-use Rattle.library_call_laws.specs.Heaps.{HasEarlierLinks}
-use Rattle.library_call_laws.specs.Leading.{Leads}
-use Rattle.library_call_laws.proofs.RootLaws.{has_object}
+use Rattle.content_laws.specs.Heaps.{HasEarlierLinks}
+use Rattle.content_laws.specs.Leading.{Leads}
+use Rattle.content_laws.proofs.RootLaws.{has_object}
 use Rattle.java_control.specs.Control.{Step}
 use Rattle.java_control.specs.declared.action.Action.TheVariants as actions
 use Rattle.java_control.specs.declared.action.Completion.{Completion}
 use Rattle.ownership_rules.specs.MovesAtCalls.{moved_at_call}
 use Rattle.ownership_rules.specs.declared.moved.Moved.TheVariants as moves
+use Rattle.ledger_state.specs.declared.entry.Owner.TheVariants as owners
 use Rattle.ledger_obligations.specs.Obligations.{is_unmet}
-use Rattle.conduct_laws.specs.Configuration.{Frame}
-use Rattle.content_heap_laws.specs.Choosing.{frame_steps}
+use Rattle.content_laws.specs.Configuration.{Frame}
+use Rattle.content_laws.specs.Choosing.{frame_steps}
 use Rattle.ledger_steps.specs.Ends.{answered, exception_class, result_value, thrown_in}
-use Rattle.library_call_laws.specs.Heaps.{GoesOn}
-use Rattle.content_heap_laws.specs.Agreement.{Stands, Tracks}
-use Rattle.thrown_value_laws.specs.FieldContents.{LinksLead}
-use Rattle.thrown_value_laws.specs.PlaceFacts.{may_owe}
-use Rattle.content_heap_laws.specs.Outcomes.{IsCallRow}
-use Rattle.library_call_laws.proofs.Laws.{promised_names_are_called-position}
-use Rattle.filled_field_laws.proofs.TopSteps.{small_interest}
-use Rattle.covering_laws.proofs.SignedPromises.{promised_name_is_small}
-use Rattle.covering_laws.proofs.CallNames.{no_target, operand_has_position, operand_of_fact}
-use Rattle.covering_laws.proofs.Carried.{HoldIt}
-use Rattle.covering_laws.proofs.KnownNames.{AreKept, all_kept}
-use Rattle.covering_laws.proofs.LibraryPromises.{edge_promises, promise_of}
+use Rattle.content_laws.specs.Heaps.{GoesOn}
+use Rattle.content_laws.specs.Agreement.{Stands, Tracks}
+use Rattle.content_laws.specs.FieldContents.{LinksLead}
+use Rattle.content_laws.specs.PlaceFacts.{may_owe}
+use Rattle.content_laws.specs.Outcomes.{IsCallRow}
+use Rattle.content_laws.specs.HeapAnew.{is_anew}
+use Rattle.content_laws.proofs.LibraryCallLaws.{any_promised_names_are_called-position}
+use Rattle.content_laws.proofs.TopSteps.{small_interest}
+use Rattle.content_laws.proofs.SignedPromises.{promised_name_is_small}
+use Rattle.content_laws.proofs.CallNames.{no_target, operand_has_position, operand_of_fact}
+use Rattle.content_laws.proofs.Carried.{HoldIt}
+use Rattle.content_laws.proofs.KnownNames.{AreKept, all_kept}
+use Rattle.content_laws.proofs.LibraryPromises.{edge_promises, promise_of}
 
 -- ---- a null target
 
@@ -79,12 +81,12 @@ abbrev pub ReturnsAlias : Program → HeapContents → Frame → Frame → Actio
 ReturnsAlias p h fr caller a e held q o =
     gives_alias p a e held ≡ true → GivesRoot p h caller.locals a (answered fr.locals.this a (result_value fr.locals (method_at p fr.method) q) (exception_class p h (thrown_in fr.locals q))) o
 
--- The frame ends, and its caller takes this step of its call, by `Go` where the frame ends normally. The object of a fact of the caller does not move at
--- the call: what the signature promises of it was called on it, and what the call gives is the object, where the fact says that it is an alias.
-abbrev pub ShowsOperands : Program → HeapContents → Frame → Frame → Type 0
-ShowsOperands p h fr caller = (below : Stands p caller) (i j : ℕ) (s t : Step) (q : Completion) (o : ℕ) (x y : Object) (w : Tracks p h caller o x) → slice_get (frame_steps p fr) i ≡ Some s → s.action ≡ actions.End q
+-- The frame ends, and its caller, at position `n`, takes this step of its call, by `Go` where the frame ends normally. The object of a fact of the caller, which
+-- it owns, does not move at the call: what the signature promises of it was called on it, and what the call gives is the object, where the fact says that it is an alias.
+abbrev pub ShowsOperands : Program → HeapContents → Frame → Frame → ℕ → Type 0
+ShowsOperands p h fr caller n = (below : Stands p caller) (i j : ℕ) (s t : Step) (q : Completion) (o : ℕ) (x y : Object) (w : Tracks p h caller o x) → slice_get (frame_steps p fr) i ≡ Some s → s.action ≡ actions.End q
     → slice_get (frame_steps p caller) j ≡ Some t → IsCallRow t.action → (exception_class p h (thrown_in fr.locals q) ≡ None → t.edge ≡ edges.Go)
-    → ((c : ClassId) → exception_class p h (thrown_in fr.locals q) ≡ Some c → (k : ClassId) × (t.edge ≡ edges.Throws k)) → object_at h o ≡ Some x → is_unmet x ≡ true → GoesOn x y
+    → ((c : ClassId) → exception_class p h (thrown_in fr.locals q) ≡ Some c → (k : ClassId) × (t.edge ≡ edges.Throws k)) → object_at h o ≡ Some x → is_unmet x ≡ true → GoesOn x y → x.owner ≡ owners.Frame n
     → (moved_at_call p w.origin t.action t.edge w.fact ≡ moves.Moves → ⊥)
     → AreKept p below.number t.action w.fact.places y.called (promises_at p t.action t.edge) × ReturnsAlias p h fr caller t.action t.edge w.fact.places q o
 
@@ -92,7 +94,7 @@ ShowsOperands p h fr caller = (below : Stands p caller) (i j : ℕ) (s t : Step)
 abbrev pub TopShowsOperands : Program → HeapContents → List Frame → Type 0
 TopShowsOperands p h [] = Unit {0}
 TopShowsOperands p h (fr ∷ []) = Unit {0}
-TopShowsOperands p h (fr ∷ caller ∷ frs) = ShowsOperands p h fr caller
+TopShowsOperands p h (fr ∷ caller ∷ frs) = ShowsOperands p h fr caller (length frs + 1)
 
 -- ---- a method of the library
 
@@ -105,14 +107,14 @@ led_value p h led v w o x is root' at heavy owes =
     led w o y.0 x y.1 same at heavy owes
 
 module _ (p : Program) (ac : Accept p) (h : HeapContents) (links : HasEarlierLinks h) (led : LinksLead p h) (m : MethodId) (l : Locals) (a : Action) (named : MethodId) (d : Conduct) (i : ℕ)
-    (no_reset : reset_position (method_at p named) ≡ None) (small : IsSmallAction p a) (held : PlaceSet) (o : ℕ) (hold : HoldIt p h m l o held) (x y : Object) (before : object_at h o ≡ Some x) (heavy : is_heavy_class p x.class ≡ true) (owes : may_owe x ≡ true)
+    (small : IsSmallAction p a) (held : PlaceSet) (o : ℕ) (stays : is_anew p l a (method_at p named) (method_at p named) d h o ≡ false) (hold : HoldIt p h m l o held) (x y : Object) (before : object_at h o ≡ Some x) (heavy : is_heavy_class p x.class ≡ true) (owes : may_owe x ≡ true)
     (now : object_at (library_heap p l a (method_at p named) (method_at p named) d i h) o ≡ Some y) (b : BodyId) where
   target_called : (j : ℕ) (q : Promise) → slice_get (promises_by (method_at p named) d) j ≡ Some q → (n : ℕ) → set.contains q.names n ≡ true
       → (t : Target) → q.target ≡ t → holds_target p b a held t ≡ true → set.contains y.called n ≡ true
   target_called j q at n has (promised.At k) is holds =
       let method = promise_of (method_at p named) d j q at in
       let root' = operand_of_fact p h m l a o k held small (operand_has_position p a held k small holds) hold holds in
-      promised_names_are_called-position p l a (method_at p named) (method_at p named) d i h j q k n o x y links (small_interest p ac named) no_reset at is has
+      any_promised_names_are_called-position p l a (method_at p named) (method_at p named) d i h j q k n o x y links (small_interest p ac named) stays at is has
       (promised_name_is_small p ac named method.0 q n method.1 method.2 has) root' before (λ w operand. led_value p h led (operand_of l a k) w o x operand root' before heavy owes) now
   target_called j q at n has (promised.OfField f) is holds =
       absurd (true≢false (sym holds ∙ no_target p ac b a held (promised.OfField f) (λ z room one. (hold z room one).0) tt))

@@ -1,86 +1,102 @@
 -- A call of the library begins and ends in one step.
-use Rattle.std.proofs.Common.{◌≡◌, ◌⊎◌, inl, inr, ℕ, ◌+◌, Bool, true, false, Option, Some, None, List, ◌∷◌, ◌++◌, length, slice_get, refl, sym, ap, ◌∙◌, subst, if◌then◌else◌, arith, eq-eqb}
+use Rattle.std.proofs.Common.{◌≡◌, ◌⊎◌, inl, inr, ℕ, ◌+◌, Bool, true, false, true≢false, Option, Some, None, List, ◌∷◌, ◌++◌, length, slice_get, refl, sym, ap, ◌∙◌, subst, if◌then◌else◌, arith, eq-eqb}
 use Rattle.std.specs.FinSet as set
 use Rattle.rlc_base.specs.declared.name_id.NameId.{NameId}
-use Rattle.rlc_base.proofs.SetLaws.{within_trans}
+use Rattle.rlc_base.proofs.SetLaws.{within_self, within_trans}
 use Rattle.program_model.specs.declared.kinds.ClassId.{ClassId}
 use Rattle.program_model.specs.declared.kinds.MethodId.{MethodId}
 use Rattle.program_model.specs.declared.program.Method.{Method}
 use Rattle.program_model.specs.declared.program.Program.{Program}
 use Rattle.program_model.specs.Lookups.{method_at}
-use Rattle.conduct_laws.specs.Bodies.{alias_in}
-use Rattle.conduct_laws.specs.WellFormed.{HasSmallInterests}
+use Rattle.ledger_obligations.specs.Bodies.{alias_in}
+use Rattle.ledger_obligations.specs.WellFormed.{HasSmallInterests}
 use Rattle.java_control.specs.Calls.{called_method}
 use Rattle.java_control.specs.Control.{Step}
 use Rattle.java_control.specs.declared.action.Action.{Action}
 use Rattle.java_control.specs.declared.action.Action.TheVariants as actions
 use Rattle.java_control.specs.declared.action.Edge.TheVariants as edges
-use Rattle.obligation_facts.specs.Callees.{callee, callee_in}
-use Rattle.parameter_fact_laws.specs.CalledRows.{holds_receiver, interest_in, promises_at}
-use Rattle.parameter_fact_laws.specs.Accept.{Accept}
-use Rattle.covered_field_laws.specs.Aliases.{gives_alias}
-use Rattle.conduct_laws.specs.MustCallSets.{is_heavy_class}
+use Rattle.ownership_rules.specs.Callees.{callee, callee_in}
+use Rattle.content_laws.specs.CalledRows.{holds_receiver, interest_in, promises_at}
+use Rattle.content_laws.specs.Accept.{Accept}
+use Rattle.content_laws.specs.Aliases.{gives_alias}
+use Rattle.ledger_obligations.specs.MustCallSets.{is_heavy_class}
 use Rattle.stub_conduct.specs.declared.choice.Choice.{Choice}
 use Rattle.stub_conduct.specs.declared.choice.Conduct.{Conduct}
 use Rattle.stub_conduct.specs.declared.choice.Conduct.TheVariants as conducts
+use Rattle.ledger_state.specs.Classes.{runtime_class}
 use Rattle.ledger_state.specs.Contents.{HeapContents}
-use Rattle.ledger_state.specs.Heaps.{next_number, object_at, root_of}
+use Rattle.ledger_state.specs.Heaps.{next_number, object_at, root, root_of}
 use Rattle.ledger_state.specs.declared.array.ArrayObject.{ArrayObject}
 use Rattle.ledger_state.specs.declared.object.Link.{Link}
 use Rattle.ledger_state.specs.declared.entry.Entry.{Entry}
+use Rattle.ledger_state.specs.declared.entry.Owner.{Owner}
 use Rattle.ledger_state.specs.declared.entry.Owner.TheVariants as owners
 use Rattle.ledger_state.specs.declared.object.Object.{Object}
 use Rattle.ledger_state.specs.declared.value.Value.{Value}
 use Rattle.ledger_state.specs.declared.value.Value.TheVariants as values
-use Rattle.ledger_obligations.specs.Obligations.{has_note, is_library_method, is_unmet, note}
-use Rattle.conduct_laws.specs.Calls.{alias_position, form_of, operand_of, params_in, position_object, position_of, receiver_note, reset_position, running}
-use Rattle.filled_field_laws.specs.Moves.{fits_target}
-use Rattle.conduct_laws.specs.Configuration.{Frame, held_by}
-use Rattle.conduct_laws.specs.Conducts.{conduct_value, on_this, owning_in, positions, result_owner, settled}
-use Rattle.content_heap_laws.specs.Choosing.{frame_steps}
-use Rattle.content_heap_laws.specs.Frames.{frame_after}
+use Rattle.ledger_obligations.specs.Obligations.{has_note, is_library_method, is_library_owner, is_unmet, note}
+use Rattle.ledger_steps.specs.LedgerCallsCalls.{alias_position, form_of, object_by, operand_of, params_in, position_object, position_of, receiver_note, reset_position, running}
+use Rattle.content_laws.specs.Moves.{fits_target}
+use Rattle.content_laws.specs.Configuration.{Frame, held_by}
+use Rattle.ledger_steps.specs.Conducts.{conduct_value, on_this, owning_in, positions, result_owner, settled}
+use Rattle.content_laws.specs.Choosing.{frame_steps}
+use Rattle.content_laws.specs.LedgerFramesFrames.{frame_after}
 use Rattle.ledger_steps.specs.CallSteps.{library_done, library_entries, library_heap}
-use Rattle.library_call_laws.specs.Heaps.{GoesOn, HasEarlierLinks, IsOlder, KeepsLinks}
-use Rattle.parameter_fact_laws.specs.Places.{IsWay}
-use Rattle.content_heap_laws.specs.Chains.{HaveEnds, IsLast}
-use Rattle.content_heap_laws.specs.Agreement.{Agrees, IsTracked, Stands, Tracks, is_answering}
-use Rattle.content_heap_laws.specs.PlainForms.{HasPlainForms, IsPlainAction, IsPlainSignature}
-use Rattle.conduct_laws.specs.Fitting.{FitsMethod}
-use Rattle.library_call_laws.proofs.Laws.{evolving_heaps-links, roots_go_on-value, roots_of_links-itself}
-use Rattle.library_call_laws.proofs.RootLaws.{has_object}
-use Rattle.library_call_laws.specs.LibraryCalls.{HasSmallInterest, IsAliasMadeAs, IsAliasOf, IsMadeAs}
-use Rattle.content_heap_laws.specs.Outcomes.{IsCallRow, IsPlainRow}
-use Rattle.obligation_facts.specs.SmallActions.{IsSmallAction}
+use Rattle.content_laws.specs.Heaps.{GoesOn, HasEarlierLinks, KeepsLinks}
+use Rattle.content_laws.specs.PlacePlaces.{IsWay}
+use Rattle.content_laws.specs.Chains.{HaveEnds, IsLast}
+use Rattle.content_laws.specs.LibraryClasses.{GivesLibraryClasses, ThrowsMadeClasses}
+use Rattle.content_laws.specs.Agreement.{Agrees, HasMadeClasses, IsTracked, Stands, Tracks, is_answering}
+use Rattle.content_laws.specs.PlainForms.{HasPlainForms, IsPlainAction, IsPlainReset, IsPlainSignature, may_be_made}
+use Rattle.content_laws.specs.Fitting.{FitsMethod}
+use Rattle.content_laws.proofs.LibraryCallLaws.{roots_go_on-value, roots_of_links-itself}
+use Rattle.content_laws.proofs.RootLaws.{has_object}
+use Rattle.content_laws.specs.LibraryCalls.{HasSmallInterest, IsAliasMadeAs, IsAliasOf, IsMadeAs}
+use Rattle.content_laws.specs.Outcomes.{IsCallRow, IsPlainRow}
+use Rattle.ownership_rules.specs.SmallActions.{IsSmallAction}
 use Rattle.ownership_rules.specs.MovesAtCalls.{moved_at_call}
 use Rattle.ownership_rules.specs.declared.moved.Moved.TheVariants as moves
 use Rattle.ledger_state.specs.declared.locals.Locals.{Locals}
+use Rattle.ledger_state.specs.Locals.{temp_in}
+use Rattle.ledger_state.specs.Values.{number_of}
+use Rattle.std.proofs.Common.{nat_lt}
 use Rattle.java_control.specs.declared.action.Edge.{Edge}
-use Rattle.covering_laws.specs.Steps.{IsTrueTest, RootsStay, is_super}
-use Rattle.covering_laws.proofs.AliasRoots.{OperandsAreThere, library_alias}
-use Rattle.covering_laws.proofs.Births.{heavy_by_unmet, made_tracks}
-use Rattle.covering_laws.proofs.LibraryNames.{library_name_goes_on}
-use Rattle.content_heap_laws.proofs.Goes.{unmet_owes}
-use Rattle.thrown_value_laws.specs.FieldContents.{LinksLead}
-use Rattle.filled_field_laws.specs.Nexts.{IsConstantRead}
-use Rattle.thrown_value_laws.specs.Ranges.{LocalsInRange}
-use Rattle.covering_laws.proofs.Values.{operand_in_range}
-use Rattle.covering_laws.proofs.CallNames.{noted_receiver, operand_of_fact, same_interest, small_name}
-use Rattle.covering_laws.proofs.KnownNames.{AreKept, known_after_call}
-use Rattle.covering_laws.proofs.LocalSteps.{resets_nothing}
+use Rattle.content_laws.specs.Steps.{IsTrueTest, RootsStay, is_super}
+use Rattle.content_laws.proofs.AliasRoots.{OperandsAreThere, library_alias}
+use Rattle.content_laws.proofs.Births.{heavy_by_unmet, made_tracks}
+use Rattle.content_laws.proofs.LibraryNames.{library_name_goes_on}
+use Rattle.content_laws.proofs.Goes.{not_the_librarys_owes}
+use Rattle.content_laws.specs.FieldContents.{LinksLead, OwningFieldsOwn}
+use Rattle.content_laws.specs.Linking.{LinkedAreAliases}
+use Rattle.content_laws.specs.Nexts.{IsConstantRead}
+use Rattle.content_laws.specs.Ranges.{LocalsInRange}
+use Rattle.content_laws.proofs.RangeValues.{operand_in_range}
+use Rattle.content_laws.proofs.CallNames.{noted_receiver, operand_of_fact, same_interest, small_name}
+use Rattle.content_laws.proofs.KnownNames.{AreKept, known_after_call}
+use Rattle.content_laws.proofs.LocalSteps.{resets_nothing}
 use Rattle.soundness_laws.proofs.KeptPromises.{library_promises_kept}
-use Rattle.covering_laws.proofs.Unmet.{unmet_before, way_of_call}
-use Rattle.covering_laws.proofs.Stacks.{KeepsClasses, called_on}
-use Rattle.covering_laws.proofs.Given.{given_argument}
-use Rattle.library_call_laws.proofs.Counts.{library_count}
-use Rattle.covering_laws.proofs.Chains.{IsLastOwned, IsOwnedAs, ends_on}
-use Rattle.covering_laws.proofs.Landing.{landed}
-use Rattle.library_call_laws.proofs.Laws.{given_arguments_stay_given, library_aliases_are_older_or_made, library_calls_leak_nothing, library_links_stay, library_objects_are_older_or_made, library_objects_go_on, receiver_is_called, unfinished_objects_stay_unowned-call}
-use Rattle.covering_laws.proofs.Ready.{plain_step, ready}
-use Rattle.covering_laws.proofs.Tracking.{stack_tracks, tracks_call, tracks_plain}
-
-pub plain_reset : (p : Program) (m : Option Method) → IsPlainSignature p m → reset_position m ≡ None
-plain_reset p None plain = refl
-plain_reset p (Some m) plain = plain.1
+use Rattle.content_laws.proofs.Unmet.{unmet_before, way_of_call}
+use Rattle.content_laws.proofs.Stacks.{KeepsClasses, called_on}
+use Rattle.content_laws.proofs.TrackingGiven.{given_argument}
+use Rattle.content_laws.proofs.Counts.{library_count}
+use Rattle.content_laws.proofs.Chains.{IsLastOwned, IsOwnedAs, ends_on}
+use Rattle.content_laws.proofs.Landing.{landed}
+use Rattle.content_laws.specs.MadeClasses.{HasMadeClass}
+use Rattle.content_laws.proofs.Conducts.{library_makes_made_classes}
+use Rattle.soundness_laws.proofs.MadeClasses.{classes_on}
+use Rattle.content_laws.specs.HeapAnew.{GoesOnAside, IsOlderAside, finished_root, is_anew, target_root}
+use Rattle.content_laws.proofs.Emptied.{emptied_root, fresh_stays}
+use Rattle.content_laws.proofs.LibraryCallLaws.{any_given_arguments_stay_given, any_library_aliases_are_older_or_made, any_library_links_stay, any_library_objects_are_older_or_made, any_library_objects_go_on, any_receiver_is_called, any_unfinished_objects_stay_unowned, aside_links, emptied_roots-none, emptied_roots-root, library_calls_leak_nothing}
+use Rattle.ledger_obligations.specs.Bodies.{reset_in}
+use Rattle.ledger_obligations.specs.MustCallSets.{Names, must_of}
+use Rattle.java_control.specs.declared.fact.Fact.{Fact}
+use Rattle.content_laws.specs.Anew.{is_target}
+use Rattle.content_laws.specs.PlaceFacts.{IsCovered, gives_none}
+use Rattle.content_laws.proofs.ResetJoins.{no_holder, renewed_owned}
+use Rattle.content_laws.proofs.TargetTracks.{target_or_not, tracks_target}
+use Rattle.soundness_laws.proofs.ResetSteps.{covered_tracks}
+use Rattle.content_laws.proofs.Ready.{plain_step, ready, resets_plainly}
+use Rattle.content_laws.proofs.Tracking.{stack_tracks, tracks_call, tracks_plain}
 
 -- the aliased argument, in the words of the rules and in those of the machine
 pub same_alias : (m : Option Method) → alias_in m ≡ alias_position m
@@ -117,6 +133,23 @@ frame_owner (actions.Plain q v) m i j same = absurd (let never : owners.Frame j 
 frame_owner (actions.New c k n) m i j same = cc
 frame_owner a m i j same = owning_frame (owning_in m) i j same
 
+-- a read of a constant has no operands, and so no target
+constant_operand : (l : Locals) (a : Action) (k : ℕ) → IsConstantRead a → number_of (operand_of l a k) ≡ None
+constant_operand l actions.Skip k is = absurd is
+constant_operand l (actions.Plain q x) k is = go (nat_lt k 4294967296)
+  where
+    go : (b : Bool) → number_of (temp_in l (if b then None else None)) ≡ None
+    go true = refl
+    go false = refl
+constant_operand l a k is = absurd is
+
+constant_target : (h : HeapContents) (l : Locals) (a : Action) (named : Option Method) → IsConstantRead a → target_root h l a named ≡ None
+constant_target h l a named is = go (reset_position named)
+  where
+    go : (k : Option ℕ) → finished_root h (object_by (operand_of l a) k) ≡ None
+    go None = refl
+    go (Some k) = ap (finished_root h) (constant_operand l a k is)
+
 -- the call makes this object, whether its signature has an aliased argument or not
 abbrev pub IsBorn : Program → Locals → Action → Option Method → ℕ → Conduct → Object → Type 0
 IsBorn p l a m i d y = ((alias_position m ≡ None) × IsMadeAs p a m i d y) ⊎ ((k : ℕ) × (alias_position m ≡ Some k) × IsAliasMadeAs l a k d y)
@@ -125,6 +158,7 @@ IsBorn p l a m i d y = ((alias_position m ≡ None) × IsMadeAs p a m i d y) ⊎
 pub record IsLibraryStep (p : Program) (h : HeapContents) (arrays : List ArrayObject) (l : Locals) (s : Step) (named : MethodId) (d : Conduct) (v : Value) : Type 0 where
   pub row : (IsCallRow s.action × (called_method s.action ≡ Some named)) ⊎ IsConstantRead s.action
   pub signature : IsPlainSignature p (method_at p named)
+  pub library : is_library_method p (method_at p named) ≡ true
   pub other : (e : ClassId) → d ≡ conducts.Fresh e → is_super s.action ≡ false
   pub made : (e : ClassId) → d ≡ conducts.Fresh e → (s.edge ≡ edges.Go) × FitsMethod p (method_at p named) (conducts.Fresh e) × (v ≡ values.Object (next_number h))
   pub thrown : (e : ClassId) → d ≡ conducts.Throws e → (c : ClassId) × (s.edge ≡ edges.Throws c)
@@ -132,33 +166,36 @@ pub record IsLibraryStep (p : Program) (h : HeapContents) (arrays : List ArrayOb
   pub by : (choice : Choice) × (d ≡ on_this s.action (settled p h arrays named choice (position_of None l s.action)))
   pub ran : called_method s.action ≡ Some named → (is_library_method p (method_at p (running p h l s.action named)) ≡ true)
       × (fits_target p h arrays (method_at p named) (form_of s.action) (operand_of l s.action 0) ≡ true)
+      × ((c : ClassId) → runtime_class p h (operand_of l s.action 0) ≡ Some c → may_be_made p c ≡ true)
   pub count : ℕ
   pub value : v ≡ conduct_value count (method_at p named) (positions l s.action (next_number h) d) (next_number h) d
 
 module _ (p : Program) (ac : Accept p) (forms : HasPlainForms p) (names : HasSmallInterests p) (fr : Frame) (frs : List Frame) (h : HeapContents)
     (es : List Entry) (agrees : Agrees p (fr ∷ frs) h es) (i : ℕ) (s : Step) (here : slice_get (frame_steps p fr) i ≡ Some s) (named : MethodId) (d : Conduct) (v : Value)
-    (arrays : List ArrayObject) (step : IsLibraryStep p h arrays fr.locals s named d v) (ranges : LocalsInRange h fr.locals) (led : LinksLead p h) where
+    (arrays : List ArrayObject) (step : IsLibraryStep p h arrays fr.locals s named d v) (ranges : LocalsInRange h fr.locals) (led : LinksLead p h)
+    (covered : IsCovered p h gives_none frs fr) (owning : OwningFieldsOwn p h) (aliases : LinkedAreAliases p h) where
   abbrev after : Frame
   after = frame_after p h fr s v
 
   abbrev heap : HeapContents
   heap = library_heap p fr.locals s.action (method_at p named) (method_at p named) d (length frs + 1) h
 
-  no_reset : reset_position (method_at p named) ≡ None
-  no_reset = plain_reset p (method_at p named) step.signature
+  -- the obligation of the object is created anew
+  abbrev anew : ℕ → Bool
+  anew = is_anew p fr.locals s.action (method_at p named) (method_at p named) d h
 
   abbrev IsMade : ℕ → Object → Type 0
   IsMade o y = (o ≡ next_number h) × IsBorn p fr.locals s.action (method_at p named) (length frs + 1) d y
 
-  was_there : (o : ℕ) (y : Object) → object_at heap o ≡ Some y → IsOlder h o y owners.Library ⊎ IsMade o y
+  was_there : (o : ℕ) (y : Object) → object_at heap o ≡ Some y → IsOlderAside anew h o y owners.Library ⊎ IsMade o y
   was_there o y at = go (alias_position (method_at p named)) refl
     where
-      go : (alias : Option ℕ) → alias_position (method_at p named) ≡ alias → IsOlder h o y owners.Library ⊎ IsMade o y
-      go None none = elim (library_objects_are_older_or_made p fr.locals s.action (method_at p named) (method_at p named) d (length frs + 1) h o y no_reset none at) [
+      go : (alias : Option ℕ) → alias_position (method_at p named) ≡ alias → IsOlderAside anew h o y owners.Library ⊎ IsMade o y
+      go None none = elim (any_library_objects_are_older_or_made p fr.locals s.action (method_at p named) (method_at p named) d (length frs + 1) h o y none at) [
         | inl old ↦ inl old
         | inr new ↦ inr (new.0, inl (none, new.1))
       ]
-      go (Some k) some = elim (library_aliases_are_older_or_made p fr.locals s.action (method_at p named) (method_at p named) d (length frs + 1) h o k y no_reset some at) [
+      go (Some k) some = elim (any_library_aliases_are_older_or_made p fr.locals s.action (method_at p named) (method_at p named) d (length frs + 1) h o k y some at) [
         | inl old ↦ inl old
         | inr new ↦ inr (new.0, inr (k, some, new.1))
       ]
@@ -169,13 +206,82 @@ module _ (p : Program) (ac : Accept p) (forms : HasPlainForms p) (names : HasSma
   there k w number = operand_in_range h fr.locals ranges s.action k w number
 
   links : HasEarlierLinks heap
-  links = library_links_stay p fr.locals s.action (method_at p named) (method_at p named) d (length frs + 1) h agrees.links no_reset (λ k w alias number. there k w number)
+  links = any_library_links_stay p fr.locals s.action (method_at p named) (method_at p named) d (length frs + 1) h agrees.links (λ k w alias number. there k w number)
 
   keeps_links : KeepsLinks h heap
-  keeps_links = evolving_heaps-links h heap (library_objects_go_on p fr.locals s.action (method_at p named) (method_at p named) d (length frs + 1) h no_reset)
+  keeps_links = aside_links anew h heap (any_library_objects_go_on p fr.locals s.action (method_at p named) (method_at p named) d (length frs + 1) h)
 
   roots_stay : (o : ℕ) (x : Object) → object_at h o ≡ Some x → RootsStay h heap o
   roots_stay o x before u root' = roots_go_on-value h heap u o x agrees.links keeps_links root' before
+
+  -- ---- the object whose obligation is created anew
+
+  -- what is not created anew goes on with its names
+  plain_goes : (o : ℕ) (x y : Object) → anew o ≡ false → GoesOnAside (anew o) x y → GoesOn x y
+  plain_goes o x y out on = record { class = on.class; link = on.link; finished = on.finished; must = on.must out; called = on.called out }
+
+  new_stays : (o : ℕ) → o ≡ next_number h → anew o ≡ true → ⊥
+  new_stays o new is = true≢false (sym is ∙ ap anew new ∙ fresh_stays p fr.locals s.action (method_at p named) (method_at p named) d (length frs + 1) h)
+
+  none_anew : (o : ℕ) → reset_position (method_at p named) ≡ None → anew o ≡ true → ⊥
+  none_anew o none is = true≢false (sym is ∙ emptied_roots-none p fr.locals s.action (method_at p named) (method_at p named) d h o none)
+
+  constant_stays : IsConstantRead s.action → (o : ℕ) (x : Object) → object_at h o ≡ Some x → anew o ≡ true → ⊥
+  constant_stays constant o x before is =
+      let none = constant_target h fr.locals s.action (method_at p named) constant in
+      let some = emptied_roots-root p fr.locals s.action (method_at p named) (method_at p named) d h o x agrees.links
+      (λ n z target there. absurd (let never : None ≡ Some n = sym none ∙ target in cc)) before is in
+      let never : None ≡ Some (root h o) = sym none ∙ some in
+      cc
+
+  same_reset : (m : Option Method) → reset_in m ≡ reset_position m
+  same_reset None = refl
+  same_reset (Some m) = refl
+
+  -- an object whose obligation is created anew, and that may owe a call, is the frame's, which tracked it
+  module _ (o : ℕ) (y : Object) (at : object_at heap o ≡ Some y) (free : y.link ≡ None) (is : anew o ≡ true) (unmet : is_unmet y ≡ true) (stays : is_library_owner y.owner ≡ false) where
+    before : (x : Object) × (object_at h o ≡ Some x) × (x.link ≡ None)
+    before = elim (was_there o y at) [
+      | inl old ↦ (old.before, old.at, sym old.goes_on.link ∙ free)
+      | inr new ↦ absurd (new_stays o new.0 is)
+    ]
+
+    must_is : y.must ≡ must_of p y.class
+    must_is = emptied_root p fr.locals s.action (method_at p named) (method_at p named) d (length frs + 1) h o before.0 y is before.1 before.2 at
+
+    bounded : set.is_subset y.must (must_of p y.class) ≡ true
+    bounded = ap (λ (t : Names). set.is_subset t (must_of p y.class)) must_is ∙ within_self (must_of p y.class)
+
+    wide : is_heavy_class p y.class ≡ true
+    wide = heavy_by_unmet p y.class y unmet bounded
+
+    abbrev IsTopmost : Type 0
+    IsTopmost = (y.owner ≡ owners.Frame (length frs + 1)) × Tracks p heap after o y
+
+    topmost : IsTopmost
+    topmost = elim step.row [
+      | inl call ↦ elim (resets_plainly p ac forms fr agrees.standing.0 i s here) [
+        | inl none ↦ absurd (none_anew o (sym (same_reset (method_at p named)) ∙ ap reset_in (sym (ap (callee_in p) call.1)) ∙ none) is)
+        | inr plain ↦ by call.0 call.1 plain
+      ]
+      | inr constant ↦ absurd (constant_stays constant o before.0 before.1 is)
+    ]
+      where
+        by : IsCallRow s.action → called_method s.action ≡ Some named → IsPlainReset p agrees.standing.0.number fr.control s.action → IsTopmost
+        by row called plain =
+            let r = renewed_owned p ac forms h agrees.links fr frs agrees.standing.0 ranges named d i s here called row plain covered
+            (no_holder p ac forms h agrees.links fr frs agrees.standing.0 ranges named d i s here called row plain covered owning aliases arrays (step.ran called).1)
+            o y at free is wide (not_the_librarys_owes y stays) in
+            let x = r.1.0 in
+            let t = covered_tracks p ac h fr frs agrees.standing.0 o x r.1.3.0 r.1.3.1 r.1.3.3.0 r.1.3.3.1 in
+            let small : IsSmallAction p s.action = (ready p ac forms fr agrees.standing.0 i s here (way_of_call s row)).small in (
+              r.0,
+              tracks_target p ac forms h heap fr agrees.standing.0 i s here (way_of_call s row) v o x y (roots_stay o x r.1.1) r.1.2 bounded unmet t.0 row
+                  (ap (λ (f : Fact). is_target p s.action f.places) t.1 ∙ r.1.3.2)
+                  (λ gives. ap (root_of heap) step.value
+                  ∙ library_alias p ac h agrees.links arrays fr.locals s.action s.edge t.0.fact.places named (method_at p named) d (length frs + 1) step.count o small (plain_step p ac forms fr agrees.standing.0 i s here)
+                  (ap (callee_in p) called) there step.by step.thrown (λ k near held. operand_of_fact p h fr.method fr.locals s.action o k t.0.fact.places small near t.0.follows.places held) gives),
+            )
 
   owner_answers : (a : Action) (j : ℕ) → is_answering (result_owner a (method_at p named) j) ≡ true
   owner_answers (actions.New m k n) j = refl
@@ -212,7 +318,7 @@ module _ (p : Program) (ac : Accept p) (forms : HasPlainForms p) (names : HasSma
   answered : (o : ℕ) (y : Object) → object_at heap o ≡ Some y → y.link ≡ None → is_unmet y ≡ true → is_answering y.owner ≡ true
   answered o y at free unmet = elim (was_there o y at) [
     | inl old ↦ elim old.owner [
-      | inl same ↦ ap is_answering same ∙ agrees.answered o old.before old.at (sym old.goes_on.link ∙ free) (unmet_before old.before y old.goes_on unmet)
+      | inl same ↦ older_answers old same (anew o) refl
       | inr given ↦ ap is_answering given
     ]
     | inr new ↦ elim new.1 [
@@ -220,10 +326,27 @@ module _ (p : Program) (ac : Accept p) (forms : HasPlainForms p) (names : HasSma
       | inr alias ↦ alias_answers y alias.0 d alias.2 free
     ]
   ]
+    where
+      librarys : (w : Owner) → is_library_owner w ≡ true → is_answering w ≡ true
+      librarys owners.Library is = refl
+      librarys (owners.Frame j) is = absurd (true≢false (sym is))
+      librarys (owners.Field w f) is = absurd (true≢false (sym is))
+      librarys owners.Released is = absurd (true≢false (sym is))
+      librarys owners.Lost is = absurd (true≢false (sym is))
+      librarys owners.Unowned is = absurd (true≢false (sym is))
+
+      renewed : (b : Bool) → is_library_owner y.owner ≡ b → anew o ≡ true → is_answering y.owner ≡ true
+      renewed true gone is = librarys y.owner gone
+      renewed false stays is = ap is_answering (topmost o y at free is unmet stays).0
+
+      older_answers : (old : IsOlderAside anew h o y owners.Library) → y.owner ≡ old.before.owner → (b : Bool) → anew o ≡ b → is_answering y.owner ≡ true
+      older_answers old same true is = renewed (is_library_owner y.owner) refl is
+      older_answers old same false out =
+          ap is_answering same ∙ agrees.answered o old.before old.at (sym old.goes_on.link ∙ free) (unmet_before old.before y (plain_goes o old.before y out old.goes_on) unmet)
 
   -- the object of a fact of the top frame, over a call
   module _ (row : IsCallRow s.action) (called : called_method s.action ≡ Some named) (o j : ℕ) (x y : Object) (before : object_at h o ≡ Some x) (now : object_at heap o ≡ Some y)
-      (goes : GoesOn x y) (unmet : is_unmet y ≡ true) (mine : x.owner ≡ owners.Frame j) (owner : y.owner ≡ owners.Frame j) (t : Tracks p h fr o x) where
+      (goes : GoesOn x y) (unmet : is_unmet y ≡ true) (mine : x.owner ≡ owners.Frame j) (owner : y.owner ≡ owners.Frame j) (out : anew o ≡ false) (t : Tracks p h fr o x) where
     st : Stands p fr
     st = agrees.standing.0
 
@@ -250,20 +373,20 @@ module _ (p : Program) (ac : Accept p) (forms : HasPlainForms p) (names : HasSma
     noted n held interest =
         let is = noted_receiver p ac h fr.method fr.locals s.action o t.fact.places n form small t.follows.places held interest in
         let first = has_object h is.object o x is.root before in
-        let leads = led is.object o first.0 x first.1 is.root before heavy (unmet_owes x was_unmet) in
+        let leads = led is.object o first.0 x first.1 is.root before heavy (not_the_librarys_owes x (ap is_library_owner mine)) in
         let has = subst (λ (m : Option Method). has_note (receiver_note fr.locals s.action m) (note false is.object n) ≡ true) same_callee is.noted in
         let ran = step.ran called in
-        receiver_is_called p fr.locals s.action (method_at p named) (method_at p named) d (length frs + 1) h (note false is.object n) o first.0 y agrees.links few no_reset has first.1
-        (library_name_goes_on p ac forms h arrays fr.locals s.action named ran.0 ran.1 is.object n first.0 has first.1 o leads) leads now
+        any_receiver_is_called p fr.locals s.action (method_at p named) (method_at p named) d (length frs + 1) h (note false is.object n) o first.0 y agrees.links few out has first.1
+        (library_name_goes_on p ac forms h arrays fr.locals s.action named ran.0 ran.1 is.object n first.0 has first.1 ran.2 o leads) leads now
 
     kept : AreKept p st.number s.action t.fact.places y.called (promises_at p s.action s.edge)
-    kept = library_promises_kept p ac h agrees.links led fr.method fr.locals s.action named d (length frs + 1) no_reset small t.fact.places o t.follows.places x y before heavy (unmet_owes x was_unmet) now
+    kept = library_promises_kept p ac h agrees.links led fr.method fr.locals s.action named d (length frs + 1) small t.fact.places o out t.follows.places x y before heavy (not_the_librarys_owes x (ap is_library_owner mine)) now
         st.number s.edge same_callee step.thrown step.normal
 
     stays : moved_at_call p t.origin s.action s.edge t.fact ≡ moves.Moves → ⊥
     stays moved =
         let given = given_argument p h fr.method fr.locals s.action s.edge o j x t.origin t.fact small t.follows (unmet_before x y goes unmet) mine moved in
-        let given_to = given_arguments_stay_given p fr.locals s.action (method_at p named) (method_at p named) d (length frs + 1) given.index given.param h o x y no_reset
+        let given_to = any_given_arguments_stay_given p fr.locals s.action (method_at p named) (method_at p named) d (length frs + 1) given.index given.param h o x y
         (subst (λ (m : Option Method). slice_get (params_in m) given.index ≡ Some given.param) same_callee given.at) given.owning given.root before given.may now in
         let never : owners.Frame j ≡ owners.Library = sym owner ∙ given_to in
         cc
@@ -272,18 +395,25 @@ module _ (p : Program) (ac : Accept p) (forms : HasPlainForms p) (names : HasSma
     alias_given : gives_alias p s.action s.edge t.fact.places ≡ true → root_of heap v ≡ Some o
     alias_given gives =
         ap (root_of heap) step.value
-        ∙ library_alias p ac h agrees.links arrays fr.locals s.action s.edge t.fact.places named d (length frs + 1) step.count o small form same_callee no_reset there step.by step.thrown
+        ∙ library_alias p ac h agrees.links arrays fr.locals s.action s.edge t.fact.places named (method_at p named) d (length frs + 1) step.count o small form same_callee there step.by step.thrown
         (λ k near held. operand_of_fact p h fr.method fr.locals s.action o k t.fact.places small near t.follows.places held) gives
 
-    top_call : Tracks p heap after o y
-    top_call = tracks_call p ac forms h heap fr st i s here (way_of_call s row) v o x y (roots_stay o x before) goes unmet t row
-        (known_after_call p st.number s.action s.edge t.fact y.called row (resets_nothing p s.action form) (within_trans t.fact.called x.called y.called t.follows.called goes.called) noted kept)
+    apart_call : is_target p s.action t.fact.places ≡ false → Tracks p heap after o y
+    apart_call apart = tracks_call p ac forms h heap fr st i s here (way_of_call s row) v o x y (roots_stay o x before) goes unmet t row apart
+        (known_after_call p st.number s.action s.edge t.fact y.called row (resets_nothing p st.number fr.control s.action (resets_plainly p ac forms fr st i s here)) (within_trans t.fact.called x.called y.called t.follows.called goes.called) noted kept)
         alias_given stays
 
-  top : (o j : ℕ) (x y : Object) → object_at h o ≡ Some x → object_at heap o ≡ Some y → GoesOn x y → is_unmet y ≡ true → x.owner ≡ owners.Frame j → y.owner ≡ owners.Frame j
+    top_call : Tracks p heap after o y
+    top_call = elim (target_or_not p s.action t.fact.places) [
+      | inl target ↦ tracks_target p ac forms h heap fr st i s here (way_of_call s row) v o x y (roots_stay o x before) goes.class
+          (ap (λ (u : Names). set.is_subset u (must_of p y.class)) goes.must ∙ ap (λ (c : ClassId). set.is_subset x.must (must_of p c)) goes.class ∙ t.follows.bounded) unmet t row target alias_given
+      | inr apart ↦ apart_call apart
+    ]
+
+  top : (o j : ℕ) (x y : Object) → object_at h o ≡ Some x → object_at heap o ≡ Some y → GoesOn x y → is_unmet y ≡ true → x.owner ≡ owners.Frame j → y.owner ≡ owners.Frame j → anew o ≡ false
       → Tracks p h fr o x → Tracks p heap after o y
-  top o j x y before now goes unmet mine owner t = elim step.row [
-    | inl call ↦ top_call call.0 call.1 o j x y before now goes unmet mine owner t
+  top o j x y before now goes unmet mine owner out t = elim step.row [
+    | inl call ↦ top_call call.0 call.1 o j x y before now goes unmet mine owner out t
     | inr constant ↦ tracks_plain p ac forms h heap fr agrees.standing.0 i s here (constant_way s.action s.edge constant) v o x y (roots_stay o x before) goes unmet t
         (constant_row s.action constant) (constant_test fr.locals s.action s.edge constant)
   ]
@@ -328,13 +458,31 @@ module _ (p : Program) (ac : Accept p) (forms : HasPlainForms p) (names : HasSma
   alias_owner (conducts.Value z) j k y made owner = made
   alias_owner conducts.Nothing j k y made owner = made
 
-  older_tracked : (o j : ℕ) (y : Object) → object_at heap o ≡ Some y → is_unmet y ≡ true → y.owner ≡ owners.Frame j → (old : IsOlder h o y owners.Library)
+  -- a frame owns nothing that is linked
+  owned_free : (o j : ℕ) (y : Object) → object_at heap o ≡ Some y → y.owner ≡ owners.Frame j → y.link ≡ None
+  owned_free o j y at owner = go y.link refl
+    where
+      go : (k : Option Link) → y.link ≡ k → y.link ≡ None
+      go None none = none
+      go (Some k) some = absurd (let never : owners.Frame j ≡ owners.Unowned = sym owner ∙ (links o y k at some).owner in cc)
+
+  older_tracked : (o j : ℕ) (y : Object) → object_at heap o ≡ Some y → is_unmet y ≡ true → y.owner ≡ owners.Frame j → (old : IsOlderAside anew h o y owners.Library)
       → y.owner ≡ old.before.owner → IsTracked p heap (after ∷ frs) o y j
-  older_tracked o j y at unmet owner old same =
-      let mine : old.before.owner ≡ owners.Frame j = sym same ∙ owner in
-      stack_tracks p h heap fr after frs o old.before y j (roots_stay o old.before old.at) old.goes_on
-      (top o j old.before y old.at at old.goes_on unmet mine owner)
-      (agrees.tracked o old.before j old.at (unmet_before old.before y old.goes_on unmet) mine)
+  older_tracked o j y at unmet owner old same = go (anew o) refl
+    where
+      mine : old.before.owner ≡ owners.Frame j
+      mine = sym same ∙ owner
+
+      go : (b : Bool) → anew o ≡ b → IsTracked p heap (after ∷ frs) o y j
+      go false out =
+          let goes = plain_goes o old.before y out old.goes_on in
+          stack_tracks p h heap fr after frs o old.before y j (roots_stay o old.before old.at) goes
+          (top o j old.before y old.at at goes unmet mine owner out)
+          (agrees.tracked o old.before j old.at (unmet_before old.before y goes unmet) mine)
+      go true is =
+          let it = topmost o y at (owned_free o j y at owner) is unmet (ap is_library_owner owner) in
+          let here' : length frs + 1 ≡ j = (let both : owners.Frame (length frs + 1) ≡ owners.Frame j = sym it.0 ∙ owner in (let one : length frs + 1 ≡ j = cc in one)) in
+          rw (eq-eqb (length frs + 1) j here') it.1
 
   tracked : (o : ℕ) (y : Object) (j : ℕ) → object_at heap o ≡ Some y → is_unmet y ≡ true → y.owner ≡ owners.Frame j → IsTracked p heap (after ∷ frs) o y j
   tracked o y j at unmet owner = elim (was_there o y at) [
@@ -395,9 +543,9 @@ module _ (p : Program) (ac : Accept p) (forms : HasPlainForms p) (names : HasSma
       go : (b : Bool) → y.finished ≡ b → (y.finished ≡ true) ⊎ (y.owner ≡ owners.Unowned)
       go true made = inl made
       go false unmade =
-          inr (unfinished_objects_stay_unowned-call p fr.locals s.action (method_at p named) (method_at p named) d (length frs + 1) h o y no_reset agrees.ends.unfinished at unmade)
+          inr (any_unfinished_objects_stay_unowned p fr.locals s.action (method_at p named) (method_at p named) d (length frs + 1) h o y agrees.ends.unfinished at unmade)
 
-  owned : (o : ℕ) (y : Object) → object_at heap o ≡ Some y → IsOlder h o y owners.Library ⊎ IsMade o y → IsOwnedAs h heap o y
+  owned : (o : ℕ) (y : Object) → object_at heap o ≡ Some y → IsOlderAside anew h o y owners.Library ⊎ IsMade o y → IsOwnedAs h heap o y
   owned o y at (inl old) = elim old.owner [
     | inl same ↦ inr (inl (old.before, old.at, (same, old.goes_on.finished)))
     | inr given ↦ inl (last_owned o y at (subst IsLast (sym given) tt))
@@ -408,9 +556,38 @@ module _ (p : Program) (ac : Accept p) (forms : HasPlainForms p) (names : HasSma
   ends : HaveEnds heap
   ends = ends_on h heap agrees.ends keeps.count (λ o y at. owned o y at (was_there o y at))
 
-  pub library_agrees : Stands p after
+  -- ---- classes
+
+  made_class : (y : Object) (c : Conduct) → HasMadeClass p c → IsMadeAs p s.action (method_at p named) (length frs + 1) c y → may_be_made p y.class ≡ true
+  made_class y (conducts.Throws e) class made = ap (may_be_made p) made.2 ∙ class
+  made_class y (conducts.Fresh e) class made = ap (may_be_made p) made.0 ∙ class
+  made_class y conducts.Null class made = absurd made
+  made_class y (conducts.Existing k) class made = absurd made
+  made_class y conducts.Argument class made = absurd made
+  made_class y (conducts.Value z) class made = absurd made
+  made_class y conducts.Nothing class made = absurd made
+
+  alias_class : (y : Object) (k : ℕ) (c : Conduct) → HasMadeClass p c → IsAliasMadeAs fr.locals s.action k c y → may_be_made p y.class ≡ true
+  alias_class y k (conducts.Throws e) class made = ap (may_be_made p) made.2 ∙ class
+  alias_class y k (conducts.Fresh e) class made = ap (may_be_made p) made.0 ∙ class
+  alias_class y k conducts.Null class made = absurd made
+  alias_class y k (conducts.Existing j) class made = absurd made
+  alias_class y k conducts.Argument class made = absurd made
+  alias_class y k (conducts.Value z) class made = absurd made
+  alias_class y k conducts.Nothing class made = absurd made
+
+  classes : GivesLibraryClasses p → ThrowsMadeClasses p → HasMadeClasses p heap
+  classes gives throws = classes_on p h heap agrees.classes (λ o y at. elim (was_there o y at) [
+    | inl old ↦ inl (old.before, old.at, old.goes_on.class)
+    | inr new ↦ inr (elim new.1 [ inl plain ↦ made_class y d own plain.1 | inr alias ↦ alias_class y alias.0 d own alias.2 ])
+  ])
+    where
+      own : HasMadeClass p d
+      own = subst (HasMadeClass p) (sym step.by.1) (library_makes_made_classes p gives throws h arrays named step.by.0 (position_of None fr.locals s.action) s.action step.library)
+
+  pub library_agrees : GivesLibraryClasses p → ThrowsMadeClasses p → Stands p after
       → Agrees p (after ∷ frs) (library_done p h fr.locals s.action (method_at p named) (method_at p named) d (length frs + 1) s.pos (held_by (after ∷ frs))).heap
       (es ++ (library_done p h fr.locals s.action (method_at p named) (method_at p named) d (length frs + 1) s.pos (held_by (after ∷ frs))).lines)
-  library_agrees stands = landed p (after ∷ frs) heap es s.pos (library_entries p s.pos fr.locals s.action (method_at p named) (method_at p named) d (length frs + 1) h)
-      (stands, agrees.standing.1) (called_on p h heap keeps fr after frs refl refl agrees.stacked) links ends tracked answered agrees.no_leak
+  library_agrees gives throws stands = landed p (after ∷ frs) heap es s.pos (library_entries p s.pos fr.locals s.action (method_at p named) (method_at p named) d (length frs + 1) h)
+      (stands, agrees.standing.1) (called_on p h heap keeps fr after frs refl refl agrees.stacked) links ends (classes gives throws) tracked answered agrees.no_leak
       (library_calls_leak_nothing p s.pos fr.locals s.action (method_at p named) (method_at p named) d (length frs + 1) h)

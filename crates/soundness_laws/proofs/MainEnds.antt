@@ -8,15 +8,15 @@ use Rattle.program_model.specs.declared.program.Program.{Program}
 use Rattle.program_model.specs.declared.tree.Body.{Body}
 use Rattle.program_model.specs.Lookups.{method_at}
 use Rattle.rlc_base.specs.declared.place.Pos.{Pos}
-use Rattle.conduct_laws.specs.Bodies.{method_in}
+use Rattle.ledger_obligations.specs.Bodies.{method_in}
 use Rattle.java_control.specs.Control.{Step}
 use Rattle.java_control.specs.declared.action.Action.{Action}
 use Rattle.java_control.specs.declared.action.Action.TheVariants as actions
 use Rattle.java_control.specs.declared.action.Completion.{Completion}
 use Rattle.ownership_rules.specs.MovesAtReturns.{result_in, result_type}
-use Rattle.named_step_laws.specs.Flow.{flow}
-use Rattle.parameter_fact_laws.specs.Accept.{Accept}
-use Rattle.named_step_laws.specs.Paths.{Reach, move_of, relation_of}
+use Rattle.content_laws.specs.Flow.{flow}
+use Rattle.content_laws.specs.Accept.{Accept}
+use Rattle.content_laws.specs.Paths.{Reach, move_of, relation_of}
 use Rattle.ledger_state.specs.Contents.{HeapContents}
 use Rattle.ledger_state.specs.Heaps.{object_at}
 use Rattle.ledger_state.specs.declared.entry.Entry.{Entry}
@@ -25,22 +25,23 @@ use Rattle.ledger_state.specs.declared.entry.Owner.{Owner}
 use Rattle.ledger_state.specs.declared.entry.Owner.TheVariants as owners
 use Rattle.ledger_state.specs.declared.object.Object.{Object}
 use Rattle.ledger_obligations.specs.Obligations.{end_frame, given_up, given_up_by_frame, is_frame, is_unmet}
-use Rattle.conduct_laws.specs.Configuration.{Frame}
-use Rattle.content_heap_laws.specs.Choosing.{body_id, frame_steps}
+use Rattle.content_laws.specs.Configuration.{Frame}
+use Rattle.content_laws.specs.Choosing.{body_id, frame_steps}
 use Rattle.ledger_steps.specs.Ends.{main_gone}
 use Rattle.ledger_state.specs.Leaks.{is_leak}
-use Rattle.library_call_laws.specs.Heaps.{HasEarlierLinks}
-use Rattle.content_heap_laws.specs.Chains.{HaveEnds, IsLast}
-use Rattle.content_heap_laws.specs.Agreement.{Agrees, Stands, Tracks}
-use Rattle.content_heap_laws.specs.Outcomes.{IsFault}
-use Rattle.content_heap_laws.proofs.Ends.{end_row, result_stays}
-use Rattle.content_heap_laws.proofs.OwedFacts.{owed}
-use Rattle.covering_laws.proofs.Following.{breaks_nothing}
-use Rattle.covering_laws.proofs.Chains.{IsOwnedAs, ends_on, given_up_last, owned_is_finished}
-use Rattle.covering_laws.proofs.Landing.{no_leak_in_both}
-use Rattle.library_call_laws.proofs.Laws.{changed_object_at-count, changed_object_at-object, end_of_frame_leaks_nothing, links_stay-frame}
-use Rattle.covering_laws.proofs.Ready.{step_there}
-use Rattle.covering_laws.proofs.Tracking.{same_body}
+use Rattle.content_laws.specs.Heaps.{HasEarlierLinks}
+use Rattle.content_laws.specs.Chains.{HaveEnds, IsLast}
+use Rattle.content_laws.specs.Agreement.{Agrees, HasMadeClasses, Stands, Tracks}
+use Rattle.content_laws.specs.Outcomes.{IsFault}
+use Rattle.content_laws.proofs.FactEnds.{end_row, result_stays}
+use Rattle.content_laws.proofs.OwedFacts.{owed}
+use Rattle.content_laws.proofs.FrameFollowing.{breaks_nothing}
+use Rattle.content_laws.proofs.Chains.{IsOwnedAs, ends_on, given_up_last, owned_is_finished}
+use Rattle.content_laws.proofs.Landing.{no_leak_in_both}
+use Rattle.content_laws.proofs.LibraryCallLaws.{changed_object_at-count, changed_object_at-object, end_of_frame_leaks_nothing, links_stay-frame}
+use Rattle.content_laws.proofs.Ready.{step_there}
+use Rattle.content_laws.proofs.Tracking.{same_body}
+use Rattle.soundness_laws.proofs.MadeClasses.{classes_on}
 
 owned_by_frame : (w : Owner) (j : ℕ) → is_frame w j ≡ true → w ≡ owners.Frame j
 owned_by_frame (owners.Frame i) j is = ap owners.Frame (eqb-true i j is)
@@ -115,6 +116,11 @@ module _ (p : Program) (ac : Accept p) (fr : Frame) (h : HeapContents) (es : Lis
       )
       owned o y (x, before, inr same) = inr (inl (x, before, (ap (λ (z : Object). z.owner) same, ap (λ (z : Object). z.finished) same)))
 
+  classes : HasMadeClasses p heap
+  classes = classes_on p h heap agrees.classes (λ o y at.
+      let was = was_there o y at in
+      inl (was.0, was.1, elim was.2 [ inl gone ↦ ap (λ (z : Object). z.class) gone.1 | inr same ↦ ap (λ (z : Object). z.class) same ]))
+
   pub main_agrees : (pos : Pos) → Agrees p [] (main_gone p h pos).heap (es ++ (main_gone p h pos).lines)
   main_agrees pos = record {
     standing = tt;
@@ -125,4 +131,5 @@ module _ (p : Program) (ac : Accept p) (fr : Frame) (h : HeapContents) (es : Lis
     answered = λ o y at free unmet. agrees.answered o y (unmet_was_there o y at unmet) free unmet;
     no_leak = no_leak_in_both es (main_gone p h pos).lines agrees.no_leak
         (ap (list_any is_leak) (end_of_frame_leaks_nothing p words.Exit pos 1 h (λ n x at frame. not_true (is_unmet x) (λ unmet. none_owed n x at unmet (owned_by_frame x.owner 1 frame)))));
+    classes = classes;
   }

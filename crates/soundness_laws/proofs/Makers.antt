@@ -1,5 +1,5 @@
 -- Which frames run constructors: a constructor of a class with owning fields runs for a `new`, on the object that the `new` makes.
-use Rattle.std.proofs.Common.{◌≡◌, ◌⊎◌, inl, inr, ℕ, Bool, true, ◌&&◌, Option, Some, None, List, [], ◌∷◌, refl, sym, ap, ◌∙◌, subst, true≢false, eq-eqb}
+use Rattle.std.proofs.Common.{◌≡◌, ◌⊎◌, inl, inr, ℕ, true, Option, Some, None, List, [], ◌∷◌, refl, sym, ap, ◌∙◌, subst, true≢false, eq-eqb}
 use Rattle.program_model.specs.declared.kinds.ClassId.{ClassId}
 use Rattle.program_model.specs.declared.kinds.FieldId.{FieldId}
 use Rattle.program_model.specs.declared.kinds.MethodId.{MethodId}
@@ -8,30 +8,30 @@ use Rattle.program_model.specs.declared.program.Method.{Method}
 use Rattle.program_model.specs.declared.program.Program.{Program}
 use Rattle.program_model.specs.Lookups.{field_at, method_at}
 use Rattle.program_model.specs.SuperTests.{is_class}
-use Rattle.conduct_laws.specs.Bodies.{constructs, is_class_of, is_field_in, method_in, method_of}
+use Rattle.ledger_obligations.specs.Bodies.{constructs, is_class_of, method_in, method_of}
 use Rattle.java_control.specs.Calls.{called_method}
 use Rattle.java_control.specs.declared.action.Action.{Action}
 use Rattle.java_control.specs.declared.action.Action.TheVariants as actions
-use Rattle.parameter_fact_laws.specs.Accept.{Accept}
-use Rattle.named_step_laws.specs.Paths.{move_of}
+use Rattle.content_laws.specs.Accept.{Accept}
+use Rattle.content_laws.specs.Paths.{move_of}
 use Rattle.ledger_state.specs.Contents.{HeapContents}
 use Rattle.ledger_state.specs.Heaps.{object_at}
 use Rattle.ledger_state.specs.declared.object.Object.{Object}
 use Rattle.ledger_state.specs.declared.value.Value.TheVariants as values
-use Rattle.filled_field_laws.specs.Places.{class_of_method}
-use Rattle.conduct_laws.specs.Calls.{body_of}
-use Rattle.conduct_laws.specs.Configuration.{Frame}
-use Rattle.covering_laws.specs.ProgramCalls.{is_new}
-use Rattle.content_heap_laws.specs.Agreement.{AllStand, IsCalledFrom, IsMade, IsMadeBy, RunsItself, RunsOnSame, Stands, WaitsFor}
+use Rattle.content_laws.specs.Places.{class_of_method}
+use Rattle.ledger_steps.specs.LedgerCallsCalls.{body_of}
+use Rattle.content_laws.specs.Configuration.{Frame}
+use Rattle.content_laws.specs.ProgramCalls.{is_new}
+use Rattle.content_laws.specs.Agreement.{AllStand, IsCalledFrom, IsMade, IsMadeBy, RunsItself, RunsOnSame, Stands, WaitsFor}
 use Rattle.ledger_state.specs.Fields.{field_value}
-use Rattle.filled_field_laws.specs.Filled.{AreFilled}
-use Rattle.content_heap_laws.specs.PlainForms.{HasPlainForms, IsPlainCall, IsPlainSignature, RunsFor, calls_constructor}
-use Rattle.named_step_laws.specs.Naming.{IsOfItsKind}
-use Rattle.named_step_laws.proofs.Reached.{names_what_is_there}
-use Rattle.filled_field_laws.proofs.Cases.{none_runs}
-use Rattle.filled_field_laws.proofs.Stores.{IsAliasForm, own_alias_form}
-use Rattle.covering_laws.proofs.Ready.{plain_call, plain_step, step_there}
-use Rattle.covering_laws.proofs.Unmet.{row_of}
+use Rattle.content_laws.specs.Filled.{AreFilled}
+use Rattle.content_laws.specs.PlainForms.{HasPlainForms, IsPlainCall, IsPlainSignature, RunsFor, calls_constructor}
+use Rattle.content_laws.specs.Naming.{IsOfItsKind}
+use Rattle.content_laws.proofs.NamedReached.{names_what_is_there}
+use Rattle.content_laws.proofs.Cases.{none_runs}
+use Rattle.content_laws.proofs.FilledStores.{IsAliasForm, own_alias_form}
+use Rattle.content_laws.proofs.Ready.{plain_call, plain_step, step_there}
+use Rattle.content_laws.proofs.Unmet.{row_of}
 use Rattle.soundness_laws.proofs.Programs.{is_programs}
 
 -- the object of a `new`, of the class of the constructor that runs

@@ -13,9 +13,9 @@ use Rattle.program_model.specs.declared.program.Sig.{Sig}
 use Rattle.program_model.specs.declared.tree.Body.{Body}
 use Rattle.program_model.specs.declared.tree.Var.{Var}
 use Rattle.program_model.specs.Lookups.{body_at, method_at, optional, variable_at}
-use Rattle.conduct_laws.specs.Bodies.{fields_of}
-use Rattle.conduct_laws.specs.MustCallSets.{beyond_type, fits_type, must_of, no_names}
-use Rattle.conduct_laws.specs.Signatures.{field_type, is_position}
+use Rattle.ledger_obligations.specs.Bodies.{fields_of}
+use Rattle.ledger_obligations.specs.MustCallSets.{beyond_type, fits_type, must_of, no_names}
+use Rattle.ownership_rules.specs.Signatures.{field_type, is_position}
 use Rattle.must_call_reset.specs.Resets.{reset_of}
 use Rattle.must_call_reset.specs.declared.reset_move.ResetMove.{ResetMove}
 use Rattle.must_call_reset.specs.declared.reset_move.ResetMove.TheVariants as resets
@@ -35,23 +35,23 @@ use Rattle.java_control.specs.declared.fact.Outcome.{Outcome}
 use Rattle.java_control.specs.declared.fact.Outcome.TheVariants.{Next, Gone, Fault}
 use Rattle.java_control.specs.declared.fact.Rule.TheVariants as rules
 use Rattle.java_control.specs.declared.place.Place.TheVariants as places
-use Rattle.obligation_facts.specs.Facts.{Names, PlaceSet, has, has_part, is_held, is_met, is_nowhere, is_own, leave, missing, mode_at, owes, position_of, without}
-use Rattle.covered_field_laws.specs.PlaceRows.{places_after}
-use Rattle.parameter_fact_laws.specs.CalledRows.{called_after}
-use Rattle.parameter_fact_laws.specs.Preconditions.{precondition_missing}
-use Rattle.parameter_fact_laws.specs.Stores.{heavy_stored, is_heavy_store, keeps_other, lacks_reset, may_store, object_stored, stored, stored_over, with_field}
+use Rattle.ownership_rules.specs.Facts.{Names, PlaceSet, has, has_part, is_held, is_met, is_nowhere, is_own, leave, missing, mode_at, owes, position_of, without}
+use Rattle.content_laws.specs.PlaceRows.{places_after}
+use Rattle.content_laws.specs.CalledRows.{called_after}
+use Rattle.content_laws.specs.Preconditions.{precondition_missing}
+use Rattle.content_laws.specs.OwningFieldsStores.{heavy_stored, is_heavy_store, keeps_other, lacks_reset, may_store, object_stored, stored, stored_over, with_field}
 use Rattle.ownership_rules.specs.Births.{Birth, births_at_entry, entry_births_in, entry_births_of, fact_at, has_this, held_births, parameter_birth, parameter_births, parameter_mode, this_birth, this_mode}
 use Rattle.ownership_rules.specs.Births as births
 use Rattle.ownership_rules.specs.MovesAtCalls.{moved_at_call}
 use Rattle.ownership_rules.specs.MovesAtReturns.{moved_at_return}
 use Rattle.ownership_rules.specs.declared.moved.Moved.{Moved}
 use Rattle.ownership_rules.specs.declared.moved.Moved.TheVariants.{Stays, Moves, Bad}
-use Rattle.named_step_laws.specs.Calls.{after_move, after_reset, at_move, at_precondition, called, given_away, with_called}
-use Rattle.named_step_laws.specs.Flow.{cast, flow, null_tested, placed, raised, tested, turn, turned}
-use Rattle.named_step_laws.specs.Paths.{Reach, born, entered, flowed, relation_of}
-use Rattle.parameter_fact_laws.proofs.Births.{AllBirths, OnBirth, birth_at, births_both, listed}
-use Rattle.parameter_fact_laws.proofs.EntryFacts.{IsElsewhere, born_so, fields_elsewhere, step_elsewhere}
-use Rattle.parameter_fact_laws.proofs.Flows.{IfNext, end_none}
+use Rattle.content_laws.specs.Calls.{after_move, after_reset, at_move, at_precondition, called, given_away, with_called}
+use Rattle.content_laws.specs.Flow.{cast, flow, null_tested, placed, raised, tested, turn, turned}
+use Rattle.content_laws.specs.Paths.{Reach, born, entered, flowed, relation_of}
+use Rattle.content_laws.proofs.ParameterBirths.{AllBirths, OnBirth, birth_at, births_both, listed}
+use Rattle.content_laws.proofs.EntryFacts.{IsElsewhere, born_so, fields_elsewhere, step_elsewhere}
+use Rattle.content_laws.proofs.Flows.{IfNext, end_none}
 
 own_left : (m : Mode) (held : PlaceSet) → is_own (mode_at m held) ≡ true → is_own m ≡ true
 own_left modes.Own held is = is

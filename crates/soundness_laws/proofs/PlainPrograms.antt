@@ -14,8 +14,8 @@ use Rattle.program_model.specs.declared.program.Program.{Program}
 use Rattle.program_model.specs.declared.tree.Body.{Body}
 use Rattle.program_model.specs.Lookups.{body_at, class_at, field_at, method_at}
 use Rattle.program_model.specs.SuperTests.{is_class}
-use Rattle.conduct_laws.specs.Bodies.{constructs, has_field_place, is_class_of, is_constructor, is_constructor_kind, is_extended, is_field_in, is_super, method_in, method_of}
-use Rattle.conduct_laws.specs.OwningCases.{field_ids, has_no_finalizer, is_assigned_from_outside, is_class_type, is_misshapen, may_hold_unseen_reset, owning_cases_in, owning_cases_of}
+use Rattle.ledger_obligations.specs.Bodies.{constructs, has_field_place, is_class_of, is_constructor, is_constructor_kind, is_extended, is_field_in, is_super, method_in, method_of}
+use Rattle.must_call_reset.specs.OwningCases.{field_ids, has_no_finalizer, is_assigned_from_outside, is_class_type, is_misshapen, may_hold_unseen_reset, owning_cases_in, owning_cases_of}
 use Rattle.rlc_base.specs.declared.code.Code.TheVariants as refused
 use Rattle.rlc_base.specs.declared.faults.Refusal.{Refusal}
 use Rattle.refusal_order.specs.Refusals.{refused_at, where_true}
@@ -25,15 +25,18 @@ use Rattle.java_control.specs.Owned.{is_beside_method, is_owning, is_owning_fiel
 use Rattle.java_control.specs.Remaining.{Todo}
 use Rattle.java_control.specs.declared.action.Action.{Action}
 use Rattle.java_control.specs.declared.action.Action.TheVariants as actions
-use Rattle.named_step_laws.specs.Paths.{Comes, Move, move_of, relation_of}
-use Rattle.parameter_fact_laws.specs.Accept.{Accept}
-use Rattle.own_method_laws.specs.Owners.{HasConcreteOwners}
-use Rattle.own_method_laws.proofs.Owners.{runs_own}
-use Rattle.constructor_step_laws.specs.Constructors.{CallsSuperClass, IsOfSuperClass, StoresOwnField}
-use Rattle.constructor_step_laws.proofs.Reached.{has_its_place}
-use Rattle.content_heap_laws.specs.PlainForms.{HasPlainForms, RunsOwnMethods, calls_constructor, run_by}
+use Rattle.content_laws.specs.Paths.{Comes, Move, move_of, relation_of}
+use Rattle.content_laws.specs.Accept.{Accept}
+use Rattle.content_laws.proofs.DispatchOwners.{runs_own}
+use Rattle.content_laws.specs.Constructors.{CallsSuperClass, IsOfSuperClass, StoresOwnField}
+use Rattle.content_laws.proofs.ConstructorReached.{has_its_place}
+use Rattle.soundness_laws.proofs.MadeClasses.{concrete_by}
+use Rattle.content_laws.specs.PlainForms.{HasPlainForms, RunsOwnMethods, calls_constructor, run_by}
 use Rattle.soundness_laws.specs.Plain.{IsPlain}
-use Rattle.filled_field_laws.proofs.Finalizers.{listed, none_at, parts_empty}
+use Rattle.content_laws.specs.AgreementConditions.{MeetsFileConditions}
+use Rattle.soundness_laws.proofs.PlainCalls.{plain_steps}
+use Rattle.soundness_laws.proofs.SuperCalls.{supers_come_first}
+use Rattle.content_laws.proofs.Finalizers.{listed, none_at, parts_empty}
 
 -- ---- lists
 
@@ -60,9 +63,9 @@ not_there false r is = refl
 
 -- ---- dispatch
 
-own_methods : (p : Program) → Accept p → HasConcreteOwners p → RunsOwnMethods p
+own_methods : (p : Program) → Accept p → RunsOwnMethods p
 unfolding run_by
-own_methods p ac concrete = runs_own p ac concrete
+own_methods p ac named m n d f x i at_n at_d made = runs_own p ac named m n d f x i at_n at_d (concrete_by p d.class made)
 
 -- ---- steps of constructors
 
@@ -147,7 +150,7 @@ module _ (p : Program) (ac : Accept p) where
           by None is = absurd (true≢false (sym is))
           by (Some m) is = same_class m.class y.class is
 
-  module _ (plain : IsPlain p) where
+  module _ (files : MeetsFileConditions p) (plain : IsPlain p) where
     super_calls : (b : BodyId) {k : List Todo} (i : ℕ) (t : Move (List Todo)) → Comes (relation_of p b) k → slice_get ((relation_of p b).next k) i ≡ Some t → calls_constructor p t.action ≡ true
         → is_constructor p b ≡ true
     super_calls b {k = k} i t comes there calls =
@@ -170,10 +173,12 @@ module _ (p : Program) (ac : Accept p) where
 
     pub plain_forms : HasPlainForms p
     plain_forms = record {
-      steps = plain.steps;
-      supers = plain.supers;
+      steps = plain_steps p ac files plain;
+      supers = supers_come_first p ac.well_formed.valid.typed files.passes;
       super_calls = super_calls;
       stores = stores;
       parents = parents;
-      own = own_methods p ac plain.owners;
+      own = own_methods p ac;
+      bodies = plain.creations.bodies;
+      resets = plain.creations.steps;
     }

@@ -8,9 +8,9 @@ use Rattle.program_model.specs.declared.program.Program.{Program}
 use Rattle.program_model.specs.Lookups.{class_at, method_at}
 use Rattle.program_model.specs.Overrides.{is_library, is_library_in}
 use Rattle.program_model.specs.Validity.{MayHaveBody}
-use Rattle.parameter_fact_laws.specs.Accept.{Accept}
-use Rattle.conduct_laws.specs.Calls.{body_of}
-use Rattle.content_heap_laws.specs.Choosing.{body_id}
+use Rattle.content_laws.specs.Accept.{Accept}
+use Rattle.ledger_steps.specs.LedgerCallsCalls.{body_of}
+use Rattle.content_laws.specs.Choosing.{body_id}
 
 not_library : (k : Option Class) → IsSomeAnd k (λ x. x.library ≡ false) → is_library_in k ≡ false
 not_library None is = absurd is

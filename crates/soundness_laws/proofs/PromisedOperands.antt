@@ -1,7 +1,7 @@
 -- As a frame ends, what its method promises was called on the objects that the caller owns and has lent: on a parameter or on `this`, where the
 -- callee's own fact knows the names, as the rule `ensures` asks at the end of a body. And a result that is an alias is the object that the caller has
 -- at the aliased position.
-use Rattle.std.proofs.Common.{◌≡◌, inl, inr, ℕ, zero, suc, ◌+◌, ◌<◌, ◌&&◌, Bool, true, false, not, Option, Some, None, List, [], ◌∷◌, length, slice_get, refl, sym, ap, ◌∙◌, subst, true≢false, if◌then◌else◌, arith}
+use Rattle.std.proofs.Common.{◌≡◌, inl, inr, ℕ, zero, suc, ◌+◌, ◌<◌, ◌&&◌, Bool, true, false, not, Option, Some, None, List, [], ◌∷◌, length, lt-ltb, slice_get, refl, sym, ap, ◌∙◌, subst, true≢false, if◌then◌else◌, arith}
 use Rattle.std.specs.Option.{IsSomeAnd}
 use Rattle.std.specs.List.{All}
 use Rattle.std.specs.FinSet as set
@@ -21,10 +21,10 @@ use Rattle.program_model.specs.declared.program.Promise.{Promise}
 use Rattle.program_model.specs.Lookups.{method_at}
 use Rattle.program_model.specs.Overrides.{is_library}
 use Rattle.program_model.specs.Validity.{IsBodyOf, IsPromised, IsValidSig}
-use Rattle.conduct_laws.specs.Assigned.{is_spoken_variable}
-use Rattle.conduct_laws.specs.Bodies.{constructs, method_of, promises_in, throwing_promises_in}
-use Rattle.conduct_laws.specs.MustCallSets.{Names, is_empty, is_heavy_class, must_of, must_of_type, no_names}
-use Rattle.conduct_laws.specs.Signatures.{is_at, promised_names, when}
+use Rattle.ledger_obligations.specs.Assigned.{is_spoken_variable}
+use Rattle.ledger_obligations.specs.Bodies.{constructs, method_of, promises_in, throwing_promises_in}
+use Rattle.ledger_obligations.specs.MustCallSets.{Names, is_empty, is_heavy_class, must_of, must_of_type, no_names}
+use Rattle.ownership_rules.specs.Signatures.{is_at, promised_names, when}
 use Rattle.java_control.specs.Calls.{called_method}
 use Rattle.java_control.specs.Control.{Step}
 use Rattle.java_control.specs.PlaceNumbers.{IsSmall}
@@ -38,52 +38,55 @@ use Rattle.java_control.specs.declared.fact.OriginKind.{OriginKind}
 use Rattle.java_control.specs.declared.fact.OriginKind.TheVariants as kinds
 use Rattle.java_control.specs.declared.place.Place.{Place}
 use Rattle.java_control.specs.declared.place.Place.TheVariants as places
-use Rattle.obligation_facts.specs.Callees.{callee, callee_in, holds_operand, may_be_null_target}
-use Rattle.obligation_facts.specs.Facts.{is_held, is_origin_at}
-use Rattle.obligation_facts.specs.SmallActions.{IsSmallAction}
+use Rattle.ownership_rules.specs.Callees.{callee, callee_in, holds_operand, may_be_null_target}
+use Rattle.ownership_rules.specs.Facts.{has, is_held, is_origin_at}
+use Rattle.ownership_rules.specs.SmallActions.{IsSmallAction}
 use Rattle.ownership_rules.specs.MovesAtCalls.{moved_at_call}
 use Rattle.ownership_rules.specs.Room.{variable_count, variables_in}
 use Rattle.ownership_rules.specs.declared.moved.Moved.TheVariants as moves
-use Rattle.parameter_fact_laws.specs.CalledRows.{holds_target, promises_at}
-use Rattle.covered_field_laws.specs.Aliases.{gives_alias}
-use Rattle.named_step_laws.specs.Ends.{is_throw}
-use Rattle.named_step_laws.specs.Paths.{Reach, move_of, relation_of}
-use Rattle.parameter_fact_laws.specs.Accept.{Accept}
+use Rattle.content_laws.specs.CalledRows.{holds_target, promises_at}
+use Rattle.content_laws.specs.Aliases.{gives_alias}
+use Rattle.content_laws.specs.Ends.{is_throw}
+use Rattle.content_laws.specs.Paths.{Reach, move_of, relation_of}
+use Rattle.content_laws.specs.Accept.{Accept}
 use Rattle.ledger_state.specs.Contents.{HeapContents}
 use Rattle.ledger_state.specs.Heaps.{object_at, root_of}
 use Rattle.ledger_state.specs.Locals.{variable_value}
 use Rattle.ledger_state.specs.declared.object.Object.{Object}
 use Rattle.ledger_state.specs.declared.value.Value.TheVariants as values
-use Rattle.ledger_obligations.specs.Obligations.{is_unmet}
-use Rattle.filled_field_laws.specs.Places.{place_value}
-use Rattle.conduct_laws.specs.Calls.{alias_position, operand_of}
-use Rattle.conduct_laws.specs.Configuration.{Frame}
-use Rattle.content_heap_laws.specs.Choosing.{body_id, frame_steps}
+use Rattle.ledger_state.specs.declared.entry.Owner.TheVariants as owners
+use Rattle.ledger_obligations.specs.Obligations.{is_library_owner, is_unmet}
+use Rattle.content_laws.specs.Places.{place_value}
+use Rattle.ledger_steps.specs.LedgerCallsCalls.{alias_position, operand_of}
+use Rattle.content_laws.specs.Configuration.{Frame}
+use Rattle.content_laws.specs.Choosing.{body_id, frame_steps}
 use Rattle.ledger_steps.specs.Ends.{answered, exception_class, result_value, thrown_in}
-use Rattle.library_call_laws.specs.Heaps.{GoesOn}
-use Rattle.library_call_laws.proofs.NoteLists.{name_from_all, name_where}
-use Rattle.call_step_laws.proofs.Ways.{one_action}
-use Rattle.content_heap_laws.specs.Outcomes.{IsCallRow}
-use Rattle.content_heap_laws.specs.Agreement.{Stands, Tracks, WaitsFor}
-use Rattle.content_heap_laws.specs.PlainForms.{HasPlainForms, IsPlainAction, IsKeptBy, IsPlainCall, IsPlainSignature, IsPromisedPlainly, KeepsPromises, PromisesPlainly, is_lent_parameter}
-use Rattle.thrown_value_laws.specs.PlaceFacts.{Covers, IsCovered, is_lent, may_owe}
-use Rattle.covering_laws.specs.Arguments.{HasArguments}
-use Rattle.parameter_fact_laws.proofs.Origins.{parameters_own, this_own}
-use Rattle.covering_laws.proofs.SignedPromises.{Promises}
-use Rattle.covering_laws.specs.Throws.{EndsByException}
-use Rattle.covering_laws.proofs.AliasResults.{argument_is_result}
-use Rattle.covering_laws.proofs.AliasRoots.{GivesOperand, gives_operand}
-use Rattle.covering_laws.proofs.Arguments.{argument_is_given}
-use Rattle.covering_laws.proofs.Births.{heavy_by_unmet}
-use Rattle.covering_laws.proofs.CallNames.{no_target, object_with_root, operand_has_position, operand_of_fact}
-use Rattle.covering_laws.proofs.EndNames.{HasAlike, at_target, element_there, named_parameter, parameter_origin, parameters_fit, spoken, zero_origin}
-use Rattle.covering_laws.proofs.KnownNames.{AreKept, all_kept}
-use Rattle.covering_laws.proofs.ParameterEnds.{AsksFor, return_asks, shown_on_position, throw_asks, unowned_moves}
-use Rattle.covering_laws.proofs.Ready.{named_gives_none, plain_call, plain_step, step_here, step_there}
-use Rattle.covering_laws.proofs.Unmet.{call_may, nothing_to_call, row_of}
-use Rattle.covered_field_laws.proofs.Following.{breaks_nothing, same_body}
-use Rattle.named_step_laws.specs.Naming.{IsOfItsKind}
-use Rattle.named_step_laws.proofs.Reached.{names_what_is_there}
+use Rattle.content_laws.specs.Heaps.{GoesOn}
+use Rattle.content_laws.proofs.NoteLists.{name_from_all, name_where}
+use Rattle.content_laws.proofs.CallWays.{one_action}
+use Rattle.content_laws.specs.Outcomes.{IsCallRow}
+use Rattle.content_laws.specs.Agreement.{Stands, Tracks, WaitsFor}
+use Rattle.content_laws.specs.PlainForms.{HasPlainForms, IsPlainAction, IsKeptBy, IsPlainCall, IsPlainSignature, IsPromisedPlainly, KeepsPromises, PromisesPlainly, is_lent_parameter}
+use Rattle.content_laws.specs.PlaceFacts.{Covers, IsCovered, gives_none, is_frame_below, is_lent, may_owe}
+use Rattle.content_laws.specs.Arguments.{HasArguments}
+use Rattle.content_laws.proofs.FactOrigins.{parameters_own, this_own}
+use Rattle.content_laws.proofs.SignedPromises.{Promises}
+use Rattle.content_laws.specs.Throws.{EndsByException}
+use Rattle.content_laws.proofs.AliasResults.{argument_is_result}
+use Rattle.content_laws.proofs.AliasRoots.{GivesOperand, gives_operand}
+use Rattle.content_laws.proofs.CoveredArguments.{argument_is_given}
+use Rattle.content_laws.proofs.Births.{heavy_by_unmet}
+use Rattle.content_laws.proofs.CallNames.{no_target, object_with_root, operand_has_position, operand_of_fact}
+use Rattle.content_laws.proofs.EndNames.{HasAlike, at_target, element_there, named_parameter, parameter_origin, parameters_fit, spoken, zero_origin}
+use Rattle.content_laws.proofs.KnownNames.{AreKept, all_kept}
+use Rattle.content_laws.proofs.ParameterEnds.{AsksFor, return_asks, shown_on_position, throw_asks, unowned_moves}
+use Rattle.content_laws.proofs.Ready.{named_gives_none, plain_call, plain_step, step_here, step_there}
+use Rattle.content_laws.proofs.Unmet.{call_may, nothing_to_call, row_of}
+use Rattle.content_laws.proofs.Goes.{not_the_librarys_owes}
+use Rattle.content_laws.proofs.Following.{breaks_nothing, same_body}
+use Rattle.content_laws.proofs.HeavyFields.{apart_low, covered_at}
+use Rattle.content_laws.specs.Naming.{IsOfItsKind}
+use Rattle.content_laws.proofs.NamedReached.{names_what_is_there}
 use Rattle.soundness_laws.proofs.KeptPromises.{GivesRoot, ReturnsAlias}
 use Rattle.soundness_laws.proofs.Makers.{IsRunBelow, body_method, run_below}
 use Rattle.soundness_laws.proofs.Programs.{is_programs}
@@ -95,7 +98,7 @@ each_of P [] k x all at = absurd (let never : None ≡ Some x = at in cc)
 each_of P (y ∷ ys) zero x all at = subst P (let both : Some y ≡ Some x = at in (let same : y ≡ x = cc in same)) (All-head P y ys all)
 each_of P (y ∷ ys) (suc k) x all at = each_of P ys k x (All-tail P y ys all) at
 
-module _ (p : Program) (ac : Accept p) (forms : HasPlainForms p) (h : HeapContents) (fr caller : Frame) (st : Stands p fr) (wait : WaitsFor p h caller fr) (covered : IsCovered p h fr)
+module _ (p : Program) (ac : Accept p) (forms : HasPlainForms p) (h : HeapContents) (fr caller : Frame) (rest : List Frame) (st : Stands p fr) (wait : WaitsFor p h caller fr) (covered : IsCovered p h gives_none (caller ∷ rest) fr)
     (args : HasArguments p caller fr) (exits : EndsByException p h fr) (below : Stands p caller) (i j : ℕ) (s t : Step) (q : Completion) (here : slice_get (frame_steps p fr) i ≡ Some s) (is : s.action ≡ actions.End q)
     (there : slice_get (frame_steps p caller) j ≡ Some t) (row : IsCallRow t.action) (normal : exception_class p h (thrown_in fr.locals q) ≡ None → t.edge ≡ edges.Go)
     (thrown : (c : ClassId) → exception_class p h (thrown_in fr.locals q) ≡ Some c → (k : ClassId) × (t.edge ≡ edges.Throws k)) where
@@ -167,7 +170,7 @@ module _ (p : Program) (ac : Accept p) (forms : HasPlainForms p) (h : HeapConten
 
   -- ---- an object of the caller
 
-  module _ (o : ℕ) (x y : Object) (w : Tracks p h caller o x) (before : object_at h o ≡ Some x) (unmet : is_unmet x ≡ true) (goes : GoesOn x y) (stays : moved_at_call p w.origin t.action t.edge w.fact ≡ moves.Moves → ⊥) where
+  module _ (o : ℕ) (x y : Object) (w : Tracks p h caller o x) (before : object_at h o ≡ Some x) (unmet : is_unmet x ≡ true) (goes : GoesOn x y) (mine : x.owner ≡ owners.Frame (length rest + 1)) (stays : moved_at_call p w.origin t.action t.edge w.fact ≡ moves.Moves → ⊥) where
     done : x.finished ≡ true
     done = (and_parts x.finished (not (set.is_subset x.must x.called)) unmet).0
 
@@ -175,7 +178,11 @@ module _ (p : Program) (ac : Accept p) (forms : HasPlainForms p) (h : HeapConten
     heavy = heavy_by_unmet p x.class x unmet w.follows.bounded
 
     owes : may_owe x ≡ true
-    owes = ap not (not_true (x.finished && is_empty x.must) (λ both. nothing_to_call x unmet (and_parts x.finished (is_empty x.must) both).1))
+    owes = not_the_librarys_owes x (ap is_library_owner mine)
+
+    -- the caller, a frame below, owns the object
+    low : is_frame_below (length (caller ∷ rest) + 1) x.owner ≡ true
+    low = ap (is_frame_below (length (caller ∷ rest) + 1)) mine ∙ lt-ltb (length rest + 1) (length (caller ∷ rest) + 1) (omega arith)
 
     wide : is_heavy_class p w.origin.class ≡ true
     wide = ap not (not_true (is_empty (must_of p w.origin.class)) (λ light.
@@ -191,15 +198,16 @@ module _ (p : Program) (ac : Accept p) (forms : HasPlainForms p) (h : HeapConten
         (promises : Promises r u) where
       -- what is lent shows its names
       of_lent : (place : Place) (v : ℕ) → IsSmall place → root_of h (place_value p h fr.method fr.locals place) ≡ Some o → u.target ≡ promised.At v
-          → ((cover : Covers p h fr place o x) → (is_origin_at cover.origin.kind (Some v) ≡ true) × (is_lent p (method_at p fr.method) cover.origin.kind ≡ true)) → set.is_subset u.names y.called ≡ true
+          → ((cover : Covers p h false (caller ∷ rest) fr o x) → has cover.fact.places place ≡ true → (is_origin_at cover.origin.kind (Some v) ≡ true) × (is_lent p (method_at p fr.method) cover.origin.kind ≡ true)) → set.is_subset u.names y.called ≡ true
       of_lent place v room root target its =
-          let cover : Covers p h fr place o x = covered place o x room root before heavy owes in
-          let lent = its cover in
+          let found = covered_at p h false (caller ∷ rest) fr place o x (covered place o x room root before heavy owes) in
+          let cover : Covers p h false (caller ∷ rest) fr o x = found.0 in
+          let lent = its cover found.1 in
           within_trans u.names x.called y.called
-          (shown_on_position p ac h fr st i s q here is place o x cover (unowned_moves p st.number cover.origin cover.fact (cover.lent lent.1).0 q) (cover.known done (or_left (is_lent p (method_at p fr.method) cover.origin.kind) (is_heavy_class p cover.origin.class && is_held cover.fact.mode) lent.1)) xs asks v k u at target lent.0) goes.called
+          (shown_on_position p ac h fr st i s q here is (caller ∷ rest) o x cover (unowned_moves p st.number cover.origin cover.fact (cover.lent lent.1).0 q) (cover.known done (or_left (is_lent p (method_at p fr.method) cover.origin.kind) (is_heavy_class p cover.origin.class && is_held cover.fact.mode) lent.1) (apart_low p h (caller ∷ rest) fr o x cover.fact low)).2 xs asks v k u at target lent.0) goes.called
 
-      reached_here : (place : Place) (cover : Covers p h fr place o x) → Reach p st.number (relation_of p st.number) cover.origin fr.control cover.fact
-      reached_here place cover = subst (λ (b : BodyId). Reach p b (relation_of p b) cover.origin fr.control cover.fact) (same_body cover.body st.number (body_id p fr.method) cover.id st.id) cover.reached
+      reached_here : (cover : Covers p h false (caller ∷ rest) fr o x) → Reach p st.number (relation_of p st.number) cover.origin fr.control cover.fact
+      reached_here cover = subst (λ (b : BodyId). Reach p b (relation_of p b) cover.origin fr.control cover.fact) (same_body cover.body st.number (body_id p fr.method) cover.id st.id) cover.reached
 
       lent_here : (kind f : OriginKind) → kind ≡ f → is_lent p (Some r) f ≡ true → is_lent p (method_at p fr.method) kind ≡ true
       lent_here kind f is' lent = ap (is_lent p (method_at p fr.method)) is' ∙ ap (λ (m : Option Method). is_lent p m f) own_method ∙ lent
@@ -209,7 +217,7 @@ module _ (p : Program) (ac : Accept p) (forms : HasPlainForms p) (h : HeapConten
           let v = object_with_root h (operand_of caller.locals t.action 0) o (operand 0 holds) in
           let this : fr.locals.this ≡ values.Object v.0 = args.receiver j t v.0 there v.1 in
           of_lent places.This 0 tt (ap (root_of h) this ∙ ap Some v.2) target
-          (λ cover. (let own = this_own p ac st.number st.body st.at cover.origin fr.control cover.fact (reached_here places.This cover) cover.here in
+          (λ cover here'. (let own = this_own p ac st.number st.body st.at cover.origin fr.control cover.fact (reached_here cover) here' in
           (own, lent_here cover.origin.kind kinds.ThisRef (zero_origin cover.origin.kind own) class)))
 
       -- an owning parameter takes the object, which then does not stay
@@ -242,7 +250,7 @@ module _ (p : Program) (ac : Accept p) (forms : HasPlainForms p) (h : HeapConten
 
           of_param : (param : ParamSig) → slice_get r.sig.params.items v ≡ Some param → is_lent_parameter p (Some param) ≡ true → set.is_subset u.names y.called ≡ true
           of_param param param_at lent = of_lent (places.Var v) (v + 1) room root target
-              (λ cover. (let own = parameters_own p ac st.number st.body r v st.at (ap (method_at p) st.method ∙ own_method) parameter cover.origin fr.control cover.fact (reached_here (places.Var v) cover) cover.here in
+              (λ cover here'. (let own = parameters_own p ac st.number st.body r v st.at (ap (method_at p) st.method ∙ own_method) parameter cover.origin fr.control cover.fact (reached_here cover) here' in
               (own, lent_here cover.origin.kind (kinds.Param v) (parameter_origin v cover.origin.kind own) (ap (is_lent_parameter p) param_at ∙ lent))))
 
           by : (param : ParamSig) × (slice_get r.sig.params.items v ≡ Some param) → set.is_subset u.names y.called ≡ true
@@ -273,7 +281,7 @@ module _ (p : Program) (ac : Accept p) (forms : HasPlainForms p) (h : HeapConten
     alike_here v param at owning = named_parameter run.running.sig.params.items n.sig.params.items v param run.fit.types run.fit.owning at owning
 
     plainly : fr.method ≡ named → PromisesPlainly p n
-    plainly same = (subst (IsPlainSignature p) run.named_at call.signature).2 (of_program same)
+    plainly same = (subst (IsPlainSignature p) run.named_at call.signature).1 (of_program same)
 
     valid : IsValidSig p n.sig
     valid = (ac.well_formed.valid.typed.methods named n run.named_at).signature
@@ -376,7 +384,7 @@ module _ (p : Program) (ac : Accept p) (forms : HasPlainForms p) (h : HeapConten
         result : constructs (method_at p fr.method) ≡ false → root_of h (result_value fr.locals (method_at p fr.method) q) ≡ Some o
         result other =
             ap (λ (m : Option Method). root_of h (result_value fr.locals m q)) run.running_at
-            ∙ argument_is_result p ac h fr caller st args covered i s q here is (returns given.1) run.running run.running_at given.0.position alias
+            ∙ argument_is_result p ac h fr caller rest st args covered i s q here is (returns given.1) run.running run.running_at given.0.position alias
             (ap constructs (sym run.running_at) ∙ other) j t there o x before heavy owes aliased_root
 
         kind : IsOfItsKind p t.action

@@ -4,22 +4,22 @@ use Rattle.std.proofs.lemmas.Bool.{and_parts, or_left, or_right}
 use Rattle.program_model.specs.declared.kinds.ClassId.{ClassId}
 use Rattle.program_model.specs.declared.program.Program.{Program}
 use Rattle.program_model.specs.Lookups.{method_at}
-use Rattle.conduct_laws.specs.Bodies.{is_class_of}
-use Rattle.parameter_fact_laws.specs.Accept.{Accept}
+use Rattle.ledger_obligations.specs.Bodies.{is_class_of}
+use Rattle.content_laws.specs.Accept.{Accept}
 use Rattle.ledger_state.specs.Heaps.{object_at, root}
 use Rattle.ledger_state.specs.declared.entry.Owner.{Owner}
 use Rattle.ledger_state.specs.declared.entry.Owner.TheVariants as owners
 use Rattle.ledger_state.specs.declared.object.Object.{Object}
 use Rattle.ledger_state.specs.declared.value.Value.TheVariants as values
 use Rattle.ledger_obligations.specs.Obligations.{is_unmet, is_unmet_in, owner_in}
-use Rattle.conduct_laws.specs.Calls.{is_alias}
-use Rattle.conduct_laws.specs.Configuration.{Config, Frame}
-use Rattle.safety.specs.Safety.{IsGiven, IsLive, IsSafeAt, IsUnmet, by_itself, constructs_object, is_being_made, owner_of, within}
-use Rattle.library_call_laws.proofs.Laws.{roots_go_on-root, roots_of_links-itself}
-use Rattle.content_heap_laws.specs.Agreement.{Agree, IsTracked, is_answering}
-use Rattle.content_heap_laws.specs.Chains.{Ends, IsLast, ends_here, of_field}
-use Rattle.thrown_value_laws.specs.FieldContents.{HaveContents, IsContent, is_made_in, makes_holder, makes_object}
-use Rattle.covering_laws.proofs.Landing.{tracked_held}
+use Rattle.ledger_steps.specs.LedgerCallsCalls.{is_alias}
+use Rattle.content_laws.specs.Configuration.{Config, Frame}
+use Rattle.content_laws.specs.Safety.{IsGiven, IsLive, IsSafeAt, IsUnmet, by_itself, constructs_object, is_being_made, owner_of, within}
+use Rattle.content_laws.proofs.LibraryCallLaws.{roots_go_on-root, roots_of_links-itself}
+use Rattle.content_laws.specs.Agreement.{Agree, IsTracked, is_answering}
+use Rattle.content_laws.specs.Chains.{Ends, IsLast, ends_here, of_field}
+use Rattle.content_laws.specs.FieldContents.{HaveContents, IsContent, is_made_in, makes_holder, makes_object}
+use Rattle.content_laws.proofs.Landing.{tracked_held}
 use Rattle.soundness_laws.proofs.Finalizers.{holder_is_unmet}
 
 -- a constructor of the class among the frames is a constructor

@@ -3,6 +3,7 @@ use Rattle.std.proofs.Common.{◌≡◌, ℕ, zero, suc, ◌-◌, ◌≤◌, tru
 use Rattle.std.proofs.lemmas.Bool.{and_parts}
 use Rattle.std.proofs.lemmas.List.{length-replicate}
 use Rattle.program_model.specs.declared.kinds.BodyId.{BodyId}
+use Rattle.program_model.specs.declared.kinds.ClassId.{ClassId}
 use Rattle.program_model.specs.declared.kinds.MethodId.{MethodId}
 use Rattle.program_model.specs.declared.kinds.MethodKind.{MethodKind}
 use Rattle.program_model.specs.declared.kinds.MethodKind.TheVariants as methods
@@ -13,22 +14,27 @@ use Rattle.program_model.specs.declared.program.Program.{Program}
 use Rattle.program_model.specs.declared.tree.Body.{Body}
 use Rattle.program_model.specs.declared.tree.Var.{Var}
 use Rattle.program_model.specs.Lookups.{body_at, method_at}
+use Rattle.program_model.specs.Overrides.{is_library}
 use Rattle.program_model.specs.Validity.{HasParameters, IsBodyOf, OwnsBody}
 use Rattle.ownership_rules.specs.MovesAtReturns.{result_in}
-use Rattle.conduct_laws.specs.Bodies.{constructs, is_constructor_kind}
-use Rattle.parameter_fact_laws.specs.Accept.{Accept}
-use Rattle.named_step_laws.specs.Paths.{start}
+use Rattle.ledger_obligations.specs.Bodies.{constructs, is_constructor_kind}
+use Rattle.content_laws.specs.Accept.{Accept}
+use Rattle.content_laws.specs.Paths.{start}
 use Rattle.stub_conduct.specs.declared.choice.Choices.{Choices}
+use Rattle.ledger_state.specs.Classes.{class_in}
 use Rattle.ledger_state.specs.Heaps.{object_at}
 use Rattle.ledger_state.specs.declared.object.Object.{Object}
 use Rattle.ledger_state.specs.declared.value.Value.TheVariants as values
-use Rattle.conduct_laws.specs.Calls.{begun, body_of, control_in, variable_count, variables_in}
-use Rattle.conduct_laws.specs.Configuration.{Frame}
-use Rattle.ledger_runs.specs.Starts.{start_config}
-use Rattle.filled_field_laws.specs.Moves.{has_body}
-use Rattle.ledger_runs.specs.Mains.{has_no_result, is_main, is_main_in, is_static, takes_texts}
-use Rattle.safety.specs.Safety.{IsMain}
-use Rattle.content_heap_laws.specs.Agreement.{Agree, Stands}
+use Rattle.ledger_steps.specs.LedgerCallsCalls.{begun, body_of, control_in, variable_count, variables_in}
+use Rattle.content_laws.specs.Configuration.{Frame}
+use Rattle.content_laws.specs.Starts.{start_config}
+use Rattle.content_laws.specs.Moves.{has_body}
+use Rattle.run_command.specs.Mains.{has_no_result, is_main, is_main_in, is_static, takes_texts}
+use Rattle.content_laws.specs.Safety.{IsMain}
+use Rattle.content_laws.specs.LibraryClasses.{GivesLibraryClasses}
+use Rattle.content_laws.specs.Agreement.{Agree, HasMadeClasses, Stands}
+use Rattle.content_laws.specs.PlainForms.{may_be_made}
+use Rattle.soundness_laws.proofs.MadeClasses.{library_may}
 
 -- the frame of `main` by its body
 abbrev pub main_frame : Program → MethodId → Option BodyId → Frame
@@ -117,9 +123,22 @@ module _ (p : Program) (ac : Accept p) (main : MethodId) where
   nothing_there zero x is = cc
   nothing_there (suc k) x is = cc
 
-  pub start_agrees : (choices : Choices) → IsMain p main → Agree p (start_config p main choices)
+  -- texts and arrays are of classes of the library
+  start_classes : GivesLibraryClasses p → HasMadeClasses p (record { objects = []; fields = [] })
+  start_classes gives (values.Object k) c is = go (object_at (record { objects = []; fields = [] }) k) refl is
+    where
+      go : (x : Option Object) → object_at (record { objects = []; fields = [] }) k ≡ x → class_in x ≡ Some c → may_be_made p c ≡ true
+      go None at same = absurd (let never : None ≡ Some c = same in cc)
+      go (Some x) at same = absurd (nothing_there k x at)
+  start_classes gives values.Text c is = library_may p c (subst (λ (d : ClassId). is_library p d ≡ true) (let both : Some p.core.string ≡ Some c = is in (let one : p.core.string ≡ c = cc in one)) gives.string)
+  start_classes gives (values.Array a) c is = library_may p c (subst (λ (d : ClassId). is_library p d ≡ true) (let both : Some p.core.object ≡ Some c = is in (let one : p.core.object ≡ c = cc in one)) gives.object)
+  start_classes gives values.Nothing c is = absurd (let never : None ≡ Some c = is in cc)
+  start_classes gives values.Null c is = absurd (let never : None ≡ Some c = is in cc)
+  start_classes gives (values.Number z) c is = absurd (let never : None ≡ Some c = is in cc)
+
+  pub start_agrees : GivesLibraryClasses p → (choices : Choices) → IsMain p main → Agree p (start_config p main choices)
   unfolding start_config
-  start_agrees choices is =
+  start_agrees gives choices is =
       let begins = main_begins (method_at p main) refl is.0 is.1 in
       record {
         standing = (begins.0, tt);
@@ -132,4 +151,5 @@ module _ (p : Program) (ac : Accept p) (main : MethodId) where
         tracked = λ o x j at unmet owner. absurd (nothing_there o x at);
         answered = λ o x at free unmet. absurd (nothing_there o x at);
         no_leak = refl;
+        classes = start_classes gives;
       }

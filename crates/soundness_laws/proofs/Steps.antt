@@ -1,5 +1,5 @@
 -- Each step of the machine keeps the agreement, where it is not stray.
-use Rattle.std.proofs.Common.{◌≡◌, inl, inr, ℕ, ◌≤◌, Option, Some, None, List, [], ◌∷◌, ◌++◌, length, slice_get, refl, sym, ap, ◌∙◌, subst, arith}
+use Rattle.std.proofs.Common.{◌≡◌, inl, inr, ℕ, ◌+◌, ◌≤◌, Option, Some, None, List, [], ◌∷◌, ◌++◌, length, slice_get, refl, sym, ap, ◌∙◌, subst, arith}
 use Rattle.std.specs.List.{All}
 use Rattle.std.proofs.lemmas.List.Elements.{All-head}
 use Rattle.std.proofs.lemmas.List.FromFn.{length-map-range_with_len}
@@ -9,7 +9,7 @@ use Rattle.program_model.specs.declared.kinds.MethodId.{MethodId}
 use Rattle.program_model.specs.declared.program.Method.{Method}
 use Rattle.program_model.specs.declared.program.Program.{Program}
 use Rattle.program_model.specs.Lookups.{method_at}
-use Rattle.conduct_laws.specs.WellFormed.{HasSmallInterests}
+use Rattle.ledger_obligations.specs.WellFormed.{HasSmallInterests}
 use Rattle.java_control.specs.Calls.{called_method}
 use Rattle.java_control.specs.Control.{Step}
 use Rattle.java_control.specs.declared.action.Action.{Action}
@@ -17,8 +17,8 @@ use Rattle.java_control.specs.declared.action.Action.TheVariants as actions
 use Rattle.java_control.specs.declared.action.Completion.{Completion}
 use Rattle.java_control.specs.declared.action.Edge.TheVariants as edges
 use Rattle.ownership_rules.specs.Room.{variables_in}
-use Rattle.parameter_fact_laws.specs.Accept.{Accept}
-use Rattle.named_step_laws.specs.Paths.{move_of, on}
+use Rattle.content_laws.specs.Accept.{Accept}
+use Rattle.content_laws.specs.Paths.{move_of, on}
 use Rattle.stub_conduct.specs.declared.choice.Conduct.{Conduct}
 use Rattle.stub_conduct.specs.declared.choice.Conduct.TheVariants as conducts
 use Rattle.ledger_state.specs.Contents.{HeapContents}
@@ -26,42 +26,44 @@ use Rattle.ledger_state.specs.Heaps.{next_number}
 use Rattle.ledger_state.specs.declared.locals.Locals.{Locals}
 use Rattle.ledger_state.specs.declared.value.Value.{Value}
 use Rattle.ledger_state.specs.declared.value.Value.TheVariants as values
-use Rattle.filled_field_laws.specs.Operations.{made_value, next_choice}
-use Rattle.conduct_laws.specs.Calls.{argument_values, begun, body_of, operand_of, params_in, running}
-use Rattle.conduct_laws.specs.Conducts.{arguments_shared, conduct_value, positions}
-use Rattle.conduct_laws.specs.Configuration.{Config, Frame, held_by}
-use Rattle.content_heap_laws.specs.Choosing.{frame_steps}
-use Rattle.content_heap_laws.specs.Frames.{frame_after}
+use Rattle.content_laws.specs.Operations.{made_value, next_choice}
+use Rattle.ledger_steps.specs.LedgerCallsCalls.{argument_values, begun, body_of, operand_of, params_in, reset_position, running}
+use Rattle.ledger_steps.specs.Conducts.{arguments_shared, conduct_value, positions}
+use Rattle.content_laws.specs.Configuration.{Config, Frame, held_by}
+use Rattle.content_laws.specs.Choosing.{frame_steps}
+use Rattle.content_laws.specs.LedgerFramesFrames.{frame_after}
 use Rattle.ledger_steps.specs.CallSteps.{self_begun}
 use Rattle.ledger_steps.specs.Ends.{answered, exception_class, result_value, thrown_in}
 use Rattle.ledger_steps.specs.InnerSteps.{inner, thrown_value}
-use Rattle.filled_field_laws.specs.Moves.{Move, Inner, Start, Library, End, Stray, Rest, Return, Back, StrayBack, NoWay, return_move}
-use Rattle.ledger_runs.specs.Outcomes.{Outcome, went, ended, stray}
-use Rattle.ledger_runs.specs.Steps.{began, end, library_went, main_ended, moved, moved_by, returned, returned_by, step, top_move, within}
-use Rattle.thrown_value_laws.specs.Frames.{HaveTargets, KeepsTargets}
-use Rattle.content_heap_laws.specs.Agreement.{Agree, Agrees, IsMadeBy, RunsItself, Stands, WaitsFor, IsMadeAfter}
-use Rattle.content_heap_laws.specs.PlainForms.{HasPlainForms, IsPlainCall}
-use Rattle.conduct_laws.specs.Fitting.{FitsMethod}
-use Rattle.call_step_laws.proofs.Ways.{one_action}
-use Rattle.content_heap_laws.specs.Outcomes.{IsCallRow}
-use Rattle.parameter_fact_laws.proofs.Laws.{variables_stay}
-use Rattle.covering_laws.proofs.Entries.{has_begun, same_count}
-use Rattle.covering_laws.proofs.Ready.{plain_call, plain_step, step_here, step_there}
-use Rattle.covering_laws.proofs.Unmet.{call_may, row_of}
+use Rattle.content_laws.specs.Moves.{Move, Inner, Start, Library, End, Stray, Rest, Return, Back, StrayBack, NoWay, return_move}
+use Rattle.content_laws.specs.LedgerRunsOutcomes.{Outcome, went, ended, stray}
+use Rattle.content_laws.specs.LedgerRunsSteps.{began, end, library_went, main_ended, moved, moved_by, returned, returned_by, step, top_move, within}
+use Rattle.content_laws.specs.Frames.{HaveTargets, KeepsTargets}
+use Rattle.content_laws.specs.LibraryClasses.{GivesLibraryClasses, ThrowsMadeClasses}
+use Rattle.content_laws.specs.Agreement.{Agree, Agrees, IsMadeBy, RunsItself, Stands, WaitsFor, IsMadeAfter}
+use Rattle.content_laws.specs.PlainForms.{HasPlainForms, IsPlainCall}
+use Rattle.content_laws.specs.Fitting.{FitsMethod}
+use Rattle.content_laws.proofs.CallWays.{one_action}
+use Rattle.content_laws.specs.Outcomes.{IsCallRow}
+use Rattle.content_laws.proofs.PlaceLaws.{variables_stay}
+use Rattle.content_laws.proofs.Entries.{has_begun, same_count}
+use Rattle.content_laws.proofs.Ready.{plain_call, plain_step, step_here, step_there}
+use Rattle.content_laws.proofs.Unmet.{call_may, row_of}
 use Rattle.soundness_laws.proofs.Answered.{IsAnswered}
 use Rattle.soundness_laws.proofs.CallEnds.{returned_agrees}
 use Rattle.soundness_laws.proofs.CallStarts.{IsStarted, began_agrees}
-use Rattle.thrown_value_laws.specs.FieldContents.{FieldsHold, IsBeingMade}
-use Rattle.thrown_value_laws.specs.PlaceFacts.{AreCovered, IsCovered}
-use Rattle.thrown_value_laws.specs.Ranges.{AreInRange, LocalsInRange}
-use Rattle.covering_laws.specs.Making.{AreBeingMade}
-use Rattle.filled_field_laws.specs.Nexts.{IsBack, IsBackStep, IsInnerStep, IsLibraryMove, IsNext, IsStartMove}
-use Rattle.filled_field_laws.proofs.Cases.{next_is, none_runs}
-use Rattle.filled_field_laws.proofs.Returns.{back_is}
+use Rattle.content_laws.specs.FieldContents.{FieldsHold, IsBeingMade}
+use Rattle.content_laws.specs.Linking.{LinkedAreAliases}
+use Rattle.content_laws.specs.PlaceFacts.{AreCovered, IsCovered, gives_none}
+use Rattle.content_laws.specs.Ranges.{AreInRange, LocalsInRange}
+use Rattle.content_laws.specs.Making.{AreBeingMade}
+use Rattle.content_laws.specs.Nexts.{IsBack, IsBackStep, IsInnerStep, IsLibraryMove, IsNext, IsStartMove}
+use Rattle.content_laws.proofs.Cases.{next_is, none_runs}
+use Rattle.content_laws.proofs.Returns.{back_is}
 use Rattle.soundness_laws.specs.Supports.{IsSupported, Supports}
 use Rattle.soundness_laws.proofs.InnerSteps.{inner_agrees}
 use Rattle.soundness_laws.proofs.KeptPromises.{ShowsOperands, TopShowsOperands}
-use Rattle.soundness_laws.proofs.LibrarySteps.{IsLibraryStep, library_agrees, plain_reset}
+use Rattle.soundness_laws.proofs.LibrarySteps.{IsLibraryStep, library_agrees}
 use Rattle.soundness_laws.proofs.MainEnds.{main_agrees}
 use Rattle.soundness_laws.proofs.Programs.{is_programs}
 use Rattle.soundness_laws.proofs.StoreSteps.{store_agrees}
@@ -89,7 +91,7 @@ abbrev pub call_value : Program → Config → Frame → MethodId → Conduct �
 call_value p c fr named x s =
     conduct_value (length (arguments_shared c.arrays fr.locals s.action (method_at p named))) (method_at p named) (positions fr.locals s.action (next_number c.heap) x) (next_number c.heap) x
 
-module _ (p : Program) (ac : Accept p) (forms : HasPlainForms p) (names : HasSmallInterests p) where
+module _ (p : Program) (ac : Accept p) (forms : HasPlainForms p) (names : HasSmallInterests p) (gives : GivesLibraryClasses p) (throws : ThrowsMadeClasses p) where
   -- ---- the end of a frame
 
   answer : (h : HeapContents) (fr caller : Frame) (q : Completion) (st : Stands p fr) (below : Stands p caller) (w : WaitsFor p h caller fr) (t : Step)
@@ -117,7 +119,7 @@ module _ (p : Program) (ac : Accept p) (forms : HasPlainForms p) (names : HasSma
             running = x;
             running_at = at;
             fit = fit;
-            no_reset = plain_reset p (method_at p w.named) plain.signature;
+            no_reset = ap reset_position named_at ∙ plain.resets fr.method n x w.runs named_at at program;
             normal = normal;
             thrown = thrown;
             makes = subst (λ (a : Action). IsMadeBy p h a fr.locals.this) (sym same) w.makes;
@@ -125,8 +127,8 @@ module _ (p : Program) (ac : Accept p) (forms : HasPlainForms p) (names : HasSma
           }
 
   module _ (c d : Config) (fr caller : Frame) (frs : List Frame) (i : ℕ) (s : Step) (pos : Pos) (q : Completion) (agrees : Agrees p (fr ∷ caller ∷ frs) c.heap c.entries)
-      (here : slice_get (frame_steps p fr) i ≡ Some s) (is : s.action ≡ actions.End q) (before : Agree p c) (sup : Supports p c.heap fr) (making : IsBeingMade p c.heap fr caller) (keeps : ShowsOperands p c.heap fr caller) (fields : FieldsHold p (fr ∷ caller ∷ frs) c.heap)
-      (covered : IsCovered p c.heap fr) where
+      (here : slice_get (frame_steps p fr) i ≡ Some s) (is : s.action ≡ actions.End q) (before : Agree p c) (sup : Supports p c.heap fr) (making : IsBeingMade p c.heap fr caller) (keeps : ShowsOperands p c.heap fr caller (length frs + 1)) (fields : FieldsHold p (fr ∷ caller ∷ frs) c.heap)
+      (covered : IsCovered p c.heap gives_none (caller ∷ frs) fr) where
     abbrev e : Option ClassId
     e = exception_class p c.heap (thrown_in fr.locals q)
 
@@ -167,7 +169,7 @@ module _ (p : Program) (ac : Accept p) (forms : HasPlainForms p) (names : HasSma
 
   end_agrees : (c d : Config) (fr : Frame) (frs : List Frame) (i : ℕ) (s : Step) (pos : Pos) (q : Completion) → Agrees p (fr ∷ frs) c.heap c.entries
       → slice_get (frame_steps p fr) i ≡ Some s → s.action ≡ actions.End q → Agree p c → Supports p c.heap fr → AreBeingMade p c.heap (fr ∷ frs) → TopShowsOperands p c.heap (fr ∷ frs)
-      → FieldsHold p (fr ∷ frs) c.heap → IsCovered p c.heap fr → end p c fr frs pos q ≡ went d → Agree p d
+      → FieldsHold p (fr ∷ frs) c.heap → IsCovered p c.heap gives_none frs fr → end p c fr frs pos q ≡ went d → Agree p d
   end_agrees c d fr [] i s pos q agrees here is before sup making keeps fields covered same =
       subst (Agree p) (let one : main_ended p c fr pos q ≡ d = (let both : went (main_ended p c fr pos q) ≡ went d = same in cc) in one)
       (main_agrees p ac fr c.heap c.entries agrees i s here q is pos)
@@ -183,7 +185,7 @@ module _ (p : Program) (ac : Accept p) (forms : HasPlainForms p) (names : HasSma
   itself h l a named runs is = tt
 
   begin_agrees : (c : Config) (fr : Frame) (frs : List Frame) (named runs : MethodId) (a : Action) (pos : Pos) → Agrees p (fr ∷ frs) c.heap c.entries
-      → IsStartMove p c.heap c.arrays fr.locals (frame_steps p fr) named runs a → Supports p c.heap fr → KeepsTargets p fr → LocalsInRange c.heap fr.locals → IsCovered p c.heap fr → Agree p (began p c fr frs named runs a pos)
+      → IsStartMove p c.heap c.arrays fr.locals (frame_steps p fr) named runs a → Supports p c.heap fr → KeepsTargets p fr → LocalsInRange c.heap fr.locals → IsCovered p c.heap gives_none frs fr → Agree p (began p c fr frs named runs a pos)
   begin_agrees c fr frs named runs a pos agrees next sup targets ranges covered =
       subst (λ (b : Action). Agree p (began p c fr frs named runs b pos)) next.same
       (began_agrees p ac forms fr (callee next.step.action) frs c.heap c.entries agrees next.index next.step next.here named runs start sup targets ranges covered pos)
@@ -224,6 +226,7 @@ module _ (p : Program) (ac : Accept p) (forms : HasPlainForms p) (names : HasSma
     value = refl;
     row = next.row;
     signature = next.signature;
+    library = next.library;
     other = next.other;
     made = λ e is. (
       next.edge e is,
@@ -238,41 +241,41 @@ module _ (p : Program) (ac : Accept p) (forms : HasPlainForms p) (names : HasSma
       → Agrees p (frame_after p c.heap fr s v ∷ frs) (inner p c.heap fr.method fr.locals e s.action s.pos (held_by (frame_after p c.heap fr s v ∷ frs))).heap
       (c.entries ++ (inner p c.heap fr.method fr.locals e s.action s.pos (held_by (frame_after p c.heap fr s v ∷ frs))).lines)
   inner_step c fr frs e s v agrees i here (inl plain) sup =
-      inner_agrees p ac forms fr frs c.heap c.entries agrees i s here e v c.arrays (inl plain) (stands_on p ac c.heap fr agrees.standing.0 i s v here)
+      inner_agrees p ac forms fr frs c.heap c.entries agrees i s here e v c.arrays (inl plain) throws (stands_on p ac c.heap fr agrees.standing.0 i s v here)
   inner_step c fr frs e s v agrees i here (inr (inl null)) sup =
-      inner_agrees p ac forms fr frs c.heap c.entries agrees i s here e v c.arrays (inr null) (stands_on p ac c.heap fr agrees.standing.0 i s v here)
+      inner_agrees p ac forms fr frs c.heap c.entries agrees i s here e v c.arrays (inr null) throws (stands_on p ac c.heap fr agrees.standing.0 i s v here)
   inner_step c fr frs e s v agrees i here (inr (inr store)) sup =
       store_agrees p ac fr frs c.heap c.entries agrees i s here store.field store.temp store.action v (sup.stores i s store.field store.temp here store.action) e store.normal
       (stands_on p ac c.heap fr agrees.standing.0 i s v here)
 
   moved_agrees : (c d : Config) (fr : Frame) (frs : List Frame) (mv : Move) → Agrees p (fr ∷ frs) c.heap c.entries → IsNext p c.heap c.arrays fr.method fr.locals (frame_steps p fr) mv → moved p c fr frs mv ≡ went d
       → Agree p c → Supports p c.heap fr → KeepsTargets p fr → LocalsInRange c.heap fr.locals → AreBeingMade p c.heap (fr ∷ frs) → TopShowsOperands p c.heap (fr ∷ frs) → FieldsHold p (fr ∷ frs) c.heap
-      → IsCovered p c.heap fr → Agree p d
-  moved_agrees c d fr frs (Inner e s) agrees next same before sup targets ranges making keeps fields covered =
+      → LinkedAreAliases p c.heap → IsCovered p c.heap gives_none frs fr → Agree p d
+  moved_agrees c d fr frs (Inner e s) agrees next same before sup targets ranges making keeps fields aliases covered =
       let made = made_value p c.heap c.arrays c.statics (next_choice c.choices c.used) fr.locals s.action in
       let v = thrown_value c.heap e made in
       subst (Agree p) (let one : within p c fr frs e s ≡ d = (let both : went (within p c fr frs e s) ≡ went d = same in cc) in one)
       (inner_step c fr frs e s v agrees next.0 next.1 next.2 sup)
-  moved_agrees c d fr frs (Start named runs a pos) agrees next same before sup targets ranges making keeps fields covered =
+  moved_agrees c d fr frs (Start named runs a pos) agrees next same before sup targets ranges making keeps fields aliases covered =
       subst (Agree p) (let one : began p c fr frs named runs a pos ≡ d = (let both : went (began p c fr frs named runs a pos) ≡ went d = same in cc) in one)
       (begin_agrees c fr frs named runs a pos agrees next sup targets ranges covered)
-  moved_agrees c d fr frs (Library named m x s) agrees next same before sup targets ranges making keeps fields covered =
+  moved_agrees c d fr frs (Library named m x s) agrees next same before sup targets ranges making keeps fields aliases covered =
       subst (Agree p) (let one : library_went p c fr frs named m x s ≡ d = (let both : went (library_went p c fr frs named m x s) ≡ went d = same in cc) in one)
       (subst (λ (z : MethodId). Agree p (library_went p c fr frs named z x s)) (sym next.same)
-      (library_agrees p ac forms names fr frs c.heap c.entries agrees next.index s next.here named x (call_value p c fr named x s) c.arrays (library_step c fr named m x s next) ranges fields.leads
+      (library_agrees p ac forms names fr frs c.heap c.entries agrees next.index s next.here named x (call_value p c fr named x s) c.arrays (library_step c fr named m x s next) ranges fields.leads covered fields.owning aliases gives throws
       (stands_on p ac c.heap fr agrees.standing.0 next.index s (call_value p c fr named x s) next.here)))
-  moved_agrees c d fr frs (End pos q) agrees next same before sup targets ranges making keeps fields covered = end_agrees c d fr frs next.0 next.1 pos q agrees next.2 next.3 before sup making keeps fields covered same
-  moved_agrees c d fr frs (Stray e pos) agrees next same before sup targets ranges making keeps fields covered = absurd (let never : stray e pos ≡ went d = same in cc)
-  moved_agrees c d fr frs Rest agrees next same before sup targets ranges making keeps fields covered = subst (Agree p) (let one : c ≡ d = (let both : went c ≡ went d = same in cc) in one) before
+  moved_agrees c d fr frs (End pos q) agrees next same before sup targets ranges making keeps fields aliases covered = end_agrees c d fr frs next.0 next.1 pos q agrees next.2 next.3 before sup making keeps fields covered same
+  moved_agrees c d fr frs (Stray e pos) agrees next same before sup targets ranges making keeps fields aliases covered = absurd (let never : stray e pos ≡ went d = same in cc)
+  moved_agrees c d fr frs Rest agrees next same before sup targets ranges making keeps fields aliases covered = subst (Agree p) (let one : c ≡ d = (let both : went c ≡ went d = same in cc) in one) before
 
   by_frames : (c d : Config) (frs : List Frame) → Agrees p frs c.heap c.entries → HaveTargets p frs → IsSupported p c.heap frs → All (λ (fr : Frame). LocalsInRange c.heap fr.locals) frs → AreBeingMade p c.heap frs → TopShowsOperands p c.heap frs
-      → FieldsHold p frs c.heap → AreCovered p c.heap frs → moved_by p c frs (top_move p c frs) ≡ went d → Agree p c → Agree p d
-  by_frames c d [] agrees targets sup ranges making keeps fields covered same before = absurd (let never : ended c.ended ≡ went d = same in cc)
-  by_frames c d (fr ∷ frs) agrees targets sup ranges making keeps fields covered same before =
+      → FieldsHold p frs c.heap → LinkedAreAliases p c.heap → AreCovered p c.heap frs → moved_by p c frs (top_move p c frs) ≡ went d → Agree p c → Agree p d
+  by_frames c d [] agrees targets sup ranges making keeps fields aliases covered same before = absurd (let never : ended c.ended ≡ went d = same in cc)
+  by_frames c d (fr ∷ frs) agrees targets sup ranges making keeps fields aliases covered same before =
       moved_agrees c d fr frs (top_move p c (fr ∷ frs)) agrees
-      (next_is p ac forms c.heap c.arrays (next_choice c.choices c.used) fr agrees.standing.0 targets.0) same before sup targets.0 (All-head (λ (x : Frame). LocalsInRange c.heap x.locals) fr frs ranges) making keeps fields covered.0
+      (next_is p ac forms c.heap c.arrays (next_choice c.choices c.used) fr agrees.standing.0 targets.0 agrees.classes) same before sup targets.0 (All-head (λ (x : Frame). LocalsInRange c.heap x.locals) fr frs ranges) making keeps fields aliases covered.0
 
-  pub step_agrees : (c d : Config) → Agree p c → HaveTargets p c.frames → FieldsHold p c.frames c.heap → AreCovered p c.heap c.frames → IsSupported p c.heap c.frames → AreInRange c
+  pub step_agrees : (c d : Config) → Agree p c → HaveTargets p c.frames → FieldsHold p c.frames c.heap → LinkedAreAliases p c.heap → AreCovered p c.heap c.frames → IsSupported p c.heap c.frames → AreInRange c
       → AreBeingMade p c.heap c.frames → TopShowsOperands p c.heap c.frames → step p c ≡ went d → Agree p d
   unfolding step
-  step_agrees c d agrees targets fields covered sup ranges making keeps same = by_frames c d c.frames agrees targets sup ranges.frames making keeps fields covered same agrees
+  step_agrees c d agrees targets fields aliases covered sup ranges making keeps same = by_frames c d c.frames agrees targets sup ranges.frames making keeps fields aliases covered same agrees

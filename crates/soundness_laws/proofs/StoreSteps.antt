@@ -10,14 +10,14 @@ use Rattle.program_model.specs.declared.program.Field.{Field}
 use Rattle.program_model.specs.declared.program.Method.{Method}
 use Rattle.program_model.specs.declared.program.Program.{Program}
 use Rattle.program_model.specs.Lookups.{field_at, method_at}
-use Rattle.conduct_laws.specs.MustCallSets.{must_of, must_of_optional, must_of_type}
-use Rattle.conduct_laws.specs.Signatures as signatures
+use Rattle.ledger_obligations.specs.MustCallSets.{must_of, must_of_optional, must_of_type}
+use Rattle.ownership_rules.specs.Signatures as signatures
 use Rattle.java_control.specs.Control.{Step}
 use Rattle.java_control.specs.declared.action.Action.{Action}
 use Rattle.java_control.specs.declared.action.Action.TheVariants as actions
 use Rattle.java_control.specs.declared.place.Place.TheVariants as places
-use Rattle.obligation_facts.specs.Facts.{has}
-use Rattle.parameter_fact_laws.specs.Accept.{Accept}
+use Rattle.ownership_rules.specs.Facts.{has}
+use Rattle.content_laws.specs.Accept.{Accept}
 use Rattle.ledger_state.specs.Contents.{HeapContents}
 use Rattle.ledger_state.specs.Heaps.{object_at, put_field}
 use Rattle.ledger_state.specs.Locals.{temp_value}
@@ -29,28 +29,29 @@ use Rattle.ledger_state.specs.declared.entry.Owner.TheVariants as owners
 use Rattle.ledger_state.specs.declared.object.Object.{Object}
 use Rattle.ledger_state.specs.declared.value.Value.{Value}
 use Rattle.ledger_obligations.specs.Obligations.{displaced, given_up, holder_roots, is_field, is_library_owner, is_unmet, may_move, moved_in, stored_owning, type_of_field}
-use Rattle.ledger_entries.specs.Entries.{leak_entries, owner_entries, reset_entries}
-use Rattle.conduct_laws.specs.Configuration.{Frame, held_by}
-use Rattle.content_heap_laws.specs.Choosing.{frame_steps}
-use Rattle.content_heap_laws.specs.Frames.{frame_after}
+use Rattle.ledger_steps.specs.Entries.{leak_entries, owner_entries, reset_entries}
+use Rattle.content_laws.specs.Configuration.{Frame, held_by}
+use Rattle.content_laws.specs.Choosing.{frame_steps}
+use Rattle.content_laws.specs.LedgerFramesFrames.{frame_after}
 use Rattle.ledger_steps.specs.declared.store.Store.{Store}
 use Rattle.ledger_steps.specs.Effects.{Effect, left}
 use Rattle.ledger_steps.specs.InnerSteps.{displaced_entries, heap_stored, inner, is_bound, owning_lines, store_entries, store_into, store_unless}
 use Rattle.ledger_state.specs.Leaks.{is_leak}
-use Rattle.library_call_laws.specs.Heaps.{HasEarlierLinks, KeepsLinks}
-use Rattle.library_call_laws.proofs.Laws.{owner_lines_leak_nothing, reset_lines_leak_nothing, roots_go_on-value}
-use Rattle.library_call_laws.proofs.ObjectLaws.{goes_on_self}
-use Rattle.content_heap_laws.specs.Stores.{IsDisplaced, IsStored}
-use Rattle.content_heap_laws.proofs.Objects.{displaced_leaks, stored_back, stored_count, stored_forward, stored_goes_on, stored_links, stored_takes}
-use Rattle.content_heap_laws.specs.Chains.{HaveEnds, IsLast}
-use Rattle.content_heap_laws.specs.Agreement.{Agrees, IsTracked, Stands, Tracks, is_answering}
-use Rattle.covering_laws.specs.Steps.{RootsStay}
-use Rattle.covering_laws.proofs.Chains.{IsOwnedAs, ends_on, kept_owner, given_up_last, owned_is_finished}
-use Rattle.covering_laws.proofs.Landing.{landed, no_leak_in_both}
-use Rattle.covering_laws.proofs.Stacks.{KeepsClasses, called_on}
-use Rattle.covering_laws.proofs.Stores.{store_fits, tracks_store}
-use Rattle.covering_laws.proofs.Tracking.{stack_tracks}
-use Rattle.covering_laws.proofs.Unmet.{may_go}
+use Rattle.content_laws.specs.Heaps.{HasEarlierLinks, KeepsLinks}
+use Rattle.content_laws.proofs.LibraryCallLaws.{owner_lines_leak_nothing, reset_lines_leak_nothing, roots_go_on-value}
+use Rattle.content_laws.proofs.ObjectLaws.{goes_on_self}
+use Rattle.content_laws.specs.Stores.{IsDisplaced, IsStored}
+use Rattle.content_laws.proofs.StoredObjects.{displaced_leaks, stored_back, stored_count, stored_forward, stored_goes_on, stored_links, stored_takes}
+use Rattle.content_laws.specs.Chains.{HaveEnds, IsLast}
+use Rattle.content_laws.specs.Agreement.{Agrees, HasMadeClasses, IsTracked, Stands, Tracks, is_answering}
+use Rattle.content_laws.specs.Steps.{RootsStay}
+use Rattle.content_laws.proofs.Chains.{IsOwnedAs, ends_on, kept_owner, given_up_last, owned_is_finished}
+use Rattle.content_laws.proofs.Landing.{landed, no_leak_in_both}
+use Rattle.soundness_laws.proofs.MadeClasses.{classes_on}
+use Rattle.content_laws.proofs.Stacks.{KeepsClasses, called_on}
+use Rattle.content_laws.proofs.Stores.{store_fits, tracks_store}
+use Rattle.content_laws.proofs.Tracking.{stack_tracks}
+use Rattle.content_laws.proofs.Unmet.{may_go}
 use Rattle.soundness_laws.specs.Supports.{StoresWell}
 
 -- the type of a field, in the words of the rules and in those of the machine
@@ -144,6 +145,9 @@ module _ (p : Program) (ac : Accept p) (fr : Frame) (frs : List Frame) (h : Heap
     class = λ n y at small. let x = was_there n y at in (x.0, x.1, (stored_goes_on p h w f value n x.0 y x.2).class);
   }
 
+  classes : HasMadeClasses p heap
+  classes = classes_on p h heap agrees.classes (λ n y at. let x = was_there n y at in inl (x.0, x.1, (stored_goes_on p h w f value n x.0 y x.2).class))
+
   -- ---- owners
 
   -- the holder is owned by no field
@@ -209,5 +213,5 @@ module _ (p : Program) (ac : Accept p) (fr : Frame) (frs : List Frame) (h : Heap
   store_agrees e normal stands =
       subst (λ (effect : Effect). Agrees p (after ∷ frs) effect.heap (es ++ effect.lines))
       (sym (ap (λ (x : Option ClassId). inner p h fr.method fr.locals x s.action s.pos held) normal ∙ ap (λ (a : Action). inner p h fr.method fr.locals None a s.pos held) is ∙ effect_is))
-      (landed p (after ∷ frs) heap es s.pos (owning_lines p s.pos store bound h) (stands, agrees.standing.1) (called_on p h heap keeps fr after frs refl refl agrees.stacked) links ends tracked answered
+      (landed p (after ∷ frs) heap es s.pos (owning_lines p s.pos store bound h) (stands, agrees.standing.1) (called_on p h heap keeps fr after frs refl refl agrees.stacked) links ends classes tracked answered
       agrees.no_leak lines)

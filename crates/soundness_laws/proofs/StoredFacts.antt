@@ -9,37 +9,37 @@ use Rattle.program_model.specs.declared.program.Method.{Method}
 use Rattle.program_model.specs.declared.program.ParamSig.{ParamSig}
 use Rattle.program_model.specs.declared.program.Program.{Program}
 use Rattle.program_model.specs.Lookups.{method_at}
-use Rattle.conduct_laws.specs.AliasCases.{calls_alias, gives_exception, has_bad_alias_form, has_owning_alias, has_unequal_sets, is_half_marked}
-use Rattle.conduct_laws.specs.Bodies.{alias_position, constructs}
-use Rattle.conduct_laws.specs.MustCallSets.{is_empty, is_heavy_class, must_of, no_names}
-use Rattle.conduct_laws.specs.Signatures.{is_owning_at, owning_in}
+use Rattle.content_laws.specs.AliasCases.{calls_alias, gives_exception, has_bad_alias_form, has_owning_alias, has_unequal_sets, is_half_marked}
+use Rattle.ledger_obligations.specs.Bodies.{alias_position, constructs}
+use Rattle.ledger_obligations.specs.MustCallSets.{is_empty, is_heavy_class, must_of, no_names}
+use Rattle.ownership_rules.specs.Signatures.{is_owning_at, owning_in}
 use Rattle.java_control.specs.Control.{Step}
 use Rattle.java_control.specs.Owned.{field_number, place_of_field}
 use Rattle.java_control.specs.declared.action.Action.{Action}
 use Rattle.java_control.specs.declared.action.Action.TheVariants as actions
 use Rattle.java_control.specs.declared.fact.Fact.{Fact}
 use Rattle.java_control.specs.declared.place.Place.TheVariants as places
-use Rattle.obligation_facts.specs.Facts.{PlaceSet, has, is_origin_at, is_own}
-use Rattle.obligation_facts.specs.SmallActions.{IsSmallAction}
-use Rattle.covered_field_laws.specs.PlaceRows.{copied}
-use Rattle.named_step_laws.specs.Flow.{flow}
-use Rattle.named_step_laws.specs.Paths.{Reach, move_of, relation_of}
-use Rattle.parameter_fact_laws.specs.Accept.{Accept}
+use Rattle.ownership_rules.specs.Facts.{PlaceSet, has, is_origin_at, is_own}
+use Rattle.ownership_rules.specs.SmallActions.{IsSmallAction}
+use Rattle.content_laws.specs.PlaceRows.{copied}
+use Rattle.content_laws.specs.Flow.{flow}
+use Rattle.content_laws.specs.Paths.{Reach, move_of, relation_of}
+use Rattle.content_laws.specs.Accept.{Accept}
 use Rattle.ledger_state.specs.Contents.{HeapContents}
 use Rattle.ledger_state.specs.declared.object.Object.{Object}
 use Rattle.ledger_obligations.specs.Obligations.{is_unmet}
-use Rattle.conduct_laws.specs.Configuration.{Frame}
-use Rattle.content_heap_laws.specs.Choosing.{body_id, frame_steps}
-use Rattle.content_heap_laws.specs.Agreement.{Stands, Tracks}
-use Rattle.content_heap_laws.specs.Outcomes.{After}
-use Rattle.covering_laws.proofs.AliasConducts.{no_refusal}
-use Rattle.parameter_fact_laws.proofs.SetLaws.{has_copied}
-use Rattle.covered_field_laws.specs.Going.{ArePlaces, StoresAs, left, taken}
-use Rattle.covered_field_laws.proofs.Storing.{stores}
-use Rattle.parameter_fact_laws.proofs.KeptFacts.{own_position}
-use Rattle.covered_field_laws.proofs.Following.{followed, same_body, small_step, step_there}
-use Rattle.covering_laws.proofs.Constructors.{aliased, in_body, position}
-use Rattle.covering_laws.proofs.Unmet.{nothing_to_call}
+use Rattle.content_laws.specs.Configuration.{Frame}
+use Rattle.content_laws.specs.Choosing.{body_id, frame_steps}
+use Rattle.content_laws.specs.Agreement.{Stands, Tracks}
+use Rattle.content_laws.specs.Outcomes.{After}
+use Rattle.content_laws.proofs.AliasConducts.{no_refusal}
+use Rattle.content_laws.proofs.SetLaws.{has_copied}
+use Rattle.content_laws.specs.FactGoing.{ArePlaces, StoresAs, left, taken}
+use Rattle.content_laws.proofs.CoveringStoring.{stores}
+use Rattle.content_laws.proofs.KeptFacts.{own_position}
+use Rattle.content_laws.proofs.Following.{followed, same_body, small_step, step_there}
+use Rattle.content_laws.proofs.Constructors.{aliased, in_body, position}
+use Rattle.content_laws.proofs.Unmet.{nothing_to_call}
 use Rattle.soundness_laws.proofs.OwnedFacts.{never_own}
 
 makes_some : (m : Option Method) → constructs m ≡ true → (x : Method) × (m ≡ Some x)

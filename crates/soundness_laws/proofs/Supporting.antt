@@ -8,17 +8,17 @@ use Rattle.program_model.specs.declared.program.Field.{Field}
 use Rattle.program_model.specs.declared.program.Method.{Method}
 use Rattle.program_model.specs.declared.program.Program.{Program}
 use Rattle.program_model.specs.Lookups.{field_at, method_at}
-use Rattle.conduct_laws.specs.Bodies.{alias_in, alias_position, constructs, has_field_place, is_class_of, is_field_in, method_of}
-use Rattle.conduct_laws.specs.MustCallSets.{is_empty, must_of, must_of_optional, must_of_type, no_names}
-use Rattle.conduct_laws.specs.Signatures.{type_of_field}
+use Rattle.ledger_obligations.specs.Bodies.{alias_in, alias_position, constructs, has_field_place, is_class_of, is_field_in, method_of}
+use Rattle.ledger_obligations.specs.MustCallSets.{is_empty, must_of, must_of_optional, must_of_type, no_names}
+use Rattle.ownership_rules.specs.Signatures.{type_of_field}
 use Rattle.java_control.specs.Control.{Step}
 use Rattle.java_control.specs.Owned.{is_owning_field}
 use Rattle.java_control.specs.declared.action.Action.TheVariants as actions
 use Rattle.java_control.specs.declared.action.Completion.{Completion}
 use Rattle.java_control.specs.declared.action.Completion.TheVariants as completions
-use Rattle.named_step_laws.specs.Ends.{is_throw}
-use Rattle.named_step_laws.specs.Paths.{move_of}
-use Rattle.parameter_fact_laws.specs.Accept.{Accept}
+use Rattle.content_laws.specs.Ends.{is_throw}
+use Rattle.content_laws.specs.Paths.{move_of}
+use Rattle.content_laws.specs.Accept.{Accept}
 use Rattle.ledger_state.specs.Contents.{HeapContents}
 use Rattle.ledger_state.specs.Fields.{field_of, field_value}
 use Rattle.ledger_state.specs.Heaps.{object_at, root_of, same_root, unfinished}
@@ -30,33 +30,34 @@ use Rattle.ledger_state.specs.declared.locals.Locals.{Locals}
 use Rattle.ledger_state.specs.declared.object.Object.{Object}
 use Rattle.ledger_state.specs.declared.value.Value.{Value}
 use Rattle.ledger_state.specs.declared.value.Value.TheVariants as values
-use Rattle.ledger_obligations.specs.Obligations.{finished_in, is_held_by, is_unmet}
-use Rattle.conduct_laws.specs.Calls as calls
-use Rattle.conduct_laws.specs.Calls.{alias_target}
-use Rattle.conduct_laws.specs.Configuration.{Frame}
-use Rattle.content_heap_laws.specs.Choosing.{frame_steps}
+use Rattle.ledger_obligations.specs.Obligations.{finished_in, is_held_by, is_library_owner, is_unmet}
+use Rattle.ledger_steps.specs.LedgerCallsCalls as calls
+use Rattle.ledger_steps.specs.LedgerCallsCalls.{alias_target}
+use Rattle.content_laws.specs.Configuration.{Frame}
+use Rattle.content_laws.specs.Choosing.{frame_steps}
 use Rattle.ledger_steps.specs.Ends.{exception_class, thrown_in}
 use Rattle.ledger_steps.specs.InnerSteps.{is_bound, parameter, root_of_number}
-use Rattle.content_heap_laws.proofs.Objects.{unfinished_stays}
-use Rattle.content_heap_laws.specs.Agreement.{AllStand, IsCalledFrom, IsMade, Stands, Tracks}
-use Rattle.content_heap_laws.specs.PlainForms.{HasPlainForms}
-use Rattle.thrown_value_laws.specs.FieldContents.{AreNew, AreUnfinished, DeclaresOwning, HaveContents, IsContent, is_made_in}
-use Rattle.thrown_value_laws.specs.PlaceFacts.{IsCovered}
-use Rattle.covering_laws.specs.Covering.{HoldsHeavy}
-use Rattle.covering_laws.proofs.Laws.{contents_are_met_at_throw, overwritten_is_met}
-use Rattle.covering_laws.proofs.Births.{heavy_by_unmet}
-use Rattle.covering_laws.proofs.Chains.{object_there}
-use Rattle.covering_laws.proofs.Ready.{step_there}
-use Rattle.covering_laws.proofs.Unmet.{nothing_to_call}
-use Rattle.content_heap_laws.specs.Stores.{IsDisplaced}
+use Rattle.content_laws.proofs.StoredObjects.{unfinished_stays}
+use Rattle.content_laws.specs.Agreement.{AllStand, IsCalledFrom, IsMade, Stands, Tracks}
+use Rattle.content_laws.specs.PlainForms.{HasPlainForms}
+use Rattle.content_laws.specs.FieldContents.{AreNew, AreUnfinished, DeclaresOwning, HaveContents, IsContent, is_made_in}
+use Rattle.content_laws.specs.PlaceFacts.{IsCovered, gives_none}
+use Rattle.content_laws.specs.Covering.{HoldsHeavy}
+use Rattle.content_laws.proofs.Goes.{not_the_librarys_owes}
+use Rattle.content_laws.proofs.CoveringLaws.{contents_are_met_at_throw, overwritten_is_met}
+use Rattle.content_laws.proofs.Births.{heavy_by_unmet}
+use Rattle.content_laws.proofs.Chains.{object_there}
+use Rattle.content_laws.proofs.Ready.{step_there}
+use Rattle.content_laws.proofs.Unmet.{nothing_to_call}
+use Rattle.content_laws.specs.Stores.{IsDisplaced}
 use Rattle.soundness_laws.proofs.StoredFacts.{owned_not_stored}
-use Rattle.filled_field_laws.proofs.Finished.{alias_makes_none, made_by_none}
-use Rattle.filled_field_laws.proofs.Stores.{IsAliasForm}
+use Rattle.content_laws.proofs.Finished.{alias_makes_none, made_by_none}
+use Rattle.content_laws.proofs.FilledStores.{IsAliasForm}
 use Rattle.java_control.specs.declared.place.Place.TheVariants as places
-use Rattle.obligation_facts.specs.Facts.{has}
+use Rattle.ownership_rules.specs.Facts.{has}
 use Rattle.soundness_laws.specs.Supports.{StoresWell, Supports}
-use Rattle.filled_field_laws.specs.Filled.{AreFilled}
-use Rattle.covering_laws.proofs.CallNames.{object_with_root}
+use Rattle.content_laws.specs.Filled.{AreFilled}
+use Rattle.content_laws.proofs.CallNames.{object_with_root}
 use Rattle.soundness_laws.proofs.Makers.{body_method, class_of_maker, constructor_alias, new_of_owner}
 
 pub not_true : (b : Bool) → (b ≡ true → ⊥) → b ≡ false
@@ -89,7 +90,7 @@ throws_by p h l (completions.Break pos) c is = absurd (let never : None ≡ Some
 throws_by p h l (completions.Continue pos) c is = absurd (let never : None ≡ Some c = is in cc)
 
 module _ (p : Program) (ac : Accept p) (forms : HasPlainForms p) (h : HeapContents) (fr : Frame) (frs : List Frame) (st : Stands p fr) (rest : AllStand p frs) (called : IsCalledFrom p h fr frs)
-    (contents : HaveContents p (fr ∷ frs) h) (covered : IsCovered p h fr) (unmade : AreUnfinished p h (fr ∷ frs)) (news : AreNew p (fr ∷ frs)) (filled : AreFilled p h frs) where
+    (contents : HaveContents p (fr ∷ frs) h) (covered : IsCovered p h gives_none frs fr) (unmade : AreUnfinished p h (fr ∷ frs)) (news : AreNew p (fr ∷ frs)) (filled : AreFilled p h frs) where
   -- the aliased argument of a constructor that runs is that of a parameter, if it has one
   alias_form : constructs (method_at p fr.method) ≡ true → IsAliasForm (method_at p fr.method)
   alias_form new = go frs rest called
@@ -132,7 +133,7 @@ module _ (p : Program) (ac : Accept p) (forms : HasPlainForms p) (h : HeapConten
         held = c.held;
         at = at;
         class = heavy_by_unmet p x.class x unmet c.own;
-        owes = ap not (not_true (x.finished && is_empty x.must) (λ both. nothing_to_call x unmet (and_parts x.finished (is_empty x.must) both).1));
+        owes = not_the_librarys_owes x (ap is_library_owner owner);
       }
 
   module _ (i : ℕ) (s : Step) (here : slice_get (frame_steps p fr) i ≡ Some s) (f : FieldId) (d : ℕ) (is : s.action ≡ actions.PutOwn f d) where
@@ -169,7 +170,7 @@ module _ (p : Program) (ac : Accept p) (forms : HasPlainForms p) (h : HeapConten
         displaced_met : (w n : ℕ) (y : Object) → fr.locals.this ≡ values.Object w → (o : Object) → object_at h w ≡ Some o → object_at h n ≡ Some y → IsDisplaced p h w f v n y → is_unmet y ≡ true → ⊥
         displaced_met w n y this o there there' gone unmet = elim (alias_form new) [
           | inl none ↦ true≢false (sym unmet ∙
-              overwritten_is_met p ac forms h fr st (body_alias ∙ none) covered i d s f w n y here is (heavy_content n y w f there' unmet gone.owner this) gone.other)
+              overwritten_is_met p ac forms h frs fr st (body_alias ∙ none) covered i d s f w n y here is (heavy_content n y w f there' unmet gone.owner this) gone.other)
           | inr alias ↦ owns_nothing alias.0 w n y f new alias.1 this declares o there (contents n y w f there' unmet gone.owner)
         ]
 
@@ -204,7 +205,7 @@ module _ (p : Program) (ac : Accept p) (forms : HasPlainForms p) (h : HeapConten
       let place : has_field_place p st.number owner.0 ≡ true =
       ap (is_field_in p st.number) k.declared ∙ ap (λ (b : Bool). b && is_class_of k.field.class (method_of p st.number)) k.owning ∙ ap (is_class_of k.field.class) (body_method p ac forms fr st) ∙ class in
       elim (alias_form new) [
-        | inl none ↦ true≢false (sym unmet ∙ contents_are_met_at_throw p ac h fr st covered i s q owner.0 w n x here is (body_alias ∙ none) (throws_by p h fr.locals q c thrown) new place
+        | inl none ↦ true≢false (sym unmet ∙ contents_are_met_at_throw p ac h frs fr st covered i s q owner.0 w n x here is (body_alias ∙ none) (throws_by p h fr.locals q c thrown) new place
             (heavy_content n x w owner.0 at unmet owner.1 this))
         | inr alias ↦ owns_nothing alias.0 w n x owner.0 new alias.1 this (owner.0, k.field, k.declared, k.owning, class) k.holder k.at k
       ]

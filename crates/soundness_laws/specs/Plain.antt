@@ -1,34 +1,52 @@
 -- Of which programs it is shown that they are safe if they are accepted.
-use Rattle.std.specs.Prelude.{◌≡◌, ℕ, true, false, Some, List, slice_get}
+use Rattle.std.specs.Prelude.{◌≡◌, ℕ, Bool, true, false, not, None, Some, List, is_some, slice_get}
+use Rattle.std.specs.List.{list_all}
 use Rattle.program_model.specs.declared.kinds.BodyId.{BodyId}
 use Rattle.program_model.specs.declared.kinds.FieldId.{FieldId}
 use Rattle.program_model.specs.declared.program.Program.{Program}
-use Rattle.covering_laws.specs.Conditions.{MakesNoString}
-use Rattle.conduct_laws.specs.Bodies.{is_constructor}
+use Rattle.program_model.specs.declared.program.Method.{Method}
+use Rattle.program_model.specs.declared.tree.Body.{Body}
+use Rattle.program_model.specs.Lookups.{body_at, method_at}
+use Rattle.ledger_obligations.specs.Bodies.{is_constructor}
+use Rattle.java_control.specs.Owned.{is_owning}
 use Rattle.java_control.specs.Remaining.{Todo}
+use Rattle.java_control.specs.declared.action.Action.{Action}
 use Rattle.java_control.specs.declared.action.Action.TheVariants as actions
-use Rattle.named_step_laws.specs.Paths.{Comes, Move, relation_of}
-use Rattle.own_method_laws.specs.Owners.{HasConcreteOwners}
-use Rattle.covering_laws.specs.Running.{HasPlainRuns}
-use Rattle.covering_laws.specs.Throws.{ThrowsNoNullPointer}
-use Rattle.thrown_value_laws.specs.Exceptions.{HasPlainExceptions}
-use Rattle.content_heap_laws.specs.PlainForms.{IsPlainAction, calls_constructor}
-use Rattle.content_heap_laws.specs.Storing.{HasStored}
+use Rattle.content_laws.specs.Paths.{Comes, Move, relation_of}
+use Rattle.content_laws.specs.PlainCalls.{IsPlainlyCalled}
+use Rattle.content_laws.specs.PlainForms.{IsPlainRead, ResetsPlainly}
+use Rattle.content_laws.specs.Texts.{HasLightTexts}
 
--- A plain program. Each step that a control of a body can reach has one of the plain forms, so that a constructor of the program with a resource alias
--- which it calls asks for no calls on the aliased argument before; owning fields are stored by constructors alone, which call no super constructor behind such a store (JLS 8.8.7);
--- no class with owning fields is abstract; what may run at a call is like the named method; no body has a
--- `new String(..)`, and none throws an expression whose static type is `NullPointerException` itself; `String` is no class of exceptions, and
--- where the result of the method that a call names is of the type of exceptions, so is that of what may run.
-pub record IsPlain (p : Program) : Type 0 where
+-- The step has a plain form: it reads plain constants of the library; it stores into no owning field but those of `this`; and what it calls is called
+-- plainly.
+abbrev pub IsPlainStep : Program → Action → Type 0
+IsPlainStep p (actions.Plain x v) = IsPlainRead p v
+IsPlainStep p (actions.Put f d this) = is_owning p f ≡ false
+IsPlainStep p (actions.Call m d n form) = IsPlainlyCalled p m
+IsPlainStep p (actions.New m d n) = IsPlainlyCalled p m
+IsPlainStep p (actions.Super m d n) = IsPlainlyCalled p m
+IsPlainStep p a = Unit {0}
+
+-- no method of the program or of the library creates an obligation anew
+abbrev pub creates_nothing : Program → Bool
+creates_nothing p = list_all (λ (m : Method). not (is_some m.sig.reset)) p.methods.items
+
+-- No method with a body creates an obligation anew; where a body calls one that does, it does so plainly: not for `this`, in a constructor behind no store into an owning field, and,
+-- in a program with owning fields, for a receiver that the rules of bodies follow.
+pub record CreatesPlainly (p : Program) : Type 0 where
+  pub bodies : (b : BodyId) (x : Body) (m : Method) → body_at p b ≡ Some x → method_at p x.method ≡ Some m → m.sig.reset ≡ None
   pub steps : (b : BodyId) {k : List Todo} (i : ℕ) (t : Move (List Todo)) → Comes (relation_of p b) k
-      → slice_get ((relation_of p b).next k) i ≡ Some t → IsPlainAction p t.action
+      → slice_get ((relation_of p b).next k) i ≡ Some t → ResetsPlainly p b k t.action
+
+-- A plain program: what its bodies do has plain forms.
+pub record IsPlain (p : Program) : Type 0 where
+  -- each step that a control of a body can reach has a plain form
+  pub steps : (b : BodyId) {k : List Todo} (i : ℕ) (t : Move (List Todo)) → Comes (relation_of p b) k
+      → slice_get ((relation_of p b).next k) i ≡ Some t → IsPlainStep p t.action
+  -- owning fields are stored by constructors alone
   pub stores : (b : BodyId) {k : List Todo} (i : ℕ) (t : Move (List Todo)) (f : FieldId) (d : ℕ) → Comes (relation_of p b) k
       → slice_get ((relation_of p b).next k) i ≡ Some t → t.action ≡ actions.PutOwn f d → is_constructor p b ≡ true
-  pub supers : (b : BodyId) {k : List Todo} (i : ℕ) (t : Move (List Todo)) → HasStored p b k
-      → slice_get ((relation_of p b).next k) i ≡ Some t → calls_constructor p t.action ≡ false
-  pub owners : HasConcreteOwners p
-  pub runs : HasPlainRuns p
-  pub texts : MakesNoString p
-  pub raises : ThrowsNoNullPointer p
-  pub exceptions : HasPlainExceptions p
+  -- what creates obligations anew does so plainly
+  pub creations : CreatesPlainly p
+  -- objects of class `String` owe no calls, and are no aliases: a premise on the library alone
+  pub texts : HasLightTexts p

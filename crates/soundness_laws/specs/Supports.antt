@@ -5,8 +5,8 @@ use Rattle.program_model.specs.declared.kinds.ClassId.{ClassId}
 use Rattle.program_model.specs.declared.kinds.FieldId.{FieldId}
 use Rattle.program_model.specs.declared.program.Program.{Program}
 use Rattle.program_model.specs.Lookups.{method_at}
-use Rattle.conduct_laws.specs.Bodies.{constructs}
-use Rattle.conduct_laws.specs.MustCallSets.{must_of}
+use Rattle.ledger_obligations.specs.Bodies.{constructs}
+use Rattle.ledger_obligations.specs.MustCallSets.{must_of}
 use Rattle.java_control.specs.Control.{Step}
 use Rattle.java_control.specs.Owned.{is_owning}
 use Rattle.java_control.specs.declared.action.Action.TheVariants as actions
@@ -20,14 +20,14 @@ use Rattle.ledger_state.specs.declared.entry.Owner.TheVariants as owners
 use Rattle.ledger_state.specs.declared.object.Object.{Object}
 use Rattle.ledger_state.specs.declared.value.Value.TheVariants as values
 use Rattle.ledger_obligations.specs.Obligations.{is_held_by, is_unmet, resets_holder}
-use Rattle.conduct_laws.specs.Configuration.{Frame}
-use Rattle.content_heap_laws.specs.Choosing.{frame_steps}
+use Rattle.content_laws.specs.Configuration.{Frame}
+use Rattle.content_laws.specs.Choosing.{frame_steps}
 use Rattle.ledger_steps.specs.Ends.{exception_class, thrown_in}
 use Rattle.ledger_steps.specs.InnerSteps.{is_bound}
 use Rattle.java_control.specs.declared.place.Place.TheVariants as places
-use Rattle.obligation_facts.specs.Facts.{has}
-use Rattle.content_heap_laws.specs.Agreement.{Tracks}
-use Rattle.content_heap_laws.specs.Stores.{IsDisplaced}
+use Rattle.ownership_rules.specs.Facts.{has}
+use Rattle.content_laws.specs.Agreement.{Tracks}
+use Rattle.content_laws.specs.Stores.{IsDisplaced}
 
 -- A store of the temp into the owning field of `this`: `this` is an object that is not finished, so the store does not reset it, what the field
 -- gives up is met, and an object of the frame of which a fact says that it is in the temp is no aliased argument.

@@ -3,48 +3,50 @@
 ghost use Rattle.std.specs.Prelude.{◌≡◌};
 ghost use Rattle.program_model.specs.declared.kinds.MethodId.{MethodId};
 ghost use Rattle.program_model.specs.declared.program.Program.{Program};
-ghost use Rattle.parameter_fact_laws.specs.Accept.{Accept};
+ghost use Rattle.content_laws.specs.Accept.{Accept};
 ghost use Rattle.stub_conduct.specs.declared.choice.Choices.{Choices};
-ghost use Rattle.conduct_laws.specs.Configuration.{Config};
-ghost use Rattle.ledger_runs.specs.Outcomes.{went};
-ghost use Rattle.ledger_runs.specs.Starts.{start_config};
-ghost use Rattle.ledger_runs.specs.Steps.{step};
-ghost use Rattle.safety.specs.Safety.{IsMain, IsSafe, IsSafeAt};
-ghost use Rattle.thrown_value_laws.specs.Frames.{HaveTargets};
-ghost use Rattle.content_heap_laws.specs.Agreement.{Agree};
-ghost use Rattle.content_heap_laws.specs.PlainForms.{HasPlainForms};
-ghost use Rattle.thrown_value_laws.specs.FieldContents.{FieldsHold, HaveContents};
-ghost use Rattle.thrown_value_laws.specs.PlaceFacts.{AreCovered};
-ghost use Rattle.thrown_value_laws.specs.Ranges.{AreInRange};
-ghost use Rattle.covering_laws.specs.Arguments.{HaveArguments};
-ghost use Rattle.covering_laws.specs.Making.{AreBeingMade};
-ghost use Rattle.covering_laws.specs.Throws.{TopEndsByException};
-ghost use Rattle.covering_laws.specs.Conditions.{MakesNoString};
-ghost use Rattle.thrown_value_laws.specs.Exceptions.{HasPlainExceptions};
+ghost use Rattle.content_laws.specs.Configuration.{Config};
+ghost use Rattle.content_laws.specs.LedgerRunsOutcomes.{went};
+ghost use Rattle.content_laws.specs.Starts.{start_config};
+ghost use Rattle.content_laws.specs.LedgerRunsSteps.{step};
+ghost use Rattle.content_laws.specs.Safety.{IsMain, IsSafe, IsSafeAt};
+ghost use Rattle.content_laws.specs.Frames.{HaveTargets};
+ghost use Rattle.content_laws.specs.Agreement.{Agree};
+ghost use Rattle.content_laws.specs.LibraryClasses.{GivesLibraryClasses, ThrowsMadeClasses};
+ghost use Rattle.content_laws.specs.PlainForms.{HasPlainForms};
+ghost use Rattle.content_laws.specs.FieldContents.{FieldsHold, HaveContents};
+ghost use Rattle.content_laws.specs.PlaceFacts.{AreCovered};
+ghost use Rattle.content_laws.specs.Ranges.{AreInRange};
+ghost use Rattle.content_laws.specs.Arguments.{HaveArguments};
+ghost use Rattle.content_laws.specs.Linking.{LinkedAreAliases};
+ghost use Rattle.content_laws.specs.Making.{AreBeingMade};
+ghost use Rattle.content_laws.specs.Throws.{TopEndsByException};
+ghost use Rattle.content_laws.specs.Exceptions.{HasPlainExceptions};
 ghost use Rattle.soundness_laws.specs.Holding.{Holds};
-ghost use Rattle.filled_field_laws.specs.Filled.{AreFilled};
+ghost use Rattle.content_laws.specs.Filled.{AreFilled};
 ghost use Rattle.soundness_laws.specs.Plain.{IsPlain};
+ghost use Rattle.content_laws.specs.AgreementConditions.{MeetsFileConditions};
 
-/// In an accepted plain program the bodies have the plain forms: an object with owning fields runs the must-call method that its own
+/// In an accepted plain program that has what files give, the bodies have the plain forms: an object with owning fields runs the must-call method that its own
 /// class declares (JLS 8.4.8.1, 15.12.4.4).
 pub fn plain_program_has_plain_forms()
-    ensures { (p : Program) → Accept p → IsPlain p → HasPlainForms p }
+    ensures { (p : Program) → Accept p → MeetsFileConditions p → IsPlain p → HasPlainForms p }
 {}
 
 /// All invariants hold as a run of an accepted program begins.
 pub fn holds_at_start()
-    ensures { (p : Program) → Accept p → MakesNoString p → HasPlainExceptions p → (main : MethodId) (choices : Choices) → IsMain p main → Holds p (start_config p main choices) }
+    ensures { (p : Program) → Accept p → GivesLibraryClasses p → HasPlainExceptions p → (main : MethodId) (choices : Choices) → IsMain p main → Holds p (start_config p main choices) }
 {}
 
 /// Each step that is not stray keeps the agreement with the facts, in an accepted program of the plain forms, by what else holds.
 pub fn agree_step()
-    ensures { (p : Program) → Accept p → HasPlainForms p → (c d : Config) → Agree p c → HaveTargets p c.frames → FieldsHold p c.frames c.heap → AreCovered p c.heap c.frames
+    ensures { (p : Program) → Accept p → HasPlainForms p → GivesLibraryClasses p → ThrowsMadeClasses p → (c d : Config) → Agree p c → HaveTargets p c.frames → FieldsHold p c.frames c.heap → LinkedAreAliases p c.heap → AreCovered p c.heap c.frames
         → AreInRange c → AreBeingMade p c.heap c.frames → HaveArguments p c.frames → TopEndsByException p c.heap c.frames → AreFilled p c.heap c.frames → step p c ≡ went d → Agree p d }
 {}
 
 /// Each step that is not stray keeps all invariants, in an accepted plain program.
 pub fn holds_step()
-    ensures { (p : Program) → Accept p → IsPlain p → (c d : Config) → Holds p c → step p c ≡ went d → Holds p d }
+    ensures { (p : Program) → Accept p → MeetsFileConditions p → IsPlain p → (c d : Config) → Holds p c → step p c ≡ went d → Holds p d }
 {}
 
 /// A moment that agrees with the facts, and where fields hold what they own, is safe.
@@ -52,7 +54,7 @@ pub fn agree_is_safe()
     ensures { (p : Program) → Accept p → (c : Config) → Agree p c → HaveContents p c.frames c.heap → IsSafeAt p c }
 {}
 
-/// A plain program that is accepted is safe in every run, whatever an honest library chooses, up to the first stray exception.
+/// A plain program that is accepted, and has what every program of files has, is safe in every run, whatever an honest library chooses, up to the first stray exception.
 pub fn accepted_is_safe()
-    ensures { (p : Program) → Accept p → IsPlain p → IsSafe p }
+    ensures { (p : Program) → Accept p → MeetsFileConditions p → IsPlain p → IsSafe p }
 {}

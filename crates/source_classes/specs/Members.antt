@@ -7,7 +7,7 @@ use Rattle.program_model.specs.declared.program.Program.{Program}
 use Rattle.program_model.specs.Lookups.{class_at}
 use Rattle.program_model.specs.Overrides.{methods_of}
 use Rattle.class_names.specs.declared.class_name.ClassName.{ClassName}
-use Rattle.class_members.specs.Members.{fields_in}
+use Rattle.java_statement_rules.specs.Members.{fields_in}
 use Rattle.class_declarations.specs.Members.{Written, WrittenField, fields_of, written_field_of, written_in, written_of}
 use Rattle.class_declarations.specs.declared.fields.DeclaredField.{DeclaredField}
 use Rattle.class_declarations.specs.declared.method_tree.MethodTree.{MethodTree}

@@ -3,7 +3,7 @@
 ghost use Rattle.std.specs.Prelude.{◌≡◌, map, IfOk};
 ghost use Rattle.program_model.specs.Lookups.{class_at};
 ghost use Rattle.program_model.specs.Overrides.{methods_of};
-ghost use Rattle.class_members.specs.Members.{fields_in};
+ghost use Rattle.java_statement_rules.specs.Members.{fields_in};
 ghost use Rattle.source_classes.specs.Members.{environment_in, fields_beside, methods_beside, numbered_field_of, numbered_fields, numbered_method_of, numbered_methods};
 ghost use Rattle.source_classes.specs.SourceClasses.{source_class_of};
 

@@ -1,13 +1,28 @@
 -- Lists of objects that grow.
-use Rattle.std.proofs.Common.{◌≡◌, ◌∙◌, ap, ℕ, ◌<◌, ◌≤◌, true, ◌&&◌, List, [], ◌∷◌, ◌++◌, arith}
+use Rattle.std.proofs.Common.{◌≡◌, ◌∙◌, ap, refl, ℕ, ◌<◌, ◌≤◌, Bool, true, false, ◌&&◌, List, [], ◌∷◌, ◌++◌, arith}
 use Rattle.std.proofs.lemmas.Grind.{common_steps}
 use Rattle.std.specs.Prelude.{nat_lt}
 use Rattle.ledger_state.specs.Contents.{HeapContents}
 use Rattle.ledger_state.specs.Heaps.{object_at}
 use Rattle.ledger_obligations.specs.declared.note.Note.{Note}
-use Rattle.plain_calls.specs.declared.change.Numbered.{Numbered}
+use Rattle.spread_notes.specs.declared.numbered.Numbered.{Numbered}
 use Rattle.spread_notes.specs.SpreadNotes.{AllMadeOf, MadeOf, rises_beyond}
-use Rattle.spread_notes.proofs.RisingLines.{first_beyond, rest_beyond}
+
+and_left : (a b : Bool) → (a && b) ≡ true → a ≡ true
+and_left true b e = refl
+and_left false b e = e
+
+and_right : (a b : Bool) → (a && b) ≡ true → b ≡ true
+and_right true b e = e
+and_right false b e = absurd (cc)
+
+first_beyond : (k : ℕ) (b : Numbered) (bs : List Numbered) → rises_beyond k (b ∷ bs) ≡ true → k < b.number
+first_beyond k b bs rises =
+    let less : nat_lt k b.number ≡ true = and_left (nat_lt k b.number) (rises_beyond b.number bs) rises in
+    grind (arith, common_steps, less)
+
+rest_beyond : (k : ℕ) (b : Numbered) (bs : List Numbered) → rises_beyond k (b ∷ bs) ≡ true → rises_beyond b.number bs ≡ true
+rest_beyond k b bs rises = and_right (nat_lt k b.number) (rises_beyond b.number bs) rises
 
 -- no number is beyond `last`
 abbrev pub AllWithin : ℕ → List Numbered → Type 0

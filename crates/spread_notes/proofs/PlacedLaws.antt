@@ -9,12 +9,9 @@ use Rattle.ledger_state.specs.Contents.{HeapContents}
 use Rattle.ledger_state.specs.Heaps.{change_each, changed_from, object_at, only_at, with_objects}
 use Rattle.ledger_obligations.specs.declared.note.Note.{Note}
 use Rattle.ledger_obligations.specs.Obligations.{is_of, is_unmet, noted_object, with_names}
-use Rattle.plain_calls.specs.declared.change.Numbered.{Numbered}
-use Rattle.plain_calls.specs.PlainCalls.{put_noted}
-use Rattle.plain_calls.proofs.ChangeLaws.{length_changed}
-use Rattle.plain_calls.proofs.KeptLaws.{object_changed}
+use Rattle.spread_notes.specs.declared.numbered.Numbered.{Numbered}
 use Rattle.frame_owners.proofs.ReleaseLaws.{object_each}
-use Rattle.spread_notes.specs.SpreadNotes.{AllMadeOf, MadeOf, has_object, put_each, speak_of}
+use Rattle.spread_notes.specs.SpreadNotes.{AllMadeOf, MadeOf, has_object, put_each, put_numbered, speak_of}
 use Rattle.spread_notes.proofs.NoteTurns.{is_there}
 
 -- What stands at a number
@@ -26,7 +23,7 @@ placed (b ∷ bs) k o = placed bs k (option_map (only_at b.number (λ _. b.objec
 
 pub placed_at : (bs : List Numbered) (h : HeapContents) (k : ℕ) → object_at (put_each bs h) k ≡ placed bs k (object_at h k)
 placed_at [] h k = refl
-placed_at (b ∷ bs) h k = placed_at bs (put_noted (Some b) h) k ∙ ap (placed bs k) (object_changed (λ _. b.object) b.number k h)
+placed_at (b ∷ bs) h k = placed_at bs (put_numbered b h) k ∙ ap (placed bs k) (object_each (only_at b.number (λ _. b.object)) h k)
 
 placed_none : (bs : List Numbered) (k : ℕ) → placed bs k None ≡ None
 placed_none [] k = refl
@@ -153,11 +150,7 @@ same_objects (x ∷ xs) (y ∷ ys) same =
 
 put_shape : (bs : List Numbered) (h : HeapContents) → put_each bs h ≡ with_objects h (put_each bs h).objects
 put_shape [] h = refl
-put_shape (b ∷ bs) h = put_shape bs (put_noted (Some b) h)
-
-pub put_length : (bs : List Numbered) (h : HeapContents) → length (put_each bs h).objects ≡ length h.objects
-put_length [] h = refl
-put_length (b ∷ bs) h = put_length bs (put_noted (Some b) h) ∙ length_changed (only_at b.number (λ _. b.object)) 1 h.objects
+put_shape (b ∷ bs) h = put_shape bs (put_numbered b h)
 
 -- what the notes make of an object of a heap that has those objects
 each_at : (h g : HeapContents) (ns : List Note) (bs : List Numbered) (k : ℕ) (o : Option Object) → ((j : ℕ) (x : Object) → object_at h j ≡ Some x → object_at g j ≡ Some x) → AllMadeOf h ns bs → speak_of bs ns ≡ true → object_at g k ≡ o → option_map (noted_object ns k) o ≡ placed bs k o
@@ -180,7 +173,7 @@ each_placed h g ns bs more made speak =
     ap (with_objects g) same ∙ sym (put_shape bs g)
 
 -- one of them more is put
-pub put_next : (bs : List Numbered) (i : ℕ) (b : Numbered) (h g whole : HeapContents) → i < length bs → b ≡ get_or bs i b → g ≡ put_noted (Some b) h → put_each (drop i bs) h ≡ whole → put_each (drop (i + 1) bs) g ≡ whole
+pub put_next : (bs : List Numbered) (i : ℕ) (b : Numbered) (h g whole : HeapContents) → i < length bs → b ≡ get_or bs i b → g ≡ put_numbered b h → put_each (drop i bs) h ≡ whole → put_each (drop (i + 1) bs) g ≡ whole
 put_next bs i b h g whole within read is before =
     let next : suc i ≡ i + 1 = omega arith in
     let split : drop i bs ≡ get_or bs i b ∷ drop (i + 1) bs = subst (λ n. drop i bs ≡ get_or bs i b ∷ drop n bs) next (drop-cons bs i b within) in

@@ -1,23 +1,32 @@
 -- Notes of calls that go on to other objects, and the few objects that they change.
-use Rattle.std.specs.Prelude.{ℕ, ◌*◌, ◌≤◌, ◌≡◌, Bool, true, ◌&&◌, Option, Some, None, List, [], ◌∷◌, length, nat_eq, nat_lt}
+use Rattle.std.specs.Prelude.{ℕ, ◌*◌, ◌≤◌, ◌≡◌, Bool, true, ◌&&◌, Option, Some, None, List, [], ◌∷◌, ◌++◌, length, nat_eq, nat_lt}
 use Rattle.std.specs.List.{flat_map, list_all, list_any}
 use Rattle.program_model.specs.declared.program.Program.{Program}
-use Rattle.rlc_base.specs.declared.place.Pos.{Pos}
-use Rattle.ledger_state.specs.declared.entry.Entry.{Entry}
 use Rattle.ledger_state.specs.declared.object.Object.{Object}
 use Rattle.ledger_state.specs.Contents.{HeapContents}
-use Rattle.ledger_state.specs.Heaps.{object_at}
+use Rattle.ledger_state.specs.Heaps.{change_one, object_at, with_objects}
 use Rattle.ledger_obligations.specs.declared.note.Note.{Note}
 use Rattle.ledger_obligations.specs.Obligations.{follows, is_unmet, joined, noted_object, spread}
-use Rattle.plain_calls.specs.declared.change.Numbered.{Numbered}
-use Rattle.plain_calls.specs.PlainCalls.{noted_lines, put_noted}
+use Rattle.spread_notes.specs.declared.numbered.Numbered.{Numbered}
 
 -- Objects that change
+
+abbrev pub numbered : ℕ → Object → Numbered
+numbered k x = record { number = k; object = x }
+
+-- the object in its place
+abbrev pub put_numbered : Numbered → HeapContents → HeapContents
+put_numbered b h = change_one b.number (λ _. b.object) h
 
 -- each of these objects in its place
 abbrev pub put_each : List Numbered → HeapContents → HeapContents
 put_each [] h = h
-put_each (b ∷ bs) h = put_each bs (put_noted (Some b) h)
+put_each (b ∷ bs) h = put_each bs (put_numbered b h)
+
+-- one object more
+abbrev pub add_made : Option Object → HeapContents → HeapContents
+add_made None h = h
+add_made (Some x) h = with_objects h (h.objects ++ x ∷ [])
 
 abbrev pub is_numbered : ℕ → Numbered → Bool
 is_numbered k b = nat_eq b.number k
@@ -65,10 +74,3 @@ pub record NotedAs (p : Program) (h : HeapContents) (first : List Note) (bs : Li
   pub made : AllMadeOf h all bs
   pub rises : rises_beyond 0 bs ≡ true
   pub speak : speak_of bs all ≡ true
-
--- the lines of the names that are called on them
-abbrev pub lines_of_one : Program → Pos → HeapContents → Numbered → List Entry
-lines_of_one p pos h b = noted_lines p pos h (Some b)
-
-abbrev pub spread_lines : Program → Pos → HeapContents → List Numbered → List Entry
-spread_lines p pos h bs = flat_map (lines_of_one p pos h) bs

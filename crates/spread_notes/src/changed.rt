@@ -1,16 +1,16 @@
 //! The objects that notes change.
 
-ghost use Rattle.std.specs.Prelude.{◌≡◌, ◌++◌, ◌<◌, [], filter, IfOk, IfSome, OnOk, Some, true};
+ghost use Rattle.std.specs.Prelude.{◌≡◌, ◌<◌, [], filter, IfOk, IfSome, Some, true};
 ghost use Rattle.ledger_obligations.specs.Obligations.{is_of, noted_object, with_name, with_names};
 ghost use Rattle.ledger_state.specs.Heaps.{object_at};
-ghost use Rattle.spread_notes.specs.SpreadNotes.{AllMadeOf, MadeOf, NotedAs, has_object, put_each, rises_beyond, speak_of, spread_lines};
+ghost use Rattle.spread_notes.specs.SpreadNotes.{AllMadeOf, MadeOf, NotedAs, has_object, put_each, rises_beyond, speak_of};
 
+use crate::numbered::Numbered;
 use crate::spreading::spread_notes;
 use ledger_obligations::{Note, is_unmet};
-use ledger_state::{Entry, Heap, Object};
-use plain_calls::{Numbered, add_noted};
+use ledger_state::{Heap, Object};
 use program_model::Program;
-use rlc_base::{NameId, NameSet, NoMemory, Pos};
+use rlc_base::{NameId, NameSet, NoMemory};
 use std::alloc::Global;
 
 /// What notes, and all that follow from them, make of the objects of which they speak.
@@ -188,21 +188,4 @@ pub fn put_each(heap: &mut Heap, objects: &[Numbered])
     'each: for b in objects {
         heap.put(b.number, b.object);
     }
-}
-
-/// Puts the lines of the names that are called on these objects behind `into`.
-pub fn add_spread_lines(
-    alloc: Global,
-    p: &Program,
-    pos: Pos,
-    heap: &Heap,
-    objects: &[Numbered],
-    into: &mut Vec<Entry>,
-) -> Result<(), NoMemory>
-    ensures { OnOk result (into.new.items ≡ into.old.items ++ spread_lines p.now pos heap.now objects.now) }
-{
-    'each: for b in objects {
-        add_noted(alloc, p, pos, heap, Some(*b), into)?;
-    }
-    Ok(())
 }

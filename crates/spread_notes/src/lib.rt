@@ -5,7 +5,9 @@
 mod changed;
 mod contents;
 mod follows;
+mod numbered;
 mod promises;
 mod spreading;
 
-pub use changed::{NotedObjects, add_spread_lines, noted_objects, put_each};
+pub use changed::{NotedObjects, noted_objects, put_each};
+pub use numbered::Numbered;

@@ -1,5 +1,6 @@
 -- What a throws clause may not name (JLS 8.4.6), and what the classes of the core library are (JLS 4.3.3, 11.1.1, 15.6).
-use Rattle.std.specs.Prelude.{◌≡◌, ◌&&◌, Bool, true, false, not, is_some, Option, Some, None, List, ◌++◌, flat_map, slice_get}
+use Rattle.std.specs.Prelude.{◌≡◌, ◌&&◌, Bool, true, false, not, is_some, Option, Some, None, List, [], ◌∷◌, ◌++◌, flat_map, slice_get}
+use Rattle.std.specs.List.{All}
 use Rattle.rlc_base.specs.declared.code.Code.TheVariants as refused
 use Rattle.rlc_base.specs.declared.faults.Refusal.{Refusal}
 use Rattle.java_syntax.specs.declared.names.Name.{Name}
@@ -83,6 +84,16 @@ abbrev pub is_library_at : Option Declaration → Bool
 is_library_at None = false
 is_library_at (Some d) = d.unit.library
 
+-- all these classes are of the library
+abbrev pub AreOfLibrary : List Declaration → List ClassId → Type 0
+AreOfLibrary order classes = All (λ (c : ClassId). is_library_at (slice_get order c.0) ≡ true) classes
+
+-- the roots of the exceptions that any call may throw (JLS 11.1.1), and the exceptions that operators throw (JLS 15.6)
+abbrev pub language_exceptions : CoreClasses → List ClassId
+language_exceptions k =
+    k.error ∷ k.runtime_exception ∷ k.arithmetic_exception ∷ k.array_index_exception ∷ k.class_cast_exception ∷ k.negative_array_size_exception
+    ∷ k.null_pointer_exception ∷ []
+
 -- String is a final class of the library (JLS 4.3.3, 8.1.1.2), and no class of exceptions (JLS 11.1.1)
 pub record HasStringClass (order : List Declaration) (direct : List (List ClassId)) (core : CoreClasses) : Type 0 where
   pub final : is_final_at (slice_get order core.string.0) ≡ true
@@ -91,6 +102,8 @@ pub record HasStringClass (order : List Declaration) (direct : List (List ClassI
 -- the classes of the core library are as the language says
 pub record IsCoreLibrary (order : List Declaration) (direct : List (List ClassId)) (core : CoreClasses) : Type 0 where
   pub exceptions : HasExceptions direct core
+  -- the exceptions that the language itself throws are classes of the library
+  pub language : AreOfLibrary order (language_exceptions core)
   -- Object, which stands above all classes, is one of the library (JLS 4.3.2)
   pub object : is_library_at (slice_get order core.object.0) ≡ true
   pub string : HasStringClass order direct core

@@ -6,7 +6,7 @@ ghost use Rattle.class_order.specs.Cases.{IsLeast};
 ghost use Rattle.class_order.specs.Core.{AreCore};
 ghost use Rattle.class_order.specs.Declarations.{declaration_of};
 ghost use Rattle.class_headers.specs.SuperTypes.{AreKnown, IsUnder};
-ghost use Rattle.super_checks.specs.SuperCases.{HasStringClass, IsCoreLibrary, core_misplaced, is_final_at, is_final_in_library, is_library_at};
+ghost use Rattle.super_checks.specs.SuperCases.{AreOfLibrary, HasStringClass, IsCoreLibrary, core_misplaced, is_final_at, is_final_in_library, is_library_at, language_exceptions};
 
 use crate::exceptions::{both, has_exceptions};
 use class_headers::{clear_marks, is_final, is_under};
@@ -42,6 +42,34 @@ fn is_library_at(order: &[Declared], class: ClassId) -> bool
         None => false,
         Some(declared) => declared.scope.library,
     }
+}
+
+// Whether all these classes are of the library.
+fn are_library(order: &[Declared], classes: &[ClassId]) -> bool
+    ensures { IsTrue result ↔ AreOfLibrary (map declaration_of order.now) classes.now }
+{
+    let mut all = true;
+    for class in classes {
+        let fits = is_library_at(order, *class);
+        all = both(all, fits);
+    }
+    all
+}
+
+// Whether the exceptions that the language itself throws are classes of the library.
+fn has_library_exceptions(order: &[Declared], core: CoreClasses) -> bool
+    ensures { IsTrue result ↔ AreOfLibrary (map declaration_of order.now) (language_exceptions core) }
+{
+    let thrown = [
+        core.error,
+        core.runtime_exception,
+        core.arithmetic_exception,
+        core.array_index_exception,
+        core.class_cast_exception,
+        core.negative_array_size_exception,
+        core.null_pointer_exception,
+    ];
+    are_library(order, &thrown)
 }
 
 // Whether the class of strings is one of exceptions.
@@ -93,7 +121,9 @@ fn is_core_library(
     requires core { AreCore names.now core }
     ensures { IfOk result (λ b. IsTrue b ↔ IsCoreLibrary (map declaration_of order.now) (rows_in direct.now) core) }
 {
-    let exceptions = has_exceptions(alloc, names, direct, core)?;
+    let ordered = has_exceptions(alloc, names, direct, core)?;
+    let thrown = has_library_exceptions(order, core);
+    let exceptions = both(ordered, thrown);
     let object = is_library_at(order, core.object);
     let string = has_string_class(alloc, order, names, direct, core)?;
     let named_classes = both(object, string);
@@ -101,8 +131,8 @@ fn is_core_library(
 }
 
 /// The refusal of a core library that is not as the language says: its exceptions don't stand under each other so (JLS 11.1.1,
-/// 15.6), `Object` is no class of the library (JLS 4.3.2), or `String` is no final class of the library or is one of exceptions
-/// (JLS 4.3.3, 8.1.1.2). It is code 34, with no place in its file.
+/// 15.6) or are no classes of the library, `Object` is no class of the library (JLS 4.3.2), or `String` is no final class of the
+/// library or is one of exceptions (JLS 4.3.3, 8.1.1.2). It is code 34, with no place in its file.
 pub fn core_refusal(
     alloc: Global,
     order: &[Declared],

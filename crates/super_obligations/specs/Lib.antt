@@ -1,2 +1,3 @@
 pub mod Obligations
 pub mod SuperPass
+pub use Rattle.super_checks.specs.SuperCases

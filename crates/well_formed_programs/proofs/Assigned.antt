@@ -15,8 +15,8 @@ use Rattle.program_model.specs.declared.tree.TExpr.{TExpr}
 use Rattle.program_model.specs.declared.tree.Var.{Var}
 use Rattle.program_model.specs.Lookups.{body_at, method_at, variable_at}
 use Rattle.program_model.specs.Validity.{HasParameters, IsBodyOf}
-use Rattle.must_call_sets.specs.Assigned.{assigned_variable, assigns_spoken, assigns_spoken_of, is_spoken, is_spoken_of, is_spoken_variable}
-use Rattle.annotation_rules.specs.AnnotationCases.{annotation_cases, assigned_at, assigned_cases, assignment_cases, body_cases, class_cases, field_cases, method_cases, variable_cases}
+use Rattle.must_call_types.specs.Assigned.{assigned_variable, assigns_spoken, assigns_spoken_of, is_spoken, is_spoken_of, is_spoken_variable}
+use Rattle.must_call_types.specs.AnnotationCases.{annotation_cases, assigned_at, assigned_cases, assignment_cases, body_cases, class_cases, field_cases, method_cases, variable_cases}
 
 -- ---- lists that are empty
 

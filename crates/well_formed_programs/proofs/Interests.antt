@@ -9,11 +9,11 @@ use Rattle.program_model.specs.declared.program.Class.{Class}
 use Rattle.program_model.specs.declared.program.Field.{Field}
 use Rattle.program_model.specs.declared.program.Method.{Method}
 use Rattle.program_model.specs.declared.program.Program.{Program}
-use Rattle.effective_signatures.specs.Effective as effective
-use Rattle.effective_signatures.specs.Effective.{interest, number_in, signed_parameter}
-use Rattle.effective_signatures.specs.SignedMethods.{IsSignedMethod}
-use Rattle.must_call_sets.specs.Bodies.{is_instance_kind}
-use Rattle.must_call_sets.specs.WellFormed.{interest_of, is_plain}
+use Rattle.must_call_types.specs.Effective as effective
+use Rattle.must_call_types.specs.Effective.{interest, number_in, signed_parameter}
+use Rattle.must_call_types.specs.SignedMethods.{IsSignedMethod}
+use Rattle.must_call_types.specs.Bodies.{is_instance_kind}
+use Rattle.must_call_types.specs.WellFormed.{interest_of, is_plain}
 
 same_kinds : (k : MethodKind) → effective.is_instance_kind k ≡ is_instance_kind k
 same_kinds methods.Instance = refl

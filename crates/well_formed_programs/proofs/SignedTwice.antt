@@ -13,10 +13,10 @@ use Rattle.program_model.specs.declared.program.RawAnno.{RawAnno}
 use Rattle.program_model.specs.declared.program.Sig.{Sig}
 use Rattle.annotation_kinds.specs.declared.annotation.AnnotationKind.TheVariants as kinds
 use Rattle.annotation_kinds.specs.Annotations.{first_of, is_marked, texts_at}
-use Rattle.effective_signatures.specs.Effective.{alias_position, first_set, has_owning_result, interest, is_aliased, is_instance_kind, normal_promises, number_in, promises_by, reset_in, reset_position, reset_text, signed_parameter, signed_receiver, throwing_promises}
-use Rattle.effective_signatures.specs.Sets.{own_set}
-use Rattle.effective_signatures.specs.SignedMethods.{IsSignedMethod}
-use Rattle.effective_signatures.specs.Targets.{has_object, keeps_object, own_fields, position_of}
+use Rattle.must_call_types.specs.Effective.{alias_position, first_set, has_owning_result, interest, is_aliased, is_instance_kind, normal_promises, number_in, promises_by, reset_in, reset_position, reset_text, signed_parameter, signed_receiver, throwing_promises}
+use Rattle.must_call_types.specs.Sets.{own_set}
+use Rattle.must_call_types.specs.SignedMethods.{IsSignedMethod}
+use Rattle.must_call_types.specs.EffectiveSignaturesTargets.{has_object, keeps_object, own_fields, position_of}
 use Rattle.must_call_types.specs.MustSets.{but_set, with_own_set}
 use Rattle.must_call_types.specs.NameTable.{IsInTextOrder, annotations, annotations_of}
 use Rattle.must_call_types.specs.Signed.{IsSigned}

@@ -2,9 +2,9 @@
 use Rattle.std.proofs.Common.{◌≡◌, []}
 use Rattle.program_model.specs.declared.program.Program.{Program}
 use Rattle.program_model.specs.Validity.{HasBodies, IsValid}
-use Rattle.effective_signatures.specs.SignedMethods.{IsSignedMethod}
-use Rattle.annotation_rules.specs.AnnotationCases.{annotation_cases}
-use Rattle.must_call_sets.specs.WellFormed.{IsWellFormed}
+use Rattle.must_call_types.specs.SignedMethods.{IsSignedMethod}
+use Rattle.must_call_types.specs.AnnotationCases.{annotation_cases}
+use Rattle.must_call_types.specs.WellFormed.{IsWellFormed}
 use Rattle.must_call_types.specs.Signed.{IsSigned}
 use Rattle.must_call_types.proofs.SignedTables.{before}
 use Rattle.signature_rules.specs.RulePasses.{HasNoRuleCase}

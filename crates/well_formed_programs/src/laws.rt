@@ -3,8 +3,8 @@
 ghost use Rattle.std.specs.Prelude.{◌≡◌, []};
 ghost use Rattle.program_model.specs.declared.program.Program.{Program};
 ghost use Rattle.program_model.specs.Validity.{HasBodies, IsValid};
-ghost use Rattle.annotation_rules.specs.AnnotationCases.{annotation_cases};
-ghost use Rattle.must_call_sets.specs.WellFormed.{IsWellFormed};
+ghost use Rattle.must_call_types.specs.AnnotationCases.{annotation_cases};
+ghost use Rattle.must_call_types.specs.WellFormed.{IsWellFormed};
 ghost use Rattle.must_call_types.specs.Signed.{IsSigned};
 ghost use Rattle.signature_rules.specs.RulePasses.{HasNoRuleCase};
 

@@ -3,11 +3,11 @@ use Rattle.std.proofs.Common.{◌∙◌, arith, ap, length, refl, Some, List, su
 use Rattle.std.proofs.lemmas.Option.{slice_get_within}
 use Rattle.breadth_first.specs.Searches.{IsAt}
 use Rattle.fact_pool.specs.Regions.{list_of}
-use Rattle.fact_search.proofs.SearchedLaws.{visit_reached}
+use Rattle.reached_facts.proofs.SearchedLaws.{visit_reached}
 use Rattle.java_cfg.specs.Contents.{arcs_of}
 use Rattle.java_cfg.specs.declared.arc.Arc.{Arc}
 use Rattle.reached_pairs.specs.Visited.{fact_in}
-use Rattle.body_origins.specs.Nodes.{row_in}
+use Rattle.reached_facts.specs.Nodes.{row_in}
 use Rattle.reached_facts.specs.Steps.{Begins, Leads}
 use Rattle.reached_facts.proofs.PathLaws.{walk_known, walk_within}
 use Rattle.body_faults.proofs.breaches.gather_visit.Goals as goal

@@ -1,7 +1,7 @@
 -- One birth more is listed.
 use Rattle.std.proofs.Common.{◌∙◌, arith, sym}
 use Rattle.std.proofs.lemmas.Option.{slice_get_within}
-use Rattle.ownership_rules.specs.Births.{births_at_entry}
+use Rattle.flow_rules.specs.Births.{births_at_entry}
 use Rattle.body_origins.proofs.OriginLaws.{take_whole, taken_next}
 use Rattle.body_origins.proofs.births.all_entry_births.Goals as goal
 

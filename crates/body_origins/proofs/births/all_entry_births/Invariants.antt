@@ -1,5 +1,5 @@
 use Rattle.std.proofs.Common.{◌≡◌, ◌≤◌, ◌-◌, length, take}
-use Rattle.ownership_rules.specs.Births.{births_at_entry}
+use Rattle.flow_rules.specs.Births.{births_at_entry}
 use Rattle.body_origins.proofs.births.all_entry_births.Given as goal
 
 abbrev pub invariant-each : goal.invariant-each

@@ -1,6 +1,6 @@
 -- The origins of one node more are put in.
 use Rattle.std.proofs.Common.{subst, sym}
-use Rattle.breadth_first.specs.Searches.{IsAt}
+use Rattle.reached_pairs.specs.Searches.{IsAt}
 use Rattle.java_cfg.specs.Contents.{arcs_of}
 use Rattle.body_origins.specs.Nodes.{row_in}
 use Rattle.body_origins.specs.Origins.{IsOriginsCause, origins_in, row_births}

@@ -2,7 +2,7 @@
 use Rattle.std.proofs.Common.{◌≡◌, ◌∙◌, arith, length}
 use Rattle.std.specs.List.{flat_map}
 use Rattle.java_cfg.specs.Contents.{arcs_of}
-use Rattle.ownership_rules.specs.Births.{births_at_entry}
+use Rattle.flow_rules.specs.Births.{births_at_entry}
 use Rattle.body_origins.specs.Nodes.{relation_in}
 use Rattle.body_origins.specs.Origins.{row_births}
 use Rattle.body_origins.specs.Pairs.{IsPairsCause}

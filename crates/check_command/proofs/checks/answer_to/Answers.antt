@@ -1,5 +1,5 @@
 use Rattle.std.proofs.Common.{◌≡◌, arith, refl, subst}
-use Rattle.acceptance_laws.proofs.Acceptance.{counted_accepted}
+use Rattle.acceptance_laws.proofs.AcceptedFiles.{counted_accepted}
 use Rattle.command_programs.specs.Programs.{input_of}
 use Rattle.program_faults.specs.ProgramReports.{IsFaultCount}
 use Rattle.check_command.specs.Checks.{accepted, leaking}

@@ -1,4 +1,4 @@
-use Rattle.covering_laws.proofs.Laws.{being_made_step}
+use Rattle.covering_laws.proofs.CoveringLaws.{being_made_step}
 use Rattle.covering_laws.proofs.steps.being_made_step.Goals as goal
 
 pub returns : goal.returns

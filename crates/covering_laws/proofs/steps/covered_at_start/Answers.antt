@@ -1,4 +1,4 @@
-use Rattle.covering_laws.proofs.Laws.{covered_at_start}
+use Rattle.covering_laws.proofs.CoveringLaws.{covered_at_start}
 use Rattle.covering_laws.proofs.steps.covered_at_start.Goals as goal
 
 pub returns : goal.returns

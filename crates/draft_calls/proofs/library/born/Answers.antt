@@ -6,7 +6,7 @@ use Rattle.draft_lines.proofs.ChangedLines.{birth_between}
 use Rattle.draft_stages.proofs.StageLaws.{rows_after}
 use Rattle.heap_drafts.specs.Drafts.{ChangesAmong}
 use Rattle.heap_drafts.proofs.DraftLaws.{drafted_by}
-use Rattle.ledger_entries.specs.Entries.{birth_entries}
+use Rattle.draft_lines.specs.Entries.{birth_entries}
 use Rattle.ledger_state.specs.Contents.{HeapContents}
 use Rattle.draft_calls.proofs.LibraryLaws.{birth_drafted, one_rises}
 use Rattle.draft_calls.proofs.library.born.Goals as goal

@@ -5,13 +5,13 @@ use Rattle.draft_lines.specs.DraftLines.{leak_entries_of}
 use Rattle.heap_drafts.proofs.DraftLaws.{drafted_on}
 use Rattle.ledger_calls.specs.Calls.{arguments_moved, position_of, reset_target}
 use Rattle.ledger_calls.specs.Conducts.{positions}
-use Rattle.ledger_entries.specs.Entries.{by_number, called_entries, leak_entries, owner_entries}
+use Rattle.draft_lines.specs.Entries.{by_number, called_entries, leak_entries, owner_entries}
 use Rattle.ledger_obligations.specs.Obligations.{held_in, lose}
 use Rattle.ledger_state.specs.declared.entry.Entry.{Entry}
 use Rattle.ledger_state.specs.declared.entry.LeakWord.TheVariants as words
 use Rattle.ledger_state.specs.declared.entry.Owner.TheVariants as owners
 use Rattle.ledger_state.specs.Locals.{held}
-use Rattle.ledger_steps.specs.CallSteps.{library_called, library_done, library_entries, library_heap, library_made}
+use Rattle.draft_steps.specs.CallSteps.{library_called, library_done, library_entries, library_heap, library_made}
 use Rattle.draft_calls.proofs.LibraryLaws.{call_born, call_lines, drafted_four, drafted_three, indexed_rest, library_rest, no_leaks, some_on}
 use Rattle.draft_calls.proofs.library.call_in_place.Goals as goal
 

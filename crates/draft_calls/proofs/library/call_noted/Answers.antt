@@ -3,11 +3,11 @@ use Rattle.program_model.specs.Lookups.{method_at}
 use Rattle.heap_drafts.proofs.DraftLaws.{drafted_on}
 use Rattle.ledger_calls.specs.Calls.{arguments_moved}
 use Rattle.ledger_calls.specs.Conducts.{library_notes, object_made}
-use Rattle.ledger_entries.specs.Entries.{called_entries, owner_entries}
+use Rattle.draft_lines.specs.Entries.{called_entries, owner_entries}
 use Rattle.ledger_obligations.specs.declared.note.Note.{Note}
 use Rattle.ledger_obligations.specs.Obligations.{noted}
 use Rattle.ledger_state.specs.declared.entry.Owner.TheVariants as owners
-use Rattle.ledger_steps.specs.CallSteps.{library_made}
+use Rattle.draft_steps.specs.CallSteps.{library_made}
 use Rattle.draft_calls.proofs.LibraryLaws.{drafted_three}
 use Rattle.draft_calls.proofs.library.call_noted.Goals as goal
 

@@ -1,5 +1,5 @@
 use Rattle.std.proofs.Common.{◌+◌}
-use Rattle.frame_owners.specs.FrameOwners.{lists_in}
+use Rattle.object_index.specs.FrameOwners.{lists_in}
 use Rattle.draft_returns.proofs.RestLaws.{listed_first}
 use Rattle.draft_returns.proofs.returns.draft_returned.Goals as goal
 

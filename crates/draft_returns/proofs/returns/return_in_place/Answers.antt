@@ -4,7 +4,7 @@ use Rattle.program_model.specs.Lookups.{method_at}
 use Rattle.draft_lines.specs.DraftLines.{leak_entries_of}
 use Rattle.heap_drafts.specs.declared.saved.SavedObject.{SavedObject}
 use Rattle.heap_drafts.specs.Drafts.{Drafted}
-use Rattle.ledger_entries.specs.Entries.{owner_entries}
+use Rattle.ledger_steps.specs.Entries.{owner_entries}
 use Rattle.ledger_obligations.specs.Obligations.{held_in}
 use Rattle.ledger_state.specs.declared.entry.Entry.{Entry}
 use Rattle.ledger_state.specs.Heaps.{has_number}

@@ -5,7 +5,7 @@ use Rattle.draft_lines.specs.DraftLines.{Changes, owner_changes}
 use Rattle.draft_lines.proofs.ChangedLines.{owner_between}
 use Rattle.heap_drafts.specs.Drafts.{ChangesAmong, numbers_rise}
 use Rattle.heap_drafts.proofs.DraftLaws.{drafted_by}
-use Rattle.ledger_entries.specs.Entries.{owner_entries}
+use Rattle.draft_lines.specs.Entries.{owner_entries}
 use Rattle.ledger_state.specs.Contents.{HeapContents}
 use Rattle.draft_stages.proofs.MoveLaws.{moved_among}
 use Rattle.draft_stages.proofs.StageLaws.{rows_after}

@@ -5,7 +5,7 @@ use Rattle.draft_lines.specs.DraftLines.{AllOfHeap, Changes, leak_changes, leak_
 use Rattle.draft_lines.proofs.LeakLaws.{leak_between, leak_entries_append}
 use Rattle.heap_drafts.specs.declared.saved.SavedObject.{SavedObject}
 use Rattle.heap_drafts.specs.Drafts.{HasNumbers, numbers_rise}
-use Rattle.ledger_entries.specs.Entries.{by_number, leak_entries}
+use Rattle.draft_lines.specs.Entries.{by_number, leak_entries}
 use Rattle.ledger_obligations.specs.Obligations.{held_in, lose}
 use Rattle.ledger_state.specs.declared.entry.Entry.{Entry}
 use Rattle.ledger_state.specs.declared.entry.LeakWord.TheVariants as words

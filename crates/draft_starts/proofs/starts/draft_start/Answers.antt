@@ -7,7 +7,7 @@ use Rattle.heap_drafts.proofs.DraftLaws.{taken_whole}
 use Rattle.ledger_obligations.specs.Obligations.{held_in}
 use Rattle.ledger_state.specs.Contents.{HeapContents}
 use Rattle.ledger_state.specs.Locals.{held}
-use Rattle.ledger_steps.specs.CallSteps.{started}
+use Rattle.draft_steps.specs.CallSteps.{started}
 use Rattle.draft_starts.proofs.starts.draft_start.Goals as goal
 
 pub returns-clause-kept : goal.returns-clause-kept

@@ -3,8 +3,8 @@ use Rattle.program_model.specs.Lookups.{method_at}
 use Rattle.draft_lines.specs.declared.leaks.Leak.{Leak}
 use Rattle.draft_lines.specs.DraftLines.{leak_entries_of}
 use Rattle.heap_drafts.proofs.DraftLaws.{drafted_on}
-use Rattle.ledger_calls.specs.Calls.{arguments_moved}
-use Rattle.ledger_entries.specs.Entries.{owner_entries}
+use Rattle.draft_stages.specs.LedgerCallsCalls.{arguments_moved}
+use Rattle.draft_lines.specs.Entries.{owner_entries}
 use Rattle.ledger_obligations.specs.Obligations.{held_in}
 use Rattle.ledger_state.specs.declared.entry.Entry.{Entry}
 use Rattle.ledger_state.specs.declared.entry.Owner.TheVariants as owners

@@ -1,8 +1,8 @@
 use Rattle.std.proofs.Common.{◌≡◌, ◌∙◌, ap, sym, List, ◌++◌}
-use Rattle.ledger_entries.specs.Entries.{called_entries}
+use Rattle.draft_lines.specs.Entries.{called_entries}
 use Rattle.ledger_obligations.specs.Obligations.{noted}
 use Rattle.ledger_state.specs.Contents.{HeapContents}
-use Rattle.plain_calls.specs.declared.change.Numbered.{Numbered}
+use Rattle.spread_notes.specs.declared.numbered.Numbered.{Numbered}
 use Rattle.spread_notes.specs.SpreadNotes.{put_each}
 use Rattle.draft_steps.proofs.NoteStages.{notes_put}
 use Rattle.draft_steps.proofs.notes.draft_notes.Goals as goal

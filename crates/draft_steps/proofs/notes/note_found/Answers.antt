@@ -5,7 +5,7 @@ use Rattle.draft_lines.proofs.ChangedLines.{called_between}
 use Rattle.draft_stages.proofs.StageLaws.{rows_after}
 use Rattle.heap_drafts.specs.Drafts.{ChangesAmong, numbers_rise}
 use Rattle.heap_drafts.proofs.DraftLaws.{drafted_by}
-use Rattle.ledger_entries.specs.Entries.{called_entries}
+use Rattle.draft_lines.specs.Entries.{called_entries}
 use Rattle.ledger_state.specs.Contents.{HeapContents}
 use Rattle.draft_steps.proofs.NoteStages.{found_among, notes_rise}
 use Rattle.draft_steps.proofs.notes.note_found.Goals as goal

@@ -1,9 +1,8 @@
 use Rattle.std.proofs.Common.{◌≡◌, ◌∙◌, ap, sym, refl, length, List, ◌+◌, ◌≤◌, arith}
 use Rattle.ledger_state.specs.Contents.{HeapContents}
 use Rattle.ledger_state.specs.Heaps.{object_at}
-use Rattle.plain_calls.specs.declared.change.Numbered.{Numbered}
-use Rattle.plain_calls.specs.PlainCalls.{add_made}
-use Rattle.spread_notes.specs.SpreadNotes.{put_each}
+use Rattle.spread_notes.specs.declared.numbered.Numbered.{Numbered}
+use Rattle.spread_notes.specs.SpreadNotes.{add_made, put_each}
 use Rattle.draft_steps.specs.Steps.{numbered_in}
 use Rattle.draft_steps.proofs.StepLaws.{step_made}
 use Rattle.draft_steps.proofs.steps.made_step.Goals as goal

@@ -5,7 +5,7 @@ use Rattle.draft_lines.specs.DraftLines.{Changes, owner_changes}
 use Rattle.draft_lines.proofs.ChangedLines.{owner_between}
 use Rattle.draft_stages.proofs.StageLaws.{rows_after}
 use Rattle.heap_drafts.proofs.DraftLaws.{drafted_by}
-use Rattle.ledger_entries.specs.Entries.{owner_entries}
+use Rattle.ledger_steps.specs.Entries.{owner_entries}
 use Rattle.ledger_state.specs.Contents.{HeapContents}
 use Rattle.draft_stores.proofs.StoreLaws.{moved_among, root_rises}
 use Rattle.draft_stores.proofs.stages.draft_own.Goals as goal

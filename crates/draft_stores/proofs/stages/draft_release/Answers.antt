@@ -5,7 +5,7 @@ use Rattle.draft_lines.specs.DraftLines.{AllOfHeap, Changes, leak_changes, leak_
 use Rattle.draft_lines.proofs.LeakLaws.{leak_between, leaks_of_heap}
 use Rattle.draft_stages.proofs.StageLaws.{rows_after}
 use Rattle.heap_drafts.proofs.DraftLaws.{drafted_by}
-use Rattle.ledger_entries.specs.Entries.{leak_entries}
+use Rattle.ledger_steps.specs.Entries.{leak_entries}
 use Rattle.ledger_state.specs.declared.entry.LeakWord.TheVariants as words
 use Rattle.ledger_state.specs.Contents.{HeapContents}
 use Rattle.draft_stores.proofs.StoreLaws.{released_among, root_rises}

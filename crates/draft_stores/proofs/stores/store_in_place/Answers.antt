@@ -1,6 +1,6 @@
 use Rattle.std.proofs.Common.{◌≡◌, ◌∙◌, ◌∷◌, ◌++◌, Vec, Global, map, reverse}
 use Rattle.draft_lines.specs.DraftLines.{leak_entries_of}
-use Rattle.ledger_entries.specs.Entries.{by_number, leak_entries}
+use Rattle.ledger_steps.specs.Entries.{by_number, leak_entries}
 use Rattle.ledger_obligations.specs.Obligations.{held_in, lose}
 use Rattle.ledger_state.specs.declared.entry.Entry.{Entry}
 use Rattle.ledger_state.specs.declared.entry.LeakWord.TheVariants as words

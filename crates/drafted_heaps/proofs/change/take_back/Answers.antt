@@ -1,8 +1,8 @@
-use Rattle.std.proofs.Common.{◌≡◌, ◌∙◌, sym, Bool, true, false, Option, None, Some}
+use Rattle.std.proofs.Common.{◌≡◌, ◌∙◌, Option, None, Some}
 use Rattle.std.specs.Prelude.{is_some}
 use Rattle.ledger_state.specs.declared.object.Object.{Object}
 use Rattle.ledger_state.specs.Contents.{HeapContents}
-use Rattle.plain_calls.specs.PlainCalls.{add_made}
+use Rattle.spread_notes.specs.SpreadNotes.{add_made}
 use Rattle.drafted_heaps.proofs.StoredLaws.{taken_back}
 use Rattle.drafted_heaps.proofs.change.take_back.Goals as goal
 

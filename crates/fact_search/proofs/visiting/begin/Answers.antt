@@ -1,6 +1,6 @@
 -- The starts are visited.
 use Rattle.std.proofs.Common.{List, subst, sym}
-use Rattle.breadth_first.specs.Turns.{AreStarts}
+use Rattle.reached_pairs.specs.Turns.{AreStarts}
 use Rattle.fact_pool.specs.Regions.{list_of}
 use Rattle.fact_pool.proofs.RegionLemmas.{with_list-own}
 use Rattle.reached_pairs.specs.Additions.{points_in}

@@ -1,6 +1,6 @@
 -- What one visit leads to is visited.
 use Rattle.std.proofs.Common.{List, add-one, subst, sym, ℕ}
-use Rattle.breadth_first.specs.Turns.{AreSteps}
+use Rattle.reached_pairs.specs.Turns.{AreSteps}
 use Rattle.fact_pool.specs.Regions.{list_of}
 use Rattle.fact_pool.proofs.RegionLemmas.{with_list-own}
 use Rattle.reached_pairs.specs.Additions.{points_in}

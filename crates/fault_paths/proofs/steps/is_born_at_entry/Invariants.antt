@@ -1,6 +1,6 @@
 use Rattle.std.proofs.Common.{◌≡◌, ◌≤◌, ◌-◌, false, length, take}
 use Rattle.std.specs.List.{list_any}
-use Rattle.ownership_rules.specs.Births.{births_at_entry}
+use Rattle.flow_rules.specs.Births.{births_at_entry}
 use Rattle.fault_paths.specs.Tests.{is_first}
 use Rattle.fault_paths.proofs.steps.is_born_at_entry.Given as goal
 

@@ -1,7 +1,7 @@
 -- The births are tried one by one.
 use Rattle.std.proofs.Common.{◌∙◌, arith, sym}
 use Rattle.std.proofs.lemmas.Option.{slice_get_within}
-use Rattle.body_origins.specs.Origins.{arc_births}
+use Rattle.obligation_paths.specs.Origins.{arc_births}
 use Rattle.fault_paths.specs.Tests.{is_first}
 use Rattle.fault_paths.proofs.AnyLaws.{any_end, any_here, any_next}
 use Rattle.fault_paths.proofs.steps.is_born_by.Goals as goal

@@ -1,6 +1,6 @@
 use Rattle.std.proofs.Common.{◌≡◌, ◌≤◌, ◌-◌, false, length, take}
 use Rattle.std.specs.List.{list_any}
-use Rattle.body_origins.specs.Origins.{arc_births}
+use Rattle.obligation_paths.specs.Origins.{arc_births}
 use Rattle.fault_paths.specs.Tests.{is_first}
 use Rattle.fault_paths.proofs.steps.is_born_by.Given as goal
 

@@ -1,4 +1,4 @@
-use Rattle.heap_laws.proofs.Laws.{ended_holder_gives_up}
+use Rattle.heap_laws.proofs.HeapLaws.{ended_holder_gives_up}
 use Rattle.heap_laws.proofs.ends.ended_holder_gives_up.Goals as goal
 
 pub returns : goal.returns

@@ -1,4 +1,4 @@
-use Rattle.heap_laws.proofs.Laws.{leading_links-root, leading_links-end, leading_links-itself, leading_links-on}
+use Rattle.heap_laws.proofs.HeapLaws.{leading_links-root, leading_links-end, leading_links-itself, leading_links-on}
 use Rattle.heap_laws.proofs.leading.leading_links.Goals as goal
 
 pub returns : goal.returns

@@ -1,4 +1,4 @@
-use Rattle.heap_laws.proofs.Laws.{roots_over_a_link-linked, roots_over_a_link-number, roots_over_a_link-value, roots_over_a_link-before}
+use Rattle.heap_laws.proofs.HeapLaws.{roots_over_a_link-linked, roots_over_a_link-number, roots_over_a_link-value, roots_over_a_link-before}
 use Rattle.heap_laws.proofs.leading.roots_over_a_link.Goals as goal
 
 pub returns : goal.returns

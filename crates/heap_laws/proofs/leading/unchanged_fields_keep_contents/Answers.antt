@@ -1,4 +1,4 @@
-use Rattle.heap_laws.proofs.Laws.{unchanged_fields_keep_contents}
+use Rattle.heap_laws.proofs.HeapLaws.{unchanged_fields_keep_contents}
 use Rattle.heap_laws.proofs.leading.unchanged_fields_keep_contents.Goals as goal
 
 pub returns : goal.returns

@@ -1,4 +1,4 @@
-use Rattle.heap_laws.proofs.Laws.{birth_lines_leak_nothing}
+use Rattle.heap_laws.proofs.HeapLaws.{birth_lines_leak_nothing}
 use Rattle.heap_laws.proofs.lines.birth_lines_leak_nothing.Goals as goal
 
 pub returns : goal.returns

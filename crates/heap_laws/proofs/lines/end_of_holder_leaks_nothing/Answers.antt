@@ -1,4 +1,4 @@
-use Rattle.heap_laws.proofs.Laws.{end_of_holder_leaks_nothing}
+use Rattle.heap_laws.proofs.HeapLaws.{end_of_holder_leaks_nothing}
 use Rattle.heap_laws.proofs.lines.end_of_holder_leaks_nothing.Goals as goal
 
 pub returns : goal.returns

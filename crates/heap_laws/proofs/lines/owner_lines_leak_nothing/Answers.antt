@@ -1,4 +1,4 @@
-use Rattle.heap_laws.proofs.Laws.{owner_lines_leak_nothing}
+use Rattle.heap_laws.proofs.HeapLaws.{owner_lines_leak_nothing}
 use Rattle.heap_laws.proofs.lines.owner_lines_leak_nothing.Goals as goal
 
 pub returns : goal.returns

@@ -1,4 +1,4 @@
-use Rattle.heap_laws.proofs.Laws.{step_leaks_nothing-lines, step_leaks_nothing-unchanged}
+use Rattle.heap_laws.proofs.HeapLaws.{step_leaks_nothing-lines, step_leaks_nothing-unchanged}
 use Rattle.heap_laws.proofs.lines.step_leaks_nothing.Goals as goal
 
 pub returns : goal.returns

@@ -1,4 +1,4 @@
-use Rattle.heap_laws.proofs.Laws.{given_arguments_are_owned}
+use Rattle.heap_laws.proofs.HeapLaws.{given_arguments_are_owned}
 use Rattle.heap_laws.proofs.moves.given_arguments_are_owned.Goals as goal
 
 pub returns : goal.returns

@@ -1,4 +1,4 @@
-use Rattle.heap_laws.proofs.Laws.{moved_arguments_are_given}
+use Rattle.heap_laws.proofs.HeapLaws.{moved_arguments_are_given}
 use Rattle.heap_laws.proofs.moves.moved_arguments_are_given.Goals as goal
 
 pub returns : goal.returns

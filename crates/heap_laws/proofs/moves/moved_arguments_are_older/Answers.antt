@@ -1,4 +1,4 @@
-use Rattle.heap_laws.proofs.Laws.{moved_arguments_are_older-older, moved_arguments_are_older-evolves}
+use Rattle.heap_laws.proofs.HeapLaws.{moved_arguments_are_older-older, moved_arguments_are_older-evolves}
 use Rattle.heap_laws.proofs.moves.moved_arguments_are_older.Goals as goal
 
 pub returns : goal.returns

@@ -1,4 +1,4 @@
-use Rattle.heap_laws.proofs.Laws.{moved_value-before, moved_value-taken}
+use Rattle.heap_laws.proofs.HeapLaws.{moved_value-before, moved_value-taken}
 use Rattle.heap_laws.proofs.moves.moved_value.Goals as goal
 
 pub returns : goal.returns

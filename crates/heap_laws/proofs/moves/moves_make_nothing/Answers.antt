@@ -1,4 +1,4 @@
-use Rattle.heap_laws.proofs.Laws.{moves_make_nothing}
+use Rattle.heap_laws.proofs.HeapLaws.{moves_make_nothing}
 use Rattle.heap_laws.proofs.moves.moves_make_nothing.Goals as goal
 
 pub returns : goal.returns

@@ -1,4 +1,4 @@
-use Rattle.heap_laws.proofs.Laws.{called_names_are_noted}
+use Rattle.heap_laws.proofs.HeapLaws.{called_names_are_noted}
 use Rattle.heap_laws.proofs.notes.called_names_are_noted.Goals as goal
 
 pub returns : goal.returns

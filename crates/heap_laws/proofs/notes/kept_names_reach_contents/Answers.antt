@@ -1,4 +1,4 @@
-use Rattle.heap_laws.proofs.Laws.{kept_names_reach_contents}
+use Rattle.heap_laws.proofs.HeapLaws.{kept_names_reach_contents}
 use Rattle.heap_laws.proofs.notes.kept_names_reach_contents.Goals as goal
 
 pub returns : goal.returns

@@ -1,4 +1,4 @@
-use Rattle.heap_laws.proofs.Laws.{noted_names_stand}
+use Rattle.heap_laws.proofs.HeapLaws.{noted_names_stand}
 use Rattle.heap_laws.proofs.notes.noted_names_stand.Goals as goal
 
 pub returns : goal.returns

@@ -1,4 +1,4 @@
-use Rattle.heap_laws.proofs.Laws.{evolving_heaps-same, evolving_heaps-further, evolving_heaps-links}
+use Rattle.heap_laws.proofs.HeapLaws.{evolving_heaps-same, evolving_heaps-further, evolving_heaps-links}
 use Rattle.heap_laws.proofs.objects.evolving_heaps.Goals as goal
 
 pub returns : goal.returns

@@ -1,4 +1,4 @@
-use Rattle.heap_laws.proofs.Laws.{nothing_is_changed}
+use Rattle.heap_laws.proofs.HeapLaws.{nothing_is_changed}
 use Rattle.heap_laws.proofs.objects.nothing_is_changed.Goals as goal
 
 pub returns : goal.returns

@@ -1,4 +1,4 @@
-use Rattle.heap_laws.proofs.Laws.{links_go_on}
+use Rattle.heap_laws.proofs.HeapLaws.{links_go_on}
 use Rattle.heap_laws.proofs.roots.links_go_on.Goals as goal
 
 pub returns : goal.returns

@@ -1,4 +1,4 @@
-use Rattle.heap_laws.proofs.Laws.{links_stay-moved, links_stay-value, links_stay-made, links_stay-noted, links_stay-frame, links_stay-holder, links_stay-lost}
+use Rattle.heap_laws.proofs.HeapLaws.{links_stay-moved, links_stay-value, links_stay-made, links_stay-noted, links_stay-frame, links_stay-holder, links_stay-lost}
 use Rattle.heap_laws.proofs.roots.links_stay.Goals as goal
 
 pub returns : goal.returns

@@ -1,4 +1,4 @@
-use Rattle.heap_laws.proofs.Laws.{objects_go_on-value, objects_go_on-made, objects_go_on-frame, objects_go_on-holder, objects_go_on-lost}
+use Rattle.heap_laws.proofs.HeapLaws.{objects_go_on-value, objects_go_on-made, objects_go_on-frame, objects_go_on-holder, objects_go_on-lost}
 use Rattle.heap_laws.proofs.roots.objects_go_on.Goals as goal
 
 pub returns : goal.returns

@@ -1,4 +1,4 @@
-use Rattle.heap_laws.proofs.Laws.{root_of_changed}
+use Rattle.heap_laws.proofs.HeapLaws.{root_of_changed}
 use Rattle.heap_laws.proofs.roots.root_of_changed.Goals as goal
 
 pub returns : goal.returns

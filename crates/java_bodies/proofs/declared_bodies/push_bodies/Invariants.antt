@@ -1,5 +1,5 @@
 use Rattle.std.proofs.Common.{◌≡◌, ◌++◌, map, take}
-use Rattle.field_initializers.specs.Members.{environment_in, numbered_method_of}
+use Rattle.field_initializers.specs.SourceClassesMembers.{environment_in, numbered_method_of}
 use Rattle.field_initializers.specs.SourceClasses.{source_class_of}
 use Rattle.java_bodies.specs.Bodies.{bodies_among, source_body_of}
 use Rattle.java_bodies.proofs.declared_bodies.push_bodies.Given as goal

@@ -1,6 +1,6 @@
 use Rattle.std.proofs.Common.{◌≡◌, ◌∙◌, ap, sym, Some, None, List, ◌++◌, map}
 use Rattle.rlc_base.specs.declared.faults.Refusal.{Refusal}
-use Rattle.refusal_order.specs.Refusals.{least}
+use Rattle.java_types.specs.Refusals.{least}
 use Rattle.java_types.specs.ProgramCases.{program_cases}
 use Rattle.java_types.specs.TypedBodies.{typed_body_of}
 use Rattle.java_elaboration.proofs.NoCases.{none_is_least, typings_well_formed}

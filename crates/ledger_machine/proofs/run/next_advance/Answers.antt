@@ -1,7 +1,7 @@
 use Rattle.std.proofs.Common.{◌≡◌, ◌∙◌, ap, sym, [], ◌∷◌, ◌++◌, length}
 use Rattle.machine_state.specs.RunStates.{config_of}
 use Rattle.ledger_runs.specs.Steps.{top_move}
-use Rattle.ledger_frames.specs.Choosing.{frame_steps}
+use Rattle.ledger_moves.specs.Choosing.{frame_steps}
 use Rattle.ledger_moves.specs.Frames.{frame_seen}
 use Rattle.ledger_moves.specs.Moves.{next_move, standing}
 use Rattle.ledger_operations.specs.Operations.{next_choice}

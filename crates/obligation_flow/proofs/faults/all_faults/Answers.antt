@@ -1,5 +1,5 @@
 -- One fault more is listed.
-use Rattle.body_origins.proofs.OriginLaws.{item_at}
+use Rattle.obligation_paths.proofs.OriginLaws.{item_at}
 use Rattle.obligation_flow.specs.declared.faults.TracedFault.{TracedFault}
 use Rattle.obligation_flow.proofs.ListedLaws.{breaches_more, named_more}
 use Rattle.obligation_flow.proofs.faults.all_faults.Goals as goal

@@ -5,7 +5,7 @@ use Rattle.breadth_first.proofs.ListLaws.{at_same, at_within}
 use Rattle.fact_pool.specs.Regions.{list_of}
 use Rattle.java_cfg.specs.Contents.{arcs_of}
 use Rattle.reached_pairs.specs.declared.visit.Visit.{Visit}
-use Rattle.body_origins.specs.Nodes.{arcs_at}
+use Rattle.graph_relation.specs.Nodes.{arcs_at}
 use Rattle.shortest_paths.specs.Telling.{step_from}
 use Rattle.obligation_paths.proofs.BreakingLaws.{tells_first}
 use Rattle.obligation_paths.proofs.breaking.breaking_path.Goals as goal

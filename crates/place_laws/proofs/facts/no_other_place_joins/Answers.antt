@@ -1,5 +1,5 @@
 -- The law is a lemma over the definitions alone.
-use Rattle.place_laws.proofs.Laws.{no_other_place_joins}
+use Rattle.place_laws.proofs.PlaceLaws.{no_other_place_joins}
 use Rattle.place_laws.proofs.facts.no_other_place_joins.Goals as goal
 
 pub returns : goal.returns

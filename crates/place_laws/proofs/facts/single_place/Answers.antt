@@ -1,5 +1,5 @@
 -- The laws are lemmas over the definitions alone.
-use Rattle.place_laws.proofs.Laws.{single_place-alone, single_place-has, single_place-same, single_place-some}
+use Rattle.place_laws.proofs.PlaceLaws.{single_place-alone, single_place-has, single_place-same, single_place-some}
 use Rattle.place_laws.proofs.facts.single_place.Goals as goal
 
 pub returns-clause-has : goal.returns-clause-has

@@ -1,5 +1,5 @@
 -- The law is a lemma over the definitions alone.
-use Rattle.place_laws.proofs.Laws.{some_place_is_held}
+use Rattle.place_laws.proofs.PlaceLaws.{some_place_is_held}
 use Rattle.place_laws.proofs.facts.some_place_is_held.Goals as goal
 
 pub returns : goal.returns

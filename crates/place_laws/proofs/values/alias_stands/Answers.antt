@@ -1,5 +1,5 @@
 -- The law is a lemma over the definitions alone.
-use Rattle.place_laws.proofs.Laws.{alias_stands}
+use Rattle.place_laws.proofs.PlaceLaws.{alias_stands}
 use Rattle.place_laws.proofs.values.alias_stands.Goals as goal
 
 pub returns : goal.returns

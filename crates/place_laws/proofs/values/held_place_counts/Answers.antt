@@ -1,5 +1,5 @@
 -- The law is a lemma over the definitions alone.
-use Rattle.place_laws.proofs.Laws.{held_place_counts}
+use Rattle.place_laws.proofs.PlaceLaws.{held_place_counts}
 use Rattle.place_laws.proofs.values.held_place_counts.Goals as goal
 
 pub returns : goal.returns

@@ -1,5 +1,5 @@
 -- The law is a lemma over the definitions alone.
-use Rattle.place_laws.proofs.Laws.{made_value_stands}
+use Rattle.place_laws.proofs.PlaceLaws.{made_value_stands}
 use Rattle.place_laws.proofs.values.made_value_stands.Goals as goal
 
 pub returns : goal.returns

@@ -1,5 +1,5 @@
 -- The law is a lemma over the definitions alone.
-use Rattle.place_laws.proofs.Laws.{variables_stay}
+use Rattle.place_laws.proofs.PlaceLaws.{variables_stay}
 use Rattle.place_laws.proofs.values.variables_stay.Goals as goal
 
 pub returns : goal.returns

@@ -1,7 +1,7 @@
 -- Where no body is missing or stands where none may, the members and bodies decide.
 use Rattle.std.proofs.Common.{◌≡◌, inl, sym, []}
 use Rattle.method_bodies.specs.MethodBodies.{body_cases}
-use Rattle.table_laws.proofs.TableNames.{built_names}
+use Rattle.elaboration_laws.proofs.TableNames.{built_names}
 use Rattle.program_elaboration.proofs.Outcomes.{bodies_if, none_is_least, on_ok, stopped_if, valid_if}
 use Rattle.program_elaboration.proofs.WellFormedBodies.{well_formed_bodies}
 use Rattle.program_elaboration.proofs.elaborations.elaborate.Goals as goal

@@ -1,5 +1,5 @@
 -- A body with a graph passes no limit on controls and places, and the region of the body is released.
-use Rattle.body_origins.proofs.OriginLaws.{passed_on}
+use Rattle.obligation_flow.proofs.OriginLaws.{passed_on}
 use Rattle.fact_pool.specs.Regions.{list_of}
 use Rattle.program_faults.specs.BodyReports.{IsBodyStop}
 use Rattle.program_faults.proofs.LimitLaws.{graph_stop, no_limit}

@@ -1,6 +1,6 @@
 -- The trace of the body has its faults; where there is none, or its faults are too many, the check stops.
 use Rattle.std.proofs.Common.{◌∙◌, ap, ◌+◌}
-use Rattle.body_origins.proofs.OriginLaws.{passed_on}
+use Rattle.obligation_flow.proofs.OriginLaws.{passed_on}
 use Rattle.graph_limits.proofs.StepRooms.{fits_rows}
 use Rattle.java_cfg.specs.Contents.{arcs_of, nodes_of}
 use Rattle.obligation_flow.specs.Traces.{faults_of}

@@ -1,6 +1,6 @@
 -- The reports of one body more are put, or the check stops at it.
 use Rattle.std.proofs.Common.{◌<◌, arith, length}
-use Rattle.body_origins.proofs.OriginLaws.{passed_on}
+use Rattle.obligation_flow.proofs.OriginLaws.{passed_on}
 use Rattle.program_faults.specs.ProgramReports.{IsFaultStop}
 use Rattle.program_faults.proofs.CountLaws.{one_body_more, stops_first}
 use Rattle.program_faults.proofs.program.check_bodies.Goals as goal

@@ -3,7 +3,7 @@ use Rattle.std.proofs.Common.{◌≡◌, ◌∙◌, map, ℕ, List, Bor, Result,
 use Rattle.rlc_base.specs.declared.faults.Stop.{Stop}
 use Rattle.java_syntax.specs.declared.declaration_trees.Unit as tree
 use Rattle.program_model.specs.declared.program.Program.{Program}
-use Rattle.must_call_sets.specs.WellFormed.{IsWellFormed}
+use Rattle.must_call_types.specs.WellFormed.{IsWellFormed}
 use Rattle.signature_rules.specs.RulePasses.{HasNoRuleCase}
 use Rattle.program_reading.specs.Fronts.{IsFront}
 use Rattle.program_reading.specs.Programs.{Input, IsProgram, IsProgramStop, by_files, by_signing, by_typing}

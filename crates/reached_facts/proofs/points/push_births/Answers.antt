@@ -1,7 +1,7 @@
 -- The point of one birth more is added.
 use Rattle.std.proofs.Common.{◌+◌, take}
 use Rattle.std.specs.Prelude.{position}
-use Rattle.ownership_rules.specs.Births.{Birth}
+use Rattle.body_origins.specs.Births.{Birth}
 use Rattle.body_origins.specs.Origins.{same_origin}
 use Rattle.body_origins.proofs.OriginLaws.{flat_next, item_at}
 use Rattle.reached_facts.specs.Points.{birth_point, birth_points}

@@ -1,4 +1,4 @@
-use Rattle.safety_examples.proofs.Careful.{has_bodies, valid_program}
+use Rattle.safety_examples.proofs.CarefulTrees.{has_bodies, valid_program}
 use Rattle.safety_examples.proofs.laws.careful_is_valid.Goals as goal
 
 pub returns-clause-valid : goal.returns-clause-valid

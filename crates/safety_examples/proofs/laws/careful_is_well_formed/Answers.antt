@@ -1,4 +1,4 @@
-use Rattle.safety_examples.proofs.Formed.{annotations_right, overriding, signed, well_formed}
+use Rattle.safety_examples.proofs.CarefulFormed.{annotations_right, overriding, signed, well_formed}
 use Rattle.safety_examples.proofs.laws.careful_is_well_formed.Goals as goal
 
 pub returns-clause-well_formed : goal.returns-clause-well_formed

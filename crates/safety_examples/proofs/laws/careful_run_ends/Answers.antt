@@ -1,7 +1,7 @@
 use Rattle.std.proofs.Common.{ap, not}
-use Rattle.ledger_runs.specs.Runs.{Run}
+use Rattle.soundness_laws.specs.Runs.{Run}
 use Rattle.safety_examples.proofs.CarefulRun.{careful_run}
-use Rattle.safety_examples.proofs.Sets.{close_not_none}
+use Rattle.safety_examples.proofs.CarefulSets.{close_not_none}
 use Rattle.safety_examples.proofs.laws.careful_run_ends.Goals as goal
 
 pub returns-clause-obligation : goal.returns-clause-obligation

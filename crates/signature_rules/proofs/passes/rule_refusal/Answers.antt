@@ -1,8 +1,8 @@
 -- Where the last pass refuses nothing, none has a case.
 use Rattle.signature_rules.proofs.NoCases.{all_passed, no_cases}
-use Rattle.must_call_sets.specs.AliasCases.{alias_cases}
-use Rattle.must_call_sets.specs.OverrideCases.{override_cases}
-use Rattle.must_call_sets.specs.OwningCases.{owning_cases}
+use Rattle.alias_sets.specs.AliasCases.{alias_cases}
+use Rattle.called_methods.specs.OverrideCases.{override_cases}
+use Rattle.must_call_reset.specs.OwningCases.{owning_cases}
 use Rattle.signature_rules.proofs.passes.rule_refusal.Goals as goal
 
 pub returns-clause-right : goal.returns-clause-right

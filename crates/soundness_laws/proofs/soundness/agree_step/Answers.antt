@@ -1,4 +1,4 @@
-use Rattle.soundness_laws.proofs.Runs.{agree_step}
+use Rattle.soundness_laws.proofs.SoundnessRuns.{agree_step}
 use Rattle.soundness_laws.proofs.soundness.agree_step.Goals as goal
 
 pub returns : goal.returns

@@ -1,4 +1,4 @@
-use Rattle.soundness_laws.proofs.Runs.{holds_at_start}
+use Rattle.soundness_laws.proofs.SoundnessRuns.{holds_at_start}
 use Rattle.soundness_laws.proofs.soundness.holds_at_start.Goals as goal
 
 pub returns : goal.returns

@@ -1,5 +1,5 @@
 use Rattle.std.proofs.Common.{◌∙◌, ap, sym, subst, ℕ, ◌<◌, List, ◌∷◌, ◌++◌, [], arith}
-use Rattle.plain_calls.specs.declared.change.Numbered.{Numbered}
+use Rattle.spread_notes.specs.declared.numbered.Numbered.{Numbered}
 use Rattle.spread_notes.specs.SpreadNotes.{AllMadeOf, rises_beyond}
 use Rattle.spread_notes.proofs.ObjectLists.{AllWithin, made_more, rises_more, within_more}
 use Rattle.spread_notes.proofs.changed.add_objects.Goals as goal

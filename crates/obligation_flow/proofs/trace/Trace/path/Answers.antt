@@ -1,8 +1,8 @@
 -- The path to the first breach of the rule is one to the fault.
-use Rattle.body_origins.proofs.OriginLaws.{item_at}
+use Rattle.obligation_paths.proofs.OriginLaws.{item_at}
 use Rattle.fact_pool.specs.Regions.{list_of}
 use Rattle.java_cfg.specs.Contents.{arcs_of, nodes_of}
-use Rattle.shortest_paths.proofs.TellingLaws.{if_ok}
+use Rattle.obligation_paths.proofs.TellingLaws.{if_ok}
 use Rattle.obligation_flow.proofs.TraceLaws.{told_fault, within_faults}
 use Rattle.obligation_flow.proofs.trace.Trace.path.Goals as goal
 

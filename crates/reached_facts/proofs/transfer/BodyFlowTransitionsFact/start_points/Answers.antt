@@ -1,6 +1,6 @@
 -- The points are what is known at the entry.
 use Rattle.std.proofs.Common.{List, subst, sym}
-use Rattle.breadth_first.specs.Turns.{AreStarts}
+use Rattle.fact_search.specs.Turns.{AreStarts}
 use Rattle.java_cfg.specs.Contents.{arcs_of}
 use Rattle.java_control.specs.declared.fact.Fact.{Fact}
 use Rattle.reached_pairs.specs.Additions.{points_in}

@@ -1,9 +1,9 @@
 -- The points are what the arcs of the node lead to.
 use Rattle.std.proofs.Common.{◌∙◌, ap, List, None, Option, Some, subst, sym}
 use Rattle.std.proofs.lemmas.Option.{slice_get_within}
-use Rattle.breadth_first.specs.Searches.{IsAt}
-use Rattle.breadth_first.specs.Turns.{AreSteps}
-use Rattle.breadth_first.specs.Walks.{IsWalk}
+use Rattle.reached_pairs.specs.Searches.{IsAt}
+use Rattle.fact_search.specs.Turns.{AreSteps}
+use Rattle.fact_search.specs.Walks.{IsWalk}
 use Rattle.java_cfg.specs.Contents.{arcs_of}
 use Rattle.java_cfg.specs.declared.arc.Arc.{Arc}
 use Rattle.java_control.specs.declared.fact.Fact.{Fact}

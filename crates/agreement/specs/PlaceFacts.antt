@@ -1,0 +1,244 @@
+-- Which facts stand for what the places of a frame hold: each place that holds an object whose class has an obligation, and that may owe
+-- a call, is in a fact that a path brings to the frame's control, and where such a fact says that the object is owned, what it says is
+-- true. Of each object, one fact of a frame at most says that the frame owns it.
+use Rattle.std.specs.Prelude.{◌≡◌, ◌⊎◌, ℕ, ◌+◌, ◌<◌, Bool, true, false, not, ◌&&◌, ◌||◌, Option, Some, None, List, [], ◌∷◌, length, nat_lt, slice_get}
+use Rattle.std.specs.List.{list_any}
+use Rattle.std.specs.FinSet as set
+use Rattle.program_model.specs.declared.kinds.BodyId.{BodyId}
+use Rattle.program_model.specs.declared.kinds.ClassId.{ClassId}
+use Rattle.program_model.specs.declared.kinds.FieldId.{FieldId}
+use Rattle.program_model.specs.declared.kinds.MethodId.{MethodId}
+use Rattle.program_model.specs.declared.program.Method.{Method}
+use Rattle.program_model.specs.declared.program.ParamSig.{ParamSig}
+use Rattle.program_model.specs.declared.program.Program.{Program}
+use Rattle.program_model.specs.Lookups.{method_at}
+use Rattle.ownership_rules.specs.Bodies.{alias_in, constructs}
+use Rattle.ownership_rules.specs.MustCallSets.{fits, fits_type, is_empty, is_heavy_class, must_of, must_of_optional}
+use Rattle.ownership_rules.specs.Signatures.{field_type, is_present}
+use Rattle.java_control.specs.PlaceNumbers.{IsSmall}
+use Rattle.java_control.specs.declared.action.Action.{Action}
+use Rattle.java_control.specs.declared.fact.Fact.{Fact}
+use Rattle.java_control.specs.declared.fact.Mode.TheVariants as modes
+use Rattle.java_control.specs.declared.fact.Origin.{Origin}
+use Rattle.java_control.specs.declared.fact.OriginKind.{OriginKind}
+use Rattle.java_control.specs.declared.fact.OriginKind.TheVariants as kinds
+use Rattle.java_control.specs.declared.place.Place.{Place}
+use Rattle.java_control.specs.declared.place.Place.TheVariants as place
+use Rattle.ownership_rules.specs.Callees.{callee}
+use Rattle.ownership_rules.specs.Facts.{PlaceSet, has, is_held, is_own, need}
+use Rattle.place_laws.specs.Paths.{Reach, relation_of}
+use Rattle.ledger_state.specs.Contents.{HeapContents}
+use Rattle.ledger_state.specs.Heaps.{object_at, root_of, same_root}
+use Rattle.ledger_state.specs.declared.entry.Owner.{Owner}
+use Rattle.ledger_state.specs.declared.entry.Owner.TheVariants as owners
+use Rattle.ledger_state.specs.declared.locals.Locals.{Locals}
+use Rattle.ledger_state.specs.declared.object.Object.{Object}
+use Rattle.ledger_state.specs.declared.value.Value.{Value}
+use Rattle.ledger_state.specs.declared.value.Value.TheVariants as values
+use Rattle.place_laws.specs.Obligations.{is_held_by, is_library_owner}
+use Rattle.heap_laws.specs.Places.{owning_field_beside, place_value}
+use Rattle.heap_laws.specs.LedgerCallsCalls.{operand_of}
+use Rattle.ledger_runs.specs.Configuration.{Frame}
+use Rattle.ledger_runs.specs.Choosing.{body_id, frame_steps}
+use Rattle.place_laws.specs.Places.{HasPlacesAlone}
+use Rattle.agreement.specs.PlainForms.{is_lent_parameter}
+
+-- the object is not finished yet, or the library does not own it. (What the library owns it owns for ever. An alias of null is the library's.)
+abbrev pub may_owe : Object → Bool
+may_owe x = not (x.finished && is_library_owner x.owner)
+
+-- the method is a constructor without an aliased argument
+abbrev pub makes_alone : Option Method → Bool
+makes_alone m = constructs m && not (is_present (alias_in m))
+
+-- The fact says that the object is owned, and that it has an obligation: the frame owns it, or, in a constructor without an aliased argument, a
+-- field of `this`. (Elsewhere a field may hold what it does not own, such as an aliased argument that a constructor has kept.) A fact whose class
+-- has none counts as not owned.
+abbrev pub claims : Program → Option Method → Origin → Fact → Bool
+claims p m o f = is_heavy_class p o.class && (is_own f.mode || is_held f.mode && makes_alone m)
+
+-- what such a fact says is true of the object: it is finished, it is of the class as far as obligations go, all that must be called on
+-- it is needed by the fact, and all that the fact knows was called
+pub record IsTrueOf (p : Program) (x : Object) (o : Origin) (f : Fact) : Type 0 where
+  pub finished : x.finished ≡ true
+  pub class : fits p x.class o.class ≡ true
+  pub bounded : set.is_subset x.must (must_of p x.class) ≡ true
+  pub need : set.is_subset x.must (need o f) ≡ true
+  pub called : set.is_subset f.called x.called ≡ true
+
+-- each of these places of a frame of the method holds object `o`
+abbrev pub AllHold : Program → HeapContents → MethodId → Locals → ℕ → PlaceSet → Type 0
+AllHold p h m l o held = (z : Place) → IsSmall z → has held z ≡ true → root_of h (place_value p h m l z) ≡ Some o
+
+-- the type of the owning field has an obligation
+abbrev pub is_heavy_in : Program → Option FieldId → Bool
+is_heavy_in p None = false
+is_heavy_in p (Some f) = not (is_empty (must_of_optional p (field_type p f)))
+
+-- the place is that of an owning field of `this` whose type has an obligation
+abbrev pub is_heavy_field : Program → MethodId → Place → Bool
+is_heavy_field p m (place.Field k) = is_heavy_in p (owning_field_beside p m k)
+is_heavy_field p m (place.Var i) = false
+is_heavy_field p m place.This = false
+is_heavy_field p m (place.Temp d) = false
+is_heavy_field p m place.Super = false
+
+-- all that must be called on objects of the class must be called on what the owning field is declared to hold
+abbrev pub fits_in : Program → ClassId → Option FieldId → Bool
+fits_in p c None = false
+fits_in p c (Some f) = fits_type p c (field_type p f)
+
+-- such is the owning field of `this` with this number
+abbrev pub fits_field : Program → MethodId → ℕ → ClassId → Bool
+fits_field p m k c = fits_in p c (owning_field_beside p m k)
+
+-- the origin is a lent parameter of the method, or `this` in a class that has an obligation
+abbrev pub is_lent_kind : Program → Method → OriginKind → Bool
+is_lent_kind p m (kinds.Param k) = is_lent_parameter p (slice_get m.sig.params.items k)
+is_lent_kind p m kinds.ThisRef = is_heavy_class p m.class
+is_lent_kind p m kind = false
+
+abbrev pub is_lent : Program → Option Method → OriginKind → Bool
+is_lent p None kind = false
+is_lent p (Some m) kind = is_lent_kind p m kind
+
+-- the fact is that of a lent parameter, or of `this`, or it says that a field of `this` holds an object that has an obligation
+abbrev pub tells_calls : Program → MethodId → Origin → Fact → Bool
+tells_calls p m o f = is_lent p (method_at p m) o.kind || is_heavy_class p o.class && is_held f.mode
+
+-- ---- what is given to a frame
+
+-- the parameter of index `k` is owning and takes objects of the class, and its argument is object `o`
+abbrev pub is_taken_at : Program → HeapContents → Locals → Action → ℕ → ClassId → ℕ → ParamSig → Bool
+is_taken_at p h l a o c k x = x.owning && fits_type p c (Some x.vtype) && same_root (root_of h (operand_of l a (k + 1))) (Some o)
+
+-- one of the parameters from index `k` on is so
+abbrev pub is_taken_from : Program → HeapContents → Locals → Action → ℕ → ClassId → ℕ → List ParamSig → Bool
+is_taken_from p h l a o c k [] = false
+is_taken_from p h l a o c k (x ∷ xs) = is_taken_at p h l a o c k x || is_taken_from p h l a o c (k + 1) xs
+
+abbrev pub is_taken_by : Program → HeapContents → Locals → Action → ℕ → ClassId → Option Method → Bool
+is_taken_by p h l a o c None = false
+is_taken_by p h l a o c (Some m) = is_taken_from p h l a o c 0 m.sig.params.items
+
+-- the call gives object `o`, of class `c`, to the method that it names
+abbrev pub gives_away : Program → HeapContents → Locals → Action → ℕ → ClassId → Bool
+gives_away p h l a o c = is_taken_by p h l a o c (callee p a)
+
+-- the call at which the frame waits gives the object away
+abbrev pub is_given : Program → HeapContents → Frame → ℕ → ClassId → Bool
+is_given p h fr o c = list_any (λ s. gives_away p h fr.locals s.action o c) (frame_steps p fr)
+
+-- the call that began a frame, where `frs` are the frames below it, gave it the object
+abbrev pub was_given : Program → HeapContents → List Frame → ℕ → ClassId → Bool
+was_given p h [] o c = false
+was_given p h (fr ∷ frs) o c = is_given p h fr o c
+
+-- ---- who owns an object
+
+-- the frame at position `j` owns it, or one above
+abbrev pub is_frame_from : ℕ → Owner → Bool
+is_frame_from j (owners.Frame i) = not (nat_lt i j)
+is_frame_from j (owners.Field w f) = false
+is_frame_from j owners.Library = false
+is_frame_from j owners.Released = false
+is_frame_from j owners.Lost = false
+is_frame_from j owners.Unowned = false
+
+-- a frame below the position `j` owns it
+abbrev pub is_frame_below : ℕ → Owner → Bool
+is_frame_below j (owners.Frame i) = nat_lt i j
+is_frame_below j (owners.Field w f) = false
+is_frame_below j owners.Library = false
+is_frame_below j owners.Released = false
+is_frame_below j owners.Lost = false
+is_frame_below j owners.Unowned = false
+
+-- a field of the object owns it
+abbrev pub is_field_of : Value → Owner → Bool
+is_field_of (values.Object w) owner = is_held_by owner w
+is_field_of v owner = false
+
+-- no frame above the position `n` owns anything
+abbrev pub OwnersBelow : HeapContents → ℕ → Type 0
+OwnersBelow h n = (o : ℕ) (x : Object) → object_at h o ≡ Some x → is_frame_from (n + 1) x.owner ≡ false
+
+-- ---- what is known of an object
+
+-- A field of `this` holds the object: a constructor without an aliased argument has stored it there, or the frame runs no constructor, and
+-- the field owns the object.
+abbrev pub is_content : Program → Frame → Owner → Fact → Bool
+is_content p fr owner f =
+    is_held f.mode && (makes_alone (method_at p fr.method) || not (constructs (method_at p fr.method)) && is_field_of fr.locals.this owner)
+
+-- the frame was not given the object, or a field of `this` holds it, or a frame below owns it
+abbrev pub is_apart : Program → HeapContents → List Frame → Frame → ℕ → Object → Fact → Bool
+is_apart p h frs fr o x f = not (was_given p h frs o x.class) || is_content p fr x.owner f || is_frame_below (length frs + 1) x.owner
+
+-- the fact says that the frame owns the object, and that it has an obligation
+abbrev pub is_owning_fact : Program → Origin → Fact → Bool
+is_owning_fact p o f = is_heavy_class p o.class && is_own f.mode
+
+-- A fact that a path brings to the frame's control stands for object `o`, which is `x`: all places of the fact hold the object. `frs` are the
+-- frames below, and `away` says that the call at which the frame waits gives the object away.
+-- Where the fact says that the object is owned, that is true, unless the frame owned it and it is given away. No frame owns what it claims that a field
+-- holds.
+-- Where the fact is that of a lent parameter, or of `this`, it says never that the frame owns it. What it then knows to be called on a finished
+-- object was called, and also where it says that a field holds it, if the frame was not given the object: then neither this frame
+-- nor one above it owns the object, and it is not given away.
+-- Where its class has an obligation, it is in owning fields alone whose types bound this. Where it is in an owning field whose type has one, it says that
+-- the field holds it.
+pub record Covers (p : Program) (h : HeapContents) (away : Bool) (frs : List Frame) (fr : Frame) (o : ℕ) (x : Object) : Type 0 where
+  pub body : BodyId
+  pub id : body_id p fr.method ≡ Some body
+  pub origin : Origin
+  pub fact : Fact
+  pub reached : Reach p body (relation_of p body) origin fr.control fact
+  pub alone : HasPlacesAlone fact.places
+  pub places : AllHold p h fr.method fr.locals o fact.places
+  pub true' : claims p (method_at p fr.method) origin fact ≡ true → (away && is_own fact.mode) ≡ false → IsTrueOf p x origin fact
+  pub lent : is_lent p (method_at p fr.method) origin.kind ≡ true → (is_own fact.mode ≡ false) × (is_heavy_class p origin.class ≡ true)
+  pub free : claims p (method_at p fr.method) origin fact ≡ true → is_held fact.mode ≡ true → is_frame_from 0 x.owner ≡ false
+  pub known : x.finished ≡ true → tells_calls p fr.method origin fact ≡ true → is_apart p h frs fr o x fact ≡ true
+      → (away ≡ false) × (is_frame_from (length frs + 1) x.owner ≡ false) × (set.is_subset fact.called x.called ≡ true)
+  pub fields : (k : ℕ) → k < 16 → is_heavy_class p origin.class ≡ true → has fact.places (place.Field k) ≡ true → fits_field p fr.method k origin.class ≡ true
+  pub held : (k : ℕ) → k < 16 → has fact.places (place.Field k) ≡ true → is_heavy_field p fr.method (place.Field k) ≡ true
+      → (fact.mode ≡ modes.Held) × (is_heavy_class p origin.class ≡ true)
+
+-- the place, which holds the object, is in a fact that does not say that the frame owns it
+pub record IsUnowned (p : Program) (h : HeapContents) (away : Bool) (frs : List Frame) (fr : Frame) (q : Place) (o : ℕ) (x : Object) : Type 0 where
+  pub covers : Covers p h away frs fr o x
+  pub here : has covers.fact.places q ≡ true
+  pub unowned : is_owning_fact p covers.origin covers.fact ≡ false
+
+-- The fact says that the frame owns the object, which it does unless it is given away, and no other fact says so: each place that holds the
+-- object is in this fact, or in one that does not.
+pub record IsOwned (p : Program) (h : HeapContents) (away : Bool) (frs : List Frame) (fr : Frame) (o : ℕ) (x : Object) (c : Covers p h away frs fr o x) : Type 0 where
+  pub owning : is_owning_fact p c.origin c.fact ≡ true
+  pub owner : away ≡ false → x.owner ≡ owners.Frame (length frs + 1)
+  pub others : (q : Place) → IsSmall q → root_of h (place_value p h fr.method fr.locals q) ≡ Some o → (has c.fact.places q ≡ true) ⊎ IsUnowned p h away frs fr q o x
+
+-- the place is in such a fact
+pub data IsKeyed (p : Program) (h : HeapContents) (away : Bool) (frs : List Frame) (fr : Frame) (q : Place) (o : ℕ) (x : Object) : Type 0 where
+  owned : (c : Covers p h away frs fr o x) → has c.fact.places q ≡ true → IsOwned p h away frs fr o x c → IsKeyed p h away frs fr q o x
+  unowned : IsUnowned p h away frs fr q o x → IsKeyed p h away frs fr q o x
+
+-- each place of the frame that holds an object whose class has an obligation, and that may owe a call, is so. `gives` says which objects
+-- are given away
+abbrev pub IsCovered : Program → HeapContents → (ℕ → ClassId → Bool) → List Frame → Frame → Type 0
+IsCovered p h gives frs fr = (q : Place) (o : ℕ) (x : Object) → IsSmall q → root_of h (place_value p h fr.method fr.locals q) ≡ Some o → object_at h o ≡ Some x
+    → is_heavy_class p x.class ≡ true → may_owe x ≡ true → IsKeyed p h (gives o x.class) frs fr q o x
+
+-- the top frame gives nothing away
+abbrev pub gives_none : ℕ → ClassId → Bool
+gives_none o c = false
+
+-- the frames that wait
+abbrev pub AreWaiting : Program → HeapContents → List Frame → Type 0
+AreWaiting p h [] = Unit {0}
+AreWaiting p h (fr ∷ frs) = IsCovered p h (is_given p h fr) frs fr × AreWaiting p h frs
+
+-- the top frame, those that wait, and no frame above owns anything
+abbrev pub AreCovered : Program → HeapContents → List Frame → Type 0
+AreCovered p h [] = Unit {0}
+AreCovered p h (fr ∷ frs) = IsCovered p h gives_none frs fr × AreWaiting p h frs × OwnersBelow h (length frs + 1)

@@ -1,9 +1,0 @@
-pub mod Setting
-pub use Rattle.flow_rules.specs.Calls
-pub use Rattle.flow_rules.specs.Ends
-pub use Rattle.flow_rules.specs.Flow
-pub use Rattle.flow_rules.specs.Paths
-pub use Rattle.must_call_sets.specs.Assigned
-pub use Rattle.must_call_sets.specs.Bodies
-pub use Rattle.must_call_sets.specs.MustCallSets
-pub use Rattle.must_call_sets.specs.Signatures

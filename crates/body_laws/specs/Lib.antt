@@ -1,1 +1,0 @@
-pub use Rattle.java_statement_laws.specs.CatchParameters

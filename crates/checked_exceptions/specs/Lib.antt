@@ -1,4 +1,0 @@
-pub mod Completions
-pub mod Coverage
-pub mod Exceptions
-pub mod TreeOrder

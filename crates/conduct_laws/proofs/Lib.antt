@@ -1,2 +1,0 @@
-pub mod Conducts
-pub use Rattle.must_call_sets.proofs.InterestLaws

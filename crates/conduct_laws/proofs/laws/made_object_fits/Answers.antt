@@ -1,5 +1,0 @@
-use Rattle.conduct_laws.proofs.Conducts.{made_object_fits}
-use Rattle.conduct_laws.proofs.laws.made_object_fits.Goals as goal
-
-pub returns : goal.returns
-returns c = made_object_fits

@@ -1,9 +1,0 @@
-pub mod Going
-pub use Rattle.agreement.specs.Agreement
-pub use Rattle.agreement.specs.Chains
-pub use Rattle.agreement.specs.PlainForms
-pub use Rattle.agreement.specs.Storing
-pub use Rattle.owned_fact_laws.specs.Outcomes
-pub use Rattle.store_laws.specs.Stores
-pub use Rattle.ledger_frames.specs.Choosing
-pub use Rattle.ledger_frames.specs.Frames

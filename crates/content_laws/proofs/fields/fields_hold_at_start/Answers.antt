@@ -1,5 +1,0 @@
-use Rattle.content_laws.proofs.Runs.{fields_hold_at_start}
-use Rattle.content_laws.proofs.fields.fields_hold_at_start.Goals as goal
-
-pub returns : goal.returns
-returns c = fields_hold_at_start

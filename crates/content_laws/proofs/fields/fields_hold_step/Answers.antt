@@ -1,5 +1,0 @@
-use Rattle.content_laws.proofs.Runs.{fields_hold_step}
-use Rattle.content_laws.proofs.fields.fields_hold_step.Goals as goal
-
-pub returns : goal.returns
-returns c = fields_hold_step

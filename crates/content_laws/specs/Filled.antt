@@ -1,0 +1,24 @@
+-- Where an owning field of the object that a constructor makes holds an object, the constructor has stored it.
+use Rattle.std.specs.Prelude.{◌≡◌, ℕ, true, Some, List, [], ◌∷◌}
+use Rattle.program_model.specs.declared.kinds.BodyId.{BodyId}
+use Rattle.program_model.specs.declared.kinds.FieldId.{FieldId}
+use Rattle.program_model.specs.declared.program.Field.{Field}
+use Rattle.program_model.specs.declared.program.Program.{Program}
+use Rattle.program_model.specs.Lookups.{field_at, method_at}
+use Rattle.must_call_sets.specs.Bodies.{constructs, is_class_of}
+use Rattle.ledger_state.specs.Contents.{HeapContents}
+use Rattle.ledger_state.specs.Fields.{field_value}
+use Rattle.ledger_state.specs.declared.value.Value.TheVariants as values
+use Rattle.covering_laws.specs.Configuration.{Frame}
+use Rattle.covering_laws.specs.Choosing.{body_id}
+use Rattle.covering_laws.specs.Storing.{HasStored}
+
+-- The frame runs no constructor of the class that declares the owning field; or, where the field of `this` holds an object, a path through the body to the
+-- frame's control has stored into an owning field.
+abbrev pub IsFilled : Program → HeapContents → Frame → Type 0
+IsFilled p h fr = (b : BodyId) (w c : ℕ) (f : FieldId) (x : Field) → body_id p fr.method ≡ Some b → constructs (method_at p fr.method) ≡ true → fr.locals.this ≡ values.Object w
+    → field_at p f ≡ Some x → x.owning ≡ true → is_class_of x.class (method_at p fr.method) ≡ true → field_value p h w f ≡ values.Object c → HasStored p b fr.control
+
+abbrev pub AreFilled : Program → HeapContents → List Frame → Type 0
+AreFilled p h [] = Unit {0}
+AreFilled p h (fr ∷ frs) = IsFilled p h fr × AreFilled p h frs

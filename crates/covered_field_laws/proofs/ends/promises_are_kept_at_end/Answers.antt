@@ -1,5 +1,0 @@
-use Rattle.covered_field_laws.proofs.Laws.{promises_are_kept_at_end}
-use Rattle.covered_field_laws.proofs.ends.promises_are_kept_at_end.Goals as goal
-
-pub returns : goal.returns
-returns c = promises_are_kept_at_end

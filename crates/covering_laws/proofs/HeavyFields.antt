@@ -1,0 +1,192 @@
+-- What an owning field of `this` holds in a frame that has a place for the field.
+use Rattle.std.proofs.Common.{◌≡◌, ◌⊎◌, inl, inr, ℕ, ◌<◌, Bool, true, false, not, ◌&&◌, ◌||◌, ◌+◌, Option, Some, None, List, length, refl, sym, ap, ◌∙◌, true≢false, eqb-true}
+use Rattle.std.proofs.lemmas.Bool.{and_parts, not-true, or_left, or_right}
+use Rattle.rlc_base.proofs.SetLaws.{within_trans}
+use Rattle.program_model.specs.declared.kinds.ClassId.{ClassId}
+use Rattle.program_model.specs.declared.kinds.FieldId.{FieldId}
+use Rattle.program_model.specs.declared.kinds.MethodId.{MethodId}
+use Rattle.program_model.specs.declared.program.Field.{Field}
+use Rattle.program_model.specs.declared.program.Method.{Method}
+use Rattle.program_model.specs.declared.program.Program.{Program}
+use Rattle.program_model.specs.Lookups.{field_at, method_at}
+use Rattle.program_model.specs.SuperTests.{is_class}
+use Rattle.ledger_obligations.specs.Bodies.{alias_in, constructs, has_field_place, is_class_of, is_field_in, method_of}
+use Rattle.ledger_obligations.specs.MustCallSets.{fits_type, is_empty, is_heavy_class, must_of, must_of_optional, no_names}
+use Rattle.ownership_rules.specs.Signatures.{field_type}
+use Rattle.java_control.specs.Owned.{field_number, place_of_field}
+use Rattle.java_control.specs.declared.fact.Fact.{Fact}
+use Rattle.java_control.specs.declared.fact.Mode.{Mode}
+use Rattle.java_control.specs.declared.fact.Mode.TheVariants as modes
+use Rattle.java_control.specs.declared.fact.Origin.{Origin}
+use Rattle.java_control.specs.declared.place.Place.{Place}
+use Rattle.java_control.specs.declared.place.Place.TheVariants as places
+use Rattle.ownership_rules.specs.Facts.{has, is_held, is_own}
+use Rattle.value_laws.specs.Accept.{Accept}
+use Rattle.ledger_state.specs.Contents.{HeapContents}
+use Rattle.ledger_state.specs.Fields.{field_of, field_value}
+use Rattle.ledger_state.specs.Heaps.{root_of}
+use Rattle.ledger_state.specs.declared.object.Object.{Object}
+use Rattle.ledger_state.specs.declared.value.Value.{Value}
+use Rattle.ledger_state.specs.declared.value.Value.TheVariants as values
+use Rattle.value_laws.specs.Places.{field_place_value, owning_field_beside, place_value}
+use Rattle.value_laws.specs.Configuration.{Frame}
+use Rattle.value_laws.specs.Agreement.{Stands}
+use Rattle.value_laws.specs.PlaceFacts.{Covers, IsCovered, IsKeyed, claims, fits_field, fits_in, gives_none, is_apart, is_content, is_field_of, is_frame_below, is_heavy_field, is_heavy_in, is_lent, is_owning_fact, makes_alone, owned, tells_calls, unowned, was_given}
+use Rattle.value_laws.proofs.FieldPlaces.{beside_of_place}
+use Rattle.covering_laws.specs.Covering.{HoldsHeavy, IsNotGiven}
+use Rattle.covering_laws.proofs.Following.{method_here}
+
+same_class : (c d : ClassId) → is_class c d ≡ true → c ≡ d
+same_class c d is = ap (λ (n : ℕ). (let z : ClassId = record { 0 = n } in z)) (eqb-true c.0 d.0 is)
+
+-- the field that has a place in the frame
+pub record HasPlace (p : Program) (fr : Frame) (f : FieldId) : Type 0 where
+  pub field : Field
+  pub at : field_at p f ≡ Some field
+  pub owning : field.owning ≡ true
+  pub method : Method
+  pub named : method_at p fr.method ≡ Some method
+  pub class : field.class ≡ method.class
+  pub small : field_number p f < 16
+  pub beside : owning_field_beside p fr.method (field_number p f) ≡ Some f
+
+module _ (p : Program) (ac : Accept p) (fr : Frame) (st : Stands p fr) (f : FieldId) where
+  pub has_place_here : has_field_place p st.number f ≡ true → HasPlace p fr f
+  has_place_here has = by (field_at p f) refl (sym (ap (is_field_in p st.number) refl) ∙ has)
+    where
+      small : field_number p f < 16
+      small = (ac.fits st.number).room.fields f has
+
+      of_method : (x : Field) → field_at p f ≡ Some x → x.owning ≡ true → (m : Option Method) → method_at p fr.method ≡ m → is_class_of x.class m ≡ true → HasPlace p fr f
+      of_method x at own None named is = absurd (true≢false (sym is))
+      of_method x at own (Some m) named is =
+          let class : x.class ≡ m.class = same_class x.class m.class is in
+          record { field = x; at = at; owning = own; method = m; named = named; class = class; small = small; beside = beside_of_place p ac.well_formed.valid.typed fr.method m f x named at own class small }
+
+      by : (x : Option Field) → field_at p f ≡ x → is_field_in p st.number x ≡ true → HasPlace p fr f
+      by None at is = absurd (true≢false (sym is))
+      by (Some x) at is =
+          let parts = and_parts x.owning (is_class_of x.class (method_of p st.number)) is in
+          of_method x at parts.0 (method_at p fr.method) refl (ap (is_class_of x.class) (sym (method_here p fr st)) ∙ parts.1)
+
+-- the fact of a place that is covered
+pub covered_at : (p : Program) (h : HeapContents) (away : Bool) (frs : List Frame) (fr : Frame) (q : Place) (o : ℕ) (x : Object) → IsKeyed p h away frs fr q o x → (c : Covers p h away frs fr o x) × (has c.fact.places q ≡ true)
+covered_at p h away frs fr q o x (owned c here key) = (c, here)
+covered_at p h away frs fr q o x (unowned u) = (u.covers, u.here)
+
+module _ (p : Program) (h : HeapContents) (fr : Frame) (f : FieldId) (here : HasPlace p fr f) where
+  pub value_here : (w : ℕ) → fr.locals.this ≡ values.Object w → place_value p h fr.method fr.locals (place_of_field p f) ≡ field_value p h w f
+  value_here w this = ap (field_place_value p h fr.locals.this) here.beside ∙ ap (λ (v : Value). field_of p h v f) this
+
+  pub heavy_here : is_heavy_in p (Some f) ≡ true → is_heavy_field p fr.method (place_of_field p f) ≡ true
+  heavy_here heavy = ap (is_heavy_in p) here.beside ∙ heavy
+
+  pub covers_field : (frs : List Frame) → IsCovered p h gives_none frs fr → (w o : ℕ) (x : Object) → HoldsHeavy p h fr w f o x → (c : Covers p h false frs fr o x) × (has c.fact.places (place_of_field p f) ≡ true)
+  covers_field frs covered w o x holds = covered_at p h false frs fr (place_of_field p f) o x
+      (covered (place_of_field p f) o x here.small (ap (root_of h) (value_here w holds.this) ∙ holds.held) holds.at holds.class holds.owes)
+
+-- in a constructor without an aliased argument a fact that says that a field holds the object claims it
+pub held_claims : (p : Program) (m : Option Method) (o : Origin) (g : Fact) → makes_alone m ≡ true → g.mode ≡ modes.Held → is_heavy_class p o.class ≡ true → claims p m o g ≡ true
+held_claims p m o g alone held heavy = rw (heavy, held, alone) refl
+
+pub own_claims : (p : Program) (m : Option Method) (o : Origin) (g : Fact) → g.mode ≡ modes.Own → is_heavy_class p o.class ≡ true → claims p m o g ≡ true
+own_claims p m o g own heavy = rw (heavy, own) refl
+
+-- what such a fact knows was called
+pub held_tells : (p : Program) (m : MethodId) (o : Origin) (g : Fact) → g.mode ≡ modes.Held → is_heavy_class p o.class ≡ true → tells_calls p m o g ≡ true
+held_tells p m o g held heavy = or_right (is_lent p (method_at p m) o.kind) (is_heavy_class p o.class && is_held g.mode) (rw (heavy, held) refl)
+
+-- a constructor without an aliased argument
+pub makes_alone_by : (m : Option Method) → constructs m ≡ true → alias_in m ≡ None → makes_alone m ≡ true
+makes_alone_by m makes none = rw (makes, none) refl
+
+-- the type of a field that bounds a class with an obligation has one
+pub heavy_by_fit : (p : Program) (c : ClassId) (f : FieldId) → is_heavy_class p c ≡ true → fits_type p c (field_type p f) ≡ true → is_heavy_in p (Some f) ≡ true
+heavy_by_fit p c f heavy fit = go (is_empty (must_of_optional p (field_type p f))) refl
+  where
+    go : (b : Bool) → is_empty (must_of_optional p (field_type p f)) ≡ b → not b ≡ true
+    go true none = absurd (true≢false (sym (within_trans (must_of p c) (must_of_optional p (field_type p f)) no_names fit none) ∙ not-true (is_empty (must_of p c)) heavy))
+    go false some = refl
+
+pub heavy_by_place : (p : Program) (m : MethodId) (k : ℕ) (c : ClassId) → is_heavy_class p c ≡ true → fits_field p m k c ≡ true → is_heavy_field p m (places.Field k) ≡ true
+heavy_by_place p m k c heavy fit = go (owning_field_beside p m k) fit
+  where
+    go : (x : Option FieldId) → fits_in p c x ≡ true → is_heavy_in p x ≡ true
+    go None none = absurd (true≢false (sym none))
+    go (Some f) fits = heavy_by_fit p c f heavy fits
+
+-- ---- what a fact tells
+
+either : (a b : Bool) → (a || b) ≡ true → (a ≡ true) ⊎ (b ≡ true)
+either true b is = inl refl
+either false b is = inr is
+
+-- it is that of what is lent, or it says that a field holds the object
+pub tells_by : (p : Program) (m : MethodId) (o : Origin) (f : Fact) → tells_calls p m o f ≡ true → (is_lent p (method_at p m) o.kind ≡ true) ⊎ ((is_heavy_class p o.class ≡ true) × (is_held f.mode ≡ true))
+tells_by p m o f tells = elim (either (is_lent p (method_at p m) o.kind) (is_heavy_class p o.class && is_held f.mode) tells) [
+  | inl lent ↦ inl lent
+  | inr held ↦ inr (and_parts (is_heavy_class p o.class) (is_held f.mode) held)
+]
+
+pub lent_tells : (p : Program) (m : MethodId) (o : Origin) (f : Fact) → is_lent p (method_at p m) o.kind ≡ true → tells_calls p m o f ≡ true
+lent_tells p m o f lent = or_left (is_lent p (method_at p m) o.kind) (is_heavy_class p o.class && is_held f.mode) lent
+
+-- a fact claims only where it says that the object is owned
+pub claims_owned : (p : Program) (m : Option Method) (o : Origin) (f : Fact) → claims p m o f ≡ true → (is_heavy_class p o.class ≡ true) × ((is_own f.mode || is_held f.mode) ≡ true)
+claims_owned p m o f claimed =
+    let parts = and_parts (is_heavy_class p o.class) (is_own f.mode || is_held f.mode && makes_alone m) claimed in
+    (parts.0, go (is_own f.mode) (is_held f.mode) (makes_alone m) parts.1)
+  where
+    go : (a b c : Bool) → (a || b && c) ≡ true → (a || b) ≡ true
+    go true b c is = refl
+    go false true c is = refl
+    go false false c is = is
+
+-- and it claims as a fact in the same mode does
+pub claims_as : (p : Program) (m : Option Method) (o : Origin) (f g : Fact) → g.mode ≡ f.mode → claims p m o g ≡ true → claims p m o f ≡ true
+claims_as p m o f g same claimed = sym (ap (λ (u : Mode). is_heavy_class p o.class && (is_own u || is_held u && makes_alone m)) same) ∙ claimed
+
+-- a fact that says that a field holds the object claims in a constructor without an aliased argument alone
+pub claims_alone : (p : Program) (m : Option Method) (o : Origin) (f : Fact) → f.mode ≡ modes.Held → claims p m o f ≡ true → makes_alone m ≡ true
+claims_alone p m o f held claimed =
+    sym (ap (λ (u : Mode). is_own u || is_held u && makes_alone m) held) ∙ (and_parts (is_heavy_class p o.class) (is_own f.mode || is_held f.mode && makes_alone m) claimed).1
+
+pub held_mode : (m : Mode) → is_held m ≡ true → m ≡ modes.Held
+held_mode modes.Own is = absurd (true≢false (sym is))
+held_mode modes.None is = absurd (true≢false (sym is))
+held_mode modes.Held is = refl
+held_mode modes.Lent is = absurd (true≢false (sym is))
+held_mode modes.Alias is = absurd (true≢false (sym is))
+
+-- ---- the frame owns the object
+
+pub owning_claims : (p : Program) (m : Option Method) (o : Origin) (f : Fact) → is_owning_fact p o f ≡ true → claims p m o f ≡ true
+owning_claims p m o f owning = let parts = and_parts (is_heavy_class p o.class) (is_own f.mode) owning in rw (parts.0, parts.1) refl
+
+-- such a fact has no place of an owning field
+pub owning_in_no_field : (p : Program) (h : HeapContents) (away : Bool) (frs : List Frame) (fr : Frame) (o : ℕ) (x : Object) (c : Covers p h away frs fr o x) → is_owning_fact p c.origin c.fact ≡ true
+    → (k : ℕ) → k < 16 → has c.fact.places (places.Field k) ≡ true → ⊥
+owning_in_no_field p h away frs fr o x c owning k inside there =
+    let parts = and_parts (is_heavy_class p c.origin.class) (is_own c.fact.mode) owning in
+    let held = c.held k inside there (heavy_by_place p fr.method k c.origin.class parts.0 (c.fields k inside parts.0 there)) in
+    true≢false (sym parts.1 ∙ ap is_own held.0)
+
+-- ---- what the frame was not given
+
+pub apart_where : (p : Program) (h : HeapContents) (frs : List Frame) (fr : Frame) (o : ℕ) (x : Object) (f : Fact) → was_given p h frs o x.class ≡ false → is_apart p h frs fr o x f ≡ true
+apart_where p h frs fr o x f none = rw none refl
+
+-- what a constructor without an aliased argument has stored in a field of `this`
+pub apart_alone : (p : Program) (h : HeapContents) (frs : List Frame) (fr : Frame) (o : ℕ) (x : Object) (f : Fact) → f.mode ≡ modes.Held → makes_alone (method_at p fr.method) ≡ true → is_apart p h frs fr o x f ≡ true
+apart_alone p h frs fr o x f held alone =
+    or_left (not (was_given p h frs o x.class) || is_content p fr x.owner f) (is_frame_below (length frs + 1) x.owner) (or_right (not (was_given p h frs o x.class)) (is_content p fr x.owner f) (rw (held, alone) refl))
+
+-- what a frame below owns
+pub apart_low : (p : Program) (h : HeapContents) (frs : List Frame) (fr : Frame) (o : ℕ) (x : Object) (f : Fact) → is_frame_below (length frs + 1) x.owner ≡ true → is_apart p h frs fr o x f ≡ true
+apart_low p h frs fr o x f low = or_right (not (was_given p h frs o x.class) || is_content p fr x.owner f) (is_frame_below (length frs + 1) x.owner) low
+
+pub apart_held : (p : Program) (h : HeapContents) (frs : List Frame) (fr : Frame) (o : ℕ) (x : Object) (f : Fact) → f.mode ≡ modes.Held → IsNotGiven p h frs fr o x → is_apart p h frs fr o x f ≡ true
+apart_held p h frs fr o x f held (inl none) = apart_where p h frs fr o x f none
+apart_held p h frs fr o x f held (inr (inl low)) = apart_low p h frs fr o x f low
+apart_held p h frs fr o x f held (inr (inr (no_constructor, own))) =
+    or_left (not (was_given p h frs o x.class) || is_content p fr x.owner f) (is_frame_below (length frs + 1) x.owner) (or_right (not (was_given p h frs o x.class)) (is_content p fr x.owner f) (rw held (or_right (makes_alone (method_at p fr.method)) (not (constructs (method_at p fr.method)) && is_field_of fr.locals.this x.owner) (rw (no_constructor, own) refl))))

@@ -1,0 +1,253 @@
+-- Who owns objects as a step goes, and what the frames were given.
+use Rattle.std.specs.Prelude.{nat_lt}
+use Rattle.std.proofs.Common.{◌≡◌, ℕ, ◌+◌, ◌<◌, ◌≤◌, Bool, true, false, not, ◌&&◌, ◌||◌, Option, Some, None, List, [], ◌∷◌, length, lt-ltb, ltb-true, refl, sym, ap, ◌∙◌, true≢false, arith}
+use Rattle.std.proofs.lemmas.Bool.{and_from, and_parts, or_left, or_right}
+use Rattle.std.proofs.lemmas.Bool.Decides.{nat_tests}
+use Rattle.program_model.specs.declared.kinds.ClassId.{ClassId}
+use Rattle.program_model.specs.declared.program.Program.{Program}
+use Rattle.program_model.specs.Lookups.{method_at}
+use Rattle.ledger_obligations.specs.Bodies.{constructs}
+use Rattle.ledger_obligations.specs.MustCallSets.{is_heavy_class}
+use Rattle.java_control.specs.PlaceNumbers.{IsSmall}
+use Rattle.java_control.specs.declared.fact.Fact.{Fact}
+use Rattle.java_control.specs.declared.place.Place.{Place}
+use Rattle.java_control.specs.declared.place.Place.TheVariants as places
+use Rattle.ownership_rules.specs.Facts.{is_held}
+use Rattle.ledger_state.specs.Contents.{HeapContents}
+use Rattle.ledger_state.specs.Heaps.{object_at, root_of}
+use Rattle.ledger_state.specs.declared.entry.Owner.{Owner}
+use Rattle.ledger_state.specs.declared.entry.Owner.TheVariants as owners
+use Rattle.ledger_state.specs.declared.object.Object.{Object}
+use Rattle.ledger_state.specs.declared.value.Value.{Value}
+use Rattle.ledger_state.specs.declared.value.Value.TheVariants as values
+use Rattle.ledger_obligations.specs.Obligations.{is_held_by}
+use Rattle.value_laws.specs.Places.{place_value}
+use Rattle.value_laws.specs.Configuration.{Frame}
+use Rattle.value_laws.specs.FieldContents.{RunOnOthers}
+use Rattle.value_laws.specs.PlaceFacts.{is_apart, is_content, is_field_of, is_frame_below, is_frame_from, is_given, makes_alone, was_given}
+
+-- ---- the owner of an object, before a step and after it
+
+-- The owner stays. Or it was a frame at position `j` or above, and where a field owns the object then, it is one of object `into`. Or it was no frame,
+-- and then neither a frame nor a field owns the object, or a field of `into` does.
+pub data OwnerGoes (into : Option ℕ) (j : ℕ) (a b : Owner) : Type 0 where
+  stays : b ≡ a → OwnerGoes into j a b
+  passed : is_frame_from j a ≡ true → ((w : ℕ) → is_held_by b w ≡ true → into ≡ Some w) → ((n : ℕ) → b ≡ owners.Frame n → j ≤ n) → OwnerGoes into j a b
+  left : is_frame_from 0 a ≡ false → is_frame_from 0 b ≡ false → ((w : ℕ) → is_held_by b w ≡ false) → OwnerGoes into j a b
+  taken : is_frame_from 0 a ≡ false → is_frame_from 0 b ≡ false → ((w : ℕ) → is_held_by b w ≡ true → into ≡ Some w) → OwnerGoes into j a b
+
+-- so do the owners of all finished objects whose class has an obligation
+abbrev pub OwnersGo : Program → Option ℕ → ℕ → HeapContents → HeapContents → Type 0
+OwnersGo p into j h k = (o : ℕ) (x y : Object) → object_at h o ≡ Some x → object_at k o ≡ Some y → x.finished ≡ true → is_heavy_class p x.class ≡ true → OwnerGoes into j x.owner y.owner
+
+-- ---- what frames own
+
+abbrev pub is_field_place : Place → Bool
+is_field_place (places.Field n) = true
+is_field_place (places.Var i) = false
+is_field_place places.This = false
+is_field_place (places.Temp d) = false
+is_field_place places.Super = false
+
+-- what is not owned by the frame at position `i` or one above does not come to be, nor does what no frame owns, nor does a field of `this`, in a frame
+-- that runs no constructor, come to own anything
+pub record StaysApart (p : Program) (h k : HeapContents) (i : ℕ) (fr : Frame) : Type 0 where
+  pub apart : (o : ℕ) (x y : Object) → object_at h o ≡ Some x → object_at k o ≡ Some y → x.finished ≡ true → is_heavy_class p x.class ≡ true → is_frame_from i x.owner ≡ false → is_frame_from i y.owner ≡ false
+  pub free : (o : ℕ) (x y : Object) → object_at h o ≡ Some x → object_at k o ≡ Some y → x.finished ≡ true → is_heavy_class p x.class ≡ true → is_frame_from 0 x.owner ≡ false → is_frame_from 0 y.owner ≡ false
+  pub content : (o : ℕ) (x y : Object) → object_at h o ≡ Some x → object_at k o ≡ Some y → x.finished ≡ true → is_heavy_class p x.class ≡ true → constructs (method_at p fr.method) ≡ false
+      → is_field_of fr.locals.this y.owner ≡ true → is_field_of fr.locals.this x.owner ≡ true
+  pub low : (o : ℕ) (x y : Object) → object_at h o ≡ Some x → object_at k o ≡ Some y → x.finished ≡ true → is_heavy_class p x.class ≡ true → is_frame_below i y.owner ≡ true → is_frame_below i x.owner ≡ true
+
+-- what the frame at this position owns, and a variable, a temp or `this` of it holds, it goes on owning, where it is not given away
+abbrev pub KeepsOwn : Program → HeapContents → HeapContents → (ℕ → ClassId → Bool) → ℕ → Frame → Type 0
+KeepsOwn p h k gives i fr = (q : Place) (o : ℕ) (x y : Object) → IsSmall q → is_field_place q ≡ false → root_of h (place_value p h fr.method fr.locals q) ≡ Some o → object_at h o ≡ Some x → object_at k o ≡ Some y
+    → x.finished ≡ true → is_heavy_class p x.class ≡ true → gives o x.class ≡ false → x.owner ≡ owners.Frame i → y.owner ≡ owners.Frame i
+
+pub record KeepsOwners (p : Program) (h k : HeapContents) (gives : ℕ → ClassId → Bool) (i : ℕ) (fr : Frame) : Type 0 where
+  pub own : KeepsOwn p h k gives i fr
+  pub others : StaysApart p h k i fr
+
+abbrev pub AllKeepOwners : Program → HeapContents → HeapContents → List Frame → Type 0
+AllKeepOwners p h k [] = Unit {0}
+AllKeepOwners p h k (fr ∷ frs) = KeepsOwners p h k (is_given p h fr) (length frs + 1) fr × AllKeepOwners p h k frs
+
+-- ---- positions of frames
+
+frame_from : (j i : ℕ) → is_frame_from j (owners.Frame i) ≡ true → j ≤ i
+frame_from j i is = go (nat_lt i j) refl is
+  where
+    go : (b : Bool) → nat_lt i j ≡ b → not b ≡ true → j ≤ i
+    go true e one = absurd (true≢false (sym one))
+    go false e one = grind (arith, nat_tests, e)
+
+pub from_frame : (j i : ℕ) → j ≤ i → is_frame_from j (owners.Frame i) ≡ true
+from_frame j i above = go (nat_lt i j) refl
+  where
+    go : (b : Bool) → nat_lt i j ≡ b → not b ≡ true
+    go true e = absurd (grind (arith, nat_tests, e, above))
+    go false e = refl
+
+-- what a frame from a position on owns, one from a lower position on does
+pub frame_from_lower : (i j : ℕ) (a : Owner) → i ≤ j → is_frame_from j a ≡ true → is_frame_from i a ≡ true
+frame_from_lower i j (owners.Frame n) below is = let above = frame_from j n is in from_frame i n (omega (arith, above, below))
+frame_from_lower i j (owners.Field w f) below is = absurd (true≢false (sym is))
+frame_from_lower i j owners.Library below is = absurd (true≢false (sym is))
+frame_from_lower i j owners.Released below is = absurd (true≢false (sym is))
+frame_from_lower i j owners.Lost below is = absurd (true≢false (sym is))
+frame_from_lower i j owners.Unowned below is = absurd (true≢false (sym is))
+
+pub no_frame_from : (i j : ℕ) (a : Owner) → i ≤ j → is_frame_from i a ≡ false → is_frame_from j a ≡ false
+no_frame_from i j a below none = go (is_frame_from j a) refl
+  where
+    go : (b : Bool) → is_frame_from j a ≡ b → is_frame_from j a ≡ false
+    go true is = absurd (true≢false (sym (frame_from_lower i j a below is) ∙ none))
+    go false is = is
+
+-- what a frame owns is not owned by one above
+pub owned_below : (i j : ℕ) (a : Owner) → a ≡ owners.Frame i → i < j → is_frame_from j a ≡ true → ⊥
+owned_below i j a own below is = let above = frame_from j i (ap (is_frame_from j) (sym own) ∙ is) in omega (arith, above, below)
+
+-- a frame below a position
+frame_below : (i : ℕ) (a : Owner) → is_frame_below i a ≡ true → (n : ℕ) × (a ≡ owners.Frame n) × (n < i)
+frame_below i (owners.Frame n) is = (n, refl, ltb-true n i is)
+frame_below i (owners.Field w f) is = absurd (true≢false (sym is))
+frame_below i owners.Library is = absurd (true≢false (sym is))
+frame_below i owners.Released is = absurd (true≢false (sym is))
+frame_below i owners.Lost is = absurd (true≢false (sym is))
+frame_below i owners.Unowned is = absurd (true≢false (sym is))
+
+-- ---- the frames below the position from which owners change
+
+-- no frame of these runs on that object
+abbrev pub RunsNoneOn : Option ℕ → List Frame → Type 0
+RunsNoneOn None frs = Unit {0}
+RunsNoneOn (Some w) frs = RunOnOthers w frs
+
+abbrev pub IsNotInto : Option ℕ → Value → Type 0
+IsNotInto into v = (w : ℕ) → into ≡ Some w → v ≡ values.Object w → ⊥
+
+none_on : (into : Option ℕ) (fr : Frame) (frs : List Frame) → RunsNoneOn into (fr ∷ frs) → IsNotInto into fr.locals.this × RunsNoneOn into frs
+none_on None fr frs others = ((λ w is this. (let never : None ≡ Some w = is in cc)), tt)
+none_on (Some u) fr frs others = ((λ w is this. others.0 (this ∙ ap values.Object (let both : Some u ≡ Some w = is in (let one : w ≡ u = cc in one)))), others.1)
+
+module _ (p : Program) (into : Option ℕ) (j : ℕ) (h k : HeapContents) (go_on : OwnersGo p into j h k) where
+  -- what no frame from a position on owns stays so
+  apart_by : (i : ℕ) (a b : Owner) → i ≤ j → OwnerGoes into j a b → is_frame_from i a ≡ false → is_frame_from i b ≡ false
+  apart_by i a b below (stays same) none = ap (is_frame_from i) same ∙ none
+  apart_by i a b below (passed from goes low) none = absurd (true≢false (sym (frame_from_lower i j a below from) ∙ none))
+  apart_by i a b below (left none' then' fields) none = no_frame_from 0 i b (omega arith) then'
+  apart_by i a b below (taken none' then' fields) none = no_frame_from 0 i b (omega arith) then'
+
+  module _ (i : ℕ) (fr : Frame) (below : i ≤ j) where
+    apart_here : (n : ℕ) → n ≤ i → (o : ℕ) (x y : Object) → object_at h o ≡ Some x → object_at k o ≡ Some y → x.finished ≡ true → is_heavy_class p x.class ≡ true → is_frame_from n x.owner ≡ false → is_frame_from n y.owner ≡ false
+    apart_here n under o x y before at done heavy none = apart_by n x.owner y.owner (omega (arith, below, under)) (go_on o x y before at done heavy) none
+
+    -- what a frame below owns it owned
+    low_here : (o : ℕ) (x y : Object) → object_at h o ≡ Some x → object_at k o ≡ Some y → x.finished ≡ true → is_heavy_class p x.class ≡ true → is_frame_below i y.owner ≡ true → is_frame_below i x.owner ≡ true
+    low_here o x y before at done heavy low = by x.owner y.owner (go_on o x y before at done heavy) (frame_below i y.owner low)
+      where
+        by : (a b : Owner) → OwnerGoes into j a b → (n : ℕ) × (b ≡ owners.Frame n) × (n < i) → is_frame_below i a ≡ true
+        by a b (stays same) (n, is, less) = ap (is_frame_below i) (sym same ∙ is) ∙ lt-ltb n i less
+        by a b (passed from goes low') (n, is, less) = absurd (let high = low' n is in omega (arith, below, high, less))
+        by a b (left none then' fields) (n, is, less) = absurd (true≢false (sym (ap (is_frame_from 0) is ∙ from_frame 0 n (omega arith)) ∙ then'))
+        by a b (taken none then' fields) (n, is, less) = absurd (true≢false (sym (ap (is_frame_from 0) is ∙ from_frame 0 n (omega arith)) ∙ then'))
+
+    -- a frame at this position or below
+    pub stays_apart : IsNotInto into fr.locals.this → StaysApart p h k i fr
+    stays_apart other = record {
+      apart = apart_here i (omega arith);
+      free = apart_here 0 (omega arith);
+      low = low_here;
+      content = λ o x y before at done heavy plain own. content_by fr.locals.this refl x.owner y.owner (go_on o x y before at done heavy) own;
+    }
+      where
+        content_by : (v : Value) → fr.locals.this ≡ v → (a b : Owner) → OwnerGoes into j a b → is_field_of v b ≡ true → is_field_of v a ≡ true
+        content_by (values.Object w) this a b (stays same) own = ap (λ (u : Owner). is_held_by u w) (sym same) ∙ own
+        content_by (values.Object w) this a b (passed from goes low) own = absurd (other w (goes w own) this)
+        content_by (values.Object w) this a b (left none then' fields) own = absurd (true≢false (sym own ∙ fields w))
+        content_by (values.Object w) this a b (taken none then' goes) own = absurd (other w (goes w own) this)
+        content_by values.Nothing this a b goes own = absurd (true≢false (sym own))
+        content_by v this a b goes own = absurd (true≢false (sym own))
+
+    -- so does one that runs a constructor
+    pub constructor_apart : constructs (method_at p fr.method) ≡ true → StaysApart p h k i fr
+    constructor_apart makes = record {
+      apart = apart_here i (omega arith);
+      free = apart_here 0 (omega arith);
+      low = low_here;
+      content = λ o x y before at done heavy plain own. absurd (true≢false (sym makes ∙ plain));
+    }
+
+  -- a frame below it keeps what it owns
+  pub keeps_own : (gives : ℕ → ClassId → Bool) (i : ℕ) (fr : Frame) → i < j → KeepsOwn p h k gives i fr
+  keeps_own gives i fr below q o x y small part root before at done heavy spared own = by x.owner y.owner (go_on o x y before at done heavy) own
+    where
+      by : (a b : Owner) → OwnerGoes into j a b → a ≡ owners.Frame i → b ≡ owners.Frame i
+      by a b (stays same) mine = same ∙ mine
+      by a b (passed from goes low) mine = absurd (owned_below i j a mine below from)
+      by a b (left none then' fields) mine = absurd (true≢false (sym (ap (is_frame_from 0) mine ∙ from_frame 0 i (omega arith)) ∙ none))
+      by a b (taken none then' fields) mine = absurd (true≢false (sym (ap (is_frame_from 0) mine ∙ from_frame 0 i (omega arith)) ∙ none))
+
+  pub owners_kept : (frs : List Frame) → length frs < j → RunsNoneOn into frs → AllKeepOwners p h k frs
+  owners_kept [] below others = tt
+  owners_kept (fr ∷ frs) below others =
+      let rest = none_on into fr frs others in (
+        record { own = keeps_own (is_given p h fr) (length frs + 1) fr (omega (arith, below)); others = stays_apart (length frs + 1) fr (omega (arith, below)) rest.0 },
+        owners_kept frs (omega (arith, below)) rest.1,
+      )
+
+-- ---- what frames were given
+
+-- the call at which the frame waits gives away what it gave
+abbrev pub KeepsGifts : Program → HeapContents → HeapContents → Frame → Type 0
+KeepsGifts p h k fr = (o : ℕ) (c : ClassId) → is_given p k fr o c ≡ is_given p h fr o c
+
+abbrev pub AllKeepGifts : Program → HeapContents → HeapContents → List Frame → Type 0
+AllKeepGifts p h k [] = Unit {0}
+AllKeepGifts p h k (fr ∷ frs) = KeepsGifts p h k fr × AllKeepGifts p h k frs
+
+-- a frame above these was given what it was given
+abbrev pub KeepsGiven : Program → HeapContents → HeapContents → List Frame → Type 0
+KeepsGiven p h k frs = (o : ℕ) (c : ClassId) → was_given p k frs o c ≡ was_given p h frs o c
+
+pub given_kept : (p : Program) (h k : HeapContents) (frs : List Frame) → AllKeepGifts p h k frs → KeepsGiven p h k frs
+given_kept p h k [] gifts o c = refl
+given_kept p h k (fr ∷ frs) gifts o c = gifts.0 o c
+
+-- what is held apart after a step was before it
+pub apart_before : (p : Program) (h k : HeapContents) (frs : List Frame) (fr : Frame) (o : ℕ) (x y : Object) (f g : Fact) → KeepsGiven p h k frs → y.class ≡ x.class → (is_held g.mode ≡ true → is_held f.mode ≡ true)
+    → (constructs (method_at p fr.method) ≡ false → is_field_of fr.locals.this y.owner ≡ true → is_field_of fr.locals.this x.owner ≡ true)
+    → (is_frame_below (length frs + 1) y.owner ≡ true → is_frame_below (length frs + 1) x.owner ≡ true) → is_apart p k frs fr o y g ≡ true → is_apart p h frs fr o x f ≡ true
+apart_before p h k frs fr o x y f g gifts class held content low is = split (is_frame_below (length frs + 1) y.owner) refl is
+  where
+    same : was_given p k frs o y.class ≡ was_given p h frs o x.class
+    same = gifts o y.class ∙ ap (was_given p h frs o) class
+
+    owned : (b : Bool) → constructs (method_at p fr.method) ≡ b → (not b && is_field_of fr.locals.this y.owner) ≡ true → (not b && is_field_of fr.locals.this x.owner) ≡ true
+    owned true makes one = one
+    owned false makes one = content makes one
+
+    either : (a b d : Bool) → (b ≡ true → d ≡ true) → (a || b) ≡ true → (a || d) ≡ true
+    either true b d more one = refl
+    either false b d more one = more one
+
+    before : is_content p fr y.owner g ≡ true → is_content p fr x.owner f ≡ true
+    before one =
+        let parts = and_parts (is_held g.mode) (makes_alone (method_at p fr.method) || not (constructs (method_at p fr.method)) && is_field_of fr.locals.this y.owner) one in
+        and_from (is_held f.mode) (makes_alone (method_at p fr.method) || not (constructs (method_at p fr.method)) && is_field_of fr.locals.this x.owner) (held parts.0)
+        (either (makes_alone (method_at p fr.method)) (not (constructs (method_at p fr.method)) && is_field_of fr.locals.this y.owner) (not (constructs (method_at p fr.method)) && is_field_of fr.locals.this x.owner)
+        (owned (constructs (method_at p fr.method)) refl) parts.1)
+
+    not_given : (b : Bool) → was_given p h frs o x.class ≡ b → (not (was_given p k frs o y.class) || is_content p fr y.owner g) ≡ true → (not (was_given p h frs o x.class) || is_content p fr x.owner f) ≡ true
+    not_given false none one = or_left (not (was_given p h frs o x.class)) (is_content p fr x.owner f) (ap not none)
+    not_given true some one =
+        or_right (not (was_given p h frs o x.class)) (is_content p fr x.owner f) (before (sym (ap (λ (b : Bool). not b || is_content p fr y.owner g) (same ∙ some)) ∙ one))
+
+    first : (a b : Bool) → b ≡ false → (a || b) ≡ true → a ≡ true
+    first true b off one = refl
+    first false b off one = absurd (true≢false (sym one ∙ off))
+
+    split : (b : Bool) → is_frame_below (length frs + 1) y.owner ≡ b → is_apart p k frs fr o y g ≡ true → is_apart p h frs fr o x f ≡ true
+    split true below one = or_right (not (was_given p h frs o x.class) || is_content p fr x.owner f) (is_frame_below (length frs + 1) x.owner) (low below)
+    split false above one = or_left (not (was_given p h frs o x.class) || is_content p fr x.owner f) (is_frame_below (length frs + 1) x.owner)
+        (not_given (was_given p h frs o x.class) refl (first (not (was_given p k frs o y.class) || is_content p fr y.owner g) (is_frame_below (length frs + 1) y.owner) above one))

@@ -1,0 +1,549 @@
+-- A call of the library that creates an obligation anew: the object is in a fact of the top frame, which owns it, and the fact goes on anew.
+use Rattle.std.proofs.Common.{◌≡◌, ◌⊎◌, inl, inr, ℕ, ◌+◌, Bool, true, false, true≢false, not, ◌&&◌, Option, Some, None, List, ◌∷◌, length, slice_get, refl, sym, ap, ◌∙◌, subst, arith}
+use Rattle.std.specs.FinSet as set
+use Rattle.std.specs.Prelude.{if◌then◌else◌}
+use Rattle.std.proofs.lemmas.Bool.{and_from, and_parts}
+use Rattle.rlc_base.proofs.SetLaws.{empty_within, within_self}
+use Rattle.program_model.specs.declared.kinds.BodyId.{BodyId}
+use Rattle.program_model.specs.declared.kinds.ClassId.{ClassId}
+use Rattle.program_model.specs.declared.kinds.FieldId.{FieldId}
+use Rattle.program_model.specs.declared.kinds.MethodId.{MethodId}
+use Rattle.program_model.specs.declared.program.Method.{Method}
+use Rattle.program_model.specs.declared.program.Program.{Program}
+use Rattle.program_model.specs.Lookups.{method_at}
+use Rattle.ledger_obligations.specs.Bodies.{reset_in}
+use Rattle.ledger_obligations.specs.MustCallSets.{Names, fits, is_heavy_class, must_of}
+use Rattle.java_control.specs.Control.{Step}
+use Rattle.java_control.specs.Owned.{is_owning}
+use Rattle.java_control.specs.PlaceNumbers.{IsSmall}
+use Rattle.java_control.specs.declared.action.Action.{Action}
+use Rattle.java_control.specs.declared.action.Action.TheVariants as actions
+use Rattle.java_control.specs.declared.fact.Fact.{Fact}
+use Rattle.java_control.specs.declared.fact.Mode.TheVariants as modes
+use Rattle.java_control.specs.declared.fact.Origin.{Origin}
+use Rattle.java_control.specs.declared.place.Place.{Place}
+use Rattle.java_control.specs.declared.place.Place.TheVariants as places
+use Rattle.java_control.specs.Calls.{called_method, is_receiver}
+use Rattle.java_control.specs.declared.action.TargetForm.{TargetForm}
+use Rattle.java_control.specs.declared.action.TargetForm.TheVariants as targets
+use Rattle.value_laws.specs.Paths.{Reach, move_of, relation_of}
+use Rattle.value_laws.specs.PlaceRows.{places_after}
+use Rattle.value_laws.specs.Accept.{Accept}
+use Rattle.ownership_rules.specs.Callees.{callee, callee_in}
+use Rattle.ownership_rules.specs.Facts.{PlaceSet, has, has_temp, is_own, need}
+use Rattle.ownership_rules.specs.SmallActions.{IsSmallAction, IsSmallTemp}
+use Rattle.ownership_rules.proofs.SmallOperands.{operand_has_room}
+use Rattle.stub_conduct.specs.declared.choice.Conduct.{Conduct}
+use Rattle.ledger_state.specs.Contents.{HeapContents}
+use Rattle.ledger_state.specs.Heaps.{next_number, object_at, root, root_of}
+use Rattle.ledger_state.specs.Values.{number_of}
+use Rattle.ledger_state.specs.declared.array.ArrayObject.{ArrayObject}
+use Rattle.ledger_state.specs.declared.entry.Owner.{Owner}
+use Rattle.ledger_state.specs.declared.entry.Owner.TheVariants as owners
+use Rattle.ledger_state.specs.declared.locals.Locals.{Locals}
+use Rattle.ledger_state.specs.declared.object.Object.{Object}
+use Rattle.ledger_state.specs.declared.value.Value.{Value}
+use Rattle.ledger_state.specs.declared.value.Value.TheVariants as values
+use Rattle.ledger_obligations.specs.Obligations.{finished_in, is_library_owner}
+use Rattle.ledger_steps.specs.CallSteps.{library_called, library_heap, library_roots}
+use Rattle.value_laws.specs.Places.{place_value}
+use Rattle.ledger_steps.specs.LedgerCallsCalls.{form_of, object_by, operand_of, reset_position}
+use Rattle.value_laws.specs.Configuration.{Frame}
+use Rattle.value_laws.specs.Moves.{fits_target, is_target_of}
+use Rattle.value_laws.specs.Heaps.{HasEarlierLinks, IsOlder}
+use Rattle.value_laws.proofs.HeapLaws.{roots_go_on-root, roots_of_links-itself}
+use Rattle.value_laws.specs.Choosing.{body_id, frame_steps}
+use Rattle.value_laws.specs.Frames.{frame_after}
+use Rattle.value_laws.specs.Agreement.{Stands}
+use Rattle.value_laws.specs.Outcomes.{IsCallRow}
+use Rattle.value_laws.specs.PlainForms.{HasPlainForms, IsPlainAction, IsPlainReset, are_followed, resets_followed, resets_in_sight}
+use Rattle.value_laws.proofs.Ready.{step_there}
+use Rattle.value_laws.proofs.Tracking.{same_body}
+use Rattle.value_laws.specs.HeapAnew.{HasNoHolder, IsEmptied, finished_root, is_anew, is_field_owner, target_root}
+use Rattle.value_laws.proofs.Emptied.{as_it_was, back, fresh_stays, turned}
+use Rattle.value_laws.proofs.LibraryCallLaws.{any_library_links_stay, emptied_objects, emptied_roots-root}
+use Rattle.value_laws.proofs.Renewed.{reset_keeps, same_root, says_nothing, without_reset}
+use Rattle.value_laws.proofs.Growth.{library_grows}
+use Rattle.value_laws.specs.Anew.{GoesAnew, MayBeAnew, fact_anew, holds_target, is_target}
+use Rattle.value_laws.specs.FactGoing.{is_owned_in}
+use Rattle.ownership_rules.specs.MovesAtCalls.{moved_at_call}
+use Rattle.ownership_rules.specs.declared.moved.Moved.TheVariants as moves
+use Rattle.ledger_steps.specs.Conducts.{conduct_value, positions}
+use Rattle.value_laws.proofs.Resetting.{answered_target}
+use Rattle.value_laws.proofs.Needs.{origin_needs_all}
+use Rattle.value_laws.proofs.ResetTargets.{owned_targets}
+use Rattle.value_laws.specs.PlaceFacts.{AreCovered, AreWaiting, Covers, IsCovered, IsKeyed, IsOwned, IsTrueOf, OwnersBelow, gives_none, is_frame_from, is_owning_fact, may_owe, owned, unowned}
+use Rattle.value_laws.specs.Ranges.{FieldsInRange, LocalsInRange}
+use Rattle.value_laws.specs.FieldContents.{LinksLead, OwningFieldsOwn}
+use Rattle.std.proofs.lemmas.List.Elements.{All-tail}
+use Rattle.java_control.specs.declared.action.PlainValue.TheVariants as plain_values
+use Rattle.value_laws.proofs.Moved.{IsConstantRead}
+use Rattle.covering_laws.specs.Linking.{IsGivenAsAlias, LinkedAreAliases}
+use Rattle.value_laws.proofs.RangeValues.{operand_in_range}
+use Rattle.value_laws.specs.Nexts.{IsLibraryMove}
+use Rattle.ledger_obligations.specs.WellFormed.{HasSmallInterests}
+use Rattle.value_laws.proofs.FrameFollowing.{breaks_nothing}
+use Rattle.value_laws.proofs.Ready.{call_sets, plain_step, resets_plainly}
+use Rattle.value_laws.proofs.Unmet.{way_of_call}
+use Rattle.covering_laws.proofs.Bodies.{running_method}
+use Rattle.covering_laws.proofs.Followed.{first_position, followed_root}
+use Rattle.covering_laws.proofs.KnownNames.{operand_temp}
+use Rattle.covering_laws.proofs.LibraryJoins.{call_top, call_top_from, library_after_unfinished, library_covered, library_keeps_roots, library_linked}
+use Rattle.covering_laws.proofs.LocalSteps.{LocalsIn, all_there, local_step}
+use Rattle.covering_laws.proofs.MadeObjects.{grown_fields, older_or_new}
+use Rattle.covering_laws.proofs.Resets.{no_resets}
+use Rattle.covering_laws.proofs.ResetCovers.{IsRenewed, Turns, keyed_same, owes_before, owned_anew, same_held, unowned_anew, waiting_below}
+use Rattle.covering_laws.proofs.Waiting.{AllHeldBefore, KeepsFields, KeepsRoots, KeepsUnfinished, all_held_before, all_keep, no_other}
+
+-- no field owns an object, where none is owning
+unowned_by_fields : (p : Program) (owner : Owner) → ((f : FieldId) → is_owning p f ≡ false) → ((w : ℕ) (f : FieldId) → owner ≡ owners.Field w f → is_owning p f ≡ true) → is_field_owner owner ≡ false
+unowned_by_fields p (owners.Field w f) none own = absurd (true≢false (sym (own w f refl) ∙ none f))
+unowned_by_fields p (owners.Frame j) none own = refl
+unowned_by_fields p owners.Library none own = refl
+unowned_by_fields p owners.Released none own = refl
+unowned_by_fields p owners.Lost none own = refl
+unowned_by_fields p owners.Unowned none own = refl
+
+-- the target's operand is an object whose root is finished
+target_value : (h : HeapContents) (v : Value) (o : ℕ) → finished_root h (number_of v) ≡ Some o → (root_of h v ≡ Some o) × (finished_in (object_at h o) ≡ true)
+target_value h values.Nothing o is = absurd (let never : None ≡ Some o = is in cc)
+target_value h (values.Object w) o is = go (finished_in (object_at h (root h w))) refl is
+  where
+    go : (b : Bool) → finished_in (object_at h (root h w)) ≡ b → (if b then Some (root h w) else None) ≡ Some o → (Some (root h w) ≡ Some o) × (finished_in (object_at h o) ≡ true)
+    go true done same = (same, ap (λ (n : ℕ). finished_in (object_at h n)) (let one : o ≡ root h w = (let both : Some (root h w) ≡ Some o = same in cc) in one) ∙ done)
+    go false undone same = absurd (let never : None ≡ Some o = same in cc)
+target_value h v o is = absurd (let never : None ≡ Some o = is in cc)
+
+same_position : (m : Option Method) → reset_in m ≡ reset_position m
+same_position None = refl
+same_position (Some m) = refl
+
+module _ (p : Program) (ac : Accept p) (forms : HasPlainForms p) (h : HeapContents) (links : HasEarlierLinks h) (fr : Frame) (frs : List Frame) (st : Stands p fr) (mine : LocalsInRange h fr.locals)
+    (named : MethodId) (d : Conduct) (i : ℕ) (s : Step) (here : slice_get (frame_steps p fr) i ≡ Some s) (called : called_method s.action ≡ Some named) (row : IsCallRow s.action) (plain : IsPlainReset p st.number fr.control s.action) (covered : IsCovered p h gives_none frs fr) where
+  abbrev pub at : ℕ
+  at = length frs + 1
+
+  abbrev pub m : Option Method
+  m = method_at p named
+
+  abbrev pub l : Locals
+  l = fr.locals
+
+  -- the heap that the call would leave without its reset
+  abbrev pub K : HeapContents
+  K = library_heap p l s.action (without_reset m) m d at h
+
+  -- the heap that it leaves
+  abbrev pub J : HeapContents
+  J = library_heap p l s.action m m d at h
+
+  pub same : (u : Value) → root_of J u ≡ root_of K u
+  same u = same_root p l s.action m m d at h u
+
+  pub fields : KeepsFields p K J
+  fields w f own = grown_fields p h J (library_grows p l s.action m m d at h) w f own ∙ sym (grown_fields p h K (library_grows p l s.action (without_reset m) m d at h) w f own)
+
+  same_callee : callee p s.action ≡ m
+  same_callee = ap (callee_in p) called
+
+  small : IsSmallAction p s.action
+  small = (local_step p ac forms fr st i s here (call_sets s.action row) (way_of_call s row)).small
+
+  -- ---- the target
+
+  -- a place of the frame holds the object, and a fact that has it is that of the target
+  abbrev pub IsTargetAt : ℕ → Type 0
+  IsTargetAt o = (t : ℕ) × IsSmall (places.Temp t) × (root_of h (place_value p h fr.method l (places.Temp t)) ≡ Some o) × ((held : PlaceSet) → has held (places.Temp t) ≡ true → is_target p s.action held ≡ true)
+
+  target_at : (o : ℕ) → target_root h l s.action m ≡ Some o → IsTargetAt o × (finished_in (object_at h o) ≡ true)
+  target_at o is = go (reset_position m) refl (is)
+    where
+      go : (k : Option ℕ) → reset_position m ≡ k → finished_root h (object_by (operand_of l s.action) k) ≡ Some o → IsTargetAt o × (finished_in (object_at h o) ≡ true)
+      go None none never = absurd (let no' : None ≡ Some o = never in cc)
+      go (Some k) some found =
+          let it = target_value h (operand_of l s.action k) o found in
+          let t = operand_temp l s.action k h o it.0 in (
+            (
+              t.0,
+              subst IsSmallTemp t.1 (operand_has_room p s.action k small),
+              ap (root_of h) (sym t.2) ∙ it.0,
+              λ held has'. ap (λ (n : Option Method). holds_target s.action held (reset_in n)) same_callee ∙ ap (holds_target s.action held) (same_position m ∙ some) ∙ ap (has_temp held) t.1 ∙ has',
+            ),
+            it.1,
+          )
+
+  -- ---- its fact
+
+  module _ (o : ℕ) (x : Object) (c : Covers p h false frs fr o x) (target : is_target p s.action c.fact.places ≡ true) where
+    reached : Reach p st.number (relation_of p st.number) c.origin fr.control c.fact
+    reached = subst (λ (b : BodyId). Reach p b (relation_of p b) c.origin fr.control c.fact) (same_body c.body st.number (body_id p fr.method) c.id st.id) c.reached
+
+    pub answer : (k : ℕ) × (reset_in (callee p s.action) ≡ Some k) × MayBeAnew p st.number c.origin s.action k c.fact × (moved_at_call p c.origin s.action s.edge c.fact ≡ moves.Moves → ⊥)
+    answer = elim (answered_target p st.number c.origin s.action s.edge c.fact row target) [
+      | inl fault ↦ absurd (breaks_nothing p ac st.number c.origin i (move_of s) c.fact reached (step_there p fr st i s here) fault)
+      | inr is ↦ is
+    ]
+
+    target_owned : (c.fact.mode ≡ modes.Own) × (is_heavy_class p c.origin.class ≡ true)
+    target_owned =
+        let run = running_method p ac fr st in
+        let of : method_at p st.body.method ≡ Some run.0 = ap (method_at p) st.method ∙ run.1 in
+        owned_targets p st.number st.body run.0 st.at of (forms.bodies st.number st.body run.0 st.at of) (λ k n t. no_resets p forms st.number k n t) c.origin fr.control c.fact reached plain.before
+        s.action answer.0 answer.1 plain.other answer.2
+
+    target_owning : is_owning_fact p c.origin c.fact ≡ true
+    target_owning = and_from (is_heavy_class p c.origin.class) (is_own c.fact.mode) target_owned.1 (ap is_own target_owned.0)
+
+    -- as it would go on
+    pub goes_anew : GoesAnew p st.number c.origin s.action c.fact (places_after p st.number s.action s.edge c.fact.places) (fact_anew c.fact (places_after p st.number s.action s.edge c.fact.places))
+    goes_anew = record { position = answer.0; target = answer.1; may = answer.2; anew = refl }
+
+    pub still_own : is_own (fact_anew c.fact (places_after p st.number s.action s.edge c.fact.places)).mode ≡ true
+    still_own = rw target_owned.0 refl
+
+  -- the fact that has the target says that the frame owns it
+  module _ (o : ℕ) (x : Object) (before : object_at h o ≡ Some x) (heavy : is_heavy_class p x.class ≡ true) (owes : may_owe x ≡ true) (t : IsTargetAt o) where
+    pub its_key : (c : Covers p h false frs fr o x) × (has c.fact.places (places.Temp t.0) ≡ true) × IsOwned p h false frs fr o x c
+    its_key = by (covered (places.Temp t.0) o x t.1 t.2 before heavy owes)
+      where
+        by : IsKeyed p h false frs fr (places.Temp t.0) o x → (c : Covers p h false frs fr o x) × (has c.fact.places (places.Temp t.0) ≡ true) × IsOwned p h false frs fr o x c
+        by (owned c in' key) = (c, in', key)
+        by (unowned u) = absurd (true≢false (sym (target_owning o x u.covers (t.3 u.covers.fact.places u.here)) ∙ u.unowned))
+
+    frame_owns : x.owner ≡ owners.Frame at
+    frame_owns = its_key.2.owner refl
+
+    -- so does each fact that says that the frame owns it
+    pub has_target : (c : Covers p h false frs fr o x) → IsOwned p h false frs fr o x c → is_target p s.action c.fact.places ≡ true
+    has_target c key = elim (key.others (places.Temp t.0) t.1 t.2) [
+      | inl in' ↦ t.3 c.fact.places in'
+      | inr u ↦ absurd (true≢false (sym (target_owning o x u.covers (t.3 u.covers.fact.places u.here)) ∙ u.unowned))
+    ]
+
+  -- ---- where no field owns it
+
+  -- the receiver of a call in sight of the rules, which is linked to none and whose class has an obligation
+  in_sight : LinkedAreAliases p h → (arrays : List ArrayObject) → fits_target p h arrays m (form_of s.action) (operand_of l s.action 0) ≡ true → resets_in_sight p s.action ≡ true
+      → (n : ℕ) (x : Object) → target_root h l s.action m ≡ Some n → object_at h n ≡ Some x → is_heavy_class p x.class ≡ true
+  in_sight aliases arrays fits seen n x is before = go s.action refl seen
+    where
+      of_method : (z : Method) → m ≡ Some z → is_receiver z.sig.reset ≡ true → are_followed p z.class ≡ true → is_target_of p h arrays m (operand_of l s.action 0) ≡ true → is_heavy_class p x.class ≡ true
+      of_method z named_at receiver followed instance =
+          let at_operand : finished_root h (number_of (operand_of l s.action 0)) ≡ Some n =
+          ap (λ (r : Option ℕ). finished_root h (object_by (operand_of l s.action) r)) (sym (first_position z.sig.reset receiver)) ∙ ap (λ (y : Option Method). target_root h l s.action y) (sym named_at) ∙ is in
+          followed_root p ac z followed h links aliases arrays (operand_of l s.action 0) n x at_operand before
+          (ap (λ (y : Option Method). is_target_of p h arrays y (operand_of l s.action 0)) (sym named_at) ∙ instance)
+
+      by_method : (z : Option Method) → m ≡ z → resets_followed p z ≡ true → is_target_of p h arrays m (operand_of l s.action 0) ≡ true → is_heavy_class p x.class ≡ true
+      by_method None named_at never instance = absurd (true≢false (sym never))
+      by_method (Some z) named_at both instance =
+          let parts = and_parts (is_receiver z.sig.reset) (are_followed p z.class) both in of_method z named_at parts.0 parts.1 instance
+
+      go : (a : Action) → s.action ≡ a → resets_in_sight p a ≡ true → is_heavy_class p x.class ≡ true
+      go actions.Skip same' never = absurd (true≢false (sym never))
+      go (actions.Call k d' c targets.Other) same' followed =
+          let one : k ≡ named = (let both : Some k ≡ Some named = ap called_method (sym same') ∙ called in cc) in
+          by_method m refl (subst (λ (z : MethodId). resets_followed p (method_at p z) ≡ true) one followed)
+          (subst (λ (f : TargetForm). fits_target p h arrays m f (operand_of l s.action 0) ≡ true) (ap form_of same') fits)
+      go a same' never = absurd (true≢false (sym never))
+
+  -- no field owns the target's root
+  pub no_holder : OwningFieldsOwn p h → LinkedAreAliases p h → (arrays : List ArrayObject) → fits_target p h arrays m (form_of s.action) (operand_of l s.action 0) ≡ true → HasNoHolder h (target_root h l s.action m)
+  no_holder own aliases arrays fits n x is before = elim plain.seen [
+    | inl none ↦ unowned_by_fields p x.owner none (λ w f mine'. own n x w f before mine')
+    | inr seen ↦ by_owner x.owner refl
+        (λ stays. frame_owns n x before (in_sight aliases arrays fits seen n x is before) (ap (λ (b : Bool). not (x.finished && b)) stays ∙ none_left x.finished) (target_at n is).0)
+  ]
+    where
+      none_left : (b : Bool) → not (b && false) ≡ true
+      none_left true = refl
+      none_left false = refl
+
+      by_owner : (w : Owner) → x.owner ≡ w → (is_library_owner x.owner ≡ false → x.owner ≡ owners.Frame at) → is_field_owner x.owner ≡ false
+      by_owner owners.Library same' frame = ap is_field_owner same'
+      by_owner (owners.Frame j) same' frame = ap is_field_owner same'
+      by_owner (owners.Field w f) same' frame = ap is_field_owner (frame (ap is_library_owner same'))
+      by_owner owners.Released same' frame = ap is_field_owner same'
+      by_owner owners.Lost same' frame = ap is_field_owner same'
+      by_owner owners.Unowned same' frame = ap is_field_owner same'
+
+  -- ---- the objects
+
+  later_links : HasEarlierLinks J
+  later_links = any_library_links_stay p l s.action m m d at h links (λ k w alias number. operand_in_range h l mine s.action k w number)
+
+  module _ (free : HasNoHolder h (target_root h l s.action m)) where
+    -- the object is as it would be, or its obligation is created anew
+    abbrev pub IsTurned : ℕ → Object → Type 0
+    IsTurned o y = (z : Object) × (object_at K o ≡ Some z) × (((y ≡ z) × (is_anew p l s.action m m d h o ≡ false)) ⊎ (IsRenewed p at z y × ((x : Object) × (object_at h o ≡ Some x) × (z.class ≡ x.class) × (may_owe z ≡ true → may_owe x ≡ true) × IsTargetAt o)))
+
+    pub turned_at : (o : ℕ) (y : Object) (u : Value) → root_of J u ≡ Some o → object_at J o ≡ Some y → IsTurned o y
+    turned_at o y u root' now = (z.0, z.1, go (is_anew p l s.action m m d h o) refl)
+      where
+        z : (w : Object) × (object_at K o ≡ Some w) × (turned p l s.action m m d at h o w ≡ y)
+        z = back p l s.action m m d at h o y now
+
+        go : (b : Bool) → is_anew p l s.action m m d h o ≡ b → ((y ≡ z.0) × (is_anew p l s.action m m d h o ≡ false)) ⊎ (IsRenewed p at z.0 y × ((x : Object) × (object_at h o ≡ Some x) × (z.0.class ≡ x.class) × (may_owe z.0 ≡ true → may_owe x ≡ true) × IsTargetAt o))
+        go false out = inl (sym z.2 ∙ as_it_was p l s.action m m d at h o z.0 out, out)
+        go true anew = by (older_or_new p l s.action (without_reset m) m at h (says_nothing m) links d o z.0 z.1)
+          where
+            keeps : (y.class ≡ z.0.class) × (y.link ≡ z.0.link) × (y.finished ≡ z.0.finished) × (y.owner ≡ z.0.owner)
+            keeps =
+                let it = reset_keeps p (library_called p l s.action m m d h) (library_roots p l s.action m m d h) o z.0 in
+                (ap (λ (w : Object). w.class) (sym z.2) ∙ it.0, ap (λ (w : Object). w.link) (sym z.2) ∙ it.1, ap (λ (w : Object). w.finished) (sym z.2) ∙ it.2, ap (λ (w : Object). w.owner) (sym z.2) ∙ it.3)
+
+            old : IsOlder h o z.0 owners.Library → IsRenewed p at z.0 y × ((x : Object) × (object_at h o ≡ Some x) × (z.0.class ≡ x.class) × (may_owe z.0 ≡ true → may_owe x ≡ true) × IsTargetAt o)
+            old was = (
+              record {
+                class = keeps.0;
+                finished = keeps.2;
+                owner = keeps.3;
+                called = emptied.called;
+                must = elim emptied.must [ inl all ↦ inl all | inr kept ↦ inr (kept ∙ sym was.goes_on.must) ];
+                mine = λ heavy owes. elim was.owner [
+                  | inl stays ↦ stays ∙ frame_owns o x was.at (ap (is_heavy_class p) (sym (keeps.0 ∙ was.goes_on.class)) ∙ heavy) (might y x (keeps.2 ∙ was.goes_on.finished) (keeps.3 ∙ stays) owes) target.0
+                  | inr gone ↦ absurd (true≢false (sym owes ∙ ap not (and_from y.finished (is_library_owner y.owner) (keeps.2 ∙ was.goes_on.finished ∙ done) (ap is_library_owner (keeps.3 ∙ gone)))))
+                ];
+              },
+              (x, was.at, was.goes_on.class, before_owes, target.0),
+            )
+              where
+                x : Object
+                x = was.before
+
+                emptied : IsEmptied p x y
+                emptied = emptied_objects p l s.action m m d at h o x y anew was.at now
+
+                unlinked : x.link ≡ None
+                unlinked = sym (keeps.1 ∙ was.goes_on.link) ∙ roots_go_on-root J u o y later_links root' now
+
+                target : IsTargetAt o × (finished_in (object_at h o) ≡ true)
+                target = target_at o (emptied_roots-root p l s.action m m d h o x links free was.at anew ∙ ap Some (roots_of_links-itself h o x was.at unlinked))
+
+                done : x.finished ≡ true
+                done = ap finished_in (sym was.at) ∙ target.1
+
+                might : (a b : Object) → a.finished ≡ b.finished → a.owner ≡ b.owner → may_owe a ≡ true → may_owe b ≡ true
+                might a b finished owner is =
+                    ap (λ (f : Bool). not (f && is_library_owner b.owner)) (sym finished) ∙ ap (λ (w : Owner). not (a.finished && is_library_owner w)) (sym owner) ∙ is
+
+                before_owes : may_owe z.0 ≡ true → may_owe x ≡ true
+                before_owes owes = elim was.owner [
+                  | inl stays ↦ might z.0 x was.goes_on.finished stays owes
+                  | inr gone ↦ absurd (true≢false (sym owes ∙ ap not (and_from z.0.finished (is_library_owner z.0.owner) (was.goes_on.finished ∙ done) (ap is_library_owner gone))))
+                ]
+
+            by : IsOlder h o z.0 owners.Library ⊎ (o ≡ next_number h)
+                → ((y ≡ z.0) × (is_anew p l s.action m m d h o ≡ false)) ⊎ (IsRenewed p at z.0 y × ((x : Object) × (object_at h o ≡ Some x) × (z.0.class ≡ x.class) × (may_owe z.0 ≡ true → may_owe x ≡ true) × IsTargetAt o))
+            by (inl was) = inr (old was)
+            by (inr new) = absurd (true≢false (sym anew ∙ ap (is_anew p l s.action m m d h) new ∙ fresh_stays p l s.action m m d at h))
+
+    -- an object whose obligation is created anew, and which may owe a call, is in a fact that says that the frame owns it
+    pub renewed_owned : (o : ℕ) (y : Object) → object_at J o ≡ Some y → y.link ≡ None → is_anew p l s.action m m d h o ≡ true → is_heavy_class p y.class ≡ true → may_owe y ≡ true
+        → (y.owner ≡ owners.Frame at) × ((x : Object) × (object_at h o ≡ Some x) × (y.class ≡ x.class)
+        × ((c : Covers p h false frs fr o x) × IsOwned p h false frs fr o x c × (is_target p s.action c.fact.places ≡ true) × ((t : ℕ) × (has c.fact.places (places.Temp t) ≡ true))))
+    renewed_owned o y now unlinked is heavy owes = by (turned_at o y (values.Object o) (ap Some (roots_of_links-itself J o y now unlinked)) now)
+      where
+        by : IsTurned o y → (y.owner ≡ owners.Frame at) × ((x : Object) × (object_at h o ≡ Some x) × (y.class ≡ x.class)
+            × ((c : Covers p h false frs fr o x) × IsOwned p h false frs fr o x c × (is_target p s.action c.fact.places ≡ true) × ((t : ℕ) × (has c.fact.places (places.Temp t) ≡ true))))
+        by (z, there, inl (it, out)) = absurd (true≢false (sym is ∙ out))
+        by (z, there, inr (anew, (x, before, class, owed, t))) =
+            let wide : is_heavy_class p x.class ≡ true = ap (is_heavy_class p) (sym (anew.class ∙ class)) ∙ heavy in
+            let key = its_key o x before wide (owed (owes_before p at z y anew owes)) t in
+            (anew.owner ∙ anew.mine heavy owes, (x, before, anew.class ∙ class, (key.0, key.2, t.3 key.0.fact.places key.1, (t.0, key.1))))
+
+module _ (p : Program) (ac : Accept p) (forms : HasPlainForms p) (names : HasSmallInterests p) (h : HeapContents) (links : HasEarlierLinks h) (ranges : FieldsInRange h) (fr : Frame) (frs : List Frame) (st : Stands p fr)
+    (mine : LocalsInRange h fr.locals) (arrays : List ArrayObject) (named : MethodId) (d : Conduct) (s : Step) (next : IsLibraryMove p h arrays fr.locals (frame_steps p fr) named named d s) (count : ℕ)
+    (leads : LinksLead p h) (called : called_method s.action ≡ Some named) (row : IsCallRow s.action) (plain : IsPlainReset p st.number fr.control s.action)
+    (free : HasNoHolder h (target_root h fr.locals s.action (method_at p named))) (covered : IsCovered p h gives_none frs fr) (others : LocalsIn h frs) where
+  abbrev plain_heap : HeapContents
+  plain_heap = library_heap p fr.locals s.action (without_reset (method_at p named)) (method_at p named) d (length frs + 1) h
+
+  abbrev left_heap : HeapContents
+  left_heap = library_heap p fr.locals s.action (method_at p named) (method_at p named) d (length frs + 1) h
+
+  abbrev after : Frame
+  after = frame_after p h fr s (conduct_value count (method_at p named) (positions fr.locals s.action (next_number h) d) (next_number h) d)
+
+  same_here : (u : Value) → root_of left_heap u ≡ root_of plain_heap u
+  same_here u = same p ac forms h links fr frs st mine named d next.index s next.here called row plain covered u
+
+  fields_here : KeepsFields p plain_heap left_heap
+  fields_here w f own = fields p ac forms h links fr frs st mine named d next.index s next.here called row plain covered w f own
+
+  -- ---- the top frame
+
+  pub anew_top : IsCovered p left_heap gives_none frs after
+  anew_top q o y less held now heavy owes = by (turned_at p ac forms h links fr frs st mine named d next.index s next.here called row plain covered free o y (place_value p left_heap after.method after.locals q) held now)
+    where
+      was_held : root_of plain_heap (place_value p plain_heap after.method after.locals q) ≡ Some o
+      was_held = sym (same_held p plain_heap left_heap same_here fields_here after.method after.locals q) ∙ held
+
+      by : IsTurned p ac forms h links fr frs st mine named d next.index s next.here called row plain covered free o y → IsKeyed p left_heap false frs after q o y
+      by (z, there, inl (it, out)) =
+          subst (λ (w : Object). IsKeyed p left_heap false frs after q o w) (sym it)
+          (keyed_same p plain_heap left_heap same_here fields_here false frs after o z q
+          (call_top p ac forms names h links ranges fr frs st mine arrays named d s next count leads called row covered others q o z less was_held there
+          (ap (λ (w : Object). is_heavy_class p w.class) (sym it) ∙ heavy) (ap may_owe (sym it) ∙ owes)))
+      by (z, there, inr (anew, (x, before, class, owed, t))) =
+          elim (call_top_from p ac forms names h links ranges fr frs st mine arrays named d s next count leads called row covered others q o z less was_held there heavy' owes') [
+            | inr u ↦ unowned (unowned_anew p plain_heap left_heap same_here fields_here false frs after o (length frs + 1) z y anew.class anew.finished anew.owner (anew.mine heavy owes) (omega arith) q u)
+            | inl key ↦ owned_anew p plain_heap left_heap same_here fields_here false frs after o (length frs + 1) z y anew.class anew.finished anew.owner (anew.mine heavy owes) (omega arith) q key.0 key.1 key.2
+                (λ claimed apart. true_anew key.0.origin key.0.fact (key.0.true' claimed apart)
+                (origin_needs_all p key.0.body key.0.origin after.control key.0.fact key.0.reached)
+                (elim key.3 [
+                  | inl from ↦ emptied key.0.fact from.0 from.1 from.2 from.3 (λ target. (from.5.1 target).anew)
+                  | inr stops ↦ absurd (ends stops)
+                ]))
+          ]
+        where
+          heavy' : is_heavy_class p z.class ≡ true
+          heavy' = ap (is_heavy_class p) (sym anew.class) ∙ heavy
+
+          owes' : may_owe z ≡ true
+          owes' = owes_before p (length frs + 1) z y anew owes
+
+          wide : is_heavy_class p x.class ≡ true
+          wide = ap (is_heavy_class p) (sym class) ∙ heavy'
+
+          -- the fact goes on with no names and full
+          emptied : (g : Fact) (w : Object) → object_at h o ≡ Some w → (c : Covers p h false frs fr o w) → IsOwned p h false frs fr o w c
+              → (is_target p s.action c.fact.places ≡ true → g ≡ fact_anew c.fact (places_after p st.number s.action s.edge c.fact.places)) → (g.called ≡ set.empty) × (g.full ≡ true)
+          emptied g w at' c key goes =
+              let one : w ≡ x = (let both : Some w ≡ Some x = sym at' ∙ before in cc) in
+              let is = goes (has_target p ac forms h links fr frs st mine named d next.index s next.here called row plain covered o w at' (ap (λ (u : Object). is_heavy_class p u.class) one ∙ wide) (ap may_owe one ∙ owed owes') t c key) in
+              (ap (λ (f : Fact). f.called) is, ap (λ (f : Fact). f.full) is)
+
+          -- some fact goes on owning it
+          ends : ((w : Object) → object_at h o ≡ Some w → (u : Place) → IsSmall u → root_of h (place_value p h fr.method fr.locals u) ≡ Some o → (c : Covers p h false frs fr o w) → IsOwned p h false frs fr o w c
+              → (g : Fact) → (moved_at_call p c.origin s.action s.edge c.fact ≡ moves.Moves → is_owned_in g.mode ≡ false)
+              × (is_target p s.action c.fact.places ≡ true → GoesAnew p st.number c.origin s.action c.fact (places_after p st.number s.action s.edge c.fact.places) g) → is_own g.mode ≡ false) → ⊥
+          ends stops =
+              let key = its_key p ac forms h links fr frs st mine named d next.index s next.here called row plain covered o x before wide (owed owes') t in
+              let target = t.3 key.0.fact.places key.1 in
+              true≢false (sym (still_own p ac forms h links fr frs st mine named d next.index s next.here called row plain covered o x key.0 target)
+              ∙ stops x before (places.Temp t.0) t.1 t.2 key.0 key.2 (fact_anew key.0.fact (places_after p st.number s.action s.edge key.0.fact.places))
+              ((λ moved. absurd ((answer p ac forms h links fr frs st mine named d next.index s next.here called row plain covered o x key.0 target).3 moved)), (λ is. goes_anew p ac forms h links fr frs st mine named d next.index s next.here called row plain covered o x key.0 target)))
+
+          true_anew : (g : Origin) (f : Fact) → IsTrueOf p z g f → g.full ≡ must_of p g.class → (f.called ≡ set.empty) × (f.full ≡ true) → IsTrueOf p y g f
+          true_anew g f was all none = record {
+            finished = anew.finished ∙ was.finished;
+            class = ap (λ (c : ClassId). fits p c g.class) anew.class ∙ was.class;
+            bounded = elim anew.must [
+              | inl every ↦ ap (λ (t' : Names). set.is_subset t' (must_of p y.class)) every ∙ within_self (must_of p y.class)
+              | inr kept ↦ ap (λ (t' : Names). set.is_subset t' (must_of p y.class)) kept ∙ ap (λ (c : ClassId). set.is_subset z.must (must_of p c)) anew.class ∙ was.bounded
+            ];
+            need = elim anew.must [
+              | inl every ↦ ap (λ (t' : Names). set.is_subset t' (need g f)) every ∙ full_need (must_of p y.class) (ap (λ (c : ClassId). fits p c g.class) anew.class ∙ was.class)
+              | inr kept ↦ ap (λ (t' : Names). set.is_subset t' (need g f)) kept ∙ was.need
+            ];
+            called = ap (λ (t' : Names). set.is_subset t' y.called) none.0 ∙ empty_within y.called;
+          }
+            where
+              full_need : (t' : Names) → set.is_subset t' (must_of p g.class) ≡ true → set.is_subset t' (need g f) ≡ true
+              full_need t' inside = rw none.1 (ap (set.is_subset t') all ∙ inside)
+
+  -- ---- all frames
+
+  pub anew_covered : AreWaiting p plain_heap frs → AreWaiting p left_heap frs
+  anew_covered waits = waiting_below p plain_heap left_heap same_here fields_here (length frs + 1) turns frs (omega arith) waits
+    where
+      turns : Turns p plain_heap left_heap same_here fields_here (length frs + 1)
+      turns o y u root' now = by (turned_at p ac forms h links fr frs st mine named d next.index s next.here called row plain covered free o y u root' now)
+        where
+          by : IsTurned p ac forms h links fr frs st mine named d next.index s next.here called row plain covered free o y → (x : Object) × (object_at plain_heap o ≡ Some x) × ((y ≡ x) ⊎ IsRenewed p (length frs + 1) x y)
+          by (z, there, inl it) = (z, there, inl it.0)
+          by (z, there, inr (anew, rest)) = (z, there, inr anew)
+
+-- ---- any call of the library, and any read of a constant
+
+-- a method that creates no obligation anew is the one without its reset
+plain_method : (m : Option Method) → reset_position m ≡ None → without_reset m ≡ m
+plain_method None none = refl
+plain_method (Some m) none = ap (λ (r : Option ℕ). Some (record m { sig = record m.sig { reset = r } })) (sym none)
+
+-- a constant that is read creates no obligation anew
+read_reset : (p : Program) (a : Action) (named : MethodId) → IsPlainAction p a → IsConstantRead a named → reset_position (method_at p named) ≡ None
+read_reset p actions.Skip named plain read = absurd read
+read_reset p (actions.Plain x (plain_values.LibraryConstant k)) named plain read = ap (λ (n : MethodId). reset_position (method_at p n)) (sym read) ∙ sym (same_position (method_at p k)) ∙ plain.2
+read_reset p a named plain read = absurd read
+
+-- what names a method is a call
+row_by : (a : Action) (named : MethodId) → called_method a ≡ Some named → IsCallRow a
+row_by actions.Skip named is = absurd (let never : None ≡ Some named = is in cc)
+row_by (actions.Call m d n form) named is = tt
+row_by (actions.New m d n) named is = tt
+row_by (actions.Super m d n) named is = tt
+row_by a named is = absurd (let never : None ≡ Some named = is in cc)
+
+module _ (p : Program) (ac : Accept p) (forms : HasPlainForms p) (names : HasSmallInterests p) (h : HeapContents) (links : HasEarlierLinks h) (ranges : FieldsInRange h) (fr : Frame) (frs : List Frame) (st : Stands p fr)
+    (mine : LocalsInRange h fr.locals) (arrays : List ArrayObject) (named : MethodId) (d : Conduct) (s : Step) (next : IsLibraryMove p h arrays fr.locals (frame_steps p fr) named named d s) (count : ℕ)
+    (leads : LinksLead p h) where
+  abbrev left : HeapContents
+  left = library_heap p fr.locals s.action (method_at p named) (method_at p named) d (length frs + 1) h
+
+  abbrev would : HeapContents
+  would = library_heap p fr.locals s.action (without_reset (method_at p named)) (method_at p named) d (length frs + 1) h
+
+  -- each object is as it would be, but for the names that were called on it and must be
+  was_there : (o : ℕ) (y : Object) → object_at left o ≡ Some y
+      → (z : Object) × (object_at would o ≡ Some z) × (y.class ≡ z.class) × (y.link ≡ z.link) × (y.finished ≡ z.finished) × (y.owner ≡ z.owner)
+  was_there o y now =
+      let z = back p fr.locals s.action (method_at p named) (method_at p named) d (length frs + 1) h o y now in
+      let it = reset_keeps p (library_called p fr.locals s.action (method_at p named) (method_at p named) d h) (library_roots p fr.locals s.action (method_at p named) (method_at p named) d h) o z.0 in
+      (z.0, z.1, ap (λ (w : Object). w.class) (sym z.2) ∙ it.0, ap (λ (w : Object). w.link) (sym z.2) ∙ it.1, ap (λ (w : Object). w.finished) (sym z.2) ∙ it.2, ap (λ (w : Object). w.owner) (sym z.2) ∙ it.3)
+
+  pub left_unfinished : KeepsUnfinished h left no_other
+  left_unfinished o x y apart before now unready =
+      let z = was_there o y now in
+      z.4 ∙ library_after_unfinished p ac forms names h links ranges fr frs st mine arrays named d s next count leads o x z.0 apart before z.1 unready
+
+  pub left_linked : LinkedAreAliases p h → LinkedAreAliases p left
+  left_linked apart n y k there some =
+      let z = was_there n y there in
+      subst (IsGivenAsAlias p) (sym z.2) (library_linked p ac forms names h links ranges fr frs st mine arrays named d s next count leads apart n z.0 k z.1 (sym z.3 ∙ some))
+
+  left_roots : KeepsRoots h left
+  left_roots n number =
+      let one = same_root p fr.locals s.action (method_at p named) (method_at p named) d (length frs + 1) h (values.Object n) in
+      (let both : Some (root left n) ≡ Some (root would n) = one in (let it : root left n ≡ root would n = cc in it))
+      ∙ library_keeps_roots p ac forms names h links ranges fr frs st mine arrays named d s next count leads n number
+
+  pub left_held_before : (rest : List Frame) → LocalsIn h rest → AllHeldBefore p h left rest
+  left_held_before rest in' =
+      all_held_before p h left left_roots rest (all_keep p h left (grown_fields p h left (library_grows p fr.locals s.action (method_at p named) (method_at p named) d (length frs + 1) h)) rest) (all_there p h ranges rest in')
+
+  pub left_covered : OwningFieldsOwn p h → LinkedAreAliases p h
+      → (called_method s.action ≡ Some named) ⊎ IsConstantRead s.action named → LocalsIn h (fr ∷ frs) → AreCovered p h (fr ∷ frs)
+      → AreCovered p left (frame_after p h fr s (conduct_value count (method_at p named) (positions fr.locals s.action (next_number h) d) (next_number h) d) ∷ frs)
+  left_covered own aliases row in' covered = by row
+    where
+      K_covered : AreCovered p would (frame_after p h fr s (conduct_value count (method_at p named) (positions fr.locals s.action (next_number h) d) (next_number h) d) ∷ frs)
+      K_covered = library_covered p ac forms names h links ranges fr frs st mine arrays named d s next count leads row in' covered
+
+      plain : reset_position (method_at p named) ≡ None → AreCovered p left (frame_after p h fr s (conduct_value count (method_at p named) (positions fr.locals s.action (next_number h) d) (next_number h) d) ∷ frs)
+      plain none =
+          subst (λ (n : Option Method). AreCovered p (library_heap p fr.locals s.action n (method_at p named) d (length frs + 1) h)
+          (frame_after p h fr s (conduct_value count (method_at p named) (positions fr.locals s.action (next_number h) d) (next_number h) d) ∷ frs))
+          (plain_method (method_at p named) none) K_covered
+
+      below : OwnersBelow left (length frs + 1)
+      below o y now = let z = was_there o y now in ap (is_frame_from (length frs + 1 + 1)) z.5 ∙ K_covered.2 o z.0 z.1
+
+      by : (called_method s.action ≡ Some named) ⊎ IsConstantRead s.action named
+          → AreCovered p left (frame_after p h fr s (conduct_value count (method_at p named) (positions fr.locals s.action (next_number h) d) (next_number h) d) ∷ frs)
+      by (inr read) = plain (read_reset p s.action named (plain_step p ac forms fr st next.index s next.here) read)
+      by (inl called) = elim (resets_plainly p ac forms fr st next.index s next.here) [
+        | inl none ↦ plain (sym (same_position (method_at p named)) ∙ ap reset_in (sym (ap (callee_in p) called)) ∙ none)
+        | inr anew ↦ (
+          anew_top p ac forms names h links ranges fr frs st mine arrays named d s next count leads called (row_by s.action named called) anew (free anew) covered.0 others,
+          anew_covered p ac forms names h links ranges fr frs st mine arrays named d s next count leads called (row_by s.action named called) anew (free anew) covered.0 others K_covered.1,
+          below,
+        )
+      ]
+        where
+          others : LocalsIn h frs
+          others = All-tail (λ (u : Frame). LocalsInRange h u.locals) fr frs in'
+
+          free : IsPlainReset p st.number fr.control s.action → HasNoHolder h (target_root h fr.locals s.action (method_at p named))
+          free anew = no_holder p ac forms h links fr frs st mine named d next.index s next.here called (row_by s.action named called) anew covered.0 own aliases arrays (next.ran called).1

@@ -1,3 +1,0 @@
-mod Apart
-mod Written
-pub mod Declared

@@ -1,2 +1,0 @@
-pub use Rattle.program_reading.specs.Programs
-pub use Rattle.program_reading.specs.TypedPrograms

@@ -1,6 +1,0 @@
--- The law is a lemma over the definitions alone.
-use Rattle.elaborated_orders.proofs.Heads.{heads_first}
-use Rattle.elaborated_orders.proofs.laid_orders.laid_heads_come_first.Goals as goal
-
-pub returns : goal.returns
-returns c = heads_first

@@ -1,6 +1,0 @@
--- The law is a lemma over the definitions alone.
-use Rattle.elaborated_orders.proofs.DistinctBodies.{bodies_distinct}
-use Rattle.elaborated_orders.proofs.source_bodies.source_bodies_are_of_distinct_methods.Goals as goal
-
-pub returns : goal.returns
-returns c = bodies_distinct

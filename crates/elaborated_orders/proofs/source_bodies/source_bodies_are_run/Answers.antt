@@ -1,6 +1,0 @@
--- The law is a lemma over the definitions alone.
-use Rattle.elaborated_orders.proofs.RunningBodies.{source_bodies_run}
-use Rattle.elaborated_orders.proofs.source_bodies.source_bodies_are_run.Goals as goal
-
-pub returns : goal.returns
-returns c = source_bodies_run

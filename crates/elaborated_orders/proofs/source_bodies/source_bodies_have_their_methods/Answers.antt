@@ -1,6 +1,0 @@
--- The law is a lemma over the definitions alone.
-use Rattle.elaborated_orders.proofs.SourceBodies.{source_bodies}
-use Rattle.elaborated_orders.proofs.source_bodies.source_bodies_have_their_methods.Goals as goal
-
-pub returns : goal.returns
-returns c = source_bodies

@@ -1,6 +1,0 @@
--- The law is a lemma over the definitions alone.
-use Rattle.elaborated_orders.proofs.ElaboratedVariables.{bodies_in_order}
-use Rattle.elaborated_orders.proofs.variable_orders.elaborated_bodies_are_in_order.Goals as goal
-
-pub returns : goal.returns
-returns c = bodies_in_order

@@ -1,9 +1,0 @@
--- The law is a lemma over the definitions alone.
-use Rattle.elaborated_typing.proofs.BodyTyping.{body_has_parameters, body_variables_declarable}
-use Rattle.elaborated_typing.proofs.body_typing.accepted_body_has_its_variables.Goals as goal
-
-pub returns-clause-declarable : goal.returns-clause-declarable
-returns-clause-declarable c = body_variables_declarable
-
-pub returns-clause-parameters : goal.returns-clause-parameters
-returns-clause-parameters c = body_has_parameters

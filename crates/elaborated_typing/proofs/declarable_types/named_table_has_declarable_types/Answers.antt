@@ -1,6 +1,0 @@
--- The law is a lemma over the definitions alone.
-use Rattle.elaborated_typing.proofs.WrittenTypeLaws.{declarable_types}
-use Rattle.elaborated_typing.proofs.declarable_types.named_table_has_declarable_types.Goals as goal
-
-pub returns : goal.returns
-returns c p typed final classes are u = declarable_types p typed classes are final u

@@ -1,6 +1,0 @@
--- The law is a lemma over the definitions alone.
-use Rattle.elaborated_typing.proofs.ElaboratedLaws.{elaborated_typed}
-use Rattle.elaborated_typing.proofs.elaborated_programs.elaborated_program_is_typed.Goals as goal
-
-pub returns : goal.returns
-returns c = elaborated_typed

@@ -1,6 +1,0 @@
--- The law is a lemma over the definitions alone.
-use Rattle.elaborated_typing.proofs.FinalString.{bodies_are_not_string}
-use Rattle.elaborated_typing.proofs.string_class.no_source_body_is_of_string.Goals as goal
-
-pub returns : goal.returns
-returns c = bodies_are_not_string

@@ -1,6 +1,0 @@
--- The law is a lemma over the definitions alone.
-use Rattle.elaborated_typing.proofs.KeptValidity.{with_bodies_typed}
-use Rattle.elaborated_typing.proofs.typed_programs.program_with_bodies_is_typed.Goals as goal
-
-pub returns : goal.returns
-returns c = with_bodies_typed

@@ -1,6 +1,0 @@
--- The law is a lemma over the definitions alone.
-use Rattle.elaborated_typing.proofs.MethodsWithBodies.{has_bodies}
-use Rattle.elaborated_typing.proofs.validity.elaborated_program_has_bodies.Goals as goal
-
-pub returns : goal.returns
-returns c = has_bodies

@@ -1,0 +1,5 @@
+use Rattle.fact_laws.proofs.OwedFacts.{kept_at_other_steps}
+use Rattle.fact_laws.proofs.owned_fact.owed_fact_at_other_steps.Goals as goal
+
+pub returns : goal.returns
+returns c = kept_at_other_steps

@@ -1,1 +1,0 @@
-pub use Rattle.place_laws.specs.Places

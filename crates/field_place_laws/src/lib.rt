@@ -1,2 +1,0 @@
-//! Where `this` and its owning fields stand in the places of a frame, and where each place takes its value from.
-#![tactic(auto)]

@@ -1,0 +1,5 @@
+use Rattle.frame_laws.proofs.TargetLaws.{target_is_this}
+use Rattle.frame_laws.proofs.frames.target_is_this.Goals as goal
+
+pub returns : goal.returns
+returns c = target_is_this

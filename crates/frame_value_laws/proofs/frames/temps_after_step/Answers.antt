@@ -1,5 +1,0 @@
-use Rattle.frame_value_laws.proofs.Temps.{temps_after_step}
-use Rattle.frame_value_laws.proofs.frames.temps_after_step.Goals as goal
-
-pub returns : goal.returns
-returns c = temps_after_step

@@ -1,6 +1,0 @@
--- The law is a lemma over the definitions alone.
-use Rattle.front_laws.proofs.OneFront.{one_trees}
-use Rattle.front_laws.proofs.laws.trees_are_one.Goals as goal
-
-pub returns : goal.returns
-returns c = one_trees

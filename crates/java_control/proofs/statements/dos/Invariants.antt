@@ -1,0 +1,10 @@
+use Rattle.std.proofs.Common.{◌≡◌, ◌++◌, drop, map}
+use Rattle.java_control.specs.Remaining.{Do}
+use Rattle.java_control.specs.Tables.{bare, highest_of}
+use Rattle.java_control.proofs.statements.dos.Given as goal
+
+abbrev pub invariant-loop-s : goal.invariant-loop-s
+invariant-loop-s l = record {
+  means : map bare l.items.items ++ map (λ s. Do s l.d) (drop l.s-index l.statements) ≡ map (λ s. Do s l.d) l.statements;
+  small : highest_of l.items.items ≡ 0;
+}

@@ -1,6 +1,0 @@
--- The law is a lemma over the definitions alone.
-use Rattle.java_statement_laws.proofs.StatementLaws.{statements_well}
-use Rattle.java_statement_laws.proofs.laws.accepted_statements_are_well_formed.Goals as goal
-
-pub returns : goal.returns
-returns c context typed catches ts none = statements_well context (typed, catches) ts none

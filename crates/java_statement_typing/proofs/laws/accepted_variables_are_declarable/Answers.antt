@@ -1,9 +1,0 @@
--- The law is a lemma over the definitions alone.
-use Rattle.java_statement_typing.proofs.VariableLaws.{statements_declare}
-use Rattle.java_statement_typing.proofs.laws.accepted_variables_are_declarable.Goals as goal
-
-pub returns-clause-count : goal.returns-clause-count
-returns-clause-count c context types ts none = (statements_declare context types ts none).count
-
-pub returns-clause-declarable : goal.returns-clause-declarable
-returns-clause-declarable c context types ts none = (statements_declare context types ts none).declarable

@@ -1,6 +1,0 @@
--- The law is a lemma over the definitions alone.
-use Rattle.java_statement_typing.proofs.TableLaws.{typed_members}
-use Rattle.java_statement_typing.proofs.laws.typed_program_has_typed_members.Goals as goal
-
-pub returns : goal.returns
-returns c = typed_members

@@ -1,5 +1,0 @@
-pub mod Scopes
-pub mod Tables
-pub mod TypedBodies
-pub mod TypedForms
-pub mod TypedStatements

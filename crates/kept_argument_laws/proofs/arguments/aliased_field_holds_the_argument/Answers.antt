@@ -1,5 +1,0 @@
-use Rattle.kept_argument_laws.proofs.KeptArguments.{field_holds}
-use Rattle.kept_argument_laws.proofs.arguments.aliased_field_holds_the_argument.Goals as goal
-
-pub returns : goal.returns
-returns c = field_holds

@@ -1,5 +1,0 @@
-use Rattle.library_call_laws.proofs.Laws.{exceptions_keep_links-links, exceptions_keep_links-evolves}
-use Rattle.library_call_laws.proofs.calls.exceptions_keep_links.Goals as goal
-
-pub returns : goal.returns
-returns c = record { links = exceptions_keep_links-links; evolves = exceptions_keep_links-evolves }

@@ -1,5 +1,0 @@
-use Rattle.library_call_laws.proofs.Laws.{library_aliases_are_older_or_made}
-use Rattle.library_call_laws.proofs.calls.library_aliases_are_older_or_made.Goals as goal
-
-pub returns : goal.returns
-returns c = library_aliases_are_older_or_made

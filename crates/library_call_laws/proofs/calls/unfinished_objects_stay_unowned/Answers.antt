@@ -1,5 +1,0 @@
-use Rattle.library_call_laws.proofs.Laws.{unfinished_objects_stay_unowned-call, unfinished_objects_stay_unowned-exception}
-use Rattle.library_call_laws.proofs.calls.unfinished_objects_stay_unowned.Goals as goal
-
-pub returns : goal.returns
-returns c = record { call = unfinished_objects_stay_unowned-call; exception = unfinished_objects_stay_unowned-exception }

@@ -1,9 +1,0 @@
-use Rattle.std.proofs.Common.{rules, ◌≡◌, true}
-use Rattle.machine_calls.proofs.DropLaws.{still_top}
-use Rattle.machine_calls.proofs.library.library_spread.Goals as goal
-
-pub spread_call-requires : goal.spread_call-requires
-spread_call-requires c =
-    let settled : c.args.settled ≡ true = search rules in
-    let keeps : c.keeps_all.result ≡ true = search rules in
-    record { settled = still_top c.args.heap.now c.args.top.now.locals c.args.locals.now c.args.below.now (c.requires settled) (c.keeps_all.ensures keeps) }

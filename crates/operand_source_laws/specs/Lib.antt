@@ -1,2 +1,0 @@
-pub mod Origins
-pub use Rattle.operand_type_laws.specs.Operands

@@ -1,6 +1,0 @@
-pub mod Items
-pub mod Types
-pub mod Conditions
-pub mod Fronts
-pub mod Statements
-pub mod Ways

@@ -1,2 +1,0 @@
-pub mod Operands
-pub use Rattle.program_conditions.specs.Conditions

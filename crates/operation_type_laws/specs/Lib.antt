@@ -1,2 +1,0 @@
-pub mod Values
-pub use Rattle.ledger_operations.specs.Places

@@ -1,4 +1,0 @@
-pub mod Alike
-pub mod SameCases
-pub mod SameRuns
-pub mod SignedTables

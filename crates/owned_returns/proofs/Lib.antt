@@ -1,5 +1,0 @@
-mod ThrownLaws
-pub mod LeftLaws
-pub mod OwnedLaws
-pub mod OwnedLines
-pub mod ThereLaws

@@ -1,9 +1,0 @@
--- The laws are lemmas over the definitions alone.
-use Rattle.parsed_tokens.proofs.Listed.{infix_listed, compound_listed}
-use Rattle.parsed_tokens.proofs.laws.operators_are_listed.Goals as goal
-
-pub returns-clause-between : goal.returns-clause-between
-returns-clause-between c = infix_listed
-
-pub returns-clause-compound : goal.returns-clause-compound
-returns-clause-compound c = compound_listed

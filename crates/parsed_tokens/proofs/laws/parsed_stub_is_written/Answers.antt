@@ -1,6 +1,0 @@
--- The law is a lemma over the definitions alone.
-use Rattle.parsed_tokens.proofs.Parsed.{parsed_stub}
-use Rattle.parsed_tokens.proofs.laws.parsed_stub_is_written.Goals as goal
-
-pub returns : goal.returns
-returns c = parsed_stub

@@ -1,1 +1,0 @@
-pub use Rattle.rlc_base.proofs.SetLaws

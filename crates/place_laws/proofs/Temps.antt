@@ -1,0 +1,96 @@
+-- The temps that are known to hold no object after a step hold none.
+use Rattle.std.proofs.Common.{◌≡◌, ◌∙◌, ap, refl, sym, subst, arith, ℕ, ◌<◌, ◌≤◌, Bool, true, false, ◌&&◌, true≢false, Option, Some, None, List, length, map, max, min, inl, inr, if◌then◌else◌}
+use Rattle.std.specs.Prelude.{nat_eq, slice_get}
+use Rattle.std.specs.List.{range_with_len}
+use Rattle.std.proofs.lemmas.Bool.{cases_lt}
+use Rattle.std.proofs.lemmas.Option.{slice_get-get_or, slice_get_past}
+use Rattle.std.proofs.lemmas.List.FromFn.{get_or-map-range_with_len, length-map-range_with_len}
+use Rattle.program_model.specs.declared.kinds.MethodId.{MethodId}
+use Rattle.program_model.specs.declared.program.Program.{Program}
+use Rattle.program_model.specs.declared.tree.Body.{Body}
+use Rattle.java_control.specs.declared.action.Action.{Action}
+use Rattle.java_control.specs.declared.action.Action.TheVariants as actions
+use Rattle.java_control.specs.declared.action.Edge.{Edge}
+use Rattle.java_control.specs.declared.place.Place.{Place}
+use Rattle.java_control.specs.declared.place.Place.TheVariants as places
+use Rattle.java_control.specs.Sources.{emptied, is_throws, source}
+use Rattle.ledger_state.specs.Contents.{HeapContents}
+use Rattle.ledger_state.specs.Locals.{temp_value}
+use Rattle.ledger_state.specs.Values.{value_or_nothing}
+use Rattle.ledger_state.specs.declared.locals.Locals.{Locals}
+use Rattle.ledger_state.specs.declared.value.Value.{Value}
+use Rattle.ledger_state.specs.declared.value.Value.TheVariants as values
+use Rattle.ledger_frames.specs.Choosing.{method_body}
+use Rattle.ledger_frames.specs.Frames.{depth_of, is_made, locals_after, made_place, sourced, source_by, value_after}
+use Rattle.ledger_frames.specs.Places.{place_value}
+use Rattle.step_laws.specs.Operands.{GivesNone, left_held}
+use Rattle.step_laws.specs.Origins.{ComesFromNone, IsCastToNone, MakesNone, TakesNone}
+use Rattle.step_laws.proofs.Origins.{left}
+use Rattle.place_laws.specs.Values.{IsNoObjectBut, temp_holds_none}
+use Rattle.place_laws.specs.FrameValues.{FieldsHoldNone, VariablesHoldNone}
+
+below_range : (n x : ℕ) → x < 64 → x < n → x < min n 4294967296
+below_range n x small inside = omega (arith, small, inside)
+
+value_at : (f : ℕ → Value) (n x : ℕ) → x < 64 → x < n → value_or_nothing (slice_get (map f (range_with_len 0 (min n 4294967296))) x) ≡ f x
+value_at f n x small inside =
+    let all : List Value = map f (range_with_len 0 (min n 4294967296)) in
+    let long : length all ≡ min n 4294967296 = length-map-range_with_len f 0 (min n 4294967296) in
+    let there : x < length all = subst (λ (k : ℕ). x < k) (sym long) (below_range n x small inside) in
+    ap value_or_nothing (slice_get-get_or all x values.Nothing there) ∙ get_or-map-range_with_len f 0 (min n 4294967296) x x values.Nothing (below_range n x small inside) (omega arith)
+
+nothing_at : (f : ℕ → Value) (n x : ℕ) → n ≤ x → value_or_nothing (slice_get (map f (range_with_len 0 (min n 4294967296))) x) ≡ values.Nothing
+nothing_at f n x past =
+    let all : List Value = map f (range_with_len 0 (min n 4294967296)) in
+    let long : length all ≡ min n 4294967296 = length-map-range_with_len f 0 (min n 4294967296) in
+    ap value_or_nothing (slice_get_past all x (omega (arith, past, long)))
+
+no_cast : (t : Bool) (d x : ℕ) → t ≡ false → emptied (t && nat_eq d x) (places.Temp x) ≡ Some (places.Temp x)
+no_cast true d x is = absurd (true≢false is)
+no_cast false d x is = refl
+
+-- the objects of class `String` are these
+module _ (texts : ℕ → Bool) where
+  module _ (p : Program) (h : HeapContents) (m : MethodId) (b : Body) (l : Locals) (v : Value) (a : Action) (e : Edge) (x : ℕ) (body : method_body p m ≡ Some b) (small : x < 64) where
+    -- a temp that the frame has after the step, by its source
+    sourced_there : (o : Option Place) → x < max (length l.temps) (depth_of a) → source p b a e (places.Temp x) ≡ o → temp_value (locals_after p h m l a e v) x ≡ sourced p h m l a v (places.Temp x) o
+    sourced_there o inside is =
+        value_at (λ d. value_after p h m l a e v (places.Temp d)) (max (length l.temps) (depth_of a)) x small inside
+        ∙ ap (λ (y : Option Body). sourced p h m l a v (places.Temp x) (source_by p y a e (places.Temp x))) body ∙ ap (sourced p h m l a v (places.Temp x)) is
+
+    module _ (variables : VariablesHoldNone texts b l) (fields : FieldsHoldNone texts p h m b l) (makes : is_throws e ≡ false → MakesNone p a → IsNoObjectBut texts v) (casts : is_throws e ≡ false → IsCastToNone a x → IsNoObjectBut texts (temp_value l x)) where
+      place_none : (y : Place) → GivesNone p b y (temp_holds_none texts l) → IsNoObjectBut texts (place_value p h m l y)
+      place_none (places.Var i) gives = variables i gives
+      place_none (places.Field k) gives = fields k gives
+      place_none (places.Temp d) gives = gives
+      place_none places.This gives = absurd gives
+      place_none places.Super gives = absurd gives
+
+      made_none : (t : Bool) → IsNoObjectBut texts v → IsNoObjectBut texts (if t then v else values.Nothing)
+      made_none true none = none
+      made_none false none = refl
+
+      source_none : (o : Option Place) → ComesFromNone p b (temp_holds_none texts l) ((is_throws e ≡ false) × MakesNone p a) o → IsNoObjectBut texts (sourced p h m l a v (places.Temp x) o)
+      source_none None none = made_none (is_made (made_place a) (places.Temp x)) (makes none.0 none.1)
+      source_none (Some y) none = place_none y none
+
+      cast_source : (c : Action) → is_throws e ≡ false → IsCastToNone c x → source p b c e (places.Temp x) ≡ Some (places.Temp x)
+      cast_source (actions.Cast t d) goes is = no_cast (is_throws e) d x goes
+      cast_source actions.Skip goes is = absurd is
+      cast_source c goes is = absurd is
+
+      inside_none : x < max (length l.temps) (depth_of a) → TakesNone p b a e (temp_holds_none texts l) x → temp_holds_none texts (locals_after p h m l a e v) x
+      inside_none inside (inl comes) = subst (IsNoObjectBut texts) (sym (sourced_there (source p b a e (places.Temp x)) inside refl)) (source_none (source p b a e (places.Temp x)) comes)
+      inside_none inside (inr cast) = subst (IsNoObjectBut texts) (sym (sourced_there (Some (places.Temp x)) inside (cast_source a cast.0 cast.1))) (casts cast.0 cast.1)
+
+      pub after_none : TakesNone p b a e (temp_holds_none texts l) x → temp_holds_none texts (locals_after p h m l a e v) x
+      after_none takes = elim (cases_lt x (max (length l.temps) (depth_of a))) [
+        | inl inside ↦ inside_none inside takes
+        | inr past ↦ subst (IsNoObjectBut texts) (sym (nothing_at (λ d. value_after p h m l a e v (places.Temp d)) (max (length l.temps) (depth_of a)) x past)) refl
+      ]
+
+  pub temps_after_step : (p : Program) (h : HeapContents) (m : MethodId) (b : Body) (l : Locals) (v : Value) (a : Action) (e : Edge) (x : ℕ) → method_body p m ≡ Some b → x < 64 → VariablesHoldNone texts b l → FieldsHoldNone texts p h m b l
+      → (is_throws e ≡ false → MakesNone p a → IsNoObjectBut texts v) → (is_throws e ≡ false → IsCastToNone a x → IsNoObjectBut texts (temp_value l x)) → left_held p b a e (temp_holds_none texts l) x
+      → temp_holds_none texts (locals_after p h m l a e v) x
+  temps_after_step p h m b l v a e x body small variables fields makes casts has =
+      after_none p h m b l v a e x body small variables fields makes casts (left p b (temp_holds_none texts l) x small a e has)

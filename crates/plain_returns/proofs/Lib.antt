@@ -1,2 +1,0 @@
-pub mod ReturnLaws
-pub mod MoveLaws

@@ -1,3 +1,0 @@
-pub mod LostLaws
-pub mod OwnerLaws
-pub mod ThrowLaws

@@ -1,3 +1,0 @@
-pub mod Exceptions
-pub mod LostObjects
-pub mod PlainSteps

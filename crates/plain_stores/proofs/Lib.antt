@@ -1,4 +1,0 @@
-pub mod SameLinks
-pub mod StoreLaws
-pub mod KeptLaws
-pub mod StoreLines

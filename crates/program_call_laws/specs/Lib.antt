@@ -1,9 +1,0 @@
-pub mod ProgramCalls
-pub use Rattle.heap_laws.specs.Heaps
-pub use Rattle.heap_laws.specs.Leading
-pub use Rattle.ledger_calls.specs.Calls
-pub use Rattle.ledger_calls.specs.Conducts
-pub use Rattle.ledger_calls.specs.Configuration
-pub use Rattle.ledger_operations.specs.Operations
-pub use Rattle.ledger_operations.specs.Places
-pub use Rattle.ledger_obligations.specs.Obligations

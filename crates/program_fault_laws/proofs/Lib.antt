@@ -1,3 +1,0 @@
-pub mod CountOnce
-pub mod StopOnce
-pub mod Rooms

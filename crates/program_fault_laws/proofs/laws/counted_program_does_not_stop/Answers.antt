@@ -1,6 +1,0 @@
--- The law is a lemma over the definitions alone.
-use Rattle.program_fault_laws.proofs.StopOnce.{counted_goes_on}
-use Rattle.program_fault_laws.proofs.laws.counted_program_does_not_stop.Goals as goal
-
-pub returns : goal.returns
-returns c = counted_goes_on

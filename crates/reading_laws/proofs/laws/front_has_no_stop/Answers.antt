@@ -1,6 +1,0 @@
--- The law is a lemma over the definitions alone.
-use Rattle.reading_laws.proofs.OneReading.{no_files_stop}
-use Rattle.reading_laws.proofs.laws.front_has_no_stop.Goals as goal
-
-pub returns : goal.returns
-returns c = no_files_stop

@@ -1,0 +1,6 @@
+-- The law is a lemma over the definitions alone.
+use Rattle.reading_laws.proofs.Parsed.{parsed_unit}
+use Rattle.reading_laws.proofs.parsed_tokens.parsed_unit_is_written.Goals as goal
+
+pub returns : goal.returns
+returns c = parsed_unit

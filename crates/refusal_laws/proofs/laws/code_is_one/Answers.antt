@@ -1,6 +1,0 @@
--- The law is a lemma over the definitions alone.
-use Rattle.refusal_laws.proofs.OneRefusal.{one_code}
-use Rattle.refusal_laws.proofs.laws.code_is_one.Goals as goal
-
-pub returns : goal.returns
-returns c = one_code

@@ -1,6 +1,0 @@
--- The law is a lemma over the definitions alone.
-use Rattle.refusal_laws.proofs.OneRefusal.{one_first}
-use Rattle.refusal_laws.proofs.laws.first_refusal_is_one.Goals as goal
-
-pub returns : goal.returns
-returns c = one_first

@@ -1,5 +1,0 @@
-use Rattle.safe_run_laws.proofs.Answers.{safe_answer}
-use Rattle.safe_run_laws.proofs.laws.safe_answer_leaks_nothing.Goals as goal
-
-pub returns : goal.returns
-returns c = safe_answer

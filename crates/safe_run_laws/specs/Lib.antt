@@ -1,1 +1,0 @@
-pub use Rattle.soundness_laws.specs.Plain

@@ -1,0 +1,159 @@
+-- The bodies of the program are typed trees.
+use Rattle.std.proofs.Common.{◌≡◌, ◌<◌, ℕ, zero, suc, refl, ap, sym, false, ◌∙◌, Some, [], ◌∷◌, count_by, nat_eq, lit<, arith, inr}
+use Rattle.program_model.specs.declared.kinds.BodyId.{BodyId}
+use Rattle.program_model.specs.declared.kinds.ClassId.{ClassId}
+use Rattle.program_model.specs.declared.kinds.ExprId.{ExprId}
+use Rattle.program_model.specs.declared.kinds.VType.TheVariants as types
+use Rattle.program_model.specs.declared.kinds.StmtId.{StmtId}
+use Rattle.program_model.specs.declared.tree.Body.{Body}
+use Rattle.program_model.specs.declared.tree.TExpr.{TExpr}
+use Rattle.program_model.specs.declared.tree.TStmt.{TStmt}
+use Rattle.program_model.specs.declared.tree.Var.{Var}
+use Rattle.program_model.specs.Heads.{AgreeOnInitializers, initialized_fields, is_head, is_super_call}
+use Rattle.program_model.specs.Hierarchy.{itself}
+use Rattle.program_model.specs.Lookups.{body_at, expression_at, statement_at}
+use Rattle.program_model.specs.Trees.{IsForest, expression_children, statement_children}
+use Rattle.program_model.specs.Typing.{IsDeclarable, IsDeclarator}
+use Rattle.program_model.specs.Validity.{IsOrderedBody, IsValidBody, IsValidExpression, IsValidStatement}
+use Rattle.safety_examples.specs.OwnerPrograms.{expression_number, statement_number}
+use Rattle.safety_examples.specs.OwnerPrograms.{resource}
+use Rattle.safety_examples.specs.AliasPrograms.{alias_declarator, aliasing, main_variables, resource_declarator, running, pass_variables, passing}
+use Rattle.safety_examples.proofs.Hierarchy.{increasing}
+use Rattle.safety_examples.proofs.Tests.{all_none, all_of, holds_at}
+
+other_number : (c d : ClassId) → c ≡ d → c.0 ≡ d.0
+other_number c d same = ap (λ (x : ClassId). x.0) same
+
+pub resource_declarable : IsDeclarable aliasing (types.Obj resource)
+resource_declarable = (lit< tt, λ same. absurd (let wrong : 11 ≡ 1 = other_number _ _ same in omega arith))
+
+-- ---- `pass`
+
+pass_parent : (k : ℕ) → k < 1 → count_by (λ j. nat_eq j k) (expression_children passing) ≡ 1
+pass_parent zero within = refl
+pass_parent (suc k) within = absurd (omega arith)
+
+pass_block : (k : ℕ) → k < 1 → count_by (λ j. nat_eq j k) (statement_children passing) ≡ 1
+pass_block zero within = refl
+pass_block (suc k) within = absurd (omega arith)
+
+pass_forest : IsForest passing
+pass_forest = record {
+  small = lit< tt;
+  short = lit< tt;
+  own = all_of (λ (s : StmtId). s.0 < 1) (statement_number 0 ∷ []) (lit< tt, tt);
+  one_parent = pass_parent;
+  one_block = pass_block;
+}
+
+pass_statements : (s : StmtId) (x : TStmt) → statement_at passing s ≡ Some x → IsValidStatement aliasing passing s x
+pass_statements s x at =
+    holds_at (λ i (y : TStmt). IsValidStatement aliasing passing (statement_number i) y) passing.statements.items s.0 x (
+      record {
+        parts = (all_none (λ (t : StmtId). t.0 < 0), all_of (λ (e : ExprId). e.0 < 1) (expression_number 0 ∷ []) (lit< tt, tt));
+        headless = all_none (λ t. is_head passing t ≡ false);
+        typed = inr (itself resource);
+      },
+      tt,
+    ) at
+
+pass_expressions : (e : ExprId) (x : TExpr) → expression_at passing e ≡ Some x → IsValidExpression aliasing passing e x
+pass_expressions e x at =
+    holds_at (λ i (y : TExpr). IsValidExpression aliasing passing (expression_number i) y) passing.expressions.items e.0 x
+    (record { operands = all_none (λ (o : ExprId). o.0 < 0); typed = refl }, tt) at
+
+pass_valid : IsValidBody aliasing (record { 0 = 0 }) passing
+pass_valid = record {
+  method = (refl, (refl, tt));
+  variables = all_of (λ (x : Var). IsDeclarable aliasing x.vtype) pass_variables (resource_declarable, tt);
+  forest = pass_forest;
+  heads = all_none (λ t. is_head passing t ≡ false);
+  super_call = all_none (λ t. is_super_call passing t ≡ false);
+  statements = pass_statements;
+  expressions = pass_expressions;
+}
+
+-- ---- `main`
+
+main_parent : (k : ℕ) → k < 5 → count_by (λ j. nat_eq j k) (expression_children running) ≡ 1
+main_parent zero within = refl
+main_parent (suc zero) within = refl
+main_parent (suc (suc zero)) within = refl
+main_parent (suc (suc (suc zero))) within = refl
+main_parent (suc (suc (suc (suc zero)))) within = refl
+main_parent (suc (suc (suc (suc (suc k))))) within = absurd (omega arith)
+
+main_block : (k : ℕ) → k < 3 → count_by (λ j. nat_eq j k) (statement_children running) ≡ 1
+main_block zero within = refl
+main_block (suc zero) within = refl
+main_block (suc (suc zero)) within = refl
+main_block (suc (suc (suc k))) within = absurd (omega arith)
+
+main_forest : IsForest running
+main_forest = record {
+  small = lit< tt;
+  short = lit< tt;
+  own = all_of (λ (s : StmtId). s.0 < 3) (statement_number 0 ∷ statement_number 1 ∷ statement_number 2 ∷ []) (lit< tt, (lit< tt, (lit< tt, tt)));
+  one_parent = main_parent;
+  one_block = main_block;
+}
+
+main_statements : (s : StmtId) (x : TStmt) → statement_at running s ≡ Some x → IsValidStatement aliasing running s x
+main_statements s x at =
+    holds_at (λ i (y : TStmt). IsValidStatement aliasing running (statement_number i) y) running.statements.items s.0 x (
+      record {
+        parts = (all_none (λ (t : StmtId). t.0 < 0), all_of (λ (e : ExprId). e.0 < 5) (expression_number 0 ∷ []) (lit< tt, tt));
+        headless = all_none (λ t. is_head running t ≡ false);
+        typed = all_of (IsDeclarator aliasing running) (resource_declarator ∷ []) (inr (itself resource), tt);
+      },
+      (
+        record {
+          parts = (all_none (λ (t : StmtId). t.0 < 1), all_of (λ (e : ExprId). e.0 < 5) (expression_number 2 ∷ []) (lit< tt, tt));
+          headless = all_none (λ t. is_head running t ≡ false);
+          typed = all_of (IsDeclarator aliasing running) (alias_declarator ∷ []) (inr (itself resource), tt);
+        },
+        (
+          record {
+            parts = (all_none (λ (t : StmtId). t.0 < 2), all_of (λ (e : ExprId). e.0 < 5) (expression_number 4 ∷ []) (lit< tt, tt));
+            headless = all_none (λ t. is_head running t ≡ false);
+            typed = tt;
+          },
+          tt,
+        ),
+      ),
+    ) at
+
+main_expressions : (e : ExprId) (x : TExpr) → expression_at running e ≡ Some x → IsValidExpression aliasing running e x
+main_expressions e x at =
+    holds_at (λ i (y : TExpr). IsValidExpression aliasing running (expression_number i) y) running.expressions.items e.0 x
+    (record { operands = all_none (λ (o : ExprId). o.0 < 0); typed = ((refl, refl, tt), refl, refl, refl) }, (record { operands = all_none (λ (o : ExprId). o.0 < 1); typed = refl }, (record { operands = all_of (λ (o : ExprId). o.0 < 2) (expression_number 1 ∷ []) (lit< tt, tt); typed = (refl, (inr (itself resource), tt), refl) }, (record { operands = all_none (λ (o : ExprId). o.0 < 3); typed = refl }, (record { operands = all_of (λ (o : ExprId). o.0 < 4) (expression_number 3 ∷ []) (lit< tt, tt); typed = ((refl, refl, itself resource), tt, refl) }, tt))))) at
+
+main_valid : IsValidBody aliasing (record { 0 = 1 }) running
+main_valid = record {
+  method = (refl, (refl, tt));
+  variables = all_of (λ (x : Var). IsDeclarable aliasing x.vtype) main_variables (tt, (resource_declarable, (resource_declarable, tt)));
+  forest = main_forest;
+  heads = all_of (λ t. is_head running t ≡ false) (statement_number 1 ∷ statement_number 2 ∷ []) (refl, (refl, tt));
+  super_call = all_of (λ t. is_super_call running t ≡ false) (statement_number 1 ∷ statement_number 2 ∷ []) (refl, (refl, tt));
+  statements = main_statements;
+  expressions = main_expressions;
+}
+
+-- ---- both bodies
+
+pub valid_bodies : (b : BodyId) (x : Body) → body_at aliasing b ≡ Some x → IsValidBody aliasing b x
+valid_bodies b x at = holds_at (λ i (y : Body). IsValidBody aliasing (record { 0 = i }) y) aliasing.bodies.items b.0 x (pass_valid, (main_valid, tt)) at
+
+pub ordered_bodies : (b : BodyId) (x : Body) → body_at aliasing b ≡ Some x → IsOrderedBody aliasing x
+ordered_bodies b x at =
+    holds_at (λ i (y : Body). IsOrderedBody aliasing y) aliasing.bodies.items b.0 x (
+      record { variables = refl; jumps = refl; super_call = refl; initializers = increasing [] refl },
+      (record { variables = (refl, (refl, refl)); jumps = refl; super_call = refl; initializers = increasing [] refl }, tt),
+    ) at
+
+-- no body runs an initialiser
+initializes_nothing : (b : BodyId) (x : Body) → body_at aliasing b ≡ Some x → initialized_fields x ≡ []
+initializes_nothing b x at = holds_at (λ i (y : Body). initialized_fields y ≡ []) aliasing.bodies.items b.0 x (refl, (refl, tt)) at
+
+pub same_initializers : (b : BodyId) (x : Body) → body_at aliasing b ≡ Some x → (c : BodyId) (y : Body) → body_at aliasing c ≡ Some y → AgreeOnInitializers aliasing x y
+same_initializers b x at c y other k is same = initializes_nothing b x at ∙ sym (initializes_nothing c y other)

@@ -1,6 +1,0 @@
--- The law is a lemma over the definitions alone.
-use Rattle.settings_laws.proofs.OneReading.{one_default}
-use Rattle.settings_laws.proofs.laws.default_settings_are_one.Goals as goal
-
-pub returns : goal.returns
-returns c = one_default

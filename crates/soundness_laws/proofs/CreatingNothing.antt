@@ -1,0 +1,46 @@
+-- A program that creates no obligation anew: a test that computes over a program in hand.
+use Rattle.std.proofs.Common.{◌≡◌, ◌∙◌, ℕ, zero, suc, Bool, true, false, not, inl, Option, Some, None, List, [], ◌∷◌, slice_get, refl, sym, ap, true≢false}
+use Rattle.std.specs.Prelude.{is_some}
+use Rattle.std.specs.List.{list_all}
+use Rattle.std.proofs.lemmas.Bool.{and_parts}
+use Rattle.program_model.specs.declared.kinds.MethodId.{MethodId}
+use Rattle.program_model.specs.declared.program.Method.{Method}
+use Rattle.program_model.specs.declared.program.Program.{Program}
+use Rattle.program_model.specs.Lookups.{method_at}
+use Rattle.ledger_obligations.specs.Bodies.{reset_in}
+use Rattle.java_control.specs.Calls.{called_method}
+use Rattle.java_control.specs.declared.action.Action.{Action}
+use Rattle.content_laws.specs.PlainForms.{ResetsPlainly}
+use Rattle.ownership_rules.specs.Callees.{callee_in}
+use Rattle.soundness_laws.specs.Plain.{CreatesPlainly, creates_nothing}
+
+all_at : {X : Type 0} (test : X → Bool) (xs : List X) (n : ℕ) (x : X) → list_all test xs ≡ true → slice_get xs n ≡ Some x → test x ≡ true
+all_at test [] n x all at = absurd (none n at)
+  where
+    none : (n : ℕ) → slice_get [] n ≡ Some x → ⊥
+    none zero is = let never : None ≡ Some x = is in cc
+    none (suc n) is = let never : None ≡ Some x = is in cc
+all_at test (y ∷ ys) zero x all at = let same : y ≡ x = (let both : Some y ≡ Some x = at in cc) in sym (ap test same) ∙ (and_parts (test y) (list_all test ys) all).0
+all_at test (y ∷ ys) (suc n) x all at = all_at test ys n x (and_parts (test y) (list_all test ys) all).1 at
+
+none_there : (r : Option ℕ) → not (is_some r) ≡ true → r ≡ None
+none_there None is = refl
+none_there (Some k) is = absurd (true≢false (sym is))
+
+module _ (p : Program) (nothing : creates_nothing p ≡ true) where
+  no_reset : (m : MethodId) (n : Method) → method_at p m ≡ Some n → n.sig.reset ≡ None
+  no_reset m n at = none_there n.sig.reset (all_at (λ (x : Method). not (is_some x.sig.reset)) p.methods.items m.0 n nothing at)
+
+  none_in : (m : Option MethodId) → reset_in (callee_in p m) ≡ None
+  none_in None = refl
+  none_in (Some m) = go (method_at p m) refl
+    where
+      go : (x : Option Method) → method_at p m ≡ x → reset_in x ≡ None
+      go None at = refl
+      go (Some n) at = no_reset m n at
+
+  pub creates_plainly : CreatesPlainly p
+  creates_plainly = record {
+    bodies = λ b x m at_b at. no_reset x.method m at;
+    steps = λ b {k} i t comes there. inl (none_in (called_method t.action));
+  }

@@ -1,2 +1,0 @@
-pub mod SpreadCallLaws
-pub mod SpreadLists

@@ -1,0 +1,52 @@
+-- Steps that have their place: calls on objects and of super constructors, objects that are made, and stores into owning fields of `this`.
+use Rattle.std.specs.Prelude.{◌≡◌, true, false, IsSomeAnd, Contains}
+use Rattle.program_model.specs.declared.kinds.MethodId.{MethodId}
+use Rattle.program_model.specs.declared.kinds.MethodKind.TheVariants as methods
+use Rattle.program_model.specs.declared.kinds.StmtId.{StmtId}
+use Rattle.program_model.specs.declared.program.Program.{Program}
+use Rattle.program_model.specs.declared.tree.Body.{Body}
+use Rattle.program_model.specs.declared.tree.StatementKind.{StatementKind}
+use Rattle.program_model.specs.declared.tree.StatementKind.TheVariants as statements
+use Rattle.program_model.specs.Lookups.{class_at, method_at, statement_at}
+use Rattle.program_model.specs.Overrides.{is_abstract}
+use Rattle.java_control.specs.Owned.{declares_field, is_owning}
+use Rattle.java_control.specs.declared.action.Action.{Action}
+use Rattle.java_control.specs.declared.action.Action.TheVariants as actions
+use Rattle.java_control.specs.declared.action.TargetForm.TheVariants as forms
+
+-- the body is that of a constructor, and the method is a constructor of the class that the body's class extends
+abbrev pub IsOfSuperClass : Program → Body → MethodId → Type 0
+IsOfSuperClass p b m =
+    IsSomeAnd (method_at p b.method) (λ x. (x.kind ≡ methods.Ctor)
+    × IsSomeAnd (class_at p x.class) (λ k. IsSomeAnd k.sup (λ c. IsSomeAnd (method_at p m) (λ y. (y.kind ≡ methods.Ctor) × (y.class ≡ c)))))
+
+-- a super constructor is called by a constructor, and is one of the super class (JLS 8.8.7.1)
+abbrev pub CallsSuperClass : Program → Body → Action → Type 0
+CallsSuperClass p b (actions.Super m d n) = IsOfSuperClass p b m
+CallsSuperClass p b a = Unit {0}
+
+-- a call that has a target names an instance method (JLS 15.12.3)
+abbrev pub NamesInstance : Program → Action → Type 0
+NamesInstance p (actions.Call m d n forms.Static) = Unit {0}
+NamesInstance p (actions.Call m d n form) = IsSomeAnd (method_at p m) (λ x. x.kind ≡ methods.Instance)
+NamesInstance p a = Unit {0}
+
+-- the statement is the call of this super constructor
+abbrev pub IsCallOf : MethodId → StatementKind → Type 0
+IsCallOf m (statements.SuperCall c) = c.constructor ≡ m
+IsCallOf m k = ⊥
+
+-- a call of a super constructor is that of a super call among the body's own statements (JLS 8.8.7)
+abbrev pub StandsInBody : Body → Action → Type 0
+StandsInBody b (actions.Super m d n) = (s : StmtId) × Contains b.stmts.items s × IsSomeAnd (statement_at b s) (λ x. IsCallOf m x.kind)
+StandsInBody b a = Unit {0}
+
+-- the object of a `new` is of a class that is not abstract (JLS 15.9.1)
+abbrev pub MakesConcrete : Program → Action → Type 0
+MakesConcrete p (actions.New m d n) = IsSomeAnd (method_at p m) (λ x. is_abstract p x.class ≡ false)
+MakesConcrete p a = Unit {0}
+
+-- an owning field of `this` that is stored is one that the body's class declares
+abbrev pub StoresOwnField : Program → Body → Action → Type 0
+StoresOwnField p b (actions.PutOwn f d) = (is_owning p f ≡ true) × (declares_field p b f ≡ true)
+StoresOwnField p b a = Unit {0}

@@ -1,0 +1,26 @@
+//! Where exceptions stand while a body runs. Each law is the contract of a function that does nothing.
+
+ghost use Rattle.std.specs.Prelude.{◌≡◌, ℕ, Bool, true, Some, List, slice_get};
+ghost use Rattle.program_model.specs.declared.kinds.BodyId.{BodyId};
+ghost use Rattle.program_model.specs.declared.program.Program.{Program};
+ghost use Rattle.program_model.specs.declared.tree.Body.{Body};
+ghost use Rattle.program_model.specs.Lookups.{body_at};
+ghost use Rattle.program_model.specs.Validity.{IsTypedProgram};
+ghost use Rattle.java_control.specs.Control.{Step, next_of, start_of};
+ghost use Rattle.java_control.specs.Remaining.{Todo};
+ghost use Rattle.step_laws.specs.Operands.{nowhere_held};
+ghost use Rattle.step_laws.specs.ExceptionOperands.{FindsExceptions, Fits, TextsAreNoExceptions, left_held};
+
+/// When a body begins nothing is known of its temps, and each action that is to come finds the values that it asks: an exception
+/// or null where the static type is that of exceptions.
+pub fn start_finds_exceptions()
+    ensures { (p : Program) → IsTypedProgram p → TextsAreNoExceptions p → (n : BodyId) (b : Body) → body_at p n ≡ Some b → FindsExceptions p b (start_of p n) nowhere_held }
+{}
+
+/// Each step of such a control finds the values that it asks, a `throw` an exception or null among them, and leaves such a control. The temps that are
+/// known to hold an exception or null are those that `held` tells.
+pub fn steps_find_exceptions()
+    ensures { (p : Program) → IsTypedProgram p → TextsAreNoExceptions p → (n : BodyId) (b : Body) (k : List Todo) (i : ℕ) (t : Step) (held : ℕ → Bool) → body_at p n ≡ Some b
+        → FindsExceptions p b k (λ d. held d ≡ true) → slice_get (next_of p n k) i ≡ Some t
+        → Fits p b t.action (λ d. held d ≡ true) × FindsExceptions p b t.to (left_held p b t.action t.edge (λ d. held d ≡ true)) }
+{}

@@ -1,5 +1,0 @@
-use Rattle.store_laws.proofs.FrameEnds.{contents_end_met}
-use Rattle.store_laws.proofs.gone.contents_end_met.Goals as goal
-
-pub returns : goal.returns
-returns c = contents_end_met

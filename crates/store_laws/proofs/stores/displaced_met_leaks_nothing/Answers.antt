@@ -1,5 +1,0 @@
-use Rattle.store_laws.proofs.Objects.{displaced_leaks}
-use Rattle.store_laws.proofs.stores.displaced_met_leaks_nothing.Goals as goal
-
-pub returns : goal.returns
-returns c = λ p word pos h w f v. displaced_leaks p h w f v word pos

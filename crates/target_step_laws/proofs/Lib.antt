@@ -1,6 +1,0 @@
-pub mod Items
-pub mod Fronts
-pub mod Conditions
-pub mod Statements
-pub mod Ways
-pub mod Sources

@@ -1,6 +1,0 @@
--- The law is a lemma over the definitions alone.
-use Rattle.token_laws.proofs.OneCut.{one_cut}
-use Rattle.token_laws.proofs.laws.tokens_are_one.Goals as goal
-
-pub returns : goal.returns
-returns c = one_cut

@@ -1,2 +1,0 @@
-//! How a frame goes on to track an object over one step, and how births begin to.
-#![tactic(auto)]

@@ -1,5 +1,0 @@
-use Rattle.value_type_laws.proofs.Laws.{argument_is_no_object}
-use Rattle.value_type_laws.proofs.values.argument_is_no_object.Goals as goal
-
-pub returns : goal.returns
-returns c = argument_is_no_object

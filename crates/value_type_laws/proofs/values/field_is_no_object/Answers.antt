@@ -1,5 +1,0 @@
-use Rattle.value_type_laws.proofs.Fields.{field_is_none}
-use Rattle.value_type_laws.proofs.values.field_is_no_object.Goals as goal
-
-pub returns : goal.returns
-returns c = field_is_none

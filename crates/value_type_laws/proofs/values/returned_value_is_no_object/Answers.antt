@@ -1,5 +1,0 @@
-use Rattle.value_type_laws.proofs.Laws.{returned_value_is_no_object}
-use Rattle.value_type_laws.proofs.values.returned_value_is_no_object.Goals as goal
-
-pub returns : goal.returns
-returns c = returned_value_is_no_object

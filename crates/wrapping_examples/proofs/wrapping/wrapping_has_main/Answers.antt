@@ -1,5 +1,0 @@
-use Rattle.wrapping_examples.proofs.Accepted.{has_main}
-use Rattle.wrapping_examples.proofs.wrapping.wrapping_has_main.Goals as goal
-
-pub returns : goal.returns
-returns c = has_main
