@@ -28,6 +28,9 @@ pub use Rattle.program_reading.specs.SuperPass
 pub use Rattle.program_reading.specs.SuperTypes
 pub use Rattle.program_reading.specs.Surroundings
 pub use Rattle.program_reading.specs.Table
+pub use Rattle.program_reading.specs.TextCases
+pub use Rattle.program_reading.specs.ResultCases
+pub use Rattle.program_reading.specs.OwnerCases
 pub use Rattle.program_reading.specs.TypedBodies
 pub use Rattle.program_reading.specs.TypedPrograms
 pub use Rattle.program_reading.specs.TypedStatements

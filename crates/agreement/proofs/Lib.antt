@@ -8,9 +8,11 @@ pub use Rattle.heap_laws.proofs.Elements
 pub use Rattle.heap_laws.proofs.Emptied
 pub use Rattle.heap_laws.proofs.EndLaws
 pub use Rattle.heap_laws.proofs.EndLinks
-pub use Rattle.place_laws.proofs.ExceptionItems
-pub use Rattle.place_laws.proofs.ExceptionTypes
-pub use Rattle.place_laws.proofs.ExceptionWays
+pub use Rattle.heap_laws.proofs.EndResets
+pub use Rattle.heap_laws.proofs.ResetHeaps
+pub use Rattle.place_laws.proofs.ClassItems
+pub use Rattle.place_laws.proofs.ClassTypes
+pub use Rattle.place_laws.proofs.ClassWays
 pub use Rattle.place_laws.proofs.FieldPlaces
 pub use Rattle.heap_laws.proofs.Fields
 pub use Rattle.heap_laws.proofs.FrameEnds as HeapFrameEnds

@@ -46,6 +46,7 @@ use Rattle.heap_laws.specs.Heaps.{HasEarlierLinks}
 use Rattle.place_laws.specs.Places.{HasPlacesAlone, is_local}
 use Rattle.agreement.specs.Chains.{HaveEnds}
 use Rattle.agreement.specs.PlainForms.{MayRun, may_be_made}
+use Rattle.agreement.specs.Renewing.{fact_as, is_renewed}
 
 -- A fact speaks the truth of object `o`, which is `x`, in a frame of the method `m`: the frame owns the object, all that must be
 -- called on it is needed by the fact and by its class, all that the fact knows was called, and the places of the fact, of which there
@@ -60,18 +61,23 @@ pub record Follows (p : Program) (h : HeapContents) (m : MethodId) (l : Locals) 
   pub alone : HasPlacesAlone f.places
   pub places : (q : Place) → IsSmall q → has f.places q ≡ true → (is_local q ≡ true) × (root_of h (place_value p h m l q) ≡ Some o)
 
--- a path through the frame's body brings such a fact to the control where the frame stands
-pub record Tracks (p : Program) (h : HeapContents) (fr : Frame) (o : ℕ) (x : Object) : Type 0 where
+-- A path through the frame's body brings a fact to the control where the frame stands that is such, as it is read where the call at which the frame waits
+-- creates the object's obligation anew, which `anew` says.
+pub record TracksAs (p : Program) (h : HeapContents) (anew : Bool) (fr : Frame) (o : ℕ) (x : Object) : Type 0 where
   pub body : BodyId
   pub id : body_id p fr.method ≡ Some body
   pub origin : Origin
   pub fact : Fact
   pub reached : Reach p body (relation_of p body) origin fr.control fact
-  pub follows : Follows p h fr.method fr.locals o x origin fact
+  pub follows : Follows p h fr.method fr.locals o x origin (fact_as anew fact)
+
+-- a path brings a fact that is such to the control where the top frame stands
+abbrev pub Tracks : Program → HeapContents → Frame → ℕ → Object → Type 0
+Tracks p h fr o x = TracksAs p h false fr o x
 
 -- a frame that waits for the call at which it stands: none of the call's steps moves the object
 pub record Awaits (p : Program) (h : HeapContents) (fr : Frame) (o : ℕ) (x : Object) : Type 0 where
-  pub tracks : Tracks p h fr o x
+  pub tracks : TracksAs p h (is_renewed p h fr o) fr o x
   pub stays : (i : ℕ) (s : Step) → slice_get (frame_steps p fr) i ≡ Some s → moved_at_call p tracks.origin s.action s.edge tracks.fact ≡ moves.Moves → ⊥
 
 -- of these frames, which wait, the one at position `j` tracks the object

@@ -35,6 +35,7 @@ use Rattle.ledger_runs.specs.Configuration.{Frame}
 use Rattle.ledger_runs.specs.Choosing.{frame_steps}
 use Rattle.heap_laws.specs.Leading.{Leads}
 use Rattle.agreement.specs.PlainForms.{run_by}
+use Rattle.agreement.specs.Renewable.{IsFollowed, KeepsTextsOut}
 use Rattle.agreement.specs.PlaceFacts.{may_owe}
 use Rattle.agreement.specs.Safety.{constructs_object}
 
@@ -83,9 +84,9 @@ pub record IsContent (p : Program) (frs : List Frame) (h : HeapContents) (o : �
 abbrev pub HaveContents : Program → List Frame → HeapContents → Type 0
 HaveContents p frs h = (o : ℕ) (x : Object) (w : ℕ) (f : FieldId) → object_at h o ≡ Some x → is_unmet x ≡ true → x.owner ≡ owners.Field w f → IsContent p frs h o x w f
 
--- what fields own owning fields own
+-- what fields own owning fields own, and it is followed, where no text stands where the rule on owning fields looks
 abbrev pub OwningFieldsOwn : Program → HeapContents → Type 0
-OwningFieldsOwn p h = (o : ℕ) (x : Object) (w : ℕ) (f : FieldId) → object_at h o ≡ Some x → x.owner ≡ owners.Field w f → is_owning p f ≡ true
+OwningFieldsOwn p h = (o : ℕ) (x : Object) (w : ℕ) (f : FieldId) → object_at h o ≡ Some x → x.owner ≡ owners.Field w f → (is_owning p f ≡ true) × (KeepsTextsOut p → IsFollowed p x.class)
 
 -- calls on each object reach its root, where that is one whose class has an obligation, and that may owe a call
 abbrev pub LinksLead : Program → HeapContents → Type 0

@@ -1,4 +1,6 @@
+pub mod Renewable
 pub mod PlainForms
+pub mod Renewing
 pub mod LibraryClasses
 pub mod Chains
 pub mod Agreement
@@ -15,7 +17,7 @@ pub use Rattle.heap_laws.specs.Cases
 pub use Rattle.heap_laws.specs.Conducts
 pub use Rattle.place_laws.specs.Constructors
 pub use Rattle.place_laws.specs.Ends
-pub use Rattle.place_laws.specs.ExceptionOperands
+pub use Rattle.place_laws.specs.ClassOperands
 pub use Rattle.heap_laws.specs.Fitting
 pub use Rattle.place_laws.specs.FrameValues
 pub use Rattle.heap_laws.specs.Anew as HeapAnew

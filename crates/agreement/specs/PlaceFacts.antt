@@ -1,7 +1,7 @@
 -- Which facts stand for what the places of a frame hold: each place that holds an object whose class has an obligation, and that may owe
 -- a call, is in a fact that a path brings to the frame's control, and where such a fact says that the object is owned, what it says is
 -- true. Of each object, one fact of a frame at most says that the frame owns it.
-use Rattle.std.specs.Prelude.{◌≡◌, ◌⊎◌, ℕ, ◌+◌, ◌<◌, Bool, true, false, not, ◌&&◌, ◌||◌, Option, Some, None, List, [], ◌∷◌, length, nat_lt, slice_get}
+use Rattle.std.specs.Prelude.{◌≡◌, ◌⊎◌, ℕ, ◌+◌, ◌<◌, Bool, true, false, not, ◌&&◌, ◌||◌, Option, Some, None, List, [], ◌∷◌, length, nat_lt, slice_get, if◌then◌else◌}
 use Rattle.std.specs.List.{list_any}
 use Rattle.std.specs.FinSet as set
 use Rattle.program_model.specs.declared.kinds.BodyId.{BodyId}
@@ -13,7 +13,7 @@ use Rattle.program_model.specs.declared.program.ParamSig.{ParamSig}
 use Rattle.program_model.specs.declared.program.Program.{Program}
 use Rattle.program_model.specs.Lookups.{method_at}
 use Rattle.ownership_rules.specs.Bodies.{alias_in, constructs}
-use Rattle.ownership_rules.specs.MustCallSets.{fits, fits_type, is_empty, is_heavy_class, must_of, must_of_optional}
+use Rattle.ownership_rules.specs.MustCallSets.{Names, fits, fits_type, is_empty, is_heavy_class, must_of, must_of_optional, no_names}
 use Rattle.ownership_rules.specs.Signatures.{field_type, is_present}
 use Rattle.java_control.specs.PlaceNumbers.{IsSmall}
 use Rattle.java_control.specs.declared.action.Action.{Action}
@@ -25,7 +25,7 @@ use Rattle.java_control.specs.declared.fact.OriginKind.TheVariants as kinds
 use Rattle.java_control.specs.declared.place.Place.{Place}
 use Rattle.java_control.specs.declared.place.Place.TheVariants as place
 use Rattle.ownership_rules.specs.Callees.{callee}
-use Rattle.ownership_rules.specs.Facts.{PlaceSet, has, is_held, is_own, need}
+use Rattle.ownership_rules.specs.Facts.{PlaceSet, has, is_held, is_own, is_this_origin, need}
 use Rattle.place_laws.specs.Paths.{Reach, relation_of}
 use Rattle.ledger_state.specs.Contents.{HeapContents}
 use Rattle.ledger_state.specs.Heaps.{object_at, root_of, same_root}
@@ -42,6 +42,7 @@ use Rattle.ledger_runs.specs.Configuration.{Frame}
 use Rattle.ledger_runs.specs.Choosing.{body_id, frame_steps}
 use Rattle.place_laws.specs.Places.{HasPlacesAlone}
 use Rattle.agreement.specs.PlainForms.{is_lent_parameter}
+use Rattle.agreement.specs.Renewing.{IsLentFrom, fact_as, is_renewed, was_renewed}
 
 -- the object is not finished yet, or the library does not own it. (What the library owns it owns for ever. An alias of null is the library's.)
 abbrev pub may_owe : Object → Bool
@@ -92,19 +93,34 @@ fits_in p c (Some f) = fits_type p c (field_type p f)
 abbrev pub fits_field : Program → MethodId → ℕ → ClassId → Bool
 fits_field p m k c = fits_in p c (owning_field_beside p m k)
 
--- the origin is a lent parameter of the method, or `this` in a class that has an obligation
+-- the origin is a lent parameter of the method, or `this`
 abbrev pub is_lent_kind : Program → Method → OriginKind → Bool
 is_lent_kind p m (kinds.Param k) = is_lent_parameter p (slice_get m.sig.params.items k)
-is_lent_kind p m kinds.ThisRef = is_heavy_class p m.class
+is_lent_kind p m kinds.ThisRef = true
 is_lent_kind p m kind = false
 
 abbrev pub is_lent : Program → Option Method → OriginKind → Bool
 is_lent p None kind = false
 is_lent p (Some m) kind = is_lent_kind p m kind
 
--- the fact is that of a lent parameter, or of `this`, or it says that a field of `this` holds an object that has an obligation
+-- The names that the parameter, where it is lent, asks to be called on its argument before (`@CalledMethods`): the body may rely on them, and
+-- whether they were called is the caller's to say.
+abbrev pub asked_by : Program → Option ParamSig → Names
+asked_by p None = no_names
+asked_by p (Some x) = if is_lent_parameter p (Some x) then x.before else no_names
+
+-- those that the origin asks for
+abbrev pub asked_in : Program → Method → OriginKind → Names
+asked_in p m (kinds.Param k) = asked_by p (slice_get m.sig.params.items k)
+asked_in p m kind = no_names
+
+abbrev pub asked_of : Program → Option Method → OriginKind → Names
+asked_of p None kind = no_names
+asked_of p (Some m) kind = asked_in p m kind
+
+-- the fact is that of a lent parameter, or of `this`, or it says that a field of `this` holds the object
 abbrev pub tells_calls : Program → MethodId → Origin → Fact → Bool
-tells_calls p m o f = is_lent p (method_at p m) o.kind || is_heavy_class p o.class && is_held f.mode
+tells_calls p m o f = is_lent p (method_at p m) o.kind || is_held f.mode
 
 -- ---- what is given to a frame
 
@@ -171,24 +187,27 @@ abbrev pub is_content : Program → Frame → Owner → Fact → Bool
 is_content p fr owner f =
     is_held f.mode && (makes_alone (method_at p fr.method) || not (constructs (method_at p fr.method)) && is_field_of fr.locals.this owner)
 
--- the frame was not given the object, or a field of `this` holds it, or a frame below owns it
+-- a field of `this` holds the object; or the frame did not begin with a call that creates its obligation anew, and it was not given the object, or a frame
+-- below owns it
 abbrev pub is_apart : Program → HeapContents → List Frame → Frame → ℕ → Object → Fact → Bool
-is_apart p h frs fr o x f = not (was_given p h frs o x.class) || is_content p fr x.owner f || is_frame_below (length frs + 1) x.owner
+is_apart p h frs fr o x f =
+    is_content p fr x.owner f || not (was_renewed p h frs o) && (not (was_given p h frs o x.class) || is_frame_below (length frs + 1) x.owner)
 
 -- the fact says that the frame owns the object, and that it has an obligation
 abbrev pub is_owning_fact : Program → Origin → Fact → Bool
 is_owning_fact p o f = is_heavy_class p o.class && is_own f.mode
 
 -- A fact that a path brings to the frame's control stands for object `o`, which is `x`: all places of the fact hold the object. `frs` are the
--- frames below, and `away` says that the call at which the frame waits gives the object away.
--- Where the fact says that the object is owned, that is true, unless the frame owned it and it is given away. No frame owns what it claims that a field
--- holds.
--- Where the fact is that of a lent parameter, or of `this`, it says never that the frame owns it. What it then knows to be called on a finished
--- object was called, and also where it says that a field holds it, if the frame was not given the object: then neither this frame
--- nor one above it owns the object, and it is not given away.
--- Where its class has an obligation, it is in owning fields alone whose types bound this. Where it is in an owning field whose type has one, it says that
--- the field holds it.
-pub record Covers (p : Program) (h : HeapContents) (away : Bool) (frs : List Frame) (fr : Frame) (o : ℕ) (x : Object) : Type 0 where
+-- frames below, `away` says that the call at which the frame waits gives the object away, and `anew` that it creates the object's obligation anew.
+-- Where the fact says that the object is owned, that is true, as the fact is read while the frame waits, unless the frame owned it and it is given away. No
+-- frame owns a finished object of which it says, in a constructor without an aliased argument, that a field holds it. Where it says that the object is lent, the call that began the frame creates the object's obligation anew,
+-- and a frame that waits for such a call owns the object; it is not given away. Where it is the fact of `this` in a constructor, the object is not finished.
+-- Where the fact is that of a lent parameter, or of `this`, it says never that the frame owns an object with an obligation, and that a field holds it in a
+-- constructor alone. What it then knows to be called on a finished object was called, or was asked for before; so also where it says that a field holds it; if the
+-- frame was not given the object: then neither this frame nor one above it owns the object, it is not given away, and its obligation is not created anew.
+-- Where its class has an obligation, it is in owning fields alone whose types bound this. Where it is in an owning field whose type has one, or outside
+-- constructors in any, it says that the field holds it.
+pub record Covers (p : Program) (h : HeapContents) (away anew : Bool) (frs : List Frame) (fr : Frame) (o : ℕ) (x : Object) : Type 0 where
   pub body : BodyId
   pub id : body_id p fr.method ≡ Some body
   pub origin : Origin
@@ -196,49 +215,57 @@ pub record Covers (p : Program) (h : HeapContents) (away : Bool) (frs : List Fra
   pub reached : Reach p body (relation_of p body) origin fr.control fact
   pub alone : HasPlacesAlone fact.places
   pub places : AllHold p h fr.method fr.locals o fact.places
-  pub true' : claims p (method_at p fr.method) origin fact ≡ true → (away && is_own fact.mode) ≡ false → IsTrueOf p x origin fact
-  pub lent : is_lent p (method_at p fr.method) origin.kind ≡ true → (is_own fact.mode ≡ false) × (is_heavy_class p origin.class ≡ true)
-  pub free : claims p (method_at p fr.method) origin fact ≡ true → is_held fact.mode ≡ true → is_frame_from 0 x.owner ≡ false
+  pub true' : claims p (method_at p fr.method) origin fact ≡ true → (away && is_own fact.mode) ≡ false → IsTrueOf p x origin (fact_as anew fact)
+  pub lent : is_lent p (method_at p fr.method) origin.kind ≡ true → (is_owning_fact p origin fact ≡ false) × (is_held fact.mode ≡ true → constructs (method_at p fr.method) ≡ true)
+  pub free : x.finished ≡ true → is_held fact.mode ≡ true → makes_alone (method_at p fr.method) ≡ true → is_frame_from 0 x.owner ≡ false
+  pub lends : fact.mode ≡ modes.Lent → x.finished ≡ true → (away ≡ false) × IsLentFrom p h frs o x.owner
+  pub makes : constructs (method_at p fr.method) ≡ true → is_this_origin origin.kind ≡ true → x.finished ≡ false
+  pub unrenewed : x.finished ≡ true → tells_calls p fr.method origin fact ≡ true → is_apart p h frs fr o x fact ≡ true → anew ≡ false
   pub known : x.finished ≡ true → tells_calls p fr.method origin fact ≡ true → is_apart p h frs fr o x fact ≡ true
-      → (away ≡ false) × (is_frame_from (length frs + 1) x.owner ≡ false) × (set.is_subset fact.called x.called ≡ true)
+      → (away ≡ false) × (is_frame_from (length frs + 1) x.owner ≡ false) × (set.is_subset fact.called (set.union (asked_of p (method_at p fr.method) origin.kind) x.called) ≡ true)
   pub fields : (k : ℕ) → k < 16 → is_heavy_class p origin.class ≡ true → has fact.places (place.Field k) ≡ true → fits_field p fr.method k origin.class ≡ true
   pub held : (k : ℕ) → k < 16 → has fact.places (place.Field k) ≡ true → is_heavy_field p fr.method (place.Field k) ≡ true
       → (fact.mode ≡ modes.Held) × (is_heavy_class p origin.class ≡ true)
+  pub outside : constructs (method_at p fr.method) ≡ false → (k : ℕ) → k < 16 → has fact.places (place.Field k) ≡ true → fact.mode ≡ modes.Held
 
 -- the place, which holds the object, is in a fact that does not say that the frame owns it
-pub record IsUnowned (p : Program) (h : HeapContents) (away : Bool) (frs : List Frame) (fr : Frame) (q : Place) (o : ℕ) (x : Object) : Type 0 where
-  pub covers : Covers p h away frs fr o x
+pub record IsUnowned (p : Program) (h : HeapContents) (away anew : Bool) (frs : List Frame) (fr : Frame) (q : Place) (o : ℕ) (x : Object) : Type 0 where
+  pub covers : Covers p h away anew frs fr o x
   pub here : has covers.fact.places q ≡ true
   pub unowned : is_owning_fact p covers.origin covers.fact ≡ false
 
 -- The fact says that the frame owns the object, which it does unless it is given away, and no other fact says so: each place that holds the
 -- object is in this fact, or in one that does not.
-pub record IsOwned (p : Program) (h : HeapContents) (away : Bool) (frs : List Frame) (fr : Frame) (o : ℕ) (x : Object) (c : Covers p h away frs fr o x) : Type 0 where
+pub record IsOwned (p : Program) (h : HeapContents) (away anew : Bool) (frs : List Frame) (fr : Frame) (o : ℕ) (x : Object) (c : Covers p h away anew frs fr o x) : Type 0 where
   pub owning : is_owning_fact p c.origin c.fact ≡ true
   pub owner : away ≡ false → x.owner ≡ owners.Frame (length frs + 1)
-  pub others : (q : Place) → IsSmall q → root_of h (place_value p h fr.method fr.locals q) ≡ Some o → (has c.fact.places q ≡ true) ⊎ IsUnowned p h away frs fr q o x
+  pub others : (q : Place) → IsSmall q → root_of h (place_value p h fr.method fr.locals q) ≡ Some o → (has c.fact.places q ≡ true) ⊎ IsUnowned p h away anew frs fr q o x
 
 -- the place is in such a fact
-pub data IsKeyed (p : Program) (h : HeapContents) (away : Bool) (frs : List Frame) (fr : Frame) (q : Place) (o : ℕ) (x : Object) : Type 0 where
-  owned : (c : Covers p h away frs fr o x) → has c.fact.places q ≡ true → IsOwned p h away frs fr o x c → IsKeyed p h away frs fr q o x
-  unowned : IsUnowned p h away frs fr q o x → IsKeyed p h away frs fr q o x
+pub data IsKeyed (p : Program) (h : HeapContents) (away anew : Bool) (frs : List Frame) (fr : Frame) (q : Place) (o : ℕ) (x : Object) : Type 0 where
+  owned : (c : Covers p h away anew frs fr o x) → has c.fact.places q ≡ true → IsOwned p h away anew frs fr o x c → IsKeyed p h away anew frs fr q o x
+  unowned : IsUnowned p h away anew frs fr q o x → IsKeyed p h away anew frs fr q o x
 
 -- each place of the frame that holds an object whose class has an obligation, and that may owe a call, is so. `gives` says which objects
--- are given away
-abbrev pub IsCovered : Program → HeapContents → (ℕ → ClassId → Bool) → List Frame → Frame → Type 0
-IsCovered p h gives frs fr = (q : Place) (o : ℕ) (x : Object) → IsSmall q → root_of h (place_value p h fr.method fr.locals q) ≡ Some o → object_at h o ≡ Some x
-    → is_heavy_class p x.class ≡ true → may_owe x ≡ true → IsKeyed p h (gives o x.class) frs fr q o x
+-- are given away, and `renewed` of which the obligation is created anew
+abbrev pub IsCovered : Program → HeapContents → (ℕ → ClassId → Bool) → (ℕ → Bool) → List Frame → Frame → Type 0
+IsCovered p h gives renewed frs fr = (q : Place) (o : ℕ) (x : Object) → IsSmall q → root_of h (place_value p h fr.method fr.locals q) ≡ Some o → object_at h o ≡ Some x
+    → is_heavy_class p x.class ≡ true → may_owe x ≡ true → IsKeyed p h (gives o x.class) (renewed o) frs fr q o x
 
 -- the top frame gives nothing away
 abbrev pub gives_none : ℕ → ClassId → Bool
 gives_none o c = false
 
+-- and creates no obligation anew
+abbrev pub renews_none : ℕ → Bool
+renews_none o = false
+
 -- the frames that wait
 abbrev pub AreWaiting : Program → HeapContents → List Frame → Type 0
 AreWaiting p h [] = Unit {0}
-AreWaiting p h (fr ∷ frs) = IsCovered p h (is_given p h fr) frs fr × AreWaiting p h frs
+AreWaiting p h (fr ∷ frs) = IsCovered p h (is_given p h fr) (is_renewed p h fr) frs fr × AreWaiting p h frs
 
 -- the top frame, those that wait, and no frame above owns anything
 abbrev pub AreCovered : Program → HeapContents → List Frame → Type 0
 AreCovered p h [] = Unit {0}
-AreCovered p h (fr ∷ frs) = IsCovered p h gives_none frs fr × AreWaiting p h frs × OwnersBelow h (length frs + 1)
+AreCovered p h (fr ∷ frs) = IsCovered p h gives_none renews_none frs fr × AreWaiting p h frs × OwnersBelow h (length frs + 1)

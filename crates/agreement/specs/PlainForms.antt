@@ -1,6 +1,5 @@
--- The forms of steps and calls that the laws on safety speak of: no constructor of the program asks for calls on its aliased argument before, no
--- method of the program promises anything on a parameter that is neither owning nor lent, and the library alone creates obligations anew.
-use Rattle.std.specs.Prelude.{◌≡◌, ℕ, Bool, true, false, not, ◌&&◌, ◌||◌, ◌⊎◌, Option, Some, None, List, slice_get, zero, suc}
+-- The forms of steps and calls that the laws on safety speak of: no object with owning fields creates its own obligation anew.
+use Rattle.std.specs.Prelude.{◌≡◌, ℕ, Bool, true, false, not, ◌&&◌, ◌||◌, ◌⊎◌, Option, Some, None, List, slice_get}
 use Rattle.std.specs.List.{All, list_all, list_any}
 use Rattle.std.specs.FinSet as set
 use Rattle.rlc_base.specs.declared.name_id.NameId.{NameId}
@@ -8,7 +7,9 @@ use Rattle.program_model.specs.declared.kinds.BodyId.{BodyId}
 use Rattle.program_model.specs.declared.kinds.ClassId.{ClassId}
 use Rattle.program_model.specs.declared.kinds.FieldId.{FieldId}
 use Rattle.program_model.specs.declared.kinds.MethodId.{MethodId}
+use Rattle.program_model.specs.declared.kinds.MethodKind.TheVariants as methods
 use Rattle.program_model.specs.declared.kinds.VType.{VType}
+use Rattle.program_model.specs.declared.kinds.VType.TheVariants as types
 use Rattle.program_model.specs.declared.program.Class.{Class}
 use Rattle.program_model.specs.declared.program.Field.{Field}
 use Rattle.program_model.specs.declared.program.Method.{Method}
@@ -17,30 +18,30 @@ use Rattle.program_model.specs.declared.program.Program.{Program}
 use Rattle.program_model.specs.declared.program.Promise.{Promise}
 use Rattle.program_model.specs.declared.kinds.Target.{Target}
 use Rattle.program_model.specs.declared.kinds.Target.TheVariants as promised
-use Rattle.program_model.specs.declared.tree.Body.{Body}
-use Rattle.program_model.specs.Lookups.{body_at, field_at, method_at}
+use Rattle.program_model.specs.Lookups.{field_at, method_at}
 use Rattle.program_model.specs.Overrides.{are_types, is_abstract, is_library}
 use Rattle.program_model.specs.SuperTests.{has_class, is_under}
 use Rattle.program_model.specs.Validity.{is_class_type}
-use Rattle.ownership_rules.specs.Bodies.{alias_in, constructs, has_field_place, is_class_of, is_constructor, is_constructor_kind, reset_in}
-use Rattle.ownership_rules.specs.MustCallSets.{Names, is_empty, must_of, is_heavy_class, must_of_type, no_names}
+use Rattle.ownership_rules.specs.Bodies.{alias_in, constructs, has_field_place, is_class_of, is_constructor, is_constructor_kind, reset_in, resets_this}
+use Rattle.ownership_rules.specs.MustCallSets.{Names, is_empty, must_of, must_of_type}
 use Rattle.must_call_sets.specs.OwningCases.{gives_as_alias}
 use Rattle.ownership_rules.specs.OverrideCases.{has_other_owning, has_other_result, has_wider_result}
 use Rattle.ownership_rules.specs.Signatures.{is_at, promised_names}
-use Rattle.java_control.specs.Calls.{called_method, is_receiver, is_reset_of_this}
+use Rattle.java_control.specs.Calls.{called_method, is_reset_of_this}
 use Rattle.java_control.specs.Owned.{is_owning}
 use Rattle.java_control.specs.Remaining.{Todo}
 use Rattle.java_control.specs.declared.action.Action.{Action}
 use Rattle.java_control.specs.declared.action.Action.TheVariants as actions
-use Rattle.java_control.specs.declared.action.TargetForm.TheVariants as targets
 use Rattle.java_control.specs.declared.action.PlainValue.{PlainValue}
 use Rattle.java_control.specs.declared.action.PlainValue.TheVariants as plain
 use Rattle.place_laws.specs.Paths.{Comes, Move, relation_of}
 use Rattle.heap_laws.specs.LedgerCallsCalls.{overriding_in}
 use Rattle.ownership_rules.specs.Callees.{callee}
+use Rattle.heap_laws.specs.Results.{is_result_under}
 use Rattle.place_laws.specs.Obligations.{is_library_method}
 use Rattle.place_laws.specs.Places.{SetsLocals}
 use Rattle.fact_laws.specs.Storing.{HasStored}
+use Rattle.agreement.specs.Renewable.{KeepsTextsOut}
 
 -- ---- calls
 
@@ -49,35 +50,10 @@ abbrev pub IsOnField : Target → Type 0
 IsOnField (promised.OfField f) = Unit {0}
 IsOnField (promised.At k) = ⊥
 
--- the parameter is lent: it is not owning, it asks for no calls on its argument before, and its type has an obligation
+-- the parameter is lent, so that the method takes no obligation by it: it is not owning, or its type has none
 abbrev pub is_lent_parameter : Program → Option ParamSig → Bool
 is_lent_parameter p None = false
-is_lent_parameter p (Some x) = (not x.owning && is_empty x.before) && not (is_empty (must_of_type p x.vtype))
-
--- a method of the program promises on `this` where its class has an obligation, on parameters that are owning or lent, and on owning fields of
--- `this`
-abbrev pub IsPromisedPlainly : Program → Method → Target → Type 0
-IsPromisedPlainly p m (promised.OfField f) = Unit {0}
-IsPromisedPlainly p m (promised.At zero) = is_heavy_class p m.class ≡ true
-IsPromisedPlainly p m (promised.At (suc k)) = (x : ParamSig) → slice_get m.sig.params.items k ≡ Some x → (x.owning ≡ true) ⊎ (is_lent_parameter p (Some x) ≡ true)
-
-pub record PromisesPlainly (p : Program) (m : Method) : Type 0 where
-  pub returning : All (λ (q : Promise). IsPromisedPlainly p m q.target) m.sig.promises.items
-  pub throwing : All (λ (q : Promise). IsPromisedPlainly p m q.target) m.sig.on_throw.items
-
--- the aliased argument is that of a parameter which asks for no calls on it before
-abbrev pub TakesAliasFreely : Method → Type 0
-TakesAliasFreely m = (k : ℕ) × (x : ParamSig) × (m.sig.alias ≡ Some (suc k)) × (slice_get m.sig.params.items k ≡ Some x) × (is_empty x.before ≡ true)
-
--- an aliased argument is one of the library's, or of a method of the program, which returns it, or of a constructor of the program, which takes it
--- freely
-abbrev pub AliasesPlainly : Program → Method → Type 0
-AliasesPlainly p m = (m.sig.alias ≡ None) ⊎ ((is_library p m.class ≡ true) ⊎ ((is_constructor_kind m.kind ≡ false) ⊎ TakesAliasFreely m))
-
--- each constructor of the program takes its aliased argument freely, and each method of the program promises plainly
-abbrev pub IsPlainSignature : Program → Option Method → Type 0
-IsPlainSignature p None = Unit {0}
-IsPlainSignature p (Some m) = AliasesPlainly p m × (is_library p m.class ≡ false → PromisesPlainly p m)
+is_lent_parameter p (Some x) = not (x.owning && not (is_empty (must_of_type p x.vtype)))
 
 -- the method that an object of the class runs at a call that names this method
 unfoldable pub run_by : Program → MethodId → ClassId → MethodId
@@ -104,33 +80,46 @@ pub record RunsFor (p : Program) (named runs : Method) : Type 0 where
   pub makes : is_constructor_kind runs.kind ≡ is_constructor_kind named.kind
   pub first : named.sig.first ≡ None
   pub alias : runs.sig.alias ≡ named.sig.alias
+  pub reset : (k : ℕ) → runs.sig.reset ≡ Some k → named.sig.reset ≡ Some k
 
--- The method promises the names of the position, among these promises of it, and promises plainly there. (A promise of the named method on an
--- owning field is none that another method keeps.)
-abbrev pub IsKeptBy : Program → Method → List Promise → Target → Names → Type 0
-IsKeptBy p x promises (promised.At k) names = (set.is_subset names (promised_names (λ t. is_at t k) promises) ≡ true) × IsPromisedPlainly p x (promised.At k)
-IsKeptBy p x promises (promised.OfField f) names = ⊥
+-- These promises have the names of the position. (A promise of the named method on an owning field is none that another method keeps.)
+abbrev pub IsKeptBy : List Promise → Target → Names → Type 0
+IsKeptBy promises (promised.At k) names = set.is_subset names (promised_names (λ t. is_at t k) promises) ≡ true
+IsKeptBy promises (promised.OfField f) names = ⊥
 
 -- what the named method promises, the method that runs promises as well, however they end
-pub record KeepsPromises (p : Program) (named runs : Method) : Type 0 where
-  pub returning : All (λ (q : Promise). IsKeptBy p runs runs.sig.promises.items q.target q.names) named.sig.promises.items
-  pub throwing : All (λ (q : Promise). IsKeptBy p runs runs.sig.on_throw.items q.target q.names) named.sig.on_throw.items
+pub record KeepsPromises (named runs : Method) : Type 0 where
+  pub returning : All (λ (q : Promise). IsKeptBy runs.sig.promises.items q.target q.names) named.sig.promises.items
+  pub throwing : All (λ (q : Promise). IsKeptBy runs.sig.on_throw.items q.target q.names) named.sig.on_throw.items
 
--- A call that names this method has a plain signature. A method of the library runs only where the named one is the library's, and has its
--- aliased argument; a method of the program is as the named signature says, and it promises what the named one does, or it is that method
--- itself; and where a method of the program may run, the named one creates no obligation anew.
+-- A method of the library runs for one of the program, which its object's class implements by it (JLS 8.4.8.1): it is as the named signature says, its
+-- result may stand for the named one's (JLS 8.4.5), and it promises what that one does.
+pub record LibraryRunsFor (p : Program) (named runs : MethodId) : Type 0 where
+  pub method : Method
+  pub named_at : method_at p named ≡ Some method
+  pub running : Method
+  pub running_at : method_at p runs ≡ Some running
+  pub kind : method.kind ≡ methods.Instance
+  pub fit : RunsFor p method running
+  pub result : is_result_under p running.sig.result method.sig.result ≡ true
+  pub keeps : KeepsPromises method running
+
+-- by the signature of this method the library answers a call that names the other: it is the named one, or runs for it
+abbrev pub IsAnsweredBy : Program → MethodId → MethodId → Type 0
+IsAnsweredBy p named m = (m ≡ named) ⊎ LibraryRunsFor p named m
+
+-- A call that names this method is plain: a method of the library runs where the named one is the library's, or is as that says;
+-- a method of the program is as the named signature says, and it promises what the named one does, or it is that method
+-- itself.
 pub record IsPlainCall (p : Program) (m : MethodId) : Type 0 where
-  pub signature : IsPlainSignature p (method_at p m)
-  pub library : (r : MethodId) → MayRun p m r → is_library_method p (method_at p r) ≡ true → is_library_method p (method_at p m) ≡ true
-  pub aliased : (r : MethodId) (n x : Method) → MayRun p m r → method_at p m ≡ Some n → method_at p r ≡ Some x → is_library p x.class ≡ true → x.sig.alias ≡ n.sig.alias
+  pub library : (r : MethodId) → MayRun p m r → is_library_method p (method_at p r) ≡ true → (is_library_method p (method_at p m) ≡ true) ⊎ LibraryRunsFor p m r
   pub program : (r : MethodId) (n x : Method) → MayRun p m r → method_at p m ≡ Some n → method_at p r ≡ Some x → is_library p x.class ≡ false → RunsFor p n x
-  pub keeps : (r : MethodId) (n x : Method) → MayRun p m r → method_at p m ≡ Some n → method_at p r ≡ Some x → is_library p x.class ≡ false → KeepsPromises p n x ⊎ (r ≡ m)
-  pub resets : (r : MethodId) (n x : Method) → MayRun p m r → method_at p m ≡ Some n → method_at p r ≡ Some x → is_library p x.class ≡ false → n.sig.reset ≡ None
+  pub keeps : (r : MethodId) (n x : Method) → MayRun p m r → method_at p m ≡ Some n → method_at p r ≡ Some x → is_library p x.class ≡ false → KeepsPromises n x ⊎ (r ≡ m)
 
 -- ---- actions
 
 abbrev pub IsPlainRead : Program → PlainValue → Type 0
-IsPlainRead p (plain.LibraryConstant m) = IsPlainSignature p (method_at p m) × (is_library_method p (method_at p m) ≡ true) × (reset_in (method_at p m) ≡ None)
+IsPlainRead p (plain.LibraryConstant m) = (is_library_method p (method_at p m) ≡ true) × (reset_in (method_at p m) ≡ None)
 IsPlainRead p v = Unit {0}
 
 abbrev pub IsPlainAction : Program → Action → Type 0
@@ -156,31 +145,21 @@ RunsOwnMethods p = (named m : MethodId) (n d : Method) (f : FieldId) (x : Field)
     → may_be_made p d.class ≡ true → field_at p f ≡ Some x → x.owning ≡ true → x.class ≡ d.class → n.sig.interest ≡ Some i → d.sig.interest ≡ Some i
     → set.contains (must_of p d.class) i.0 ≡ true → is_under p d.class n.class ≡ true → run_by p named d.class ≡ m
 
--- Objects of the class are followed by the rules of bodies: a call is asked of them, and no method or constructor gives them as aliases.
-abbrev pub is_followed : Program → Class → Bool
-is_followed p k = not (set.is_subset k.must no_names) && not (list_any (gives_as_alias k) p.methods.items)
+-- nothing must be called on objects of the class, and no method or constructor gives them as aliases
+abbrev pub owes_nothing : Program → Class → Bool
+owes_nothing p k = is_empty k.must && not (list_any (gives_as_alias k) p.methods.items)
 
--- so are those of this class, and of each class under it
-abbrev pub are_followed : Program → ClassId → Bool
-are_followed p c = is_heavy_class p c && list_all (λ (k : Class). not (has_class k.above.items c) || is_followed p k) p.classes.items
+-- The type is a class that `String` is not under, and so it is with objects of this class, and of each class under it.
+abbrev pub all_owe_nothing : Program → Option VType → Bool
+all_owe_nothing p (Some (types.Obj c)) = not (is_under p p.core.string c) && list_all (λ (k : Class). not (has_class k.above.items c) || owes_nothing p k) p.classes.items
+all_owe_nothing p t = false
 
--- the method creates the obligation of its receiver anew, and all that may be its receiver is followed
-abbrev pub resets_followed : Program → Option Method → Bool
-resets_followed p None = false
-resets_followed p (Some m) = is_receiver m.sig.reset && are_followed p m.class
-
--- the call is of such a method, on what is no `this`
-abbrev pub resets_in_sight : Program → Action → Bool
-resets_in_sight p (actions.Call m d n targets.Other) = resets_followed p (method_at p m)
-resets_in_sight p a = false
-
--- A call that creates an obligation anew, at the control `k`, does so of no `this`, and in a constructor behind no store into an owning field. Where the program declares
--- owning fields, it does so of its receiver, and all that may be the receiver is followed by the rules of bodies. (Else an owning field might own
--- the object behind their back.)
+-- A call that creates an obligation anew, at the control `k`, does so of `this` only in a body in which no owning field has a place, and in a constructor behind no store into an
+-- owning field. Where the program declares owning fields, no text stands where the rule on them looks.
 pub record IsPlainReset (p : Program) (b : BodyId) (k : List Todo) (a : Action) : Type 0 where
-  pub other : is_reset_of_this p a ≡ false
+  pub other : is_reset_of_this p a ≡ true → (f : FieldId) → has_field_place p b f ≡ false
   pub before : is_constructor p b ≡ true → HasStored p b k → ⊥
-  pub seen : ((f : FieldId) → is_owning p f ≡ false) ⊎ (resets_in_sight p a ≡ true)
+  pub seen : ((f : FieldId) → is_owning p f ≡ false) ⊎ KeepsTextsOut p
 
 -- the action at the control creates no obligation anew, or does so plainly
 abbrev pub ResetsPlainly : Program → BodyId → List Todo → Action → Type 0
@@ -188,7 +167,8 @@ ResetsPlainly p b k a = (reset_in (callee p a) ≡ None) ⊎ IsPlainReset p b k 
 
 -- Each step that a control of a body can reach has one of the plain forms; owning fields are stored in constructors of the class that
 -- declares them, and no super constructor is called behind such a store; no class with owning fields is the one whose constructor is called so; and
--- objects with owning fields run their own must-call methods. No method with a body creates an obligation anew, and what the library's do is plain.
+-- objects with owning fields run their own must-call methods. A method in which an owning field has a place creates the obligation of `this` not anew, and where bodies call what
+-- creates one anew, they do so plainly.
 pub record HasPlainForms (p : Program) : Type 0 where
   pub steps : (b : BodyId) {k : List Todo} (i : ℕ) (t : Move (List Todo)) → Comes (relation_of p b) k
       → slice_get ((relation_of p b).next k) i ≡ Some t → IsPlainAction p t.action
@@ -202,6 +182,6 @@ pub record HasPlainForms (p : Program) : Type 0 where
       → slice_get ((relation_of p b).next k) i ≡ Some t → calls_constructor p t.action ≡ true → called_method t.action ≡ Some m → field_at p f ≡ Some x → x.owning ≡ true
       → is_class_of x.class (method_at p m) ≡ false
   pub own : RunsOwnMethods p
-  pub bodies : (b : BodyId) (x : Body) (m : Method) → body_at p b ≡ Some x → method_at p x.method ≡ Some m → m.sig.reset ≡ None
+  pub bodies : (b : BodyId) → resets_this p b ≡ true → (f : FieldId) → has_field_place p b f ≡ false
   pub resets : (b : BodyId) {k : List Todo} (i : ℕ) (t : Move (List Todo)) → Comes (relation_of p b) k
       → slice_get ((relation_of p b).next k) i ≡ Some t → ResetsPlainly p b k t.action

@@ -2,7 +2,7 @@
 use Rattle.std.specs.Prelude.{is_some, not, ◌&&◌, ◌||◌}
 use Rattle.std.proofs.lemmas.Bool.{and_parts, not-true}
 use Rattle.std.specs.FinSet as set
-use Rattle.std.proofs.Common.{◌≡◌, ◌⊎◌, ℕ, suc, Bool, true, false, true≢false, Option, Some, None, List, [], ◌∷◌, slice_get, nat_eq, refl, sym, ap, ◌∙◌, subst, inl, inr, IsSomeAnd, eqb-true, eq-eqb}
+use Rattle.std.proofs.Common.{◌≡◌, ◌⊎◌, ℕ, zero, suc, Bool, true, false, true≢false, Option, Some, None, List, [], ◌∷◌, slice_get, nat_eq, refl, sym, ap, ◌∙◌, subst, inl, inr, IsSomeAnd, eqb-true, eq-eqb}
 use Rattle.program_model.specs.NameSets.{Names}
 use Rattle.program_model.specs.declared.kinds.ClassId.{ClassId}
 use Rattle.program_model.specs.declared.kinds.FieldId.{FieldId}
@@ -42,7 +42,7 @@ use Rattle.covering_laws.specs.Configuration.{Frame}
 use Rattle.ledger_steps.specs.InnerSteps.{is_bound, parameter, root_of_number}
 use Rattle.covering_laws.specs.Choosing.{frame_steps}
 use Rattle.covering_laws.specs.Agreement.{AllStand, IsCalledFrom, IsMadeBy, RunsItself, Stands}
-use Rattle.covering_laws.specs.PlainForms.{HasPlainForms, IsPlainAction, IsPlainSignature, calls_constructor}
+use Rattle.covering_laws.specs.PlainForms.{HasPlainForms, calls_constructor}
 use Rattle.covering_laws.specs.Places.{class_of_method}
 use Rattle.covering_laws.specs.Naming.{IsOfItsKind}
 use Rattle.covering_laws.proofs.NamedReached.{names_what_is_there}
@@ -53,13 +53,15 @@ use Rattle.covering_laws.proofs.HeapLaws.{roots_go_on-root, roots_of_links-absen
 use Rattle.covering_laws.specs.Stores.{IsMovedIn, IsStored}
 use Rattle.covering_laws.proofs.Fields.{holds_here, holds_other}
 use Rattle.covering_laws.proofs.StoredObjects.{bound_back, stored_back, stored_forward, stored_goes_on, unfinished_stays}
-use Rattle.covering_laws.proofs.Ready.{plain_call, plain_step, step_there}
-use Rattle.covering_laws.specs.Outcomes.{IsCallRow}
+use Rattle.covering_laws.proofs.Ready.{step_there}
 use Rattle.covering_laws.proofs.Unmet.{may_lies}
 use Rattle.covering_laws.proofs.CoveredFieldLaws.{overwritten_is_met}
 use Rattle.covering_laws.specs.FieldContents.{FieldsHold, HaveContents, IsContent, LinksLead, is_made_in, OwningFieldsOwn}
-use Rattle.covering_laws.specs.PlaceFacts.{IsCovered, gives_none}
-use Rattle.covering_laws.proofs.KeptArguments.{argument_alone}
+use Rattle.covering_laws.specs.PlaceFacts.{IsCovered, gives_none, renews_none}
+use Rattle.covering_laws.specs.Renewable.{IsFollowed, KeepsTextsOut}
+use Rattle.covering_laws.specs.Sight.{ActsInSight}
+use Rattle.covering_laws.proofs.KeptArguments.{argument_alone, this_alone}
+use Rattle.covering_laws.proofs.StoreJoins.{unlinked_root}
 use Rattle.content_laws.proofs.Ends.{heavy_field_by, holds_heavy}
 use Rattle.content_laws.proofs.Finished.{alias_makes_none, made_by_none}
 use Rattle.content_laws.proofs.Goes.{content_goes_on, led_there, root_stays, roots_by_links, unmet_is_heavy, not_the_librarys_owes}
@@ -110,28 +112,16 @@ body_is_of_program p ac fr st c in' = go (method_at p fr.method) refl in' st.id
     go None at absent id = absurd (true≢false (sym absent))
     go (Some m) at same id = by_class m same (subst (MayHaveBody p m) id (ac.well_formed.valid.typed.methods fr.method m at).bodiless).2
 
--- a constructor that runs has its aliased argument as that of a parameter, where its signature is plain
+-- a method has an aliased argument or none
 abbrev pub IsAliasForm : Option Method → Type 0
-IsAliasForm m = (alias_in m ≡ None) ⊎ ((v : ℕ) × (alias_in m ≡ Some (suc v)))
+IsAliasForm m = (alias_in m ≡ None) ⊎ ((k : ℕ) × (alias_in m ≡ Some k))
 
-pub own_alias_form : (p : Program) (ac : Accept p) (fr : Frame) (st : Stands p fr) → constructs (method_at p fr.method) ≡ true → IsPlainSignature p (method_at p fr.method) → IsAliasForm (method_at p fr.method)
-own_alias_form p ac fr st new plain = go (method_at p fr.method) refl new plain
+pub alias_form : (m : Option Method) → IsAliasForm m
+alias_form m = by (alias_in m) refl
   where
-    same_class : (m : Method) → is_class m.class m.class ≡ true
-    same_class m = eq-eqb m.class.0 m.class.0 refl
-
-    go : (x : Option Method) → method_at p fr.method ≡ x → constructs x ≡ true → IsPlainSignature p x → IsAliasForm x
-    go None at new' plain' = inl refl
-    go (Some m) at new' plain' = elim plain'.0 [
-      | inl none ↦ inl none
-      | inr more ↦ elim more [
-        | inl library ↦ absurd (true≢false (sym library ∙ body_is_of_program p ac fr st m.class (ap (is_class_of m.class) at ∙ same_class m)))
-        | inr program ↦ elim program [
-          | inl other ↦ absurd (true≢false (sym new' ∙ other))
-          | inr takes ↦ inr (takes.0, takes.2)
-        ]
-      ]
-    ]
+    by : (a : Option ℕ) → alias_in m ≡ a → IsAliasForm m
+    by None none = inl none
+    by (Some k) some = inr (k, some)
 
 -- ---- the aliased argument of a constructor is bound
 
@@ -160,7 +150,7 @@ bound_when h (Some m) l u v o new alias root argument =
     (ap (λ (k : Option ℕ). same_root (root_of h u) (root_of_number h (object_by (parameter l) k))) alias ∙ ap (λ (r : Option ℕ). same_root r (root_of_number h (number_of (variable_value l v)))) root
     ∙ ap (same_root (Some o)) (number_root h (variable_value l v) ∙ argument) ∙ eq-eqb o o refl)
 
-module _ (p : Program) (ac : Accept p) (forms' : HasPlainForms p) (h : HeapContents) (fr : Frame) (frs : List Frame) (st : Stands p fr) (links : HasEarlierLinks h) (covered : IsCovered p h gives_none frs fr)
+module _ (p : Program) (ac : Accept p) (forms' : HasPlainForms p) (h : HeapContents) (fr : Frame) (frs : List Frame) (st : Stands p fr) (links : HasEarlierLinks h) (covered : IsCovered p h gives_none renews_none frs fr)
     (hold : FieldsHold p (fr ∷ frs) h) (i : ℕ) (s : Step) (here : slice_get (frame_steps p fr) i ≡ Some s) (f : FieldId) (d : ℕ) (is : s.action ≡ actions.PutOwn f d) (w : ℕ)
     (this : fr.locals.this ≡ values.Object w) (self : Object) (self_at : object_at h w ≡ Some self) (standing : AllStand p frs) (called : IsCalledFrom p h fr frs)
     (bounded : (o : ℕ) (x : Object) → object_at h o ≡ Some x → x.link ≡ None → is_unmet x ≡ true → (t : VType) → may_move p t x ≡ true → set.is_subset x.must (must_of p x.class) ≡ true) where
@@ -272,34 +262,8 @@ module _ (p : Program) (ac : Accept p) (forms' : HasPlainForms p) (h : HeapConte
           absurd (true≢false (sym constructor ∙ called'.0.kind ∙ ap (λ (z : MethodId). constructs (method_at p z)) (sym (named_one m (ap called_method it))) ∙ kind))
       go a it itself makes = absurd (let never : None ≡ Some called'.0.named = sym (ap called_method it) ∙ called'.0.calls in cc)
 
-  -- the aliased argument of the constructor is that of a parameter
-  form_by : (frs : List Frame) → AllStand p frs → IsCalledFrom p h fr frs → IsAliasForm (method_at p fr.method)
-  form_by [] standing' called' = absurd (true≢false (sym constructor ∙ called'.1))
-  form_by (caller ∷ rest) standing' called' = go called'.0.step.action refl called'.0.itself
-    where
-      named_one : (m : MethodId) → called_method called'.0.step.action ≡ Some m → m ≡ called'.0.named
-      named_one m it = let both : Some m ≡ Some called'.0.named = sym it ∙ called'.0.calls in (let one : m ≡ called'.0.named = cc in one)
-
-      plain_form : IsPlainAction p called'.0.step.action
-      plain_form = plain_step p ac forms' caller standing'.0 called'.0.index called'.0.step called'.0.here
-
-      plain_named : IsCallRow called'.0.step.action → IsPlainSignature p (method_at p called'.0.named)
-      plain_named row = (plain_call p called'.0.step.action called'.0.named plain_form row called'.0.calls).signature
-
-      go : (a : Action) → called'.0.step.action ≡ a → RunsItself a called'.0.named fr.method → IsAliasForm (method_at p fr.method)
-      go actions.Skip it itself = absurd (let never : None ≡ Some called'.0.named = sym (ap called_method it) ∙ called'.0.calls in cc)
-      go (actions.New m e n) it itself = own_alias_form p ac fr st constructor (subst (λ (z : MethodId). IsPlainSignature p (method_at p z)) (sym itself) (plain_named (subst IsCallRow (sym it) tt)))
-      go (actions.Super m e n) it itself =
-          inl (ap (λ (z : MethodId). alias_in (method_at p z)) (itself ∙ sym (named_one m (ap called_method it))) ∙ (subst (IsPlainAction p) it plain_form).2)
-      go (actions.Call m e n form) it itself =
-          let kind = subst (IsOfItsKind p) it
-          (names_what_is_there p ac.well_formed.valid.typed standing'.0.number standing'.0.body caller.control called'.0.index (move_of called'.0.step) standing'.0.at standing'.0.control
-          (step_there p caller standing'.0 called'.0.index called'.0.step called'.0.here)).1 in
-          absurd (true≢false (sym constructor ∙ called'.0.kind ∙ ap (λ (z : MethodId). constructs (method_at p z)) (sym (named_one m (ap called_method it))) ∙ kind))
-      go a it itself = absurd (let never : None ≡ Some called'.0.named = sym (ap called_method it) ∙ called'.0.calls in cc)
-
   form : IsAliasForm (method_at p fr.method)
-  form = form_by frs standing called
+  form = alias_form (method_at p fr.method)
 
   alias_is : alias_position p st.number ≡ alias_in (method_at p fr.method)
   alias_is = ap alias_in body_method
@@ -309,7 +273,7 @@ module _ (p : Program) (ac : Accept p) (forms' : HasPlainForms p) (h : HeapConte
   same_alias (Some m) = refl
 
   -- a constructor of an alias owns nothing that is unmet in its object's fields
-  no_content : (a : ℕ) → alias_in (method_at p fr.method) ≡ Some (suc a) → (o : ℕ) (x : Object) (g : FieldId) → IsContent p (fr ∷ frs) h o x w g → ⊥
+  no_content : (a : ℕ) → alias_in (method_at p fr.method) ≡ Some a → (o : ℕ) (x : Object) (g : FieldId) → IsContent p (fr ∷ frs) h o x w g → ⊥
   no_content a alias o x g content =
       made_by_none p w content.field.class frs (hold.new.0 w (f, field, declared.1, declared.2, in_class) constructor this)
       (sym (ap (λ (b : Bool). b || is_made_in p w content.field.class frs) (alias_makes_none p w fr w content.field.class (ap is_some (same_alias (method_at p fr.method) ∙ alias))))
@@ -323,8 +287,16 @@ module _ (p : Program) (ac : Accept p) (forms' : HasPlainForms p) (h : HeapConte
   type_bound o x moved = ap (λ (t : VType). set.is_subset (must_of p x.class) (must_of_type p t)) (sym (ap type_of_field declared.1)) ∙ may_lies p (type_of_field (field_at p f)) x moved.may
 
   -- nor does it take what is unmet, but its argument, which is bound
-  pub unmet_is_bound : (a : ℕ) → alias_in (method_at p fr.method) ≡ Some (suc a) → (o : ℕ) (x : Object) → object_at h o ≡ Some x → is_unmet x ≡ true → IsMovedIn p h f v o x → bound ≡ true
-  unmet_is_bound a alias o x at unmet moved =
+  pub unmet_is_bound : (a : ℕ) → alias_in (method_at p fr.method) ≡ Some a → (o : ℕ) (x : Object) → object_at h o ≡ Some x → is_unmet x ≡ true → IsMovedIn p h f v o x → bound ≡ true
+  unmet_is_bound zero alias o x at unmet moved =
+      let root : root_of h fr.locals.this ≡ Some o =
+      this_alone p ac forms' h frs fr st covered i d s f o x here is constructor (alias_is ∙ alias)
+      (heavy_field_by p f field declared.1 x unmet (within_trans x.must (must_of p x.class) (must_of_type p field.vtype) (own_bound o x at unmet moved) (type_bound o x moved)))
+      moved.root at (unmet_is_heavy p x unmet (own_bound o x at unmet moved)) (not_the_librarys_owes x (may_library p (type_of_field (field_at p f)) x moved.may)) in
+      let same : w ≡ o = (let both : Some w ≡ Some o = sym (ap (root_of h) this ∙ unlinked_root h links w self self_at unfinished) ∙ root in (let one : w ≡ o = cc in one)) in
+      let one : self ≡ x = (let both : Some self ≡ Some x = sym self_at ∙ ap (object_at h) same ∙ at in (let it : self ≡ x = cc in it)) in
+      absurd (true≢false (sym (and_parts x.finished (not (set.is_subset x.must x.called)) unmet).0 ∙ ap (λ (z : Object). z.finished) (sym one) ∙ unfinished))
+  unmet_is_bound (suc a) alias o x at unmet moved =
       bound_when h (method_at p fr.method) fr.locals v a o constructor alias moved.root
       (argument_alone p ac forms' h frs fr st covered i d s f o x a here is constructor (alias_is ∙ alias)
       (heavy_field_by p f field declared.1 x unmet (within_trans x.must (must_of p x.class) (must_of_type p field.vtype) (own_bound o x at unmet moved) (type_bound o x moved)))
@@ -444,17 +416,21 @@ module _ (p : Program) (ac : Accept p) (forms' : HasPlainForms p) (h : HeapConte
       by u library (inr (inl gone)) = absurd (true≢false (sym library ∙ ap is_library_owner gone.0.owner))
       by u library (inr (inr moved)) = absurd (true≢false (sym library ∙ may_library p (type_of_field (field_at p f)) u moved.0.may))
 
-  -- what fields own owning fields own
-  pub store_owning : OwningFieldsOwn p k
-  store_owning o y u g at owner = let z = stored_back p h w f v bound o y (still bound) at in by z.0 z.1 z.2
+  -- what fields own owning fields own, and what is stored is followed
+  pub store_owning : ActsInSight p h fr → OwningFieldsOwn p k
+  store_owning sight o y u g at owner = let z = stored_back p h w f v bound o y (still bound) at in by z.0 z.1 z.2
     where
-      by : (x : Object) → object_at h o ≡ Some x → IsStored p h w f v o x y → is_owning p g ≡ true
-      by x before (inl same) = hold.owning o x u g before (ap (λ (z : Object). z.owner) (sym same) ∙ owner)
+      by : (x : Object) → object_at h o ≡ Some x → IsStored p h w f v o x y → (is_owning p g ≡ true) × (KeepsTextsOut p → IsFollowed p y.class)
+      by x before (inl same) =
+          let was = hold.owning o x u g before (ap (λ (z : Object). z.owner) (sym same) ∙ owner) in
+          (was.0, λ out. subst (λ (z : Object). IsFollowed p z.class) (sym same) (was.1 out))
       by x before (inr (inl gone)) = absurd (given_no_field x u g (ap (λ (z : Object). z.owner) (sym gone.1) ∙ owner))
       by x before (inr (inr moved)) =
           let same : owners.Field w f ≡ owners.Field u g = ap (λ (z : Object). z.owner) (sym moved.1) ∙ owner in
-          let one : f ≡ g = cc in
-          ap (is_owning p) (sym one) ∙ (ap is_owning_field declared.1 ∙ declared.2)
+          let one : f ≡ g = cc in (
+            ap (is_owning p) (sym one) ∙ (ap is_owning_field declared.1 ∙ declared.2),
+            λ out. subst (IsFollowed p) (sym (ap (λ (z : Object). z.class) moved.1)) (sight.stores out i s f declared.0 d o x here is declared.1 declared.2 moved.0.root before),
+          )
 
   pub stored_leads : LinksLead p k
   stored_leads = leads_stay p h k store_forth stored_fields links store_library hold.leads (λ n y at. (let x = stored_back p h w f v bound n y (still bound) at in (x.0, x.1)))

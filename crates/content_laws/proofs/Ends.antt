@@ -43,7 +43,7 @@ use Rattle.covering_laws.specs.Covering.{HoldsHeavy}
 use Rattle.covering_laws.proofs.CoveredFieldLaws.{promises_are_kept_at_end}
 use Rattle.covering_laws.proofs.Names.{of_interest}
 use Rattle.covering_laws.specs.FieldContents.{IsContent, IsDispatched, promised_on}
-use Rattle.covering_laws.specs.PlaceFacts.{IsCovered, gives_none, is_field_of, is_heavy_in}
+use Rattle.covering_laws.specs.PlaceFacts.{IsCovered, gives_none, renews_none, is_field_of, is_heavy_in}
 use Rattle.covering_laws.proofs.FrameBirths.{heavy_by_unmet}
 use Rattle.covering_laws.proofs.Unmet.{object_type_of}
 use Rattle.content_laws.proofs.Goes.{not_the_librarys_owes}
@@ -85,7 +85,7 @@ same_name a b same = ap (λ (k : ℕ). (let z : NameId = record { 0 = k } in z))
 
 -- ---- the promise of the method that ends
 
-module _ (p : Program) (ac : Accept p) (forms' : HasPlainForms p) (h : HeapContents) (fr caller : Frame) (frs : List Frame) (st : Stands p fr) (covered : IsCovered p h gives_none (caller ∷ frs) fr)
+module _ (p : Program) (ac : Accept p) (forms' : HasPlainForms p) (h : HeapContents) (fr caller : Frame) (frs : List Frame) (st : Stands p fr) (covered : IsCovered p h gives_none renews_none (caller ∷ frs) fr)
     (i : ℕ) (s : Step) (q : Completion) (here : slice_get (frame_steps p fr) i ≡ Some s) (is : s.action ≡ actions.End q) (j : ℕ) (t : Step) (there : slice_get (frame_steps p caller) j ≡ Some t)
     (named : MethodId) (n : Method) (called : called_method t.action ≡ Some named) (named_at : method_at p named ≡ Some n) (dispatched : IsDispatched p h fr caller) (made : HasMadeClasses p h) where
   pub promise_is_kept : (o : ℕ) (x y : Object) (w : ℕ) (f : FieldId) → object_at h o ≡ Some x → is_unmet x ≡ true → GoesOn x y → x.owner ≡ owners.Field w f → (content : IsContent p (fr ∷ caller ∷ frs) h o x w f)
@@ -93,8 +93,8 @@ module _ (p : Program) (ac : Accept p) (forms' : HasPlainForms p) (h : HeapConte
       → set.contains (must_of p content.holder.class) name.0 ≡ true → IsNotedBy caller.locals t.action (Some n) w name.0 → set.is_subset (promised_on f d) y.called ≡ true
   promise_is_kept o x y w f at unmet goes owner content m d name there' class interest must noted =
       within_trans (promised_on f d) x.called y.called
-      (promises_are_kept_at_end p ac h (caller ∷ frs) fr st covered i s q d f w o x here is method place (inr finalizer) (holds_heavy p h (fr ∷ caller ∷ frs) fr o x w f content at unmet owner run.2)
-      (inr (inr (no_constructor, owned)))
+      (promises_are_kept_at_end p ac h (caller ∷ frs) fr st covered i s q d f w o x here is method no_constructor place (inr finalizer) (holds_heavy p h (fr ∷ caller ∷ frs) fr o x w f content at unmet owner run.2)
+      (inr (no_constructor, owned))
       (and_parts x.finished (not (set.is_subset x.must x.called)) unmet).0)
       goes.called
     where

@@ -1,5 +1,5 @@
 -- Which owning field a step within a frame stores, and what holds nothing.
-pub use Rattle.content_laws.proofs.ContentStores.{IsAliasForm, own_alias_form}
+pub use Rattle.content_laws.proofs.ContentStores.{IsAliasForm, alias_form}
 use Rattle.std.proofs.Common.{◌≡◌, ◌⊎◌, inl, inr, ℕ, ◌+◌, Bool, true, false, true≢false, Option, Some, None, List, [], ◌∷◌, nat_eq, refl, sym, ap, ◌∙◌, subst, arith, eqb-true, if◌then◌else◌}
 use Rattle.std.specs.List.{All, find}
 use Rattle.std.specs.Option.{unwrap_or}

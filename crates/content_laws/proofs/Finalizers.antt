@@ -90,6 +90,17 @@ module _ (p : Program) (ac : Accept p) where
       let none = none_at (λ (g : FieldId). owning_cases_in p g (field_at p g)) (field_ids p) f.0 f ac.well_formed.owning (listed f x at) in
       not_false (set.is_subset (must_of_type p x.vtype) (finalized p x.class f)) (has_finalizer f x owning (sym (ap (owning_cases_in p f) at) ∙ none))
 
+  -- the shape of the field is not refused
+  pub well_shaped : (f : FieldId) (x : Field) → field_at p f ≡ Some x → x.owning ≡ true → is_misshapen p f x ≡ false
+  well_shaped f x at owning =
+      let none = none_at (λ (g : FieldId). owning_cases_in p g (field_at p g)) (field_ids p) f.0 f ac.well_formed.owning (listed f x at) in
+      let cases : owning_cases_of p f x ≡ [] = sym (ap (λ (b : Bool). if b then owning_cases_of p f x else []) owning) ∙ (sym (ap (owning_cases_in p f) at) ∙ none) in
+      alone (is_misshapen p f x) (parts_empty (where_true (has_no_finalizer p f x) refused.NoFinalizer x.pos) (where_true (is_misshapen p f x) refused.OwningFieldShape x.pos) cases).1
+    where
+      alone : (b : Bool) → (if b then refused_at refused.OwningFieldShape x.pos ∷ [] else []) ≡ [] → b ≡ false
+      alone true is = absurd (let never : refused_at refused.OwningFieldShape x.pos ∷ [] ≡ [] = is in cc)
+      alone false is = refl
+
   by_method : (c : ClassId) (f : FieldId) (n : ℕ) (m : MethodId) (o : Option Method) → method_at p m ≡ o → IsSomeAnd o (λ x. x.class ≡ c) → set.contains (finalized_by p c f o) n ≡ true → IsPromised p c f n
   by_method c f n m None at own is = absurd own
   by_method c f n m (Some d) at own is = go (is_must_call_method p c d) refl is

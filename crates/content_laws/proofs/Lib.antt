@@ -7,12 +7,15 @@ pub mod Heaps
 pub mod Finished
 pub mod Linked
 pub mod Finalizers
+pub mod InSight
+pub mod LinkTargets
 pub mod Promised
 pub mod Ends
 pub mod AliasConstructors
 pub mod ContentFrames
 pub mod Steps
 pub mod Renewals
+pub mod ResetRenews
 pub mod LibraryResets
 pub mod LibraryNotes
 pub mod ContentStores
@@ -34,6 +37,7 @@ pub use Rattle.covering_laws.proofs.CallNames
 pub use Rattle.covering_laws.proofs.CallWays
 pub use Rattle.covering_laws.proofs.Calls
 pub use Rattle.covering_laws.proofs.Carried
+pub use Rattle.covering_laws.proofs.Readings
 pub use Rattle.covering_laws.proofs.Cases
 pub use Rattle.covering_laws.proofs.Chains
 pub use Rattle.covering_laws.proofs.Conducts
@@ -48,6 +52,9 @@ pub use Rattle.covering_laws.proofs.Emptied
 pub use Rattle.covering_laws.proofs.EndHeaps
 pub use Rattle.covering_laws.proofs.EndLaws
 pub use Rattle.covering_laws.proofs.EndLinks
+pub use Rattle.covering_laws.proofs.EndResets
+pub use Rattle.covering_laws.proofs.EndTargets
+pub use Rattle.covering_laws.proofs.ResetHeaps
 pub use Rattle.covering_laws.proofs.EndNames
 pub use Rattle.covering_laws.proofs.Entries
 pub use Rattle.covering_laws.proofs.EntryFacts
@@ -58,6 +65,13 @@ pub use Rattle.covering_laws.proofs.Flows
 pub use Rattle.covering_laws.proofs.Following
 pub use Rattle.covering_laws.proofs.FrameFollowing
 pub use Rattle.covering_laws.proofs.GivenArguments
+pub use Rattle.covering_laws.proofs.WaitingTargets
+pub use Rattle.covering_laws.proofs.EndOwners
+pub use Rattle.covering_laws.proofs.EndTargets
+pub use Rattle.covering_laws.proofs.Owners
+pub use Rattle.covering_laws.proofs.Renewed
+pub use Rattle.covering_laws.proofs.RenewedOperands
+pub use Rattle.covering_laws.proofs.ResultOwners
 pub use Rattle.covering_laws.proofs.Going
 pub use Rattle.covering_laws.proofs.Growth
 pub use Rattle.covering_laws.proofs.HeapFrameEnds
@@ -66,6 +80,8 @@ pub use Rattle.covering_laws.proofs.KeptFacts
 pub use Rattle.covering_laws.proofs.KnownNames
 pub use Rattle.covering_laws.proofs.Landing
 pub use Rattle.covering_laws.proofs.LibraryCallLaws
+pub use Rattle.covering_laws.proofs.LibraryRuns
+pub use Rattle.covering_laws.proofs.GivenValues
 pub use Rattle.covering_laws.proofs.LibraryNames
 pub use Rattle.covering_laws.proofs.LibraryPromises
 pub use Rattle.covering_laws.proofs.Links
@@ -83,6 +99,7 @@ pub use Rattle.covering_laws.proofs.OwnerSteps
 pub use Rattle.covering_laws.proofs.ParameterBirths
 pub use Rattle.covering_laws.proofs.ParameterEnds
 pub use Rattle.covering_laws.proofs.PlaceLaws
+pub use Rattle.covering_laws.proofs.PromisedFields
 pub use Rattle.covering_laws.proofs.RangeValues
 pub use Rattle.covering_laws.proofs.Ready
 pub use Rattle.covering_laws.proofs.ResetJoins
@@ -102,4 +119,3 @@ pub use Rattle.covering_laws.proofs.ThrownLaws
 pub use Rattle.covering_laws.proofs.Tracking
 pub use Rattle.covering_laws.proofs.TrackingGiven
 pub use Rattle.covering_laws.proofs.Unmet
-pub use Rattle.covering_laws.proofs.Unoverridden

@@ -40,11 +40,11 @@ not_constant actions.Skip is chosen = is
 not_constant (actions.Plain q v) is chosen = true≢false (sym chosen)
 not_constant a is chosen = is
 
-pub no_library_note : (p : Program) → HasPlainForms p → (h : HeapContents) (arrays : List ArrayObject) (fr : Frame) (named : MethodId) (x : Conduct) (s : Step)
-    → IsLibraryMove p h arrays fr.locals (frame_steps p fr) named named x s → (frs : List Frame) (o : ℕ) (y : Object) (w : ℕ) (f : FieldId) (content : IsContent p frs h o y w f)
+pub no_library_note : (p : Program) → HasPlainForms p → (h : HeapContents) (arrays : List ArrayObject) (fr : Frame) (named runs : MethodId) (x : Conduct) (s : Step)
+    → IsLibraryMove p h arrays fr.locals (frame_steps p fr) named runs x s → (frs : List Frame) (o : ℕ) (y : Object) (w : ℕ) (f : FieldId) (content : IsContent p frs h o y w f)
     → (m : MethodId) (d : Method) (name : NameId) → method_at p m ≡ Some d → d.class ≡ content.holder.class → d.sig.interest ≡ Some name
     → set.contains (must_of p content.holder.class) name.0 ≡ true → IsNotedBy fr.locals s.action (method_at p named) w name.0 → ⊥
-no_library_note p forms' h arrays fr named x s next frs o y w f content m d name at class interest must noted = go (method_at p named) refl
+no_library_note p forms' h arrays fr named runs x s next frs o y w f content m d name at class interest must noted = go (method_at p named) refl
   where
     calls : called_method s.action ≡ Some named
     calls = elim next.row [

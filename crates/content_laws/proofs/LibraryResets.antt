@@ -40,18 +40,18 @@ pub same_interest : (m : Option Method) → interest_in (without_reset m) ≡ in
 same_interest None = refl
 same_interest (Some m) = refl
 
-module _ (p : Program) (l : Locals) (a : Action) (m : Option Method) (d : Conduct) (i : ℕ) (h : HeapContents) (held : List (List Value)) (links : HasEarlierLinks h) (free : HasNoHolder h (target_root h l a m)) where
+module _ (p : Program) (l : Locals) (a : Action) (m r : Option Method) (d : Conduct) (i : ℕ) (h : HeapContents) (held : List (List Value)) (links : HasEarlierLinks h) (free : HasNoHolder h (target_root h l a m)) where
   abbrev plain : HeapContents
-  plain = library_heap p l a (without_reset m) m d i h
+  plain = library_heap p l a (without_reset m) r d i h
 
   abbrev whole : HeapContents
-  whole = library_heap p l a m m d i h
+  whole = library_heap p l a m r d i h
 
   abbrev turned : ℕ → Object → Object
-  turned n x = reset_in p (library_called p l a m m d h) (library_roots p l a m m d h) n x
+  turned n x = reset_in p (library_called p l a m r d h) (library_roots p l a m r d h) n x
 
   abbrev anew : ℕ → Bool
-  anew n = is_anew p l a m m d h n
+  anew n = is_anew p l a m r d h n
 
   not_library : (o : Owner) (n : ℕ) → not (owner_holds whole held o n) ≡ true → is_library_owner o ≡ false
   not_library (owners.Frame j) n is = refl
@@ -79,19 +79,19 @@ module _ (p : Program) (l : Locals) (a : Action) (m : Option Method) (d : Conduc
 
   module _ (n : ℕ) (x : Object) (at : object_at plain n ≡ Some x) where
     kept : ((turned n x).class ≡ x.class) × ((turned n x).link ≡ x.link) × ((turned n x).finished ≡ x.finished) × ((turned n x).owner ≡ x.owner)
-    kept = reset_keeps p (library_called p l a m m d h) (library_roots p l a m m d h) n x
+    kept = reset_keeps p (library_called p l a m r d h) (library_roots p l a m r d h) n x
 
     lost : StaysAside p false (turned n x) (changed n x)
     lost = lost_stays n (turned n x) (is_unmet (turned n x) && not (owner_holds whole held (turned n x).owner n)) refl
 
     here : object_at whole n ≡ Some (turned n x)
-    here = renewed p l a m m d i h n ∙ ap (option_map (turned n)) at
+    here = renewed p l a m r d i h n ∙ ap (option_map (turned n)) at
 
     -- what is created anew was there before the call
     was_there : anew n ≡ true → IsOlder h n x owners.Library
-    was_there is = elim (older_or_new p l a (without_reset m) m i h (says_nothing m) links d n x at) [
+    was_there is = elim (older_or_new p l a (without_reset m) r i h (says_nothing m) links d n x at) [
       | inl was ↦ was
-      | inr new ↦ absurd (true≢false (sym is ∙ ap anew new ∙ fresh_stays p l a m m d i h))
+      | inr new ↦ absurd (true≢false (sym is ∙ ap anew new ∙ fresh_stays p l a m r d i h))
     ]
 
     unlinked : (was : IsOlder h n x owners.Library) → (changed n x).link ≡ None → was.before.link ≡ None
@@ -104,12 +104,12 @@ module _ (p : Program) (l : Locals) (a : Action) (m : Option Method) (d : Conduc
       finished = lost.finished ∙ kept.2;
       owner = elim lost.owner [ inl same ↦ inl (same ∙ kept.3) | inr gone ↦ inr (gone.0, ap is_library_owner (sym kept.3) ∙ gone.1) ];
       same = λ out.
-          let it = as_it_was p l a m m d i h n x out in
+          let it = as_it_was p l a m r d i h n x out in
           ((lost.same refl).0 ∙ ap (λ (u : Object). u.must) it, (lost.same refl).1 ∙ ap (λ (u : Object). u.called) it);
       emptied = λ is.
           let was = was_there is in (
-            (lost.same refl).1 ∙ (emptied_objects p l a m m d i h n was.before (turned n x) is was.at here).called,
-            λ none. (lost.same refl).0 ∙ emptied_root p l a m m d i h n was.before (turned n x) is was.at (unlinked was none) here ∙ ap (must_of p) (sym lost.class),
+            (lost.same refl).1 ∙ (emptied_objects p l a m r d i h n was.before (turned n x) is was.at here).called,
+            λ none. (lost.same refl).0 ∙ emptied_root p l a m r d i h n was.before (turned n x) is was.at (unlinked was none) here ∙ ap (must_of p) (sym lost.class),
           );
     }
 
@@ -117,7 +117,7 @@ module _ (p : Program) (l : Locals) (a : Action) (m : Option Method) (d : Conduc
     no_field : anew n ≡ true → (changed n x).link ≡ None → is_field_owner (changed n x).owner ≡ false
     no_field is none =
         let was = was_there is in
-        let root_is : target_root h l a m ≡ Some n = emptied_roots-root p l a m m d h n was.before links free was.at is ∙ ap Some (roots_of_links-itself h n was.before was.at (unlinked was none)) in
+        let root_is : target_root h l a m ≡ Some n = emptied_roots-root p l a m r d h n was.before links free was.at is ∙ ap Some (roots_of_links-itself h n was.before was.at (unlinked was none)) in
         let before : is_field_owner was.before.owner ≡ false = free n was.before root_is was.at in
         elim stays.owner [
           | inl same ↦ ap is_field_owner same ∙ elim was.owner [ inl still ↦ ap is_field_owner still ∙ before | inr gave ↦ ap is_field_owner gave ]
@@ -125,7 +125,7 @@ module _ (p : Program) (l : Locals) (a : Action) (m : Option Method) (d : Conduc
         ]
 
   at_after : (n : ℕ) → object_at (lose held whole) n ≡ option_map (changed n) (object_at plain n)
-  at_after n = changed_at (lost_object whole held) whole n ∙ ap (option_map (lost_object whole held n)) (renewed p l a m m d i h n) ∙ both (object_at plain n)
+  at_after n = changed_at (lost_object whole held) whole n ∙ ap (option_map (lost_object whole held n)) (renewed p l a m r d i h n) ∙ both (object_at plain n)
     where
       both : (x : Option Object) → option_map (lost_object whole held n) (option_map (turned n) x) ≡ option_map (changed n) x
       both None = refl
@@ -143,8 +143,8 @@ module _ (p : Program) (l : Locals) (a : Action) (m : Option Method) (d : Conduc
     forth = λ n x at. (changed n x, at_after n ∙ ap (option_map (changed n)) at, stays n x at);
     back = λ n y at. (let x = back_at n y at in (x.0, x.1, subst (StaysAside p (anew n) x.0) x.2 (stays n x.0 x.1)));
     roots = λ n. root_of_changed (lost_object whole held) whole n (λ k x. (lost_stays k x (is_unmet x && not (owner_holds whole held x.owner k)) refl).link)
-        ∙ (let both : Some (root whole n) ≡ Some (root plain n) = same_root p l a m m d i h (values.Object n) in (let one : root whole n ≡ root plain n = cc in one));
-    fields = λ w f own. grown_fields p h whole (library_grows p l a m m d i h) w f own ∙ sym (grown_fields p h plain (library_grows p l a (without_reset m) m d i h) w f own);
+        ∙ (let both : Some (root whole n) ≡ Some (root plain n) = same_root p l a m r d i h (values.Object n) in (let one : root whole n ≡ root plain n = cc in one));
+    fields = λ w f own. grown_fields p h whole (library_grows p l a m r d i h) w f own ∙ sym (grown_fields p h plain (library_grows p l a (without_reset m) r d i h) w f own);
     free = λ n y at is none.
         let x = back_at n y at in
         ap (λ (u : Object). is_field_owner u.owner) (sym x.2) ∙ no_field n x.0 x.1 is (ap (λ (u : Object). u.link) x.2 ∙ none);

@@ -26,6 +26,7 @@ use Rattle.covering_laws.specs.Configuration.{Frame}
 use Rattle.covering_laws.specs.Heaps.{HasEarlierLinks}
 use Rattle.covering_laws.specs.PlainForms.{run_by}
 use Rattle.covering_laws.specs.FieldContents.{AreDispatched, AreUnfinished, FieldsHold, HaveContents, IsContent, IsDispatched, IsKept, LinksLead, promised_on}
+use Rattle.covering_laws.specs.Renewable.{IsFollowed}
 use Rattle.covering_laws.specs.PlaceFacts.{may_owe}
 use Rattle.ledger_obligations.specs.Obligations.{is_library_owner, is_unmet}
 use Rattle.rlc_base.proofs.SetLaws.{member_of-empty}
@@ -171,7 +172,7 @@ module _ (p : Program) (anew : ℕ → Bool) (h k : HeapContents) (renews : Rene
   pub renewed_hold : HasEarlierLinks k → (frs : List Frame) → FieldsHold p frs h → FieldsHold p frs k
   renewed_hold links frs hold = record {
     contents = contents_renewed links frs hold.contents;
-    owning = λ o y w f at owner. (let x = renews.back o y at in hold.owning o x.0 w f x.1 (field_before p (anew o) x.0 y w f x.2 owner));
+    owning = λ o y w f at owner. (let x = renews.back o y at in (let was = hold.owning o x.0 w f x.1 (field_before p (anew o) x.0 y w f x.2 owner) in (was.0, λ out. subst (IsFollowed p) (sym x.2.class) (was.1 out))));
     leads = leads_renewed hold.leads;
     new = hold.new;
     fresh = hold.fresh;
@@ -179,11 +180,11 @@ module _ (p : Program) (anew : ℕ → Bool) (h k : HeapContents) (renews : Rene
     dispatched = dispatched_renewed frs hold.dispatched;
   }
 
--- The call of the library leaves the heap `k`, in which obligations may be created anew, of objects that no field owns: but for what was called and must be, and what
+-- The call of the library, which names the method `m` and which it answers by the signature of `r`, leaves the heap `k`, in which obligations may be created anew, of objects that no field owns: but for what was called and must be, and what
 -- is lost, the heap is that which the call leaves where its signature creates nothing anew.
-pub record CreatesAnew (p : Program) (l : Locals) (a : Action) (m : Option Method) (d : Conduct) (i : ℕ) (h k : HeapContents) : Type 0 where
+pub record CreatesAnew (p : Program) (l : Locals) (a : Action) (m r : Option Method) (d : Conduct) (i : ℕ) (h k : HeapContents) : Type 0 where
   pub plain : Option Method
   pub nothing : reset_position plain ≡ None
   pub interest : interest_in plain ≡ interest_in m
   pub anew : ℕ → Bool
-  pub renews : Renews p anew (library_heap p l a plain m d i h) k
+  pub renews : Renews p anew (library_heap p l a plain r d i h) k

@@ -2,7 +2,7 @@
 pub use Rattle.covering_laws.proofs.Returns.{back_is}
 use Rattle.std.specs.Prelude.{◌<◌, ◌≤◌, ◌||◌, ◌&&◌, is_some, not}
 use Rattle.std.specs.FinSet as set
-use Rattle.std.proofs.Common.{◌≡◌, ◌⊎◌, ℕ, suc, ◌+◌, Bool, true, false, true≢false, Option, Some, None, List, ◌∷◌, length, slice_get, refl, sym, ap, ◌∙◌, subst, if◌then◌else◌, inl, inr, eqb-true, eq-eqb, arith}
+use Rattle.std.proofs.Common.{◌≡◌, ◌⊎◌, ℕ, zero, suc, ◌+◌, Bool, true, false, true≢false, Option, Some, None, List, ◌∷◌, length, slice_get, refl, sym, ap, ◌∙◌, subst, if◌then◌else◌, inl, inr, eqb-true, eq-eqb, arith}
 use Rattle.std.proofs.lemmas.Bool.{and_parts}
 use Rattle.std.proofs.lemmas.List.Elements.{All-head, All-tail}
 use Rattle.rlc_base.specs.declared.name_id.NameId.{NameId}
@@ -14,7 +14,8 @@ use Rattle.program_model.specs.declared.program.Field.{Field}
 use Rattle.program_model.specs.declared.program.Method.{Method}
 use Rattle.program_model.specs.declared.program.Program.{Program}
 use Rattle.program_model.specs.Lookups.{field_at, method_at}
-use Rattle.must_call_sets.specs.Bodies.{alias_in, alias_position as body_alias_position, constructs, is_class_of, is_constructor_kind, method_in}
+use Rattle.must_call_sets.specs.Bodies as bodies
+use Rattle.must_call_sets.specs.Bodies.{alias_in, constructs, is_class_of, is_constructor_kind, method_in}
 use Rattle.must_call_sets.specs.MustCallSets.{is_heavy_class, must_of, must_of_optional, must_of_type}
 use Rattle.must_call_sets.specs.Signatures.{type_at}
 use Rattle.java_control.specs.Owned.{is_owning_field}
@@ -29,7 +30,7 @@ use Rattle.covering_laws.specs.Paths.{move_of}
 use Rattle.covering_laws.specs.Outcomes.{IsCallRow}
 use Rattle.ledger_state.specs.Contents.{HeapContents}
 use Rattle.ledger_state.specs.Fields.{field_value}
-use Rattle.ledger_state.specs.Heaps.{change_one, next_number, object_at, root, root_of}
+use Rattle.ledger_state.specs.Heaps.{change_one, is_reached, next_number, object_at, root, root_of}
 use Rattle.ledger_state.specs.Locals.{variable_value}
 use Rattle.ledger_state.specs.Values.{number_of}
 use Rattle.ledger_state.specs.declared.entry.Owner.TheVariants as owners
@@ -38,13 +39,13 @@ use Rattle.ledger_state.specs.declared.object.Link.{Link}
 use Rattle.ledger_state.specs.declared.object.Object.{Object}
 use Rattle.ledger_state.specs.declared.value.Value.{Value}
 use Rattle.ledger_state.specs.declared.value.Value.TheVariants as values
-use Rattle.ledger_obligations.specs.Obligations.{alias_born, end_holder, finished, is_unmet}
+use Rattle.ledger_obligations.specs.Obligations.{alias_born, end_holder, finished, is_unmet, lose}
 use Rattle.ledger_steps.specs.LedgerCallsCalls.{alias_position, alias_target, interest_in, is_alias, object_by, operand_of, reset_position}
 use Rattle.covering_laws.specs.Configuration.{Config, Frame, held_by}
 use Rattle.covering_laws.specs.Choosing.{frame_steps, is_number}
 use Rattle.covering_laws.specs.Frames.{frame_after}
 use Rattle.covering_laws.specs.Places.{class_of_method}
-use Rattle.ledger_steps.specs.Ends.{answered, constructor_ended, exception_class, finished_by_new, object_finished, frame_ended, frame_gone, program_birth, result_value, returned_heap, returned_reset, thrown_in}
+use Rattle.ledger_steps.specs.Ends.{answered, constructor_ended, exception_class, finished_by_new, object_finished, frame_ended, frame_gone, program_birth, result_value, returned_called, returned_heap, returned_reset, returned_roots, thrown_in}
 use Rattle.covering_laws.specs.Moves.{Return, Back, StrayBack, NoWay}
 use Rattle.covering_laws.specs.LedgerRunsOutcomes.{went, stray}
 use Rattle.covering_laws.specs.LedgerRunsSteps.{returned, returned_by}
@@ -52,14 +53,14 @@ use Rattle.covering_laws.specs.Heaps.{Evolves, GoesOn, HasEarlierLinks}
 use Rattle.covering_laws.specs.Leading.{CallsOnField, Leads}
 use Rattle.covering_laws.proofs.HeapLaws.{roots_of_links-there}
 use Rattle.covering_laws.proofs.ObjectLaws.{in_range}
-use Rattle.covering_laws.specs.ProgramCalls.{is_new as is_made_new}
+use Rattle.covering_laws.specs.ProgramCalls as program_calls
 use Rattle.covering_laws.proofs.EndLinks.{called_links, end_links, gone_links}
 use Rattle.covering_laws.proofs.Returned.{gone_unowned}
 use Rattle.covering_laws.specs.Arguments.{HasArguments}
 use Rattle.covering_laws.proofs.Constructors.{spoken}
 use Rattle.covering_laws.proofs.KeptArguments.{field_holds}
 use Rattle.covering_laws.specs.Agreement.{Agrees, AllStand, IsMade, IsMadeAfter, IsMadeBy, RunsItself, WaitsFor}
-use Rattle.covering_laws.specs.PlainForms.{HasPlainForms, IsPlainCall, IsPlainSignature, calls_constructor, MayRun}
+use Rattle.covering_laws.specs.PlainForms.{HasPlainForms, IsPlainCall, calls_constructor, MayRun}
 use Rattle.ledger_steps.specs.LedgerCallsCalls.{body_of}
 use Rattle.covering_laws.specs.Nexts.{IsBack, IsBackStep}
 use Rattle.covering_laws.proofs.Ready.{plain_call, plain_step, step_here, step_there}
@@ -68,7 +69,17 @@ use Rattle.covering_laws.proofs.CallWays.{one_action}
 use Rattle.covering_laws.specs.Naming.{IsOfItsKind}
 use Rattle.covering_laws.proofs.NamedReached.{names_what_is_there}
 use Rattle.covering_laws.specs.FieldContents.{AreDispatched, AreFresh, AreNew, AreUnfinished, FieldsHold, HaveContents, IsBeingMade, IsContent, LinksLead, RunOnOthers, is_made_in, is_new, makes_holder, makes_object, promised_on, OwningFieldsOwn}
-use Rattle.covering_laws.specs.PlaceFacts.{IsCovered, gives_none, may_owe}
+use Rattle.covering_laws.specs.Renewable.{IsFollowed}
+use Rattle.covering_laws.specs.PlaceFacts.{IsCovered, gives_none, is_given, may_owe, renews_none}
+use Rattle.covering_laws.specs.Renewing.{is_renewed}
+use Rattle.covering_laws.specs.Sight.{ActsInSight}
+use Rattle.covering_laws.proofs.EndResets.{plain_alias_position}
+use Rattle.covering_laws.proofs.EndTargets.{left_links, reached_root, reset_of, same_fields}
+use Rattle.covering_laws.proofs.HeapLaws.{links_stay-lost}
+use Rattle.covering_laws.proofs.Renewed.{says_nothing, without_reset}
+use Rattle.content_laws.proofs.LibraryResets.{same_interest}
+use Rattle.content_laws.proofs.Renewals.{Renews, renewed_hold}
+use Rattle.content_laws.proofs.ResetRenews.{reset_renews}
 use Rattle.covering_laws.specs.Ranges.{LocalsInRange}
 use Rattle.covering_laws.proofs.Configs.{frames_stay}
 use Rattle.covering_laws.proofs.Growth.{returned_grows}
@@ -86,7 +97,7 @@ use Rattle.content_laws.proofs.Steps.{IsSameFrame, LocalsIn, owning_on, same_dis
 use Rattle.content_laws.specs.Going.{Goes, IsNotedBy, KeepsArgument, PromisesItsOwn, linked}
 use Rattle.content_laws.proofs.Steps.{lost, same_after}
 use Rattle.content_laws.proofs.Promised.{promises_its_own}
-use Rattle.content_laws.proofs.ContentStores.{IsAliasForm, body_is_of_program, own_alias_form}
+use Rattle.content_laws.proofs.ContentStores.{alias_form, body_is_of_program}
 use Rattle.content_laws.proofs.TopSteps.{small_interest}
 
 -- a `new` that makes no alias finishes its object
@@ -99,12 +110,12 @@ aliased_finished p i m alias k some =
     ap (λ (z : Option ℕ). (λ (x : Object). if is_some z then alias_born p false alias (record x { called = set.empty }) else finished (must_of p x.class) (owners.Frame i) (record x { called = set.empty }))) some
 
 -- a `new`, in the words of the two crates
-made_as_new : (a : Action) → is_made_new a ≡ true → is_new a ≡ true
+made_as_new : (a : Action) → program_calls.is_new a ≡ true → is_new a ≡ true
 made_as_new actions.Skip new = new
 made_as_new (actions.New m d n) new = refl
 made_as_new a new = new
 
-made_after : (p : Program) (l : Locals) (a : Action) (v : Value) (named : MethodId) → IsMadeAfter p l a v → called_method a ≡ Some named → is_made_new a ≡ true → (n w : ℕ) → number_of v ≡ Some n
+made_after : (p : Program) (l : Locals) (a : Action) (v : Value) (named : MethodId) → IsMadeAfter p l a v → called_method a ≡ Some named → program_calls.is_new a ≡ true → (n w : ℕ) → number_of v ≡ Some n
     → alias_target (operand_of l a) (method_at p named) ≡ Some w → (0 < w) × (w < n)
 made_after p l actions.Skip v named is calls new n w at to = absurd (true≢false (sym new))
 made_after p l (actions.New m d c) v named is calls new n w at to =
@@ -132,9 +143,9 @@ row_of (actions.Super k d n) m is = tt
 row_of a m is = absurd (let never : None ≡ Some m = is in cc)
 
 module _ (p : Program) (ac : Accept p) (forms' : HasPlainForms p) (c d : Config) (fr caller : Frame) (rest : List Frame) (agrees : Agrees p (fr ∷ caller ∷ rest) c.heap c.entries)
-    (covered : IsCovered p c.heap gives_none (caller ∷ rest) fr) (in' : LocalsIn c.heap (fr ∷ caller ∷ rest)) (hold : FieldsHold p (fr ∷ caller ∷ rest) c.heap) (making : IsBeingMade p c.heap fr caller) (given : HasArguments p caller fr) (i : ℕ) (s : Step) (q : Completion)
+    (covered : IsCovered p c.heap gives_none renews_none (caller ∷ rest) fr) (in' : LocalsIn c.heap (fr ∷ caller ∷ rest)) (hold : FieldsHold p (fr ∷ caller ∷ rest) c.heap) (making : IsBeingMade p c.heap fr caller) (given : HasArguments p caller fr) (i : ℕ) (s : Step) (q : Completion)
     (here : slice_get (frame_steps p fr) i ≡ Some s) (is : s.action ≡ actions.End q)
-    (exits : is_throw q ≡ true → exception_class p c.heap (thrown_in fr.locals q) ≡ None → ⊥) where
+    (exits : is_throw q ≡ true → exception_class p c.heap (thrown_in fr.locals q) ≡ None → ⊥) (sight : ActsInSight p c.heap caller) (waiting : IsCovered p c.heap (is_given p c.heap caller) (is_renewed p c.heap caller) rest caller) where
   abbrev h : HeapContents
   h = c.heap
 
@@ -178,34 +189,32 @@ module _ (p : Program) (ac : Accept p) (forms' : HasPlainForms p) (c d : Config)
     abbrev position : ℕ
     position = length rest + 1
 
-    abbrev reset : HeapContents
-    reset = returned_reset p caller.locals t.action (method_at p named) (frame_gone p position fr.locals.this (method_at p fr.method) v e h)
+    -- the method that the call names, but for its reset
+    abbrev plain : Option Method
+    plain = without_reset (method_at p named)
 
+    abbrev reset : HeapContents
+    reset = returned_reset p caller.locals t.action plain (frame_gone p position fr.locals.this (method_at p fr.method) v e h)
+
+    -- the heap that the end would leave without the reset
     abbrev heap : HeapContents
-    heap = returned_heap p position fr.locals.this caller.locals t.action (method_at p fr.method) (method_at p named) v e h
+    heap = returned_heap p position fr.locals.this caller.locals t.action (method_at p fr.method) plain v e h
 
     named_call : IsPlainCall p named
     named_call = plain_call p t.action named (plain_step p ac forms' caller standing'.0 back.index t back.here) back.row back.calls
 
-    no_reset : reset_position (method_at p named) ≡ None
-    no_reset = by (method_at p named) refl (method_at p fr.method) refl
-      where
-        same_step : waits.step.action ≡ t.action
-        same_step = sym (one_action p standing'.0.number caller.control waits.index back.index waits.step t (step_here p caller standing'.0 waits.index waits.step waits.here)
-            (step_here p caller standing'.0 back.index t back.here) (call_may waits.step.action (row_of waits.step.action waits.named waits.calls)))
+    no_reset : reset_position plain ≡ None
+    no_reset = says_nothing (method_at p named)
 
-        named_waits : waits.named ≡ named
-        named_waits = let both : Some waits.named ≡ Some named = sym waits.calls ∙ ap called_method same_step ∙ back.calls in (let one : waits.named ≡ named = cc in one)
+    small : (n : NameId) → interest_in plain ≡ Some n → n.0 < 128
+    small n is' = small_interest p ac named n (sym (same_interest (method_at p named)) ∙ is')
 
-        by : (z : Option Method) → method_at p named ≡ z → (r : Option Method) → method_at p fr.method ≡ r → reset_position (method_at p named) ≡ None
-        by None named_at r run_at = ap reset_position named_at
-        by (Some n) named_at (Some r) run_at =
-            ap reset_position named_at ∙ named_call.resets fr.method n r (subst (λ (u : MethodId). MayRun p u fr.method) named_waits waits.runs) named_at run_at
-            (body_is_of_program p ac fr agrees.standing.0 r.class (ap (is_class_of r.class) run_at ∙ eq-eqb r.class.0 r.class.0 refl))
-        by (Some n) named_at None run_at = absurd (let never : None ≡ Some agrees.standing.0.number = sym (ap body_of run_at) ∙ agrees.standing.0.id in cc)
+    -- what the call notes, it notes with its reset as well
+    as_noted : (w n : ℕ) → IsNotedBy caller.locals t.action plain w n → IsNotedBy caller.locals t.action (method_at p named) w n
+    as_noted w n noted = record { chosen = noted.chosen; receiver = noted.receiver; name = noted.name; interest = sym (same_interest (method_at p named)) ∙ noted.interest; number = noted.number }
 
-    goes : Goes p h reset (IsNotedBy caller.locals t.action (method_at p named))
-    goes = end_goes p position fr.locals.this caller.locals t.action (method_at p fr.method) (method_at p named) v e h no_reset (small_interest p ac named) links
+    goes : Goes p h reset (IsNotedBy caller.locals t.action plain)
+    goes = end_goes p position fr.locals.this caller.locals t.action (method_at p fr.method) plain v e h no_reset small links
 
     some_method : (n : Method) → method_at p named ≡ Some n → (o : ℕ) (x y : Object) (w : ℕ) (f : FieldId) → object_at h o ≡ Some x → object_at reset o ≡ Some y → is_unmet y ≡ true → GoesOn x y → x.owner ≡ owners.Field w f
         → (content : IsContent p (fr ∷ caller ∷ rest) h o x w f) → (m : MethodId) (d' : Method) (name : NameId) → content.holder.finished ≡ true → method_at p m ≡ Some d' → d'.class ≡ content.holder.class
@@ -232,7 +241,8 @@ module _ (p : Program) (ac : Accept p) (forms' : HasPlainForms p) (c d : Config)
 
     -- the contents when the frame has gone, while its constructor still counts
     between : HaveContents p (fr ∷ after ∷ rest) reset
-    between = contents_go_on p h reset _ goes own hold.leads (fr ∷ caller ∷ rest) (fr ∷ after ∷ rest) hold.contents keeps
+    between = contents_go_on p h reset _ goes own hold.leads (fr ∷ caller ∷ rest) (fr ∷ after ∷ rest) hold.contents
+        (λ o x y w f at now unmet on owner content m d' n fin there' class interest must noted. keeps o x y w f at now unmet on owner content m d' n fin there' class interest must (as_noted w n.0 noted))
         (λ o x y w f content now owner un' made'. still_made w content.field.class made')
       where
         still_made : (w : ℕ) (c' : ClassId) → is_made_in p w c' (fr ∷ caller ∷ rest) ≡ true → is_made_in p w c' (fr ∷ after ∷ rest) ≡ true
@@ -243,7 +253,7 @@ module _ (p : Program) (ac : Accept p) (forms' : HasPlainForms p) (c d : Config)
     gone_linked = gone_links p position fr.locals.this (method_at p fr.method) v e h links
 
     reset_linked : HasEarlierLinks reset
-    reset_linked = called_links p position fr.locals.this caller.locals t.action (method_at p named) (frame_gone p position fr.locals.this (method_at p fr.method) v e h) no_reset gone_linked
+    reset_linked = called_links p position fr.locals.this caller.locals t.action plain (frame_gone p position fr.locals.this (method_at p fr.method) v e h) no_reset gone_linked
 
     leads_then : LinksLead p reset
     leads_then = leads_go_on p h reset _ goes links hold.leads reset_linked
@@ -298,7 +308,7 @@ module _ (p : Program) (ac : Accept p) (forms' : HasPlainForms p) (c d : Config)
         after_gone : (o : ℕ) (y : Object) (w : ℕ) (f : FieldId) → object_at reset o ≡ Some y → y.owner ≡ owners.Field w f
             → (x : (n : ℕ) × Object) × (object_at (frame_gone p position fr.locals.this (method_at p fr.method) v e h) x.0 ≡ Some x.1) × (x.1.owner ≡ owners.Field w f)
         after_gone o y w f now' owner' =
-            let b = (after_goes p caller.locals t.action (method_at p named) (frame_gone p position fr.locals.this (method_at p fr.method) v e h) no_reset (small_interest p ac named)).back o y w f now' owner' in
+            let b = (after_goes p caller.locals t.action plain (frame_gone p position fr.locals.this (method_at p fr.method) v e h) no_reset small).back o y w f now' owner' in
             ((o, b.0), b.1, b.3)
 
         named_is : (m : MethodId) → called_method waits.step.action ≡ Some m → m ≡ waits.named
@@ -341,9 +351,6 @@ module _ (p : Program) (ac : Accept p) (forms' : HasPlainForms p) (c d : Config)
             by_maker false absent more = more
             by_maker true makes more = absurd (no_maker how o y w f content.field content.declared content.owning makes now unmet owner)
 
-    grown : next_number h ≤ next_number heap
-    grown = (returned_grows p position fr.locals.this caller.locals t.action (method_at p fr.method) (method_at p named) v e h).count
-
     abbrev Then : HeapContents → Type 0
     Then k = FieldsHold p (after ∷ rest) k
 
@@ -357,7 +364,7 @@ module _ (p : Program) (ac : Accept p) (forms' : HasPlainForms p) (c d : Config)
         let x = one_back p reset w change o y at in
         elim x.2 [
           | inl here' ↦ absurd (none x.0 u f (ap (object_at reset) (sym here'.0) ∙ x.1) (ap (λ (z : Object). z.owner) (sym here'.1) ∙ owner))
-          | inr other ↦ owning_then o x.0 u f x.1 (ap (λ (z : Object). z.owner) (sym other.1) ∙ owner)
+          | inr other ↦ (let was = owning_then o x.0 u f x.1 (ap (λ (z : Object). z.owner) (sym other.1) ∙ owner) in (was.0, λ out. subst (λ (z : Object). IsFollowed p z.class) (sym other.1) (was.1 out)))
         ]
 
     as_it_is : (is_new waits.step.action ≡ false) ⊎ ((x : ClassId) × (e ≡ Some x)) → Then reset
@@ -410,9 +417,6 @@ module _ (p : Program) (ac : Accept p) (forms' : HasPlainForms p) (c d : Config)
           (names_what_is_there p ac.well_formed.valid.typed standing'.0.number standing'.0.body caller.control waits.index (move_of waits.step) standing'.0.at standing'.0.control
           (step_there p caller standing'.0 waits.index waits.step waits.here)).1 in
           ap (λ (z : MethodId). constructs (method_at p z)) (runs ∙ named_one ∙ sym one) ∙ kind
-
-      form : IsAliasForm (method_at p fr.method)
-      form = own_alias_form p ac fr agrees.standing.0 constructor (subst (λ (z : MethodId). IsPlainSignature p (method_at p z)) (sym runs) named_call.signature)
 
       -- its constructor has no aliased argument
       finished_then : Then (change_one w (made p position) reset)
@@ -474,7 +478,7 @@ module _ (p : Program) (ac : Accept p) (forms' : HasPlainForms p) (c d : Config)
         alias_there : running.0.sig.alias ≡ Some (suc position')
         alias_there = ap alias_in (sym running.1) ∙ alias
 
-        body_alias : body_alias_position p agrees.standing.0.number ≡ Some (suc position')
+        body_alias : bodies.alias_position p agrees.standing.0.number ≡ Some (suc position')
         body_alias = ap alias_in (ap (method_in p) agrees.standing.0.at ∙ ap (method_at p) agrees.standing.0.method) ∙ alias
 
         -- the object is of the class of the constructor, which has an obligation
@@ -587,76 +591,99 @@ module _ (p : Program) (ac : Accept p) (forms' : HasPlainForms p) (c d : Config)
       a = actions.New m depth count
 
       abbrev target : Option ℕ
-      target = alias_target (operand_of caller.locals a) (method_at p named)
+      target = alias_target (operand_of caller.locals a) plain
 
       abbrev ended_heap : HeapContents
-      ended_heap = finished_by_new p position a (method_at p named) (number_of fr.locals.this) target reset
+      ended_heap = finished_by_new p position a plain (number_of fr.locals.this) target reset
 
-      born : (change : Object → Object) → object_finished p position (method_at p named) target ≡ change → ended_heap ≡ change_one w change reset
-      born change same = ap (λ (u : Value). finished_by_new p position a (method_at p named) (number_of u) target reset) makes.1 ∙ ap (λ (f : Object → Object). change_one w f reset) same
+      born : (change : Object → Object) → object_finished p position plain target ≡ change → ended_heap ≡ change_one w change reset
+      born change same = ap (λ (u : Value). finished_by_new p position a plain (number_of u) target reset) makes.1 ∙ ap (λ (f : Object → Object). change_one w f reset) same
 
-      position_is : alias_position (method_at p named) ≡ alias_in (method_at p fr.method)
-      position_is = same_position (method_at p named) ∙ ap (λ (z : MethodId). alias_in (method_at p z)) (sym (runs m depth count it w makes.1))
+      position_is : alias_position plain ≡ alias_in (method_at p fr.method)
+      position_is = plain_alias_position (method_at p named) ∙ same_position (method_at p named) ∙ ap (λ (z : MethodId). alias_in (method_at p z)) (sym (runs m depth count it w makes.1))
         where
           same_position : (x : Option Method) → alias_position x ≡ alias_in x
           same_position None = refl
           same_position (Some x) = refl
 
-      is_aliased : (v : ℕ) → alias_in (method_at p fr.method) ≡ Some (suc v) → is_alias (method_at p fr.method) ≡ true
-      is_aliased v alias = ap is_some (ap (λ (z : MethodId). alias_position (method_at p z)) (runs m depth count it w makes.1) ∙ position_is ∙ alias)
+      is_aliased : (v : ℕ) → alias_in (method_at p fr.method) ≡ Some v → is_alias (method_at p fr.method) ≡ true
+      is_aliased v alias = ap is_some (ap (λ (z : MethodId). alias_position (method_at p z)) (runs m depth count it w makes.1) ∙ sym (plain_alias_position (method_at p named)) ∙ position_is ∙ alias)
 
-      with_argument : (v : ℕ) → alias_in (method_at p fr.method) ≡ Some (suc v) → (n : Option ℕ) → number_of (operand_of caller.locals a (suc v)) ≡ n → HasEarlierLinks ended_heap → Then ended_heap
-      with_argument v alias n is' now = by_number n (ap (object_by (operand_of caller.locals a)) (position_is ∙ alias) ∙ is') is'
+      with_argument : (v : ℕ) → alias_in (method_at p fr.method) ≡ Some v → (n : Option ℕ) → number_of (operand_of caller.locals a v) ≡ n → HasEarlierLinks ended_heap → Then ended_heap
+      with_argument v alias n is' now = by_number n is'
         where
-          finish : (k : Option ℕ) → target ≡ k → object_finished p position (method_at p named) target ≡ linked p k
-          finish k same = aliased_finished p position (method_at p named) target (suc v) (position_is ∙ alias) ∙ ap (linked p) same
+          finish : (k : Option ℕ) → number_of (operand_of caller.locals a v) ≡ k → object_finished p position plain target ≡ linked p k
+          finish k number = aliased_finished p position plain target v (position_is ∙ alias) ∙ ap (linked p) (ap (object_by (operand_of caller.locals a)) (position_is ∙ alias) ∙ number)
 
-          by_number : (k : Option ℕ) → target ≡ k → number_of (operand_of caller.locals a (suc v)) ≡ k → Then ended_heap
-          by_number None same number = subst Then (sym (born (linked p None) (finish None same))) (null_then m depth count it w makes.1 (is_aliased v alias))
-          by_number (Some k) same number =
-              let heap_is = born (linked p (Some k)) (finish (Some k) same) in
-              subst Then (sym heap_is)
-              (argument_then m depth count it w makes.1 (ends_normally normal) k v alias (ap (λ (b : Action). operand_of caller.locals b (suc v)) it ∙ receiver_object k (operand_of caller.locals a (suc v)) number)
-              (subst (λ (b : Action). IsMadeAfter p caller.locals b fr.locals.this) it waits.after w k (ap number_of makes.1) (ap (λ (z : MethodId). alias_target (operand_of caller.locals a) (method_at p z)) named_is_made ∙ same))
-              (subst HasEarlierLinks heap_is now))
+          by_number : (k : Option ℕ) → number_of (operand_of caller.locals a v) ≡ k → Then ended_heap
+          by_number None number = subst Then (sym (born (linked p None) (finish None number))) (null_then m depth count it w makes.1 (is_aliased v alias))
+          by_number (Some k) number = at_position v alias number (finish (Some k) number)
             where
               named_is_made : m ≡ named
               named_is_made = let both : Some m ≡ Some waits.named = sym (ap called_method it) ∙ waits.calls in (let one : m ≡ waits.named = cc in one) ∙ sym named_one
 
+              -- a `new` has no operand at the receiver's position
+              at_position : (j : ℕ) → alias_in (method_at p fr.method) ≡ Some j → number_of (operand_of caller.locals a j) ≡ Some k → object_finished p position plain target ≡ linked p (Some k) → Then ended_heap
+              at_position zero alias' number' finished = absurd (let never : ◌≡◌ {A = Option ℕ} None (Some k) = number' in cc)
+              at_position (suc j) alias' number' finished =
+                  let heap_is = born (linked p (Some k)) finished in
+                  subst Then (sym heap_is)
+                  (argument_then m depth count it w makes.1 (ends_normally normal) k j alias' (ap (λ (b : Action). operand_of caller.locals b (suc j)) it ∙ receiver_object k (operand_of caller.locals a (suc j)) number')
+                  (subst (λ (b : Action). IsMadeAfter p caller.locals b fr.locals.this) it waits.after w k (ap number_of makes.1)
+                  (ap (λ (z : MethodId). alias_target (operand_of caller.locals a) (method_at p z)) named_is_made ∙ ap (object_by (operand_of caller.locals a)) (sym (plain_alias_position (method_at p named)) ∙ position_is ∙ alias') ∙ number'))
+                  (subst HasEarlierLinks heap_is now))
+
       new_ended : HasEarlierLinks ended_heap → Then ended_heap
-      new_ended now = elim (form m depth count it w makes.1) [
-        | inl none ↦ subst Then (sym (born (made p position) (plainly_finished p position (method_at p named) target (position_is ∙ none)))) (finished_then m depth count it w makes.1)
-        | inr alias ↦ with_argument alias.0 alias.1 (number_of (operand_of caller.locals a (suc alias.0))) refl now
+      new_ended now = elim (alias_form (method_at p fr.method)) [
+        | inl none ↦ subst Then (sym (born (made p position) (plainly_finished p position plain target (position_is ∙ none)))) (finished_then m depth count it w makes.1)
+        | inr alias ↦ with_argument alias.0 alias.1 (number_of (operand_of caller.locals a alias.0)) refl now
       ]
 
     -- the heap when the call has ended
     ended_then : (x : Option ClassId) → e ≡ x → (a : Action) → waits.step.action ≡ a → IsMadeBy p h a fr.locals.this
-        → HasEarlierLinks (program_birth p position a (method_at p named) (number_of fr.locals.this) (alias_target (operand_of caller.locals a) (method_at p named)) x reset)
-        → Then (program_birth p position a (method_at p named) (number_of fr.locals.this) (alias_target (operand_of caller.locals a) (method_at p named)) x reset)
+        → HasEarlierLinks (program_birth p position a plain (number_of fr.locals.this) (alias_target (operand_of caller.locals a) plain) x reset)
+        → Then (program_birth p position a plain (number_of fr.locals.this) (alias_target (operand_of caller.locals a) plain) x reset)
     ended_then (Some x) thrown a it makes now = as_it_is (inr (x, thrown))
     ended_then None normal actions.Skip it makes now = as_it_is (inl (ap is_new it))
     ended_then None normal (actions.New m d n) it makes now = new_ended m d n it makes normal now
     ended_then None normal a it makes now = as_it_is (inl (ap is_new it))
 
-    made_new : is_made_new t.action ≡ true → is_new waits.step.action ≡ true
+    made_new : program_calls.is_new t.action ≡ true → is_new waits.step.action ≡ true
     made_new new = ap is_new (sym same_action) ∙ made_as_new t.action new
 
     heap_linked : HasEarlierLinks heap
-    heap_linked = end_links p position fr.locals.this caller.locals t.action (method_at p named) (frame_gone p position fr.locals.this (method_at p fr.method) v e h) no_reset gone_linked
+    heap_linked = end_links p position fr.locals.this caller.locals t.action plain (frame_gone p position fr.locals.this (method_at p fr.method) v e h) no_reset gone_linked
         (λ n x new number at. (let before = made_before n (receiver_object n fr.locals.this number) (made_new new) in
         gone_unowned p position fr.locals.this (method_at p fr.method) v e h n before.0 x before.1 before.2 before.3 at))
-        (λ n w new number to. made_after p caller.locals t.action fr.locals.this named (subst (λ (a : Action). IsMadeAfter p caller.locals a fr.locals.this) (sym same_action) waits.after) back.calls new n w number to) e
+        (λ n w new number to. made_after p caller.locals t.action fr.locals.this named (subst (λ (a : Action). IsMadeAfter p caller.locals a fr.locals.this) (sym same_action) waits.after) back.calls new n w number (ap (object_by (operand_of caller.locals t.action)) (sym (plain_alias_position (method_at p named))) ∙ to)) e
 
     then_held : Then heap
     then_held = subst (λ (a : Action). HasEarlierLinks (returned_by_action a) → Then (returned_by_action a)) (sym same_action) (ended_then e refl waits.step.action refl waits.makes) heap_linked
       where
         returned_by_action : Action → HeapContents
-        returned_by_action a = program_birth p position a (method_at p named) (number_of fr.locals.this) (alias_target (operand_of caller.locals a) (method_at p named)) e reset
+        returned_by_action a = program_birth p position a plain (number_of fr.locals.this) (alias_target (operand_of caller.locals a) plain) e reset
+
+    made_after' : IsMadeAfter p caller.locals t.action fr.locals.this
+    made_after' = subst (λ (a : Action). IsMadeAfter p caller.locals a fr.locals.this) (sym same_action) waits.after
+
+    caller_in : LocalsInRange h caller.locals
+    caller_in = All-head (λ (x : Frame). LocalsInRange h x.locals) caller rest in_all
+
+    -- what the end leaves
+    abbrev whole : HeapContents
+    whole = returned_heap p position fr.locals.this caller.locals t.action (method_at p fr.method) (method_at p named) v e h
+
+    abbrev gone_heap : HeapContents
+    gone_heap = frame_gone p position fr.locals.this (method_at p fr.method) v e h
+
+    renews : Renews p (is_reached (returned_called p caller.locals t.action (method_at p named) gone_heap) (returned_roots p caller.locals t.action (method_at p named) gone_heap)) heap (lose (held_by (after ∷ rest)) whole)
+    renews = reset_renews p (returned_called p caller.locals t.action (method_at p named) gone_heap) (returned_roots p caller.locals t.action (method_at p named) gone_heap) heap whole (reset_of p ac forms' h links fr caller rest standing'.0 sight hold.dispatched.0 making e v t named back agrees.ends made_after' caller_in hold.owning waiting) (held_by (after ∷ rest))
+        (λ n x at anew none. reached_root p ac forms' h links fr caller rest standing'.0 sight hold.dispatched.0 making e v t named back agrees.ends made_after' caller_in hold.owning waiting n x at anew none) (λ w f owning. same_fields p ac forms' h links fr caller rest standing'.0 sight hold.dispatched.0 making e v t named back agrees.ends made_after' caller_in hold.owning waiting w f owning)
 
     returned_hold : (pos : Pos) → Done (returned p c fr caller rest pos q e named t)
     returned_hold pos =
-        lost p own heap heap_linked (held_by (after ∷ rest)) after rest (frames_stay h heap grown rest (All-tail (λ (x : Frame). LocalsInRange h x.locals) caller rest in_all))
-        (value_stays h heap grown caller.locals.this (All-head (λ (x : Frame). LocalsInRange h x.locals) caller rest in_all).this) then_held
+        renewed_hold p (is_reached (returned_called p caller.locals t.action (method_at p named) gone_heap) (returned_roots p caller.locals t.action (method_at p named) gone_heap)) heap (lose (held_by (after ∷ rest)) whole) renews
+        (links_stay-lost (held_by (after ∷ rest)) whole (left_links p ac forms' h links fr caller rest standing'.0 sight hold.dispatched.0 making e v t named back agrees.ends made_after' caller_in hold.owning waiting)) (after ∷ rest) then_held
 
   pub back_hold : c.frames ≡ fr ∷ caller ∷ rest → (pos : Pos) (r : Return) → IsBack p (frame_steps p caller) e waits.named r → returned_by p c fr caller rest pos q r ≡ went d → Done d
   back_hold frames pos (Back x named t) back same' =

@@ -23,6 +23,7 @@ use Rattle.covering_laws.specs.Configuration.{Frame}
 use Rattle.covering_laws.specs.Frames.{frame_after}
 use Rattle.covering_laws.specs.Heaps.{GoesOn, HasEarlierLinks}
 use Rattle.covering_laws.specs.FieldContents.{AreDispatched, AreFresh, AreNew, AreUnfinished, DeclaresOwning, FieldsHold, IsContent, OwningFieldsOwn, is_made_in, promised_on}
+use Rattle.covering_laws.specs.Renewable.{IsFollowed}
 use Rattle.covering_laws.specs.Ranges.{IsInRange, LocalsInRange}
 use Rattle.content_laws.proofs.Goes.{contents_go_on, dispatched_on, goes_forth, lose_goes, unfinished_on}
 use Rattle.content_laws.proofs.Leading.{goes_hold}
@@ -74,7 +75,10 @@ module _ (p : Program) (fr after : Frame) (frs : List Frame) (same : IsSameFrame
 
 -- what fields own they owned before
 pub owning_on : (p : Program) (h k : HeapContents) (noted : ℕ → ℕ → Type 0) → Goes p h k noted → OwningFieldsOwn p h → OwningFieldsOwn p k
-owning_on p h k noted goes own o y w f at owner = let x = goes.back o y w f at owner in own o x.0 w f x.1 x.3
+owning_on p h k noted goes own o y w f at owner =
+    let x = goes.back o y w f at owner in
+    let was = own o x.0 w f x.1 x.3 in
+    (was.0, λ out. subst (IsFollowed p) (sym x.2.class) (was.1 out))
 
 -- a step that notes nothing on a holder, or of which each note is kept
 pub stepped : (p : Program) → PromisesItsOwn p → (h k : HeapContents) (noted : ℕ → ℕ → Type 0) → HasEarlierLinks h → HasEarlierLinks k → (goes : Goes p h k noted) (fr after : Frame) (frs : List Frame) → IsSameFrame fr after → LocalsIn h (fr ∷ frs)

@@ -52,7 +52,7 @@ use Rattle.covering_laws.proofs.NameCounts.{accepted_names}
 use Rattle.covering_laws.proofs.Ready.{plain_step, step_there}
 use Rattle.covering_laws.proofs.Stacks.{tracked_bounded}
 use Rattle.covering_laws.specs.FieldContents.{FieldsHold, IsContent, is_made_in, makes_holder, promised_on}
-use Rattle.covering_laws.specs.PlaceFacts.{IsCovered, gives_none}
+use Rattle.covering_laws.specs.PlaceFacts.{IsCovered, gives_none, renews_none}
 use Rattle.covering_laws.specs.Ranges.{FieldsInRange, LocalsInRange}
 use Rattle.covering_laws.proofs.Configs.{frames_stay}
 use Rattle.covering_laws.proofs.Steps.{IsFuller, owning_fuller}
@@ -65,7 +65,7 @@ use Rattle.content_laws.proofs.LibraryResets.{library_renews, position_none, rea
 use Rattle.covering_laws.proofs.Renewed.{says_nothing, without_reset}
 use Rattle.covering_laws.proofs.ResetJoins.{no_holder}
 use Rattle.covering_laws.specs.HeapAnew.{is_anew}
-use Rattle.covering_laws.specs.Linking.{LinkedAreAliases}
+use Rattle.covering_laws.specs.Sight.{ActsInSight}
 use Rattle.covering_laws.specs.Callees.{callee_in}
 use Rattle.content_laws.proofs.Leaves.{lost_from}
 use Rattle.content_laws.proofs.LinkSteps.{leads_go_on}
@@ -94,7 +94,7 @@ library_stays p t x may is = go x.finished (sym (ap (λ (o : Owner). x.finished 
     go true same = true≢false (sym same)
     go false same = true≢false (sym same)
 
-module _ (p : Program) (ac : Accept p) (forms' : HasPlainForms p) (c : Config) (fr : Frame) (frs : List Frame) (agrees : Agrees p (fr ∷ frs) c.heap c.entries) (covered : IsCovered p c.heap gives_none frs fr)
+module _ (p : Program) (ac : Accept p) (forms' : HasPlainForms p) (c : Config) (fr : Frame) (frs : List Frame) (agrees : Agrees p (fr ∷ frs) c.heap c.entries) (covered : IsCovered p c.heap gives_none renews_none frs fr)
     (in' : LocalsIn c.heap (fr ∷ frs)) (ranges : FieldsInRange c.heap) (hold : FieldsHold p (fr ∷ frs) c.heap) where
   abbrev h : HeapContents
   h = c.heap
@@ -144,7 +144,7 @@ module _ (p : Program) (ac : Accept p) (forms' : HasPlainForms p) (c : Config) (
       go owners.Unowned is answers = absurd (true≢false (sym answers ∙ ap is_answering is))
 
   -- a store into an owning field of `this`
-  module _ (i : ℕ) (s : Step) (here : slice_get (frame_steps p fr) i ≡ Some s) (f : FieldId) (t : ℕ) (is : s.action ≡ actions.PutOwn f t) where
+  module _ (sight : ActsInSight p h fr) (i : ℕ) (s : Step) (here : slice_get (frame_steps p fr) i ≡ Some s) (f : FieldId) (t : ℕ) (is : s.action ≡ actions.PutOwn f t) where
     abbrev v : Value
     v = thrown_value h None (made_value p h c.arrays c.statics (next_choice c.choices c.used) fr.locals s.action)
 
@@ -187,7 +187,7 @@ module _ (p : Program) (ac : Accept p) (forms' : HasPlainForms p) (c : Config) (
       stored_links p h w f tied (temp_value fr.locals t) links (still p ac forms' h fr frs st links covered hold i s here f t is w this self.0 self.1 agrees.standing.1 agrees.stacked bounded tied),
       record {
         contents = stored_contents p ac forms' h fr frs st links covered hold i s here f t is w this self.0 self.1 agrees.standing.1 agrees.stacked bounded own after (same_makes p fr after frs same);
-        owning = store_owning p ac forms' h fr frs st links covered hold i s here f t is w this self.0 self.1 agrees.standing.1 agrees.stacked bounded;
+        owning = store_owning p ac forms' h fr frs st links covered hold i s here f t is w this self.0 self.1 agrees.standing.1 agrees.stacked bounded sight;
         leads = stored_leads p ac forms' h fr frs st links covered hold i s here f t is w this self.0 self.1 agrees.standing.1 agrees.stacked bounded;
         new = same_new p fr after frs same hold.new;
         fresh = same_fresh p fr after frs same hold.fresh;
@@ -221,13 +221,13 @@ module _ (p : Program) (ac : Accept p) (forms' : HasPlainForms p) (c : Config) (
         kept : IsHeld (Stored (number_of fr.locals.this))
         kept = by_this fr.locals.this refl
 
-  pub inner_step : (e : Option ClassId) (s : Step) (i : ℕ) → slice_get (frame_steps p fr) i ≡ Some s → IsInnerStep p h c.arrays fr.method fr.locals e s → HasEarlierLinks (within p c fr frs e s).heap
+  pub inner_step : ActsInSight p h fr → (e : Option ClassId) (s : Step) (i : ℕ) → slice_get (frame_steps p fr) i ≡ Some s → IsInnerStep p h c.arrays fr.method fr.locals e s → HasEarlierLinks (within p c fr frs e s).heap
       → Done (within p c fr frs e s)
-  inner_step e s i here next now = elim next [
+  inner_step sight e s i here next now = elim next [
     | inl plain ↦ inner_hold e i s here (inl plain.row) now
     | inr more ↦ elim more [
       | inl null ↦ inner_hold e i s here (inr null.row) now
-      | inr store ↦ subst (λ (x : Option ClassId). Done (within p c fr frs x s)) (sym store.normal) (store_hold i s here store.field store.temp store.action)
+      | inr store ↦ subst (λ (x : Option ClassId). Done (within p c fr frs x s)) (sym store.normal) (store_hold sight i s here store.field store.temp store.action)
     ]
   ]
 
@@ -261,63 +261,67 @@ module _ (p : Program) (ac : Accept p) (forms' : HasPlainForms p) (c : Config) (
       from : (n : ℕ) (y : Object) → object_at k n ≡ Some y → (x : Object) × (object_at (began_heap p fr.locals a (method_at p named) (length frames) h) n ≡ Some x) × (y.finished ≡ x.finished)
       from n y at' = (let x = lost_from (held_by frames) (began_heap p fr.locals a (method_at p named) (length frames) h) n y at' in (x.0, x.1, x.2.finished))
 
-  -- the frame, and the heap, after a call of the library
-  abbrev called_frame : MethodId → Conduct → Step → Frame
-  called_frame named x s =
-      frame_after p h fr s (conduct_value (length (arguments_shared c.arrays fr.locals s.action (method_at p named))) (method_at p named) (positions fr.locals s.action (next_number h) x) (next_number h) x)
+  -- the frame, and the heap, after a call of the library that answers by the signature of this method
+  abbrev called_frame : MethodId → MethodId → Conduct → Step → Frame
+  called_frame named m x s =
+      frame_after p h fr s (conduct_value (length (arguments_shared c.arrays fr.locals s.action (method_at p named))) (method_at p m) (positions fr.locals s.action (next_number h) x) (next_number h) x)
 
-  abbrev called_heap : MethodId → Conduct → Step → HeapContents
-  called_heap named x s = lose (held_by (called_frame named x s ∷ frs)) (library_heap p fr.locals s.action (method_at p named) (method_at p named) x (length frs + 1) h)
+  abbrev called_heap : MethodId → MethodId → Conduct → Step → HeapContents
+  called_heap named m x s = lose (held_by (called_frame named m x s ∷ frs)) (library_heap p fr.locals s.action (method_at p named) (method_at p m) x (length frs + 1) h)
 
-  -- the call creates nothing anew, or does so of what no field owns
-  abbrev pub CreatesPlainly : MethodId → Conduct → Step → Type 0
-  CreatesPlainly named x s =
-      (reset_target (positions fr.locals s.action (next_number h) x) (method_at p named) ≡ None) ⊎ CreatesAnew p fr.locals s.action (method_at p named) x (length frs + 1) h (called_heap named x s)
+  -- the call creates nothing anew, or it does so of what no field owns
+  abbrev pub CreatesPlainly : MethodId → MethodId → Conduct → Step → Type 0
+  CreatesPlainly named m x s =
+      (reset_target (positions fr.locals s.action (next_number h) x) (method_at p named) ≡ None)
+      ⊎ CreatesAnew p fr.locals s.action (method_at p named) (method_at p m) x (length frs + 1) h (called_heap named m x s)
 
   -- what a step creates anew it creates plainly
-  pub library_creates : LinkedAreAliases p h → (named m : MethodId) (x : Conduct) (s : Step) → IsLibraryMove p h c.arrays fr.locals (frame_steps p fr) named m x s → CreatesPlainly named x s
-  library_creates aliases named m x s next = elim next.row [
+  pub library_creates : ActsInSight p h fr → (named m : MethodId) (x : Conduct) (s : Step) → IsLibraryMove p h c.arrays fr.locals (frame_steps p fr) named m x s → CreatesPlainly named m x s
+  library_creates sight named m x s next = elim next.row [
     | inl call ↦ elim (forms'.resets st.number next.index (move_of s) st.control (step_there p fr st next.index s next.here)) [
       | inl none ↦ inl (ap (object_by (positions fr.locals s.action (next_number h) x)) (position_none (method_at p named) (sym (ap (λ (y : Option MethodId). reset_in (callee_in p y)) call.1) ∙ none)))
       | inr anew ↦ inr (record {
         plain = without_reset (method_at p named);
         nothing = says_nothing (method_at p named);
         interest = same_interest (method_at p named);
-        anew = is_anew p fr.locals s.action (method_at p named) (method_at p named) x h;
-        renews = library_renews p fr.locals s.action (method_at p named) x (length frs + 1) h (held_by (called_frame named x s ∷ frs)) links
-            (no_holder p ac forms' h links fr frs st top named x next.index s next.here call.1 call.0 anew covered hold.owning aliases c.arrays (next.ran call.1).1);
+        anew = is_anew p fr.locals s.action (method_at p named) (method_at p m) x h;
+        renews = library_renews p fr.locals s.action (method_at p named) (method_at p m) x (length frs + 1) h (held_by (called_frame named m x s ∷ frs)) links
+            (no_holder p ac forms' h links fr frs st top named m x next.index s next.here call.1 call.0 anew covered hold.owning sight c.arrays (next.ran call.1).1);
       })
     ]
     | inr read ↦ inl (read_resets_nothing fr.locals s.action read (next_number h) x (method_at p named))
   ]
 
-  pub library_hold : (named m : MethodId) (x : Conduct) (s : Step) → IsLibraryMove p h c.arrays fr.locals (frame_steps p fr) named m x s → CreatesPlainly named x s
-      → HasEarlierLinks (library_went p c fr frs named m x s).heap → Done (library_went p c fr frs named m x s)
-  library_hold named m x s next creates now = subst (λ (z : MethodId). Done (library_went p c fr frs named z x s)) (sym next.same) (by creates)
+  -- it creates nothing anew
+  plain_hold : (named m : MethodId) (x : Conduct) (s : Step) → IsLibraryMove p h c.arrays fr.locals (frame_steps p fr) named m x s → reset_target (positions fr.locals s.action (next_number h) x) (method_at p named) ≡ None
+      → HasEarlierLinks (called_heap named m x s) → Done (library_went p c fr frs named m x s)
+  plain_hold named m x s next none now =
+      stepped p own h (called_heap named m x s) (IsNotedBy fr.locals s.action (method_at p named)) links now
+      (goes_further p h made (called_heap named m x s) (IsNotedBy fr.locals s.action (method_at p named))
+      (library_goes_by p fr.locals s.action (method_at p named) (method_at p m) x (length frs + 1) h none (small_interest p ac named) links)
+      (lose_goes p (held_by (called_frame named m x s ∷ frs)) made (IsNotedBy fr.locals s.action (method_at p named)))) fr (called_frame named m x s) frs
+      (same_after p h fr s (conduct_value (length (arguments_shared c.arrays fr.locals s.action (method_at p named))) (method_at p m) (positions fr.locals s.action (next_number h) x) (next_number h) x)) in'
+      (λ o y z w f at there' unmet on owner content e d' n fin at' class interest must noted. absurd (no_library_note p forms' h c.arrays fr named m x s next (fr ∷ frs) o y w f content e d' n at' class interest must noted)) hold
     where
-      now' : HasEarlierLinks (called_heap named x s)
-      now' = subst (λ (z : MethodId). HasEarlierLinks (library_went p c fr frs named z x s).heap) next.same now
+      made : HeapContents
+      made = library_heap p fr.locals s.action (method_at p named) (method_at p m) x (length frs + 1) h
 
-      keeps : (o : ℕ) (y z : Object) (w : ℕ) (f : FieldId) → object_at h o ≡ Some y → object_at (called_heap named x s) o ≡ Some z → is_unmet z ≡ true → GoesOn y z → y.owner ≡ owners.Field w f → (content : IsContent p (fr ∷ frs) h o y w f)
-          → (e : MethodId) (d' : Method) (n : NameId) → content.holder.finished ≡ true → method_at p e ≡ Some d' → d'.class ≡ content.holder.class → d'.sig.interest ≡ Some n
-          → set.contains (must_of p content.holder.class) n.0 ≡ true → IsNotedBy fr.locals s.action (method_at p named) w n.0 → set.is_subset (promised_on f d') z.called ≡ true
-      keeps o y z w f at there unmet on owner content e d' n fin there' class interest must noted = absurd (no_library_note p forms' h c.arrays fr named x s (subst (λ (z : MethodId). IsLibraryMove p h c.arrays fr.locals (frame_steps p fr) named z x s) next.same next) (fr ∷ frs) o y w f content e d' n there' class interest must noted)
+  -- it creates an obligation anew
+  anew_hold : (named m : MethodId) (x : Conduct) (s : Step) → IsLibraryMove p h c.arrays fr.locals (frame_steps p fr) named m x s
+      → CreatesAnew p fr.locals s.action (method_at p named) (method_at p m) x (length frs + 1) h (called_heap named m x s) → HasEarlierLinks (called_heap named m x s) → Done (library_went p c fr frs named m x s)
+  anew_hold named m x s next anew now =
+      renewed_hold p anew.anew made (called_heap named m x s) anew.renews now (called_frame named m x s ∷ frs)
+      (stepped p own h made (IsNotedBy fr.locals s.action anew.plain) links (linked_before p anew.anew made (called_heap named m x s) anew.renews now)
+      (library_goes_by p fr.locals s.action anew.plain (method_at p m) x (length frs + 1) h (ap (object_by (positions fr.locals s.action (next_number h) x)) anew.nothing)
+      (λ n is. small_interest p ac named n (sym anew.interest ∙ is)) links) fr (called_frame named m x s) frs
+      (same_after p h fr s (conduct_value (length (arguments_shared c.arrays fr.locals s.action (method_at p named))) (method_at p m) (positions fr.locals s.action (next_number h) x) (next_number h) x)) in'
+      (λ o y z w f at there' unmet on owner content e d' n fin at' class interest must noted. absurd (no_library_note p forms' h c.arrays fr named m x s next (fr ∷ frs) o y w f content e d' n at' class interest must
+      (record { chosen = noted.chosen; receiver = noted.receiver; name = noted.name; interest = sym anew.interest ∙ noted.interest; number = noted.number }))) hold)
+    where
+      made : HeapContents
+      made = library_heap p fr.locals s.action anew.plain (method_at p m) x (length frs + 1) h
 
-      by : CreatesPlainly named x s → Done (library_went p c fr frs named named x s)
-      by (inl none) =
-          let made = library_heap p fr.locals s.action (method_at p named) (method_at p named) x (length frs + 1) h in
-          stepped p own h (called_heap named x s) (IsNotedBy fr.locals s.action (method_at p named)) links now'
-          (goes_further p h made (called_heap named x s) (IsNotedBy fr.locals s.action (method_at p named))
-          (library_goes_by p fr.locals s.action (method_at p named) (method_at p named) x (length frs + 1) h none (small_interest p ac named) links)
-          (lose_goes p (held_by (called_frame named x s ∷ frs)) made (IsNotedBy fr.locals s.action (method_at p named)))) fr (called_frame named x s) frs
-          (same_after p h fr s (conduct_value (length (arguments_shared c.arrays fr.locals s.action (method_at p named))) (method_at p named) (positions fr.locals s.action (next_number h) x) (next_number h) x)) in' keeps hold
-      by (inr anew) =
-          let made = library_heap p fr.locals s.action anew.plain (method_at p named) x (length frs + 1) h in
-          renewed_hold p anew.anew made (called_heap named x s) anew.renews now' (called_frame named x s ∷ frs)
-          (stepped p own h made (IsNotedBy fr.locals s.action anew.plain) links (linked_before p anew.anew made (called_heap named x s) anew.renews now')
-          (library_goes_by p fr.locals s.action anew.plain (method_at p named) x (length frs + 1) h (ap (object_by (positions fr.locals s.action (next_number h) x)) anew.nothing)
-          (λ n is. small_interest p ac named n (sym anew.interest ∙ is)) links) fr (called_frame named x s) frs
-          (same_after p h fr s (conduct_value (length (arguments_shared c.arrays fr.locals s.action (method_at p named))) (method_at p named) (positions fr.locals s.action (next_number h) x) (next_number h) x)) in'
-          (λ o y z w f at there' unmet on owner content e d' n fin at' class interest must noted. absurd (no_library_note p forms' h c.arrays fr named x s
-          (subst (λ (u : MethodId). IsLibraryMove p h c.arrays fr.locals (frame_steps p fr) named u x s) next.same next) (fr ∷ frs) o y w f content e d' n at' class interest must
-          (record { chosen = noted.chosen; receiver = noted.receiver; name = noted.name; interest = sym anew.interest ∙ noted.interest; number = noted.number }))) hold)
+  pub library_hold : (named m : MethodId) (x : Conduct) (s : Step) → IsLibraryMove p h c.arrays fr.locals (frame_steps p fr) named m x s → CreatesPlainly named m x s
+      → HasEarlierLinks (library_went p c fr frs named m x s).heap → Done (library_went p c fr frs named m x s)
+  library_hold named m x s next (inl none) now = plain_hold named m x s next none now
+  library_hold named m x s next (inr anew) now = anew_hold named m x s next anew now

@@ -17,7 +17,8 @@ pub use Rattle.covering_laws.specs.Configuration
 pub use Rattle.covering_laws.specs.Constructors
 pub use Rattle.covering_laws.specs.Covering
 pub use Rattle.covering_laws.specs.Ends
-pub use Rattle.covering_laws.specs.ExceptionOperands
+pub use Rattle.covering_laws.specs.ClassOperands
+pub use Rattle.covering_laws.specs.ClassValues
 pub use Rattle.covering_laws.specs.Exceptions
 pub use Rattle.covering_laws.specs.FactGoing
 pub use Rattle.covering_laws.specs.FieldContents
@@ -48,11 +49,13 @@ pub use Rattle.covering_laws.specs.PlaceFacts
 pub use Rattle.covering_laws.specs.PlacePlaces
 pub use Rattle.covering_laws.specs.PlaceRows
 pub use Rattle.covering_laws.specs.Places
-pub use Rattle.covering_laws.specs.PlainCalls
 pub use Rattle.covering_laws.specs.PlainForms
+pub use Rattle.covering_laws.specs.Renewable
+pub use Rattle.covering_laws.specs.Sight
 pub use Rattle.covering_laws.specs.Preconditions
 pub use Rattle.covering_laws.specs.ProgramCalls
 pub use Rattle.covering_laws.specs.Ranges
+pub use Rattle.covering_laws.specs.Renewing
 pub use Rattle.covering_laws.specs.Running
 pub use Rattle.covering_laws.specs.Safety
 pub use Rattle.covering_laws.specs.Signed
@@ -64,7 +67,6 @@ pub use Rattle.covering_laws.specs.Stores
 pub use Rattle.covering_laws.specs.Storing
 pub use Rattle.covering_laws.specs.SuperArguments
 pub use Rattle.covering_laws.specs.Thrown
-pub use Rattle.covering_laws.specs.Texts
 pub use Rattle.covering_laws.specs.Throws
 pub use Rattle.covering_laws.specs.Types
 pub use Rattle.covering_laws.specs.Values

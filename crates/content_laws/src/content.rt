@@ -20,7 +20,7 @@ ghost use Rattle.covering_laws.specs.PlaceFacts.{AreCovered};
 ghost use Rattle.covering_laws.specs.Ranges.{AreInRange};
 ghost use Rattle.covering_laws.specs.Heaps.{HasEarlierLinks};
 ghost use Rattle.covering_laws.specs.Arguments.{HaveArguments};
-ghost use Rattle.covering_laws.specs.Linking.{LinkedAreAliases};
+ghost use Rattle.covering_laws.specs.Sight.{AllActInSight};
 ghost use Rattle.content_laws.specs.Exits.{TopEndsByClass};
 
 /// A run begins with no contents and no links: there is no object, and `main` is no constructor.
@@ -35,5 +35,5 @@ pub fn fields_hold_at_start()
 pub fn fields_hold_step()
     ensures { (p : Program) → Accept p → HasPlainForms p → (c d : Config) → Agree p c → HaveTargets p c.frames → AreInRange c → AreCovered p c.heap c.frames
         → FieldsHold p c.frames c.heap → ((fr caller : Frame) (rest : List Frame) → c.frames ≡ fr ∷ caller ∷ rest → IsBeingMade p c.heap fr caller)
-        → LinkedAreAliases p c.heap → HasEarlierLinks d.heap → HaveArguments p c.frames → TopEndsByClass p c.heap c.frames → step p c ≡ went d → FieldsHold p d.frames d.heap }
+        → AllActInSight p c.heap c.frames → HasEarlierLinks d.heap → HaveArguments p c.frames → TopEndsByClass p c.heap c.frames → step p c ≡ went d → FieldsHold p d.frames d.heap }
 {}

@@ -1,14 +1,16 @@
 -- The frame of a call that begins: what its places hold is in facts of the body's entry.
-use Rattle.std.proofs.Common.{◌≡◌, inl, inr, ℕ, zero, suc, ◌+◌, Bool, true, Option, Some, None, List, [], ◌∷◌, ◌++◌, length, slice_get, refl, sym, ap, ◌∙◌, subst, arith, false}
+use Rattle.std.proofs.Common.{◌≡◌, inl, inr, ℕ, zero, suc, ◌+◌, Bool, true, Option, Some, None, List, [], ◌∷◌, ◌++◌, length, slice_get, refl, sym, ap, ◌∙◌, subst, arith, false, not, ◌&&◌, true≢false}
 use Rattle.program_model.specs.declared.kinds.ClassId.{ClassId}
+use Rattle.program_model.specs.declared.kinds.VType.{VType}
 use Rattle.program_model.specs.declared.kinds.VType.TheVariants as types
 use Rattle.program_model.specs.declared.program.ParamSig.{ParamSig}
 use Rattle.program_model.specs.declared.program.Program.{Program}
 use Rattle.program_model.specs.declared.program.Sig.{Sig}
 use Rattle.program_model.specs.declared.tree.Body.{Body}
 use Rattle.program_model.specs.declared.tree.Var.{Var}
+use Rattle.std.specs.FinSet as set
 use Rattle.program_model.specs.Lookups.{optional, variable_at, method_at}
-use Rattle.ledger_obligations.specs.MustCallSets.{Names, is_heavy_class, is_empty, no_names}
+use Rattle.ledger_obligations.specs.MustCallSets.{Names, is_heavy_class, is_empty, must_of_type, no_names}
 use Rattle.java_control.specs.Control.{start_of}
 use Rattle.java_control.specs.PlaceNumbers.{IsSmall}
 use Rattle.java_control.specs.Remaining.{Todo}
@@ -28,31 +30,68 @@ use Rattle.value_laws.specs.Places.{place_value}
 use Rattle.value_laws.specs.Configuration.{Frame}
 use Rattle.value_laws.proofs.PlaceLaws.{single_place-alone}
 use Rattle.value_laws.specs.Agreement.{Stands}
-use Rattle.value_laws.specs.PlaceFacts.{Covers, IsTrueOf, claims, fits_field, is_apart, is_frame_from, is_heavy_field, is_lent, makes_alone}
+use Rattle.value_laws.specs.PlainForms.{is_lent_parameter}
+use Rattle.value_laws.specs.PlaceFacts.{Covers, IsTrueOf, asked_of, claims, fits_field, is_apart, is_frame_from, is_heavy_field, is_lent, is_owning_fact, makes_alone}
 use Rattle.covering_laws.proofs.HeavyFields.{claims_alone, held_mode, tells_by}
 use Rattle.covering_laws.proofs.Births.{at_itself, at_one}
-use Rattle.rlc_base.proofs.SetLaws.{empty_within, within_trans}
-use Rattle.ownership_rules.specs.Facts.{has, is_held, is_own}
-use Rattle.std.specs.Prelude.{◌||◌}
+use Rattle.rlc_base.proofs.SetLaws.{empty_within, within_trans, within_union_left}
+use Rattle.ownership_rules.specs.Facts.{has, is_held, is_own, is_this_origin}
+use Rattle.std.specs.Prelude.{◌||◌, if◌then◌else◌}
+use Rattle.ledger_obligations.specs.Bodies.{constructs}
+use Rattle.value_laws.specs.Renewing.{IsLentFrom}
 
 pub not_own : (a b : Bool) → (a || b) ≡ false → a ≡ false
 not_own true b is = is
 not_own false b is = refl
 
+pub not_held : (a b : Bool) → (a || b) ≡ false → b ≡ false
+not_held true b is = absurd (true≢false is)
+not_held false b is = is
+
+-- ---- lent parameters
+
+pub not_back : (b : Bool) → not b ≡ true → b ≡ false
+not_back true is = absurd (true≢false (sym is))
+not_back false is = refl
+
+pub not_and : (a b : Bool) → b ≡ false → (a && b) ≡ false
+not_and true b is = is
+not_and false b is = refl
+
+pub lent_or_none : (a b : Bool) → (is_own (if a then modes.Alias else (if b then modes.Lent else modes.None)) || is_held (if a then modes.Alias else (if b then modes.Lent else modes.None))) ≡ false
+lent_or_none true b = refl
+lent_or_none false true = refl
+lent_or_none false false = refl
+
+-- a fact of a lent parameter does not say that the frame owns an object with an obligation
+pub lent_unowned : (p : Program) (s : Sig) (k : ℕ) (x : ParamSig) (c : ClassId) → x.vtype ≡ types.Obj c → is_lent_parameter p (Some x) ≡ true → (is_heavy_class p c && is_own (parameter_mode s k x)) ≡ false
+lent_unowned p s k x c type lent = by x.owning refl
+  where
+    by : (b : Bool) → x.owning ≡ b → (is_heavy_class p c && is_own (parameter_mode s k x)) ≡ false
+    by true owning =
+        let light : is_heavy_class p c ≡ false =
+        ap (λ (t : VType). not (is_empty (must_of_type p t))) (sym type) ∙ not_back (not (is_empty (must_of_type p x.vtype))) (ap (λ (b : Bool). not (b && not (is_empty (must_of_type p x.vtype)))) (sym owning) ∙ lent) in
+        ap (λ (b : Bool). b && is_own (parameter_mode s k x)) light
+    by false other = not_and (is_heavy_class p c) (is_own (parameter_mode s k x)) (rw other (not_own _ _ (lent_or_none _ _)))
+
 module _ (p : Program) (k : HeapContents) (fr : Frame) (st : Stands p fr) (starts : fr.control ≡ start_of p st.number) (frs : List Frame) where
-  -- A place is covered by its birth at the entry. What is lent to the frame, or a field of `this` holds, neither it nor a frame above owns, where it
-  -- was not given to it. The place of an owning field is born as held, and its class has an obligation where the field's type has one.
+  -- A place is covered by its birth at the entry. What is born as lent is so from a frame below. What is lent to the frame, or a field of `this` holds,
+  -- neither it nor a frame above owns, where it was not given to it, and the names that its fact knows are asked for. The place of an owning field is born as
+  -- held, and its class has an obligation where the field's type has one.
   pub entered_covers : (q : Place) (o : ℕ) (y : Object) (g : Origin) (mode : Mode) (names : Names) (full : Bool) (n : ℕ) → IsSmall q
       → slice_get (births_at_entry p st.number) n ≡ Some (g, fact_at q mode names full) → root_of k (place_value p k fr.method fr.locals q) ≡ Some o
       → (claims p (method_at p fr.method) g (fact_at q mode names full) ≡ true → IsTrueOf p y g (fact_at q mode names full))
-      → (is_lent p (method_at p fr.method) g.kind ≡ true → ((is_own mode || is_held mode) ≡ false) × (is_heavy_class p g.class ≡ true) × (is_empty names ≡ true)) → (is_held mode ≡ true → is_empty names ≡ true)
+      → (is_lent p (method_at p fr.method) g.kind ≡ true
+      → (is_owning_fact p g (fact_at q mode names full) ≡ false) × (is_held mode ≡ false) × (set.is_subset names (asked_of p (method_at p fr.method) g.kind) ≡ true)) → (is_held mode ≡ true → is_empty names ≡ true)
       → (y.finished ≡ true → is_apart p k frs fr o y (fact_at q mode names full) ≡ true → is_frame_from (length frs + 1) y.owner ≡ false)
-      → (is_held mode ≡ true → makes_alone (method_at p fr.method) ≡ true → ⊥)
+      → (is_held mode ≡ true → makes_alone (method_at p fr.method) ≡ true → ⊥) → (mode ≡ modes.Lent → y.finished ≡ true → IsLentFrom p k frs o y.owner)
+      → (constructs (method_at p fr.method) ≡ true → is_this_origin g.kind ≡ true → y.finished ≡ false)
       → ((j : ℕ) → q ≡ places.Field j → is_heavy_class p g.class ≡ true → fits_field p fr.method j g.class ≡ true)
       → ((j : ℕ) → q ≡ places.Field j → is_heavy_field p fr.method q ≡ true → (mode ≡ modes.Held) × (is_heavy_class p g.class ≡ true))
-      → (c : Covers p k false frs fr o y) × (has c.fact.places q ≡ true) × (c.origin ≡ g) × (c.fact ≡ fact_at q mode names full)
-  entered_covers q o y g mode names full n small birth root truth lent' none below unmade wide held =
-      let covers : Covers p k false frs fr o y = record {
+      → ((j : ℕ) → q ≡ places.Field j → mode ≡ modes.Held)
+      → (c : Covers p k false false frs fr o y) × (has c.fact.places q ≡ true) × (c.origin ≡ g) × (c.fact ≡ fact_at q mode names full)
+  entered_covers q o y g mode names full n small birth root truth lent' none below unmade lends makes wide held field =
+      let covers : Covers p k false false frs fr o y = record {
         body = st.number;
         id = st.id;
         origin = g;
@@ -61,17 +100,24 @@ module _ (p : Program) (k : HeapContents) (fr : Frame) (st : Stands p fr) (start
         alone = single_place-alone q small;
         places = λ z small' is. subst (λ (u : Place). root_of k (place_value p k fr.method fr.locals u) ≡ Some o) (at_one q small mode names full z small' is) root;
         true' = λ claimed mine. truth claimed;
-        free = λ claimed held'. absurd (unmade held' (claims_alone p (method_at p fr.method) g (fact_at q mode names full) (held_mode mode held') claimed));
-        lent = λ lent. (let is = lent' lent in (not_own (is_own mode) (is_held mode) is.0, is.1));
+        free = λ done held' alone. absurd (unmade held' alone);
+        lent = λ lent. (let is = lent' lent in (is.0, λ held'. absurd (true≢false (sym held' ∙ is.1))));
+        lends = λ lent done. (refl, lends lent done);
+        makes = makes;
+        unrenewed = λ done tells apart. refl;
         known = λ done tells apart. (
           refl,
           below done apart,
-          within_trans names no_names y.called (elim (tells_by p fr.method g (fact_at q mode names full) tells) [ inl lent ↦ (lent' lent).2 | inr held' ↦ none held'.1 ]) (empty_within y.called),
+          elim (tells_by p fr.method g (fact_at q mode names full) tells) [
+            | inl lent ↦ within_trans names (asked_of p (method_at p fr.method) g.kind) (set.union (asked_of p (method_at p fr.method) g.kind) y.called) (lent' lent).2 (within_union_left (asked_of p (method_at p fr.method) g.kind) y.called)
+            | inr held' ↦ within_trans names no_names (set.union (asked_of p (method_at p fr.method) g.kind) y.called) (none held') (empty_within (set.union (asked_of p (method_at p fr.method) g.kind) y.called))
+          ],
         );
         fields = λ j inside heavy is. wide j (at_one q small mode names full (places.Field j) inside is) heavy;
         held = λ j inside is heavy.
             let same : q ≡ places.Field j = at_one q small mode names full (places.Field j) inside is in
             held j same (subst (λ (u : Place). is_heavy_field p fr.method u ≡ true) (sym same) heavy);
+        outside = λ plain j inside is. field j (at_one q small mode names full (places.Field j) inside is);
       } in
       (covers, at_itself q small mode names full, refl, refl)
 

@@ -4,7 +4,7 @@ use Rattle.std.specs.FinSet as set
 use Rattle.std.proofs.lemmas.Bool.{and_parts}
 use Rattle.std.proofs.lemmas.Cmp.{nat_cmp_total}
 use Rattle.rlc_base.specs.declared.place.Pos.{Pos}
-use Rattle.rlc_base.proofs.SetLaws.{empty_within, within_from, within_self}
+use Rattle.rlc_base.proofs.SetLaws.{empty_within, within_from, within_self, within_trans}
 use Rattle.program_model.specs.declared.kinds.ClassId.{ClassId}
 use Rattle.program_model.specs.declared.program.Program.{Program}
 use Rattle.ledger_obligations.specs.MustCallSets.{Names, fits, must_of, no_names}
@@ -15,6 +15,7 @@ use Rattle.java_control.specs.declared.place.Place.{Place}
 use Rattle.ownership_rules.specs.Births.{fact_at, origin_of}
 use Rattle.ledger_state.specs.declared.object.Object.{Object}
 use Rattle.ledger_obligations.specs.Obligations.{first_set}
+use Rattle.ownership_rules.specs.Facts.{is_this_origin}
 use Rattle.value_laws.specs.PlaceFacts.{IsTrueOf, is_lent}
 use Rattle.program_model.specs.declared.program.Method.{Method}
 use Rattle.program_model.specs.declared.kinds.FieldId.{FieldId}
@@ -45,6 +46,17 @@ true_of_made p kind pos c e first q y done class must fit = record {
   called = empty_within y.called;
 }
 
+-- so it is where another method runs for the named one, which says nothing of what must be called first
+pub true_of_answer : (p : Program) (kind : OriginKind) (pos : Pos) (c e : ClassId) (first : Option Names) (q : Place) (y : Object) → y.finished ≡ true → y.class ≡ e → y.must ≡ first_set p e first → fits p e c ≡ true
+    → IsTrueOf p y (origin_of p kind pos c None) (fact_at q modes.Own no_names false)
+true_of_answer p kind pos c e first q y done class must fit = record {
+  finished = done;
+  class = ap (λ (z : ClassId). fits p z c) class ∙ fit;
+  bounded = ap (λ (z : ClassId). set.is_subset y.must (must_of p z)) class ∙ ap (λ (s : Names). set.is_subset s (must_of p e)) must ∙ first_within p e first;
+  need = ap (λ (s : Names). set.is_subset s (must_of p c)) must ∙ within_trans (first_set p e first) (must_of p e) (must_of p c) (first_within p e first) fit;
+  called = empty_within y.called;
+}
+
 -- ---- what is lent
 
 -- neither what a call gives nor what a `new` makes is lent
@@ -59,6 +71,15 @@ new_unlent p pos c None None = refl
 new_unlent p pos c None (Some m) = refl
 new_unlent p pos c (Some s) None = refl
 new_unlent p pos c (Some s) (Some m) = refl
+
+-- neither of them is `this`
+pub result_is_other : (p : Program) (pos : Pos) (c : ClassId) (first : Option Names) → is_this_origin (origin_of p kinds.Result pos c first).kind ≡ false
+result_is_other p pos c None = refl
+result_is_other p pos c (Some s) = refl
+
+pub new_is_other : (p : Program) (pos : Pos) (c : ClassId) (first : Option Names) → is_this_origin (origin_of p kinds.New pos c first).kind ≡ false
+new_is_other p pos c None = refl
+new_is_other p pos c (Some s) = refl
 
 -- nor what is read
 pub read_unlent : (p : Program) (m : Option Method) → is_lent p m kinds.Read ≡ false

@@ -26,31 +26,32 @@ use Rattle.value_laws.specs.Ranges.{AreInRange}
 use Rattle.covering_laws.specs.Making.{AreBeingMade}
 use Rattle.covering_laws.specs.Running.{HasPlainRuns}
 use Rattle.covering_laws.specs.Linking.{LinkedAreAliases}
-use Rattle.covering_laws.specs.Throws.{TopEndsByException, TopRaisesExceptions}
+use Rattle.covering_laws.specs.Sight.{AllActInSight}
+use Rattle.covering_laws.specs.Throws.{TopEndsAsDeclared, TopRaisesExceptions}
 use Rattle.covering_laws.proofs.RunStarts as starts
 use Rattle.covering_laws.proofs.Runs.{kept_step}
 use Rattle.value_laws.specs.Arguments.{HaveArguments}
-use Rattle.covering_laws.specs.Texts.{HasLightTexts}
+use Rattle.value_laws.specs.LibraryClasses.{HasLightTexts}
 
 pub covered_at_start : (p : Program) → Accept p → (main : MethodId) (m : Method) (choices : Choices) → method_at p main ≡ Some m → has_body m.body ≡ true
     → AreCovered p (start_config p main choices).heap (start_config p main choices).frames
 covered_at_start p ac main m choices named body = starts.covered_at_start p ac main m choices named body
 
 pub covered_step : (p : Program) → Accept p → HasPlainForms p → HasPlainRuns p → HasSmallInterests p → HasLightTexts p → (c d : Config) → Agree p c → HaveTargets p c.frames → HaveTypes p c → AreInRange c
-    → FieldsHold p c.frames c.heap → AreBeingMade p c.heap c.frames → LinkedAreAliases p c.heap → AreCovered p c.heap c.frames → HaveArguments p c.frames → TopEndsByException p c.heap c.frames → TopRaisesExceptions p c.heap c.frames → step p c ≡ went d → AreCovered p d.heap d.frames
-covered_step p ac forms runs names texts c d agrees targets types ranges fields making linked covered args exits raises is = (kept_step p ac forms runs names texts c d agrees targets types ranges fields making linked covered args exits raises is).0
+    → FieldsHold p c.frames c.heap → AreBeingMade p c.heap c.frames → LinkedAreAliases p c.heap → AreCovered p c.heap c.frames → HaveArguments p c.frames → TopEndsAsDeclared p c.heap c.frames → TopRaisesExceptions p c.heap c.frames → AllActInSight p c.heap c.frames → step p c ≡ went d → AreCovered p d.heap d.frames
+covered_step p ac forms runs names texts c d agrees targets types ranges fields making linked covered args exits raises sight is = (kept_step p ac forms runs names texts c d agrees targets types ranges fields making linked covered args exits raises sight is).0
 
 pub being_made_at_start : (p : Program) (main : MethodId) (choices : Choices) → AreBeingMade p (start_config p main choices).heap (start_config p main choices).frames
 being_made_at_start p main choices = starts.being_made_at_start p main choices
 
 pub being_made_step : (p : Program) → Accept p → HasPlainForms p → HasPlainRuns p → HasSmallInterests p → HasLightTexts p → (c d : Config) → Agree p c → HaveTargets p c.frames → HaveTypes p c → AreInRange c
-    → FieldsHold p c.frames c.heap → AreBeingMade p c.heap c.frames → LinkedAreAliases p c.heap → AreCovered p c.heap c.frames → HaveArguments p c.frames → TopEndsByException p c.heap c.frames → TopRaisesExceptions p c.heap c.frames → step p c ≡ went d → AreBeingMade p d.heap d.frames
-being_made_step p ac forms runs names texts c d agrees targets types ranges fields making linked covered args exits raises is = (kept_step p ac forms runs names texts c d agrees targets types ranges fields making linked covered args exits raises is).1
+    → FieldsHold p c.frames c.heap → AreBeingMade p c.heap c.frames → LinkedAreAliases p c.heap → AreCovered p c.heap c.frames → HaveArguments p c.frames → TopEndsAsDeclared p c.heap c.frames → TopRaisesExceptions p c.heap c.frames → AllActInSight p c.heap c.frames → step p c ≡ went d → AreBeingMade p d.heap d.frames
+being_made_step p ac forms runs names texts c d agrees targets types ranges fields making linked covered args exits raises sight is = (kept_step p ac forms runs names texts c d agrees targets types ranges fields making linked covered args exits raises sight is).1
 
 pub linked_are_aliases_at_start : (p : Program) (main : MethodId) (choices : Choices) → LinkedAreAliases p (start_config p main choices).heap
 linked_are_aliases_at_start p main choices = starts.linked_are_aliases_at_start p main choices
 
 pub linked_are_aliases_step : (p : Program) → Accept p → HasPlainForms p → HasPlainRuns p → HasSmallInterests p → HasLightTexts p → (c d : Config) → Agree p c → HaveTargets p c.frames → HaveTypes p c → AreInRange c
-    → FieldsHold p c.frames c.heap → AreBeingMade p c.heap c.frames → LinkedAreAliases p c.heap → AreCovered p c.heap c.frames → HaveArguments p c.frames → TopEndsByException p c.heap c.frames → TopRaisesExceptions p c.heap c.frames → step p c ≡ went d → LinkedAreAliases p d.heap
-linked_are_aliases_step p ac forms runs names texts c d agrees targets types ranges fields making linked covered args exits raises is =
-    (kept_step p ac forms runs names texts c d agrees targets types ranges fields making linked covered args exits raises is).2
+    → FieldsHold p c.frames c.heap → AreBeingMade p c.heap c.frames → LinkedAreAliases p c.heap → AreCovered p c.heap c.frames → HaveArguments p c.frames → TopEndsAsDeclared p c.heap c.frames → TopRaisesExceptions p c.heap c.frames → AllActInSight p c.heap c.frames → step p c ≡ went d → LinkedAreAliases p d.heap
+linked_are_aliases_step p ac forms runs names texts c d agrees targets types ranges fields making linked covered args exits raises sight is =
+    (kept_step p ac forms runs names texts c d agrees targets types ranges fields making linked covered args exits raises sight is).2

@@ -23,13 +23,15 @@ use Rattle.value_laws.specs.CalledRows.{interest_in}
 use Rattle.value_laws.specs.Accept.{Accept}
 use Rattle.ledger_state.specs.Contents.{HeapContents}
 use Rattle.ledger_state.specs.Heaps.{next_number, object_at, root, root_of, unfinished}
+use Rattle.ledger_state.specs.declared.entry.Owner.{Owner}
 use Rattle.ledger_state.specs.declared.entry.Owner.TheVariants as owners
 use Rattle.ledger_state.specs.declared.object.Link.{Link}
 use Rattle.ledger_state.specs.declared.locals.Locals.{Locals}
 use Rattle.ledger_state.specs.declared.object.Object.{Object}
 use Rattle.ledger_state.specs.declared.value.Value.{Value}
 use Rattle.ledger_state.specs.declared.value.Value.TheVariants as values
-use Rattle.ledger_obligations.specs.Obligations.{is_library_owner, note}
+use Rattle.ledger_obligations.specs.declared.note.Note.{Note}
+use Rattle.ledger_obligations.specs.Obligations.{has_note, is_library_owner, note}
 use Rattle.ledger_steps.specs.LedgerCallsCalls.{alias_position, alias_target, body_of, object_by, operand_of, reset_position}
 use Rattle.ledger_steps.specs.LedgerCallsCalls as calls
 use Rattle.value_laws.specs.Configuration.{Frame}
@@ -51,16 +53,20 @@ use Rattle.value_laws.proofs.Ready.{call_sets, plain_call, plain_step, step_ther
 use Rattle.value_laws.proofs.Unmet.{way_of_call}
 use Rattle.value_laws.specs.Types.{GivesAsNamed, KeepsTypes, is_text}
 use Rattle.value_laws.specs.FieldContents.{IsBeingMade, IsDispatched, LinksLead, is_new}
-use Rattle.value_laws.specs.PlaceFacts.{AreCovered, AreWaiting, Covers, IsCovered, OwnersBelow, gives_none, is_given, may_owe}
+use Rattle.value_laws.specs.PlaceFacts.{AreWaiting, Covers, IsCovered, OwnersBelow, gives_none, is_given, may_owe, renews_none}
+use Rattle.value_laws.specs.Renewing.{IsLentFrom, is_renewed}
+use Rattle.value_laws.proofs.Emptied.{plain_note}
+use Rattle.value_laws.proofs.EndResets.{plain_alias_position}
+use Rattle.value_laws.proofs.Renewed.{says_nothing, without_reset}
 use Rattle.value_laws.specs.Ranges.{FieldsInRange, LocalsInRange}
 use Rattle.covering_laws.specs.Linking.{IsGivenAsAlias, LinkedAreAliases}
-use Rattle.covering_laws.specs.Throws.{EndsByException}
+use Rattle.covering_laws.specs.Throws.{EndsAsDeclared}
 use Rattle.covering_laws.specs.Running.{HasPlainRuns}
 use Rattle.covering_laws.proofs.AliasPlaces.{from_operand, gives_operand}
 use Rattle.covering_laws.proofs.AliasResults.{argument_is_result, result_is_argument}
 use Rattle.covering_laws.proofs.CallNotes.{noted_at}
 use Rattle.covering_laws.proofs.KnownNames.{operand_holds}
-use Rattle.covering_laws.proofs.CallSteps.{IsGivenOr, call_covered}
+use Rattle.covering_laws.proofs.CallSteps.{IsGivenOr, call_from}
 use Rattle.covering_laws.proofs.EndHeaps.{end_carries, end_keeps, end_linked, end_noted, end_roots, end_unfinished, end_was, null_here, other_roots, self_root}
 use Rattle.covering_laws.proofs.EndOwners.{end_below, end_keeps_own, end_owners_go, number_value}
 use Rattle.covering_laws.proofs.BegunFrames.{not_own}
@@ -75,7 +81,7 @@ use Rattle.covering_laws.proofs.OwnNames.{chosen_by_note, own_name_called}
 use Rattle.covering_laws.proofs.EndNames.{promises_kept}
 use Rattle.covering_laws.proofs.EndResults.{given, thrown_light}
 use Rattle.covering_laws.proofs.LocalSteps.{LocalsIn, all_there, holds_there, local_step}
-use Rattle.covering_laws.proofs.TopSteps.{IsLocalStep, IsMadeSo, StopsOwning}
+use Rattle.covering_laws.proofs.TopSteps.{IsKeyedFrom, IsLocalStep, IsMadeSo, StopsOwning}
 use Rattle.covering_laws.proofs.Waiting.{AllHeldBefore, AllKeepRoots, AllReady, AllThere, Carries, HoldsThere, IsCarried, KeepsFields, KeepsOtherRoots, KeepsRoots, KeepsUnfinished, all_held_before_on, all_keep, all_keep_other_roots, all_keep_roots, all_wait_on, frames_ready_but, owed_before, value_root}
 use Rattle.value_laws.proofs.Chains.{object_there}
 use Rattle.value_laws.proofs.Steps.{result_in_range}
@@ -102,6 +108,11 @@ use Rattle.value_laws.proofs.NamedReached.{names_what_is_there}
 use Rattle.value_laws.specs.PlacePlaces.{is_local}
 use Rattle.covering_laws.specs.Texts.{TextsAreLight}
 
+-- a signature without its reset has the same name of interest
+plain_interest_in : (m : Option Method) → calls.interest_in (without_reset m) ≡ calls.interest_in m
+plain_interest_in None = refl
+plain_interest_in (Some m) = refl
+
 -- a `new` has no receiver
 no_receiver : (h : HeapContents) (l : Locals) (a : Action) (o : ℕ) → root_of h (operand_of l a 0) ≡ Some o → is_new a ≡ true → ⊥
 no_receiver h l actions.Skip o root new = true≢false (sym new)
@@ -110,29 +121,34 @@ no_receiver h l a o root new = true≢false (sym new)
 
 module _ (p : Program) (ac : Accept p) (forms : HasPlainForms p) (runs' : HasPlainRuns p) (names : HasSmallInterests p) (h : HeapContents) (texts : TextsAreLight p h) (links : HasEarlierLinks h) (apart : LinkedAreAliases p h) (ranges : FieldsInRange h)
     (fr caller : Frame) (rest : List Frame) (st : Stands p fr) (below : Stands p caller) (targets : KeepsTargets p caller) (keeps : KeepsTypes (is_text p h) p fr) (gives : GivesAsNamed p caller fr) (dispatched : IsDispatched p h fr caller)
-    (making : IsBeingMade p h fr caller) (mine' : LocalsInRange h fr.locals) (covered : IsCovered p h gives_none (caller ∷ rest) fr) (i : ℕ) (s : Step) (q : Completion) (here : slice_get (frame_steps p fr) i ≡ Some s) (is : s.action ≡ actions.End q)
-    (t : Step) (named : MethodId) (back : IsBackStep p (frame_steps p caller) (exception_class p h (thrown_in fr.locals q)) named t) (may : MayRun p named fr.method) (makes : IsMadeBy p h t.action fr.locals.this) (itself : RunsItself t.action named fr.method) (args : HasArguments p caller fr) (exits : EndsByException p h fr)
+    (making : IsBeingMade p h fr caller) (mine' : LocalsInRange h fr.locals) (covered : IsCovered p h gives_none renews_none (caller ∷ rest) fr) (i : ℕ) (s : Step) (q : Completion) (here : slice_get (frame_steps p fr) i ≡ Some s) (is : s.action ≡ actions.End q)
+    (t : Step) (named : MethodId) (back : IsBackStep p (frame_steps p caller) (exception_class p h (thrown_in fr.locals q)) named t) (may : MayRun p named fr.method) (makes : IsMadeBy p h t.action fr.locals.this) (itself : RunsItself t.action named fr.method) (args : HasArguments p caller fr) (exits : EndsAsDeclared p h fr)
     (leads : LinksLead p h) (ends : HaveEnds h) (made_after : IsMadeAfter p caller.locals t.action fr.locals.this) (classes : HasMadeClasses p h) (unheld : IsUnheld p h fr caller rest) (in' : LocalsIn h (caller ∷ rest)) where
   -- the position of the caller
-  abbrev at : ℕ
+  abbrev pub at : ℕ
   at = length rest + 1
 
-  abbrev e : Option ClassId
+  abbrev pub e : Option ClassId
   e = exception_class p h (thrown_in fr.locals q)
 
-  abbrev v : Value
+  abbrev pub v : Value
   v = result_value fr.locals (method_at p fr.method) q
 
-  abbrev V : Value
+  abbrev pub V : Value
   V = answered fr.locals.this t.action v e
 
-  abbrev m : Option Method
+  abbrev pub m : Option Method
   m = method_at p named
 
-  abbrev K : HeapContents
-  K = returned_heap p at fr.locals.this caller.locals t.action (method_at p fr.method) m v e h
+  -- the method that the call names, but for its reset
+  abbrev pub plain : Option Method
+  plain = without_reset m
 
-  abbrev after : Frame
+  -- the heap that the end leaves without the reset
+  abbrev pub K : HeapContents
+  K = returned_heap p at fr.locals.this caller.locals t.action (method_at p fr.method) plain v e h
+
+  abbrev pub after : Frame
   after = frame_after p h caller t V
 
   form : IsPlainAction p t.action
@@ -159,8 +175,11 @@ module _ (p : Program) (ac : Accept p) (forms : HasPlainForms p) (runs' : HasPla
   fit : RunsFor p named_there.0 run.0
   fit = call.program fr.method named_there.0 run.0 may named_there.1 run.1 run.2
 
-  no_reset : reset_position m ≡ None
-  no_reset = ap reset_position named_there.1 ∙ call.resets fr.method named_there.0 run.0 may named_there.1 run.1 run.2
+  no_reset : reset_position plain ≡ None
+  no_reset = says_nothing m
+
+  plain_alias : alias_position plain ≡ named_there.0.sig.alias
+  plain_alias = plain_alias_position m ∙ ap alias_position named_there.1
 
   same_callee : callee p t.action ≡ Some named_there.0
   same_callee = ap (callee_in p) back.calls ∙ named_there.1
@@ -185,7 +204,7 @@ module _ (p : Program) (ac : Accept p) (forms : HasPlainForms p) (runs' : HasPla
 
   -- the argument of which the object of a `new` is to be an alias
   abbrev target : Option ℕ
-  target = alias_target (operand_of caller.locals t.action) m
+  target = alias_target (operand_of caller.locals t.action) plain
 
   -- the caller goes on as if the method had returned: it threw nothing
   normal : t.edge ≡ edges.Go → e ≡ None
@@ -201,7 +220,7 @@ module _ (p : Program) (ac : Accept p) (forms : HasPlainForms p) (runs' : HasPla
     where
       by : (c : Completion) → q ≡ c → is_throw q ≡ false
       by (completions.Throw f k pos) is' =
-          absurd (exits i s f k pos here (is ∙ ap actions.End is') (ap (λ (c : Completion). exception_class p h (thrown_in fr.locals c)) (sym is') ∙ normal edge))
+          absurd (exits.throws i s f k pos here (is ∙ ap actions.End is') (ap (λ (c : Completion). exception_class p h (thrown_in fr.locals c)) (sym is') ∙ normal edge))
       by (completions.Return pos) is' = ap is_throw is'
       by (completions.ReturnValue f pos) is' = ap is_throw is'
       by (completions.Break pos) is' = ap is_throw is'
@@ -223,7 +242,7 @@ module _ (p : Program) (ac : Accept p) (forms : HasPlainForms p) (runs' : HasPla
 
   -- where no object is linked, all roots stay
   roots : (e ≡ None → is_new t.action ≡ true → target ≡ None) → KeepsRoots h K
-  roots free = end_roots p at fr.locals.this caller.locals t.action (method_at p fr.method) m v e h links no_reset unmade free
+  roots free = end_roots p at fr.locals.this caller.locals t.action (method_at p fr.method) plain v e h links no_reset unmade free
 
   roots_thrown : (c : ClassId) → e ≡ Some c → KeepsRoots h K
   roots_thrown c thrown' = roots (λ normal' new. absurd (let never : None ≡ Some c = sym normal' ∙ thrown' in cc))
@@ -232,7 +251,7 @@ module _ (p : Program) (ac : Accept p) (forms : HasPlainForms p) (runs' : HasPla
   roots_called old = roots (λ normal' new. absurd (true≢false (sym new ∙ old)))
 
   roots_plain : named_there.0.sig.alias ≡ None → KeepsRoots h K
-  roots_plain none = roots (λ normal' new. ap (object_by (operand_of caller.locals t.action)) (ap alias_position named_there.1 ∙ none))
+  roots_plain none = roots (λ normal' new. ap (object_by (operand_of caller.locals t.action)) (plain_alias ∙ none))
 
   -- the object of a `new`
   self_made : is_new t.action ≡ true → (w : ℕ) × (fr.locals.this ≡ values.Object w) × (0 < w) × (w < next_number h)
@@ -252,10 +271,10 @@ module _ (p : Program) (ac : Accept p) (forms : HasPlainForms p) (runs' : HasPla
     object : (x : Object) × (object_at h self ≡ Some x)
     object = let class : ClassId = record { 0 = 0 } in object_there h self (unfinished class) (self_made new).2 (self_made new).3
 
-    is_aliased : calls.is_alias m ≡ true
-    is_aliased = go (alias_position m) refl
+    is_aliased : calls.is_alias plain ≡ true
+    is_aliased = go (alias_position plain) refl
       where
-        go : (a : Option ℕ) → alias_position m ≡ a → calls.is_alias m ≡ true
+        go : (a : Option ℕ) → alias_position plain ≡ a → calls.is_alias plain ≡ true
         go None none = absurd (let never : None ≡ Some k = sym (ap (object_by (operand_of caller.locals t.action)) none) ∙ to in cc)
         go (Some j) some = ap is_some some
 
@@ -264,7 +283,7 @@ module _ (p : Program) (ac : Accept p) (forms : HasPlainForms p) (runs' : HasPla
 
     -- it was made after the argument
     later : (0 < k) × (k < self)
-    later = go t.action refl new made_after to
+    later = go t.action refl new made_after (ap (object_by (operand_of caller.locals t.action)) (sym (plain_alias_position m)) ∙ to)
       where
         go : (a : Action) → t.action ≡ a → is_new a ≡ true → IsMadeAfter p caller.locals a fr.locals.this → alias_target (operand_of caller.locals a) m ≡ Some k → (0 < k) × (k < self)
         go actions.Skip is' one after' to' = absurd (true≢false (sym one))
@@ -273,13 +292,13 @@ module _ (p : Program) (ac : Accept p) (forms : HasPlainForms p) (runs' : HasPla
         go a is' one after' to' = absurd (true≢false (sym one))
 
     others_keep : KeepsOtherRoots h K self
-    others_keep = other_roots p at fr.locals.this caller.locals t.action (method_at p fr.method) m v e h links no_reset unmade normal' new self k (self_made new).1 is_aliased to object.0 object.1 unowned later.0 later.1
+    others_keep = other_roots p at fr.locals.this caller.locals t.action (method_at p fr.method) plain v e h links no_reset unmade normal' new self k (self_made new).1 is_aliased to object.0 object.1 unowned later.0 later.1
 
     linked_root : root K self ≡ root h k
-    linked_root = self_root p at fr.locals.this caller.locals t.action (method_at p fr.method) m v e h links no_reset unmade normal' new self k (self_made new).1 is_aliased to object.0 object.1 unowned later.0 later.1
+    linked_root = self_root p at fr.locals.this caller.locals t.action (method_at p fr.method) plain v e h links no_reset unmade normal' new self k (self_made new).1 is_aliased to object.0 object.1 unowned later.0 later.1
 
   -- the frames that wait keep the roots of what they hold
-  all_roots : AllKeepRoots p h K (caller ∷ rest)
+  pub all_roots : AllKeepRoots p h K (caller ∷ rest)
   all_roots = by e refl (is_new t.action) refl target refl
     where
       inside : AllThere p h (caller ∷ rest)
@@ -292,15 +311,16 @@ module _ (p : Program) (ac : Accept p) (forms : HasPlainForms p) (runs' : HasPla
       by None normal' true new (Some k) to =
           all_keep_other_roots p h K (self normal' new k to) (others_keep normal' new k to) (caller ∷ rest) inside (unheld back.index t (self normal' new k to) back.here new (self_made new).1)
 
-  local : IsLocalStep p caller below t
+  pub local : IsLocalStep p caller below t
   local = local_step p ac forms caller below back.index t back.here (call_sets t.action back.row) (way_of_call t back.row)
 
   caller_in : LocalsInRange h caller.locals
   caller_in = All-head (λ (x : Frame). LocalsInRange h x.locals) caller rest in'
 
   noted : (o : ℕ) (x y : Object) (k : NameId) → object_at h o ≡ Some x → object_at K o ≡ Some y → root_of h (operand_of caller.locals t.action 0) ≡ Some o → is_super_target t.action ≡ false
-      → interest_in (callee p t.action) ≡ Some k → is_given p h caller o x.class ≡ false → x.finished ≡ true → GoesOn x y → is_heavy_class p x.class ≡ true → may_owe x ≡ true → set.contains y.called k.0 ≡ true
-  noted o x y k before now root' other interest spared done goes heavy owes = by (is_passed_on p (note false r.object k) object.0) refl
+      → interest_in (callee p t.action) ≡ Some k → is_given p h caller o x.class ≡ false → is_renewed p h caller o ≡ false → x.finished ≡ true → GoesOn x y
+      → is_heavy_class p x.class ≡ true → may_owe x ≡ true → set.contains y.called k.0 ≡ true
+  noted o x y k before now root' other interest spared old done goes heavy owes = by (is_passed_on p (note false r.object k) object.0) refl
     where
       r : IsReceiver h caller.locals t.action m o k
       r = subst (λ (z : Option Method). IsReceiver h caller.locals t.action z o k) (ap (callee_in p) back.calls)
@@ -312,20 +332,24 @@ module _ (p : Program) (ac : Accept p) (forms : HasPlainForms p) (runs' : HasPla
       way : Leads p h r.object o
       way = leads r.object o object.0 x object.1 r.root before heavy owes
 
-      named_interest : (z : Option NameId) → interest_in (callee p t.action) ≡ z → calls.interest_in m ≡ z
-      named_interest z same = ap calls.interest_in (sym (ap (callee_in p) back.calls)) ∙ (same_interest (callee p t.action) ∙ same)
+      named_interest : (z : Option NameId) → interest_in (callee p t.action) ≡ z → calls.interest_in plain ≡ z
+      named_interest z same = plain_interest_in m ∙ ap calls.interest_in (sym (ap (callee_in p) back.calls)) ∙ (same_interest (callee p t.action) ∙ same)
+
+      -- the note without the reset
+      plain_receiver : IsReceiver h caller.locals t.action plain o k
+      plain_receiver = record { object = r.object; value = r.value; root = r.root; noted = ap (λ (ns : List Note). has_note ns (note false r.object k)) (plain_note caller.locals t.action m) ∙ r.noted }
 
       by : (b : Bool) → is_passed_on p (note false r.object k) object.0 ≡ b → set.contains y.called k.0 ≡ true
       by true goes_through =
-          end_noted p at fr.locals.this caller.locals t.action (method_at p fr.method) m v e h links no_reset unmade o object.0 y k (no_receiver h caller.locals t.action o root') r
+          end_noted p at fr.locals.this caller.locals t.action (method_at p fr.method) plain v e h links no_reset unmade o object.0 y k (no_receiver h caller.locals t.action o root') plain_receiver
           (λ n is'. small_name p t.action n names (interest ∙ sym (named_interest (Some k) interest) ∙ is')) object.1 goes_through way now
       by false stopped = within_at x.called y.called goes.called k.0
           (own_name_called p ac forms h links fr caller rest st covered i s q here is back.index t back.here named named_there.0 back.calls named_there.1 dispatched k
-          (ap interest_in (sym same_callee) ∙ interest) (chosen_by_note caller.locals t.action m (note false r.object k) r.noted) o x before heavy owes done classes (inl spared) r.object object.0 r.value object.1 way stopped)
+          (ap interest_in (sym same_callee) ∙ interest) (chosen_by_note caller.locals t.action m (note false r.object k) r.noted) o x before heavy owes done classes (inl (old, inl spared)) r.object object.0 r.value object.1 way stopped)
 
   -- what is linked is an alias: so is the object of a `new`
   pub ended_apart : LinkedAreAliases p K
-  ended_apart n y l now some = elim (end_linked p at fr.locals.this caller.locals t.action (method_at p fr.method) m v e h links no_reset unmade n y l now some) [
+  ended_apart n y l now some = elim (end_linked p at fr.locals.this caller.locals t.action (method_at p fr.method) plain v e h links no_reset unmade n y l now some) [
     | inl was ↦ subst (IsGivenAsAlias p) (sym was.3) (apart n was.0 l was.1 was.2)
     | inr made' ↦ of_new made'.0 made'.1 made'.2 made'.3
   ]
@@ -334,11 +358,11 @@ module _ (p : Program) (ac : Accept p) (forms : HasPlainForms p) (runs' : HasPla
       alias_there None none' some' = absurd (true≢false (sym some'))
       alias_there (Some k) is' some' = (k, is')
 
-      of_new : is_new t.action ≡ true → fr.locals.this ≡ values.Object n → calls.is_alias m ≡ true → ((x : Object) × (object_at h n ≡ Some x) × (y.class ≡ x.class)) → IsGivenAsAlias p y.class
+      of_new : is_new t.action ≡ true → fr.locals.this ≡ values.Object n → calls.is_alias plain ≡ true → ((x : Object) × (object_at h n ≡ Some x) × (y.class ≡ x.class)) → IsGivenAsAlias p y.class
       of_new new this aliased' old = go t.action refl new makes
         where
           alias' : (k : ℕ) × (named_there.0.sig.alias ≡ Some k)
-          alias' = alias_there named_there.0.sig.alias refl (sym (ap calls.is_alias named_there.1) ∙ aliased')
+          alias' = alias_there named_there.0.sig.alias refl (sym (ap is_some plain_alias) ∙ aliased')
 
           go : (a : Action) → t.action ≡ a → is_new a ≡ true → IsMadeBy p h a fr.locals.this → IsGivenAsAlias p y.class
           go actions.Skip is' one made' = absurd (true≢false (sym one))
@@ -352,14 +376,14 @@ module _ (p : Program) (ac : Accept p) (forms : HasPlainForms p) (runs' : HasPla
           go a is' one made' = absurd (true≢false (sym one))
 
   pub ended_unfinished : KeepsUnfinished h K (λ o. (fr.locals.this ≡ values.Object o) × (is_new t.action ≡ true))
-  ended_unfinished = end_unfinished p at fr.locals.this caller.locals t.action (method_at p fr.method) m v e h links no_reset unmade
+  ended_unfinished = end_unfinished p at fr.locals.this caller.locals t.action (method_at p fr.method) plain v e h links no_reset unmade
 
-  ready : AllReady p h K (caller ∷ rest)
+  pub ready : AllReady p h K (caller ∷ rest)
   ready = frames_ready_but p h K (λ o. (fr.locals.this ≡ values.Object o) × (is_new t.action ≡ true)) ended_unfinished (caller ∷ rest) (λ w is. unheld back.index t w back.here is.1 is.0)
 
   pub ended_held_before : AllHeldBefore p h K rest
   ended_held_before =
-      all_held_before_on p h K rest all_roots.1 (all_keep p h K (end_keeps p at fr.locals.this caller.locals t.action (method_at p fr.method) m v e h links no_reset unmade) rest)
+      all_held_before_on p h K rest all_roots.1 (all_keep p h K (end_keeps p at fr.locals.this caller.locals t.action (method_at p fr.method) plain v e h links no_reset unmade) rest)
 
   -- ---- a result that is an alias
 
@@ -369,7 +393,7 @@ module _ (p : Program) (ac : Accept p) (forms : HasPlainForms p) (runs' : HasPla
   -- the object of a `new` is an alias of its argument
   module _ (k : ℕ) (some : named_there.0.sig.alias ≡ Some k) (normal' : e ≡ None) (new : is_new t.action ≡ true) where
     target_is : target ≡ number_of (operand_of caller.locals t.action k)
-    target_is = ap (object_by (operand_of caller.locals t.action)) (ap alias_position named_there.1 ∙ some)
+    target_is = ap (object_by (operand_of caller.locals t.action)) (plain_alias ∙ some)
 
     answer_is_self : V ≡ fr.locals.this
     answer_is_self = ap (answered fr.locals.this t.action v) normal' ∙ go t.action refl new
@@ -409,15 +433,15 @@ module _ (p : Program) (ac : Accept p) (forms : HasPlainForms p) (runs' : HasPla
             sym (roots_of_links-itself h self'.0 old.0 old.1 unlinked) ∙ sym (roots (λ x z. none) self'.0 (self'.2, self'.3))
             ∙ (let both : Some (root K self'.0) ≡ Some o = ap (root_of K) (sym (answer_is_self ∙ self'.1)) ∙ root' in (let same : root K self'.0 ≡ o = cc in same))
 
-        is_aliased' : calls.is_alias m ≡ true
-        is_aliased' = ap calls.is_alias named_there.1 ∙ ap is_some some
+        is_aliased' : calls.is_alias plain ≡ true
+        is_aliased' = ap is_some (plain_alias ∙ some)
 
         go : (a : Action) → t.action ≡ a → is_new a ≡ true → ⊥
         go actions.Skip is' one = true≢false (sym one)
         go (actions.New m' d n') is' one =
-            let null' = null_here p at o fr.locals.this caller.locals m' d n' (method_at p fr.method) m v h y is_aliased' (ap (λ (a : Action). alias_target (operand_of caller.locals a) m) (sym is') ∙ none) (self'.1 ∙ ap values.Object itself')
-            (subst (λ (x : Option ClassId). object_at (returned_heap p at fr.locals.this caller.locals (actions.New m' d n') (method_at p fr.method) m v x h) o ≡ Some y) normal'
-            (subst (λ (a : Action). object_at (returned_heap p at fr.locals.this caller.locals a (method_at p fr.method) m v e h) o ≡ Some y) is' now)) in
+            let null' = null_here p at o fr.locals.this caller.locals m' d n' (method_at p fr.method) plain v h y is_aliased' (ap (λ (a : Action). alias_target (operand_of caller.locals a) plain) (sym is') ∙ none) (self'.1 ∙ ap values.Object itself')
+            (subst (λ (x : Option ClassId). object_at (returned_heap p at fr.locals.this caller.locals (actions.New m' d n') (method_at p fr.method) plain v x h) o ≡ Some y) normal'
+            (subst (λ (a : Action). object_at (returned_heap p at fr.locals.this caller.locals a (method_at p fr.method) plain v e h) o ≡ Some y) is' now)) in
             true≢false (sym owes ∙ ap not (and_from y.finished (is_library_owner y.owner) null'.0 (ap is_library_owner null'.1)))
         go a is' one = true≢false (sym one)
 
@@ -460,7 +484,7 @@ module _ (p : Program) (ac : Accept p) (forms : HasPlainForms p) (runs' : HasPla
       to_operand root' = result_is_argument p ac h fr caller rest st args covered i s q here is (returns edge) run.0 run.1 k run_alias method_kind back.index t back.here o x before heavy owes receives (sym value_is ∙ root')
 
   -- an alias of the object of a fact has that object for its root
-  aliased : (o : ℕ) (x : Object) (c : Covers p h (is_given p h caller o x.class) rest caller o x) → object_at h o ≡ Some x → is_heavy_class p x.class ≡ true → may_owe x ≡ true
+  aliased : (o : ℕ) (x : Object) (c : Covers p h (is_given p h caller o x.class) (is_renewed p h caller o) rest caller o x) → object_at h o ≡ Some x → is_heavy_class p x.class ≡ true → may_owe x ≡ true
       → gives_alias p t.action t.edge c.fact.places ≡ true → root_of K V ≡ Some o
   aliased o x c before heavy owes gives' =
       let operand = gives_operand p t.action t.edge c.fact.places gives' in
@@ -479,32 +503,32 @@ module _ (p : Program) (ac : Accept p) (forms : HasPlainForms p) (runs' : HasPla
   result_owner n x u before heavy owes r =
       returned_owner p ac h fr (caller ∷ rest) st mine' covered i s q here is at n x u before heavy owes r ∙ ap owners.Frame (let number : length (caller ∷ rest) + 1 ≡ length rest + 1 + 1 = omega arith in number)
 
-  goes_on : OwnersGo p None at h K
-  goes_on = end_owners_go p at fr.locals.this caller.locals t.action (method_at p fr.method) m v e h no_reset unmade result_owner None
+  pub goes_on : OwnersGo p None at h K
+  goes_on = end_owners_go p at fr.locals.this caller.locals t.action (method_at p fr.method) plain v e h no_reset unmade result_owner None
 
   -- the caller goes on owning what it owned
-  caller_owns : (o : ℕ) (x y : Object) → object_at h o ≡ Some x → object_at K o ≡ Some y → x.finished ≡ true → is_heavy_class p x.class ≡ true → x.owner ≡ owners.Frame at → y.owner ≡ owners.Frame at
-  caller_owns = end_keeps_own p at fr.locals.this caller.locals t.action (method_at p fr.method) m v e h no_reset unmade result_owner
+  pub caller_owns : (o : ℕ) (x y : Object) → object_at h o ≡ Some x → object_at K o ≡ Some y → x.finished ≡ true → is_heavy_class p x.class ≡ true → x.owner ≡ owners.Frame at → y.owner ≡ owners.Frame at
+  caller_owns = end_keeps_own p at fr.locals.this caller.locals t.action (method_at p fr.method) plain v e h no_reset unmade result_owner
 
   -- ---- what the call gives
 
-  inside : HoldsThere p h caller
+  pub inside : HoldsThere p h caller
   inside = holds_there p h ranges caller caller_in
 
-  carries : Carries h K
-  carries = end_carries p at fr.locals.this caller.locals t.action (method_at p fr.method) m v e h links no_reset unmade
+  pub carries : Carries h K
+  carries = end_carries p at fr.locals.this caller.locals t.action (method_at p fr.method) plain v e h links no_reset unmade
 
-  fields : KeepsFields p h K
-  fields = end_keeps p at fr.locals.this caller.locals t.action (method_at p fr.method) m v e h links no_reset unmade
+  pub fields : KeepsFields p h K
+  fields = end_keeps p at fr.locals.this caller.locals t.action (method_at p fr.method) plain v e h links no_reset unmade
 
-  was : (n : ℕ) (x : Object) → object_at K n ≡ Some x → IsCarried h n x
-  was = end_was p at fr.locals.this caller.locals t.action (method_at p fr.method) m v e h links no_reset unmade
+  pub was : (n : ℕ) (x : Object) → object_at K n ≡ Some x → IsCarried h n x
+  was = end_was p at fr.locals.this caller.locals t.action (method_at p fr.method) plain v e h links no_reset unmade
 
-  abbrev IsGivenOrNot : Origin → Fact → Fact → Type 0
+  abbrev pub IsGivenOrNot : Origin → Fact → Fact → Type 0
   IsGivenOrNot = IsGivenOr p ac h K links carries fields caller below back.index t back.here local inside all_roots.0 V back.row
 
   abbrev IsMadeHere : Place → ℕ → Object → Type 0
-  IsMadeHere place o y = IsMadeSo p ac h K links carries fields caller below back.index t back.here local inside all_roots.0 V rest (is_given p h caller) IsGivenOrNot place o y
+  IsMadeHere place o y = IsMadeSo p ac h K links carries fields caller below back.index t back.here local inside all_roots.0 V rest (is_given p h caller) (is_renewed p h caller) IsGivenOrNot place o y
 
   -- an owner of two frames
   no_two : (n : ℕ) → owners.Frame n ≡ owners.Frame (n + 1) → ⊥
@@ -512,7 +536,7 @@ module _ (p : Program) (ac : Accept p) (forms : HasPlainForms p) (runs' : HasPla
 
   -- no fact of the caller goes on owning what it is given
   stops : (o : ℕ) (y : Object) → object_at K o ≡ Some y → is_heavy_class p y.class ≡ true
-      → ((is_new t.action ≡ true) × (fr.locals.this ≡ values.Object o)) ⊎ ((x : Object) → object_at h o ≡ Some x → x.owner ≡ owners.Frame (at + 1)) → StopsOwning p h caller rest (is_given p h caller) IsGivenOrNot o
+      → ((is_new t.action ≡ true) × (fr.locals.this ≡ values.Object o)) ⊎ ((x : Object) → object_at h o ≡ Some x → x.owner ≡ owners.Frame (at + 1)) → StopsOwning p h caller rest (is_given p h caller) (is_renewed p h caller) IsGivenOrNot o
   stops o y now heavy (inl (new, this)) x before z small root d key g more = absurd ((unheld back.index t o back.here new this).0 z small root)
   stops o y now heavy (inr owner) x before z small root d key g more = by (is_given p h caller o x.class) refl
     where
@@ -524,7 +548,7 @@ module _ (p : Program) (ac : Accept p) (forms : HasPlainForms p) (runs' : HasPla
       by : (b : Bool) → is_given p h caller o x.class ≡ b → is_own g.mode ≡ false
       by false spared = absurd (no_two at (sym (key.owner spared) ∙ owner x before))
       by true gives' = not_own (is_own g.mode) (is_held g.mode)
-          (more.0 (away_moves p ac h caller below rest back.index t back.here back.row (is_given p h caller o x.class) o x d key heavy' (given_at_step p h caller below back.index t o x.class back.here back.row gives')))
+          (more.0 (away_moves p ac h caller below rest back.index t back.here back.row (is_given p h caller o x.class) (is_renewed p h caller o) o x d key heavy' (given_at_step p h caller below back.index t o x.class back.here back.row gives')))
 
   -- what the call gives is covered by its birth, or comes from the operand of which it is an alias
   made : (place : Place) (o : ℕ) (y : Object) → IsSmall place → is_local place ≡ true → is_made (made_place t.action) place ≡ true → place_value p K caller.method after.locals place ≡ V → root_of K V ≡ Some o
@@ -533,7 +557,7 @@ module _ (p : Program) (ac : Accept p) (forms : HasPlainForms p) (runs' : HasPla
     where
       by_end : (k : ℕ) → named_there.0.sig.alias ≡ Some k → (x : Option ClassId) → e ≡ x → IsMadeHere place o y
       by_end k some (Some c) thrown' =
-          absurd (thrown_light p ac forms runs' h texts links apart fr caller rest st below keeps gives mine' covered i s q here is t named back named_there.0 named_there.1 call may makes no_reset (roots_thrown c thrown') unmade was place o y small there value root'
+          absurd (thrown_light p ac forms runs' h texts links apart fr caller rest st below keeps gives mine' covered i s q here is t named back named_there.0 named_there.1 call may makes exits (roots_thrown c thrown') unmade was place o y small there value root'
           now heavy owes c thrown' (ap (λ (x : Option ClassId). root_of K (answered fr.locals.this t.action v x)) (sym thrown') ∙ root'))
       by_end k some None none =
           let old = was o y now in
@@ -543,13 +567,13 @@ module _ (p : Program) (ac : Accept p) (forms : HasPlainForms p) (runs' : HasPla
             | inr called' ↦ to_operand k some edge called'.0 called'.1 called'.2 o old.0 old.1 (ap (is_heavy_class p) (sym old.2) ∙ heavy) (owed_before old.0 y old.3 owes) root'
           ])))
 
-      as_born : IsBornSo p K rest after place o y ((y.owner ≡ owners.Frame at) × (((is_new t.action ≡ true) × (fr.locals.this ≡ values.Object o)) ⊎ ((x : Object) → object_at h o ≡ Some x → x.owner ≡ owners.Frame (at + 1)))) → IsMadeHere place o y
+      as_born : IsBornSo p K (is_renewed p h caller o) rest after place o y ((y.owner ≡ owners.Frame at) × (((is_new t.action ≡ true) × (fr.locals.this ≡ values.Object o)) ⊎ ((x : Object) → object_at h o ≡ Some x → x.owner ≡ owners.Frame (at + 1)))) → IsMadeHere place o y
       as_born (inl (c, in'', its)) = inl (c, in'', its.0, stops o y now heavy its.1)
       as_born (inr u) = inr (inl u)
 
       by : (a : Option ℕ) → named_there.0.sig.alias ≡ a → IsMadeHere place o y
       by None none =
-          as_born (given p ac forms runs' h texts links apart fr caller rest st below keeps gives mine' covered i s q here is t named back named_there.0 named_there.1 call may makes no_reset (roots_plain none) unmade was place o y small there value root' now heavy
+          as_born (given p ac forms runs' h texts links apart fr caller rest st below keeps gives mine' covered i s q here is t named back named_there.0 named_there.1 call may makes exits (roots_plain none) unmade was place o y small there value root' now heavy
           owes none)
       by (Some k) some = by_end k some e refl
 
@@ -559,24 +583,32 @@ module _ (p : Program) (ac : Accept p) (forms : HasPlainForms p) (runs' : HasPla
     gifts : AllKeepGifts p h K rest
     gifts = small_gifts p ac h K rest stand all_roots.1
 
-    caller_covered : IsCovered p K gives_none rest after
-    caller_covered =
-        call_covered p ac h K links carries fields caller below back.index t back.here local inside all_roots.0 V back.row rest (is_given p h caller)
+    -- each place of the caller is in a fact that comes from one before, or was born. Where the call creates the object's obligation anew, the fact is still read so.
+    pub caller_from : (place : Place) (o : ℕ) (y : Object) → IsSmall place → root_of K (place_value p K caller.method after.locals place) ≡ Some o → object_at K o ≡ Some y → is_heavy_class p y.class ≡ true → may_owe y ≡ true
+        → IsKeyedFrom p ac h K links carries fields caller below back.index t back.here local inside all_roots.0 V rest (is_given p h caller) (is_renewed p h caller) IsGivenOrNot place o y
+    caller_from =
+        call_from p ac h K links carries fields caller below back.index t back.here local inside all_roots.0 V back.row rest (is_given p h caller) (is_renewed p h caller)
         (λ o c gives'. given_at_step p h caller below back.index t o c back.here back.row gives') waits.0 ready.0 (given_kept p h K rest gifts)
-        (stays_apart p None at h K goes_on at caller (omega arith) (λ w to this. absurd (let never : None ≡ Some w = to in cc)))
+        (stays_apart p None at h K goes_on rest caller (omega arith) (λ w to this. absurd (let never : None ≡ Some w = to in cc)))
         (λ o x y before now done heavy spared mine. caller_owns o x y before now done heavy mine)
         noted
-        (λ o x y c before now g more trusted spared done goes wide heavy owes.
+        (λ o x y c before now g more trusted spared old done goes heavy owes names less knows.
         promises_kept p ac forms h fr caller rest st below targets args caller_in covered i s q here is back.index t back.here back.row named named_there.0 back.calls
-        named_there.1 call may dispatched returns thrown o x y c before g more.0 trusted spared done goes wide heavy owes)
+        named_there.1 call may dispatched returns thrown o x y c before g more.0 trusted spared old done goes heavy owes names less knows)
         aliased
         (λ place o y small local' none' there value root now heavy owes. made place o y small local' there value root now heavy owes)
 
-    pub ended_covered : OwnersBelow h (length (caller ∷ rest) + 1) → AreCovered p K (after ∷ rest)
-    ended_covered low = (
-      caller_covered,
-      all_wait_on p h K links carries rest all_roots.1 (all_keep p h K fields rest) (all_there p h ranges rest (All-tail (λ (x : Frame). LocalsInRange h x.locals) caller rest in')) ready.1 gifts
-          (owners_kept p None at h K goes_on rest (omega arith) tt) waits.1,
-      end_below p at fr.locals.this caller.locals t.action (method_at p fr.method) m v e h no_reset unmade
-          (subst (OwnersBelow h) (let number : length (caller ∷ rest) + 1 ≡ length rest + 1 + 1 = omega arith in number) low),
-    )
+    -- the frames below it go on waiting
+    pub rest_waiting : AreWaiting p K rest
+    rest_waiting =
+        all_wait_on p h K links carries rest all_roots.1 (all_keep p h K fields rest) (all_there p h ranges rest (All-tail (λ (x : Frame). LocalsInRange h x.locals) caller rest in')) ready.1 gifts
+        (owners_kept p None at h K goes_on rest (omega arith) tt) waits.1
+
+    -- what is lent to them stays so
+    pub lent_on : (o : ℕ) (w : Owner) → IsLentFrom p h rest o w → IsLentFrom p K rest o w
+    lent_on o w = (given_kept p h K rest gifts).lent o w
+
+    pub ended_below : OwnersBelow h (length (caller ∷ rest) + 1) → OwnersBelow K at
+    ended_below low =
+        end_below p at fr.locals.this caller.locals t.action (method_at p fr.method) plain v e h no_reset unmade
+        (subst (OwnersBelow h) (let number : length (caller ∷ rest) + 1 ≡ length rest + 1 + 1 = omega arith in number) low)

@@ -16,7 +16,7 @@ use Rattle.program_model.specs.declared.program.Program.{Program}
 use Rattle.program_model.specs.Lookups.{method_at}
 use Rattle.program_model.specs.Overrides.{is_library}
 use Rattle.program_model.specs.SuperTests.{is_under}
-use Rattle.program_model.specs.Validity.{is_class_type}
+use Rattle.program_model.specs.Validity.{IsResult, is_class_type}
 use Rattle.ledger_obligations.specs.Bodies.{alias_in, method_in, method_of}
 use Rattle.ledger_obligations.specs.MustCallSets.{Names, fits, fits_type, is_empty, is_heavy_class, must_of, must_of_optional, must_of_type, no_names}
 use Rattle.ledger_obligations.specs.OverrideCases.{differ}
@@ -66,7 +66,7 @@ use Rattle.value_laws.proofs.HeapLaws.{roots_of_links-itself}
 use Rattle.value_laws.proofs.PlaceLaws.{single_place-same}
 use Rattle.value_laws.specs.Outcomes.{IsCallRow, IsFault}
 use Rattle.value_laws.specs.Agreement.{IsMade, IsMadeBy, Stands}
-use Rattle.value_laws.specs.PlainForms.{HasPlainForms, IsPlainCall, MayRun, RunsFor}
+use Rattle.value_laws.specs.PlainForms.{HasPlainForms, IsPlainCall, MayRun, RunsFor, all_owe_nothing}
 use Rattle.value_laws.specs.Nexts.{IsBackStep}
 use Rattle.value_laws.specs.Operands.{NoObject, result_of}
 use Rattle.value_laws.proofs.CallNames.{object_with_root}
@@ -75,7 +75,10 @@ use Rattle.value_laws.specs.Typed.{GivesResult, NamesMembers}
 use Rattle.value_laws.specs.Types.{GivesAsNamed, IsNoObjectButText, KeepsTypes, is_text}
 use Rattle.value_laws.proofs.ValueTypeLaws.{returned_value_is_no_object}
 use Rattle.value_laws.specs.FieldContents.{is_new}
-use Rattle.value_laws.specs.PlaceFacts.{Covers, IsCovered, IsKeyed, IsOwned, IsTrueOf, gives_none, may_owe, owned, unowned}
+use Rattle.value_laws.specs.PlaceFacts.{Covers, IsCovered, IsKeyed, IsOwned, IsTrueOf, gives_none, may_owe, owned, renews_none, unowned}
+use Rattle.value_laws.specs.Renewing.{is_renewed}
+use Rattle.value_laws.proofs.EndResets.{plain_alias_position}
+use Rattle.value_laws.proofs.Renewed.{says_nothing, without_reset}
 use Rattle.value_laws.specs.Ranges.{LocalsInRange}
 use Rattle.covering_laws.proofs.Following.{breaks_nothing, same_body, step_there}
 use Rattle.covering_laws.proofs.HeavyFields.{own_claims}
@@ -89,6 +92,8 @@ use Rattle.covering_laws.proofs.EndHeaps.{finished_here}
 use Rattle.covering_laws.proofs.EndOwners.{end_new_owner, end_result_owner}
 use Rattle.covering_laws.proofs.GivenArguments.{true_of_result}
 use Rattle.covering_laws.proofs.LightExceptions.{leaving_is_light, leaving_is_throwable}
+use Rattle.covering_laws.proofs.LightResults.{apart_from_strings, light_root}
+use Rattle.covering_laws.specs.Throws.{EndsAsDeclared}
 use Rattle.covering_laws.proofs.LinkedExceptions.{exceptions_unlinked}
 use Rattle.covering_laws.proofs.LocalSteps.{names_members}
 use Rattle.covering_laws.proofs.ResultOwners.{result_is_owned}
@@ -100,9 +105,9 @@ no_number k (values.Object n) o none is = absurd (let never : Some n ≡ None = 
 no_number k v o none is = cc
 
 module _ (p : Program) (ac : Accept p) (forms' : HasPlainForms p) (runs' : HasPlainRuns p) (h : HeapContents) (texts : TextsAreLight p h) (links : HasEarlierLinks h) (apart : LinkedAreAliases p h) (fr caller : Frame) (rest : List Frame) (st : Stands p fr) (below : Stands p caller)
-    (keeps : KeepsTypes (is_text p h) p fr) (gives : GivesAsNamed p caller fr) (mine' : LocalsInRange h fr.locals) (covered : IsCovered p h gives_none (caller ∷ rest) fr) (i : ℕ) (s : Step) (q : Completion) (here : slice_get (frame_steps p fr) i ≡ Some s) (is : s.action ≡ actions.End q)
+    (keeps : KeepsTypes (is_text p h) p fr) (gives : GivesAsNamed p caller fr) (mine' : LocalsInRange h fr.locals) (covered : IsCovered p h gives_none renews_none (caller ∷ rest) fr) (i : ℕ) (s : Step) (q : Completion) (here : slice_get (frame_steps p fr) i ≡ Some s) (is : s.action ≡ actions.End q)
     (t : Step) (named : MethodId) (back : IsBackStep p (frame_steps p caller) (exception_class p h (thrown_in fr.locals q)) named t) (n : Method) (named_at : method_at p named ≡ Some n) (call : IsPlainCall p named)
-    (may : MayRun p named fr.method) (makes : IsMadeBy p h t.action fr.locals.this) (no_reset : calls.reset_position (method_at p named) ≡ None) where
+    (may : MayRun p named fr.method) (makes : IsMadeBy p h t.action fr.locals.this) (declared : EndsAsDeclared p h fr) where
   -- the position of the caller
   abbrev at : ℕ
   at = length rest + 1
@@ -116,8 +121,19 @@ module _ (p : Program) (ac : Accept p) (forms' : HasPlainForms p) (runs' : HasPl
   abbrev V : Value
   V = answered fr.locals.this t.action v e
 
+  -- the method that the call names, but for its reset
+  abbrev plain_method : Option Method
+  plain_method = without_reset (method_at p named)
+
+  no_reset : calls.reset_position plain_method ≡ None
+  no_reset = says_nothing (method_at p named)
+
+  unaliased : n.sig.alias ≡ None → calls.alias_position plain_method ≡ None
+  unaliased plain = plain_alias_position (method_at p named) ∙ ap (λ (z : Option Method). calls.alias_position z) named_at ∙ plain
+
+  -- the heap that the end leaves without the reset
   abbrev K : HeapContents
-  K = returned_heap p at fr.locals.this caller.locals t.action (method_at p fr.method) (method_at p named) v e h
+  K = returned_heap p at fr.locals.this caller.locals t.action (method_at p fr.method) plain_method v e h
 
   abbrev after : Frame
   after = frame_after p h caller t V
@@ -184,13 +200,13 @@ module _ (p : Program) (ac : Accept p) (forms' : HasPlainForms p) (runs' : HasPl
     IsTaken = (y.owner ≡ owners.Frame at) × (((is_new t.action ≡ true) × (fr.locals.this ≡ values.Object o)) ⊎ ((x : Object) → object_at h o ≡ Some x → x.owner ≡ owners.Frame (at + 1)))
 
     abbrev pub IsGivenHere : Type 0
-    IsGivenHere = IsBornSo p K rest after place o y IsTaken
+    IsGivenHere = IsBornSo p K (is_renewed p h caller o) rest after place o y IsTaken
 
     at_temp : (d : ℕ) → made_place t.action ≡ Some (places.Temp d)
-        → (IsSmall (places.Temp d) → root_of K (place_value p K caller.method after.locals (places.Temp d)) ≡ Some o → IsBornSo p K rest after (places.Temp d) o y IsTaken) → IsGivenHere
+        → (IsSmall (places.Temp d) → root_of K (place_value p K caller.method after.locals (places.Temp d)) ≡ Some o → IsBornSo p K (is_renewed p h caller o) rest after (places.Temp d) o y IsTaken) → IsGivenHere
     at_temp d same covers =
         let it : places.Temp d ≡ place = single_place-same (places.Temp d) place (ap (λ (x : Option Place). is_made x place) (sym same) ∙ there) in
-        subst (λ (z : Place). IsBornSo p K rest after z o y IsTaken) it (covers (subst IsSmall (sym it) small)
+        subst (λ (z : Place). IsBornSo p K (is_renewed p h caller o) rest after z o y IsTaken) it (covers (subst IsSmall (sym it) small)
         (subst (λ (z : Place). root_of K (place_value p K caller.method after.locals z) ≡ Some o) (sym it) (ap (root_of K) value ∙ rooted)))
 
     module _ (normal : e ≡ None) (plain : n.sig.alias ≡ None) where
@@ -224,12 +240,12 @@ module _ (p : Program) (ac : Accept p) (forms' : HasPlainForms p) (runs' : HasPl
           let self : fr.locals.this ≡ values.Object o = made.1 ∙ ap values.Object (self_is it made root') in
           let class : n.class ≡ y.class = (let both : Some n.class ≡ Some old.0.class = sym (ap class_of_method named_at) ∙ sym (ap (λ (z : MethodId). class_of_method (method_at p z)) m_is) ∙ made.3 old.0
           (ap (object_at h) (let both : values.Object made.0 ≡ values.Object o = sym made.1 ∙ self in (let one : made.0 ≡ o = cc in one)) ∙ old.1) in (let one : n.class ≡ old.0.class = cc in one)) ∙ sym old.2 in
-          let done = finished_here p at o fr.locals.this caller.locals m d c (method_at p fr.method) (method_at p named) v h y (ap (λ (z : Option Method). calls.alias_position z) named_at ∙ plain) self
-          (subst (λ (x : Option ClassId). object_at (returned_heap p at fr.locals.this caller.locals (actions.New m d c) (method_at p fr.method) (method_at p named) v x h) o ≡ Some y) normal
-          (subst (λ (a : Action). object_at (returned_heap p at fr.locals.this caller.locals a (method_at p fr.method) (method_at p named) v e h) o ≡ Some y) it now)) in
-          let owner = end_new_owner p at fr.locals.this caller.locals t.action (method_at p fr.method) (method_at p named) v e h no_reset unmade o y normal (ap is_new it) (ap (λ (z : Option Method). calls.alias_position z) named_at ∙ plain) self now
+          let done = finished_here p at o fr.locals.this caller.locals m d c (method_at p fr.method) plain_method v h y (unaliased plain) self
+          (subst (λ (x : Option ClassId). object_at (returned_heap p at fr.locals.this caller.locals (actions.New m d c) (method_at p fr.method) plain_method v x h) o ≡ Some y) normal
+          (subst (λ (a : Action). object_at (returned_heap p at fr.locals.this caller.locals a (method_at p fr.method) plain_method v e h) o ≡ Some y) it now)) in
+          let owner = end_new_owner p at fr.locals.this caller.locals t.action (method_at p fr.method) plain_method v e h no_reset unmade o y normal (ap is_new it) (unaliased plain) self now
           done.0 (λ x there'. unmade o x (ap is_new it) self there') in
-          at_temp d (ap made_place it) (λ small' root''. (let z = new_covers p h K caller below back.index t back.here V rest d o y small' root'' m n edge (ap (method_at p) m_is ∙ named_at) plain c it
+          at_temp d (ap made_place it) (λ small' root''. (let z = new_covers p h K caller below back.index t back.here V rest (is_renewed p h caller o) d o y small' root'' m n edge (ap (method_at p) m_is ∙ named_at) plain c it
           (ap (is_heavy_class p) class ∙ heavy)
           (true_of_made p kinds.New t.pos n.class y.class n.sig.first (places.Temp d) y done.0 refl (done.1 ∙ sym (ap (first_set p y.class) fit.first)) (subst (λ (z : ClassId). fits p y.class z ≡ true) (sym class) (within_self (must_of p y.class)))) in
           inl (z.0, z.1, (owner, inl (ap is_new it, self)))))
@@ -255,14 +271,29 @@ module _ (p : Program) (ac : Accept p) (forms' : HasPlainForms p) (runs' : HasPl
             go false true same one = absurd (true≢false same)
             go false false same one = one
 
+        -- nothing is asked of what such a result may be
+        owes_none : (u : VType) → run.0.sig.result ≡ Some u → all_owe_nothing p (Some u) ≡ true → ⊥
+        owes_none (types.Obj c) gives' none =
+            let object = temp_object d found in
+            let valid : IsResult p (Some (types.Obj c)) = subst (IsResult p) gives' (ac.well_formed.valid.typed.methods fr.method run.0 run.1).signature.result in
+            let apart' : is_under p p.core.string c ≡ false = apart_from_strings p ac c none valid.0 in
+            light_root p ac c none valid.0 h apart object.0 o object.1 old.0 object.4
+            (declared.gives i s d pos run.0 c object.0 object.1 here (is ∙ ap actions.End end') run.1 gives' apart' object.2 object.4) object.3 old.1 (ap (is_heavy_class p) (sym old.2) ∙ heavy)
+        owes_none (types.Primitive k) gives' none = true≢false (sym none)
+        owes_none types.Str gives' none = true≢false (sym none)
+        owes_none (types.Arr k) gives' none = true≢false (sym none)
+        owes_none types.NullType gives' none = true≢false (sym none)
+
         module _ (r : ClassId) (result : n.sig.result ≡ Some (types.Obj r)) (owning : n.sig.owning_result ≡ true) (heavy' : is_heavy_class p r ≡ true) where
           not_light : (b : Bool) → is_empty (must_of_optional p (Some result_there.0)) ≡ b → not b ≡ true
-          not_light true light = absurd (true≢false (sym (ap (λ (x : Option VType). is_empty (must_of_optional p x)) (sym result) ∙ alike.light (ap (λ (x : Option VType). is_empty (must_of_optional p x)) result_there.1 ∙ light))
-              ∙ not-true (is_empty (must_of p r)) heavy'))
+          not_light true light = absurd (elim (alike.light owning (ap (λ (x : Option VType). is_empty (must_of_optional p x)) result_there.1 ∙ light)) [
+            | inl named_light ↦ true≢false (sym (ap (λ (x : Option VType). is_empty (must_of_optional p x)) (sym result) ∙ named_light) ∙ not-true (is_empty (must_of p r)) heavy')
+            | inr none_owes ↦ owes_none result_there.0 result_there.1 (sym (ap (all_owe_nothing p) result_there.1) ∙ none_owes)
+          ])
           not_light false some = refl
 
           -- the fact of the result says that the frame owns it, or its end breaks a rule
-          module _ (c : Covers p h false (caller ∷ rest) fr o old.0) (in' : has c.fact.places (places.Temp d) ≡ true) where
+          module _ (c : Covers p h false false (caller ∷ rest) fr o old.0) (in' : has c.fact.places (places.Temp d) ≡ true) where
             reached : Reach p st.number (relation_of p st.number) c.origin fr.control c.fact
             reached = subst (λ (b : BodyId). Reach p b (relation_of p b) c.origin fr.control c.fact) (same_body c.body st.number (body_id p fr.method) c.id st.id) c.reached
 
@@ -274,10 +305,10 @@ module _ (p : Program) (ac : Accept p) (forms' : HasPlainForms p) (runs' : HasPl
             mine = result_is_owned p st.number c.origin d pos s.edge c.fact result_there.0 (ap at_returns.result_in body_method ∙ result_there.1) (ap alias_in body_method ∙ fit.alias ∙ plain)
                 (ap owning_result_in body_method ∙ owning_run owning) in' (or_right (is_heavy_class p c.origin.class) (not (is_empty (must_of_optional p (Some result_there.0)))) (not_light (is_empty (must_of_optional p (Some result_there.0))) refl)) fine
 
-          owned_cover : (c : Covers p h false (caller ∷ rest) fr o old.0) × (has c.fact.places (places.Temp d) ≡ true) × IsOwned p h false (caller ∷ rest) fr o old.0 c
+          owned_cover : (c : Covers p h false false (caller ∷ rest) fr o old.0) × (has c.fact.places (places.Temp d) ≡ true) × IsOwned p h false false (caller ∷ rest) fr o old.0 c
           owned_cover = by (covered (places.Temp d) o old.0 room (temp_root d found) old.1 (ap (is_heavy_class p) (sym old.2) ∙ heavy) (owed_before old.0 y old.3 owes))
             where
-              by : IsKeyed p h false (caller ∷ rest) fr (places.Temp d) o old.0 → (c : Covers p h false (caller ∷ rest) fr o old.0) × (has c.fact.places (places.Temp d) ≡ true) × IsOwned p h false (caller ∷ rest) fr o old.0 c
+              by : IsKeyed p h false false (caller ∷ rest) fr (places.Temp d) o old.0 → (c : Covers p h false false (caller ∷ rest) fr o old.0) × (has c.fact.places (places.Temp d) ≡ true) × IsOwned p h false false (caller ∷ rest) fr o old.0 c
               by (owned c in' key) = (c, in', key)
               by (unowned u) = let it = mine u.covers u.here in
                   absurd (true≢false (sym (and_from (is_heavy_class p u.covers.origin.class) (is_own u.covers.fact.mode) it.1 (ap is_own it.0)) ∙ u.unowned))
@@ -302,7 +333,7 @@ module _ (p : Program) (ac : Accept p) (forms' : HasPlainForms p) (runs' : HasPl
           -- the caller owns it when the call has ended
           taken : IsTaken
           taken = (
-            end_result_owner p at fr.locals.this caller.locals t.action (method_at p fr.method) (method_at p named) v e h no_reset unmade result_there.0 o old.0 y normal (ap owning_in run.1 ∙ owning_run owning)
+            end_result_owner p at fr.locals.this caller.locals t.action (method_at p fr.method) plain_method v e h no_reset unmade result_there.0 o old.0 y normal (ap owning_in run.1 ∙ owning_run owning)
                 (ap calls.alias_position run.1 ∙ fit.alias ∙ plain) (ap conducts.result_in run.1 ∙ result_there.1)
                 (ap (λ (c : Completion). root_of h (result_value fr.locals (method_at p fr.method) c)) end' ∙ temp_root d found) old.1
                 (and_from (old.0.finished && not (is_library_owner old.0.owner)) (set.is_subset (must_of p old.0.class) (must_of_type p result_there.0))
@@ -315,13 +346,13 @@ module _ (p : Program) (ac : Accept p) (forms' : HasPlainForms p) (runs' : HasPl
         result_given : (m : MethodId) (d' c : ℕ) (f : TargetForm) → t.action ≡ actions.Call m d' c f → IsGivenHere
         result_given m d' c f it = by n.sig.result refl
           where
-            as_taken : (r : ClassId) (z : Place) → n.sig.result ≡ Some (types.Obj r) → IsBornSo p K rest after z o y ((n.sig.owning_result ≡ true) × (is_heavy_class p r ≡ true)) → IsBornSo p K rest after z o y IsTaken
+            as_taken : (r : ClassId) (z : Place) → n.sig.result ≡ Some (types.Obj r) → IsBornSo p K (is_renewed p h caller o) rest after z o y ((n.sig.owning_result ≡ true) × (is_heavy_class p r ≡ true)) → IsBornSo p K (is_renewed p h caller o) rest after z o y IsTaken
             as_taken r z result (inl (c, in', own)) = inl (c, in', taken r result own.0 own.1)
             as_taken r z result (inr u) = inr u
 
             of_class : (r : ClassId) → n.sig.result ≡ Some (types.Obj r) → IsGivenHere
             of_class r result = at_temp d' (ap made_place it) (λ small' root''. as_taken r (places.Temp d') result
-                (result_covers p h K caller below back.index t back.here V rest d' o y small' root'' m n edge (ap (method_at p) (named_is m (ap called_method it)) ∙ named_at) plain
+                (result_covers p h K caller below back.index t back.here V rest (is_renewed p h caller o) d' o y small' root'' m n edge (ap (method_at p) (named_is m (ap called_method it)) ∙ named_at) plain
                 c f r it result (λ owning heavy'. subst (λ (first : Option Names). IsTrueOf p y (origin_of p kinds.Result t.pos r first) (fact_at (places.Temp d') modes.Own no_names false)) (sym fit.first)
                 (owned_at r result owning heavy'))))
               where

@@ -1,8 +1,8 @@
 -- The births at a body's entry, by their numbers: those of the parameters, of `this` and of the owning fields.
-use Rattle.std.specs.Prelude.{◌||◌, replicate}
+use Rattle.std.specs.Prelude.{◌||◌, ◌+◌, if◌then◌else◌, replicate}
 use Rattle.std.specs.List.{All}
 use Rattle.std.proofs.lemmas.List.Elements.{All-head, All-replicate, All-tail}
-use Rattle.std.proofs.Common.{◌≡◌, ◌⊎◌, inl, inr, ℕ, zero, suc, Bool, true, false, Option, Some, None, List, [], ◌∷◌, ◌++◌, filter_map, slice_get, refl, sym, ap, ◌∙◌, subst, true≢false}
+use Rattle.std.proofs.Common.{◌≡◌, ◌⊎◌, inl, inr, ℕ, zero, suc, Bool, true, false, Option, Some, None, List, [], ◌∷◌, ◌++◌, filter_map, slice_get, refl, sym, ap, ◌∙◌, subst, true≢false, eqb-true, arith, nat_eq}
 use Rattle.std.proofs.lemmas.Bool.{and_parts}
 use Rattle.program_model.specs.declared.kinds.BodyId.{BodyId}
 use Rattle.program_model.specs.declared.kinds.FieldId.{FieldId}
@@ -13,14 +13,29 @@ use Rattle.program_model.specs.declared.program.Program.{Program}
 use Rattle.program_model.specs.declared.tree.Body.{Body}
 use Rattle.program_model.specs.Lookups.{body_at, method_at, optional}
 use Rattle.program_model.specs.Overrides.{are_types, is_type}
-use Rattle.ledger_obligations.specs.Bodies.{fields_of}
+use Rattle.ledger_obligations.specs.Bodies.{fields_of, is_constructor_kind}
 use Rattle.ledger_obligations.specs.OverrideCases.{differ, has_other_owning}
 use Rattle.java_control.specs.declared.fact.Fact.{Fact}
+use Rattle.java_control.specs.declared.fact.Mode.TheVariants as modes
+use Rattle.java_control.specs.declared.fact.OriginKind.TheVariants as kinds
 use Rattle.java_control.specs.declared.fact.Origin.{Origin}
-use Rattle.ownership_rules.specs.Births.{births_at_entry, entry_births_in, entry_births_of, field_birth, held_births, parameter_births, this_birth}
+use Rattle.java_control.specs.declared.place.Place.TheVariants as places
+use Rattle.ownership_rules.specs.Births.{births_at_entry, method_mode, entry_births_in, entry_births_of, field_birth, held_births, parameter_births, this_birth, this_mode, parameter_mode, origin_of, fact_at, has_this}
 use Rattle.ledger_state.specs.Values.{value_or_nothing}
 use Rattle.ledger_state.specs.declared.value.Value.{Value}
 use Rattle.ledger_state.specs.declared.value.Value.TheVariants as values
+use Rattle.program_model.specs.declared.program.Sig.{Sig}
+use Rattle.program_model.specs.declared.kinds.MethodKind.{MethodKind}
+use Rattle.ownership_rules.specs.Signatures.{is_position}
+use Rattle.ownership_rules.specs.Facts.{is_this_origin, is_own, is_held}
+use Rattle.covering_laws.proofs.CallResults.{not_lent_none}
+use Rattle.ledger_obligations.specs.MustCallSets.{no_names}
+use Rattle.program_model.specs.Validity.{HasParameters}
+use Rattle.program_model.specs.declared.tree.Var.{Var}
+use Rattle.program_model.specs.declared.kinds.ClassId.{ClassId}
+use Rattle.program_model.specs.declared.kinds.VType.{VType}
+use Rattle.program_model.specs.declared.kinds.VType.TheVariants as types
+use Rattle.program_model.specs.SuperTests.{is_class}
 
 -- ---- lists
 
@@ -122,3 +137,86 @@ pub argument_or_nothing : (arguments : List Value) (n i : ℕ)
 argument_or_nothing [] n i = inr (blank n i)
 argument_or_nothing (v ∷ vs) n zero = inl refl
 argument_or_nothing (v ∷ vs) n (suc i) = argument_or_nothing vs n i
+
+-- ---- what is born as lent
+
+-- a parameter is born as lent at the position of the reset
+pub lent_parameter : (s : Sig) (k : ℕ) (x : ParamSig) → parameter_mode s k x ≡ modes.Lent → s.reset ≡ Some k
+lent_parameter s k x mode = by x.owning (is_position s.alias k) s.reset mode
+  where
+    by : (a b : Bool) (r : Option ℕ) → (if a then modes.Own else (if b then modes.Alias else (if is_position r k then modes.Lent else modes.None))) ≡ modes.Lent → r ≡ Some k
+    by true b r is = absurd (let never : modes.Own ≡ modes.Lent = is in cc)
+    by false true r is = absurd (let never : modes.Alias ≡ modes.Lent = is in cc)
+    by false false None is = absurd (not_lent_none is)
+    by false false (Some n) is = at (nat_eq n k) refl is
+      where
+        at : (d : Bool) → nat_eq n k ≡ d → (if d then modes.Lent else modes.None) ≡ modes.Lent → Some n ≡ Some k
+        at true e one = ap Some (eqb-true n k e)
+        at false e one = absurd (not_lent_none one)
+
+lent_method : (s : Sig) → method_mode s ≡ modes.Lent → s.reset ≡ Some 0
+lent_method s mode = by s.reset (is_position s.alias 0) mode
+  where
+    by : (r : Option ℕ) (b : Bool) → (if is_position r 0 then modes.Lent else (if b then modes.Alias else modes.None)) ≡ modes.Lent → r ≡ Some 0
+    by None true is = absurd (let never : modes.Alias ≡ modes.Lent = is in cc)
+    by None false is = absurd (not_lent_none is)
+    by (Some n) b is = at (nat_eq n 0) refl is
+      where
+        other : (d : Bool) → (if d then modes.Alias else modes.None) ≡ modes.Lent → ⊥
+        other true one = let never : modes.Alias ≡ modes.Lent = one in cc
+        other false one = not_lent_none one
+
+        at : (d : Bool) → nat_eq n 0 ≡ d → (if d then modes.Lent else (if b then modes.Alias else modes.None)) ≡ modes.Lent → Some n ≡ Some 0
+        at true e one = ap Some (eqb-true n 0 e)
+        at false e one = absurd (other b one)
+
+-- so is `this` of a method that is no constructor
+pub lent_this : (s : Sig) (k : MethodKind) → is_constructor_kind k ≡ false → this_mode s k ≡ modes.Lent → s.reset ≡ Some 0
+lent_this s methods.Ctor other mode = absurd (true≢false other)
+lent_this s methods.Instance other mode = lent_method s mode
+lent_this s methods.Static other mode = lent_method s mode
+lent_this s methods.Constant other mode = lent_method s mode
+
+-- the origin of a parameter is not `this`
+pub no_parameter : (i : ℕ) → is_this_origin (kinds.Param i) ≡ true → ⊥
+no_parameter i is = let same : i + 1 ≡ 0 = eqb-true (i + 1) 0 is in omega (arith, same)
+
+-- ---- modes at birth
+
+none_or_alias : (a b : Bool) → (is_own (if a then modes.Lent else (if b then modes.Alias else modes.None)) || is_held (if a then modes.Lent else (if b then modes.Alias else modes.None))) ≡ false
+none_or_alias true b = refl
+none_or_alias false true = refl
+none_or_alias false false = refl
+
+pub this_unowned : (s : Sig) (k : MethodKind) → (is_own (this_mode s k) || is_held (this_mode s k)) ≡ false
+this_unowned s methods.Ctor = refl
+this_unowned s methods.Instance = none_or_alias _ _
+this_unowned s methods.Static = none_or_alias _ _
+this_unowned s methods.Constant = none_or_alias _ _
+
+pub this_born : (p : Program) (m : Method) → has_this m.kind ≡ true → this_birth p m ≡ Some (origin_of p kinds.ThisRef m.pos m.class None, fact_at places.This (this_mode m.sig m.kind) no_names true)
+this_born p m has' = rw has' refl
+
+-- ---- parameters and types
+
+-- each parameter has a variable
+pub parameter_at : (vars : List Var) (params : List ParamSig) (i : ℕ) (q : ParamSig) → HasParameters vars params → slice_get params i ≡ Some q → (v : Var) × (slice_get vars i ≡ Some v)
+parameter_at vars [] i q has' is = absurd (no_element i is)
+  where
+    no_element : (n : ℕ) → slice_get [] n ≡ Some q → ⊥
+    no_element zero none = let never : None ≡ Some q = none in cc
+    no_element (suc n) none = let never : None ≡ Some q = none in cc
+parameter_at [] (x ∷ params) i q has' is = absurd has'
+parameter_at (v ∷ vars) (x ∷ params) zero q has' is = (v, refl)
+parameter_at (v ∷ vars) (x ∷ params) (suc i) q has' is = parameter_at vars params i q has'.1 is
+
+same_class : (c d : ClassId) → is_class c d ≡ true → c ≡ d
+same_class c d is = ap (λ (n : ℕ). (let z : ClassId = record { 0 = n } in z)) (eqb-true c.0 d.0 is)
+
+-- a class type is that of the class
+pub class_type_is : (t : VType) (c : ClassId) → is_type t (types.Obj c) ≡ true → t ≡ types.Obj c
+class_type_is (types.Obj d) c is = ap types.Obj (same_class d c is)
+class_type_is (types.Primitive u) c is = absurd (true≢false (sym is))
+class_type_is types.Str c is = absurd (true≢false (sym is))
+class_type_is (types.Arr u) c is = absurd (true≢false (sym is))
+class_type_is types.NullType c is = absurd (true≢false (sym is))

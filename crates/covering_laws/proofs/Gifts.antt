@@ -1,4 +1,4 @@
--- What the calls of waiting frames give away stays the same where the roots of their temps do.
+-- What the calls of waiting frames give away, and whose obligations they create anew, stays the same where the roots of their temps do.
 use Rattle.std.specs.Prelude.{◌&&◌, nat_lt, if◌then◌else◌}
 use Rattle.std.specs.List.{All, list_any}
 use Rattle.std.proofs.lemmas.List.Elements.{All-head, All-tail}
@@ -7,6 +7,7 @@ use Rattle.program_model.specs.declared.kinds.ClassId.{ClassId}
 use Rattle.program_model.specs.declared.program.Method.{Method}
 use Rattle.program_model.specs.declared.program.ParamSig.{ParamSig}
 use Rattle.program_model.specs.declared.program.Program.{Program}
+use Rattle.ledger_obligations.specs.Bodies.{reset_in}
 use Rattle.ledger_obligations.specs.MustCallSets.{fits_type}
 use Rattle.java_control.specs.Calls.{operand_at}
 use Rattle.java_control.specs.Control.{Step}
@@ -26,6 +27,7 @@ use Rattle.value_laws.specs.Choosing.{frame_steps}
 use Rattle.value_laws.proofs.RangeValues.{operand_in_range}
 use Rattle.value_laws.specs.Agreement.{AllStand}
 use Rattle.value_laws.specs.PlaceFacts.{gives_away, is_taken_at, is_taken_by, is_taken_from}
+use Rattle.value_laws.specs.Renewing.{renews, renews_at}
 use Rattle.value_laws.specs.Ranges.{LocalsInRange}
 use Rattle.covering_laws.proofs.Following.{small_step}
 use Rattle.covering_laws.proofs.Owners.{AllKeepGifts, KeepsGifts}
@@ -54,9 +56,19 @@ module _ (p : Program) (h k : HeapContents) (l : Locals) (a : Action) (o : ℕ) 
       by None = refl
       by (Some m) = taken_same 0 m.sig.params.items
 
+renews_same : (p : Program) (h k : HeapContents) (l : Locals) (a : Action) (o : ℕ) → KeepsOperands h k l a → renews p k l a o ≡ renews p h l a o
+renews_same p h k l a o same = by (reset_in (callee p a))
+  where
+    by : (r : Option ℕ) → renews_at k l a o r ≡ renews_at h l a o r
+    by None = refl
+    by (Some n) = ap (λ (v : Option ℕ). same_root v (Some o)) (same n)
+
 pub gifts_same : (p : Program) (h k : HeapContents) (fr : Frame) → ((i : ℕ) (s : Step) → slice_get (frame_steps p fr) i ≡ Some s → KeepsOperands h k fr.locals s.action) → KeepsGifts p h k fr
-gifts_same p h k fr same o c = any_same (λ (s : Step). gives_away p k fr.locals s.action o c) (λ (s : Step). gives_away p h fr.locals s.action o c) (frame_steps p fr)
-    (λ i s here. gives_same p h k fr.locals s.action o c (same i s here))
+gifts_same p h k fr same o = (
+  (λ c. any_same (λ (s : Step). gives_away p k fr.locals s.action o c) (λ (s : Step). gives_away p h fr.locals s.action o c) (frame_steps p fr)
+      (λ i s here. gives_same p h k fr.locals s.action o c (same i s here))),
+  any_same (λ (s : Step). renews p k fr.locals s.action o) (λ (s : Step). renews p h fr.locals s.action o) (frame_steps p fr) (λ i s here. renews_same p h k fr.locals s.action o (same i s here)),
+)
 
 -- where all roots stay
 pub all_keep_gifts : (p : Program) (h k : HeapContents) → KeepsRoots h k → (frs : List Frame) → All (λ (fr : Frame). LocalsInRange h fr.locals) frs → AllKeepGifts p h k frs

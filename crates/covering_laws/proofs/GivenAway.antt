@@ -122,13 +122,13 @@ moved_given p h l a (Some m) n x calls g =
 
 -- ---- the frame's steps
 
-any_at : {X : Type 0} (f : X → Bool) (xs : List X) (i : ℕ) (x : X) → slice_get xs i ≡ Some x → f x ≡ true → list_any f xs ≡ true
+pub any_at : {X : Type 0} (f : X → Bool) (xs : List X) (i : ℕ) (x : X) → slice_get xs i ≡ Some x → f x ≡ true → list_any f xs ≡ true
 any_at f [] zero x at is = absurd (let never : None ≡ Some x = at in cc)
 any_at f [] (suc i) x at is = absurd (let never : None ≡ Some x = at in cc)
 any_at f (y ∷ ys) zero x at is = or_left (f y) (list_any f ys) (ap f (let both : Some y ≡ Some x = at in (let one : y ≡ x = cc in one)) ∙ is)
 any_at f (y ∷ ys) (suc i) x at is = or_right (f y) (list_any f ys) (any_at f ys i x at is)
 
-at_any : {X : Type 0} (f : X → Bool) (xs : List X) → list_any f xs ≡ true → (i : ℕ) × (x : X) × (slice_get xs i ≡ Some x) × (f x ≡ true)
+pub at_any : {X : Type 0} (f : X → Bool) (xs : List X) → list_any f xs ≡ true → (i : ℕ) × (x : X) × (slice_get xs i ≡ Some x) × (f x ≡ true)
 at_any f [] is = absurd (true≢false (sym is))
 at_any {X = X} f (y ∷ ys) is = go (f y) refl is (at_any f ys)
   where

@@ -1,23 +1,27 @@
 -- What an owning field of `this` holds in a frame that has a place for the field.
-use Rattle.std.proofs.Common.{◌≡◌, ◌⊎◌, inl, inr, ℕ, ◌<◌, Bool, true, false, not, ◌&&◌, ◌||◌, ◌+◌, Option, Some, None, List, length, refl, sym, ap, ◌∙◌, true≢false, eqb-true}
-use Rattle.std.proofs.lemmas.Bool.{and_parts, not-true, or_left, or_right}
-use Rattle.rlc_base.proofs.SetLaws.{within_trans}
+use Rattle.std.proofs.Common.{◌≡◌, ◌⊎◌, inl, inr, ℕ, ◌<◌, Bool, true, false, not, ◌&&◌, ◌||◌, ◌+◌, Option, Some, None, List, length, slice_get, refl, sym, ap, ◌∙◌, subst, true≢false, eqb-true}
+use Rattle.std.specs.FinSet as set
+use Rattle.std.proofs.lemmas.Bool.{and_parts, not-true, or_left, or_right, and_from}
+use Rattle.rlc_base.proofs.SetLaws.{empty_within, union_monotone, union_within, within_self, within_trans}
 use Rattle.program_model.specs.declared.kinds.ClassId.{ClassId}
 use Rattle.program_model.specs.declared.kinds.FieldId.{FieldId}
 use Rattle.program_model.specs.declared.kinds.MethodId.{MethodId}
 use Rattle.program_model.specs.declared.program.Field.{Field}
 use Rattle.program_model.specs.declared.program.Method.{Method}
+use Rattle.program_model.specs.declared.program.ParamSig.{ParamSig}
 use Rattle.program_model.specs.declared.program.Program.{Program}
 use Rattle.program_model.specs.Lookups.{field_at, method_at}
 use Rattle.program_model.specs.SuperTests.{is_class}
 use Rattle.ledger_obligations.specs.Bodies.{alias_in, constructs, has_field_place, is_class_of, is_field_in, method_of}
-use Rattle.ledger_obligations.specs.MustCallSets.{fits_type, is_empty, is_heavy_class, must_of, must_of_optional, no_names}
+use Rattle.ledger_obligations.specs.MustCallSets.{Names, fits_type, is_empty, is_heavy_class, must_of, must_of_optional, no_names}
 use Rattle.ownership_rules.specs.Signatures.{field_type}
 use Rattle.java_control.specs.Owned.{field_number, place_of_field}
 use Rattle.java_control.specs.declared.fact.Fact.{Fact}
 use Rattle.java_control.specs.declared.fact.Mode.{Mode}
 use Rattle.java_control.specs.declared.fact.Mode.TheVariants as modes
 use Rattle.java_control.specs.declared.fact.Origin.{Origin}
+use Rattle.java_control.specs.declared.fact.OriginKind.{OriginKind}
+use Rattle.java_control.specs.declared.fact.OriginKind.TheVariants as kinds
 use Rattle.java_control.specs.declared.place.Place.{Place}
 use Rattle.java_control.specs.declared.place.Place.TheVariants as places
 use Rattle.ownership_rules.specs.Facts.{has, is_held, is_own}
@@ -31,7 +35,9 @@ use Rattle.ledger_state.specs.declared.value.Value.TheVariants as values
 use Rattle.value_laws.specs.Places.{field_place_value, owning_field_beside, place_value}
 use Rattle.value_laws.specs.Configuration.{Frame}
 use Rattle.value_laws.specs.Agreement.{Stands}
-use Rattle.value_laws.specs.PlaceFacts.{Covers, IsCovered, IsKeyed, claims, fits_field, fits_in, gives_none, is_apart, is_content, is_field_of, is_frame_below, is_heavy_field, is_heavy_in, is_lent, is_owning_fact, makes_alone, owned, tells_calls, unowned, was_given}
+use Rattle.value_laws.specs.PlaceFacts.{Covers, IsCovered, IsKeyed, asked_by, asked_of, claims, fits_field, fits_in, gives_none, is_apart, is_content, is_field_of, is_frame_below, is_heavy_field, is_heavy_in, is_lent, is_owning_fact, makes_alone, owned, tells_calls, unowned, was_given, renews_none}
+use Rattle.value_laws.specs.PlainForms.{is_lent_parameter}
+use Rattle.value_laws.specs.Renewing.{was_renewed}
 use Rattle.value_laws.proofs.FieldPlaces.{beside_of_place}
 use Rattle.covering_laws.specs.Covering.{HoldsHeavy, IsNotGiven}
 use Rattle.covering_laws.proofs.Following.{method_here}
@@ -70,9 +76,9 @@ module _ (p : Program) (ac : Accept p) (fr : Frame) (st : Stands p fr) (f : Fiel
           of_method x at parts.0 (method_at p fr.method) refl (ap (is_class_of x.class) (sym (method_here p fr st)) ∙ parts.1)
 
 -- the fact of a place that is covered
-pub covered_at : (p : Program) (h : HeapContents) (away : Bool) (frs : List Frame) (fr : Frame) (q : Place) (o : ℕ) (x : Object) → IsKeyed p h away frs fr q o x → (c : Covers p h away frs fr o x) × (has c.fact.places q ≡ true)
-covered_at p h away frs fr q o x (owned c here key) = (c, here)
-covered_at p h away frs fr q o x (unowned u) = (u.covers, u.here)
+pub covered_at : (p : Program) (h : HeapContents) (away anew : Bool) (frs : List Frame) (fr : Frame) (q : Place) (o : ℕ) (x : Object) → IsKeyed p h away anew frs fr q o x → (c : Covers p h away anew frs fr o x) × (has c.fact.places q ≡ true)
+covered_at p h away anew frs fr q o x (owned c here key) = (c, here)
+covered_at p h away anew frs fr q o x (unowned u) = (u.covers, u.here)
 
 module _ (p : Program) (h : HeapContents) (fr : Frame) (f : FieldId) (here : HasPlace p fr f) where
   pub value_here : (w : ℕ) → fr.locals.this ≡ values.Object w → place_value p h fr.method fr.locals (place_of_field p f) ≡ field_value p h w f
@@ -81,8 +87,8 @@ module _ (p : Program) (h : HeapContents) (fr : Frame) (f : FieldId) (here : Has
   pub heavy_here : is_heavy_in p (Some f) ≡ true → is_heavy_field p fr.method (place_of_field p f) ≡ true
   heavy_here heavy = ap (is_heavy_in p) here.beside ∙ heavy
 
-  pub covers_field : (frs : List Frame) → IsCovered p h gives_none frs fr → (w o : ℕ) (x : Object) → HoldsHeavy p h fr w f o x → (c : Covers p h false frs fr o x) × (has c.fact.places (place_of_field p f) ≡ true)
-  covers_field frs covered w o x holds = covered_at p h false frs fr (place_of_field p f) o x
+  pub covers_field : (frs : List Frame) → IsCovered p h gives_none renews_none frs fr → (w o : ℕ) (x : Object) → HoldsHeavy p h fr w f o x → (c : Covers p h false false frs fr o x) × (has c.fact.places (place_of_field p f) ≡ true)
+  covers_field frs covered w o x holds = covered_at p h false false frs fr (place_of_field p f) o x
       (covered (place_of_field p f) o x here.small (ap (root_of h) (value_here w holds.this) ∙ holds.held) holds.at holds.class holds.owes)
 
 -- in a constructor without an aliased argument a fact that says that a field holds the object claims it
@@ -93,8 +99,8 @@ pub own_claims : (p : Program) (m : Option Method) (o : Origin) (g : Fact) → g
 own_claims p m o g own heavy = rw (heavy, own) refl
 
 -- what such a fact knows was called
-pub held_tells : (p : Program) (m : MethodId) (o : Origin) (g : Fact) → g.mode ≡ modes.Held → is_heavy_class p o.class ≡ true → tells_calls p m o g ≡ true
-held_tells p m o g held heavy = or_right (is_lent p (method_at p m) o.kind) (is_heavy_class p o.class && is_held g.mode) (rw (heavy, held) refl)
+pub held_tells : (p : Program) (m : MethodId) (o : Origin) (g : Fact) → g.mode ≡ modes.Held → tells_calls p m o g ≡ true
+held_tells p m o g held = or_right (is_lent p (method_at p m) o.kind) (is_held g.mode) (ap is_held held)
 
 -- a constructor without an aliased argument
 pub makes_alone_by : (m : Option Method) → constructs m ≡ true → alias_in m ≡ None → makes_alone m ≡ true
@@ -122,14 +128,47 @@ either true b is = inl refl
 either false b is = inr is
 
 -- it is that of what is lent, or it says that a field holds the object
-pub tells_by : (p : Program) (m : MethodId) (o : Origin) (f : Fact) → tells_calls p m o f ≡ true → (is_lent p (method_at p m) o.kind ≡ true) ⊎ ((is_heavy_class p o.class ≡ true) × (is_held f.mode ≡ true))
-tells_by p m o f tells = elim (either (is_lent p (method_at p m) o.kind) (is_heavy_class p o.class && is_held f.mode) tells) [
-  | inl lent ↦ inl lent
-  | inr held ↦ inr (and_parts (is_heavy_class p o.class) (is_held f.mode) held)
-]
+pub tells_by : (p : Program) (m : MethodId) (o : Origin) (f : Fact) → tells_calls p m o f ≡ true → (is_lent p (method_at p m) o.kind ≡ true) ⊎ (is_held f.mode ≡ true)
+tells_by p m o f tells = either (is_lent p (method_at p m) o.kind) (is_held f.mode) tells
 
 pub lent_tells : (p : Program) (m : MethodId) (o : Origin) (f : Fact) → is_lent p (method_at p m) o.kind ≡ true → tells_calls p m o f ≡ true
-lent_tells p m o f lent = or_left (is_lent p (method_at p m) o.kind) (is_heavy_class p o.class && is_held f.mode) lent
+lent_tells p m o f lent = or_left (is_lent p (method_at p m) o.kind) (is_held f.mode) lent
+
+-- ---- what a fact knows beside what is asked for before
+
+-- an origin that is not lent asks for nothing
+pub none_asked : (p : Program) (m : Option Method) (kind : OriginKind) → is_lent p m kind ≡ false → asked_of p m kind ≡ no_names
+none_asked p None kind none = refl
+none_asked p (Some m) kinds.ThisRef none = absurd (true≢false none)
+none_asked p (Some m) (kinds.Param k) none = by (slice_get m.sig.params.items k) none
+  where
+    by : (x : Option ParamSig) → is_lent_parameter p x ≡ false → asked_by p x ≡ no_names
+    by None none' = refl
+    by (Some x) none' = rw none' refl
+none_asked p (Some m) kind none = refl
+
+-- a lent parameter asks for its names
+pub asked_here : (p : Program) (x : ParamSig) → is_lent_parameter p (Some x) ≡ true → asked_by p (Some x) ≡ x.before
+asked_here p x lent = rw lent refl
+
+-- where the origin is not lent, all that its fact knows was called
+pub known_alone : (p : Program) (m : Option Method) (kind : OriginKind) (called names : Names) → is_lent p m kind ≡ false → set.is_subset called (set.union (asked_of p m kind) names) ≡ true → set.is_subset called names ≡ true
+known_alone p m kind called names none known =
+    within_trans called (set.union (asked_of p m kind) names) names known
+    (union_within (asked_of p m kind) names names (subst (λ (s : Names). set.is_subset s names ≡ true) (sym (none_asked p m kind none)) (empty_within names)) (within_self names))
+
+-- outside constructors a fact that says that a field holds its object is of no such origin
+pub held_unlent : (p : Program) (h : HeapContents) (away anew : Bool) (frs : List Frame) (fr : Frame) (o : ℕ) (x : Object) (c : Covers p h away anew frs fr o x) → c.fact.mode ≡ modes.Held → constructs (method_at p fr.method) ≡ false
+    → is_lent p (method_at p fr.method) c.origin.kind ≡ false
+held_unlent p h away anew frs fr o x c held plain = by (is_lent p (method_at p fr.method) c.origin.kind) refl
+  where
+    by : (b : Bool) → is_lent p (method_at p fr.method) c.origin.kind ≡ b → is_lent p (method_at p fr.method) c.origin.kind ≡ false
+    by false none = none
+    by true lent = absurd (true≢false (sym ((c.lent lent).1 (ap is_held held)) ∙ plain))
+
+-- what it knows grows with what was called
+pub known_on : (called asked names more : Names) → set.is_subset called (set.union asked names) ≡ true → set.is_subset names more ≡ true → set.is_subset called (set.union asked more) ≡ true
+known_on called asked names more known grows = within_trans called (set.union asked names) (set.union asked more) known (union_monotone asked asked names more (within_self asked) grows)
 
 -- a fact claims only where it says that the object is owned
 pub claims_owned : (p : Program) (m : Option Method) (o : Origin) (f : Fact) → claims p m o f ≡ true → (is_heavy_class p o.class ≡ true) × ((is_own f.mode || is_held f.mode) ≡ true)
@@ -164,29 +203,36 @@ pub owning_claims : (p : Program) (m : Option Method) (o : Origin) (f : Fact) �
 owning_claims p m o f owning = let parts = and_parts (is_heavy_class p o.class) (is_own f.mode) owning in rw (parts.0, parts.1) refl
 
 -- such a fact has no place of an owning field
-pub owning_in_no_field : (p : Program) (h : HeapContents) (away : Bool) (frs : List Frame) (fr : Frame) (o : ℕ) (x : Object) (c : Covers p h away frs fr o x) → is_owning_fact p c.origin c.fact ≡ true
+pub owning_in_no_field : (p : Program) (h : HeapContents) (away anew : Bool) (frs : List Frame) (fr : Frame) (o : ℕ) (x : Object) (c : Covers p h away anew frs fr o x) → is_owning_fact p c.origin c.fact ≡ true
     → (k : ℕ) → k < 16 → has c.fact.places (places.Field k) ≡ true → ⊥
-owning_in_no_field p h away frs fr o x c owning k inside there =
+owning_in_no_field p h away anew frs fr o x c owning k inside there =
     let parts = and_parts (is_heavy_class p c.origin.class) (is_own c.fact.mode) owning in
     let held = c.held k inside there (heavy_by_place p fr.method k c.origin.class parts.0 (c.fields k inside parts.0 there)) in
     true≢false (sym parts.1 ∙ ap is_own held.0)
 
 -- ---- what the frame was not given
 
-pub apart_where : (p : Program) (h : HeapContents) (frs : List Frame) (fr : Frame) (o : ℕ) (x : Object) (f : Fact) → was_given p h frs o x.class ≡ false → is_apart p h frs fr o x f ≡ true
-apart_where p h frs fr o x f none = rw none refl
+either_apart : (p : Program) (h : HeapContents) (frs : List Frame) (fr : Frame) (o : ℕ) (x : Object) (f : Fact) → was_renewed p h frs o ≡ false → (not (was_given p h frs o x.class) || is_frame_below (length frs + 1) x.owner) ≡ true
+    → is_apart p h frs fr o x f ≡ true
+either_apart p h frs fr o x f old apart =
+    or_right (is_content p fr x.owner f) (not (was_renewed p h frs o) && (not (was_given p h frs o x.class) || is_frame_below (length frs + 1) x.owner))
+    (and_from (not (was_renewed p h frs o)) (not (was_given p h frs o x.class) || is_frame_below (length frs + 1) x.owner) (ap not old) apart)
+
+pub apart_where : (p : Program) (h : HeapContents) (frs : List Frame) (fr : Frame) (o : ℕ) (x : Object) (f : Fact) → was_renewed p h frs o ≡ false → was_given p h frs o x.class ≡ false → is_apart p h frs fr o x f ≡ true
+apart_where p h frs fr o x f old none = either_apart p h frs fr o x f old (rw none refl)
 
 -- what a constructor without an aliased argument has stored in a field of `this`
 pub apart_alone : (p : Program) (h : HeapContents) (frs : List Frame) (fr : Frame) (o : ℕ) (x : Object) (f : Fact) → f.mode ≡ modes.Held → makes_alone (method_at p fr.method) ≡ true → is_apart p h frs fr o x f ≡ true
 apart_alone p h frs fr o x f held alone =
-    or_left (not (was_given p h frs o x.class) || is_content p fr x.owner f) (is_frame_below (length frs + 1) x.owner) (or_right (not (was_given p h frs o x.class)) (is_content p fr x.owner f) (rw (held, alone) refl))
+    or_left (is_content p fr x.owner f) (not (was_renewed p h frs o) && (not (was_given p h frs o x.class) || is_frame_below (length frs + 1) x.owner)) (rw (held, alone) refl)
 
 -- what a frame below owns
-pub apart_low : (p : Program) (h : HeapContents) (frs : List Frame) (fr : Frame) (o : ℕ) (x : Object) (f : Fact) → is_frame_below (length frs + 1) x.owner ≡ true → is_apart p h frs fr o x f ≡ true
-apart_low p h frs fr o x f low = or_right (not (was_given p h frs o x.class) || is_content p fr x.owner f) (is_frame_below (length frs + 1) x.owner) low
+pub apart_low : (p : Program) (h : HeapContents) (frs : List Frame) (fr : Frame) (o : ℕ) (x : Object) (f : Fact) → was_renewed p h frs o ≡ false → is_frame_below (length frs + 1) x.owner ≡ true → is_apart p h frs fr o x f ≡ true
+apart_low p h frs fr o x f old low = either_apart p h frs fr o x f old (or_right (not (was_given p h frs o x.class)) (is_frame_below (length frs + 1) x.owner) low)
 
 pub apart_held : (p : Program) (h : HeapContents) (frs : List Frame) (fr : Frame) (o : ℕ) (x : Object) (f : Fact) → f.mode ≡ modes.Held → IsNotGiven p h frs fr o x → is_apart p h frs fr o x f ≡ true
-apart_held p h frs fr o x f held (inl none) = apart_where p h frs fr o x f none
-apart_held p h frs fr o x f held (inr (inl low)) = apart_low p h frs fr o x f low
-apart_held p h frs fr o x f held (inr (inr (no_constructor, own))) =
-    or_left (not (was_given p h frs o x.class) || is_content p fr x.owner f) (is_frame_below (length frs + 1) x.owner) (or_right (not (was_given p h frs o x.class)) (is_content p fr x.owner f) (rw held (or_right (makes_alone (method_at p fr.method)) (not (constructs (method_at p fr.method)) && is_field_of fr.locals.this x.owner) (rw (no_constructor, own) refl))))
+apart_held p h frs fr o x f held (inl (old, inl none)) = apart_where p h frs fr o x f old none
+apart_held p h frs fr o x f held (inl (old, inr low)) = apart_low p h frs fr o x f old low
+apart_held p h frs fr o x f held (inr (no_constructor, own)) =
+    or_left (is_content p fr x.owner f) (not (was_renewed p h frs o) && (not (was_given p h frs o x.class) || is_frame_below (length frs + 1) x.owner))
+    (rw held (or_right (makes_alone (method_at p fr.method)) (not (constructs (method_at p fr.method)) && is_field_of fr.locals.this x.owner) (rw (no_constructor, own) refl)))

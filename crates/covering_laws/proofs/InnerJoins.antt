@@ -73,7 +73,7 @@ use Rattle.covering_laws.proofs.LocalSteps.{LocalsIn, all_there, holds_there, lo
 use Rattle.covering_laws.proofs.TopSteps.{IsLocalStep}
 use Rattle.covering_laws.proofs.Waiting.{AllHeldBefore, KeepsRoots, KeepsUnfinished, all_held_before, all_keep, all_wait, frames_ready, no_other}
 use Rattle.covering_laws.proofs.LinkedExceptions.{exceptions_unlinked, still_aliases}
-use Rattle.covering_laws.specs.Texts.{HasLightTexts}
+use Rattle.value_laws.specs.LibraryClasses.{HasLightTexts}
 use Rattle.covering_laws.proofs.Texts.{texts_are_light}
 
 -- an exception that is made is of its class

@@ -22,7 +22,7 @@ use Rattle.java_control.specs.declared.fact.Origin.{Origin}
 use Rattle.java_control.specs.declared.fact.OriginKind.TheVariants as kinds
 use Rattle.java_control.specs.declared.place.Place.{Place}
 use Rattle.java_control.specs.declared.place.Place.TheVariants as places
-use Rattle.ownership_rules.specs.Facts.{has}
+use Rattle.ownership_rules.specs.Facts.{has, is_this_origin}
 use Rattle.ownership_rules.specs.SmallActions.{IsSmallAction}
 use Rattle.value_laws.specs.CalledRows.{called_after}
 use Rattle.ownership_rules.specs.Births.{birth_on, fact_at}
@@ -53,9 +53,9 @@ use Rattle.value_laws.specs.Outcomes.{IsNotNull, IsPlainRow}
 use Rattle.value_laws.proofs.Fields.{plain_holds}
 use Rattle.value_laws.proofs.Going.{other_steps}
 use Rattle.value_laws.specs.Steps.{IsTrueTest}
-use Rattle.value_laws.specs.PlaceFacts.{AllHold, IsCovered, IsUnowned, OwnersBelow, gives_none, is_lent}
+use Rattle.value_laws.specs.PlaceFacts.{AllHold, IsCovered, IsUnowned, OwnersBelow, gives_none, is_lent, renews_none}
 use Rattle.covering_laws.proofs.Births.{born_covers}
-use Rattle.covering_laws.proofs.CallResults.{born_unowned}
+use Rattle.covering_laws.proofs.CallResults.{born_unowned, not_lent_none}
 use Rattle.covering_laws.proofs.Owners.{KeepsGiven, OwnersGo, stays, stays_apart}
 use Rattle.covering_laws.proofs.StoreOwners.{thrown_below}
 use Rattle.covering_laws.proofs.Following.{plain_step}
@@ -217,23 +217,23 @@ module _ (p : Program) (ac : Accept p) (forms : HasPlainForms p) (h : HeapConten
   abbrev pub IsGiven : Place → Type 0
   IsGiven q = HoldsNoneHeavy p heap made ⊎ ((g : Origin) × (birth_on p s.action s.edge s.pos ≡ Some (g, fact_at q modes.None no_names true)) × (g.kind ≡ kinds.Read))
 
-  module _ (frs : List Frame) (covered : IsCovered p h gives_none frs fr) (gifts : KeepsGiven p h heap frs) (inside : HoldsThere p h fr)
+  module _ (frs : List Frame) (covered : IsCovered p h gives_none renews_none frs fr) (gifts : KeepsGiven p h heap frs) (inside : HoldsThere p h fr)
       (light : (c : ClassId) (y : Object) → e ≡ Some c → object_at heap (next_number h) ≡ Some y → is_heavy_class p y.class ≡ false)
       (gives : (q : Place) → e ≡ None → source p st.body s.action s.edge q ≡ None → is_made (made_place s.action) q ≡ true → IsGiven q) where
     given : (q : Place) (o : ℕ) (y : Object) → IsSmall q → is_local q ≡ true → source p st.body s.action s.edge q ≡ None → is_made (made_place s.action) q ≡ true
         → place_value p heap fr.method (frame_after p h fr s value).locals q ≡ value → root_of heap value ≡ Some o → object_at heap o ≡ Some y → is_heavy_class p y.class ≡ true
-        → IsUnowned p heap false frs (frame_after p h fr s value) q o y
+        → IsUnowned p heap false false frs (frame_after p h fr s value) q o y
     given q o y small local none there is found' at heavy = by e refl found'
       where
-        by : (x : Option ClassId) → e ≡ x → root_of heap (thrown_value h x made) ≡ Some o → IsUnowned p heap false frs (frame_after p h fr s value) q o y
+        by : (x : Option ClassId) → e ≡ x → root_of heap (thrown_value h x made) ≡ Some o → IsUnowned p heap false false frs (frame_after p h fr s value) q o y
         by (Some c) same found =
             let number : next_number h ≡ o = sym next_root ∙ (let both : root_of heap (values.Object (next_number h)) ≡ Some o = found in cc) in
             absurd (true≢false (sym heavy ∙ light c y same (ap (object_at heap) number ∙ at)))
         by None same found = elim (gives q same none there) [
           | inl nothing ↦ absurd (true≢false (sym heavy ∙ nothing o y found at))
-          | inr birth ↦ born_unowned p heap frs (frame_after p h fr s value) q o y birth.0 (fact_at q modes.None no_names true)
-              (born_covers p heap fr st i s here (frame_after p h fr s value) frs q o y birth.0 modes.None true refl refl small local birth.1
-              (ap (root_of heap) is ∙ found') (λ m. ap (is_lent p m) birth.2 ∙ read_unlent p m) refl (λ claimed. absurd (true≢false (sym claimed ∙ unclaimed (is_heavy_class p birth.0.class)))))
+          | inr birth ↦ born_unowned p heap false frs (frame_after p h fr s value) q o y birth.0 (fact_at q modes.None no_names true)
+              (born_covers p heap fr st i s here (frame_after p h fr s value) frs false q o y birth.0 modes.None true refl refl small local birth.1
+              (ap (root_of heap) is ∙ found') (λ m. ap (is_lent p m) birth.2 ∙ read_unlent p m) refl not_lent_none (ap is_this_origin birth.2) (λ claimed. absurd (true≢false (sym claimed ∙ unclaimed (is_heavy_class p birth.0.class)))))
               (unclaimed (is_heavy_class p birth.0.class))
         ]
           where
@@ -241,16 +241,16 @@ module _ (p : Program) (ac : Accept p) (forms : HasPlainForms p) (h : HeapConten
             unclaimed true = refl
             unclaimed false = refl
 
-    pub inner_covered : IsCovered p heap gives_none frs (frame_after p h fr s value)
-    inner_covered = top_covered p ac h heap links carries fields fr st i s here r inside (keeps_roots p h heap roots fr inside) value frs gives_none covered (all_ready p h heap unfinished fr) gifts
-        (stays_apart p None (length frs + 1) h heap (owners_go (length frs + 1)) (length frs + 1) fr (omega arith) (λ w none this. no_object_into w none))
+    pub inner_covered : IsCovered p heap gives_none renews_none frs (frame_after p h fr s value)
+    inner_covered = top_covered p ac h heap links carries fields fr st i s here r inside (keeps_roots p h heap roots fr inside) value frs gives_none renews_none covered (all_ready p h heap unfinished fr) gifts
+        (stays_apart p None (length frs + 1) h heap (owners_go (length frs + 1)) frs fr (omega arith) (λ w none this. no_object_into w none))
         (λ o f g. Unit {0})
         (λ o x c q is. after_as (GoesAs c.fact (places_after p st.number s.action s.edge c.fact.places) (called_after p st.number s.action s.edge c.fact))
         (λ (g : Fact). GoesAs c.fact (places_after p st.number s.action s.edge c.fact.places) (called_after p st.number s.action s.edge c.fact) g × Unit {0})
         (flow p st.number c.origin s.action s.edge c.fact) (λ g goes. (goes, tt))
         (other_steps p st.number c.origin s.action s.edge c.fact q row (not_null p h fr o c.fact s.action s.edge r.small c.places test) is))
-        (λ o x y c before at g more trusted stays done goes wide some owes was.
-        ap (λ (t : Names). set.is_subset t y.called) (same_names p st.number s.action s.edge c.fact row (not_null p h fr o c.fact s.action s.edge r.small c.places test))
+        (λ o x y c before at g more trusted stays old done goes some owes names less was.
+        ap (λ (t : Names). set.is_subset t names) (same_names p st.number s.action s.edge c.fact row (not_null p h fr o c.fact s.action s.edge r.small c.places test))
         ∙ was)
         (λ o x c before some owes gives. absurd (true≢false (sym gives ∙ row_gives_none p s.action s.edge c.fact.places row)))
         (λ o x y c key before at heavy owes g more own. (refl, (λ done mine. same_owner o x y before at ∙ mine)))

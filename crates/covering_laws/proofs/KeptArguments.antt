@@ -1,7 +1,7 @@
 -- A constructor with an aliased argument stores that argument alone, and as it ends normally an owning field of `this` holds it.
 use Rattle.std.proofs.Common.{◌≡◌, ℕ, zero, suc, ◌+◌, ◌<◌, Bool, true, false, true≢false, not, ◌&&◌, ◌||◌, nat_eq, eq-eqb, arith, Option, Some, None, List, slice_get, refl, sym, ap, ◌∙◌, subst, if◌then◌else◌}
 use Rattle.std.specs.FinSet as set
-use Rattle.std.proofs.lemmas.Bool.{or_right}
+use Rattle.std.proofs.lemmas.Bool.{and_from, or_right}
 use Rattle.program_model.specs.declared.kinds.BodyId.{BodyId}
 use Rattle.program_model.specs.declared.kinds.ClassId.{ClassId}
 use Rattle.program_model.specs.declared.kinds.FieldId.{FieldId}
@@ -10,9 +10,9 @@ use Rattle.program_model.specs.declared.program.Field.{Field}
 use Rattle.program_model.specs.declared.program.Method.{Method}
 use Rattle.program_model.specs.declared.program.Program.{Program}
 use Rattle.program_model.specs.Lookups.{field_at, method_at}
-use Rattle.ledger_obligations.specs.Bodies.{alias_position, constructs, is_class_of, is_constructor}
+use Rattle.ledger_obligations.specs.Bodies.{alias_position, constructs, is_alias_constructor, is_class_of, is_constructor}
 use Rattle.ledger_obligations.specs.MustCallSets.{fits_type, is_heavy_class, must_of, must_of_optional, must_of_type}
-use Rattle.ownership_rules.specs.Signatures.{type_at, type_of_field}
+use Rattle.ownership_rules.specs.Signatures.{is_present, type_at, type_of_field}
 use Rattle.java_control.specs.Control.{Step}
 use Rattle.java_control.specs.Owned.{field_number, place_of_field}
 use Rattle.java_control.specs.declared.action.Action.{Action}
@@ -44,24 +44,24 @@ use Rattle.ledger_state.specs.declared.value.Value.{Value}
 use Rattle.ledger_state.specs.declared.value.Value.TheVariants as values
 use Rattle.value_laws.specs.Places.{field_place_value, owning_field_beside}
 use Rattle.value_laws.specs.Configuration.{Frame}
-use Rattle.value_laws.specs.Choosing.{frame_steps}
+use Rattle.value_laws.specs.Choosing.{body_id, frame_steps}
 use Rattle.value_laws.specs.Agreement.{Stands}
 use Rattle.value_laws.specs.PlainForms.{HasPlainForms}
-use Rattle.value_laws.specs.PlaceFacts.{Covers, IsCovered, fits_in, gives_none, is_heavy_in, may_owe}
+use Rattle.value_laws.specs.PlaceFacts.{Covers, IsCovered, fits_in, gives_none, is_heavy_in, may_owe, renews_none}
 use Rattle.value_laws.proofs.SetLaws.{has_copied}
 use Rattle.value_laws.specs.Outcomes.{IsFault}
 use Rattle.value_laws.specs.FactGoing.{left, taken}
 use Rattle.value_laws.proofs.FieldPlaces.{IsBeside, place_of_beside}
 use Rattle.value_laws.specs.Typed.{GivesResult, NamesMembers}
 use Rattle.value_laws.proofs.Reached.{typed_step}
-use Rattle.value_laws.proofs.KeptFacts.{held_is_argument}
+use Rattle.value_laws.proofs.KeptFacts.{held_is_argument, this_stays}
 use Rattle.value_laws.proofs.FactOrigins.{parameters_own}
-use Rattle.covering_laws.proofs.Following.{breaks_nothing, step_there}
+use Rattle.covering_laws.proofs.Following.{breaks_nothing, method_here, same_body, step_there}
 use Rattle.covering_laws.proofs.HeavyFields.{HasPlace}
 use Rattle.covering_laws.proofs.HeavyFields as fields
 use Rattle.covering_laws.proofs.Storing as stores
 use Rattle.covering_laws.proofs.Constructors.{aliased, gives_nothing, heavy_here, in_body, parameter_holds, reached, spoken, type_here, variable_small}
-use Rattle.covering_laws.proofs.Resets.{no_resets}
+use Rattle.covering_laws.proofs.Resets.{this_elsewhere}
 
 -- the set has one of n places of fields from number k on
 some_field : (held : PlaceSet) (k n : ℕ) → has_field_from held k n ≡ true → (j : ℕ) × (j < k + n) × (has held (places.Field j) ≡ true)
@@ -98,50 +98,62 @@ one_value x y is = cc
 itself : (n : ℕ) → nat_eq n n ≡ true
 itself n = eq-eqb n n refl
 
-module _ (p : Program) (ac : Accept p) (h : HeapContents) (frs : List Frame) (fr : Frame) (st : Stands p fr) (covered : IsCovered p h gives_none frs fr) (i : ℕ) (s : Step) (v o : ℕ) (x : Object) (m : Method) (named : method_at p fr.method ≡ Some m)
-    (here : slice_get (frame_steps p fr) i ≡ Some s) (makes : constructs (method_at p fr.method) ≡ true) (alias : alias_position p st.number ≡ Some (suc v)) (at : object_at h o ≡ Some x)
-    (heavy : is_heavy_class p x.class ≡ true) (owes' : may_owe x ≡ true) where
-  -- ---- a store
+-- ---- a store
 
-  stored_argument : HasPlainForms p → (d : ℕ) (f : FieldId) → s.action ≡ actions.PutOwn f d → is_heavy_in p (Some f) ≡ true → root_of h (temp_value fr.locals d) ≡ Some o → root_of h (variable_value fr.locals v) ≡ Some o
-  stored_argument forms d f is wide root = by (stores.goes p ac forms h frs fr st covered i d s f here is o x cover (place_of_field p f) joins)
+-- what a constructor with an aliased argument stores in a field whose type has an obligation is in a fact of that argument
+module _ (p : Program) (ac : Accept p) (forms : HasPlainForms p) (h : HeapContents) (frs : List Frame) (fr : Frame) (st : Stands p fr) (covered : IsCovered p h gives_none renews_none frs fr) (i d : ℕ) (s : Step) (f : FieldId) (o : ℕ) (x : Object)
+    (here : slice_get (frame_steps p fr) i ≡ Some s) (is : s.action ≡ actions.PutOwn f d) (m : Method) (of : method_at p st.body.method ≡ Some m) (aliased' : is_alias_constructor p st.number ≡ true) (wide : is_heavy_in p (Some f) ≡ true)
+    (root : root_of h (temp_value fr.locals d) ≡ Some o) (at : object_at h o ≡ Some x) (heavy : is_heavy_class p x.class ≡ true) (owes' : may_owe x ≡ true) where
+  room : IsSmallAction p (actions.PutOwn f d)
+  room = stores.small p ac forms h frs fr st covered i d s f here is
+
+  mine : HasPlace p fr f
+  mine = stores.there p ac forms h frs fr st covered i d s f here is
+
+  stored : (c : Covers p h false false frs fr o x) × (has c.fact.places (places.Temp d) ≡ true)
+  stored = fields.covered_at p h false false frs fr (places.Temp d) o x (covered (places.Temp d) o x room.0 root at heavy owes')
+
+  abbrev cover : Covers p h false false frs fr o x
+  cover = stored.0
+
+  reached_there : Reach p st.number (relation_of p st.number) cover.origin fr.control cover.fact
+  reached_there = subst (λ (b : BodyId). Reach p b (relation_of p b) cover.origin fr.control cover.fact) (same_body cover.body st.number (body_id p fr.method) cover.id st.id) cover.reached
+
+  joins : has (stores.now p ac forms h frs fr st covered i d s f here is o x cover) (place_of_field p f) ≡ true
+  joins = has_copied cover.fact.places (place_of_field p f) (places.Temp d) (place_of_field p f) room.1 room.1 ∙ rw (itself (field_number p f)) stored.1
+
+  of_argument : is_origin_at cover.origin.kind (alias_position p st.number) ≡ true
+  of_argument = by (stores.goes p ac forms h frs fr st covered i d s f here is o x cover (place_of_field p f) joins)
     where
-      room : IsSmallAction p (actions.PutOwn f d)
-      room = stores.small p ac forms h frs fr st covered i d s f here is
-
-      mine : HasPlace p fr f
-      mine = stores.there p ac forms h frs fr st covered i d s f here is
-
-      found : (c : Covers p h false frs fr o x) × (has c.fact.places (places.Temp d) ≡ true)
-      found = fields.covered_at p h false frs fr (places.Temp d) o x (covered (places.Temp d) o x room.0 root at heavy owes')
-
-      cover : Covers p h false frs fr o x
-      cover = found.0
-
-      joins : has (stores.now p ac forms h frs fr st covered i d s f here is o x cover) (place_of_field p f) ≡ true
-      joins = has_copied cover.fact.places (place_of_field p f) (places.Temp d) (place_of_field p f) room.1 room.1 ∙ rw (itself (field_number p f)) found.1
-
-      its_parameter : is_origin_at cover.origin.kind (alias_position p st.number) ≡ true → root_of h (variable_value fr.locals v) ≡ Some o
-      its_parameter = parameter_holds p ac fr st m named v makes alias h frs o x cover
-
-      held_already : (b : Bool) → has cover.fact.places (place_of_field p f) ≡ b → (has cover.fact.places (place_of_field p f) ≡ false → is_heavy_store p cover.origin f ≡ false) → root_of h (variable_value fr.locals v) ≡ Some o
+      held_already : (b : Bool) → has cover.fact.places (place_of_field p f) ≡ b → (has cover.fact.places (place_of_field p f) ≡ false → is_heavy_store p cover.origin f ≡ false) → is_origin_at cover.origin.kind (alias_position p st.number) ≡ true
       held_already true in' light =
           let owned = cover.held (field_number p f) mine.small in' (fields.heavy_here p h fr f mine wide) in
-          its_parameter (held_is_argument p ac st.number st.body m st.at (in_body p ac fr st m named v makes alias) (aliased p ac fr st m named v makes alias) (no_resets p forms st.number) cover.origin fr.control cover.fact
-          (reached p ac fr st m named v makes alias h frs o x cover) owned.0)
+          held_is_argument p ac st.number st.body m st.at of aliased' (this_elsewhere p forms st.number) cover.origin fr.control cover.fact reached_there owned.0
       held_already false out light = absurd (true≢false (sym (or_right (is_heavy_class p cover.origin.class) (is_heavy_in p (Some f)) wide) ∙ light out))
 
-      by : (g : Fact) × Reach p st.number (relation_of p st.number) cover.origin s.to g × stores.Goes p ac forms h frs fr st covered i d s f here is o x cover g → root_of h (variable_value fr.locals v) ≡ Some o
-      by (g, reach, (same, taken reset called full t)) = its_parameter (t.alias (aliased p ac fr st m named v makes alias))
-      by (g, reach, (same, left reset called full l)) = held_already (has cover.fact.places (place_of_field p f)) refl (l.light found.1)
+      by : (g : Fact) × Reach p st.number (relation_of p st.number) cover.origin s.to g × stores.Goes p ac forms h frs fr st covered i d s f here is o x cover g → is_origin_at cover.origin.kind (alias_position p st.number) ≡ true
+      by (g, reach, (same, taken reset called full t)) = t.alias aliased'
+      by (g, reach, (same, left reset called full l)) = held_already (has cover.fact.places (place_of_field p f)) refl (l.light stored.1)
+
+  -- where that is `this`, it is the object of `this`
+  of_this : alias_position p st.number ≡ Some 0 → root_of h fr.locals.this ≡ Some o
+  of_this alias = cover.places places.This tt (this_stays p ac st.number st.body m st.at of cover.origin fr.control cover.fact reached_there (ap (is_origin_at cover.origin.kind) (sym alias) ∙ of_argument))
+
+module _ (p : Program) (ac : Accept p) (h : HeapContents) (frs : List Frame) (fr : Frame) (st : Stands p fr) (covered : IsCovered p h gives_none renews_none frs fr) (i : ℕ) (s : Step) (v o : ℕ) (x : Object) (m : Method) (named : method_at p fr.method ≡ Some m)
+    (here : slice_get (frame_steps p fr) i ≡ Some s) (makes : constructs (method_at p fr.method) ≡ true) (alias : alias_position p st.number ≡ Some (suc v)) (at : object_at h o ≡ Some x)
+    (heavy : is_heavy_class p x.class ≡ true) (owes' : may_owe x ≡ true) where
+  stored_argument : HasPlainForms p → (d : ℕ) (f : FieldId) → s.action ≡ actions.PutOwn f d → is_heavy_in p (Some f) ≡ true → root_of h (temp_value fr.locals d) ≡ Some o → root_of h (variable_value fr.locals v) ≡ Some o
+  stored_argument forms d f is wide root =
+      parameter_holds p ac fr st m named v makes alias h frs o x (cover p ac forms h frs fr st covered i d s f o x here is m (in_body p ac fr st m named v makes alias) (aliased p ac fr st m named v makes alias) wide root at heavy owes')
+      (of_argument p ac forms h frs fr st covered i d s f o x here is m (in_body p ac fr st m named v makes alias) (aliased p ac fr st m named v makes alias) wide root at heavy owes')
 
   -- ---- a normal end
 
   module _ (q : Completion) (is : s.action ≡ actions.End q) (normal : is_throw q ≡ false) (root : root_of h (variable_value fr.locals v) ≡ Some o) where
-    found : (c : Covers p h false frs fr o x) × (has c.fact.places (places.Var v) ≡ true)
-    found = fields.covered_at p h false frs fr (places.Var v) o x (covered (places.Var v) o x (variable_small p ac fr st m named v makes alias) root at heavy owes')
+    found : (c : Covers p h false false frs fr o x) × (has c.fact.places (places.Var v) ≡ true)
+    found = fields.covered_at p h false false frs fr (places.Var v) o x (covered (places.Var v) o x (variable_small p ac fr st m named v makes alias) root at heavy owes')
 
-    abbrev c : Covers p h false frs fr o x
+    abbrev c : Covers p h false false frs fr o x
     c = found.0
 
     way : Reach p st.number (relation_of p st.number) c.origin fr.control c.fact
@@ -227,14 +239,23 @@ makes_some : (m : Option Method) → constructs m ≡ true → (x : Method) × (
 makes_some None none = absurd (true≢false (sym none))
 makes_some (Some x) is = (x, refl)
 
-pub argument_alone : (p : Program) → Accept p → HasPlainForms p → (h : HeapContents) (frs : List Frame) (fr : Frame) → (st : Stands p fr) → IsCovered p h gives_none frs fr → (i d : ℕ) (s : Step) (f : FieldId) (o : ℕ) (x : Object) (v : ℕ)
+pub argument_alone : (p : Program) → Accept p → HasPlainForms p → (h : HeapContents) (frs : List Frame) (fr : Frame) → (st : Stands p fr) → IsCovered p h gives_none renews_none frs fr → (i d : ℕ) (s : Step) (f : FieldId) (o : ℕ) (x : Object) (v : ℕ)
     → slice_get (frame_steps p fr) i ≡ Some s → s.action ≡ actions.PutOwn f d → constructs (method_at p fr.method) ≡ true → alias_position p st.number ≡ Some (suc v) → is_heavy_in p (Some f) ≡ true
     → root_of h (temp_value fr.locals d) ≡ Some o → object_at h o ≡ Some x → is_heavy_class p x.class ≡ true → may_owe x ≡ true → root_of h (variable_value fr.locals v) ≡ Some o
 argument_alone p ac forms h frs fr st covered i d s f o x v here is makes alias wide root at heavy owes' =
     let named = makes_some (method_at p fr.method) makes in
     stored_argument p ac h frs fr st covered i s v o x named.0 named.1 here makes alias at heavy owes' forms d f is wide root
 
-pub field_holds : (p : Program) → Accept p → (h : HeapContents) (frs : List Frame) (fr : Frame) → (st : Stands p fr) → IsCovered p h gives_none frs fr → (i : ℕ) (s : Step) (q : Completion) (v w o : ℕ) (x : Object) (m : Method)
+-- where the receiver is marked as aliased, only it is stored
+pub this_alone : (p : Program) → Accept p → HasPlainForms p → (h : HeapContents) (frs : List Frame) (fr : Frame) → (st : Stands p fr) → IsCovered p h gives_none renews_none frs fr → (i d : ℕ) (s : Step) (f : FieldId) (o : ℕ) (x : Object)
+    → slice_get (frame_steps p fr) i ≡ Some s → s.action ≡ actions.PutOwn f d → constructs (method_at p fr.method) ≡ true → alias_position p st.number ≡ Some 0 → is_heavy_in p (Some f) ≡ true
+    → root_of h (temp_value fr.locals d) ≡ Some o → object_at h o ≡ Some x → is_heavy_class p x.class ≡ true → may_owe x ≡ true → root_of h fr.locals.this ≡ Some o
+this_alone p ac forms h frs fr st covered i d s f o x here is makes alias wide root at heavy owes' =
+    let named = makes_some (method_at p fr.method) makes in
+    of_this p ac forms h frs fr st covered i d s f o x here is named.0 (ap (method_at p) st.method ∙ named.1)
+    (and_from (is_constructor p st.number) (is_present (alias_position p st.number)) (ap constructs (method_here p fr st) ∙ makes) (ap is_present alias)) wide root at heavy owes' alias
+
+pub field_holds : (p : Program) → Accept p → (h : HeapContents) (frs : List Frame) (fr : Frame) → (st : Stands p fr) → IsCovered p h gives_none renews_none frs fr → (i : ℕ) (s : Step) (q : Completion) (v w o : ℕ) (x : Object) (m : Method)
     → slice_get (frame_steps p fr) i ≡ Some s → s.action ≡ actions.End q → is_throw q ≡ false → method_at p fr.method ≡ Some m → constructs (method_at p fr.method) ≡ true
     → alias_position p st.number ≡ Some (suc v) → fr.locals.this ≡ values.Object w → root_of h (variable_value fr.locals v) ≡ Some o → object_at h o ≡ Some x → is_heavy_class p x.class ≡ true → may_owe x ≡ true
     → (f : FieldId) × (field : Field) × (field_at p f ≡ Some field) × (field.owning ≡ true) × (is_class_of field.class (method_at p fr.method) ≡ true)

@@ -3,15 +3,15 @@
 use Rattle.std.proofs.Common.{◌≡◌, ℕ, suc, ◌<◌, Bool, true, false, Option, Some, None, List, [], ◌∷◌, slice_get, lt-ltb, nat_lt, refl, sym, ap, ◌∙◌, subst, true≢false, if◌then◌else◌}
 use Rattle.std.specs.FinSet as set
 use Rattle.rlc_base.specs.declared.name_id.NameId.{NameId}
-use Rattle.rlc_base.proofs.SetLaws.{empty_within, insert_within, union_within}
+use Rattle.rlc_base.proofs.SetLaws.{empty_within, insert_within, union_within, within_trans}
 use Rattle.program_model.specs.declared.kinds.BodyId.{BodyId}
 use Rattle.program_model.specs.declared.kinds.MethodId.{MethodId}
 use Rattle.program_model.specs.declared.program.Program.{Program}
 use Rattle.program_model.specs.declared.program.Promise.{Promise}
 use Rattle.ledger_obligations.specs.Bodies.{promises_in, throwing_promises_in}
-use Rattle.ledger_obligations.specs.MustCallSets.{Names}
+use Rattle.ledger_obligations.specs.MustCallSets.{Names, no_names}
 use Rattle.ownership_rules.specs.Signatures.{when}
-use Rattle.java_control.specs.Calls.{is_reset_of_this, operand_at}
+use Rattle.java_control.specs.Calls.{operand_at}
 use Rattle.java_control.specs.declared.action.Action.{Action}
 use Rattle.java_control.specs.declared.action.Action.TheVariants as actions
 use Rattle.java_control.specs.declared.action.Edge.{Edge}
@@ -22,7 +22,7 @@ use Rattle.ownership_rules.specs.Callees.{callee, holds_operand, is_super_target
 use Rattle.ownership_rules.specs.Facts.{PlaceSet, has, has_temp}
 use Rattle.ownership_rules.specs.SmallActions.{IsSmallAction, IsSmallTemp}
 use Rattle.ownership_rules.proofs.SmallOperands.{operand_has_room}
-use Rattle.value_laws.specs.CalledRows.{called_after, called_at_call, called_by, holds_receiver, holds_target, interest_in, promised_at, promises_at, with_name}
+use Rattle.value_laws.specs.CalledRows.{called_after, called_at_call, called_by, holds_receiver, holds_target, interest_in, is_emptied, promised_at, promises_at, with_name}
 use Rattle.ledger_state.specs.Contents.{HeapContents}
 use Rattle.ledger_state.specs.Heaps.{root_of}
 use Rattle.ledger_state.specs.Locals.{temp_in, temp_value}
@@ -104,6 +104,11 @@ pub all_kept : (p : Program) (b : BodyId) (a : Action) (held : PlaceSet) (names 
 all_kept p b a held names [] each = tt
 all_kept p b a held names (x ∷ xs) each = (each 0 x refl, all_kept p b a held names xs (λ j q is. each (suc j) q is))
 
+-- they are kept among more names
+pub kept_further : (p : Program) (b : BodyId) (a : Action) (held : PlaceSet) (names more : Names) (xs : List Promise) → set.is_subset names more ≡ true → AreKept p b a held names xs → AreKept p b a held more xs
+kept_further p b a held names more [] less kept = tt
+kept_further p b a held names more (x ∷ xs) less kept = ((λ holds. within_trans x.names names more (kept.0 holds) less), kept_further p b a held names more xs less kept.1)
+
 -- a signature that promises nothing promises nothing at an edge
 pub none_promised : (p : Program) (a : Action) (e : Edge) → promises_in (callee p a) ≡ [] → throwing_promises_in (callee p a) ≡ [] → promises_at p a e ≡ []
 none_promised p a edges.Go none thrown = none
@@ -126,19 +131,23 @@ promised_names_kept p b a held names (x ∷ xs) kept =
     go true is = kept.0 is
     go false is = empty_within names
 
-both_known : (p : Program) (b : BodyId) (a : Action) (e : Edge) (f : Fact) (names : Names) → is_reset_of_this p a ≡ false → set.is_subset f.called names ≡ true
+both_known : (p : Program) (b : BodyId) (a : Action) (e : Edge) (f : Fact) (names : Names) → set.is_subset f.called names ≡ true
     → ((n : NameId) → holds_receiver a f.places ≡ true → interest_in (callee p a) ≡ Some n → set.contains names n.0 ≡ true)
     → AreKept p b a f.places names (promises_at p a e) → set.is_subset (called_by p b a e f) names ≡ true
-both_known p b a e f names no_reset known noted kept =
-    rw no_reset (union_within (called_at_call p a f.places f.called) (promised_at p b a f.places (promises_at p a e)) names
-    (own_name p a f.places f.called names known noted) (promised_names_kept p b a f.places names (promises_at p a e) kept))
+both_known p b a e f names known noted kept = go (is_emptied p a f.places)
+  where
+    go : (x : Bool) → set.is_subset (if x then no_names else set.union (called_at_call p a f.places f.called) (promised_at p b a f.places (promises_at p a e))) names ≡ true
+    go true = empty_within names
+    go false =
+        union_within (called_at_call p a f.places f.called) (promised_at p b a f.places (promises_at p a e)) names
+        (own_name p a f.places f.called names known noted) (promised_names_kept p b a f.places names (promises_at p a e) kept)
 
 -- all names that the fact knows after the call
-pub known_after_call : (p : Program) (b : BodyId) (a : Action) (e : Edge) (f : Fact) (names : Names) → IsCallRow a → is_reset_of_this p a ≡ false → set.is_subset f.called names ≡ true
+pub known_after_call : (p : Program) (b : BodyId) (a : Action) (e : Edge) (f : Fact) (names : Names) → IsCallRow a → set.is_subset f.called names ≡ true
     → ((n : NameId) → holds_receiver a f.places ≡ true → interest_in (callee p a) ≡ Some n → set.contains names n.0 ≡ true)
     → AreKept p b a f.places names (promises_at p a e) → set.is_subset (called_after p b a e f) names ≡ true
-known_after_call p b actions.Skip e f names row no_reset known noted kept = absurd row
-known_after_call p b (actions.Call m d n form) e f names row no_reset known noted kept = both_known p b (actions.Call m d n form) e f names no_reset known noted kept
-known_after_call p b (actions.New m d n) e f names row no_reset known noted kept = both_known p b (actions.New m d n) e f names no_reset known noted kept
-known_after_call p b (actions.Super m d n) e f names row no_reset known noted kept = both_known p b (actions.Super m d n) e f names no_reset known noted kept
-known_after_call p b a e f names row no_reset known noted kept = absurd row
+known_after_call p b actions.Skip e f names row known noted kept = absurd row
+known_after_call p b (actions.Call m d n form) e f names row known noted kept = both_known p b (actions.Call m d n form) e f names known noted kept
+known_after_call p b (actions.New m d n) e f names row known noted kept = both_known p b (actions.New m d n) e f names known noted kept
+known_after_call p b (actions.Super m d n) e f names row known noted kept = both_known p b (actions.Super m d n) e f names known noted kept
+known_after_call p b a e f names row known noted kept = absurd row

@@ -7,6 +7,7 @@ pub mod Resets
 pub mod Constructors
 pub mod KeptArguments
 pub mod Owners
+pub mod RenewedFacts
 pub mod Waiting
 pub mod Gifts
 pub mod Lost
@@ -23,6 +24,8 @@ pub mod CallNotes
 pub mod CoveredArguments
 pub mod GivenAway
 pub mod GivenArguments
+pub mod WaitingTargets
+pub mod RenewedOperands
 pub mod CallSteps
 pub mod BegunFrames
 pub mod EntryBirths
@@ -32,7 +35,7 @@ pub mod PromisedFields
 pub mod OwnMethods
 pub mod ExistingResults
 pub mod LinkedExceptions
-pub mod Followed
+pub mod GivenAliases
 pub mod Texts
 pub mod LocalSteps
 pub mod AliasPlaces
@@ -49,6 +52,7 @@ pub mod ResetCovers
 pub mod ResetJoins
 pub mod StartOwners
 pub mod StartHeaps
+pub mod CallersWait
 pub mod StartJoins
 pub mod ResultOwners
 pub mod EndOwners
@@ -57,8 +61,12 @@ pub mod ParameterEnds
 pub mod EndNames
 pub mod OwnNames
 pub mod AliasResults
+pub mod LightResults
 pub mod EndResults
 pub mod EndJoins
+pub mod AnewAtEnds
+pub mod EndTargets
+pub mod ReturnResets
 pub mod BeingMade
 pub mod Runs
 pub mod RunStarts
@@ -71,7 +79,9 @@ pub use Rattle.value_laws.proofs.CallNames
 pub use Rattle.value_laws.proofs.CallWays
 pub use Rattle.value_laws.proofs.Calls
 pub use Rattle.value_laws.proofs.Carried
+pub use Rattle.value_laws.proofs.Readings
 pub use Rattle.value_laws.proofs.Cases
+pub use Rattle.value_laws.proofs.ClassArguments
 pub use Rattle.value_laws.proofs.Chains
 pub use Rattle.value_laws.proofs.Conducts
 pub use Rattle.value_laws.proofs.Configs
@@ -81,6 +91,8 @@ pub use Rattle.value_laws.proofs.DispatchOwners
 pub use Rattle.value_laws.proofs.Emptied
 pub use Rattle.value_laws.proofs.EndLaws
 pub use Rattle.value_laws.proofs.EndLinks
+pub use Rattle.value_laws.proofs.EndResets
+pub use Rattle.value_laws.proofs.ResetHeaps
 pub use Rattle.value_laws.proofs.Entries
 pub use Rattle.value_laws.proofs.EntryFacts
 pub use Rattle.value_laws.proofs.FactEnds
@@ -98,6 +110,8 @@ pub use Rattle.value_laws.proofs.HeapLaws
 pub use Rattle.value_laws.proofs.KeptFacts
 pub use Rattle.value_laws.proofs.Landing
 pub use Rattle.value_laws.proofs.LibraryCallLaws
+pub use Rattle.value_laws.proofs.LibraryRuns
+pub use Rattle.value_laws.proofs.GivenValues
 pub use Rattle.value_laws.proofs.Links
 pub use Rattle.value_laws.proofs.Moving
 pub use Rattle.value_laws.proofs.NameCounts
@@ -106,6 +120,7 @@ pub use Rattle.value_laws.proofs.NamedReached
 pub use Rattle.value_laws.proofs.Names
 pub use Rattle.value_laws.proofs.NoteLaws
 pub use Rattle.value_laws.proofs.NoteLists
+pub use Rattle.value_laws.proofs.ObjectClasses
 pub use Rattle.value_laws.proofs.ObjectLaws
 pub use Rattle.value_laws.proofs.Operations
 pub use Rattle.value_laws.proofs.Orders
@@ -132,4 +147,3 @@ pub use Rattle.value_laws.proofs.ThrownLaws
 pub use Rattle.value_laws.proofs.Tracking
 pub use Rattle.value_laws.proofs.TrackingGiven
 pub use Rattle.value_laws.proofs.Unmet
-pub use Rattle.value_laws.proofs.Unoverridden

@@ -17,7 +17,7 @@ use Rattle.value_laws.proofs.RangeValues.{place_in_range}
 use Rattle.value_laws.proofs.Ready.{ready, resets_plainly, step_there}
 use Rattle.value_laws.specs.Typed.{MovesLocals, NamesMembers}
 use Rattle.value_laws.proofs.Reached.{typed_step}
-pub use Rattle.covering_laws.proofs.Resets.{resets_nothing}
+use Rattle.covering_laws.proofs.Resets.{resets_elsewhere}
 use Rattle.covering_laws.proofs.TopSteps.{IsLocalStep}
 use Rattle.covering_laws.proofs.Waiting.{AllThere, HoldsThere}
 
@@ -37,7 +37,7 @@ module _ (p : Program) (ac : Accept p) (forms : HasPlainForms p) (fr : Frame) (s
         moves = λ x y is. (subst MovesLocals is typed.0).1;
         makes = λ x v is. subst MovesLocals is typed.0;
         target = r.target;
-        no_reset = resets_nothing p st.number fr.control s.action (resets_plainly p ac forms fr st i s here);
+        elsewhere = resets_elsewhere p st.number fr.control s.action (resets_plainly p ac forms fr st i s here);
         way = way;
       }
 

@@ -11,7 +11,7 @@ use Rattle.java_control.specs.declared.place.Place.TheVariants as places
 use Rattle.ledger_state.specs.Contents.{HeapContents}
 use Rattle.ledger_state.specs.Heaps.{object_at, root_of, same_root}
 use Rattle.ledger_state.specs.Locals as locals
-use Rattle.ledger_state.specs.Locals.{temp_value, variable_value}
+use Rattle.ledger_state.specs.Locals.{temp_value, variable_value, temp_in}
 use Rattle.ledger_state.specs.Values.{value_or_nothing}
 use Rattle.ledger_state.specs.declared.entry.Owner.{Owner}
 use Rattle.ledger_state.specs.declared.entry.Owner.TheVariants as owners
@@ -22,16 +22,21 @@ use Rattle.ledger_state.specs.declared.value.Value.TheVariants as values
 use Rattle.value_laws.specs.Places.{place_value}
 use Rattle.ledger_obligations.specs.Obligations.{with_owner}
 use Rattle.ledger_obligations.specs.Obligations.{end_frame, held_at, holds, is_frame, is_library_owner, is_unmet, lose, lost_object, owner_holds}
-use Rattle.ledger_steps.specs.LedgerCallsCalls.{operand_of}
+use Rattle.ledger_steps.specs.LedgerCallsCalls.{operand_of, depth_at}
 use Rattle.value_laws.specs.Configuration.{Frame, held_by}
 use Rattle.value_laws.specs.Heaps.{GoesOn}
 use Rattle.value_laws.proofs.EndLaws.{changed_back, frame_back, kept_goes_on}
 use Rattle.value_laws.proofs.HeapLaws.{root_of_changed}
-use Rattle.value_laws.specs.PlaceFacts.{AreCovered, AreWaiting, IsCovered, OwnersBelow, gives_none, is_field_of, is_frame_below, is_frame_from, is_given}
+use Rattle.value_laws.specs.PlaceFacts.{AreCovered, AreWaiting, IsCovered, OwnersBelow, gives_none, is_field_of, is_frame_below, is_frame_from, is_given, renews_none}
 use Rattle.covering_laws.proofs.Gifts.{gifts_same}
 use Rattle.covering_laws.proofs.Owners.{AllKeepGifts, KeepsGifts, KeepsOwn, KeepsOwners, given_kept, is_field_place}
 use Rattle.covering_laws.proofs.Waiting.{AllHeldBefore, IsCarried, KeepsReady, KeepsUnfinished, given_alike, same_place, stays_covered}
 use Rattle.covering_laws.proofs.LinkedExceptions.{LinkedWere}
+use Rattle.covering_laws.proofs.GivenAway.{at_any}
+use Rattle.value_laws.specs.Renewing.{renews, is_renewed, IsLentFrom}
+use Rattle.value_laws.proofs.Readings.{renewed_operand}
+use Rattle.java_control.specs.Control.{Step}
+use Rattle.value_laws.specs.Choosing.{frame_steps}
 
 -- ---- what a frame holds
 
@@ -175,21 +180,44 @@ module _ (p : Program) (k : HeapContents) (held : List (List Value)) where
       holds_it places.Super none is = absurd (let never : ◌≡◌ {A = Option ℕ} None (Some o) = is in cc)
       holds_it (places.Field n) none is = absurd (true≢false none)
 
-  keeps : (gives : ℕ → ClassId → Bool) (j : ℕ) (fr : Frame) → held_at held j ≡ locals.held fr.locals → KeepsOwners p k left gives j fr
-  keeps gives j fr there = record {
-    own = not_lost gives j fr there;
-    others = record {
-      apart = λ o x y before at done heavy none. apart_still j o x y before at none;
-      free = λ o x y before at done heavy none. apart_still 0 o x y before at none;
-      content = λ o x y before at done heavy plain own. content_still o x y fr.locals.this before at own;
-      low = λ o x y before at done heavy low. low_still j o x y before at low;
-    };
-  }
-
   -- what each of these frames holds stands at its position
   abbrev pub AreHeld : List Frame → Type 0
   AreHeld [] = Unit {0}
   AreHeld (fr ∷ frs) = (held_at held (length frs + 1) ≡ locals.held fr.locals) × AreHeld frs
+
+  -- a frame that waits for a call which creates an obligation anew holds the object
+  holds_renewed : (fr : Frame) (o : ℕ) → is_renewed p k fr o ≡ true → holds k (locals.held fr.locals) o ≡ true
+  holds_renewed fr o is =
+      let t = at_any (λ (s : Step). renews p k fr.locals s.action o) (frame_steps p fr) is in
+      let n = renewed_operand p k fr.locals t.1.action o t.3 in
+      by_depth (depth_at t.1.action n.0) n.2
+    where
+      by_depth : (d : Option ℕ) → root_of k (temp_in fr.locals d) ≡ Some o → holds k (locals.held fr.locals) o ≡ true
+      by_depth None is' = absurd (let never : ◌≡◌ {A = Option ℕ} None (Some o) = is' in cc)
+      by_depth (Some d) is' = held_value k fr.locals o (temp_value fr.locals d) (inr (d, refl)) is'
+
+  -- so what is lent is not lost
+  lent_kept : (frs : List Frame) → AreHeld frs → (o : ℕ) (x y : Object) → object_at k o ≡ Some x → object_at left o ≡ Some y → IsLentFrom p k frs o x.owner → y.owner ≡ x.owner
+  lent_kept [] there o x y before at is = absurd is
+  lent_kept (fr ∷ frs) there o x y before at is = elim is.1 [
+    | inl own ↦ elim (owner_after o x y before at) [
+      | inl same ↦ same
+      | inr lost ↦ absurd (true≢false (sym (ap (λ (vs : List Value). holds k vs o) there.0 ∙ holds_renewed fr o is.0) ∙ sym (ap (λ (a : Owner). owner_holds k held a o) own) ∙ lost.0))
+    ]
+    | inr further ↦ lent_kept frs there.1 o x y before at further
+  ]
+
+  keeps : (gives : ℕ → ClassId → Bool) (frs : List Frame) (fr : Frame) → held_at held (length frs + 1) ≡ locals.held fr.locals → AreHeld frs → KeepsOwners p k left gives frs fr
+  keeps gives frs fr there lower = record {
+    own = not_lost gives (length frs + 1) fr there;
+    others = record {
+      apart = λ o x y before at done heavy none. apart_still (length frs + 1) o x y before at none;
+      free = λ o x y before at done heavy none. apart_still 0 o x y before at none;
+      content = λ o x y before at done heavy plain own. content_still o x y fr.locals.this before at own;
+      low = λ o x y before at done heavy low. low_still (length frs + 1) o x y before at low;
+      keeps = λ o x y before at done heavy lent. lent_kept frs lower o x y before at lent;
+    };
+  }
 
   same_gifts : (fr : Frame) → KeepsGifts p k left fr
   same_gifts fr = gifts_same p k left fr (λ i s here n. root_stays (operand_of fr.locals s.action n))
@@ -198,18 +226,22 @@ module _ (p : Program) (k : HeapContents) (held : List (List Value)) where
   all_same_gifts [] = tt
   all_same_gifts (fr ∷ frs) = (same_gifts fr, all_same_gifts frs)
 
-  frame_lost : (gives : ℕ → ClassId → Bool) (frs : List Frame) (fr : Frame) → held_at held (length frs + 1) ≡ locals.held fr.locals → IsCovered p k gives frs fr → IsCovered p left gives frs fr
-  frame_lost gives frs fr there covered =
-      stays_covered p k left gives frs fr (λ q small. root_stays (place_value p k fr.method fr.locals q)) (λ q small. same_place p k left (λ w f own. refl) fr.method fr.locals q) (λ q o y small root at. carried o y at) (ready fr)
-      (given_kept p k left frs (all_same_gifts frs)) (keeps gives (length frs + 1) fr there) covered
+  frame_lost : (gives : ℕ → ClassId → Bool) (renewed : ℕ → Bool) (frs : List Frame) (fr : Frame) → held_at held (length frs + 1) ≡ locals.held fr.locals → AreHeld frs → IsCovered p k gives renewed frs fr → IsCovered p left gives renewed frs fr
+  frame_lost gives renewed frs fr there lower covered =
+      stays_covered p k left gives renewed frs fr (λ q small. root_stays (place_value p k fr.method fr.locals q)) (λ q small. same_place p k left (λ w f own. refl) fr.method fr.locals q) (λ q o y small root at. carried o y at) (ready fr)
+      (given_kept p k left frs (all_same_gifts frs)) (keeps gives frs fr there lower) covered
 
   waiting_lost : (frs : List Frame) → AreHeld frs → AreWaiting p k frs → AreWaiting p left frs
   waiting_lost [] there covered = tt
-  waiting_lost (fr ∷ frs) there covered = (given_alike p left (is_given p k fr) (is_given p left fr) frs fr (same_gifts fr) (frame_lost (is_given p k fr) frs fr there.0 covered.0), waiting_lost frs there.1 covered.1)
+  waiting_lost (fr ∷ frs) there covered = (
+    given_alike p left (is_given p k fr) (is_given p left fr) (is_renewed p k fr) (is_renewed p left fr) frs fr (λ o. (same_gifts fr o).0) (λ o. (same_gifts fr o).1)
+        (frame_lost (is_given p k fr) (is_renewed p k fr) frs fr there.0 there.1 covered.0),
+    waiting_lost frs there.1 covered.1,
+  )
 
   pub all_lost : (frs : List Frame) → AreHeld frs → AreCovered p k frs → AreCovered p left frs
   all_lost [] there covered = tt
-  all_lost (fr ∷ frs) there covered = (frame_lost gives_none frs fr there.0 covered.0, waiting_lost frs there.1 covered.1, lost_below (length frs + 1) covered.2)
+  all_lost (fr ∷ frs) there covered = (frame_lost gives_none renews_none frs fr there.0 there.1 covered.0, waiting_lost frs there.1 covered.1, lost_below (length frs + 1) covered.2)
 
 -- the frames of a run hold what they hold
 pub are_held : (p : Program) (k : HeapContents) (frs : List Frame) → AreHeld p k (held_by frs) frs

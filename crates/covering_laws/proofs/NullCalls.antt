@@ -34,7 +34,7 @@ use Rattle.value_laws.specs.PlainForms.{HasPlainForms}
 use Rattle.value_laws.specs.Nexts.{IsNullCall}
 use Rattle.value_laws.proofs.Ready.{call_sets}
 use Rattle.value_laws.proofs.Unmet.{way_of_call}
-use Rattle.value_laws.specs.PlaceFacts.{AreCovered, IsUnowned, gives_none}
+use Rattle.value_laws.specs.PlaceFacts.{AreCovered, IsUnowned, gives_none, renews_none}
 use Rattle.value_laws.specs.Ranges.{FieldsInRange, LocalsInRange}
 use Rattle.covering_laws.proofs.CallSteps.{call_covered}
 use Rattle.covering_laws.proofs.Gifts.{all_keep_gifts}
@@ -116,7 +116,7 @@ module _ (p : Program) (ac : Accept p) (forms : HasPlainForms p) (h : HeapConten
   local = local_step p ac forms fr st i s here (call_sets s.action call.row) (way_of_call s call.row)
 
   -- what the step makes is the exception
-  made : (frs : List Frame) (q : Place) (o : ℕ) (y : Object) → place_value p k fr.method after.locals q ≡ v → root_of k v ≡ Some o → object_at k o ≡ Some y → is_heavy_class p y.class ≡ true → IsUnowned p k false frs after q o y
+  made : (frs : List Frame) (q : Place) (o : ℕ) (y : Object) → place_value p k fr.method after.locals q ≡ v → root_of k v ≡ Some o → object_at k o ≡ Some y → is_heavy_class p y.class ≡ true → IsUnowned p k false false frs after q o y
   made frs q o y is root' at heavy =
       let number : next_number h ≡ o = (let both : Some (next_number h) ≡ Some o = sym (ap Some (exception_root p h links npe)) ∙ root' in (let one : next_number h ≡ o = cc in one)) in
       absurd (true≢false (sym heavy ∙ ap (is_heavy_class p) (exception_class_is p npe h y (ap (object_at k) number ∙ at)) ∙ null_pointer_is_light p ac))
@@ -133,11 +133,11 @@ module _ (p : Program) (ac : Accept p) (forms : HasPlainForms p) (h : HeapConten
     call_covered p ac h k links (thrown_carries p h links npe) (thrown_fields p h links npe) fr st i s here local
         (holds_there p h ranges fr (All-head (λ (x : Frame). LocalsInRange h x.locals) fr frs in'))
         (keeps_roots p h k (thrown_roots p h links npe) fr (holds_there p h ranges fr (All-head (λ (x : Frame). LocalsInRange h x.locals) fr frs in'))) v call.row
-        frs gives_none (λ o c gives. absurd (true≢false (sym gives))) covered.0 (all_ready p h k (thrown_unfinished p h links npe) fr) (given_kept p h k frs gifts)
-        (stays_apart p None (length frs + 1) h k (thrown_owners_go p (Some npe) h None (length frs + 1)) (length frs + 1) fr (omega arith) (λ w none this. no_object_into w none))
+        frs gives_none renews_none (λ o c gives. absurd (true≢false (sym gives))) covered.0 (all_ready p h k (thrown_unfinished p h links npe) fr) (given_kept p h k frs gifts)
+        (stays_apart p None (length frs + 1) h k (thrown_owners_go p (Some npe) h None (length frs + 1)) frs fr (omega arith) (λ w none this. no_object_into w none))
         (λ o x y before at done heavy kept mine. same_owner o x y before at ∙ mine)
-        (λ o x y n before at root' other interest stays done goes heavy owes. absurd (no_object h (operand_of fr.locals s.action 0) o call.null root'))
-        (λ o x y c before at g more trusted stays done goes wide some owes. none_kept c.fact.places y.called)
+        (λ o x y n before at root' other interest stays old done goes heavy owes. absurd (no_object h (operand_of fr.locals s.action 0) o call.null root'))
+        (λ o x y c before at g more trusted stays old done goes some owes names less was. none_kept c.fact.places names)
         (λ o x c before some owes gives. absurd (true≢false (sym gives ∙ null_gives_none p s.action s.edge c.fact.places call.target)))
         (λ q o y small local' none there is root' at heavy owes. inr (inl (made frs q o y is root' at heavy))),
     all_wait p h k links (thrown_roots p h links npe) (thrown_carries p h links npe) frs (all_keep p h k (thrown_fields p h links npe) frs)

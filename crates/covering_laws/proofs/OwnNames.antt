@@ -13,7 +13,7 @@ use Rattle.program_model.specs.declared.program.Program.{Program}
 use Rattle.program_model.specs.declared.program.Promise.{Promise}
 use Rattle.program_model.specs.Lookups.{field_at, method_at}
 use Rattle.program_model.specs.SuperTests.{is_class, is_under}
-use Rattle.ledger_obligations.specs.Bodies.{has_field_place, is_field_in, is_finalizer, is_finalizer_in, method_in, method_of}
+use Rattle.ledger_obligations.specs.Bodies.{constructs, has_field_place, is_constructor_kind, is_field_in, is_finalizer, is_finalizer_in, method_in, method_of}
 use Rattle.ledger_obligations.specs.MustCallSets.{is_empty, is_heavy_class, must_of, must_of_optional}
 use Rattle.ownership_rules.specs.Signatures.{is_of_field, promised_names, type_of_field}
 use Rattle.java_control.specs.Calls.{called_method}
@@ -46,7 +46,8 @@ use Rattle.value_laws.specs.Agreement.{HasMadeClasses, Stands}
 use Rattle.value_laws.specs.PlainForms.{HasPlainForms, run_by}
 use Rattle.covering_laws.specs.Covering.{HoldsHeavy, IsNotGiven}
 use Rattle.value_laws.specs.FieldContents.{IsDispatched, is_chosen_by_class, promised_on}
-use Rattle.value_laws.specs.PlaceFacts.{IsCovered, gives_none, may_owe}
+use Rattle.value_laws.specs.PlaceFacts.{IsCovered, gives_none, may_owe, renews_none}
+use Rattle.value_laws.proofs.Names.{of_interest}
 use Rattle.covering_laws.proofs.CoveredFieldLaws.{promises_are_kept_at_end}
 use Rattle.covering_laws.proofs.OwnMethods.{IsOwn, own, own_class, own_must, own_runs, promised_own}
 
@@ -62,7 +63,7 @@ chosen_by_note l a m n noted = go (form_of a) noted
 
 -- ---- the end of the call
 
-module _ (p : Program) (ac : Accept p) (forms' : HasPlainForms p) (h : HeapContents) (links : HasEarlierLinks h) (fr caller : Frame) (rest : List Frame) (st : Stands p fr) (covered : IsCovered p h gives_none (caller ∷ rest) fr)
+module _ (p : Program) (ac : Accept p) (forms' : HasPlainForms p) (h : HeapContents) (links : HasEarlierLinks h) (fr caller : Frame) (rest : List Frame) (st : Stands p fr) (covered : IsCovered p h gives_none renews_none (caller ∷ rest) fr)
     (i : ℕ) (s : Step) (q : Completion) (there : slice_get (frame_steps p fr) i ≡ Some s) (is : s.action ≡ actions.End q) (j : ℕ) (t : Step) (waits : slice_get (frame_steps p caller) j ≡ Some t)
     (named : MethodId) (n : Method) (called : called_method t.action ≡ Some named) (named_at : method_at p named ≡ Some n) (dispatched : IsDispatched p h fr caller) (name : NameId)
     (interest : n.sig.interest ≡ Some name) (chosen : is_chosen_by_class (form_of t.action) ≡ true) (o : ℕ) (y : Object) (now : object_at h o ≡ Some y) (heavy : is_heavy_class p y.class ≡ true)
@@ -83,6 +84,9 @@ module _ (p : Program) (ac : Accept p) (forms' : HasPlainForms p) (h : HeapConte
 
     method : method_at p fr.method ≡ Some d
     method = ap (method_at p) (run.0 ∙ own_runs p ac forms' x.class f field declared owning calls name one (made (values.Object k) x.class (ap class_in at)) named n named_at interest run.1) ∙ its.at
+
+    no_constructor : constructs (method_at p fr.method) ≡ false
+    no_constructor = ap constructs method ∙ ap is_constructor_kind (of_interest p ac.well_formed its.number d name its.at its.interest).instance
 
     body_method : method_of p st.number ≡ Some d
     body_method = ap (method_in p) st.at ∙ ap (method_at p) st.method ∙ method
@@ -108,7 +112,7 @@ module _ (p : Program) (ac : Accept p) (forms' : HasPlainForms p) (h : HeapConte
     }
 
     name_called : set.contains y.called name.0 ≡ true
-    name_called = within_at (promised_on f d) y.called (promises_are_kept_at_end p ac h (caller ∷ rest) fr st covered i s q d f k o y there is method place (inr finalizer) holds spared done) name.0
+    name_called = within_at (promised_on f d) y.called (promises_are_kept_at_end p ac h (caller ∷ rest) fr st covered i s q d f k o y there is method no_constructor place (inr finalizer) holds spared done) name.0
         (ap (λ (us : List Promise). set.contains (promised_names (λ u. is_of_field u f) us) name.0) (sym its.promises) ∙ promised_own p ac forms' x.class f field declared owning calls name one)
 
   -- a name that the link of the receiver stops was called on its root

@@ -1,6 +1,6 @@
 -- Who owns objects as a step goes, and what the frames were given.
 use Rattle.std.specs.Prelude.{nat_lt}
-use Rattle.std.proofs.Common.{◌≡◌, ℕ, ◌+◌, ◌<◌, ◌≤◌, Bool, true, false, not, ◌&&◌, ◌||◌, Option, Some, None, List, [], ◌∷◌, length, lt-ltb, ltb-true, refl, sym, ap, ◌∙◌, true≢false, arith}
+use Rattle.std.proofs.Common.{◌≡◌, ℕ, ◌+◌, ◌<◌, ◌≤◌, Bool, true, false, not, ◌&&◌, ◌||◌, Option, Some, None, List, [], ◌∷◌, length, lt-ltb, ltb-true, refl, sym, ap, ◌∙◌, subst, inl, inr, true≢false, arith}
 use Rattle.std.proofs.lemmas.Bool.{and_from, and_parts, or_left, or_right}
 use Rattle.std.proofs.lemmas.Bool.Decides.{nat_tests}
 use Rattle.program_model.specs.declared.kinds.ClassId.{ClassId}
@@ -25,6 +25,7 @@ use Rattle.value_laws.specs.Places.{place_value}
 use Rattle.value_laws.specs.Configuration.{Frame}
 use Rattle.value_laws.specs.FieldContents.{RunOnOthers}
 use Rattle.value_laws.specs.PlaceFacts.{is_apart, is_content, is_field_of, is_frame_below, is_frame_from, is_given, makes_alone, was_given}
+use Rattle.value_laws.specs.Renewing.{IsLentFrom, is_renewed, was_renewed}
 
 -- ---- the owner of an object, before a step and after it
 
@@ -49,27 +50,28 @@ is_field_place places.This = false
 is_field_place (places.Temp d) = false
 is_field_place places.Super = false
 
--- what is not owned by the frame at position `i` or one above does not come to be, nor does what no frame owns, nor does a field of `this`, in a frame
--- that runs no constructor, come to own anything
-pub record StaysApart (p : Program) (h k : HeapContents) (i : ℕ) (fr : Frame) : Type 0 where
-  pub apart : (o : ℕ) (x y : Object) → object_at h o ≡ Some x → object_at k o ≡ Some y → x.finished ≡ true → is_heavy_class p x.class ≡ true → is_frame_from i x.owner ≡ false → is_frame_from i y.owner ≡ false
+-- what is not owned by the frame above these or one above it does not come to be, nor does what no frame owns, nor does a field of `this`, in a frame
+-- that runs no constructor, come to own anything; what is lent to the frame keeps its owner
+pub record StaysApart (p : Program) (h k : HeapContents) (frs : List Frame) (fr : Frame) : Type 0 where
+  pub apart : (o : ℕ) (x y : Object) → object_at h o ≡ Some x → object_at k o ≡ Some y → x.finished ≡ true → is_heavy_class p x.class ≡ true → is_frame_from (length frs + 1) x.owner ≡ false → is_frame_from (length frs + 1) y.owner ≡ false
   pub free : (o : ℕ) (x y : Object) → object_at h o ≡ Some x → object_at k o ≡ Some y → x.finished ≡ true → is_heavy_class p x.class ≡ true → is_frame_from 0 x.owner ≡ false → is_frame_from 0 y.owner ≡ false
   pub content : (o : ℕ) (x y : Object) → object_at h o ≡ Some x → object_at k o ≡ Some y → x.finished ≡ true → is_heavy_class p x.class ≡ true → constructs (method_at p fr.method) ≡ false
       → is_field_of fr.locals.this y.owner ≡ true → is_field_of fr.locals.this x.owner ≡ true
-  pub low : (o : ℕ) (x y : Object) → object_at h o ≡ Some x → object_at k o ≡ Some y → x.finished ≡ true → is_heavy_class p x.class ≡ true → is_frame_below i y.owner ≡ true → is_frame_below i x.owner ≡ true
+  pub low : (o : ℕ) (x y : Object) → object_at h o ≡ Some x → object_at k o ≡ Some y → x.finished ≡ true → is_heavy_class p x.class ≡ true → is_frame_below (length frs + 1) y.owner ≡ true → is_frame_below (length frs + 1) x.owner ≡ true
+  pub keeps : (o : ℕ) (x y : Object) → object_at h o ≡ Some x → object_at k o ≡ Some y → x.finished ≡ true → is_heavy_class p x.class ≡ true → IsLentFrom p h frs o x.owner → y.owner ≡ x.owner
 
 -- what the frame at this position owns, and a variable, a temp or `this` of it holds, it goes on owning, where it is not given away
 abbrev pub KeepsOwn : Program → HeapContents → HeapContents → (ℕ → ClassId → Bool) → ℕ → Frame → Type 0
 KeepsOwn p h k gives i fr = (q : Place) (o : ℕ) (x y : Object) → IsSmall q → is_field_place q ≡ false → root_of h (place_value p h fr.method fr.locals q) ≡ Some o → object_at h o ≡ Some x → object_at k o ≡ Some y
     → x.finished ≡ true → is_heavy_class p x.class ≡ true → gives o x.class ≡ false → x.owner ≡ owners.Frame i → y.owner ≡ owners.Frame i
 
-pub record KeepsOwners (p : Program) (h k : HeapContents) (gives : ℕ → ClassId → Bool) (i : ℕ) (fr : Frame) : Type 0 where
-  pub own : KeepsOwn p h k gives i fr
-  pub others : StaysApart p h k i fr
+pub record KeepsOwners (p : Program) (h k : HeapContents) (gives : ℕ → ClassId → Bool) (frs : List Frame) (fr : Frame) : Type 0 where
+  pub own : KeepsOwn p h k gives (length frs + 1) fr
+  pub others : StaysApart p h k frs fr
 
 abbrev pub AllKeepOwners : Program → HeapContents → HeapContents → List Frame → Type 0
 AllKeepOwners p h k [] = Unit {0}
-AllKeepOwners p h k (fr ∷ frs) = KeepsOwners p h k (is_given p h fr) (length frs + 1) fr × AllKeepOwners p h k frs
+AllKeepOwners p h k (fr ∷ frs) = KeepsOwners p h k (is_given p h fr) frs fr × AllKeepOwners p h k frs
 
 -- ---- positions of frames
 
@@ -116,6 +118,17 @@ frame_below i owners.Released is = absurd (true≢false (sym is))
 frame_below i owners.Lost is = absurd (true≢false (sym is))
 frame_below i owners.Unowned is = absurd (true≢false (sym is))
 
+-- what is lent is owned by a frame below
+pub lent_below : (p : Program) (h : HeapContents) (frs : List Frame) (o : ℕ) (owner : Owner) → IsLentFrom p h frs o owner → is_frame_below (length frs + 1) owner ≡ true
+lent_below p h [] o owner is = absurd is
+lent_below p h (fr ∷ frs) o owner is = ap (λ (n : ℕ). is_frame_below n owner) (let number : length (fr ∷ frs) + 1 ≡ length frs + 1 + 1 = omega arith in number) ∙ elim is.1 [
+  | inl own ↦ ap (is_frame_below (length frs + 1 + 1)) own ∙ lt-ltb (length frs + 1) (length frs + 1 + 1) (omega arith)
+  | inr further ↦ higher (length frs + 1) owner (lent_below p h frs o owner further)
+]
+  where
+    higher : (n : ℕ) (a : Owner) → is_frame_below n a ≡ true → is_frame_below (n + 1) a ≡ true
+    higher n a low = (let low' = frame_below n a low in ap (is_frame_below (n + 1)) low'.1 ∙ lt-ltb low'.0 (n + 1) (let less = low'.2 in omega (arith, less)))
+
 -- ---- the frames below the position from which owners change
 
 -- no frame of these runs on that object
@@ -138,7 +151,10 @@ module _ (p : Program) (into : Option ℕ) (j : ℕ) (h k : HeapContents) (go_on
   apart_by i a b below (left none' then' fields) none = no_frame_from 0 i b (omega arith) then'
   apart_by i a b below (taken none' then' fields) none = no_frame_from 0 i b (omega arith) then'
 
-  module _ (i : ℕ) (fr : Frame) (below : i ≤ j) where
+  module _ (frs : List Frame) (fr : Frame) (below : length frs + 1 ≤ j) where
+    abbrev i : ℕ
+    i = length frs + 1
+
     apart_here : (n : ℕ) → n ≤ i → (o : ℕ) (x y : Object) → object_at h o ≡ Some x → object_at k o ≡ Some y → x.finished ≡ true → is_heavy_class p x.class ≡ true → is_frame_from n x.owner ≡ false → is_frame_from n y.owner ≡ false
     apart_here n under o x y before at done heavy none = apart_by n x.owner y.owner (omega (arith, below, under)) (go_on o x y before at done heavy) none
 
@@ -152,12 +168,23 @@ module _ (p : Program) (into : Option ℕ) (j : ℕ) (h k : HeapContents) (go_on
         by a b (left none then' fields) (n, is, less) = absurd (true≢false (sym (ap (is_frame_from 0) is ∙ from_frame 0 n (omega arith)) ∙ then'))
         by a b (taken none then' fields) (n, is, less) = absurd (true≢false (sym (ap (is_frame_from 0) is ∙ from_frame 0 n (omega arith)) ∙ then'))
 
+    -- what is lent to the frame keeps its owner
+    kept_here : (o : ℕ) (x y : Object) → object_at h o ≡ Some x → object_at k o ≡ Some y → x.finished ≡ true → is_heavy_class p x.class ≡ true → IsLentFrom p h frs o x.owner → y.owner ≡ x.owner
+    kept_here o x y before at done heavy lent = by x.owner y.owner (go_on o x y before at done heavy) (frame_below i x.owner (lent_below p h frs o x.owner lent))
+      where
+        by : (a b : Owner) → OwnerGoes into j a b → (n : ℕ) × (a ≡ owners.Frame n) × (n < i) → b ≡ a
+        by a b (stays same) (n, is, less) = same
+        by a b (passed from goes low') (n, is, less) = absurd (owned_below n j a is (omega (arith, below, less)) from)
+        by a b (left none then' fields) (n, is, less) = absurd (true≢false (sym (ap (is_frame_from 0) is ∙ from_frame 0 n (omega arith)) ∙ none))
+        by a b (taken none then' fields) (n, is, less) = absurd (true≢false (sym (ap (is_frame_from 0) is ∙ from_frame 0 n (omega arith)) ∙ none))
+
     -- a frame at this position or below
-    pub stays_apart : IsNotInto into fr.locals.this → StaysApart p h k i fr
+    pub stays_apart : IsNotInto into fr.locals.this → StaysApart p h k frs fr
     stays_apart other = record {
       apart = apart_here i (omega arith);
       free = apart_here 0 (omega arith);
       low = low_here;
+      keeps = kept_here;
       content = λ o x y before at done heavy plain own. content_by fr.locals.this refl x.owner y.owner (go_on o x y before at done heavy) own;
     }
       where
@@ -170,11 +197,12 @@ module _ (p : Program) (into : Option ℕ) (j : ℕ) (h k : HeapContents) (go_on
         content_by v this a b goes own = absurd (true≢false (sym own))
 
     -- so does one that runs a constructor
-    pub constructor_apart : constructs (method_at p fr.method) ≡ true → StaysApart p h k i fr
+    pub constructor_apart : constructs (method_at p fr.method) ≡ true → StaysApart p h k frs fr
     constructor_apart makes = record {
       apart = apart_here i (omega arith);
       free = apart_here 0 (omega arith);
       low = low_here;
+      keeps = kept_here;
       content = λ o x y before at done heavy plain own. absurd (true≢false (sym makes ∙ plain));
     }
 
@@ -192,36 +220,62 @@ module _ (p : Program) (into : Option ℕ) (j : ℕ) (h k : HeapContents) (go_on
   owners_kept [] below others = tt
   owners_kept (fr ∷ frs) below others =
       let rest = none_on into fr frs others in (
-        record { own = keeps_own (is_given p h fr) (length frs + 1) fr (omega (arith, below)); others = stays_apart (length frs + 1) fr (omega (arith, below)) rest.0 },
+        record { own = keeps_own (is_given p h fr) (length frs + 1) fr (omega (arith, below)); others = stays_apart frs fr (omega (arith, below)) rest.0 },
         owners_kept frs (omega (arith, below)) rest.1,
       )
 
--- ---- what frames were given
+-- ---- what frames were given, and which obligations the calls that began them create anew
 
--- the call at which the frame waits gives away what it gave
+-- the call at which the frame waits gives away what it gave, and it creates those obligations anew that it did
 abbrev pub KeepsGifts : Program → HeapContents → HeapContents → Frame → Type 0
-KeepsGifts p h k fr = (o : ℕ) (c : ClassId) → is_given p k fr o c ≡ is_given p h fr o c
+KeepsGifts p h k fr = (o : ℕ) → ((c : ClassId) → is_given p k fr o c ≡ is_given p h fr o c) × (is_renewed p k fr o ≡ is_renewed p h fr o)
 
 abbrev pub AllKeepGifts : Program → HeapContents → HeapContents → List Frame → Type 0
 AllKeepGifts p h k [] = Unit {0}
 AllKeepGifts p h k (fr ∷ frs) = KeepsGifts p h k fr × AllKeepGifts p h k frs
 
--- a frame above these was given what it was given
-abbrev pub KeepsGiven : Program → HeapContents → HeapContents → List Frame → Type 0
-KeepsGiven p h k frs = (o : ℕ) (c : ClassId) → was_given p k frs o c ≡ was_given p h frs o c
+-- a frame above these was given what it was given, and what was lent to it still is, as far as calls tell
+pub record KeepsGiven (p : Program) (h k : HeapContents) (frs : List Frame) : Type 0 where
+  pub given : (o : ℕ) (c : ClassId) → was_given p k frs o c ≡ was_given p h frs o c
+  pub renewed : (o : ℕ) → was_renewed p k frs o ≡ was_renewed p h frs o
+  pub lent : (o : ℕ) (owner : Owner) → IsLentFrom p h frs o owner → IsLentFrom p k frs o owner
 
 pub given_kept : (p : Program) (h k : HeapContents) (frs : List Frame) → AllKeepGifts p h k frs → KeepsGiven p h k frs
-given_kept p h k [] gifts o c = refl
-given_kept p h k (fr ∷ frs) gifts o c = gifts.0 o c
+given_kept p h k frs gifts = record { given = given frs gifts; renewed = renewed frs gifts; lent = λ o owner. lent frs gifts o owner }
+  where
+    given : (rest : List Frame) → AllKeepGifts p h k rest → (o : ℕ) (c : ClassId) → was_given p k rest o c ≡ was_given p h rest o c
+    given [] same o c = refl
+    given (fr ∷ rest) same o c = (same.0 o).0 c
+
+    renewed : (rest : List Frame) → AllKeepGifts p h k rest → (o : ℕ) → was_renewed p k rest o ≡ was_renewed p h rest o
+    renewed [] same o = refl
+    renewed (fr ∷ rest) same o = (same.0 o).1
+
+    lent : (rest : List Frame) → AllKeepGifts p h k rest → (o : ℕ) (owner : Owner) → IsLentFrom p h rest o owner → IsLentFrom p k rest o owner
+    lent [] same o owner is = is
+    lent (fr ∷ rest) same o owner is = ((same.0 o).1 ∙ is.0, elim is.1 [ inl own ↦ inl own | inr further ↦ inr (lent rest same.1 o owner further) ])
+
+-- so some frame owns it
+pub lent_frame : (p : Program) (h : HeapContents) (frs : List Frame) (o : ℕ) (owner : Owner) → IsLentFrom p h frs o owner → is_frame_from 0 owner ≡ true
+lent_frame p h frs o owner is = (let low = frame_below (length frs + 1) owner (lent_below p h frs o owner is) in ap (is_frame_from 0) low.1 ∙ from_frame 0 low.0 (omega arith))
+
+-- a frame that was not begun so has nothing lent
+pub lent_renewed : (p : Program) (h : HeapContents) (frs : List Frame) (o : ℕ) (owner : Owner) → IsLentFrom p h frs o owner → was_renewed p h frs o ≡ true
+lent_renewed p h [] o owner is = absurd is
+lent_renewed p h (fr ∷ frs) o owner is = is.0
+
+-- what is lent stays so over a step
+pub lent_after : (p : Program) (h k : HeapContents) (frs : List Frame) (o : ℕ) (a b : Owner) → KeepsGiven p h k frs → (IsLentFrom p h frs o a → b ≡ a) → IsLentFrom p h frs o a → IsLentFrom p k frs o b
+lent_after p h k frs o a b gifts same is = subst (IsLentFrom p k frs o) (sym (same is)) (gifts.lent o a is)
 
 -- what is held apart after a step was before it
 pub apart_before : (p : Program) (h k : HeapContents) (frs : List Frame) (fr : Frame) (o : ℕ) (x y : Object) (f g : Fact) → KeepsGiven p h k frs → y.class ≡ x.class → (is_held g.mode ≡ true → is_held f.mode ≡ true)
     → (constructs (method_at p fr.method) ≡ false → is_field_of fr.locals.this y.owner ≡ true → is_field_of fr.locals.this x.owner ≡ true)
     → (is_frame_below (length frs + 1) y.owner ≡ true → is_frame_below (length frs + 1) x.owner ≡ true) → is_apart p k frs fr o y g ≡ true → is_apart p h frs fr o x f ≡ true
-apart_before p h k frs fr o x y f g gifts class held content low is = split (is_frame_below (length frs + 1) y.owner) refl is
+apart_before p h k frs fr o x y f g gifts class held content low is = split (is_content p fr y.owner g) refl
   where
     same : was_given p k frs o y.class ≡ was_given p h frs o x.class
-    same = gifts o y.class ∙ ap (was_given p h frs o) class
+    same = gifts.given o y.class ∙ ap (was_given p h frs o) class
 
     owned : (b : Bool) → constructs (method_at p fr.method) ≡ b → (not b && is_field_of fr.locals.this y.owner) ≡ true → (not b && is_field_of fr.locals.this x.owner) ≡ true
     owned true makes one = one
@@ -238,16 +292,16 @@ apart_before p h k frs fr o x y f g gifts class held content low is = split (is_
         (either (makes_alone (method_at p fr.method)) (not (constructs (method_at p fr.method)) && is_field_of fr.locals.this y.owner) (not (constructs (method_at p fr.method)) && is_field_of fr.locals.this x.owner)
         (owned (constructs (method_at p fr.method)) refl) parts.1)
 
-    not_given : (b : Bool) → was_given p h frs o x.class ≡ b → (not (was_given p k frs o y.class) || is_content p fr y.owner g) ≡ true → (not (was_given p h frs o x.class) || is_content p fr x.owner f) ≡ true
-    not_given false none one = or_left (not (was_given p h frs o x.class)) (is_content p fr x.owner f) (ap not none)
-    not_given true some one =
-        or_right (not (was_given p h frs o x.class)) (is_content p fr x.owner f) (before (sym (ap (λ (b : Bool). not b || is_content p fr y.owner g) (same ∙ some)) ∙ one))
+    second : (a b : Bool) → a ≡ false → (a || b) ≡ true → b ≡ true
+    second true b off one = absurd (true≢false off)
+    second false b off one = one
 
-    first : (a b : Bool) → b ≡ false → (a || b) ≡ true → a ≡ true
-    first true b off one = refl
-    first false b off one = absurd (true≢false (sym one ∙ off))
-
-    split : (b : Bool) → is_frame_below (length frs + 1) y.owner ≡ b → is_apart p k frs fr o y g ≡ true → is_apart p h frs fr o x f ≡ true
-    split true below one = or_right (not (was_given p h frs o x.class) || is_content p fr x.owner f) (is_frame_below (length frs + 1) x.owner) (low below)
-    split false above one = or_left (not (was_given p h frs o x.class) || is_content p fr x.owner f) (is_frame_below (length frs + 1) x.owner)
-        (not_given (was_given p h frs o x.class) refl (first (not (was_given p k frs o y.class) || is_content p fr y.owner g) (is_frame_below (length frs + 1) y.owner) above one))
+    split : (b : Bool) → is_content p fr y.owner g ≡ b → is_apart p h frs fr o x f ≡ true
+    split true one = or_left (is_content p fr x.owner f) _ (before one)
+    split false none =
+        let parts = and_parts (not (was_renewed p k frs o)) (not (was_given p k frs o y.class) || is_frame_below (length frs + 1) y.owner)
+        (second (is_content p fr y.owner g) (not (was_renewed p k frs o) && (not (was_given p k frs o y.class) || is_frame_below (length frs + 1) y.owner)) none is) in
+        or_right (is_content p fr x.owner f) (not (was_renewed p h frs o) && (not (was_given p h frs o x.class) || is_frame_below (length frs + 1) x.owner))
+        (and_from (not (was_renewed p h frs o)) (not (was_given p h frs o x.class) || is_frame_below (length frs + 1) x.owner) (ap not (sym (gifts.renewed o)) ∙ parts.0)
+        (either (not (was_given p h frs o x.class)) (is_frame_below (length frs + 1) y.owner) (is_frame_below (length frs + 1) x.owner) low
+        (ap (λ (b : Bool). not b || is_frame_below (length frs + 1) y.owner) (sym same) ∙ parts.1)))

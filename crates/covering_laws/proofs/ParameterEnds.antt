@@ -10,7 +10,7 @@ use Rattle.program_model.specs.declared.kinds.Target.TheVariants as promised
 use Rattle.program_model.specs.declared.program.Program.{Program}
 use Rattle.program_model.specs.declared.program.Promise.{Promise}
 use Rattle.ledger_obligations.specs.Bodies.{alias_position, method_of, promises_in, throwing_promises_in}
-use Rattle.ledger_obligations.specs.MustCallSets.{is_heavy_as, is_heavy_class}
+use Rattle.ledger_obligations.specs.MustCallSets.{Names, is_heavy_as}
 use Rattle.ownership_rules.specs.Signatures.{is_present, when}
 use Rattle.java_control.specs.Control.{Step}
 use Rattle.java_control.specs.declared.action.Action.{Action}
@@ -24,7 +24,7 @@ use Rattle.java_control.specs.declared.fact.Origin.{Origin}
 use Rattle.java_control.specs.declared.fact.OriginKind.{OriginKind}
 use Rattle.java_control.specs.declared.fact.Rule.TheVariants as rules
 use Rattle.java_control.specs.declared.place.Place.TheVariants as places
-use Rattle.ownership_rules.specs.Facts.{PlaceSet, has, is_alias, is_origin_at, is_own}
+use Rattle.ownership_rules.specs.Facts.{PlaceSet, has, is_alias, is_origin_at}
 use Rattle.value_laws.specs.CalledRows.{holds_field}
 use Rattle.value_laws.specs.Promises.{is_of_held_field, is_of_origin, promised_by_end, promised_on_both, promised_on_fields, promised_on_position}
 use Rattle.ownership_rules.specs.Heavy.{is_owned}
@@ -41,14 +41,10 @@ use Rattle.value_laws.specs.Choosing.{body_id, frame_steps}
 use Rattle.value_laws.specs.Agreement.{Stands}
 use Rattle.value_laws.specs.Outcomes.{IsFault}
 use Rattle.value_laws.proofs.Ending as at_ends
-use Rattle.value_laws.specs.PlaceFacts.{Covers}
+use Rattle.value_laws.specs.PlaceFacts.{Covers, is_owning_fact}
 use Rattle.covering_laws.proofs.Following.{breaks_nothing, same_body, step_there}
 
 -- ---- what is not owned is no result, but an alias
-
-and_none : (a : Bool) → (a && false) ≡ false
-and_none true = refl
-and_none false = refl
 
 alias_mode : (m : Mode) → (if is_alias m then moves.Moves else moves.Bad rules.AliasKept) ≡ moves.Moves → m ≡ modes.Alias
 alias_mode modes.Own is = absurd (let never : moves.Bad rules.AliasKept ≡ moves.Moves = is in cc)
@@ -57,9 +53,9 @@ alias_mode modes.Held is = absurd (let never : moves.Bad rules.AliasKept ≡ mov
 alias_mode modes.Lent is = absurd (let never : moves.Bad rules.AliasKept ≡ moves.Moves = is in cc)
 alias_mode modes.Alias is = refl
 
-module _ (p : Program) (b : BodyId) (o : Origin) (f : Fact) (none : is_own f.mode ≡ false) where
+module _ (p : Program) (b : BodyId) (o : Origin) (f : Fact) (none : is_owning_fact p o f ≡ false) where
   not_owned : is_owned p o f ≡ false
-  not_owned = ap (λ (x : Bool). is_heavy_class p o.class && x) none ∙ and_none (is_heavy_class p o.class)
+  not_owned = none
 
   heavy_moves : heavy_result p b o f ≡ moves.Moves → f.mode ≡ modes.Alias
   heavy_moves is = go (is_present (alias_position p b)) (owning_result_in (method_of p b)) is
@@ -130,30 +126,30 @@ throw_asks p b (completions.Continue pos) throws kind held = absurd (true≢fals
 -- ---- the end of a frame
 
 module _ (p : Program) (ac : Accept p) (h : HeapContents) (fr : Frame) (st : Stands p fr) (i : ℕ) (s : Step) (q : Completion) (here : slice_get (frame_steps p fr) i ≡ Some s) (is : s.action ≡ actions.End q)
-    (frs : List Frame) (o : ℕ) (x : Object) (c : Covers p h false frs fr o x) (alias : moved_at_return p st.number c.origin (actions.End q) c.fact ≡ moves.Moves → c.fact.mode ≡ modes.Alias) (known : set.is_subset c.fact.called x.called ≡ true)
+    (frs : List Frame) (o : ℕ) (x : Object) (c : Covers p h false false frs fr o x) (alias : moved_at_return p st.number c.origin (actions.End q) c.fact ≡ moves.Moves → c.fact.mode ≡ modes.Alias) (names : Names) (known : set.is_subset c.fact.called names ≡ true)
     (xs : List Promise) (asks : AsksFor p st.number q xs) where
   reached : Reach p st.number (relation_of p st.number) c.origin fr.control c.fact
   reached = subst (λ (b : BodyId). Reach p b (relation_of p b) c.origin fr.control c.fact) (same_body c.body st.number (body_id p fr.method) c.id st.id) c.reached
 
-  -- what the end asks for was called
-  ended : set.is_subset (promised_by_end p st.number c.origin.kind c.fact.places q) x.called ≡ true
-  ended = within_trans (promised_by_end p st.number c.origin.kind c.fact.places q) c.fact.called x.called
+  -- what the end asks for is among the names that hold all that the fact knows
+  ended : set.is_subset (promised_by_end p st.number c.origin.kind c.fact.places q) names ≡ true
+  ended = within_trans (promised_by_end p st.number c.origin.kind c.fact.places q) c.fact.called names
       (elim (at_ends.promises_kept p st.number c.origin q s.edge c.fact alias) [
         | inl fault ↦ absurd (breaks_nothing p ac st.number c.origin i (move_of s) c.fact reached (step_there p fr st i s here) (subst (λ (a : Action). IsFault (flow p st.number c.origin a s.edge c.fact)) (sym is) fault))
         | inr good ↦ good
       ]) known
 
-  both : set.is_subset (promised_on_both p st.number c.origin.kind c.fact.places xs) x.called ≡ true
-  both = within_trans (promised_on_both p st.number c.origin.kind c.fact.places xs) (promised_by_end p st.number c.origin.kind c.fact.places q) x.called (asks c.origin.kind c.fact.places) ended
+  both : set.is_subset (promised_on_both p st.number c.origin.kind c.fact.places xs) names ≡ true
+  both = within_trans (promised_on_both p st.number c.origin.kind c.fact.places xs) (promised_by_end p st.number c.origin.kind c.fact.places q) names (asks c.origin.kind c.fact.places) ended
 
-  pub shown_on_position : (k j : ℕ) (u : Promise) → slice_get xs j ≡ Some u → u.target ≡ promised.At k → is_origin_at c.origin.kind (Some k) ≡ true → set.is_subset u.names x.called ≡ true
+  pub shown_on_position : (k j : ℕ) (u : Promise) → slice_get xs j ≡ Some u → u.target ≡ promised.At k → is_origin_at c.origin.kind (Some k) ≡ true → set.is_subset u.names names ≡ true
   shown_on_position k j u at target own =
-      within_trans u.names (promised_on_position c.origin.kind xs) x.called (one_on_position c.origin.kind k xs j u at target own)
-      (within_trans (promised_on_position c.origin.kind xs) (promised_on_both p st.number c.origin.kind c.fact.places xs) x.called
+      within_trans u.names (promised_on_position c.origin.kind xs) names (one_on_position c.origin.kind k xs j u at target own)
+      (within_trans (promised_on_position c.origin.kind xs) (promised_on_both p st.number c.origin.kind c.fact.places xs) names
       (within_union_left (promised_on_position c.origin.kind xs) (promised_on_fields p st.number c.fact.places xs)) both)
 
-  pub shown_on_field : (f : FieldId) (j : ℕ) (u : Promise) → slice_get xs j ≡ Some u → u.target ≡ promised.OfField f → holds_field p st.number c.fact.places f ≡ true → set.is_subset u.names x.called ≡ true
+  pub shown_on_field : (f : FieldId) (j : ℕ) (u : Promise) → slice_get xs j ≡ Some u → u.target ≡ promised.OfField f → holds_field p st.number c.fact.places f ≡ true → set.is_subset u.names names ≡ true
   shown_on_field f j u at target own =
-      within_trans u.names (promised_on_fields p st.number c.fact.places xs) x.called (one_on_field p st.number c.fact.places f xs j u at target own)
-      (within_trans (promised_on_fields p st.number c.fact.places xs) (promised_on_both p st.number c.origin.kind c.fact.places xs) x.called
+      within_trans u.names (promised_on_fields p st.number c.fact.places xs) names (one_on_field p st.number c.fact.places f xs j u at target own)
+      (within_trans (promised_on_fields p st.number c.fact.places xs) (promised_on_both p st.number c.origin.kind c.fact.places xs) names
       (within_union_right (promised_on_position c.origin.kind xs) (promised_on_fields p st.number c.fact.places xs)) both)

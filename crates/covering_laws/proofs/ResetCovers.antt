@@ -1,5 +1,5 @@
--- A heap whose objects are those of another, but that the obligation of one is created anew, which the top frame owns: what facts say of the others stays true, and
--- of this one no fact but that of the top frame says what a reset changes.
+-- A heap whose objects are those of another, but that the obligation of one is created anew, which the top frame owns or has lent: what facts say of the others
+-- stays true, and of this one no fact says what a reset changes but that of the frame that owns it, and that is read anew while the frame waits.
 use Rattle.std.proofs.Common.{◌≡◌, ◌⊎◌, inl, inr, ℕ, ◌+◌, ◌<◌, ◌≤◌, Bool, true, false, true≢false, not, ◌&&◌, ◌||◌, Option, Some, None, List, [], ◌∷◌, length, refl, sym, ap, ◌∙◌, subst, arith, nat_lt}
 use Rattle.std.specs.Prelude.{nat_eq}
 use Rattle.std.specs.List.{list_any}
@@ -7,20 +7,25 @@ use Rattle.std.specs.FinSet as set
 use Rattle.std.proofs.lemmas.Bool.{and_from, and_parts}
 use Rattle.std.proofs.lemmas.Grind.{common_steps}
 use Rattle.std.proofs.lemmas.Bool.Decides.{nat_tests}
+use Rattle.rlc_base.proofs.SetLaws.{empty_within, within_self}
 use Rattle.program_model.specs.declared.kinds.ClassId.{ClassId}
 use Rattle.program_model.specs.declared.kinds.MethodId.{MethodId}
 use Rattle.program_model.specs.declared.program.Method.{Method}
 use Rattle.program_model.specs.declared.program.ParamSig.{ParamSig}
 use Rattle.program_model.specs.declared.program.Program.{Program}
 use Rattle.program_model.specs.Lookups.{method_at}
-use Rattle.ledger_obligations.specs.MustCallSets.{fits_type, is_heavy_class, must_of}
+use Rattle.ledger_obligations.specs.Bodies.{constructs}
+use Rattle.ledger_obligations.specs.MustCallSets.{Names, fits, fits_type, is_heavy_class, must_of, no_names}
 use Rattle.java_control.specs.Control.{Step}
 use Rattle.java_control.specs.PlaceNumbers.{IsSmall}
 use Rattle.java_control.specs.declared.action.Action.{Action}
+use Rattle.java_control.specs.declared.fact.Fact.{Fact}
 use Rattle.java_control.specs.declared.fact.Mode.{Mode}
+use Rattle.java_control.specs.declared.fact.Origin.{Origin}
 use Rattle.java_control.specs.declared.place.Place.{Place}
+use Rattle.ownership_rules.specs.Bodies.{reset_in}
 use Rattle.ownership_rules.specs.Callees.{callee}
-use Rattle.ownership_rules.specs.Facts.{has, is_held, is_own}
+use Rattle.ownership_rules.specs.Facts.{has, is_held, is_own, need}
 use Rattle.ledger_state.specs.Contents.{HeapContents}
 use Rattle.ledger_state.specs.Heaps.{object_at, root_of, same_root}
 use Rattle.ledger_state.specs.declared.entry.Owner.{Owner}
@@ -28,27 +33,35 @@ use Rattle.ledger_state.specs.declared.entry.Owner.TheVariants as owners
 use Rattle.ledger_state.specs.declared.locals.Locals.{Locals}
 use Rattle.ledger_state.specs.declared.object.Object.{Object}
 use Rattle.ledger_state.specs.declared.value.Value.{Value}
+use Rattle.ledger_state.specs.declared.value.Value.TheVariants as values
 use Rattle.value_laws.specs.Places.{place_value}
 use Rattle.ledger_steps.specs.LedgerCallsCalls.{operand_of}
 use Rattle.value_laws.specs.Configuration.{Frame}
 use Rattle.value_laws.specs.Choosing.{frame_steps}
 use Rattle.ledger_obligations.specs.Obligations.{is_library_owner}
-use Rattle.value_laws.specs.PlaceFacts.{AreWaiting, Covers, IsCovered, IsKeyed, IsOwned, IsTrueOf, IsUnowned, OwnersBelow, claims, gives_away, is_apart, is_content, is_frame_below, is_frame_from, is_given, is_owning_fact, is_taken_at, is_taken_by, is_taken_from, makes_alone, may_owe, owned, tells_calls, unowned, was_given}
+use Rattle.value_laws.specs.PlaceFacts.{AreWaiting, Covers, IsCovered, IsKeyed, IsOwned, IsTrueOf, IsUnowned, OwnersBelow, asked_of, claims, gives_away, is_apart, is_content, is_frame_below, is_frame_from, is_given, is_owning_fact, is_taken_at, is_taken_by, is_taken_from, makes_alone, may_owe, owned, tells_calls, unowned, was_given, is_field_of, is_lent}
+use Rattle.value_laws.specs.Renewing.{IsLentFrom, fact_as, is_renewed, renews, renews_at, was_renewed}
+use Rattle.value_laws.proofs.Needs.{origin_needs_all}
 use Rattle.covering_laws.proofs.Waiting.{KeepsFields, same_place}
 
+-- A frame, where `frs` are the frames below it, or one above it owns the object, or the frame began with a call that creates the object's obligation anew, and
+-- so on down to the frame that owns it.
+abbrev pub OwnsOrIsLent : Program → HeapContents → List Frame → ℕ → Owner → Type 0
+OwnsOrIsLent p h frs o owner = ((j : ℕ) × (owner ≡ owners.Frame j) × (length frs < j)) ⊎ IsLentFrom p h frs o owner
+
 -- The object `x` is `y` where its obligation is created anew: no name was called, and all that its class asks for must be called, or what had to be. Where its class has
--- one, and it may owe a call, the frame at position `n` owns it.
-pub record IsRenewed (p : Program) (n : ℕ) (x y : Object) : Type 0 where
+-- one, and it may owe a call, the frame with these below it owns it, or has it lent.
+pub record IsRenewed (p : Program) (h : HeapContents) (frs : List Frame) (o : ℕ) (x y : Object) : Type 0 where
   pub class : y.class ≡ x.class
   pub finished : y.finished ≡ x.finished
   pub owner : y.owner ≡ x.owner
   pub called : y.called ≡ set.empty
   pub must : (y.must ≡ must_of p y.class) ⊎ (y.must ≡ x.must)
-  pub mine : is_heavy_class p y.class ≡ true → may_owe y ≡ true → x.owner ≡ owners.Frame n
+  pub mine : is_heavy_class p y.class ≡ true → may_owe y ≡ true → OwnsOrIsLent p h frs o x.owner
 
 -- it may owe a call, where it may later
-pub owes_before : (p : Program) (n : ℕ) (x y : Object) → IsRenewed p n x y → may_owe y ≡ true → may_owe x ≡ true
-owes_before p n x y it is =
+pub owes_before : (p : Program) (h : HeapContents) (frs : List Frame) (o : ℕ) (x y : Object) → IsRenewed p h frs o x y → may_owe y ≡ true → may_owe x ≡ true
+owes_before p h frs o x y it is =
     ap (λ (b : Bool). not (b && is_library_owner x.owner)) (sym it.finished) ∙ ap (λ (u : Owner). not (y.finished && is_library_owner u)) (sym it.owner) ∙ is
 
 at_or_above : (i n : ℕ) → i ≤ n → is_frame_from i (owners.Frame n) ≡ true
@@ -57,6 +70,79 @@ at_or_above i n low = go (nat_lt n i) refl
     go : (b : Bool) → nat_lt n i ≡ b → not (nat_lt n i) ≡ true
     go true e = absurd (grind (arith, nat_tests, e, low))
     go false e = ap not e
+
+-- what is lent is a frame's
+lent_is_owned : (p : Program) (h : HeapContents) (frs : List Frame) (o : ℕ) (w : Owner) → IsLentFrom p h frs o w → (j : ℕ) × (w ≡ owners.Frame j) × (j ≤ length frs)
+lent_is_owned p h [] o w lent = absurd lent
+lent_is_owned p h (fr ∷ frs) o w (is, inl here) = (length frs + 1, here, omega arith)
+lent_is_owned p h (fr ∷ frs) o w (is, inr on) = let it = lent_is_owned p h frs o w on in let low = it.2 in (it.0, it.1, omega (arith, low))
+
+pub a_frame_owns : (p : Program) (h : HeapContents) (frs : List Frame) (o : ℕ) (w : Owner) → OwnsOrIsLent p h frs o w → is_frame_from 0 w ≡ true
+a_frame_owns p h frs o w (inl above) = ap (is_frame_from 0) above.1 ∙ at_or_above 0 above.0 (omega arith)
+a_frame_owns p h frs o w (inr lent) = let it = lent_is_owned p h frs o w lent in ap (is_frame_from 0) it.1 ∙ at_or_above 0 it.0 (omega arith)
+
+-- the frame that has it lent began with a call that creates the obligation anew
+pub lent_was_renewed : (p : Program) (h : HeapContents) (frs : List Frame) (o : ℕ) (w : Owner) → IsLentFrom p h frs o w → was_renewed p h frs o ≡ true
+lent_was_renewed p h [] o w lent = absurd lent
+lent_was_renewed p h (fr ∷ frs) o w lent = lent.0
+
+-- so for the frame that waits
+pub as_waiting : (p : Program) (h : HeapContents) (fr : Frame) (frs : List Frame) (o : ℕ) (w : Owner) → OwnsOrIsLent p h (fr ∷ frs) o w → OwnsOrIsLent p h frs o w
+as_waiting p h fr frs o w (inl above) = let high = above.2 in inl (above.0, above.1, omega (arith, high))
+as_waiting p h fr frs o w (inr (is, inl here)) = inl (length frs + 1, here, omega arith)
+as_waiting p h fr frs o w (inr (is, inr on)) = inr on
+
+waiting_renewed : (p : Program) (h : HeapContents) (fr : Frame) (frs : List Frame) (o : ℕ) (x y : Object) → IsRenewed p h (fr ∷ frs) o x y → IsRenewed p h frs o x y
+waiting_renewed p h fr frs o x y it = record {
+  class = it.class;
+  finished = it.finished;
+  owner = it.owner;
+  called = it.called;
+  must = it.must;
+  mine = λ heavy owes. as_waiting p h fr frs o x.owner (it.mine heavy owes);
+}
+
+-- what holds of one heap's lent objects holds of another's
+pub renewed_on : (p : Program) (h k : HeapContents) (frs : List Frame) (o : ℕ) (x y : Object) → ((w : Owner) → IsLentFrom p h frs o w → IsLentFrom p k frs o w) → IsRenewed p h frs o x y → IsRenewed p k frs o x y
+renewed_on p h k frs o x y on it = record {
+  class = it.class;
+  finished = it.finished;
+  owner = it.owner;
+  called = it.called;
+  must = it.must;
+  mine = λ heavy owes. by (it.mine heavy owes);
+}
+  where
+    by : OwnsOrIsLent p h frs o x.owner → OwnsOrIsLent p k frs o x.owner
+    by (inl above) = inl above
+    by (inr lent) = inr (on x.owner lent)
+
+-- a frame has not lent what it owns
+pub not_lent : (p : Program) (h : HeapContents) (frs : List Frame) (o : ℕ) (w : Owner) → w ≡ owners.Frame (length frs + 1) → IsLentFrom p h frs o w → ⊥
+not_lent p h frs o w own lent =
+    let it = lent_is_owned p h frs o w lent in
+    let both : owners.Frame (length frs + 1) ≡ owners.Frame it.0 = sym own ∙ it.1 in
+    let one : length frs + 1 ≡ it.0 = cc in let low = it.2 in omega (arith, one, low)
+
+-- What a fact says of the object, read anew, is true of it when its obligation is created anew.
+pub true_anew : (p : Program) (g : Origin) (f : Fact) (x y : Object) → g.full ≡ must_of p g.class → (f.called ≡ no_names) × (f.full ≡ true) → y.class ≡ x.class → y.finished ≡ x.finished → y.called ≡ set.empty
+    → (y.must ≡ must_of p y.class) ⊎ (y.must ≡ x.must) → IsTrueOf p x g f → IsTrueOf p y g f
+true_anew p g f x y all none class finished called must was = record {
+  finished = finished ∙ was.finished;
+  class = ap (λ (c : ClassId). fits p c g.class) class ∙ was.class;
+  bounded = elim must [
+    | inl every ↦ ap (λ (t : Names). set.is_subset t (must_of p y.class)) every ∙ within_self (must_of p y.class)
+    | inr kept ↦ ap (λ (t : Names). set.is_subset t (must_of p y.class)) kept ∙ ap (λ (c : ClassId). set.is_subset x.must (must_of p c)) class ∙ was.bounded
+  ];
+  need = elim must [
+    | inl every ↦ ap (λ (t : Names). set.is_subset t (need g f)) every ∙ full_need (must_of p y.class) (ap (λ (c : ClassId). fits p c g.class) class ∙ was.class)
+    | inr kept ↦ ap (λ (t : Names). set.is_subset t (need g f)) kept ∙ was.need
+  ];
+  called = ap (λ (t : Names). set.is_subset t y.called) none.0 ∙ empty_within y.called;
+}
+  where
+    full_need : (t : Names) → set.is_subset t (must_of p g.class) ≡ true → set.is_subset t (need g f) ≡ true
+    full_need t inside = rw none.1 (ap (set.is_subset t) all ∙ inside)
 
 module _ (p : Program) (h k : HeapContents) (same : (v : Value) → root_of k v ≡ root_of h v) (fields : KeepsFields p h k) where
   -- ---- the places, and what is given
@@ -90,19 +176,48 @@ module _ (p : Program) (h k : HeapContents) (same : (v : Value) → root_of k v 
   same_was [] o c = refl
   same_was (fr ∷ frs) o c = same_given fr o c
 
+  -- ---- what is created anew
+
+  same_renews : (l : Locals) (a : Action) (o : ℕ) → renews p k l a o ≡ renews p h l a o
+  same_renews l a o = go (reset_in (callee p a))
+    where
+      go : (i : Option ℕ) → renews_at k l a o i ≡ renews_at h l a o i
+      go None = refl
+      go (Some i) = ap (λ (r : Option ℕ). same_root r (Some o)) (same (operand_of l a i))
+
+  any_renews : (fr : Frame) (o : ℕ) (ss : List Step) → list_any (λ s. renews p k fr.locals s.action o) ss ≡ list_any (λ s. renews p h fr.locals s.action o) ss
+  any_renews fr o [] = refl
+  any_renews fr o (s ∷ ss) =
+      ap (λ (b : Bool). b || list_any (λ t. renews p k fr.locals t.action o) ss) (same_renews fr.locals s.action o)
+      ∙ ap (λ (b : Bool). renews p h fr.locals s.action o || b) (any_renews fr o ss)
+
+  pub same_renewed : (fr : Frame) (o : ℕ) → is_renewed p k fr o ≡ is_renewed p h fr o
+  same_renewed fr o = any_renews fr o (frame_steps p fr)
+
+  same_was_renewed : (frs : List Frame) (o : ℕ) → was_renewed p k frs o ≡ was_renewed p h frs o
+  same_was_renewed [] o = refl
+  same_was_renewed (fr ∷ frs) o = same_renewed fr o
+
+  pub same_lent : (frs : List Frame) (o : ℕ) (w : Owner) → IsLentFrom p h frs o w → IsLentFrom p k frs o w
+  same_lent [] o w lent = lent
+  same_lent (fr ∷ frs) o w (is, inl here) = (same_renewed fr o ∙ is, inl here)
+  same_lent (fr ∷ frs) o w (is, inr on) = (same_renewed fr o ∙ is, inr (same_lent frs o w on))
+
   -- ---- one object
 
-  module _ (away : Bool) (frs : List Frame) (fr : Frame) (o : ℕ) (x y : Object) (class : y.class ≡ x.class) (finished : y.finished ≡ x.finished) (owner : y.owner ≡ x.owner) where
-    same_apart : (c : Covers p h away frs fr o x) → is_apart p k frs fr o y c.fact ≡ is_apart p h frs fr o x c.fact
+  module _ (away anew later : Bool) (frs : List Frame) (fr : Frame) (o : ℕ) (x y : Object) (class : y.class ≡ x.class) (finished : y.finished ≡ x.finished) (owner : y.owner ≡ x.owner) where
+    same_apart : (c : Covers p h away anew frs fr o x) → is_apart p k frs fr o y c.fact ≡ is_apart p h frs fr o x c.fact
     same_apart c =
-        ap (λ (d : ClassId). not (was_given p k frs o d) || is_content p fr y.owner c.fact || is_frame_below (length frs + 1) y.owner) class
-        ∙ ap (λ (b : Bool). not b || is_content p fr y.owner c.fact || is_frame_below (length frs + 1) y.owner) (same_was frs o x.class)
-        ∙ ap (λ (w : Owner). not (was_given p h frs o x.class) || is_content p fr w c.fact || is_frame_below (length frs + 1) w) owner
+        ap (λ (b : Bool). is_content p fr y.owner c.fact || not b && (not (was_given p k frs o y.class) || is_frame_below (length frs + 1) y.owner)) (same_was_renewed frs o)
+        ∙ ap (λ (d : ClassId). is_content p fr y.owner c.fact || not (was_renewed p h frs o) && (not (was_given p k frs o d) || is_frame_below (length frs + 1) y.owner)) class
+        ∙ ap (λ (b : Bool). is_content p fr y.owner c.fact || not (was_renewed p h frs o) && (not b || is_frame_below (length frs + 1) y.owner)) (same_was frs o x.class)
+        ∙ ap (λ (w : Owner). is_content p fr w c.fact || not (was_renewed p h frs o) && (not (was_given p h frs o x.class) || is_frame_below (length frs + 1) w)) owner
 
     -- a fact stands for it as before, where what it claims is true and what it knows was called
-    pub covers_so : (c : Covers p h away frs fr o x) → (claims p (method_at p fr.method) c.origin c.fact ≡ true → (away && is_own c.fact.mode) ≡ false → IsTrueOf p y c.origin c.fact)
-        → (x.finished ≡ true → tells_calls p fr.method c.origin c.fact ≡ true → is_apart p h frs fr o x c.fact ≡ true → set.is_subset c.fact.called y.called ≡ true) → Covers p k away frs fr o y
-    covers_so c truth known = record {
+    pub covers_so : (c : Covers p h away anew frs fr o x) → (claims p (method_at p fr.method) c.origin c.fact ≡ true → (away && is_own c.fact.mode) ≡ false → IsTrueOf p y c.origin (fact_as later c.fact))
+        → (x.finished ≡ true → tells_calls p fr.method c.origin c.fact ≡ true → is_apart p h frs fr o x c.fact ≡ true → later ≡ false)
+        → (x.finished ≡ true → tells_calls p fr.method c.origin c.fact ≡ true → is_apart p h frs fr o x c.fact ≡ true → set.is_subset c.fact.called (set.union (asked_of p (method_at p fr.method) c.origin.kind) y.called) ≡ true) → Covers p k away later frs fr o y
+    covers_so c truth quiet known = record {
       body = c.body;
       id = c.id;
       origin = c.origin;
@@ -112,24 +227,28 @@ module _ (p : Program) (h k : HeapContents) (same : (v : Value) → root_of k v 
       places = λ z small is. same_held fr.method fr.locals z ∙ c.places z small is;
       true' = truth;
       lent = c.lent;
-      free = λ claimed held. ap (is_frame_from 0) owner ∙ c.free claimed held;
+      lends = λ mode done. let was = c.lends mode (sym finished ∙ done) in (was.0, subst (IsLentFrom p k frs o) (sym owner) (same_lent frs o x.owner was.1));
+      free = λ done held alone. ap (is_frame_from 0) owner ∙ c.free (sym finished ∙ done) held alone;
       known = λ done tells apart.
           let was = c.known (sym finished ∙ done) tells (sym (same_apart c) ∙ apart) in
           (was.0, ap (is_frame_from (length frs + 1)) owner ∙ was.1, known (sym finished ∙ done) tells (sym (same_apart c) ∙ apart));
+      unrenewed = λ done tells apart. quiet (sym finished ∙ done) tells (sym (same_apart c) ∙ apart);
+      makes = λ new this. finished ∙ c.makes new this;
       fields = c.fields;
       held = c.held;
+      outside = c.outside;
     }
 
   -- an object that is as it was
-  module _ (away : Bool) (frs : List Frame) (fr : Frame) (o : ℕ) (x : Object) where
-    covers_same : Covers p h away frs fr o x → Covers p k away frs fr o x
-    covers_same c = covers_so away frs fr o x x refl refl refl c c.true' (λ done tells apart. (c.known done tells apart).2)
+  module _ (away anew : Bool) (frs : List Frame) (fr : Frame) (o : ℕ) (x : Object) where
+    covers_same : Covers p h away anew frs fr o x → Covers p k away anew frs fr o x
+    covers_same c = covers_so away anew anew frs fr o x x refl refl refl c c.true' c.unrenewed (λ done tells apart. (c.known done tells apart).2)
 
-    unowned_same : (q : Place) → IsUnowned p h away frs fr q o x → IsUnowned p k away frs fr q o x
+    unowned_same : (q : Place) → IsUnowned p h away anew frs fr q o x → IsUnowned p k away anew frs fr q o x
     unfolding covers_same covers_so
     unowned_same q u = record { covers = covers_same u.covers; here = u.here; unowned = u.unowned }
 
-    pub keyed_same : (q : Place) → IsKeyed p h away frs fr q o x → IsKeyed p k away frs fr q o x
+    pub keyed_same : (q : Place) → IsKeyed p h away anew frs fr q o x → IsKeyed p k away anew frs fr q o x
     unfolding covers_same covers_so
     keyed_same q (unowned u) = unowned (unowned_same q u)
     keyed_same q (owned c in' key) = owned (covers_same c) in' (record {
@@ -138,11 +257,11 @@ module _ (p : Program) (h k : HeapContents) (same : (v : Value) → root_of k v 
       others = λ z small is. elim (key.others z small (sym (same_held fr.method fr.locals z) ∙ is)) [ inl has' ↦ inl has' | inr u ↦ inr (unowned_same z u) ];
     })
 
-  -- an object whose obligation is created anew, which the frame at position `n` owns
-  module _ (away : Bool) (frs : List Frame) (fr : Frame) (o n : ℕ) (x y : Object) (class : y.class ≡ x.class) (finished : y.finished ≡ x.finished) (owner : y.owner ≡ x.owner)
-      (mine : x.owner ≡ owners.Frame n) (low : length frs + 1 ≤ n) where
+  -- an object whose obligation is created anew, which this frame or one above it owns, or which it has lent
+  module _ (away anew later : Bool) (frs : List Frame) (fr : Frame) (o : ℕ) (x y : Object) (class : y.class ≡ x.class) (finished : y.finished ≡ x.finished) (owner : y.owner ≡ x.owner)
+      (mine : OwnsOrIsLent p h frs o x.owner) where
     -- what does not own it claims nothing of it
-    no_claim : (c : Covers p h away frs fr o x) → (is_owning_fact p c.origin c.fact ≡ true → away ≡ false → ⊥) → claims p (method_at p fr.method) c.origin c.fact ≡ true
+    no_claim : (c : Covers p h away anew frs fr o x) → (is_owning_fact p c.origin c.fact ≡ true → away ≡ false → ⊥) → claims p (method_at p fr.method) c.origin c.fact ≡ true
         → (away && is_own c.fact.mode) ≡ false → ⊥
     no_claim c never claimed apart = go (is_own c.fact.mode) refl away refl
       where
@@ -157,17 +276,47 @@ module _ (p : Program) (h k : HeapContents) (same : (v : Value) → root_of k v 
         go true own false stays = never (and_from (is_heavy_class p c.origin.class) (is_own c.fact.mode) parts.0 own) stays
         go true own true gone = true≢false (sym (and_from away (is_own c.fact.mode) gone own) ∙ apart)
         go false other d is =
-            let held : is_held c.fact.mode ≡ true = (and_parts (is_held c.fact.mode) (makes_alone (method_at p fr.method)) (second (is_own c.fact.mode) (is_held c.fact.mode && makes_alone (method_at p fr.method)) parts.1 other)).0 in
-            true≢false (sym (at_or_above 0 n (omega arith)) ∙ ap (is_frame_from 0) (sym mine) ∙ c.free claimed held)
+            let held = and_parts (is_held c.fact.mode) (makes_alone (method_at p fr.method)) (second (is_own c.fact.mode) (is_held c.fact.mode && makes_alone (method_at p fr.method)) parts.1 other) in
+            true≢false (sym (a_frame_owns p h frs o x.owner mine) ∙ c.free (c.true' claimed apart).finished held.0 held.1)
+
+    -- no field of `this` holds it
+    no_content : (c : Covers p h away anew frs fr o x) → is_content p fr x.owner c.fact ≡ true → x.finished ≡ true → ⊥
+    no_content c content done = go (makes_alone (method_at p fr.method)) refl (and_parts (is_held c.fact.mode) _ content).1
+      where
+        held : is_held c.fact.mode ≡ true
+        held = (and_parts (is_held c.fact.mode) (makes_alone (method_at p fr.method) || not (constructs (method_at p fr.method)) && is_field_of fr.locals.this x.owner) content).0
+
+        field_or : (v : Value) (w : Owner) → is_field_of v w ≡ true → is_frame_from 0 w ≡ true → ⊥
+        field_or (values.Object n) (owners.Field i f) field frame = true≢false (sym frame)
+        field_or (values.Object n) (owners.Frame i) field frame = true≢false (sym field)
+        field_or (values.Object n) w field frame = true≢false (sym frame)
+        field_or v w field frame = true≢false (sym field)
+
+        go : (b : Bool) → makes_alone (method_at p fr.method) ≡ b → (b || not (constructs (method_at p fr.method)) && is_field_of fr.locals.this x.owner) ≡ true → ⊥
+        go true alone is =
+            true≢false (sym (a_frame_owns p h frs o x.owner mine) ∙ c.free done held alone)
+        go false other is =
+            field_or fr.locals.this x.owner (and_parts (not (constructs (method_at p fr.method))) (is_field_of fr.locals.this x.owner) is).1 (a_frame_owns p h frs o x.owner mine)
 
     -- nor does any fact know what was called on it
-    no_news : (c : Covers p h away frs fr o x) → x.finished ≡ true → tells_calls p fr.method c.origin c.fact ≡ true → is_apart p h frs fr o x c.fact ≡ true → ⊥
-    no_news c done tells apart = true≢false (sym (at_or_above (length frs + 1) n low) ∙ ap (is_frame_from (length frs + 1)) (sym mine) ∙ (c.known done tells apart).1)
+    no_news : (c : Covers p h away anew frs fr o x) → x.finished ≡ true → tells_calls p fr.method c.origin c.fact ≡ true → is_apart p h frs fr o x c.fact ≡ true → ⊥
+    no_news c done tells apart = elim mine [
+      | inl above ↦ (let high = above.2 in
+          true≢false (sym (at_or_above (length frs + 1) above.0 (omega (arith, high))) ∙ ap (is_frame_from (length frs + 1)) (sym above.1) ∙ (c.known done tells apart).1))
+      | inr lent ↦ by_content (is_content p fr x.owner c.fact) refl (lent_was_renewed p h frs o x.owner lent)
+    ]
+      where
+        -- a field of `this` holds it, which no frame owns
+        by_content : (b : Bool) → is_content p fr x.owner c.fact ≡ b → was_renewed p h frs o ≡ true → ⊥
+        by_content true content renewed' = no_content c content done
+        by_content false none renewed' =
+            true≢false (sym apart ∙ ap (λ (b : Bool). b || not (was_renewed p h frs o) && (not (was_given p h frs o x.class) || is_frame_below (length frs + 1) x.owner)) none
+            ∙ ap (λ (b : Bool). not b && (not (was_given p h frs o x.class) || is_frame_below (length frs + 1) x.owner)) renewed')
 
-    covers_anew : (c : Covers p h away frs fr o x) → (claims p (method_at p fr.method) c.origin c.fact ≡ true → (away && is_own c.fact.mode) ≡ false → IsTrueOf p y c.origin c.fact) → Covers p k away frs fr o y
-    covers_anew c truth = covers_so away frs fr o x y class finished owner c truth (λ done tells apart. absurd (no_news c done tells apart))
+    covers_anew : (c : Covers p h away anew frs fr o x) → (claims p (method_at p fr.method) c.origin c.fact ≡ true → (away && is_own c.fact.mode) ≡ false → IsTrueOf p y c.origin (fact_as later c.fact)) → Covers p k away later frs fr o y
+    covers_anew c truth = covers_so away anew later frs fr o x y class finished owner c truth (λ done tells apart. absurd (no_news c done tells apart)) (λ done tells apart. absurd (no_news c done tells apart))
 
-    pub unowned_anew : (q : Place) → IsUnowned p h away frs fr q o x → IsUnowned p k away frs fr q o y
+    pub unowned_anew : (q : Place) → IsUnowned p h away anew frs fr q o x → IsUnowned p k away later frs fr q o y
     unfolding covers_anew covers_so
     unowned_anew q u = record {
       covers = covers_anew u.covers (λ claimed apart. absurd (no_claim u.covers (λ owning stays. true≢false (sym owning ∙ u.unowned)) claimed apart));
@@ -176,8 +325,8 @@ module _ (p : Program) (h k : HeapContents) (same : (v : Value) → root_of k v 
     }
 
     -- the fact that owns it, where what it claims is true
-    pub owned_anew : (q : Place) (c : Covers p h away frs fr o x) → has c.fact.places q ≡ true → IsOwned p h away frs fr o x c
-        → (claims p (method_at p fr.method) c.origin c.fact ≡ true → (away && is_own c.fact.mode) ≡ false → IsTrueOf p y c.origin c.fact) → IsKeyed p k away frs fr q o y
+    pub owned_anew : (q : Place) (c : Covers p h away anew frs fr o x) → has c.fact.places q ≡ true → IsOwned p h away anew frs fr o x c
+        → (claims p (method_at p fr.method) c.origin c.fact ≡ true → (away && is_own c.fact.mode) ≡ false → IsTrueOf p y c.origin (fact_as later c.fact)) → IsKeyed p k away later frs fr q o y
     unfolding covers_anew covers_so
     owned_anew q c in' key truth = owned (covers_anew c truth) in' (record {
       owning = key.owning;
@@ -185,38 +334,81 @@ module _ (p : Program) (h k : HeapContents) (same : (v : Value) → root_of k v 
       others = λ z small is. elim (key.others z small (sym (same_held fr.method fr.locals z) ∙ is)) [ inl has' ↦ inl has' | inr u ↦ inr (unowned_anew z u) ];
     })
 
-    -- a frame below that one claims nothing of it
-    pub keyed_below : length frs + 1 < n → (q : Place) → IsKeyed p h away frs fr q o x → IsKeyed p k away frs fr q o y
-    keyed_below under q (unowned u) = unowned (unowned_anew q u)
-    keyed_below under q (owned c in' key) = owned_anew q c in' key (λ claimed apart. absurd (no_claim c not_mine claimed apart))
+  -- an object that is not finished yet: no fact claims anything of it
+  module _ (anew later : Bool) (frs : List Frame) (fr : Frame) (q : Place) (o : ℕ) (x y : Object) (class : y.class ≡ x.class) (finished : y.finished ≡ x.finished) (owner : y.owner ≡ x.owner) (unmade : x.finished ≡ false) where
+    covers_unmade : Covers p h false anew frs fr o x → Covers p k false later frs fr o y
+    covers_unmade c =
+        covers_so false anew later frs fr o x y class finished owner c (λ claimed apart. absurd (true≢false (sym (c.true' claimed apart).finished ∙ unmade))) (λ done tells apart. absurd (true≢false (sym done ∙ unmade)))
+        (λ done tells apart. absurd (true≢false (sym done ∙ unmade)))
+
+    unowned_unmade : (z : Place) → IsUnowned p h false anew frs fr z o x → IsUnowned p k false later frs fr z o y
+    unfolding covers_unmade covers_so
+    unowned_unmade z u = record { covers = covers_unmade u.covers; here = u.here; unowned = u.unowned }
+
+    pub keyed_unmade : IsKeyed p h false anew frs fr q o x → IsKeyed p k false later frs fr q o y
+    unfolding covers_unmade covers_so
+    keyed_unmade (unowned u) = unowned (unowned_unmade q u)
+    keyed_unmade (owned c in' key) = owned (covers_unmade c) in' (record {
+      owning = key.owning;
+      owner = λ stays. owner ∙ key.owner stays;
+      others = λ z small is. elim (key.others z small (sym (same_held fr.method fr.locals z) ∙ is)) [ inl has' ↦ inl has' | inr u ↦ inr (unowned_unmade z u) ];
+    })
+
+  -- a frame that waits: where a frame above owns the object, it claims nothing of it, and else it reads its facts anew
+  module _ (away : Bool) (frs : List Frame) (fr : Frame) (o : ℕ) (x y : Object) (it : IsRenewed p h (fr ∷ frs) o x y) (mine : OwnsOrIsLent p h (fr ∷ frs) o x.owner) where
+    here : OwnsOrIsLent p h frs o x.owner
+    here = as_waiting p h fr frs o x.owner mine
+
+    keyed_waiting : (anew : Bool) → is_renewed p h fr o ≡ anew → (q : Place) → IsKeyed p h away anew frs fr q o x → IsKeyed p k away anew frs fr q o y
+    keyed_waiting anew same' q (unowned u) = unowned (unowned_anew away anew anew frs fr o x y it.class it.finished it.owner here q u)
+    keyed_waiting anew same' q (owned c in' key) = owned_anew away anew anew frs fr o x y it.class it.finished it.owner here q c in' key (truth mine)
       where
-        not_mine : is_owning_fact p c.origin c.fact ≡ true → away ≡ false → ⊥
-        not_mine owning stays = let both : owners.Frame n ≡ owners.Frame (length frs + 1) = sym mine ∙ key.owner stays in (let one : n ≡ length frs + 1 = cc in omega (arith, one, under))
+        -- read anew
+        turned : (b : Bool) → anew ≡ b → b ≡ true → claims p (method_at p fr.method) c.origin c.fact ≡ true → (away && is_own c.fact.mode) ≡ false → IsTrueOf p y c.origin (fact_as anew c.fact)
+        turned true is one claimed apart =
+            subst (λ (b : Bool). IsTrueOf p y c.origin (fact_as b c.fact)) (sym is)
+            (true_anew p c.origin (fact_as true c.fact) x y (origin_needs_all p c.body c.origin fr.control c.fact c.reached) (refl, refl) it.class it.finished it.called it.must
+            (subst (λ (b : Bool). IsTrueOf p x c.origin (fact_as b c.fact)) is (c.true' claimed apart)))
+        turned false is one claimed apart = absurd (true≢false (sym one))
+
+        truth : OwnsOrIsLent p h (fr ∷ frs) o x.owner → claims p (method_at p fr.method) c.origin c.fact ≡ true → (away && is_own c.fact.mode) ≡ false → IsTrueOf p y c.origin (fact_as anew c.fact)
+        truth (inr lent) claimed apart = turned anew refl (sym same' ∙ lent.0) claimed apart
+        truth (inl above) claimed apart = absurd (no_claim away anew anew frs fr o x y it.class it.finished it.owner here c not_mine claimed apart)
+          where
+            not_mine : is_owning_fact p c.origin c.fact ≡ true → away ≡ false → ⊥
+            not_mine owning stays =
+                let both : owners.Frame above.0 ≡ owners.Frame (length frs + 1) = sym above.1 ∙ key.owner stays in
+                (let one : above.0 ≡ length frs + 1 = cc in let high = above.2 in omega (arith, one, high))
 
   -- ---- the frames that wait
 
   -- the objects that values have for their roots
-  abbrev pub Turns : ℕ → Type 0
-  Turns n = (o : ℕ) (y : Object) (v : Value) → root_of k v ≡ Some o → object_at k o ≡ Some y → (x : Object) × (object_at h o ≡ Some x) × ((y ≡ x) ⊎ IsRenewed p n x y)
+  abbrev pub Turns : List Frame → Type 0
+  Turns frs = (o : ℕ) (y : Object) (v : Value) → root_of k v ≡ Some o → object_at k o ≡ Some y → (x : Object) × (object_at h o ≡ Some x) × ((y ≡ x) ⊎ IsRenewed p h frs o x y)
 
-  module _ (n : ℕ) (turns : Turns n) where
-    covered_below : (gives kept : ℕ → ClassId → Bool) → ((o : ℕ) (c : ClassId) → kept o c ≡ gives o c) → (frs : List Frame) (fr : Frame) → length frs + 1 < n → IsCovered p h gives frs fr → IsCovered p k kept frs fr
-    covered_below gives kept equal frs fr under covered q o y small held at heavy owes = go (turns o y (place_value p k fr.method fr.locals q) held at)
-      where
-        was_held : root_of h (place_value p h fr.method fr.locals q) ≡ Some o
-        was_held = sym (same_held fr.method fr.locals q) ∙ held
+  turns_on : (fr : Frame) (frs : List Frame) → Turns (fr ∷ frs) → Turns frs
+  turns_on fr frs turns o y v root' now =
+      let t = turns o y v root' now in
+      (t.0, t.1, elim t.2 [ inl it ↦ inl it | inr it ↦ inr (waiting_renewed p h fr frs o t.0 y it) ])
 
-        go : (x : Object) × (object_at h o ≡ Some x) × ((y ≡ x) ⊎ IsRenewed p n x y) → IsKeyed p k (kept o y.class) frs fr q o y
-        go (x, before, inl it) =
-            subst (λ (z : Object). IsKeyed p k (kept o z.class) frs fr q o z) (sym it)
-            (subst (λ (b : Bool). IsKeyed p k b frs fr q o x) (sym (equal o x.class))
-            (keyed_same (gives o x.class) frs fr o x q (covered q o x small was_held before (ap (λ (z : Object). is_heavy_class p z.class) (sym it) ∙ heavy) (ap may_owe (sym it) ∙ owes))))
-        go (x, before, inr anew) =
-            subst (λ (b : Bool). IsKeyed p k b frs fr q o y) (sym (ap (kept o) anew.class ∙ equal o x.class))
-            (keyed_below (gives o x.class) frs fr o n x y anew.class anew.finished anew.owner (anew.mine heavy owes) (omega (arith, under)) under q
-            (covered q o x small was_held before (ap (is_heavy_class p) (sym anew.class) ∙ heavy) (owes_before p n x y anew owes)))
+  covered_waiting : (fr : Frame) (frs : List Frame) → Turns (fr ∷ frs) → IsCovered p h (is_given p h fr) (is_renewed p h fr) frs fr → IsCovered p k (is_given p k fr) (is_renewed p k fr) frs fr
+  covered_waiting fr frs turns covered q o y small held at heavy owes =
+      subst (λ (b : Bool). IsKeyed p k (is_given p k fr o y.class) b frs fr q o y) (sym (same_renewed fr o))
+      (subst (λ (b : Bool). IsKeyed p k b (is_renewed p h fr o) frs fr q o y) (sym (same_given fr o y.class)) (go (turns o y (place_value p k fr.method fr.locals q) held at)))
+    where
+      was_held : root_of h (place_value p h fr.method fr.locals q) ≡ Some o
+      was_held = sym (same_held fr.method fr.locals q) ∙ held
 
-    pub waiting_below : (frs : List Frame) → length frs < n → AreWaiting p h frs → AreWaiting p k frs
-    waiting_below [] under waits = tt
-    waiting_below (fr ∷ frs) under (covered, waits) =
-        (covered_below (is_given p h fr) (is_given p k fr) (same_given fr) frs fr (omega (arith, under)) covered, waiting_below frs (omega (arith, under)) waits)
+      go : (x : Object) × (object_at h o ≡ Some x) × ((y ≡ x) ⊎ IsRenewed p h (fr ∷ frs) o x y) → IsKeyed p k (is_given p h fr o y.class) (is_renewed p h fr o) frs fr q o y
+      go (x, before, inl it) =
+          subst (λ (z : Object). IsKeyed p k (is_given p h fr o z.class) (is_renewed p h fr o) frs fr q o z) (sym it)
+          (keyed_same (is_given p h fr o x.class) (is_renewed p h fr o) frs fr o x q
+          (covered q o x small was_held before (ap (λ (z : Object). is_heavy_class p z.class) (sym it) ∙ heavy) (ap may_owe (sym it) ∙ owes)))
+      go (x, before, inr anew) =
+          subst (λ (c : ClassId). IsKeyed p k (is_given p h fr o c) (is_renewed p h fr o) frs fr q o y) (sym anew.class)
+          (keyed_waiting (is_given p h fr o x.class) frs fr o x y anew (anew.mine heavy owes) (is_renewed p h fr o) refl q
+          (covered q o x small was_held before (ap (is_heavy_class p) (sym anew.class) ∙ heavy) (owes_before p h (fr ∷ frs) o x y anew owes)))
+
+  pub waiting_anew : (frs : List Frame) → Turns frs → AreWaiting p h frs → AreWaiting p k frs
+  waiting_anew [] turns waits = tt
+  waiting_anew (fr ∷ frs) turns (covered, waits) = (covered_waiting fr frs turns covered, waiting_anew frs (turns_on fr frs turns) waits)

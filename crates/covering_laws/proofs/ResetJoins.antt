@@ -3,34 +3,30 @@ use Rattle.std.proofs.Common.{◌≡◌, ◌⊎◌, inl, inr, ℕ, ◌+◌, Bool
 use Rattle.std.specs.FinSet as set
 use Rattle.std.specs.Prelude.{if◌then◌else◌}
 use Rattle.std.proofs.lemmas.Bool.{and_from, and_parts}
-use Rattle.rlc_base.proofs.SetLaws.{empty_within, within_self}
 use Rattle.program_model.specs.declared.kinds.BodyId.{BodyId}
-use Rattle.program_model.specs.declared.kinds.ClassId.{ClassId}
 use Rattle.program_model.specs.declared.kinds.FieldId.{FieldId}
 use Rattle.program_model.specs.declared.kinds.MethodId.{MethodId}
 use Rattle.program_model.specs.declared.program.Method.{Method}
 use Rattle.program_model.specs.declared.program.Program.{Program}
 use Rattle.program_model.specs.Lookups.{method_at}
 use Rattle.ledger_obligations.specs.Bodies.{reset_in}
-use Rattle.ledger_obligations.specs.MustCallSets.{Names, fits, is_heavy_class, must_of}
+use Rattle.ledger_obligations.specs.MustCallSets.{fits, is_heavy_class}
 use Rattle.java_control.specs.Control.{Step}
 use Rattle.java_control.specs.Owned.{is_owning}
 use Rattle.java_control.specs.PlaceNumbers.{IsSmall}
 use Rattle.java_control.specs.declared.action.Action.{Action}
 use Rattle.java_control.specs.declared.action.Action.TheVariants as actions
 use Rattle.java_control.specs.declared.fact.Fact.{Fact}
+use Rattle.java_control.specs.declared.fact.Mode.{Mode}
 use Rattle.java_control.specs.declared.fact.Mode.TheVariants as modes
-use Rattle.java_control.specs.declared.fact.Origin.{Origin}
 use Rattle.java_control.specs.declared.place.Place.{Place}
 use Rattle.java_control.specs.declared.place.Place.TheVariants as places
-use Rattle.java_control.specs.Calls.{called_method, is_receiver}
-use Rattle.java_control.specs.declared.action.TargetForm.{TargetForm}
-use Rattle.java_control.specs.declared.action.TargetForm.TheVariants as targets
+use Rattle.java_control.specs.Calls.{called_method}
 use Rattle.value_laws.specs.Paths.{Reach, move_of, relation_of}
 use Rattle.value_laws.specs.PlaceRows.{places_after}
 use Rattle.value_laws.specs.Accept.{Accept}
 use Rattle.ownership_rules.specs.Callees.{callee, callee_in}
-use Rattle.ownership_rules.specs.Facts.{PlaceSet, has, has_temp, is_own, need}
+use Rattle.ownership_rules.specs.Facts.{PlaceSet, has, has_temp, is_own, mode_at}
 use Rattle.ownership_rules.specs.SmallActions.{IsSmallAction, IsSmallTemp}
 use Rattle.ownership_rules.proofs.SmallOperands.{operand_has_room}
 use Rattle.stub_conduct.specs.declared.choice.Conduct.{Conduct}
@@ -49,14 +45,15 @@ use Rattle.ledger_steps.specs.CallSteps.{library_called, library_heap, library_r
 use Rattle.value_laws.specs.Places.{place_value}
 use Rattle.ledger_steps.specs.LedgerCallsCalls.{form_of, object_by, operand_of, reset_position}
 use Rattle.value_laws.specs.Configuration.{Frame}
-use Rattle.value_laws.specs.Moves.{fits_target, is_target_of}
+use Rattle.value_laws.specs.Moves.{fits_target}
 use Rattle.value_laws.specs.Heaps.{HasEarlierLinks, IsOlder}
 use Rattle.value_laws.proofs.HeapLaws.{roots_go_on-root, roots_of_links-itself}
 use Rattle.value_laws.specs.Choosing.{body_id, frame_steps}
 use Rattle.value_laws.specs.Frames.{frame_after}
 use Rattle.value_laws.specs.Agreement.{Stands}
 use Rattle.value_laws.specs.Outcomes.{IsCallRow}
-use Rattle.value_laws.specs.PlainForms.{HasPlainForms, IsPlainAction, IsPlainReset, are_followed, resets_followed, resets_in_sight}
+use Rattle.value_laws.specs.PlainForms.{HasPlainForms, IsPlainAction, IsPlainReset}
+use Rattle.covering_laws.specs.Sight.{ActsInSight}
 use Rattle.value_laws.proofs.Ready.{step_there}
 use Rattle.value_laws.proofs.Tracking.{same_body}
 use Rattle.value_laws.specs.HeapAnew.{HasNoHolder, IsEmptied, finished_root, is_anew, is_field_owner, target_root}
@@ -71,8 +68,9 @@ use Rattle.ownership_rules.specs.declared.moved.Moved.TheVariants as moves
 use Rattle.ledger_steps.specs.Conducts.{conduct_value, positions}
 use Rattle.value_laws.proofs.Resetting.{answered_target}
 use Rattle.value_laws.proofs.Needs.{origin_needs_all}
-use Rattle.value_laws.proofs.ResetTargets.{owned_targets}
-use Rattle.value_laws.specs.PlaceFacts.{AreCovered, AreWaiting, Covers, IsCovered, IsKeyed, IsOwned, IsTrueOf, OwnersBelow, gives_none, is_frame_from, is_owning_fact, may_owe, owned, unowned}
+use Rattle.value_laws.proofs.ResetTargets.{answered_targets}
+use Rattle.value_laws.specs.PlaceFacts.{AreCovered, AreWaiting, Covers, IsCovered, IsKeyed, IsOwned, IsUnowned, OwnersBelow, gives_none, is_frame_from, is_owning_fact, may_owe, owned, renews_none, unowned}
+use Rattle.value_laws.specs.Renewing.{IsLentFrom}
 use Rattle.value_laws.specs.Ranges.{FieldsInRange, LocalsInRange}
 use Rattle.value_laws.specs.FieldContents.{LinksLead, OwningFieldsOwn}
 use Rattle.std.proofs.lemmas.List.Elements.{All-tail}
@@ -86,17 +84,20 @@ use Rattle.value_laws.proofs.FrameFollowing.{breaks_nothing}
 use Rattle.value_laws.proofs.Ready.{call_sets, plain_step, resets_plainly}
 use Rattle.value_laws.proofs.Unmet.{way_of_call}
 use Rattle.covering_laws.proofs.Bodies.{running_method}
-use Rattle.covering_laws.proofs.Followed.{first_position, followed_root}
+use Rattle.covering_laws.proofs.GivenAliases.{followed_is_heavy}
 use Rattle.covering_laws.proofs.KnownNames.{operand_temp}
+use Rattle.value_laws.proofs.ClassArguments.{target_is_instance}
 use Rattle.covering_laws.proofs.LibraryJoins.{call_top, call_top_from, library_after_unfinished, library_covered, library_keeps_roots, library_linked}
 use Rattle.covering_laws.proofs.LocalSteps.{LocalsIn, all_there, local_step}
 use Rattle.covering_laws.proofs.MadeObjects.{grown_fields, older_or_new}
-use Rattle.covering_laws.proofs.Resets.{no_resets}
-use Rattle.covering_laws.proofs.ResetCovers.{IsRenewed, Turns, keyed_same, owes_before, owned_anew, same_held, unowned_anew, waiting_below}
+use Rattle.covering_laws.proofs.Resets.{this_elsewhere}
+use Rattle.covering_laws.proofs.ResetCovers.{IsRenewed, OwnsOrIsLent, Turns, a_frame_owns, keyed_same, not_lent, owes_before, owned_anew, renewed_on, same_held, true_anew, unowned_anew, waiting_anew}
+use Rattle.covering_laws.proofs.Owners.{given_kept}
+use Rattle.covering_laws.proofs.Gifts.{all_keep_gifts}
 use Rattle.covering_laws.proofs.Waiting.{AllHeldBefore, KeepsFields, KeepsRoots, KeepsUnfinished, all_held_before, all_keep, no_other}
 
 -- no field owns an object, where none is owning
-unowned_by_fields : (p : Program) (owner : Owner) → ((f : FieldId) → is_owning p f ≡ false) → ((w : ℕ) (f : FieldId) → owner ≡ owners.Field w f → is_owning p f ≡ true) → is_field_owner owner ≡ false
+pub unowned_by_fields : (p : Program) (owner : Owner) → ((f : FieldId) → is_owning p f ≡ false) → ((w : ℕ) (f : FieldId) → owner ≡ owners.Field w f → is_owning p f ≡ true) → is_field_owner owner ≡ false
 unowned_by_fields p (owners.Field w f) none own = absurd (true≢false (sym (own w f refl) ∙ none f))
 unowned_by_fields p (owners.Frame j) none own = refl
 unowned_by_fields p owners.Library none own = refl
@@ -105,7 +106,7 @@ unowned_by_fields p owners.Lost none own = refl
 unowned_by_fields p owners.Unowned none own = refl
 
 -- the target's operand is an object whose root is finished
-target_value : (h : HeapContents) (v : Value) (o : ℕ) → finished_root h (number_of v) ≡ Some o → (root_of h v ≡ Some o) × (finished_in (object_at h o) ≡ true)
+pub target_value : (h : HeapContents) (v : Value) (o : ℕ) → finished_root h (number_of v) ≡ Some o → (root_of h v ≡ Some o) × (finished_in (object_at h o) ≡ true)
 target_value h values.Nothing o is = absurd (let never : None ≡ Some o = is in cc)
 target_value h (values.Object w) o is = go (finished_in (object_at h (root h w))) refl is
   where
@@ -114,34 +115,38 @@ target_value h (values.Object w) o is = go (finished_in (object_at h (root h w))
     go false undone same = absurd (let never : None ≡ Some o = same in cc)
 target_value h v o is = absurd (let never : None ≡ Some o = is in cc)
 
-same_position : (m : Option Method) → reset_in m ≡ reset_position m
+pub same_position : (m : Option Method) → reset_in m ≡ reset_position m
 same_position None = refl
 same_position (Some m) = refl
 
 module _ (p : Program) (ac : Accept p) (forms : HasPlainForms p) (h : HeapContents) (links : HasEarlierLinks h) (fr : Frame) (frs : List Frame) (st : Stands p fr) (mine : LocalsInRange h fr.locals)
-    (named : MethodId) (d : Conduct) (i : ℕ) (s : Step) (here : slice_get (frame_steps p fr) i ≡ Some s) (called : called_method s.action ≡ Some named) (row : IsCallRow s.action) (plain : IsPlainReset p st.number fr.control s.action) (covered : IsCovered p h gives_none frs fr) where
+    (named runs : MethodId) (d : Conduct) (i : ℕ) (s : Step) (here : slice_get (frame_steps p fr) i ≡ Some s) (called : called_method s.action ≡ Some named) (row : IsCallRow s.action) (plain : IsPlainReset p st.number fr.control s.action) (covered : IsCovered p h gives_none renews_none frs fr) where
   abbrev pub at : ℕ
   at = length frs + 1
 
   abbrev pub m : Option Method
   m = method_at p named
 
+  -- the method by whose signature the library answers
+  abbrev pub r : Option Method
+  r = method_at p runs
+
   abbrev pub l : Locals
   l = fr.locals
 
   -- the heap that the call would leave without its reset
   abbrev pub K : HeapContents
-  K = library_heap p l s.action (without_reset m) m d at h
+  K = library_heap p l s.action (without_reset m) r d at h
 
   -- the heap that it leaves
   abbrev pub J : HeapContents
-  J = library_heap p l s.action m m d at h
+  J = library_heap p l s.action m r d at h
 
   pub same : (u : Value) → root_of J u ≡ root_of K u
-  same u = same_root p l s.action m m d at h u
+  same u = same_root p l s.action m r d at h u
 
   pub fields : KeepsFields p K J
-  fields w f own = grown_fields p h J (library_grows p l s.action m m d at h) w f own ∙ sym (grown_fields p h K (library_grows p l s.action (without_reset m) m d at h) w f own)
+  fields w f own = grown_fields p h J (library_grows p l s.action m r d at h) w f own ∙ sym (grown_fields p h K (library_grows p l s.action (without_reset m) r d at h) w f own)
 
   same_callee : callee p s.action ≡ m
   same_callee = ap (callee_in p) called
@@ -174,7 +179,7 @@ module _ (p : Program) (ac : Accept p) (forms : HasPlainForms p) (h : HeapConten
 
   -- ---- its fact
 
-  module _ (o : ℕ) (x : Object) (c : Covers p h false frs fr o x) (target : is_target p s.action c.fact.places ≡ true) where
+  module _ (o : ℕ) (x : Object) (c : Covers p h false false frs fr o x) (target : is_target p s.action c.fact.places ≡ true) where
     reached : Reach p st.number (relation_of p st.number) c.origin fr.control c.fact
     reached = subst (λ (b : BodyId). Reach p b (relation_of p b) c.origin fr.control c.fact) (same_body c.body st.number (body_id p fr.method) c.id st.id) c.reached
 
@@ -184,115 +189,106 @@ module _ (p : Program) (ac : Accept p) (forms : HasPlainForms p) (h : HeapConten
       | inr is ↦ is
     ]
 
-    target_owned : (c.fact.mode ≡ modes.Own) × (is_heavy_class p c.origin.class ≡ true)
-    target_owned =
+    target_answered : ((c.fact.mode ≡ modes.Own) × (is_heavy_class p c.origin.class ≡ true)) ⊎ (c.fact.mode ≡ modes.Lent)
+    target_answered =
         let run = running_method p ac fr st in
         let of : method_at p st.body.method ≡ Some run.0 = ap (method_at p) st.method ∙ run.1 in
-        owned_targets p st.number st.body run.0 st.at of (forms.bodies st.number st.body run.0 st.at of) (λ k n t. no_resets p forms st.number k n t) c.origin fr.control c.fact reached plain.before
-        s.action answer.0 answer.1 plain.other answer.2
+        answered_targets p st.number st.body run.0 st.at of (λ k n t. this_elsewhere p forms st.number k n t) (forms.bodies st.number) (λ k n t g e c there is. (forms.stores st.number n t g e c there is).0)
+        c.origin fr.control c.fact reached plain.before s.action answer.0 answer.2
 
-    target_owning : is_owning_fact p c.origin c.fact ≡ true
-    target_owning = and_from (is_heavy_class p c.origin.class) (is_own c.fact.mode) target_owned.1 (ap is_own target_owned.0)
+    -- where it does not say that the frame owns the object, it says that it is lent
+    target_lent : is_owning_fact p c.origin c.fact ≡ false → c.fact.mode ≡ modes.Lent
+    target_lent other = elim target_answered [
+      | inl own ↦ absurd (true≢false (sym (and_from (is_heavy_class p c.origin.class) (is_own c.fact.mode) own.1 (ap is_own own.0)) ∙ other))
+      | inr lent ↦ lent
+    ]
 
     -- as it would go on
     pub goes_anew : GoesAnew p st.number c.origin s.action c.fact (places_after p st.number s.action s.edge c.fact.places) (fact_anew c.fact (places_after p st.number s.action s.edge c.fact.places))
     goes_anew = record { position = answer.0; target = answer.1; may = answer.2; anew = refl }
 
-    pub still_own : is_own (fact_anew c.fact (places_after p st.number s.action s.edge c.fact.places)).mode ≡ true
-    still_own = rw target_owned.0 refl
+    pub still_own : is_owning_fact p c.origin c.fact ≡ true → is_own (fact_anew c.fact (places_after p st.number s.action s.edge c.fact.places)).mode ≡ true
+    still_own owning = go c.fact.mode (and_parts (is_heavy_class p c.origin.class) (is_own c.fact.mode) owning).1
+      where
+        go : (n : Mode) → is_own n ≡ true → is_own (mode_at n (places_after p st.number s.action s.edge c.fact.places)) ≡ true
+        go modes.Own own = refl
+        go n own = absurd (true≢false (sym own))
 
-  -- the fact that has the target says that the frame owns it
-  module _ (o : ℕ) (x : Object) (before : object_at h o ≡ Some x) (heavy : is_heavy_class p x.class ≡ true) (owes : may_owe x ≡ true) (t : IsTargetAt o) where
-    pub its_key : (c : Covers p h false frs fr o x) × (has c.fact.places (places.Temp t.0) ≡ true) × IsOwned p h false frs fr o x c
+  -- the fact that has the target says that the frame owns it, or that it is lent
+  module _ (o : ℕ) (x : Object) (before : object_at h o ≡ Some x) (done : x.finished ≡ true) (heavy : is_heavy_class p x.class ≡ true) (owes : may_owe x ≡ true) (t : IsTargetAt o) where
+    abbrev pub IsTargetOwned : Type 0
+    IsTargetOwned = (c : Covers p h false false frs fr o x) × (has c.fact.places (places.Temp t.0) ≡ true) × IsOwned p h false false frs fr o x c
+
+    lent_by : IsUnowned p h false false frs fr (places.Temp t.0) o x → IsLentFrom p h frs o x.owner
+    lent_by u = (u.covers.lends (target_lent o x u.covers (t.3 u.covers.fact.places u.here) u.unowned) done).1
+
+    pub its_key : IsTargetOwned ⊎ IsLentFrom p h frs o x.owner
     its_key = by (covered (places.Temp t.0) o x t.1 t.2 before heavy owes)
       where
-        by : IsKeyed p h false frs fr (places.Temp t.0) o x → (c : Covers p h false frs fr o x) × (has c.fact.places (places.Temp t.0) ≡ true) × IsOwned p h false frs fr o x c
-        by (owned c in' key) = (c, in', key)
-        by (unowned u) = absurd (true≢false (sym (target_owning o x u.covers (t.3 u.covers.fact.places u.here)) ∙ u.unowned))
+        by : IsKeyed p h false false frs fr (places.Temp t.0) o x → IsTargetOwned ⊎ IsLentFrom p h frs o x.owner
+        by (owned c in' key) = inl (c, in', key)
+        by (unowned u) = inr (lent_by u)
 
-    frame_owns : x.owner ≡ owners.Frame at
-    frame_owns = its_key.2.owner refl
+    pub in_hands : OwnsOrIsLent p h frs o x.owner
+    in_hands = elim its_key [ inl key ↦ inl (at, key.2.owner refl, omega arith) | inr lent ↦ inr lent ]
 
-    -- so does each fact that says that the frame owns it
-    pub has_target : (c : Covers p h false frs fr o x) → IsOwned p h false frs fr o x c → is_target p s.action c.fact.places ≡ true
+    -- each fact that says that the frame owns it has the target
+    pub has_target : (c : Covers p h false false frs fr o x) → IsOwned p h false false frs fr o x c → is_target p s.action c.fact.places ≡ true
     has_target c key = elim (key.others (places.Temp t.0) t.1 t.2) [
       | inl in' ↦ t.3 c.fact.places in'
-      | inr u ↦ absurd (true≢false (sym (target_owning o x u.covers (t.3 u.covers.fact.places u.here)) ∙ u.unowned))
+      | inr u ↦ absurd (not_lent p h frs o x.owner (key.owner refl) (lent_by u))
     ]
 
   -- ---- where no field owns it
 
-  -- the receiver of a call in sight of the rules, which is linked to none and whose class has an obligation
-  in_sight : LinkedAreAliases p h → (arrays : List ArrayObject) → fits_target p h arrays m (form_of s.action) (operand_of l s.action 0) ≡ true → resets_in_sight p s.action ≡ true
-      → (n : ℕ) (x : Object) → target_root h l s.action m ≡ Some n → object_at h n ≡ Some x → is_heavy_class p x.class ≡ true
-  in_sight aliases arrays fits seen n x is before = go s.action refl seen
-    where
-      of_method : (z : Method) → m ≡ Some z → is_receiver z.sig.reset ≡ true → are_followed p z.class ≡ true → is_target_of p h arrays m (operand_of l s.action 0) ≡ true → is_heavy_class p x.class ≡ true
-      of_method z named_at receiver followed instance =
-          let at_operand : finished_root h (number_of (operand_of l s.action 0)) ≡ Some n =
-          ap (λ (r : Option ℕ). finished_root h (object_by (operand_of l s.action) r)) (sym (first_position z.sig.reset receiver)) ∙ ap (λ (y : Option Method). target_root h l s.action y) (sym named_at) ∙ is in
-          followed_root p ac z followed h links aliases arrays (operand_of l s.action 0) n x at_operand before
-          (ap (λ (y : Option Method). is_target_of p h arrays y (operand_of l s.action 0)) (sym named_at) ∙ instance)
-
-      by_method : (z : Option Method) → m ≡ z → resets_followed p z ≡ true → is_target_of p h arrays m (operand_of l s.action 0) ≡ true → is_heavy_class p x.class ≡ true
-      by_method None named_at never instance = absurd (true≢false (sym never))
-      by_method (Some z) named_at both instance =
-          let parts = and_parts (is_receiver z.sig.reset) (are_followed p z.class) both in of_method z named_at parts.0 parts.1 instance
-
-      go : (a : Action) → s.action ≡ a → resets_in_sight p a ≡ true → is_heavy_class p x.class ≡ true
-      go actions.Skip same' never = absurd (true≢false (sym never))
-      go (actions.Call k d' c targets.Other) same' followed =
-          let one : k ≡ named = (let both : Some k ≡ Some named = ap called_method (sym same') ∙ called in cc) in
-          by_method m refl (subst (λ (z : MethodId). resets_followed p (method_at p z) ≡ true) one followed)
-          (subst (λ (f : TargetForm). fits_target p h arrays m f (operand_of l s.action 0) ≡ true) (ap form_of same') fits)
-      go a same' never = absurd (true≢false (sym never))
-
-  -- no field owns the target's root
-  pub no_holder : OwningFieldsOwn p h → LinkedAreAliases p h → (arrays : List ArrayObject) → fits_target p h arrays m (form_of s.action) (operand_of l s.action 0) ≡ true → HasNoHolder h (target_root h l s.action m)
-  no_holder own aliases arrays fits n x is before = elim plain.seen [
-    | inl none ↦ unowned_by_fields p x.owner none (λ w f mine'. own n x w f before mine')
-    | inr seen ↦ by_owner x.owner refl
-        (λ stays. frame_owns n x before (in_sight aliases arrays fits seen n x is before) (ap (λ (b : Bool). not (x.finished && b)) stays ∙ none_left x.finished) (target_at n is).0)
+  -- no field owns the target's root: it is in the hands of a frame, or its obligation is never created anew
+  pub no_holder : OwningFieldsOwn p h → ActsInSight p h fr → (arrays : List ArrayObject) → fits_target p h arrays m (form_of s.action) (operand_of l s.action 0) ≡ true → HasNoHolder h (target_root h l s.action m)
+  no_holder own sight arrays fits n x is before = elim plain.seen [
+    | inl none ↦ unowned_by_fields p x.owner none (λ w f mine'. (own n x w f before mine').0)
+    | inr out ↦ by_owner x.owner refl (λ w f mine'. followed_is_heavy p x.class ((own n x w f before mine').1 out) (sight.renews out i s named n x here called (target_is_instance p h arrays l s.action m fits) is before))
+        (λ heavy stays. a_frame_owns p h frs n x.owner (in_hands n x before (ap finished_in (sym before) ∙ (target_at n is).1) heavy
+        (ap (λ (b : Bool). not (x.finished && b)) stays ∙ none_left x.finished) (target_at n is).0))
   ]
     where
       none_left : (b : Bool) → not (b && false) ≡ true
       none_left true = refl
       none_left false = refl
 
-      by_owner : (w : Owner) → x.owner ≡ w → (is_library_owner x.owner ≡ false → x.owner ≡ owners.Frame at) → is_field_owner x.owner ≡ false
-      by_owner owners.Library same' frame = ap is_field_owner same'
-      by_owner (owners.Frame j) same' frame = ap is_field_owner same'
-      by_owner (owners.Field w f) same' frame = ap is_field_owner (frame (ap is_library_owner same'))
-      by_owner owners.Released same' frame = ap is_field_owner same'
-      by_owner owners.Lost same' frame = ap is_field_owner same'
-      by_owner owners.Unowned same' frame = ap is_field_owner same'
+      by_owner : (w : Owner) → x.owner ≡ w → ((u : ℕ) (f : FieldId) → x.owner ≡ owners.Field u f → is_heavy_class p x.class ≡ true) → (is_heavy_class p x.class ≡ true → is_library_owner x.owner ≡ false → is_frame_from 0 x.owner ≡ true)
+          → is_field_owner x.owner ≡ false
+      by_owner owners.Library same' heavy frame = ap is_field_owner same'
+      by_owner (owners.Frame j) same' heavy frame = ap is_field_owner same'
+      by_owner (owners.Field w f) same' heavy frame = absurd (true≢false (sym (frame (heavy w f same') (ap is_library_owner same')) ∙ ap (is_frame_from 0) same'))
+      by_owner owners.Released same' heavy frame = ap is_field_owner same'
+      by_owner owners.Lost same' heavy frame = ap is_field_owner same'
+      by_owner owners.Unowned same' heavy frame = ap is_field_owner same'
 
   -- ---- the objects
 
   later_links : HasEarlierLinks J
-  later_links = any_library_links_stay p l s.action m m d at h links (λ k w alias number. operand_in_range h l mine s.action k w number)
+  later_links = any_library_links_stay p l s.action m r d at h links (λ k w alias number. operand_in_range h l mine s.action k w number)
 
   module _ (free : HasNoHolder h (target_root h l s.action m)) where
     -- the object is as it would be, or its obligation is created anew
     abbrev pub IsTurned : ℕ → Object → Type 0
-    IsTurned o y = (z : Object) × (object_at K o ≡ Some z) × (((y ≡ z) × (is_anew p l s.action m m d h o ≡ false)) ⊎ (IsRenewed p at z y × ((x : Object) × (object_at h o ≡ Some x) × (z.class ≡ x.class) × (may_owe z ≡ true → may_owe x ≡ true) × IsTargetAt o)))
+    IsTurned o y = (z : Object) × (object_at K o ≡ Some z) × (((y ≡ z) × (is_anew p l s.action m r d h o ≡ false)) ⊎ (IsRenewed p h frs o z y × ((x : Object) × (object_at h o ≡ Some x) × (x.finished ≡ true) × (z.class ≡ x.class) × (may_owe z ≡ true → (may_owe x ≡ true) × (z.owner ≡ x.owner)) × IsTargetAt o)))
 
     pub turned_at : (o : ℕ) (y : Object) (u : Value) → root_of J u ≡ Some o → object_at J o ≡ Some y → IsTurned o y
-    turned_at o y u root' now = (z.0, z.1, go (is_anew p l s.action m m d h o) refl)
+    turned_at o y u root' now = (z.0, z.1, go (is_anew p l s.action m r d h o) refl)
       where
-        z : (w : Object) × (object_at K o ≡ Some w) × (turned p l s.action m m d at h o w ≡ y)
-        z = back p l s.action m m d at h o y now
+        z : (w : Object) × (object_at K o ≡ Some w) × (turned p l s.action m r d at h o w ≡ y)
+        z = back p l s.action m r d at h o y now
 
-        go : (b : Bool) → is_anew p l s.action m m d h o ≡ b → ((y ≡ z.0) × (is_anew p l s.action m m d h o ≡ false)) ⊎ (IsRenewed p at z.0 y × ((x : Object) × (object_at h o ≡ Some x) × (z.0.class ≡ x.class) × (may_owe z.0 ≡ true → may_owe x ≡ true) × IsTargetAt o))
-        go false out = inl (sym z.2 ∙ as_it_was p l s.action m m d at h o z.0 out, out)
-        go true anew = by (older_or_new p l s.action (without_reset m) m at h (says_nothing m) links d o z.0 z.1)
+        go : (b : Bool) → is_anew p l s.action m r d h o ≡ b → ((y ≡ z.0) × (is_anew p l s.action m r d h o ≡ false)) ⊎ (IsRenewed p h frs o z.0 y × ((x : Object) × (object_at h o ≡ Some x) × (x.finished ≡ true) × (z.0.class ≡ x.class) × (may_owe z.0 ≡ true → (may_owe x ≡ true) × (z.0.owner ≡ x.owner)) × IsTargetAt o))
+        go false out = inl (sym z.2 ∙ as_it_was p l s.action m r d at h o z.0 out, out)
+        go true anew = by (older_or_new p l s.action (without_reset m) r at h (says_nothing m) links d o z.0 z.1)
           where
             keeps : (y.class ≡ z.0.class) × (y.link ≡ z.0.link) × (y.finished ≡ z.0.finished) × (y.owner ≡ z.0.owner)
             keeps =
-                let it = reset_keeps p (library_called p l s.action m m d h) (library_roots p l s.action m m d h) o z.0 in
+                let it = reset_keeps p (library_called p l s.action m r d h) (library_roots p l s.action m r d h) o z.0 in
                 (ap (λ (w : Object). w.class) (sym z.2) ∙ it.0, ap (λ (w : Object). w.link) (sym z.2) ∙ it.1, ap (λ (w : Object). w.finished) (sym z.2) ∙ it.2, ap (λ (w : Object). w.owner) (sym z.2) ∙ it.3)
 
-            old : IsOlder h o z.0 owners.Library → IsRenewed p at z.0 y × ((x : Object) × (object_at h o ≡ Some x) × (z.0.class ≡ x.class) × (may_owe z.0 ≡ true → may_owe x ≡ true) × IsTargetAt o)
+            old : IsOlder h o z.0 owners.Library → IsRenewed p h frs o z.0 y × ((x : Object) × (object_at h o ≡ Some x) × (x.finished ≡ true) × (z.0.class ≡ x.class) × (may_owe z.0 ≡ true → (may_owe x ≡ true) × (z.0.owner ≡ x.owner)) × IsTargetAt o)
             old was = (
               record {
                 class = keeps.0;
@@ -301,24 +297,25 @@ module _ (p : Program) (ac : Accept p) (forms : HasPlainForms p) (h : HeapConten
                 called = emptied.called;
                 must = elim emptied.must [ inl all ↦ inl all | inr kept ↦ inr (kept ∙ sym was.goes_on.must) ];
                 mine = λ heavy owes. elim was.owner [
-                  | inl stays ↦ stays ∙ frame_owns o x was.at (ap (is_heavy_class p) (sym (keeps.0 ∙ was.goes_on.class)) ∙ heavy) (might y x (keeps.2 ∙ was.goes_on.finished) (keeps.3 ∙ stays) owes) target.0
+                  | inl stays ↦ subst (OwnsOrIsLent p h frs o) (sym stays)
+                      (in_hands o x was.at done (ap (is_heavy_class p) (sym (keeps.0 ∙ was.goes_on.class)) ∙ heavy) (might y x (keeps.2 ∙ was.goes_on.finished) (keeps.3 ∙ stays) owes) target.0)
                   | inr gone ↦ absurd (true≢false (sym owes ∙ ap not (and_from y.finished (is_library_owner y.owner) (keeps.2 ∙ was.goes_on.finished ∙ done) (ap is_library_owner (keeps.3 ∙ gone)))))
                 ];
               },
-              (x, was.at, was.goes_on.class, before_owes, target.0),
+              (x, was.at, done, was.goes_on.class, before_owes, target.0),
             )
               where
                 x : Object
                 x = was.before
 
                 emptied : IsEmptied p x y
-                emptied = emptied_objects p l s.action m m d at h o x y anew was.at now
+                emptied = emptied_objects p l s.action m r d at h o x y anew was.at now
 
                 unlinked : x.link ≡ None
                 unlinked = sym (keeps.1 ∙ was.goes_on.link) ∙ roots_go_on-root J u o y later_links root' now
 
                 target : IsTargetAt o × (finished_in (object_at h o) ≡ true)
-                target = target_at o (emptied_roots-root p l s.action m m d h o x links free was.at anew ∙ ap Some (roots_of_links-itself h o x was.at unlinked))
+                target = target_at o (emptied_roots-root p l s.action m r d h o x links free was.at anew ∙ ap Some (roots_of_links-itself h o x was.at unlinked))
 
                 done : x.finished ≡ true
                 done = ap finished_in (sym was.at) ∙ target.1
@@ -327,145 +324,149 @@ module _ (p : Program) (ac : Accept p) (forms : HasPlainForms p) (h : HeapConten
                 might a b finished owner is =
                     ap (λ (f : Bool). not (f && is_library_owner b.owner)) (sym finished) ∙ ap (λ (w : Owner). not (a.finished && is_library_owner w)) (sym owner) ∙ is
 
-                before_owes : may_owe z.0 ≡ true → may_owe x ≡ true
+                before_owes : may_owe z.0 ≡ true → (may_owe x ≡ true) × (z.0.owner ≡ x.owner)
                 before_owes owes = elim was.owner [
-                  | inl stays ↦ might z.0 x was.goes_on.finished stays owes
+                  | inl stays ↦ (might z.0 x was.goes_on.finished stays owes, stays)
                   | inr gone ↦ absurd (true≢false (sym owes ∙ ap not (and_from z.0.finished (is_library_owner z.0.owner) (was.goes_on.finished ∙ done) (ap is_library_owner gone))))
                 ]
 
             by : IsOlder h o z.0 owners.Library ⊎ (o ≡ next_number h)
-                → ((y ≡ z.0) × (is_anew p l s.action m m d h o ≡ false)) ⊎ (IsRenewed p at z.0 y × ((x : Object) × (object_at h o ≡ Some x) × (z.0.class ≡ x.class) × (may_owe z.0 ≡ true → may_owe x ≡ true) × IsTargetAt o))
+                → ((y ≡ z.0) × (is_anew p l s.action m r d h o ≡ false)) ⊎ (IsRenewed p h frs o z.0 y × ((x : Object) × (object_at h o ≡ Some x) × (x.finished ≡ true) × (z.0.class ≡ x.class) × (may_owe z.0 ≡ true → (may_owe x ≡ true) × (z.0.owner ≡ x.owner)) × IsTargetAt o))
             by (inl was) = inr (old was)
-            by (inr new) = absurd (true≢false (sym anew ∙ ap (is_anew p l s.action m m d h) new ∙ fresh_stays p l s.action m m d at h))
+            by (inr new) = absurd (true≢false (sym anew ∙ ap (is_anew p l s.action m r d h) new ∙ fresh_stays p l s.action m r d at h))
 
-    -- an object whose obligation is created anew, and which may owe a call, is in a fact that says that the frame owns it
-    pub renewed_owned : (o : ℕ) (y : Object) → object_at J o ≡ Some y → y.link ≡ None → is_anew p l s.action m m d h o ≡ true → is_heavy_class p y.class ≡ true → may_owe y ≡ true
-        → (y.owner ≡ owners.Frame at) × ((x : Object) × (object_at h o ≡ Some x) × (y.class ≡ x.class)
-        × ((c : Covers p h false frs fr o x) × IsOwned p h false frs fr o x c × (is_target p s.action c.fact.places ≡ true) × ((t : ℕ) × (has c.fact.places (places.Temp t) ≡ true))))
-    renewed_owned o y now unlinked is heavy owes = by (turned_at o y (values.Object o) (ap Some (roots_of_links-itself J o y now unlinked)) now)
+    -- an object whose obligation is created anew, and which may owe a call, is in a fact that says that the frame owns it, or it is lent
+    abbrev pub IsInHands : ℕ → Object → Type 0
+    IsInHands o x =
+        ((x.owner ≡ owners.Frame at) × ((c : Covers p h false false frs fr o x) × IsOwned p h false false frs fr o x c × (is_target p s.action c.fact.places ≡ true) × ((t : ℕ) × (has c.fact.places (places.Temp t) ≡ true))))
+        ⊎ IsLentFrom p h frs o x.owner
+
+    pub renewed_in_hands : (o : ℕ) (y : Object) → object_at J o ≡ Some y → y.link ≡ None → is_anew p l s.action m r d h o ≡ true → is_heavy_class p y.class ≡ true → may_owe y ≡ true
+        → (x : Object) × (object_at h o ≡ Some x) × (x.finished ≡ true) × (y.class ≡ x.class) × (y.owner ≡ x.owner) × IsInHands o x
+    renewed_in_hands o y now unlinked is heavy owes = by (turned_at o y (values.Object o) (ap Some (roots_of_links-itself J o y now unlinked)) now)
       where
-        by : IsTurned o y → (y.owner ≡ owners.Frame at) × ((x : Object) × (object_at h o ≡ Some x) × (y.class ≡ x.class)
-            × ((c : Covers p h false frs fr o x) × IsOwned p h false frs fr o x c × (is_target p s.action c.fact.places ≡ true) × ((t : ℕ) × (has c.fact.places (places.Temp t) ≡ true))))
+        by : IsTurned o y → (x : Object) × (object_at h o ≡ Some x) × (x.finished ≡ true) × (y.class ≡ x.class) × (y.owner ≡ x.owner) × IsInHands o x
         by (z, there, inl (it, out)) = absurd (true≢false (sym is ∙ out))
-        by (z, there, inr (anew, (x, before, class, owed, t))) =
+        by (z, there, inr (anew, (x, before, done, class, owed, t))) =
             let wide : is_heavy_class p x.class ≡ true = ap (is_heavy_class p) (sym (anew.class ∙ class)) ∙ heavy in
-            let key = its_key o x before wide (owed (owes_before p at z y anew owes)) t in
-            (anew.owner ∙ anew.mine heavy owes, (x, before, anew.class ∙ class, (key.0, key.2, t.3 key.0.fact.places key.1, (t.0, key.1))))
+            let was = owed (owes_before p h frs o z y anew owes) in (
+              x,
+              before,
+              done,
+              anew.class ∙ class,
+              anew.owner ∙ was.1,
+              elim (its_key o x before done wide was.0 t) [
+                | inl key ↦ inl (key.2.owner refl, (key.0, key.2, t.3 key.0.fact.places key.1, (t.0, key.1)))
+                | inr lent ↦ inr lent
+              ],
+            )
 
 module _ (p : Program) (ac : Accept p) (forms : HasPlainForms p) (names : HasSmallInterests p) (h : HeapContents) (links : HasEarlierLinks h) (ranges : FieldsInRange h) (fr : Frame) (frs : List Frame) (st : Stands p fr)
-    (mine : LocalsInRange h fr.locals) (arrays : List ArrayObject) (named : MethodId) (d : Conduct) (s : Step) (next : IsLibraryMove p h arrays fr.locals (frame_steps p fr) named named d s) (count : ℕ)
+    (mine : LocalsInRange h fr.locals) (arrays : List ArrayObject) (named runs : MethodId) (d : Conduct) (s : Step) (next : IsLibraryMove p h arrays fr.locals (frame_steps p fr) named runs d s) (count : ℕ)
     (leads : LinksLead p h) (called : called_method s.action ≡ Some named) (row : IsCallRow s.action) (plain : IsPlainReset p st.number fr.control s.action)
-    (free : HasNoHolder h (target_root h fr.locals s.action (method_at p named))) (covered : IsCovered p h gives_none frs fr) (others : LocalsIn h frs) where
+    (free : HasNoHolder h (target_root h fr.locals s.action (method_at p named))) (covered : IsCovered p h gives_none renews_none frs fr) (others : LocalsIn h frs)
+    (lent_on : (o : ℕ) (w : Owner) → IsLentFrom p h frs o w → IsLentFrom p (library_heap p fr.locals s.action (without_reset (method_at p named)) (method_at p runs) d (length frs + 1) h) frs o w) where
   abbrev plain_heap : HeapContents
-  plain_heap = library_heap p fr.locals s.action (without_reset (method_at p named)) (method_at p named) d (length frs + 1) h
+  plain_heap = library_heap p fr.locals s.action (without_reset (method_at p named)) (method_at p runs) d (length frs + 1) h
 
   abbrev left_heap : HeapContents
-  left_heap = library_heap p fr.locals s.action (method_at p named) (method_at p named) d (length frs + 1) h
+  left_heap = library_heap p fr.locals s.action (method_at p named) (method_at p runs) d (length frs + 1) h
 
   abbrev after : Frame
-  after = frame_after p h fr s (conduct_value count (method_at p named) (positions fr.locals s.action (next_number h) d) (next_number h) d)
+  after = frame_after p h fr s (conduct_value count (method_at p runs) (positions fr.locals s.action (next_number h) d) (next_number h) d)
 
   same_here : (u : Value) → root_of left_heap u ≡ root_of plain_heap u
-  same_here u = same p ac forms h links fr frs st mine named d next.index s next.here called row plain covered u
+  same_here u = same p ac forms h links fr frs st mine named runs d next.index s next.here called row plain covered u
 
   fields_here : KeepsFields p plain_heap left_heap
-  fields_here w f own = fields p ac forms h links fr frs st mine named d next.index s next.here called row plain covered w f own
+  fields_here w f own = fields p ac forms h links fr frs st mine named runs d next.index s next.here called row plain covered w f own
+
+  -- what is lent stays so
+  hands_on : (o : ℕ) (w : Owner) → OwnsOrIsLent p h frs o w → OwnsOrIsLent p plain_heap frs o w
+  hands_on o w (inl above) = inl above
+  hands_on o w (inr lent) = inr (lent_on o w lent)
 
   -- ---- the top frame
 
-  pub anew_top : IsCovered p left_heap gives_none frs after
-  anew_top q o y less held now heavy owes = by (turned_at p ac forms h links fr frs st mine named d next.index s next.here called row plain covered free o y (place_value p left_heap after.method after.locals q) held now)
+  pub anew_top : IsCovered p left_heap gives_none renews_none frs after
+  anew_top q o y less held now heavy owes = by (turned_at p ac forms h links fr frs st mine named runs d next.index s next.here called row plain covered free o y (place_value p left_heap after.method after.locals q) held now)
     where
       was_held : root_of plain_heap (place_value p plain_heap after.method after.locals q) ≡ Some o
       was_held = sym (same_held p plain_heap left_heap same_here fields_here after.method after.locals q) ∙ held
 
-      by : IsTurned p ac forms h links fr frs st mine named d next.index s next.here called row plain covered free o y → IsKeyed p left_heap false frs after q o y
+      by : IsTurned p ac forms h links fr frs st mine named runs d next.index s next.here called row plain covered free o y → IsKeyed p left_heap false false frs after q o y
       by (z, there, inl (it, out)) =
-          subst (λ (w : Object). IsKeyed p left_heap false frs after q o w) (sym it)
-          (keyed_same p plain_heap left_heap same_here fields_here false frs after o z q
-          (call_top p ac forms names h links ranges fr frs st mine arrays named d s next count leads called row covered others q o z less was_held there
+          subst (λ (w : Object). IsKeyed p left_heap false false frs after q o w) (sym it)
+          (keyed_same p plain_heap left_heap same_here fields_here false false frs after o z q
+          (call_top p ac forms names h links ranges fr frs st mine arrays named runs d s next count leads called row covered others q o z less was_held there
           (ap (λ (w : Object). is_heavy_class p w.class) (sym it) ∙ heavy) (ap may_owe (sym it) ∙ owes)))
-      by (z, there, inr (anew, (x, before, class, owed, t))) =
-          elim (call_top_from p ac forms names h links ranges fr frs st mine arrays named d s next count leads called row covered others q o z less was_held there heavy' owes') [
-            | inr u ↦ unowned (unowned_anew p plain_heap left_heap same_here fields_here false frs after o (length frs + 1) z y anew.class anew.finished anew.owner (anew.mine heavy owes) (omega arith) q u)
-            | inl key ↦ owned_anew p plain_heap left_heap same_here fields_here false frs after o (length frs + 1) z y anew.class anew.finished anew.owner (anew.mine heavy owes) (omega arith) q key.0 key.1 key.2
-                (λ claimed apart. true_anew key.0.origin key.0.fact (key.0.true' claimed apart)
-                (origin_needs_all p key.0.body key.0.origin after.control key.0.fact key.0.reached)
+      by (z, there, inr (anew, (x, before, done, class, owed, t))) =
+          elim (call_top_from p ac forms names h links ranges fr frs st mine arrays named runs d s next count leads called row covered others q o z less was_held there heavy' owes') [
+            | inr u ↦ unowned (unowned_anew p plain_heap left_heap same_here fields_here false false false frs after o z y anew.class anew.finished anew.owner hands q u)
+            | inl key ↦ owned_anew p plain_heap left_heap same_here fields_here false false false frs after o z y anew.class anew.finished anew.owner hands q key.0 key.1 key.2
+                (λ claimed apart. true_anew p key.0.origin key.0.fact z y (origin_needs_all p key.0.body key.0.origin after.control key.0.fact key.0.reached)
                 (elim key.3 [
                   | inl from ↦ emptied key.0.fact from.0 from.1 from.2 from.3 (λ target. (from.5.1 target).anew)
-                  | inr stops ↦ absurd (ends stops)
-                ]))
+                  | inr stops ↦ absurd (ends (key.2.owner refl) stops)
+                ]) anew.class anew.finished anew.called anew.must (key.0.true' claimed apart))
           ]
         where
           heavy' : is_heavy_class p z.class ≡ true
           heavy' = ap (is_heavy_class p) (sym anew.class) ∙ heavy
 
           owes' : may_owe z ≡ true
-          owes' = owes_before p (length frs + 1) z y anew owes
+          owes' = owes_before p h frs o z y anew owes
+
+          hands : OwnsOrIsLent p plain_heap frs o z.owner
+          hands = hands_on o z.owner (anew.mine heavy owes)
 
           wide : is_heavy_class p x.class ≡ true
           wide = ap (is_heavy_class p) (sym class) ∙ heavy'
 
           -- the fact goes on with no names and full
-          emptied : (g : Fact) (w : Object) → object_at h o ≡ Some w → (c : Covers p h false frs fr o w) → IsOwned p h false frs fr o w c
+          emptied : (g : Fact) (w : Object) → object_at h o ≡ Some w → (c : Covers p h false false frs fr o w) → IsOwned p h false false frs fr o w c
               → (is_target p s.action c.fact.places ≡ true → g ≡ fact_anew c.fact (places_after p st.number s.action s.edge c.fact.places)) → (g.called ≡ set.empty) × (g.full ≡ true)
           emptied g w at' c key goes =
               let one : w ≡ x = (let both : Some w ≡ Some x = sym at' ∙ before in cc) in
-              let is = goes (has_target p ac forms h links fr frs st mine named d next.index s next.here called row plain covered o w at' (ap (λ (u : Object). is_heavy_class p u.class) one ∙ wide) (ap may_owe one ∙ owed owes') t c key) in
+              let is = goes (has_target p ac forms h links fr frs st mine named runs d next.index s next.here called row plain covered o w at' (ap (λ (u : Object). u.finished) one ∙ done)
+              (ap (λ (u : Object). is_heavy_class p u.class) one ∙ wide) (ap may_owe one ∙ (owed owes').0) t c key) in
               (ap (λ (f : Fact). f.called) is, ap (λ (f : Fact). f.full) is)
 
           -- some fact goes on owning it
-          ends : ((w : Object) → object_at h o ≡ Some w → (u : Place) → IsSmall u → root_of h (place_value p h fr.method fr.locals u) ≡ Some o → (c : Covers p h false frs fr o w) → IsOwned p h false frs fr o w c
-              → (g : Fact) → (moved_at_call p c.origin s.action s.edge c.fact ≡ moves.Moves → is_owned_in g.mode ≡ false)
+          ends : z.owner ≡ owners.Frame (length frs + 1) → ((w : Object) → object_at h o ≡ Some w → (u : Place) → IsSmall u → root_of h (place_value p h fr.method fr.locals u) ≡ Some o → (c : Covers p h false false frs fr o w)
+              → IsOwned p h false false frs fr o w c → (g : Fact) → (moved_at_call p c.origin s.action s.edge c.fact ≡ moves.Moves → is_owned_in g.mode ≡ false)
               × (is_target p s.action c.fact.places ≡ true → GoesAnew p st.number c.origin s.action c.fact (places_after p st.number s.action s.edge c.fact.places) g) → is_own g.mode ≡ false) → ⊥
-          ends stops =
-              let key = its_key p ac forms h links fr frs st mine named d next.index s next.here called row plain covered o x before wide (owed owes') t in
-              let target = t.3 key.0.fact.places key.1 in
-              true≢false (sym (still_own p ac forms h links fr frs st mine named d next.index s next.here called row plain covered o x key.0 target)
-              ∙ stops x before (places.Temp t.0) t.1 t.2 key.0 key.2 (fact_anew key.0.fact (places_after p st.number s.action s.edge key.0.fact.places))
-              ((λ moved. absurd ((answer p ac forms h links fr frs st mine named d next.index s next.here called row plain covered o x key.0 target).3 moved)), (λ is. goes_anew p ac forms h links fr frs st mine named d next.index s next.here called row plain covered o x key.0 target)))
-
-          true_anew : (g : Origin) (f : Fact) → IsTrueOf p z g f → g.full ≡ must_of p g.class → (f.called ≡ set.empty) × (f.full ≡ true) → IsTrueOf p y g f
-          true_anew g f was all none = record {
-            finished = anew.finished ∙ was.finished;
-            class = ap (λ (c : ClassId). fits p c g.class) anew.class ∙ was.class;
-            bounded = elim anew.must [
-              | inl every ↦ ap (λ (t' : Names). set.is_subset t' (must_of p y.class)) every ∙ within_self (must_of p y.class)
-              | inr kept ↦ ap (λ (t' : Names). set.is_subset t' (must_of p y.class)) kept ∙ ap (λ (c : ClassId). set.is_subset z.must (must_of p c)) anew.class ∙ was.bounded
-            ];
-            need = elim anew.must [
-              | inl every ↦ ap (λ (t' : Names). set.is_subset t' (need g f)) every ∙ full_need (must_of p y.class) (ap (λ (c : ClassId). fits p c g.class) anew.class ∙ was.class)
-              | inr kept ↦ ap (λ (t' : Names). set.is_subset t' (need g f)) kept ∙ was.need
-            ];
-            called = ap (λ (t' : Names). set.is_subset t' y.called) none.0 ∙ empty_within y.called;
-          }
-            where
-              full_need : (t' : Names) → set.is_subset t' (must_of p g.class) ≡ true → set.is_subset t' (need g f) ≡ true
-              full_need t' inside = rw none.1 (ap (set.is_subset t') all ∙ inside)
+          ends own stops = elim (its_key p ac forms h links fr frs st mine named runs d next.index s next.here called row plain covered o x before done wide (owed owes').0 t) [
+            | inl key ↦ (let target = t.3 key.0.fact.places key.1 in
+                true≢false (sym (still_own p ac forms h links fr frs st mine named runs d next.index s next.here called row plain covered o x key.0 target key.2.owning)
+                ∙ stops x before (places.Temp t.0) t.1 t.2 key.0 key.2 (fact_anew key.0.fact (places_after p st.number s.action s.edge key.0.fact.places))
+                ((λ moved. absurd ((answer p ac forms h links fr frs st mine named runs d next.index s next.here called row plain covered o x key.0 target).3 moved)), (λ is. goes_anew p ac forms h links fr frs st mine named runs d next.index s next.here called row plain covered o x key.0 target))))
+            | inr lent ↦ not_lent p h frs o x.owner (sym (owed owes').1 ∙ own) lent
+          ]
 
   -- ---- all frames
 
   pub anew_covered : AreWaiting p plain_heap frs → AreWaiting p left_heap frs
-  anew_covered waits = waiting_below p plain_heap left_heap same_here fields_here (length frs + 1) turns frs (omega arith) waits
+  anew_covered waits = waiting_anew p plain_heap left_heap same_here fields_here frs turns waits
     where
-      turns : Turns p plain_heap left_heap same_here fields_here (length frs + 1)
-      turns o y u root' now = by (turned_at p ac forms h links fr frs st mine named d next.index s next.here called row plain covered free o y u root' now)
+      turns : Turns p plain_heap left_heap same_here fields_here frs
+      turns o y u root' now = by (turned_at p ac forms h links fr frs st mine named runs d next.index s next.here called row plain covered free o y u root' now)
         where
-          by : IsTurned p ac forms h links fr frs st mine named d next.index s next.here called row plain covered free o y → (x : Object) × (object_at plain_heap o ≡ Some x) × ((y ≡ x) ⊎ IsRenewed p (length frs + 1) x y)
+          by : IsTurned p ac forms h links fr frs st mine named runs d next.index s next.here called row plain covered free o y → (x : Object) × (object_at plain_heap o ≡ Some x) × ((y ≡ x) ⊎ IsRenewed p plain_heap frs o x y)
           by (z, there, inl it) = (z, there, inl it.0)
-          by (z, there, inr (anew, rest)) = (z, there, inr anew)
+          by (z, there, inr (anew, rest)) = (z, there, inr (renewed_on p h plain_heap frs o z y (lent_on o) anew))
 
 -- ---- any call of the library, and any read of a constant
 
 -- a method that creates no obligation anew is the one without its reset
-plain_method : (m : Option Method) → reset_position m ≡ None → without_reset m ≡ m
+pub plain_method : (m : Option Method) → reset_position m ≡ None → without_reset m ≡ m
 plain_method None none = refl
 plain_method (Some m) none = ap (λ (r : Option ℕ). Some (record m { sig = record m.sig { reset = r } })) (sym none)
 
 -- a constant that is read creates no obligation anew
 read_reset : (p : Program) (a : Action) (named : MethodId) → IsPlainAction p a → IsConstantRead a named → reset_position (method_at p named) ≡ None
 read_reset p actions.Skip named plain read = absurd read
-read_reset p (actions.Plain x (plain_values.LibraryConstant k)) named plain read = ap (λ (n : MethodId). reset_position (method_at p n)) (sym read) ∙ sym (same_position (method_at p k)) ∙ plain.2
+read_reset p (actions.Plain x (plain_values.LibraryConstant k)) named plain read = ap (λ (n : MethodId). reset_position (method_at p n)) (sym read) ∙ sym (same_position (method_at p k)) ∙ plain.1
 read_reset p a named plain read = absurd read
 
 -- what names a method is a call
@@ -477,67 +478,67 @@ row_by (actions.Super m d n) named is = tt
 row_by a named is = absurd (let never : None ≡ Some named = is in cc)
 
 module _ (p : Program) (ac : Accept p) (forms : HasPlainForms p) (names : HasSmallInterests p) (h : HeapContents) (links : HasEarlierLinks h) (ranges : FieldsInRange h) (fr : Frame) (frs : List Frame) (st : Stands p fr)
-    (mine : LocalsInRange h fr.locals) (arrays : List ArrayObject) (named : MethodId) (d : Conduct) (s : Step) (next : IsLibraryMove p h arrays fr.locals (frame_steps p fr) named named d s) (count : ℕ)
+    (mine : LocalsInRange h fr.locals) (arrays : List ArrayObject) (named runs : MethodId) (d : Conduct) (s : Step) (next : IsLibraryMove p h arrays fr.locals (frame_steps p fr) named runs d s) (count : ℕ)
     (leads : LinksLead p h) where
   abbrev left : HeapContents
-  left = library_heap p fr.locals s.action (method_at p named) (method_at p named) d (length frs + 1) h
+  left = library_heap p fr.locals s.action (method_at p named) (method_at p runs) d (length frs + 1) h
 
   abbrev would : HeapContents
-  would = library_heap p fr.locals s.action (without_reset (method_at p named)) (method_at p named) d (length frs + 1) h
+  would = library_heap p fr.locals s.action (without_reset (method_at p named)) (method_at p runs) d (length frs + 1) h
 
   -- each object is as it would be, but for the names that were called on it and must be
   was_there : (o : ℕ) (y : Object) → object_at left o ≡ Some y
       → (z : Object) × (object_at would o ≡ Some z) × (y.class ≡ z.class) × (y.link ≡ z.link) × (y.finished ≡ z.finished) × (y.owner ≡ z.owner)
   was_there o y now =
-      let z = back p fr.locals s.action (method_at p named) (method_at p named) d (length frs + 1) h o y now in
-      let it = reset_keeps p (library_called p fr.locals s.action (method_at p named) (method_at p named) d h) (library_roots p fr.locals s.action (method_at p named) (method_at p named) d h) o z.0 in
+      let z = back p fr.locals s.action (method_at p named) (method_at p runs) d (length frs + 1) h o y now in
+      let it = reset_keeps p (library_called p fr.locals s.action (method_at p named) (method_at p runs) d h) (library_roots p fr.locals s.action (method_at p named) (method_at p runs) d h) o z.0 in
       (z.0, z.1, ap (λ (w : Object). w.class) (sym z.2) ∙ it.0, ap (λ (w : Object). w.link) (sym z.2) ∙ it.1, ap (λ (w : Object). w.finished) (sym z.2) ∙ it.2, ap (λ (w : Object). w.owner) (sym z.2) ∙ it.3)
 
   pub left_unfinished : KeepsUnfinished h left no_other
   left_unfinished o x y apart before now unready =
       let z = was_there o y now in
-      z.4 ∙ library_after_unfinished p ac forms names h links ranges fr frs st mine arrays named d s next count leads o x z.0 apart before z.1 unready
+      z.4 ∙ library_after_unfinished p ac forms names h links ranges fr frs st mine arrays named runs d s next count leads o x z.0 apart before z.1 unready
 
   pub left_linked : LinkedAreAliases p h → LinkedAreAliases p left
   left_linked apart n y k there some =
       let z = was_there n y there in
-      subst (IsGivenAsAlias p) (sym z.2) (library_linked p ac forms names h links ranges fr frs st mine arrays named d s next count leads apart n z.0 k z.1 (sym z.3 ∙ some))
+      subst (IsGivenAsAlias p) (sym z.2) (library_linked p ac forms names h links ranges fr frs st mine arrays named runs d s next count leads apart n z.0 k z.1 (sym z.3 ∙ some))
 
   left_roots : KeepsRoots h left
   left_roots n number =
-      let one = same_root p fr.locals s.action (method_at p named) (method_at p named) d (length frs + 1) h (values.Object n) in
+      let one = same_root p fr.locals s.action (method_at p named) (method_at p runs) d (length frs + 1) h (values.Object n) in
       (let both : Some (root left n) ≡ Some (root would n) = one in (let it : root left n ≡ root would n = cc in it))
-      ∙ library_keeps_roots p ac forms names h links ranges fr frs st mine arrays named d s next count leads n number
+      ∙ library_keeps_roots p ac forms names h links ranges fr frs st mine arrays named runs d s next count leads n number
 
   pub left_held_before : (rest : List Frame) → LocalsIn h rest → AllHeldBefore p h left rest
   left_held_before rest in' =
-      all_held_before p h left left_roots rest (all_keep p h left (grown_fields p h left (library_grows p fr.locals s.action (method_at p named) (method_at p named) d (length frs + 1) h)) rest) (all_there p h ranges rest in')
+      all_held_before p h left left_roots rest (all_keep p h left (grown_fields p h left (library_grows p fr.locals s.action (method_at p named) (method_at p runs) d (length frs + 1) h)) rest) (all_there p h ranges rest in')
 
-  pub left_covered : OwningFieldsOwn p h → LinkedAreAliases p h
+  pub left_covered : OwningFieldsOwn p h → ActsInSight p h fr
       → (called_method s.action ≡ Some named) ⊎ IsConstantRead s.action named → LocalsIn h (fr ∷ frs) → AreCovered p h (fr ∷ frs)
-      → AreCovered p left (frame_after p h fr s (conduct_value count (method_at p named) (positions fr.locals s.action (next_number h) d) (next_number h) d) ∷ frs)
-  left_covered own aliases row in' covered = by row
+      → AreCovered p left (frame_after p h fr s (conduct_value count (method_at p runs) (positions fr.locals s.action (next_number h) d) (next_number h) d) ∷ frs)
+  left_covered own sight row in' covered = by row
     where
-      K_covered : AreCovered p would (frame_after p h fr s (conduct_value count (method_at p named) (positions fr.locals s.action (next_number h) d) (next_number h) d) ∷ frs)
-      K_covered = library_covered p ac forms names h links ranges fr frs st mine arrays named d s next count leads row in' covered
+      K_covered : AreCovered p would (frame_after p h fr s (conduct_value count (method_at p runs) (positions fr.locals s.action (next_number h) d) (next_number h) d) ∷ frs)
+      K_covered = library_covered p ac forms names h links ranges fr frs st mine arrays named runs d s next count leads row in' covered
 
-      plain : reset_position (method_at p named) ≡ None → AreCovered p left (frame_after p h fr s (conduct_value count (method_at p named) (positions fr.locals s.action (next_number h) d) (next_number h) d) ∷ frs)
+      plain : reset_position (method_at p named) ≡ None → AreCovered p left (frame_after p h fr s (conduct_value count (method_at p runs) (positions fr.locals s.action (next_number h) d) (next_number h) d) ∷ frs)
       plain none =
-          subst (λ (n : Option Method). AreCovered p (library_heap p fr.locals s.action n (method_at p named) d (length frs + 1) h)
-          (frame_after p h fr s (conduct_value count (method_at p named) (positions fr.locals s.action (next_number h) d) (next_number h) d) ∷ frs))
+          subst (λ (n : Option Method). AreCovered p (library_heap p fr.locals s.action n (method_at p runs) d (length frs + 1) h)
+          (frame_after p h fr s (conduct_value count (method_at p runs) (positions fr.locals s.action (next_number h) d) (next_number h) d) ∷ frs))
           (plain_method (method_at p named) none) K_covered
 
       below : OwnersBelow left (length frs + 1)
       below o y now = let z = was_there o y now in ap (is_frame_from (length frs + 1 + 1)) z.5 ∙ K_covered.2 o z.0 z.1
 
       by : (called_method s.action ≡ Some named) ⊎ IsConstantRead s.action named
-          → AreCovered p left (frame_after p h fr s (conduct_value count (method_at p named) (positions fr.locals s.action (next_number h) d) (next_number h) d) ∷ frs)
+          → AreCovered p left (frame_after p h fr s (conduct_value count (method_at p runs) (positions fr.locals s.action (next_number h) d) (next_number h) d) ∷ frs)
       by (inr read) = plain (read_reset p s.action named (plain_step p ac forms fr st next.index s next.here) read)
       by (inl called) = elim (resets_plainly p ac forms fr st next.index s next.here) [
         | inl none ↦ plain (sym (same_position (method_at p named)) ∙ ap reset_in (sym (ap (callee_in p) called)) ∙ none)
         | inr anew ↦ (
-          anew_top p ac forms names h links ranges fr frs st mine arrays named d s next count leads called (row_by s.action named called) anew (free anew) covered.0 others,
-          anew_covered p ac forms names h links ranges fr frs st mine arrays named d s next count leads called (row_by s.action named called) anew (free anew) covered.0 others K_covered.1,
+          anew_top p ac forms names h links ranges fr frs st mine arrays named runs d s next count leads called (row_by s.action named called) anew (free anew) covered.0 others lent_on,
+          anew_covered p ac forms names h links ranges fr frs st mine arrays named runs d s next count leads called (row_by s.action named called) anew (free anew) covered.0 others lent_on K_covered.1,
           below,
         )
       ]
@@ -545,5 +546,9 @@ module _ (p : Program) (ac : Accept p) (forms : HasPlainForms p) (names : HasSma
           others : LocalsIn h frs
           others = All-tail (λ (u : Frame). LocalsInRange h u.locals) fr frs in'
 
+          -- what is lent stays so
+          lent_on : (o : ℕ) (w : Owner) → IsLentFrom p h frs o w → IsLentFrom p would frs o w
+          lent_on o w = (given_kept p h would frs (all_keep_gifts p h would (λ n number. library_keeps_roots p ac forms names h links ranges fr frs st mine arrays named runs d s next count leads n number) frs others)).lent o w
+
           free : IsPlainReset p st.number fr.control s.action → HasNoHolder h (target_root h fr.locals s.action (method_at p named))
-          free anew = no_holder p ac forms h links fr frs st mine named d next.index s next.here called (row_by s.action named called) anew covered.0 own aliases arrays (next.ran called).1
+          free anew = no_holder p ac forms h links fr frs st mine named runs d next.index s next.here called (row_by s.action named called) anew covered.0 own sight arrays (next.ran called).1

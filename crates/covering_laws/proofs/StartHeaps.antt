@@ -65,6 +65,12 @@ module _ (p : Program) (l : Locals) (a : Action) (named : Option Method) (j : �
     | inr old ↦ absurd (let range = numbers_are_in_range h (next_number h) old.before old.at in let below = range.1 in omega (arith, below))
   ]
 
+  pub new_unlinked : (y : Object) → object_at begun (next_number h) ≡ Some y → y.link ≡ None
+  new_unlinked y now = elim (begun_from p l a named j h links (next_number h) y now) [
+    | inl new ↦ new.link
+    | inr old ↦ absurd (let range = numbers_are_in_range h (next_number h) old.before old.at in let below = range.1 in omega (arith, below))
+  ]
+
   pub start_keeps : KeepsFields p h begun
   start_keeps = grown_fields p h begun (began_grows p l a named j h)
 

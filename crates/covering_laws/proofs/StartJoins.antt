@@ -1,12 +1,12 @@
 -- A call of a method of the program begins a frame: what its places hold is in facts of the body's entry.
 use Rattle.std.specs.Prelude.{◌-◌, ◌<◌, ◌||◌, ◌&&◌, not, replicate, if◌then◌else◌}
 use Rattle.std.specs.FinSet as set
-use Rattle.std.proofs.Common.{◌≡◌, ◌⊎◌, inl, inr, ℕ, zero, suc, ◌+◌, ◌≤◌, Bool, true, false, not, Option, Some, None, List, [], ◌∷◌, ◌++◌, length, IsSomeAnd, slice_get, nat_le, nat_lt, refl, sym, ap, ◌∙◌, subst, true≢false, eqb-true, eq-eqb, ltb-false, ltb-true, arith}
+use Rattle.std.proofs.Common.{◌≡◌, ◌⊎◌, inl, inr, ℕ, zero, suc, ◌+◌, ◌≤◌, Bool, true, false, not, Option, Some, None, List, [], ◌∷◌, ◌++◌, length, IsSomeAnd, slice_get, nat_le, nat_lt, refl, sym, ap, ◌∙◌, subst, true≢false, eq-eqb, ltb-false, ltb-true, arith}
 use Rattle.std.proofs.lemmas.Bool.{and_from, and_parts, or_left, or_right}
 use Rattle.std.proofs.lemmas.Bool.Decides.{nat_tests}
 use Rattle.std.proofs.lemmas.List.FromFn.{length-map-range_with_len}
 use Rattle.std.proofs.lemmas.Option.{slice_get-get_or, slice_get_within}
-use Rattle.rlc_base.proofs.SetLaws.{within_self}
+use Rattle.rlc_base.proofs.SetLaws.{empty_within, within_self}
 use Rattle.program_model.specs.declared.kinds.BodyId.{BodyId}
 use Rattle.program_model.specs.declared.kinds.ClassId.{ClassId}
 use Rattle.program_model.specs.declared.kinds.FieldId.{FieldId}
@@ -20,14 +20,13 @@ use Rattle.program_model.specs.declared.program.Field.{Field}
 use Rattle.program_model.specs.declared.program.Method.{Method}
 use Rattle.program_model.specs.declared.program.ParamSig.{ParamSig}
 use Rattle.program_model.specs.declared.program.Program.{Program}
-use Rattle.program_model.specs.declared.program.Sig.{Sig}
 use Rattle.program_model.specs.declared.tree.Var.{Var}
 use Rattle.program_model.specs.Lookups.{field_at, method_at}
 use Rattle.program_model.specs.Overrides.{is_type}
 use Rattle.program_model.specs.SuperTests.{is_class}
 use Rattle.program_model.specs.Validity.{HasParameters, IsBodyOf, is_class_type}
 use Rattle.ledger_obligations.specs.OverrideCases.{differ}
-use Rattle.ledger_obligations.specs.Bodies.{alias_in, constructs, fields_in, fields_of, fields_of_method, has_field_place, is_class_of, is_constructor_kind, is_field_in, method_in, method_of}
+use Rattle.ledger_obligations.specs.Bodies.{alias_in, constructs, fields_in, fields_of, fields_of_method, has_field_place, is_class_of, is_constructor_kind, is_field_in, method_in, method_of, reset_in}
 use Rattle.ledger_obligations.specs.MustCallSets.{Names, is_empty, is_heavy_class, must_of, must_of_optional, must_of_type, no_names}
 use Rattle.ownership_rules.specs.Signatures.{is_present, type_of_field}
 use Rattle.java_control.specs.Calls.{called_method, temp_at}
@@ -48,16 +47,15 @@ use Rattle.java_control.specs.declared.place.Place.TheVariants as places
 use Rattle.ownership_rules.specs.Callees.{callee, callee_in}
 use Rattle.ownership_rules.specs.Facts.{has, has_temp, is_held, is_own}
 use Rattle.ownership_rules.specs.SmallActions.{IsSmallAction}
-use Rattle.ownership_rules.specs.Births.{births_at_entry, fact_at, field_birth, has_this, origin_of, owning_field_birth, parameter_mode, this_birth, this_mode}
-use Rattle.value_laws.specs.Paths.{move_of}
+use Rattle.ownership_rules.specs.Births.{births_at_entry, fact_at, field_birth, has_this, origin_of, owning_field_birth, parameter_mode, this_mode}
+use Rattle.value_laws.specs.Paths.{move_of, Reach, relation_of}
 use Rattle.value_laws.specs.Accept.{Accept}
 use Rattle.ledger_state.specs.Contents.{HeapContents}
 use Rattle.ledger_state.specs.Fields.{field_of, field_value}
-use Rattle.ledger_state.specs.Heaps.{next_number, object_at, root_of}
+use Rattle.ledger_state.specs.Heaps.{next_number, object_at, root_of, root}
 use Rattle.ledger_state.specs.Locals.{temp_in, temp_value, variable_value}
 use Rattle.ledger_state.specs.Values.{number_of, value_or_nothing}
 use Rattle.ledger_state.specs.declared.array.ArrayObject.{ArrayObject}
-use Rattle.ledger_state.specs.declared.entry.Owner.{Owner}
 use Rattle.ledger_state.specs.declared.entry.Owner.TheVariants as owners
 use Rattle.ledger_state.specs.declared.locals.Locals.{Locals}
 use Rattle.ledger_obligations.specs.Obligations.{may_move}
@@ -67,7 +65,7 @@ use Rattle.ledger_state.specs.declared.value.Value.TheVariants as values
 use Rattle.value_laws.specs.Places.{field_place_value, owning_field_beside, place_value}
 use Rattle.ledger_steps.specs.LedgerCallsCalls.{argument_values, begun, body_of, control_in, operand_of, params_in, running, variable_count}
 use Rattle.value_laws.specs.Configuration.{Frame}
-use Rattle.value_laws.specs.Choosing.{frame_steps}
+use Rattle.value_laws.specs.Choosing.{frame_steps, body_id}
 use Rattle.ledger_steps.specs.CallSteps.{began_heap, self_begun}
 use Rattle.value_laws.specs.Heaps.{HasEarlierLinks, IsGiven}
 use Rattle.value_laws.proofs.Begun.{begun_from, begun_given}
@@ -86,29 +84,38 @@ use Rattle.value_laws.proofs.Unmet.{way_of_call}
 use Rattle.value_laws.specs.Types.{KeepsTypes, StoredHoldNone, is_text}
 use Rattle.value_laws.proofs.ValueTypeFields.{field_is_none}
 use Rattle.value_laws.proofs.ValueTypeLaws.{argument_is_no_object}
-use Rattle.value_laws.specs.PlaceFacts.{AreCovered, AreWaiting, Covers, IsCovered, IsKeyed, IsTrueOf, IsUnowned, OwnersBelow, claims, fits_field, fits_in, gives_none, is_apart, is_content, is_field_of, is_frame_below, is_frame_from, is_given, is_heavy_field, is_heavy_in, is_lent, is_owning_fact, makes_alone, may_owe, owned, unowned}
-use Rattle.covering_laws.proofs.HeavyFields.{claims_alone, claims_owned, owning_claims}
+use Rattle.value_laws.specs.PlaceFacts.{AreCovered, AreWaiting, Covers, IsCovered, IsKeyed, IsTrueOf, IsUnowned, OwnersBelow, asked_by, asked_of, claims, fits_field, fits_in, gives_none, is_apart, is_content, is_field_of, is_frame_below, is_frame_from, is_given, is_heavy_field, is_heavy_in, is_lent, is_owning_fact, makes_alone, may_owe, owned, unowned, renews_none}
+use Rattle.covering_laws.proofs.HeavyFields.{asked_here, claims_alone, claims_owned, owning_claims, covered_at}
 use Rattle.value_laws.proofs.KeptFacts.{parameter_unheld}
 use Rattle.value_laws.specs.Ranges.{FieldsInRange, IsInRange, IsNumber, LocalsInRange}
 use Rattle.value_laws.proofs.RangeValues.{field_in_range, operand_in_range}
 use Rattle.covering_laws.specs.Running.{HasPlainRuns, is_on_object}
 use Rattle.covering_laws.proofs.Bodies.{body_is_of_program}
-use Rattle.covering_laws.proofs.BegunFrames.{entered_covers, parameter_born}
-use Rattle.covering_laws.proofs.EntryBirths.{alike_parameter, argument_or_nothing, of_field, of_parameter, of_this, same_mark}
-use Rattle.covering_laws.proofs.GivenArguments.{away_owner, given_is_true, given_owner, operand_may_move, operand_owned, two_operands}
-use Rattle.covering_laws.proofs.GivenAway.{given_at_step, given_taken, moved_given, step_gives, taken_given}
+use Rattle.covering_laws.proofs.BegunFrames.{entered_covers, lent_or_none, lent_unowned, not_and, not_held, not_own, parameter_born}
+use Rattle.covering_laws.proofs.EntryBirths.{alike_parameter, argument_or_nothing, of_field, of_parameter, of_this, same_mark, lent_parameter, lent_this, no_parameter, this_unowned, this_born, parameter_at, class_type_is}
+use Rattle.covering_laws.proofs.GivenArguments.{given_is_true, given_owner, operand_may_move, operand_owned, two_operands}
+use Rattle.covering_laws.proofs.GivenAway.{given_taken, moved_given, step_gives, taken_given}
 use Rattle.covering_laws.proofs.CallResults.{born_unowned}
 use Rattle.covering_laws.proofs.Gifts.{all_keep_gifts}
-use Rattle.covering_laws.proofs.Owners.{KeepsOwners, OwnersGo, owners_kept, stays_apart}
-use Rattle.covering_laws.proofs.OwnerSteps.{below_not_from, own_frame}
+use Rattle.covering_laws.proofs.Owners.{KeepsOwners, OwnersGo, owners_kept, stays_apart, KeepsGiven, given_kept}
+use Rattle.covering_laws.proofs.OwnerSteps.{below_not_from}
 use Rattle.covering_laws.proofs.StartOwners.{below_further, start_below, start_owner, start_owners_go}
 use Rattle.covering_laws.proofs.LocalSteps.{LocalsIn, all_there}
-use Rattle.covering_laws.proofs.StartHeaps.{new_holds_nothing, start_carries, start_keeps, start_linked, start_roots, start_unfinished}
-use Rattle.covering_laws.proofs.Waiting.{AllHeldBefore, IsCarried, KeepsRoots, KeepsUnfinished, all_held_before, all_keep, all_wait, frames_ready, no_other, numbered, owed_before, value_root}
+use Rattle.covering_laws.proofs.StartHeaps.{new_holds_nothing, start_carries, start_keeps, start_linked, start_roots, start_unfinished, new_unfinished, new_unlinked}
+use Rattle.covering_laws.proofs.Waiting.{AllHeldBefore, IsCarried, KeepsRoots, KeepsUnfinished, all_held_before, all_keep, all_wait, frames_ready, no_other, numbered, owed_before, value_root, was_ready, new_root}
 use Rattle.covering_laws.proofs.KnownNames.{operand_temp}
 use Rattle.covering_laws.proofs.LinkedExceptions.{LinkedWere}
 use Rattle.covering_laws.proofs.BornTruths.{field_unlent}
 use Rattle.covering_laws.specs.Texts.{TextsAreLight}
+use Rattle.value_laws.proofs.TargetBegun.{finds}
+use Rattle.value_laws.specs.StepTargets.{FindsIt}
+use Rattle.value_laws.specs.Frames.{holds_this, KeepsTargets}
+use Rattle.value_laws.specs.Renewing.{IsLentFrom, is_renewed, renews}
+use Rattle.covering_laws.proofs.RenewedOperands.{step_renews, renewed_answered, renewed_not_given}
+use Rattle.value_laws.proofs.Readings.{operand_renews}
+use Rattle.covering_laws.proofs.Following.{same_body, method_here}
+use Rattle.value_laws.proofs.FactOrigins.{this_own}
+use Rattle.covering_laws.proofs.CallersWait.{caller_waits, field_below}
 
 -- ---- words
 
@@ -121,38 +128,9 @@ pub object_value : (k : HeapContents) (v : Value) (o : ℕ) → root_of k v ≡ 
 object_value k (values.Object n) o is = (n, refl)
 object_value k v o is = absurd (let never : None ≡ Some o = is in cc)
 
-same_class : (c d : ClassId) → is_class c d ≡ true → c ≡ d
-same_class c d is = ap (λ (n : ℕ). (let z : ClassId = record { 0 = n } in z)) (eqb-true c.0 d.0 is)
-
-class_type_is : (t : VType) (c : ClassId) → is_type t (types.Obj c) ≡ true → t ≡ types.Obj c
-class_type_is (types.Obj d) c is = ap types.Obj (same_class d c is)
-class_type_is (types.Primitive u) c is = absurd (true≢false (sym is))
-class_type_is types.Str c is = absurd (true≢false (sym is))
-class_type_is (types.Arr u) c is = absurd (true≢false (sym is))
-class_type_is types.NullType c is = absurd (true≢false (sym is))
-
 -- a fact in such a mode claims nothing
 unclaimed_mode : (p : Program) (k : Option Method) (g : Origin) (q : Place) (m : Mode) (names : Names) (full : Bool) → (is_own m || is_held m) ≡ false → claims p k g (fact_at q m names full) ≡ true → ⊥
 unclaimed_mode p k g q m names full none claimed = true≢false (sym (claims_owned p k g (fact_at q m names full) claimed).1 ∙ none)
-
-lent_or_none : (a b : Bool) → (is_own (if a then modes.Alias else (if b then modes.Lent else modes.None)) || is_held (if a then modes.Alias else (if b then modes.Lent else modes.None))) ≡ false
-lent_or_none true b = refl
-lent_or_none false true = refl
-lent_or_none false false = refl
-
-none_or_alias : (a b : Bool) → (is_own (if a then modes.Lent else (if b then modes.Alias else modes.None)) || is_held (if a then modes.Lent else (if b then modes.Alias else modes.None))) ≡ false
-none_or_alias true b = refl
-none_or_alias false true = refl
-none_or_alias false false = refl
-
-this_unowned : (s : Sig) (k : MethodKind) → (is_own (this_mode s k) || is_held (this_mode s k)) ≡ false
-this_unowned s methods.Ctor = refl
-this_unowned s methods.Instance = none_or_alias _ _
-this_unowned s methods.Static = none_or_alias _ _
-this_unowned s methods.Constant = none_or_alias _ _
-
-this_born : (p : Program) (m : Method) → has_this m.kind ≡ true → this_birth p m ≡ Some (origin_of p kinds.ThisRef m.pos m.class None, fact_at places.This (this_mode m.sig m.kind) no_names true)
-this_born p m has' = rw has' refl
 
 constructor_kind : (k : MethodKind) → is_constructor_kind k ≡ true → k ≡ methods.Ctor
 constructor_kind methods.Ctor is = refl
@@ -163,16 +141,6 @@ constructor_kind methods.Constant is = absurd (true≢false (sym is))
 locals_of : (p : Program) (x : Option BodyId) (fr : Frame) → (control_in p x fr).locals ≡ fr.locals
 locals_of p None fr = refl
 locals_of p (Some b) fr = refl
-
-parameter_at : (vars : List Var) (params : List ParamSig) (i : ℕ) (q : ParamSig) → HasParameters vars params → slice_get params i ≡ Some q → (v : Var) × (slice_get vars i ≡ Some v)
-parameter_at vars [] i q has' is = absurd (no_element i is)
-  where
-    no_element : (n : ℕ) → slice_get [] n ≡ Some q → ⊥
-    no_element zero none = let never : None ≡ Some q = none in cc
-    no_element (suc n) none = let never : None ≡ Some q = none in cc
-parameter_at [] (x ∷ params) i q has' is = absurd has'
-parameter_at (v ∷ vars) (x ∷ params) zero q has' is = (v, refl)
-parameter_at (v ∷ vars) (x ∷ params) (suc i) q has' is = parameter_at vars params i q has'.1 is
 
 element_there : {X : Type 0} (xs : List X) (i : ℕ) → i < length xs → (x : X) × (slice_get xs i ≡ Some x)
 element_there [] i inside = absurd (omega (arith, inside))
@@ -189,12 +157,8 @@ first_value l d n some small =
 
 -- ---- the call
 
-not_back : (b : Bool) → not b ≡ true → b ≡ false
-not_back true is = absurd (true≢false (sym is))
-not_back false is = refl
-
 module _ (p : Program) (ac : Accept p) (forms' : HasPlainForms p) (plain : HasPlainRuns p) (h : HeapContents) (texts : TextsAreLight p h) (links : HasEarlierLinks h) (ranges : FieldsInRange h) (stored : StoredHoldNone (is_text p h) p h)
-    (fr : Frame) (frs : List Frame) (st : Stands p fr) (keeps : KeepsTypes (is_text p h) p fr) (in' : LocalsInRange h fr.locals) (covered : IsCovered p h gives_none frs fr) (low : OwnersBelow h (length frs + 1)) (arrays : List ArrayObject) (named runs : MethodId) (a : Action)
+    (fr : Frame) (frs : List Frame) (st : Stands p fr) (keeps : KeepsTypes (is_text p h) p fr) (targets : KeepsTargets p fr) (in' : LocalsInRange h fr.locals) (lower : LocalsIn h frs) (covered : IsCovered p h gives_none renews_none frs fr) (low : OwnersBelow h (length frs + 1)) (arrays : List ArrayObject) (named runs : MethodId) (a : Action)
     (next : IsStartMove p h arrays fr.locals (frame_steps p fr) named runs a) (j : ℕ) (position : j ≡ length (fr ∷ frs) + 1) where
   abbrev s : Step
   s = next.step
@@ -299,19 +263,10 @@ module _ (p : Program) (ac : Accept p) (forms' : HasPlainForms p) (plain : HasPl
     ]
   ]
 
-  field_below : (v : Value) (n : ℕ) (w : Owner) → is_field_of v w ≡ true → is_frame_from n w ≡ false
-  field_below (values.Object k) n (owners.Field u f) is = refl
-  field_below (values.Object k) n (owners.Frame i) is = absurd (true≢false (sym is))
-  field_below (values.Object k) n owners.Library is = refl
-  field_below (values.Object k) n owners.Released is = refl
-  field_below (values.Object k) n owners.Lost is = refl
-  field_below (values.Object k) n owners.Unowned is = refl
-  field_below v n w is = absurd (true≢false (sym is))
-
   -- nor what a field of `this` holds
   apart_below : (o : ℕ) (y : Object) (f : Fact) → object_at K o ≡ Some y → (is_held f.mode ≡ true → makes_alone (method_at p begun_frame.method) ≡ true → ⊥) → y.finished ≡ true → is_apart p K stack begun_frame o y f ≡ true
       → is_frame_from (length stack + 1) y.owner ≡ false
-  apart_below o y f at alone done apart = go (is_given p K fr o y.class) refl
+  apart_below o y f at alone done apart = go (is_content p begun_frame y.owner f) refl
     where
       content : is_content p begun_frame y.owner f ≡ true → is_frame_from (length stack + 1) y.owner ≡ false
       content is' = by (makes_alone (method_at p begun_frame.method)) refl parts.1
@@ -323,17 +278,65 @@ module _ (p : Program) (ac : Accept p) (forms' : HasPlainForms p) (plain : HasPl
           by true made one = absurd (alone parts.0 made)
           by false made one = field_below begun_frame.locals.this (length stack + 1) y.owner (and_parts (not (constructs (method_at p begun_frame.method))) (is_field_of begun_frame.locals.this y.owner) one).1
 
-      go : (b : Bool) → is_given p K fr o y.class ≡ b → is_frame_from (length stack + 1) y.owner ≡ false
-      go false none = not_given o y at done none
-      go true some = split (is_frame_below (length stack + 1) y.owner) refl (sym (ap (λ (b : Bool). not b || is_content p begun_frame y.owner f || is_frame_below (length stack + 1) y.owner) some) ∙ apart)
-        where
-          first : (a b : Bool) → b ≡ false → (a || b) ≡ true → a ≡ true
-          first true b off one = refl
-          first false b off one = absurd (true≢false (sym one ∙ off))
+      second : (a b : Bool) → a ≡ false → (a || b) ≡ true → b ≡ true
+      second true b off one = absurd (true≢false off)
+      second false b off one = one
 
-          split : (b : Bool) → is_frame_below (length stack + 1) y.owner ≡ b → (is_content p begun_frame y.owner f || is_frame_below (length stack + 1) y.owner) ≡ true → is_frame_from (length stack + 1) y.owner ≡ false
-          split true low' one = below_not_from (length stack + 1) y.owner low'
-          split false high one = content (first (is_content p begun_frame y.owner f) (is_frame_below (length stack + 1) y.owner) high one)
+      low_or_free : (b : Bool) → is_given p K fr o y.class ≡ b → (not b || is_frame_below (length stack + 1) y.owner) ≡ true → is_frame_from (length stack + 1) y.owner ≡ false
+      low_or_free false none one = not_given o y at done none
+      low_or_free true some one = below_not_from (length stack + 1) y.owner one
+
+      go : (b : Bool) → is_content p begun_frame y.owner f ≡ b → is_frame_from (length stack + 1) y.owner ≡ false
+      go true is' = content is'
+      go false none =
+          let parts = and_parts (not (is_renewed p K fr o)) (not (is_given p K fr o y.class) || is_frame_below (length stack + 1) y.owner)
+          (second (is_content p begun_frame y.owner f) (not (is_renewed p K fr o) && (not (is_given p K fr o y.class) || is_frame_below (length stack + 1) y.owner)) none apart) in
+          low_or_free (is_given p K fr o y.class) refl parts.1
+
+  -- ---- what is lent to the frame that begins
+
+  pub started_unfinished : KeepsUnfinished h K no_other
+  started_unfinished = start_unfinished p l s.action (method_at p named) j h links
+
+  below_same : KeepsGiven p h K frs
+  below_same = given_kept p h K frs (all_keep_gifts p h K roots frs lower)
+
+  -- the object of the operand whose obligation the call creates anew is lent to it
+  renewed_lent : (k o : ℕ) (y : Object) → next.method.sig.reset ≡ Some k → root_of h (operand_of l s.action k) ≡ Some o → object_at K o ≡ Some y → is_heavy_class p y.class ≡ true → may_owe y ≡ true → y.finished ≡ true → IsLentFrom p K stack o y.owner
+  renewed_lent k o y position root at heavy owes done = by (was (operand_of l s.action k) o y root (numbered h links (operand_of l s.action k) o root (operand_in_range h l in' s.action k)) at)
+    where
+      target : reset_in (callee p s.action) ≡ Some k
+      target = ap reset_in (same_callee ∙ next.named_at) ∙ position
+
+      renewed : is_renewed p K fr o ≡ true
+      renewed = step_renews p K fr next.index s o next.here (operand_renews p K fr.locals s.action o k target (value_root h K roots (operand_of l s.action k) (operand_in_range h l in' s.action k) ∙ root))
+
+      does : renews p h fr.locals s.action o ≡ true
+      does = operand_renews p h fr.locals s.action o k target root
+
+      by : IsCarried h o y → IsLentFrom p K stack o y.owner
+      by (x, before, class, goes) = (
+        renewed,
+        elim (renewed_answered p ac forms' h fr st frs next.index s next.here row covered o x before heavy' owes' does done') [
+          | inl own ↦ inl (same ∙ own)
+          | inr lent ↦ inr (subst (IsLentFrom p K frs o) (sym same) (below_same.lent o x.owner lent))
+        ],
+      )
+        where
+          heavy' : is_heavy_class p x.class ≡ true
+          heavy' = ap (is_heavy_class p) (sym class) ∙ heavy
+
+          owes' : may_owe x ≡ true
+          owes' = owed_before x y goes owes
+
+          done' : x.finished ≡ true
+          done' = was_ready x y (λ none. started_unfinished o x y (λ never. never) before at none) done
+
+          same : y.owner ≡ x.owner
+          same = elim (start_owner p l s.action (method_at p named) j h links o x y before at) [
+            | inl same' ↦ same'
+            | inr given ↦ absurd (true≢false (sym (moved_given p h l s.action (method_at p named) o x same_callee given.1) ∙ renewed_not_given p ac forms' h fr st frs next.index s next.here row covered o x before heavy' owes' does done'))
+          ]
 
   -- ---- the places of the frame that begins
 
@@ -345,10 +348,10 @@ module _ (p : Program) (ac : Accept p) (forms' : HasPlainForms p) (plain : HasPl
   -- the place is in a fact that says that the frame owns the object, which was an argument, or in one that does not say so
   abbrev Covered : Place → ℕ → Object → Type 0
   Covered q o y =
-      ((c : Covers p K false stack begun_frame o y) × (has c.fact.places q ≡ true) × (is_owning_fact p c.origin c.fact ≡ true) × TakesAt q o) ⊎ IsUnowned p K false stack begun_frame q o y
+      ((c : Covers p K false false stack begun_frame o y) × (has c.fact.places q ≡ true) × (is_owning_fact p c.origin c.fact ≡ true) × TakesAt q o) ⊎ IsUnowned p K false false stack begun_frame q o y
 
-  unowned_born : (q : Place) (o : ℕ) (y : Object) (g : Origin) (f : Fact) → (c : Covers p K false stack begun_frame o y) × (has c.fact.places q ≡ true) × (c.origin ≡ g) × (c.fact ≡ f) → (is_owning_fact p g f ≡ true → ⊥) → Covered q o y
-  unowned_born q o y g f c none = inr (born_unowned p K stack begun_frame q o y g f c (go (is_owning_fact p g f) refl))
+  unowned_born : (q : Place) (o : ℕ) (y : Object) (g : Origin) (f : Fact) → (c : Covers p K false false stack begun_frame o y) × (has c.fact.places q ≡ true) × (c.origin ≡ g) × (c.fact ≡ f) → (is_owning_fact p g f ≡ true → ⊥) → Covered q o y
+  unowned_born q o y g f c none = inr (born_unowned p K false stack begun_frame q o y g f c (go (is_owning_fact p g f) refl))
     where
       go : (b : Bool) → is_owning_fact p g f ≡ b → is_owning_fact p g f ≡ false
       go true is' = absurd (none is')
@@ -403,22 +406,28 @@ module _ (p : Program) (ac : Accept p) (forms' : HasPlainForms p) (plain : HasPl
             of_parameter p begun'.stands.number begun'.stands.body run begun'.stands.at own_method n.0 ((origin_of p (kinds.Param i) var.0.pos c None), fact_at (places.Var i) (parameter_mode run.sig (i + 1) like.0) like.0.before true) n.1
 
         covers : (claims p (method_at p begun_frame.method) (origin_of p (kinds.Param i) var.0.pos c None) (fact_at (places.Var i) (parameter_mode run.sig (i + 1) like.0) like.0.before true) ≡ true → IsTrueOf p y (origin_of p (kinds.Param i) var.0.pos c None) (fact_at (places.Var i) (parameter_mode run.sig (i + 1) like.0) like.0.before true))
-            → (z : Covers p K false stack begun_frame o y) × (has z.fact.places (places.Var i) ≡ true) × (z.origin ≡ (origin_of p (kinds.Param i) var.0.pos c None)) × (z.fact ≡ (fact_at (places.Var i) (parameter_mode run.sig (i + 1) like.0) like.0.before true))
+            → (z : Covers p K false false stack begun_frame o y) × (has z.fact.places (places.Var i) ≡ true) × (z.origin ≡ (origin_of p (kinds.Param i) var.0.pos c None)) × (z.fact ≡ (fact_at (places.Var i) (parameter_mode run.sig (i + 1) like.0) like.0.before true))
         covers truth = entered_covers p K begun_frame begun'.stands begun'.starts stack (places.Var i) o y (origin_of p (kinds.Param i) var.0.pos c None) (parameter_mode run.sig (i + 1) like.0) like.0.before true birth.0 room birth.1 root truth lent'
             (λ held. absurd (true≢false (sym held ∙ parameter_unheld run.sig (i + 1) like.0)))
             (apart_below o y (fact_at (places.Var i) (parameter_mode run.sig (i + 1) like.0) like.0.before true) at (λ held. absurd (true≢false (sym held ∙ parameter_unheld run.sig (i + 1) like.0))))
             (λ held. absurd (true≢false (sym held ∙ parameter_unheld run.sig (i + 1) like.0)))
+            (λ mode done. renewed_lent (i + 1) o y (next.fit.reset (i + 1) (lent_parameter run.sig (i + 1) like.0 mode)) operand_root at heavy owes done)
+            (λ constructor this. absurd (no_parameter i this))
             (λ k same claimed. absurd (let never : places.Var i ≡ places.Field k = same in cc)) (λ k same heavy'. absurd (let never : places.Var i ≡ places.Field k = same in cc))
+            (λ k same. absurd (let never : places.Var i ≡ places.Field k = same in cc))
           where
             is_lent_here : is_lent p (method_at p begun_frame.method) (kinds.Param i) ≡ is_lent_parameter p (Some like.0)
             is_lent_here = ap (λ (m : Option Method). is_lent p m (kinds.Param i)) (ap (method_at p) begun'.method ∙ begun'.named) ∙ ap (is_lent_parameter p) like.1
 
             lent' : is_lent p (method_at p begun_frame.method) (kinds.Param i) ≡ true
-                → ((is_own (parameter_mode run.sig (i + 1) like.0) || is_held (parameter_mode run.sig (i + 1) like.0)) ≡ false) × (is_heavy_class p c ≡ true) × (is_empty like.0.before ≡ true)
+                → ((is_heavy_class p c && is_own (parameter_mode run.sig (i + 1) like.0)) ≡ false) × (is_held (parameter_mode run.sig (i + 1) like.0) ≡ false)
+                × (set.is_subset like.0.before (asked_of p (method_at p begun_frame.method) (kinds.Param i)) ≡ true)
             lent' is' =
-                let parts = and_parts (not like.0.owning && is_empty like.0.before) (not (is_empty (must_of_type p like.0.vtype))) (sym is_lent_here ∙ is') in
-                let first = and_parts (not like.0.owning) (is_empty like.0.before) parts.0 in
-                (rw (not_back like.0.owning first.0) (lent_or_none _ _), ap (λ (t : VType). not (is_empty (must_of_type p t))) (sym type') ∙ parts.1, first.1)
+                let lent = sym is_lent_here ∙ is' in (
+                  lent_unowned p run.sig (i + 1) like.0 c type' lent,
+                  parameter_unheld run.sig (i + 1) like.0,
+                  ap (set.is_subset like.0.before) (ap (λ (m : Option Method). asked_of p m (kinds.Param i)) (ap (method_at p) begun'.method ∙ begun'.named) ∙ ap (asked_by p) like.1 ∙ asked_here p like.0 lent) ∙ within_self like.0.before,
+                )
 
         -- what covers the argument in the caller says that the caller owns it
         given : like.0.owning ≡ true → is_heavy_class p c ≡ true → IsTrueOf p y (origin_of p (kinds.Param i) var.0.pos c None) (fact_at (places.Var i) modes.Own like.0.before true)
@@ -489,8 +498,69 @@ module _ (p : Program) (ac : Accept p) (forms' : HasPlainForms p) (plain : HasPl
       go (actions.Call m d n forms.Other) it is' = inl (instance m d n forms.Other it refl)
       go b it is' = absurd (subst IsCallRow it row)
 
-  this_covered : (o : ℕ) (y : Object) → root_of K begun_frame.locals.this ≡ Some o → object_at K o ≡ Some y → Covered places.This o y
-  this_covered o y root at =
+  -- the object of a constructor is not finished
+  this_unfinished : (o : ℕ) (y : Object) → root_of K begun_frame.locals.this ≡ Some o → object_at K o ≡ Some y → is_heavy_class p y.class ≡ true → may_owe y ≡ true → is_constructor_kind run.kind ≡ true → y.finished ≡ false
+  this_unfinished o y held at heavy owes makes = go s.action refl
+    where
+      named_makes : constructs (method_at p named) ≡ true
+      named_makes = ap constructs next.named_at ∙ sym next.fit.makes ∙ makes
+
+      of_named : (m : MethodId) → called_method s.action ≡ Some m → m ≡ named
+      of_named m it = let both : Some m ≡ Some named = sym it ∙ calls' in (let one : m ≡ named = cc in one)
+
+      of_new : (m : MethodId) (d n : ℕ) → s.action ≡ actions.New m d n → y.finished ≡ false
+      of_new m d n it =
+          let self_is : begun_frame.locals.this ≡ values.Object (next_number h) = begun'.this ∙ ap (λ (b : Action). self_begun l b h) it in
+          let unlinked : root K (next_number h) ≡ next_number h = new_root h K (λ z now. new_unlinked p l s.action (method_at p named) j h links z now) in
+          let number : next_number h ≡ o = (let both : Some (next_number h) ≡ Some o = ap Some (sym unlinked) ∙ ap (root_of K) (sym self_is) ∙ held in (let one : next_number h ≡ o = cc in one)) in
+          new_unfinished p l s.action (method_at p named) j h links y (ap (object_at K) number ∙ at)
+
+      of_super : (m : MethodId) (d n : ℕ) → s.action ≡ actions.Super m d n → y.finished ≡ false
+      of_super m d n it =
+          let found : FindsIt p targets.body (actions.Super m d n) (holds_this l) = subst (λ (b : Action). FindsIt p targets.body b (holds_this l)) it (finds p ac fr targets next.index s next.here) in
+          let few : IsSmallAction p (actions.Super m d n) = subst (IsSmallAction p) it small in
+          let self_is : self ≡ l.this = ap (λ (b : Action). self_begun l b h) it ∙ first_value l d n found.2 few.0 ∙ found.0 few.0 in
+          let root' : root_of h l.this ≡ Some o = root_before l.this o in'.this (ap (root_of K) (sym (begun'.this ∙ self_is)) ∙ held) in
+          by root' (was l.this o y root' (numbered h links l.this o root' in'.this) at)
+        where
+          by : root_of h l.this ≡ Some o → IsCarried h o y → y.finished ≡ false
+          by root' (x, before, class, goes) =
+              let cover = covered_at p h false false frs fr places.This o x (covered places.This o x tt root' before (ap (is_heavy_class p) (sym class) ∙ heavy) (owed_before x y goes owes)) in
+              let reach = subst (λ (b : BodyId). Reach p b (relation_of p b) cover.0.origin fr.control cover.0.fact) (same_body cover.0.body st.number (body_id p fr.method) cover.0.id st.id) cover.0.reached in
+              let caller_makes : constructs (method_at p fr.method) ≡ true =
+              ap constructs (sym (method_here p fr st))
+              ∙ forms'.super_calls st.number next.index (move_of s) st.control (step_there p fr st next.index s next.here) (ap (calls_constructor p) it ∙ ap (λ (z : MethodId). constructs (method_at p z)) (of_named m (ap called_method it)) ∙ named_makes) in
+              started_unfinished o x y (λ never. never) before at (cover.0.makes caller_makes (this_own p ac st.number st.body st.at cover.0.origin fr.control cover.0.fact reach cover.1))
+
+      go : (b : Action) → s.action ≡ b → y.finished ≡ false
+      go actions.Skip it = absurd (subst IsCallRow it row)
+      go (actions.New m d n) it = of_new m d n it
+      go (actions.Super m d n) it = of_super m d n it
+      go (actions.Call m d n g) it =
+          absurd (true≢false (sym (ap (λ (z : MethodId). constructs (method_at p z)) (of_named m (ap called_method it)) ∙ named_makes) ∙ subst (IsOfItsKind p) it kind))
+      go b it = absurd (subst IsCallRow it row)
+
+  -- what runs no constructor is lent `this` where it creates its obligation anew
+  this_lent : (o : ℕ) (y : Object) → root_of K begun_frame.locals.this ≡ Some o → object_at K o ≡ Some y → is_heavy_class p y.class ≡ true → may_owe y ≡ true → this_mode run.sig run.kind ≡ modes.Lent → y.finished ≡ true → IsLentFrom p K stack o y.owner
+  this_lent o y root at heavy owes mode done = go (is_constructor_kind run.kind) refl
+    where
+      of_call : (m : MethodId) (d n : ℕ) → s.action ≡ actions.New m d n → is_constructor_kind run.kind ≡ true
+      of_call m d n it =
+          next.fit.makes ∙ sym (ap constructs next.named_at) ∙ ap (λ (z : MethodId). constructs (method_at p z)) (let both : Some named ≡ Some m = sym calls' ∙ ap called_method it in (let one : named ≡ m = cc in one)) ∙ subst (IsOfItsKind p) it kind
+
+      operand : is_constructor_kind run.kind ≡ false → (b : Action) → s.action ≡ b → self_begun l b h ≡ operand_of l b 0
+      operand other actions.Skip it = refl
+      operand other (actions.New m d n) it = absurd (true≢false (sym (of_call m d n it) ∙ other))
+      operand other b it = refl
+
+      go : (b : Bool) → is_constructor_kind run.kind ≡ b → IsLentFrom p K stack o y.owner
+      go true makes = absurd (true≢false (sym done ∙ this_unfinished o y root at heavy owes makes))
+      go false other =
+          let root' : root_of h (operand_of l s.action 0) ≡ Some o = root_before (operand_of l s.action 0) o (operand_in_range h l in' s.action 0) (ap (root_of K) (sym (begun'.this ∙ operand other s.action refl)) ∙ root) in
+          renewed_lent 0 o y (next.fit.reset 0 (lent_this run.sig run.kind other mode)) root' at heavy owes done
+
+  this_covered : (o : ℕ) (y : Object) → root_of K begun_frame.locals.this ≡ Some o → object_at K o ≡ Some y → is_heavy_class p y.class ≡ true → may_owe y ≡ true → Covered places.This o y
+  this_covered o y root at heavy owes =
       let w = object_value K self o (ap (root_of K) (sym begun'.this) ∙ root) in
       let born = this_born p run (elim (kind_by w.0 w.1) [ inl one ↦ ap has_this one | inr new ↦ ap has_this new ]) in
       let g : Origin = origin_of p kinds.ThisRef run.pos run.class None in
@@ -498,11 +568,17 @@ module _ (p : Program) (ac : Accept p) (forms' : HasPlainForms p) (plain : HasPl
       unowned_born places.This o y g (fact_at places.This (this_mode run.sig run.kind) no_names true)
       (entered_covers p K begun_frame begun'.stands begun'.starts stack places.This o y g (this_mode run.sig run.kind) no_names true n.0 tt n.1 root
       (λ claimed. absurd (unclaimed_mode p (method_at p begun_frame.method) g places.This (this_mode run.sig run.kind) no_names true (this_unowned run.sig run.kind) claimed))
-      (λ lent. (this_unowned run.sig run.kind, ap (λ (m : Option Method). is_lent p m kinds.ThisRef) (sym (ap (method_at p) begun'.method ∙ begun'.named)) ∙ lent, within_self no_names)) (λ held. within_self no_names)
+      (λ lent. (
+        not_and (is_heavy_class p run.class) (is_own (this_mode run.sig run.kind)) (not_own (is_own (this_mode run.sig run.kind)) (is_held (this_mode run.sig run.kind)) (this_unowned run.sig run.kind)),
+        not_held (is_own (this_mode run.sig run.kind)) (is_held (this_mode run.sig run.kind)) (this_unowned run.sig run.kind),
+        empty_within (asked_of p (method_at p begun_frame.method) kinds.ThisRef),
+      )) (λ held. within_self no_names)
       (apart_below o y (fact_at places.This (this_mode run.sig run.kind) no_names true) at
       (λ held. absurd (true≢false (sym (or_right (is_own (this_mode run.sig run.kind)) (is_held (this_mode run.sig run.kind)) held) ∙ this_unowned run.sig run.kind))))
       (λ held. absurd (true≢false (sym (or_right (is_own (this_mode run.sig run.kind)) (is_held (this_mode run.sig run.kind)) held) ∙ this_unowned run.sig run.kind)))
-      (λ k same claimed. absurd (let never : places.This ≡ places.Field k = same in cc)) (λ k same heavy'. absurd (let never : places.This ≡ places.Field k = same in cc)))
+      (this_lent o y root at heavy owes) (λ constructor this. this_unfinished o y root at heavy owes (sym (ap constructs (ap (method_at p) begun'.method ∙ begun'.named)) ∙ constructor))
+      (λ k same claimed. absurd (let never : places.This ≡ places.Field k = same in cc)) (λ k same heavy'. absurd (let never : places.This ≡ places.Field k = same in cc))
+      (λ k same. absurd (let never : places.This ≡ places.Field k = same in cc)))
       (not_owning g (fact_at places.This (this_mode run.sig run.kind) no_names true) (this_unowned run.sig run.kind))
 
   -- ---- owning fields of `this`
@@ -553,15 +629,15 @@ module _ (p : Program) (ac : Accept p) (forms' : HasPlainForms p) (plain : HasPl
     is_instance : run.kind ≡ methods.Instance
     is_instance = elim (kind_by w (sym begun'.this ∙ holder.1)) [ inl one ↦ one | inr new ↦ absurd (instance new) ]
 
-    method_here : method_of p begun'.stands.number ≡ Some run
-    method_here = ap (method_in p) begun'.stands.at ∙ own_method
+    own_body : method_of p begun'.stands.number ≡ Some run
+    own_body = ap (method_in p) begun'.stands.at ∙ own_method
 
     has_place : has_field_place p begun'.stands.number f ≡ true
-    has_place = ap (is_field_in p begun'.stands.number) field.at ∙ rw (field.owning, method_here) (ap (is_class field.field.class) (sym field.class) ∙ eq-eqb field.field.class.0 field.field.class.0 refl)
+    has_place = ap (is_field_in p begun'.stands.number) field.at ∙ rw (field.owning, own_body) (ap (is_class field.field.class) (sym field.class) ∙ eq-eqb field.field.class.0 field.field.class.0 refl)
 
     listed : slice_get (fields_of p begun'.stands.number) field.among'.0 ≡ Some f
     listed =
-        ap (λ (m : Option Method). slice_get (fields_of_method p m) field.among'.0) method_here ∙ ap (λ (k : Option Class). slice_get (fields_in k) field.among'.0) field.there
+        ap (λ (m : Option Method). slice_get (fields_of_method p m) field.among'.0) own_body ∙ ap (λ (k : Option Class). slice_get (fields_in k) field.among'.0) field.there
         ∙ slice_get-get_or field.holder.fields.items field.among'.0 f field.among'.1 ∙ ap Some field.among'.2
 
     of_field_class : (c : ClassId) → field.field.vtype ≡ types.Obj c → Covered (places.Field n) o y
@@ -569,8 +645,8 @@ module _ (p : Program) (ac : Accept p) (forms' : HasPlainForms p) (plain : HasPl
         (entered_covers p K begun_frame begun'.stands begun'.starts stack (places.Field n) o y (origin_of p (kinds.FieldAt f) field.field.pos c None) modes.Held no_names true birth.0 room birth.1
         (ap (λ (x : Option FieldId). root_of K (field_place_value p K begun_frame.locals.this x)) beside ∙ root) (λ claimed. absurd (unmade (claims_alone p (method_at p begun_frame.method) (origin_of p (kinds.FieldAt f) field.field.pos c None) (fact_at (places.Field n) modes.Held no_names true) refl claimed)))
         (λ lent. absurd (true≢false (sym lent ∙ field_unlent p f (method_at p begun_frame.method)))) (λ held. within_self no_names)
-        (apart_below o y (fact_at (places.Field n) modes.Held no_names true) at (λ held. unmade)) (λ held. unmade)
-        (λ k same wide. subst (λ (j : ℕ). fits_field p begun_frame.method j c ≡ true) (let is : places.Field n ≡ places.Field k = same in (let one : n ≡ k = cc in one)) fits_here) (λ k same heavy'. (refl, sym heavy_here ∙ heavy')))
+        (apart_below o y (fact_at (places.Field n) modes.Held no_names true) at (λ held. unmade)) (λ held. unmade) (λ lent done. absurd (let never : modes.Held ≡ modes.Lent = lent in cc)) (λ constructor this. absurd (true≢false (sym this)))
+        (λ k same wide. subst (λ (j : ℕ). fits_field p begun_frame.method j c ≡ true) (let is : places.Field n ≡ places.Field k = same in (let one : n ≡ k = cc in one)) fits_here) (λ k same heavy'. (refl, sym heavy_here ∙ heavy')) (λ k same. refl))
         (λ is'. true≢false (sym (and_parts (is_heavy_class p c) false is').1))
       where
         born : field_birth p begun'.stands.number None f ≡ Some ((origin_of p (kinds.FieldAt f) field.field.pos c None), fact_at (places.Field n) modes.Held no_names true)
@@ -627,7 +703,7 @@ module _ (p : Program) (ac : Accept p) (forms' : HasPlainForms p) (plain : HasPl
       no_temp : (k o' : ℕ) → root_of K (value_or_nothing (slice_get [] k)) ≡ Some o' → ⊥
       no_temp zero o' is = let never : None ≡ Some o' = is in cc
       no_temp (suc k) o' is = let never : None ≡ Some o' = is in cc
-  placed places.This o y room root at heavy owes = this_covered o y root at
+  placed places.This o y room root at heavy owes = this_covered o y root at heavy owes
   placed (places.Field n) o y room root at heavy owes = go (owning_field_beside p begun_frame.method n) refl root
     where
       go : (x : Option FieldId) → owning_field_beside p begun_frame.method n ≡ x → root_of K (field_place_value p K begun_frame.locals.this x) ≡ Some o → Covered (places.Field n) o y
@@ -673,10 +749,10 @@ module _ (p : Program) (ac : Accept p) (forms' : HasPlainForms p) (plain : HasPl
       may : may_move p x.vtype old.0 ≡ true
       may = operand_may_move p ac h fr st frs next.index s next.here row covered o old.0 old.1 (ap (is_heavy_class p) (sym old.2) ∙ heavy) (owed_before old.0 y old.3 owes) next.method i x (same_callee ∙ next.named_at) x_at x_owns x_root x_heavy
 
-  callee_covered : IsCovered p K gives_none stack begun_frame
+  callee_covered : IsCovered p K gives_none renews_none stack begun_frame
   callee_covered q o y small' root at heavy owes = by (placed q o y small' root at heavy owes)
     where
-      by : Covered q o y → IsKeyed p K false stack begun_frame q o y
+      by : Covered q o y → IsKeyed p K false false stack begun_frame q o y
       by (inr u) = unowned u
       by (inl (c, here', owning, takes)) = owned c here' (record {
         owning = owning;
@@ -693,71 +769,18 @@ module _ (p : Program) (ac : Accept p) (forms' : HasPlainForms p) (plain : HasPl
   pub started_linked : LinkedWere h K
   started_linked = start_linked p l s.action (method_at p named) j h links
 
-  pub started_unfinished : KeepsUnfinished h K no_other
-  started_unfinished = start_unfinished p l s.action (method_at p named) j h links
-
-  -- ---- the caller, which waits
-
-  -- what is known of an object is not given away
-  known_kept : (o : ℕ) (x : Object) → object_at h o ≡ Some x → is_heavy_class p x.class ≡ true → may_owe x ≡ true → is_frame_from (length frs + 1) x.owner ≡ false → is_given p h fr o x.class ≡ false
-  known_kept o x there heavy owes apart = go (is_given p h fr o x.class) refl
-    where
-      go : (b : Bool) → is_given p h fr o x.class ≡ b → is_given p h fr o x.class ≡ false
-      go false none = none
-      go true some =
-          let gives = given_at_step p h fr st next.index s o x.class next.here row some in
-          let owner = away_owner p ac h fr st frs next.index s next.here row covered o x there heavy owes gives in
-          absurd (true≢false (sym (own_frame (length frs + 1) x.owner owner) ∙ apart))
-
-  module _ (o : ℕ) (x : Object) (there : object_at h o ≡ Some x) (heavy : is_heavy_class p x.class ≡ true) (owes : may_owe x ≡ true) where
-    abbrev away : Bool
-    away = is_given p h fr o x.class
-
-    waiting : Covers p h false frs fr o x → Covers p h away frs fr o x
-    waiting c = record {
-      body = c.body;
-      id = c.id;
-      origin = c.origin;
-      fact = c.fact;
-      reached = c.reached;
-      alone = c.alone;
-      places = c.places;
-      true' = λ claimed spared. c.true' claimed refl;
-      free = c.free;
-      lent = c.lent;
-      known = λ done tells apart. (let known = c.known done tells apart in (known_kept o x there heavy owes known.1, known.1, known.2));
-      fields = c.fields;
-      held = c.held;
-    }
-
-    unowned_waits : (q : Place) → IsUnowned p h false frs fr q o x → IsUnowned p h away frs fr q o x
-    unfolding waiting
-    unowned_waits q u = record { covers = waiting u.covers; here = u.here; unowned = u.unowned }
-
-    keyed_waits : (q : Place) → IsKeyed p h false frs fr q o x → IsKeyed p h away frs fr q o x
-    unfolding waiting
-    keyed_waits q (unowned u) = unowned (unowned_waits q u)
-    keyed_waits q (owned c here' own) = owned (waiting c) here' (record {
-      owning = own.owning;
-      owner = λ spared. own.owner refl;
-      others = λ r small' root'. elim (own.others r small' root') [ inl in'' ↦ inl in'' | inr u ↦ inr (unowned_waits r u) ];
-    })
-
-  caller_waits : IsCovered p h (is_given p h fr) frs fr
-  caller_waits q o x small' root at heavy owes = keyed_waits o x at heavy owes q (covered q o x small' root at heavy owes)
-
   -- ---- who owns what
 
   goes : OwnersGo p None (length frs + 1) h K
   goes = start_owners_go p l s.action (method_at p named) j h links None (length frs + 1) (omega (arith, position)) (given_owner p ac h fr st frs next.index s next.here row covered (method_at p named) same_callee)
 
-  caller_keeps : KeepsOwners p h K (is_given p h fr) (length frs + 1) fr
+  caller_keeps : KeepsOwners p h K (is_given p h fr) frs fr
   caller_keeps = record {
     own = λ q o x y small' part root before now done heavy spared mine. elim (start_owner p l s.action (method_at p named) j h links o x y before now) [
       | inl same ↦ same ∙ mine
       | inr given ↦ absurd (true≢false (sym (step_gives p h fr next.index s o x.class next.here (moved_given p h l s.action (method_at p named) o x same_callee given.1)) ∙ spared))
     ];
-    others = stays_apart p None (length frs + 1) h K goes (length frs + 1) fr (omega arith) (λ w is this. absurd (let never : None ≡ Some w = is in cc));
+    others = stays_apart p None (length frs + 1) h K goes frs fr (omega arith) (λ w is this. absurd (let never : None ≡ Some w = is in cc));
   }
 
   pub start_covered : LocalsIn h (fr ∷ frs) → AreWaiting p h frs → AreCovered p K (begun_frame ∷ fr ∷ frs)
@@ -765,7 +788,7 @@ module _ (p : Program) (ac : Accept p) (forms' : HasPlainForms p) (plain : HasPl
     callee_covered,
     all_wait p h K links roots (start_carries p l s.action (method_at p named) j h links) (fr ∷ frs) (all_keep p h K (start_keeps p l s.action (method_at p named) j h links) (fr ∷ frs))
         (all_there p h ranges (fr ∷ frs) all) (frames_ready p h K started_unfinished (fr ∷ frs)) (all_keep_gifts p h K roots (fr ∷ frs) all)
-        (caller_keeps, owners_kept p None (length frs + 1) h K goes frs (omega arith) tt) (caller_waits, waits),
+        (caller_keeps, owners_kept p None (length frs + 1) h K goes frs (omega arith) tt) (caller_waits p ac forms' h fr st frs next.index s next.here row covered, waits),
     subst (OwnersBelow K) position (start_below p l s.action (method_at p named) j h links (λ o x at. ap (λ (n : ℕ). is_frame_from n x.owner) (let number : j + 1 ≡ length frs + 1 + 1 + 1 = omega (arith, position) in number)
         ∙ below_further h (length frs + 1) low o x at)),
   )

@@ -1,7 +1,7 @@
 -- The top frame, a constructor, stores into an owning field of the object that its `new` makes.
 use Rattle.std.specs.Prelude.{◌&&◌, is_some, not}
 use Rattle.std.specs.FinSet as set
-use Rattle.std.proofs.Common.{◌≡◌, ◌⊎◌, inl, inr, ℕ, suc, ◌+◌, ◌<◌, Bool, true, false, Option, Some, None, List, [], ◌∷◌, length, slice_get, eq-eqb, refl, sym, ap, ◌∙◌, subst, true≢false, arith}
+use Rattle.std.proofs.Common.{◌≡◌, ◌⊎◌, inl, inr, ℕ, zero, suc, ◌+◌, ◌<◌, Bool, true, false, Option, Some, None, List, [], ◌∷◌, length, slice_get, eq-eqb, refl, sym, ap, ◌∙◌, subst, true≢false, arith}
 use Rattle.std.proofs.lemmas.Bool.{and_from, and_parts}
 use Rattle.std.proofs.lemmas.List.Elements.{All-head, All-tail}
 use Rattle.program_model.specs.declared.kinds.ClassId.{ClassId}
@@ -42,20 +42,21 @@ use Rattle.value_laws.specs.Choosing.{frame_steps}
 use Rattle.value_laws.specs.Frames.{frame_after}
 use Rattle.ledger_steps.specs.InnerSteps.{heap_stored, is_bound, parameter, root_of_number, store_into, store_of, store_unless, thrown_heap}
 use Rattle.value_laws.specs.Heaps.{HasEarlierLinks}
+use Rattle.value_laws.proofs.HeapLaws.{roots_of_links-itself}
+use Rattle.ledger_state.specs.declared.object.Link.{Link}
 use Rattle.value_laws.specs.Naming.{IsOfItsKind}
 use Rattle.value_laws.proofs.NamedReached.{names_what_is_there}
-use Rattle.value_laws.specs.Outcomes.{IsCallRow}
 use Rattle.value_laws.specs.Agreement.{AllStand, IsCalledFrom, IsMadeBy, RunsItself, Stands}
-use Rattle.value_laws.specs.PlainForms.{HasPlainForms, IsPlainSignature, calls_constructor}
+use Rattle.value_laws.specs.PlainForms.{HasPlainForms, calls_constructor}
 use Rattle.value_laws.proofs.Fields.{holds_here, holds_other}
 use Rattle.value_laws.proofs.StoredObjects.{bound_back, stored_back, stored_forward, stored_goes_on, stored_takes, unfinished_stays}
 use Rattle.value_laws.specs.Stores.{IsMovedIn, IsStored}
 use Rattle.value_laws.proofs.Chains.{object_there}
-use Rattle.value_laws.proofs.Ready.{plain_call, plain_step, step_there}
+use Rattle.value_laws.proofs.Ready.{step_there}
 use Rattle.value_laws.specs.FieldContents.{DeclaresOwning, FieldsHold}
-use Rattle.value_laws.specs.PlaceFacts.{AreCovered, IsCovered, IsKeyed, gives_none, is_frame_from, is_heavy_in, may_owe, owned, unowned}
+use Rattle.value_laws.specs.PlaceFacts.{AreCovered, IsCovered, IsKeyed, gives_none, is_frame_from, is_heavy_in, may_owe, owned, renews_none, unowned}
 use Rattle.covering_laws.proofs.HeavyFields.{heavy_by_fit}
-use Rattle.covering_laws.proofs.KeptArguments.{argument_alone}
+use Rattle.covering_laws.proofs.KeptArguments.{argument_alone, this_alone}
 use Rattle.covering_laws.proofs.Storing.{small}
 use Rattle.value_laws.specs.Ranges.{FieldsInRange, LocalsInRange}
 use Rattle.covering_laws.specs.Linking.{LinkedAreAliases}
@@ -64,7 +65,7 @@ use Rattle.covering_laws.proofs.Gifts.{all_keep_gifts}
 use Rattle.covering_laws.proofs.Owners.{AllKeepGifts, OwnersGo, StaysApart, constructor_apart, from_frame, given_kept, owners_kept}
 use Rattle.covering_laws.proofs.StoreOwners.{store_below, store_keeps_library, store_owners_go}
 use Rattle.covering_laws.proofs.StoreSteps.{ArgumentIsLent, FieldTakes, OwnerStays, others_stay, store_covered, temp_is_taken}
-use Rattle.covering_laws.proofs.Bodies.{aliased_parameter, argument_is_lent}
+use Rattle.covering_laws.proofs.Bodies.{argument_is_lent}
 use Rattle.covering_laws.proofs.Waiting.{AllHeldBefore, AllKeep, Carries, KeepsRoots, KeepsUnfinished, all_held_before, all_ready, all_wait, frames_ready, linked_roots, no_other}
 use Rattle.covering_laws.proofs.LinkedExceptions.{LinkedWere, still_aliases}
 
@@ -88,13 +89,20 @@ bound_when h (Some m) l u v o new alias held argument =
     (ap (λ (k : Option ℕ). same_root (root_of h u) (root_of_number h (object_by (parameter l) k))) alias ∙ ap (λ (r : Option ℕ). same_root r (root_of_number h (number_of (variable_value l v)))) held
     ∙ ap (same_root (Some o)) (number_root h (variable_value l v) ∙ argument) ∙ eq-eqb o o refl)
 
--- a constructor that runs for a `new`: `this` is the object, and its signature is plain
+-- an object that is not finished is its own root
+pub unlinked_root : (h : HeapContents) → HasEarlierLinks h → (n : ℕ) (x : Object) → object_at h n ≡ Some x → x.finished ≡ false → root_of h (values.Object n) ≡ Some n
+unlinked_root h links n x at unfinished = ap Some (roots_of_links-itself h n x at (none x.link refl))
+  where
+    none : (l : Option Link) → x.link ≡ l → x.link ≡ None
+    none None is = is
+    none (Some l) some = absurd (true≢false (sym (links n x l at some).finished ∙ unfinished))
+
+-- a constructor that runs for a `new`: `this` is the object
 pub record RunsForNew (p : Program) (h : HeapContents) (fr : Frame) : Type 0 where
   pub holder : ℕ
   pub this : fr.locals.this ≡ values.Object holder
   pub object : Object
   pub there : object_at h holder ≡ Some object
-  pub plain : IsPlainSignature p (method_at p fr.method)
 
 module _ (p : Program) (ac : Accept p) (forms : HasPlainForms p) (h : HeapContents) (links : HasEarlierLinks h) (ranges : FieldsInRange h) (fr : Frame) (frs : List Frame) (st : Stands p fr)
     (standing : AllStand p frs) (called : IsCalledFrom p h fr frs) (hold : FieldsHold p (fr ∷ frs) h) (i : ℕ) (s : Step) (here : slice_get (frame_steps p fr) i ≡ Some s) (f : FieldId) (d : ℕ)
@@ -128,10 +136,6 @@ module _ (p : Program) (ac : Accept p) (forms : HasPlainForms p) (h : HeapConten
       named_is : (m : MethodId) → called_method call.0.step.action ≡ Some m → m ≡ call.0.named
       named_is m it = let both : Some m ≡ Some call.0.named = sym it ∙ call.0.calls in (let one : m ≡ call.0.named = cc in one)
 
-      plainly : IsCallRow call.0.step.action → fr.method ≡ call.0.named → IsPlainSignature p (method_at p fr.method)
-      plainly row itself = subst (λ (z : MethodId). IsPlainSignature p (method_at p z)) (sym itself)
-          (plain_call p call.0.step.action call.0.named (plain_step p ac forms caller stand.0 call.0.index call.0.step call.0.here) row call.0.calls).signature
-
       go : (a : Action) → call.0.step.action ≡ a → RunsItself a call.0.named fr.method → IsMadeBy p h a fr.locals.this → RunsForNew p h fr
       go actions.Skip it itself makes = absurd (let never : None ≡ Some call.0.named = sym (ap called_method it) ∙ call.0.calls in cc)
       go (actions.New m e n) it itself makes =
@@ -142,7 +146,6 @@ module _ (p : Program) (ac : Accept p) (forms : HasPlainForms p) (h : HeapConten
             this = makes.1;
             object = object.0;
             there = object.1;
-            plain = plainly (subst IsCallRow (sym it) tt) itself;
           }
       go (actions.Super m e n) it itself makes =
           absurd (true≢false (sym owned_here.3 ∙ ap (λ (z : MethodId). is_class_of owned_here.0.class (method_at p z)) itself
@@ -194,7 +197,7 @@ module _ (p : Program) (ac : Accept p) (forms : HasPlainForms p) (h : HeapConten
   stored_roots = linked_roots h stored links (λ n x at. let y = stored_forward p h w f v bound n x still at in (y.0, y.1, (stored_goes_on p h w f v n x y.0 y.2).link))
 
   lent : ArgumentIsLent p fr st
-  lent aliased kind at = argument_is_lent p ac fr st new.plain aliased kind at
+  lent aliased kind at = argument_is_lent p ac fr st aliased kind at
 
   owning : is_owning p f ≡ true
   owning = ap is_owning_field owned_here.1 ∙ owned_here.2
@@ -220,8 +223,11 @@ module _ (p : Program) (ac : Accept p) (forms : HasPlainForms p) (h : HeapConten
       let on = stored_goes_on p h w f v n x.0 y x.2 in
       (x.0, x.1, sym on.link ∙ some, on.class)
 
+  pub store_were : LinkedWere h store_heap
+  store_were = subst (LinkedWere h) (sym heap_is) stored_linked
+
   pub store_linked : LinkedAreAliases p h → LinkedAreAliases p store_heap
-  store_linked = still_aliases p h store_heap (subst (LinkedWere h) (sym heap_is) stored_linked)
+  store_linked = still_aliases p h store_heap store_were
 
   pub store_unfinished : KeepsUnfinished h store_heap no_other
   store_unfinished = subst (λ (k : HeapContents). KeepsUnfinished h k no_other) (sym heap_is) stored_unfinished
@@ -249,14 +255,24 @@ module _ (p : Program) (ac : Accept p) (forms : HasPlainForms p) (h : HeapConten
   heavy_field o x heavy moved = heavy_by_fit p x.class f heavy
       (type_bounds x.class (and_parts (x.finished && not (is_library_owner x.owner)) (set.is_subset (must_of p x.class) (must_of_type p (obligations.type_of_field (field_at p f)))) moved.may).1)
 
-  alias_form : (alias_position p st.number ≡ None) ⊎ ((n : ℕ) × (alias_position p st.number ≡ Some (suc n)))
-  alias_form = by (alias_position p st.number) refl
-    where
-      by : (a : Option ℕ) → alias_position p st.number ≡ a → (alias_position p st.number ≡ None) ⊎ ((n : ℕ) × (alias_position p st.number ≡ Some (suc n)))
-      by None none = inl none
-      by (Some k) some = inr (aliased_parameter p ac fr st new.plain constructor k some)
+  -- what moves is not the object that is being made
+  not_this : (o : ℕ) (x : Object) → object_at h o ≡ Some x → IsMovedIn p h f v o x → root_of h fr.locals.this ≡ Some o → ⊥
+  not_this o x at moved root =
+      let same : w ≡ o = (let both : Some w ≡ Some o = sym (ap (root_of h) new.this ∙ unlinked_root h links w new.object new.there unfinished') ∙ root in (let one : w ≡ o = cc in one)) in
+      let one : new.object ≡ x = (let both : Some new.object ≡ Some x = sym new.there ∙ ap (object_at h) same ∙ at in (let it : new.object ≡ x = cc in it)) in
+      true≢false (sym (and_parts x.finished (not (is_library_owner x.owner)) (and_parts (x.finished && not (is_library_owner x.owner)) (set.is_subset (must_of p x.class) (must_of_type p (obligations.type_of_field (field_at p f)))) moved.may).0).0
+      ∙ ap (λ (z : Object). z.finished) (sym one) ∙ unfinished')
 
-  module _ (covered : IsCovered p h gives_none frs fr) where
+  module _ (covered : IsCovered p h gives_none renews_none frs fr) where
+    -- where something moves, the constructor has no aliased argument, or that of a parameter
+    alias_form : (o : ℕ) (x : Object) → object_at h o ≡ Some x → is_heavy_class p x.class ≡ true → may_owe x ≡ true → IsMovedIn p h f v o x → (alias_position p st.number ≡ None) ⊎ ((n : ℕ) × (alias_position p st.number ≡ Some (suc n)))
+    alias_form o x before heavy owes moved = by (alias_position p st.number) refl
+      where
+        by : (a : Option ℕ) → alias_position p st.number ≡ a → (alias_position p st.number ≡ None) ⊎ ((n : ℕ) × (alias_position p st.number ≡ Some (suc n)))
+        by None none = inl none
+        by (Some zero) some = absurd (not_this o x before moved (this_alone p ac forms h frs fr st covered i d s f o x here is constructor some (heavy_field o x heavy moved) moved.root before heavy owes))
+        by (Some (suc n)) some = inr (n, some)
+
     -- in a constructor with an aliased argument nothing else moves to the field, and the argument stays
     stays_bound : (o : ℕ) (x y : Object) → object_at h o ≡ Some x → object_at stored o ≡ Some y → is_heavy_class p x.class ≡ true → may_owe x ≡ true → IsMovedIn p h f v o x → (n : ℕ) → alias_position p st.number ≡ Some (suc n)
         → (y ≡ x) ⊎ (x.owner ≡ owners.Field w f)
@@ -270,7 +286,7 @@ module _ (p : Program) (ac : Accept p) (forms : HasPlainForms p) (h : HeapConten
     -- what moves to the field the frame owns, or no frame does
     moves_from : (o : ℕ) (x y : Object) → object_at h o ≡ Some x → object_at stored o ≡ Some y → is_heavy_class p x.class ≡ true → may_owe x ≡ true → IsMovedIn p h f v o x → y ≡ with_owner (owners.Field w f) x
         → (x.owner ≡ owners.Frame (length frs + 1)) ⊎ (is_frame_from 0 x.owner ≡ false)
-    moves_from o x y before at heavy owes moved now = elim alias_form [ inl none ↦ by none (covered (places.Temp d) o x room moved.root before heavy owes) | inr alias ↦ inr (in_field (stays_bound o x y before at heavy owes moved alias.0 alias.1)) ]
+    moves_from o x y before at heavy owes moved now = elim (alias_form o x before heavy owes moved) [ inl none ↦ by none (covered (places.Temp d) o x room moved.root before heavy owes) | inr alias ↦ inr (in_field (stays_bound o x y before at heavy owes moved alias.0 alias.1)) ]
       where
         room : d < 64
         room = (small p ac forms h frs fr st covered i d s f here is).0
@@ -279,7 +295,7 @@ module _ (p : Program) (ac : Accept p) (forms : HasPlainForms p) (h : HeapConten
         in_field (inl same) = ap (λ (z : Object). is_frame_from 0 z.owner) (sym same ∙ now)
         in_field (inr field) = ap (is_frame_from 0) field
 
-        by : alias_position p st.number ≡ None → IsKeyed p h false frs fr (places.Temp d) o x → (x.owner ≡ owners.Frame (length frs + 1)) ⊎ (is_frame_from 0 x.owner ≡ false)
+        by : alias_position p st.number ≡ None → IsKeyed p h false false frs fr (places.Temp d) o x → (x.owner ≡ owners.Frame (length frs + 1)) ⊎ (is_frame_from 0 x.owner ≡ false)
         by none (owned c in' key) = inl (key.owner refl)
         by none (unowned u) = elim (temp_is_taken p ac forms h frs fr st covered i d s f here is o x u.covers u.here (heavy_field o x heavy moved) none) [
           | inl own ↦ absurd (true≢false (sym own ∙ u.unowned))
@@ -298,7 +314,7 @@ module _ (p : Program) (ac : Accept p) (forms : HasPlainForms p) (h : HeapConten
         by : IsStored p h w f v o x y → (y.owner ≡ owners.Frame (length frs + 1)) ⊎ ((root_of h (temp_value fr.locals d) ≡ Some o) × (alias_position p st.number ≡ None) × (is_heavy_in p (Some f) ≡ true))
         by (inl same) = inl (ap (λ (z : Object). z.owner) same ∙ own)
         by (inr (inl gone)) = absurd (no_field gone.0.owner)
-        by (inr (inr moved)) = elim alias_form [
+        by (inr (inr moved)) = elim (alias_form o x before heavy owes moved.0) [
           | inl none ↦ inr (moved.0.root, none, heavy_field o x heavy moved.0)
           | inr alias ↦ elim (stays_bound o x y before at heavy owes moved.0 alias.0 alias.1) [ inl same ↦ inl (ap (λ (z : Object). z.owner) same ∙ own) | inr field ↦ absurd (no_field field) ]
         ]
@@ -342,16 +358,16 @@ module _ (p : Program) (ac : Accept p) (forms : HasPlainForms p) (h : HeapConten
   gifts : LocalsIn h (fr ∷ frs) → AllKeepGifts p h stored frs
   gifts in' = all_keep_gifts p h stored stored_roots frs (All-tail (λ (x : Frame). LocalsInRange h x.locals) fr frs in')
 
-  others : LocalsIn h (fr ∷ frs) → IsCovered p h gives_none frs fr → AllKeep p h stored frs
+  others : LocalsIn h (fr ∷ frs) → IsCovered p h gives_none renews_none frs fr → AllKeep p h stored frs
   others in' covered =
       others_stay p ac forms h stored links stored_roots carries frs fr st covered lent i d s f here is w new.this (holds_here p h w f bound v) (holds_other p h w f bound v)
       (holds_there p h ranges fr (All-head (λ (x : Frame). LocalsInRange h x.locals) fr frs in')) (all_ready p h stored stored_unfinished fr) made (given_kept p h stored frs (gifts in')) (apart covered) field_takes (owner_stays covered) frs
       (hold.new.0 w declared constructor new.this)
     where
-      apart : IsCovered p h gives_none frs fr → StaysApart p h stored (length frs + 1) fr
-      apart cover = constructor_apart p (Some w) (length frs + 1) h stored (owners_go cover) (length frs + 1) fr (omega arith) constructor
+      apart : IsCovered p h gives_none renews_none frs fr → StaysApart p h stored frs fr
+      apart cover = constructor_apart p (Some w) (length frs + 1) h stored (owners_go cover) frs fr (omega arith) constructor
 
-  pub store_held_before : LocalsIn h (fr ∷ frs) → IsCovered p h gives_none frs fr → AllHeldBefore p h store_heap frs
+  pub store_held_before : LocalsIn h (fr ∷ frs) → IsCovered p h gives_none renews_none frs fr → AllHeldBefore p h store_heap frs
   store_held_before in' covered = subst (λ (k : HeapContents). AllHeldBefore p h k frs) (sym heap_is)
       (all_held_before p h stored stored_roots frs (others in' covered) (all_there p h ranges frs (All-tail (λ (x : Frame). LocalsInRange h x.locals) fr frs in')))
 
@@ -359,7 +375,7 @@ module _ (p : Program) (ac : Accept p) (forms : HasPlainForms p) (h : HeapConten
   stores_covered in' covered = subst (λ (k : HeapContents). AreCovered p k (after ∷ frs)) (sym heap_is) (
     store_covered p ac forms h stored links stored_roots carries frs fr st covered.0 lent i d s f here is w new.this (holds_here p h w f bound v) (holds_other p h w f bound v)
         (holds_there p h ranges fr (All-head (λ (x : Frame). LocalsInRange h x.locals) fr frs in')) (all_ready p h stored stored_unfinished fr) made (given_kept p h stored frs (gifts in'))
-        (constructor_apart p (Some w) (length frs + 1) h stored (owners_go covered.0) (length frs + 1) fr (omega arith) constructor) field_takes (owner_stays covered.0),
+        (constructor_apart p (Some w) (length frs + 1) h stored (owners_go covered.0) frs fr (omega arith) constructor) field_takes (owner_stays covered.0),
     all_wait p h stored links stored_roots carries frs
         (others in' covered.0) (all_there p h ranges frs (All-tail (λ (x : Frame). LocalsInRange h x.locals) fr frs in')) (frames_ready p h stored stored_unfinished frs) (gifts in')
         (owners_kept p (Some w) (length frs + 1) h stored (owners_go covered.0) frs (omega arith) (hold.new.0 w declared constructor new.this)) covered.1,

@@ -2,7 +2,7 @@
 use Rattle.std.proofs.Common.{◌≡◌, ◌⊎◌, inl, inr, ℕ, ◌+◌, ◌<◌, arith, Bool, true, false, not, ◌&&◌, ◌||◌, cond, Option, Some, None, List, [], ◌∷◌, length, slice_get, nat_eq, eq-eqb, eqb-true, refl, sym, ap, ◌∙◌, subst, true≢false, if◌then◌else◌}
 use Rattle.std.specs.FinSet as set
 use Rattle.std.proofs.lemmas.Bool.{and_from, and_parts, or_left, or_right, not-true}
-use Rattle.rlc_base.proofs.SetLaws.{within_trans}
+use Rattle.rlc_base.proofs.SetLaws.{within_trans, within_union_right}
 use Rattle.program_model.specs.declared.kinds.FieldId.{FieldId}
 use Rattle.program_model.specs.declared.program.Method.{Method}
 use Rattle.program_model.specs.declared.program.Program.{Program}
@@ -47,16 +47,21 @@ use Rattle.value_laws.specs.Agreement.{Stands}
 use Rattle.value_laws.specs.PlainForms.{HasPlainForms}
 use Rattle.value_laws.specs.FactGoing.{ArePlaces, IsLeft, IsTaken, StoresAs, left, taken}
 use Rattle.value_laws.specs.FieldContents.{RunOnOthers}
-use Rattle.value_laws.specs.PlaceFacts.{Covers, IsCovered, IsKeyed, IsOwned, IsTrueOf, IsUnowned, claims, fits_field, fits_in, gives_none, is_apart, is_content, is_field_of, is_frame_below, is_frame_from, is_heavy_field, is_heavy_in, is_lent, is_owning_fact, makes_alone, may_owe, owned, tells_calls, unowned, was_given}
+use Rattle.value_laws.specs.PlaceFacts.{Covers, IsCovered, IsKeyed, IsOwned, IsTrueOf, IsUnowned, asked_of, claims, fits_field, fits_in, gives_none, is_apart, is_content, is_field_of, is_frame_below, is_frame_from, is_heavy_field, is_heavy_in, is_lent, is_owning_fact, makes_alone, may_owe, owned, tells_calls, unowned, was_given, renews_none}
 use Rattle.value_laws.proofs.FieldPlaces.{place_of_beside}
 use Rattle.value_laws.proofs.ValuesAfter.{IsFrom, value_is_from}
-use Rattle.covering_laws.proofs.HeavyFields.{HasPlace, apart_low, apart_where, claims_alone, claims_as, claims_owned, heavy_here, held_claims, held_mode, held_tells, lent_tells, own_claims, owning_in_no_field, tells_by}
+use Rattle.covering_laws.proofs.HeavyFields.{HasPlace, apart_low, apart_where, claims_alone, claims_as, claims_owned, heavy_here, held_claims, held_mode, held_tells, known_on, lent_tells, own_claims, owning_in_no_field, tells_by}
 use Rattle.covering_laws.proofs.Following.{method_here, step_there}
 use Rattle.covering_laws.proofs.Storing.{Goes, alone_here, goes, now, small, there}
-use Rattle.covering_laws.proofs.Owners.{KeepsGiven, StaysApart, apart_before, from_frame, no_frame_from}
+use Rattle.covering_laws.proofs.Owners.{KeepsGiven, StaysApart, apart_before, from_frame, no_frame_from, lent_after}
 use Rattle.covering_laws.proofs.TopSteps.{in_this}
-use Rattle.covering_laws.proofs.Waiting.{AllKeep, Carries, Continues, HoldsThere, IsCarried, KeepsReady, KeepsRoots, numbered, owed_before, still_true, value_root, stays_unowned}
+use Rattle.covering_laws.proofs.Waiting.{AllKeep, Carries, Continues, HoldsThere, IsCarried, KeepsReady, KeepsRoots, numbered, owed_before, still_true, value_root, stays_unowned, still_unfinished}
 use Rattle.program_model.specs.Lookups.{method_at}
+use Rattle.value_laws.specs.Renewing.{was_renewed}
+
+not_and : (a b : Bool) → b ≡ false → (a && b) ≡ false
+not_and true b is = is
+not_and false b is = refl
 
 -- where the store is one of what has an obligation, the class or the field's type has one
 light_class : (p : Program) (o : Origin) (f : FieldId) → is_heavy_store p o f ≡ false → is_heavy_class p o.class ≡ true → ⊥
@@ -83,8 +88,8 @@ OwnerStays p h k j fr st f d =
     → (y.owner ≡ owners.Frame j) ⊎ ((root_of h (temp_value fr.locals d) ≡ Some o) × (alias_position p st.number ≡ None) × (is_heavy_in p (Some f) ≡ true))
 
 -- What a fact with t(d) stands for the frame owns, or none does, where the field's type has an obligation and the constructor has no aliased argument
-pub temp_is_taken : (p : Program) (ac : Accept p) (forms : HasPlainForms p) (h : HeapContents) (frs : List Frame) (fr : Frame) (st : Stands p fr) (covered : IsCovered p h gives_none frs fr) (i d : ℕ) (s : Step) (f : FieldId)
-    (here : slice_get (frame_steps p fr) i ≡ Some s) (is : s.action ≡ actions.PutOwn f d) (o : ℕ) (x : Object) (c : Covers p h false frs fr o x) → has c.fact.places (places.Temp d) ≡ true → is_heavy_in p (Some f) ≡ true
+pub temp_is_taken : (p : Program) (ac : Accept p) (forms : HasPlainForms p) (h : HeapContents) (frs : List Frame) (fr : Frame) (st : Stands p fr) (covered : IsCovered p h gives_none renews_none frs fr) (i d : ℕ) (s : Step) (f : FieldId)
+    (here : slice_get (frame_steps p fr) i ≡ Some s) (is : s.action ≡ actions.PutOwn f d) (o : ℕ) (x : Object) (c : Covers p h false false frs fr o x) → has c.fact.places (places.Temp d) ≡ true → is_heavy_in p (Some f) ≡ true
     → alias_position p st.number ≡ None → (is_owning_fact p c.origin c.fact ≡ true) ⊎ (is_frame_from 0 x.owner ≡ false)
 temp_is_taken p ac forms h frs fr st covered i d s f here is o x c in' heavy plain =
     by (goes p ac forms h frs fr st covered i d s f here is o x c (place_of_field p f)
@@ -103,18 +108,19 @@ temp_is_taken p ac forms h frs fr st covered i d s f here is o x c in' heavy pla
     in_field false out light = absurd (light_type p c.origin f (light out) heavy)
     in_field true there' light =
         let was = c.held (field_number p f) mine.small there' (heavy_here p h fr f mine heavy) in
-        c.free (held_claims p (method_at p fr.method) c.origin c.fact (alone_here p ac forms h frs fr st covered i d s f here is plain) was.0 was.1) (ap is_held was.0)
+        let alone = alone_here p ac forms h frs fr st covered i d s f here is plain in
+        c.free (c.true' (held_claims p (method_at p fr.method) c.origin c.fact alone was.0 was.1) refl).finished (ap is_held was.0) alone
 
     by : (g : Fact) × Reach p st.number (relation_of p st.number) c.origin s.to g × Goes p ac forms h frs fr st covered i d s f here is o x c g → (is_owning_fact p c.origin c.fact ≡ true) ⊎ (is_frame_from 0 x.owner ≡ false)
     by (g, reach, (same, taken reset called full t)) = elim t.may [ inl own ↦ inl (and_from (is_heavy_class p c.origin.class) (is_own c.fact.mode) t.heavy (ap is_own own)) | inr alias ↦ absurd (not_aliased alias.0) ]
     by (g, reach, (same, left reset called full l)) = inr (in_field (has c.fact.places (place_of_field p f)) refl (l.light in'))
 
 module _ (p : Program) (ac : Accept p) (forms : HasPlainForms p) (h k : HeapContents) (links : HasEarlierLinks h) (roots : KeepsRoots h k) (carries : Carries h k)
-    (frs : List Frame) (fr : Frame) (st : Stands p fr) (covered : IsCovered p h gives_none frs fr) (lent' : ArgumentIsLent p fr st)
+    (frs : List Frame) (fr : Frame) (st : Stands p fr) (covered : IsCovered p h gives_none renews_none frs fr) (lent' : ArgumentIsLent p fr st)
     (i d : ℕ) (s : Step) (f : FieldId) (here : slice_get (frame_steps p fr) i ≡ Some s) (is : s.action ≡ actions.PutOwn f d) (w : ℕ) (this : fr.locals.this ≡ values.Object w)
     (holds_here : field_value p k w f ≡ temp_value fr.locals d)
     (holds_other : (u : ℕ) (g : FieldId) → ((u ≡ w) × (g ≡ f) → ⊥) → field_value p k u g ≡ field_value p h u g)
-    (inside : HoldsThere p h fr) (ready : KeepsReady p h k fr) (v : Value) (gifts : KeepsGiven p h k frs) (others : StaysApart p h k (length frs + 1) fr) (takes : FieldTakes p h k (length frs + 1) fr st f d)
+    (inside : HoldsThere p h fr) (ready : KeepsReady p h k fr) (v : Value) (gifts : KeepsGiven p h k frs) (others : StaysApart p h k frs fr) (takes : FieldTakes p h k (length frs + 1) fr st f d)
     (stays : OwnerStays p h k (length frs + 1) fr st f d) where
   abbrev after : Frame
   after = frame_after p h fr s v
@@ -200,32 +206,40 @@ module _ (p : Program) (ac : Accept p) (forms : HasPlainForms p) (h k : HeapCont
   makes : constructs (method_at p fr.method) ≡ true
   makes = ap constructs (sym (method_here p fr st)) ∙ (forms.stores st.number i (move_of s) f d st.control (step_there p fr st i s here) is).0
 
-  -- where it has one, what it is given is all that the call did not give away
-  was_not_given : (o : ℕ) (y : Object) (g : Fact) → is_alias_constructor p st.number ≡ true → (not (was_given p k frs o y.class) || is_content p after y.owner g) ≡ true → was_given p k frs o y.class ≡ false
-  was_not_given o y g aliased apart = go (was_given p k frs o y.class) refl
+  -- where it has one, what it has stored is apart only where the frame was not given it, or a frame below owns it
+  not_content : (y : Object) (g : Fact) → is_alias_constructor p st.number ≡ true → is_content p after y.owner g ≡ false
+  not_content y g aliased = silent (is_held g.mode) (makes_alone (method_at p fr.method)) (constructs (method_at p fr.method)) (none_alone (makes_alone (method_at p fr.method)) refl) makes
     where
-      silent : (a b m n : Bool) → m ≡ false → n ≡ true → (not a || b && (m || not n && is_field_of after.locals.this y.owner)) ≡ true → a ≡ false
-      silent false b m n none new is' = refl
-      silent true true false true none new is' = absurd (true≢false (sym is'))
-      silent true true true n none new is' = absurd (true≢false none)
-      silent true true false false none new is' = absurd (true≢false (sym new))
-      silent true false m n none new is' = absurd (true≢false (sym is'))
+      silent : (b m n : Bool) → m ≡ false → n ≡ true → (b && (m || not n && is_field_of after.locals.this y.owner)) ≡ false
+      silent false m n none new = refl
+      silent true true n none new = absurd (true≢false none)
+      silent true false true none new = refl
+      silent true false false none new = absurd (true≢false (sym new))
 
       none_alone : (b : Bool) → makes_alone (method_at p fr.method) ≡ b → b ≡ false
       none_alone true alone = absurd (not_alone aliased alone)
       none_alone false other = refl
 
-      go : (b : Bool) → was_given p k frs o y.class ≡ b → was_given p k frs o y.class ≡ false
-      go b same = silent (was_given p k frs o y.class) (is_held g.mode) (makes_alone (method_at p fr.method)) (constructs (method_at p fr.method)) (none_alone (makes_alone (method_at p fr.method)) refl) makes apart
+  other_apart : (o : ℕ) (y : Object) (g : Fact) → is_alias_constructor p st.number ≡ true → is_apart p k frs after o y g ≡ true
+      → (was_renewed p k frs o ≡ false) × ((not (was_given p k frs o y.class) || is_frame_below (length frs + 1) y.owner) ≡ true)
+  other_apart o y g aliased apart = (not-true (was_renewed p k frs o) parts.0, parts.1)
+    where
+      second : (a b : Bool) → a ≡ false → (a || b) ≡ true → b ≡ true
+      second true b off one = absurd (true≢false off)
+      second false b off one = one
+
+      parts : (not (was_renewed p k frs o) ≡ true) × ((not (was_given p k frs o y.class) || is_frame_below (length frs + 1) y.owner) ≡ true)
+      parts = and_parts (not (was_renewed p k frs o)) (not (was_given p k frs o y.class) || is_frame_below (length frs + 1) y.owner)
+          (second (is_content p after y.owner g) (not (was_renewed p k frs o) && (not (was_given p k frs o y.class) || is_frame_below (length frs + 1) y.owner)) (not_content y g aliased) apart)
 
   -- ---- a fact over the store
 
   -- the frame owns what the field takes
-  abbrev IsTakenFrom : (o : ℕ) (x : Object) → Covers p h false frs fr o x → Type 0
+  abbrev IsTakenFrom : (o : ℕ) (x : Object) → Covers p h false false frs fr o x → Type 0
   IsTakenFrom o x c = is_owning_fact p c.origin c.fact ≡ true → x.owner ≡ owners.Frame (length frs + 1)
 
   module _ (o : ℕ) (x y : Object) (before : object_at h o ≡ Some x) (at : object_at k o ≡ Some y) (class : y.class ≡ x.class) (broad : is_heavy_class p x.class ≡ true)
-      (goes_on : x.finished ≡ true → Continues x y) (done : y.finished ≡ true → x.finished ≡ true) (c : Covers p h false frs fr o x) (owned_by : IsTakenFrom o x c) where
+      (goes_on : x.finished ≡ true → Continues x y) (done : y.finished ≡ true → x.finished ≡ true) (c : Covers p h false false frs fr o x) (owned_by : IsTakenFrom o x c) where
     abbrev later : PlaceSet
     later = now p ac forms h frs fr st covered i d s f here is o x c
 
@@ -260,9 +274,13 @@ module _ (p : Program) (ac : Accept p) (forms : HasPlainForms p) (h k : HeapCont
           called = ap (λ (t : Names). set.is_subset t y.called) called ∙ still.called;
         }
 
-    names : (g : Fact) → g.called ≡ c.fact.called → y.finished ≡ true → (x.finished ≡ true → set.is_subset c.fact.called x.called ≡ true) → set.is_subset g.called y.called ≡ true
+    -- what its origin asks for
+    abbrev asked : Names
+    asked = asked_of p (method_at p fr.method) c.origin.kind
+
+    names : (g : Fact) → g.called ≡ c.fact.called → y.finished ≡ true → (x.finished ≡ true → set.is_subset c.fact.called (set.union asked x.called) ≡ true) → set.is_subset g.called (set.union asked y.called) ≡ true
     names g called finished' known =
-        ap (λ (t : Names). set.is_subset t y.called) called ∙ within_trans c.fact.called x.called y.called (known (done finished')) (goes_on (done finished')).0.called
+        ap (λ (t : Names). set.is_subset t (set.union asked y.called)) called ∙ known_on c.fact.called asked x.called y.called (known (done finished')) (goes_on (done finished')).0.called
 
     same_number : (n : ℕ) → is_place (place_of_field p f) (places.Field n) ≡ true → is_heavy_field p fr.method (places.Field n) ≡ is_heavy_in p (Some f)
     same_number n e = ap (λ (j : ℕ). is_heavy_in p (owning_field_beside p fr.method j)) (sym (eqb-true (field_number p f) n e)) ∙ ap (is_heavy_in p) mine.beside
@@ -275,9 +293,9 @@ module _ (p : Program) (ac : Accept p) (forms : HasPlainForms p) (h k : HeapCont
       in_later n in' = sym (same (161 + n)) ∙ in'
 
       abbrev Result : Type 0
-      Result = (e : Covers p k false frs after o y) × (e.origin ≡ c.origin) × (e.fact ≡ g)
+      Result = (e : Covers p k false false frs after o y) × (e.origin ≡ c.origin) × (e.fact ≡ g)
 
-      by_taken : g.called ≡ c.fact.called → g.full ≡ c.fact.full → IsTaken p st.number c.origin f d c.fact g → Covers p k false frs after o y
+      by_taken : g.called ≡ c.fact.called → g.full ≡ c.fact.full → IsTaken p st.number c.origin f d c.fact g → Covers p k false false frs after o y
       by_taken called full t = record {
         body = st.number;
         id = st.id;
@@ -287,14 +305,18 @@ module _ (p : Program) (ac : Accept p) (forms : HasPlainForms p) (h k : HeapCont
         alone = λ n one. places_stay_in_range p st.number (actions.PutOwn f d) s.edge c.fact.places room c.alone n (sym (same n) ∙ one);
         places = λ u less one. holds_later u less (sym (same (number_of u)) ∙ one);
         true' = λ claimed mine'. taken_truth t.may claimed;
-        lent = λ lent. (ap is_own t.mode, t.heavy);
-        free = λ claimed held. taken_free t.may claimed;
+        lent = λ lent. (not_and (is_heavy_class p c.origin.class) (is_own g.mode) (ap is_own t.mode), (λ held. makes));
+        lends = λ lent done'. absurd (let never : modes.Held ≡ modes.Lent = sym t.mode ∙ lent in cc);
+        makes = λ constructor this. still_unfinished x y done (c.makes constructor this);
+        unrenewed = λ done' tells apart. refl;
+        free = λ done' held alone. taken_free t.may alone;
         known = λ finished' tells apart. taken_known t.may finished' apart;
         fields = λ n less wide one. elim (was_in (places.Field n) less (in_later n one)) [
           | inl field ↦ same_fit n field.0 ∙ t.fits
           | inr other ↦ c.fields n less t.heavy other.1
         ];
         held = λ n less one heavy. (t.mode, t.heavy);
+        outside = λ plain n less one. t.mode;
       }
         where
           taken_truth : (c.fact.mode ≡ modes.Own) ⊎ ((is_alias_constructor p st.number ≡ true) × (c.fact.mode ≡ modes.Alias)) → claims p (method_at p fr.method) c.origin g ≡ true → IsTrueOf p y c.origin g
@@ -314,18 +336,19 @@ module _ (p : Program) (ac : Accept p) (forms : HasPlainForms p) (h k : HeapCont
                 where
                   by : (b : Bool) → is_alias_constructor p st.number ≡ b → is_alias_constructor p st.number ≡ false
                   by false none = none
-                  by true aliased = absurd (true≢false (sym (ap is_own own) ∙ (c.lent (lent' aliased c.origin.kind (t.alias aliased))).0))
+                  by true aliased = absurd (true≢false (sym (and_from (is_heavy_class p c.origin.class) (is_own c.fact.mode) t.heavy (ap is_own own)) ∙ (c.lent (lent' aliased c.origin.kind (t.alias aliased))).0))
 
-          taken_free : (c.fact.mode ≡ modes.Own) ⊎ ((is_alias_constructor p st.number ≡ true) × (c.fact.mode ≡ modes.Alias)) → claims p (method_at p fr.method) c.origin g ≡ true → is_frame_from 0 y.owner ≡ false
-          taken_free (inl own) claimed = released own
-          taken_free (inr alias) claimed = absurd (not_alone alias.0 (claims_alone p (method_at p fr.method) c.origin g t.mode claimed))
+          taken_free : (c.fact.mode ≡ modes.Own) ⊎ ((is_alias_constructor p st.number ≡ true) × (c.fact.mode ≡ modes.Alias)) → makes_alone (method_at p fr.method) ≡ true → is_frame_from 0 y.owner ≡ false
+          taken_free (inl own) alone = released own
+          taken_free (inr alias) alone = absurd (not_alone alias.0 alone)
 
           taken_known : (c.fact.mode ≡ modes.Own) ⊎ ((is_alias_constructor p st.number ≡ true) × (c.fact.mode ≡ modes.Alias)) → y.finished ≡ true → is_apart p k frs after o y g ≡ true
-              → (false ≡ false) × (is_frame_from (length frs + 1) y.owner ≡ false) × (set.is_subset g.called y.called ≡ true)
+              → (false ≡ false) × (is_frame_from (length frs + 1) y.owner ≡ false) × (set.is_subset g.called (set.union asked y.called) ≡ true)
           taken_known (inl own) finished' apart = (
             refl,
             no_frame_from 0 (length frs + 1) y.owner (omega arith) (released own),
-            names g called finished' (λ was. (c.true' (own_claims p (method_at p fr.method) c.origin c.fact own t.heavy) refl).called),
+            names g called finished'
+                (λ was. within_trans c.fact.called x.called (set.union asked x.called) (c.true' (own_claims p (method_at p fr.method) c.origin c.fact own t.heavy) refl).called (within_union_right asked x.called)),
           )
           taken_known (inr alias) finished' apart =
               let was = c.known (done finished') (lent_tells p fr.method c.origin c.fact (lent' alias.0 c.origin.kind (t.alias alias.0)))
@@ -336,12 +359,18 @@ module _ (p : Program) (ac : Accept p) (forms : HasPlainForms p) (h k : HeapCont
               first true b off one = refl
               first false b off one = absurd (true≢false (sym one ∙ off))
 
-              split : (b : Bool) → is_frame_below (length frs + 1) y.owner ≡ b → is_apart p h frs fr o x c.fact ≡ true
-              split true low = apart_low p h frs fr o x c.fact (others.low o x y before at (done finished') broad low)
-              split false high = apart_where p h frs fr o x c.fact (sym (gifts o x.class) ∙ ap (was_given p k frs o) (sym class)
-                  ∙ was_not_given o y g alias.0 (first (not (was_given p k frs o y.class) || is_content p after y.owner g) (is_frame_below (length frs + 1) y.owner) high apart))
+              its : (was_renewed p k frs o ≡ false) × ((not (was_given p k frs o y.class) || is_frame_below (length frs + 1) y.owner) ≡ true)
+              its = other_apart o y g alias.0 apart
 
-      by_left : g.called ≡ c.fact.called → g.full ≡ c.fact.full → IsLeft p c.origin f d c.fact g → Covers p k false frs after o y
+              old : was_renewed p h frs o ≡ false
+              old = sym (gifts.renewed o) ∙ its.0
+
+              split : (b : Bool) → is_frame_below (length frs + 1) y.owner ≡ b → is_apart p h frs fr o x c.fact ≡ true
+              split true low = apart_low p h frs fr o x c.fact old (others.low o x y before at (done finished') broad low)
+              split false high = apart_where p h frs fr o x c.fact old (sym (gifts.given o x.class) ∙ ap (was_given p k frs o) (sym class)
+                  ∙ not-true (was_given p k frs o y.class) (first (not (was_given p k frs o y.class)) (is_frame_below (length frs + 1) y.owner) high its.1))
+
+      by_left : g.called ≡ c.fact.called → g.full ≡ c.fact.full → IsLeft p c.origin f d c.fact g → Covers p k false false frs after o y
       by_left called full l = record {
         body = st.number;
         id = st.id;
@@ -351,10 +380,11 @@ module _ (p : Program) (ac : Accept p) (forms : HasPlainForms p) (h k : HeapCont
         alone = λ n one. places_stay_in_range p st.number (actions.PutOwn f d) s.edge c.fact.places room c.alone n (sym (same n) ∙ one);
         places = λ u less one. holds_later u less (sym (same (number_of u)) ∙ one);
         true' = λ claimed mine'. truth g called full (claims_as p (method_at p fr.method) c.origin c.fact g (l.mode (claims_owned p (method_at p fr.method) c.origin g claimed).1) claimed);
-        lent = λ lent. (stays_unowned c.fact.mode g.mode l.mode (c.lent lent).0, (c.lent lent).1);
-        free = λ claimed held'.
-            let was = claims_as p (method_at p fr.method) c.origin c.fact g (l.mode (claims_owned p (method_at p fr.method) c.origin g claimed).1) claimed in
-            others.free o x y before at (c.true' was refl).finished broad (c.free was (held_before held'));
+        lent = λ lent. (stays_unowned p c.origin c.fact g l.mode (c.lent lent).0, (λ held. makes));
+        lends = λ lent done'. (refl, lent_after p h k frs o x.owner y.owner gifts (others.keeps o x y before at (done done') broad) (c.lends (l.lent lent) (done done')).1);
+        makes = λ constructor this. still_unfinished x y done (c.makes constructor this);
+        unrenewed = λ done' tells apart. refl;
+        free = λ done' held' alone. others.free o x y before at (done done') broad (c.free (done done') (held_before held') alone);
         known = λ finished' tells apart.
             let was = c.known (done finished') (told (tells_by p fr.method c.origin g tells))
             (apart_before p h k frs fr o x y c.fact g gifts class held_before (λ plain own. absurd (true≢false (sym makes ∙ plain))) (λ low. others.low o x y before at (done finished') broad low) apart) in
@@ -367,16 +397,17 @@ module _ (p : Program) (ac : Accept p) (forms : HasPlainForms p) (h k : HeapCont
           | inl field ↦ field_held n less one heavy field.0 field.1 (has c.fact.places (place_of_field p f)) refl
           | inr other ↦ (let was = c.held n less other.1 heavy in (l.held was.0 (in_this g.places n less one), was.1))
         ];
+        outside = λ plain n less one. absurd (true≢false (sym makes ∙ plain));
       }
         where
           held_before : is_held g.mode ≡ true → is_held c.fact.mode ≡ true
           held_before held' = ap is_held (sym (l.mode (or_right (is_own g.mode) (is_held g.mode) held'))) ∙ held'
 
-          told : (is_lent p (method_at p fr.method) c.origin.kind ≡ true) ⊎ ((is_heavy_class p c.origin.class ≡ true) × (is_held g.mode ≡ true)) → tells_calls p fr.method c.origin c.fact ≡ true
+          told : (is_lent p (method_at p fr.method) c.origin.kind ≡ true) ⊎ (is_held g.mode ≡ true) → tells_calls p fr.method c.origin c.fact ≡ true
           told (inl lent) = lent_tells p fr.method c.origin c.fact lent
           told (inr held) =
-              let same : g.mode ≡ c.fact.mode = l.mode (or_right (is_own g.mode) (is_held g.mode) held.1) in
-              held_tells p fr.method c.origin c.fact (sym same ∙ held_mode g.mode held.1) held.0
+              let same : g.mode ≡ c.fact.mode = l.mode (or_right (is_own g.mode) (is_held g.mode) held) in
+              held_tells p fr.method c.origin c.fact (sym same ∙ held_mode g.mode held)
 
           field_claimed : (n : ℕ) → n < 16 → is_heavy_class p c.origin.class ≡ true → is_place (place_of_field p f) (places.Field n) ≡ true → has c.fact.places (places.Temp d) ≡ true
               → (b : Bool) → has c.fact.places (place_of_field p f) ≡ b → fits_field p fr.method n c.origin.class ≡ true
@@ -404,12 +435,12 @@ module _ (p : Program) (ac : Accept p) (forms : HasPlainForms p) (h k : HeapCont
         (was, (λ in'. in_field was parts.0 in' (has c.fact.places (place_of_field p f)) refl))
       where
         in_field : is_owning_fact p c.origin c.fact ≡ true → is_heavy_class p c.origin.class ≡ true → has c.fact.places (places.Temp d) ≡ true → (b : Bool) → has c.fact.places (place_of_field p f) ≡ b → ⊥
-        in_field was heavy in' true there' = owning_in_no_field p h false frs fr o x c was (field_number p f) mine.small there'
+        in_field was heavy in' true there' = owning_in_no_field p h false false frs fr o x c was (field_number p f) mine.small there'
         in_field was heavy in' false out = light_class p c.origin f (l.light in' out) heavy
 
     -- the fact at the places after the store
     abbrev After : Type 0
-    After = (g : Fact) × (e : Covers p k false frs after o y) × (e.origin ≡ c.origin) × (e.fact ≡ g) × (ArePlaces g.places later) × (StoresAs p st.number c.origin f d c.fact g)
+    After = (g : Fact) × (e : Covers p k false false frs after o y) × (e.origin ≡ c.origin) × (e.fact ≡ g) × (ArePlaces g.places later) × (StoresAs p st.number c.origin f d c.fact g)
 
     store_covers : (q : Place) → has later q ≡ true → After
     store_covers q in' = by (goes p ac forms h frs fr st covered i d s f here is o x c q in')
@@ -441,20 +472,20 @@ module _ (p : Program) (ac : Accept p) (forms : HasPlainForms p) (h k : HeapCont
 
   module _ (o : ℕ) (x y : Object) (before : object_at h o ≡ Some x) (at : object_at k o ≡ Some y) (class : y.class ≡ x.class) (broad : is_heavy_class p x.class ≡ true) (owes : may_owe x ≡ true)
       (goes_on : x.finished ≡ true → Continues x y) (done : y.finished ≡ true → x.finished ≡ true) where
-    here_after : (c : Covers p h false frs fr o x) (owned_by : IsTakenFrom o x c) (q : Place) → has (copied c.fact.places (place_of_field p f) (places.Temp d)) q ≡ true → (n : After o x y before at class broad goes_on done c owned_by) → has n.1.fact.places q ≡ true
+    here_after : (c : Covers p h false false frs fr o x) (owned_by : IsTakenFrom o x c) (q : Place) → has (copied c.fact.places (place_of_field p f) (places.Temp d)) q ≡ true → (n : After o x y before at class broad goes_on done c owned_by) → has n.1.fact.places q ≡ true
     here_after c owned_by q in' n = ap (λ (u : Fact). has u.places q) n.3 ∙ n.4 (number_of q) ∙ in'
 
-    owning_after : (c : Covers p h false frs fr o x) (owned_by : IsTakenFrom o x c) (n : After o x y before at class broad goes_on done c owned_by) → is_owning_fact p n.1.origin n.1.fact ≡ is_owning_fact p c.origin n.0
+    owning_after : (c : Covers p h false false frs fr o x) (owned_by : IsTakenFrom o x c) (n : After o x y before at class broad goes_on done c owned_by) → is_owning_fact p n.1.origin n.1.fact ≡ is_owning_fact p c.origin n.0
     owning_after c owned_by n = ap (λ (u : Origin). is_owning_fact p u n.1.fact) n.2 ∙ ap (is_owning_fact p c.origin) n.3
 
     -- a fact that does not own it
-    unowned_on : (z q : Place) → IsUnowned p h false frs fr z o x → ((held : PlaceSet) → has held z ≡ true → has (copied held (place_of_field p f) (places.Temp d)) q ≡ true) → IsUnowned p k false frs after q o y
+    unowned_on : (z q : Place) → IsUnowned p h false false frs fr z o x → ((held : PlaceSet) → has held z ≡ true → has (copied held (place_of_field p f) (places.Temp d)) q ≡ true) → IsUnowned p k false false frs after q o y
     unowned_on z q u goes_to = by (store_covers o x y before at class broad goes_on done u.covers never q (goes_to u.covers.fact.places u.here))
       where
         never : IsTakenFrom o x u.covers
         never owning = absurd (true≢false (sym owning ∙ u.unowned))
 
-        by : After o x y before at class broad goes_on done u.covers never → IsUnowned p k false frs after q o y
+        by : After o x y before at class broad goes_on done u.covers never → IsUnowned p k false false frs after q o y
         by n = record {
           covers = n.1;
           here = here_after u.covers never q (goes_to u.covers.fact.places u.here) n;
@@ -466,7 +497,7 @@ module _ (p : Program) (ac : Accept p) (forms : HasPlainForms p) (h k : HeapCont
             not_owning true owning = absurd (true≢false (sym (left_owned o x y before at class broad goes_on done u.covers never n.0 n.5 owning).0 ∙ u.unowned))
 
     -- the fact that owns it
-    module _ (c : Covers p h false frs fr o x) (key : IsOwned p h false frs fr o x c) where
+    module _ (c : Covers p h false false frs fr o x) (key : IsOwned p h false false frs fr o x c) where
       owned_by : IsTakenFrom o x c
       owned_by owning = key.owner refl
 
@@ -486,35 +517,35 @@ module _ (p : Program) (ac : Accept p) (forms : HasPlainForms p) (h k : HeapCont
         ])
       ]
 
-      keyed_by : (n : Now) (q : Place) → has (copied c.fact.places (place_of_field p f) (places.Temp d)) q ≡ true → IsKeyed p k false frs after q o y
+      keyed_by : (n : Now) (q : Place) → has (copied c.fact.places (place_of_field p f) (places.Temp d)) q ≡ true → IsKeyed p k false false frs after q o y
       keyed_by n q in' = go (is_owning_fact p c.origin n.0) refl
         where
-          each : (u : Place) → IsSmall u → root_of k (place_value p k after.method after.locals u) ≡ Some o → (has n.1.fact.places u ≡ true) ⊎ IsUnowned p k false frs after u o y
+          each : (u : Place) → IsSmall u → root_of k (place_value p k after.method after.locals u) ≡ Some o → (has n.1.fact.places u ≡ true) ⊎ IsUnowned p k false false frs after u o y
           each u less is' =
               let from = origin_of_place u o less is' in
               elim (key.others from.0 from.1 from.2) [ inl in'' ↦ inl (here_after c owned_by u (from.3 c.fact.places in'') n) | inr free ↦ inr (unowned_on from.0 u free from.3) ]
 
-          go : (b : Bool) → is_owning_fact p c.origin n.0 ≡ b → IsKeyed p k false frs after q o y
+          go : (b : Bool) → is_owning_fact p c.origin n.0 ≡ b → IsKeyed p k false false frs after q o y
           go true owning = owned n.1 (here_after c owned_by q in' n) (record { owning = owning_after c owned_by n ∙ owning; owner = λ mine'. still_owner n owning; others = each })
           go false none = unowned (record { covers = n.1; here = here_after c owned_by q in' n; unowned = owning_after c owned_by n ∙ none })
 
-      keyed_on : (q : Place) → has (copied c.fact.places (place_of_field p f) (places.Temp d)) q ≡ true → IsKeyed p k false frs after q o y
+      keyed_on : (q : Place) → has (copied c.fact.places (place_of_field p f) (places.Temp d)) q ≡ true → IsKeyed p k false false frs after q o y
       keyed_on q in' = keyed_by (store_covers o x y before at class broad goes_on done c owned_by q in') q in'
 
-    keyed_from : (q : Place) → ComesFrom q o → IsKeyed p k false frs after q o y
+    keyed_from : (q : Place) → ComesFrom q o → IsKeyed p k false false frs after q o y
     keyed_from q (z, small', held, goes_to) = by (covered z o x small' held before broad owes)
       where
-        by : IsKeyed p h false frs fr z o x → IsKeyed p k false frs after q o y
+        by : IsKeyed p h false false frs fr z o x → IsKeyed p k false false frs after q o y
         by (owned c in' key) = keyed_on c key q (goes_to c.fact.places in')
         by (unowned u) = unowned (unowned_on z q u goes_to)
 
-  pub store_covered : IsCovered p k gives_none frs after
+  pub store_covered : IsCovered p k gives_none renews_none frs after
   store_covered q o y less root at heavy owes = came (origin_of_place q o less root)
     where
-      came : ComesFrom q o → IsKeyed p k false frs after q o y
+      came : ComesFrom q o → IsKeyed p k false false frs after q o y
       came from = by (carries o y at (numbered h links (place_value p h fr.method fr.locals from.0) o from.2 (inside from.0 from.1)).1)
         where
-          by : IsCarried h o y → IsKeyed p k false frs after q o y
+          by : IsCarried h o y → IsKeyed p k false false frs after q o y
           by (x, before, class, goes_on) =
               keyed_from o x y before at class (ap (is_heavy_class p) (sym class) ∙ heavy) (owed_before x y goes_on owes) goes_on (ready from.0 o x y from.1 from.2 before at) q from
 

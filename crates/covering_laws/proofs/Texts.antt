@@ -19,7 +19,8 @@ use Rattle.value_laws.specs.Types.{IsNoObjectButText}
 use Rattle.value_laws.proofs.Cases.{same_class}
 use Rattle.value_laws.proofs.HeapLaws.{roots_of_links-itself}
 use Rattle.covering_laws.specs.Linking.{GivesClass, IsGivenAsAlias, LinkedAreAliases}
-use Rattle.covering_laws.specs.Texts.{HasLightTexts, TextsAreLight, makes_alias_text}
+use Rattle.covering_laws.specs.Texts.{TextsAreLight}
+use Rattle.value_laws.specs.LibraryClasses.{HasLightTexts, makes_alias_text}
 use Rattle.covering_laws.proofs.LightExceptions.{under_itself}
 
 no_element : {X : Type 0} (i : ℕ) (x : X) → slice_get [] i ≡ Some x → ⊥

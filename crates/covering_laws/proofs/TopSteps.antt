@@ -6,7 +6,9 @@ use Rattle.std.proofs.lemmas.Bool.Decides.{nat_tests}
 use Rattle.std.proofs.lemmas.Bool.{and_from, and_parts, or_left, or_right}
 use Rattle.program_model.specs.declared.kinds.BodyId.{BodyId}
 use Rattle.program_model.specs.declared.kinds.ClassId.{ClassId}
+use Rattle.program_model.specs.declared.kinds.FieldId.{FieldId}
 use Rattle.program_model.specs.declared.program.Program.{Program}
+use Rattle.ledger_obligations.specs.Bodies.{has_field_place}
 use Rattle.ledger_obligations.specs.MustCallSets.{Names, is_heavy_class, must_of}
 use Rattle.java_control.specs.Calls.{is_reset_of_this}
 use Rattle.java_control.specs.Control.{Step}
@@ -42,15 +44,18 @@ use Rattle.value_laws.proofs.PlaceLaws.{alias_stands, places_come_from_sources, 
 use Rattle.value_laws.specs.Agreement.{Stands}
 use Rattle.value_laws.specs.Outcomes.{After}
 use Rattle.value_laws.specs.FactGoing.{GoesAs, is_in_this, is_owned_in}
-use Rattle.value_laws.specs.PlaceFacts.{Covers, IsCovered, IsKeyed, IsOwned, IsTrueOf, IsUnowned, claims, gives_none, is_lent, is_owning_fact, may_owe, owned, tells_calls, unowned}
-use Rattle.covering_laws.proofs.HeavyFields.{apart_alone, claims_alone, claims_as, claims_owned, held_mode, held_tells, lent_tells, owning_claims, tells_by}
-use Rattle.value_laws.proofs.OtherPlaces.{stays_aside}
+use Rattle.value_laws.specs.PlaceFacts.{Covers, IsCovered, IsKeyed, IsOwned, IsTrueOf, IsUnowned, asked_of, claims, gives_none, is_lent, is_owning_fact, may_owe, owned, tells_calls, unowned, is_apart}
+use Rattle.covering_laws.proofs.HeavyFields.{apart_alone, claims_alone, claims_as, claims_owned, held_mode, held_tells, known_on, lent_tells, owning_claims, tells_by}
+use Rattle.value_laws.proofs.OtherPlaces.{stays_aside, left_aside}
+use Rattle.value_laws.specs.Renewing.{fact_as}
+use Rattle.covering_laws.proofs.Resets.{holds_no_part}
 use Rattle.value_laws.proofs.ValuesAfter.{IsFrom, value_is_from}
 use Rattle.covering_laws.proofs.Following.{followed, same_body, step_there}
-use Rattle.covering_laws.proofs.Owners.{KeepsGiven, StaysApart, apart_before}
+use Rattle.covering_laws.proofs.Owners.{KeepsGiven, StaysApart, apart_before, lent_after}
+use Rattle.covering_laws.proofs.RenewedFacts.{true_alike}
 use Rattle.value_laws.proofs.Needs.{origin_needs_all}
-use Rattle.covering_laws.proofs.Waiting.{Carries, Continues, HoldsThere, IsCarried, KeepsFields, KeepsReady, KeepsRootsOf, numbered, owed_before, same_place, still_true, stays_unowned}
-use Rattle.rlc_base.proofs.SetLaws.{within_trans}
+use Rattle.covering_laws.proofs.Waiting.{Carries, Continues, HoldsThere, IsCarried, KeepsFields, KeepsReady, KeepsRootsOf, numbered, owed_before, same_place, still_true, stays_unowned, still_unfinished}
+use Rattle.rlc_base.proofs.SetLaws.{within_self, within_trans, within_union_right}
 use Rattle.program_model.specs.Lookups.{method_at}
 use Rattle.java_control.specs.declared.fact.Outcome.{Outcome}
 use Rattle.java_control.specs.declared.fact.Outcome.TheVariants.{Next, Gone, Fault}
@@ -91,13 +96,13 @@ pub record IsLocalStep (p : Program) (fr : Frame) (st : Stands p fr) (s : Step) 
   pub moves : (x y : Place) → s.action ≡ actions.Move x y → is_local y ≡ true
   pub makes : (x : Place) (v : PlainValue) → s.action ≡ actions.Plain x v → is_local x ≡ true
   pub target : HasTarget fr.locals s.action
-  pub no_reset : is_reset_of_this p s.action ≡ false
+  pub elsewhere : is_reset_of_this p s.action ≡ true → (f : FieldId) → has_field_place p st.number f ≡ false
   pub way : IsWay s.action s.edge
 
 -- no fact of the frame goes on owning the object
-abbrev pub StopsOwning : (p : Program) → HeapContents → Frame → List Frame → (ℕ → ClassId → Bool) → (Origin → Fact → Fact → Type 0) → ℕ → Type 0
-StopsOwning p h fr frs gives More o =
-    (x : Object) → object_at h o ≡ Some x → (z : Place) → IsSmall z → root_of h (place_value p h fr.method fr.locals z) ≡ Some o → (c : Covers p h (gives o x.class) frs fr o x) → IsOwned p h (gives o x.class) frs fr o x c
+abbrev pub StopsOwning : (p : Program) → HeapContents → Frame → List Frame → (ℕ → ClassId → Bool) → (ℕ → Bool) → (Origin → Fact → Fact → Type 0) → ℕ → Type 0
+StopsOwning p h fr frs gives renewed More o =
+    (x : Object) → object_at h o ≡ Some x → (z : Place) → IsSmall z → root_of h (place_value p h fr.method fr.locals z) ≡ Some o → (c : Covers p h (gives o x.class) (renewed o) frs fr o x) → IsOwned p h (gives o x.class) (renewed o) frs fr o x c
     → (g : Fact) → More c.origin c.fact g → is_own g.mode ≡ false
 
 module _ (p : Program) (ac : Accept p) (h k : HeapContents) (links : HasEarlierLinks h) (carries : Carries h k) (fields : KeepsFields p h k)
@@ -152,7 +157,7 @@ module _ (p : Program) (ac : Accept p) (h k : HeapContents) (links : HasEarlierL
       go true local = taken local (takes_alias p s.action s.edge held z) refl
           (sym (places_come_from_sources p st.number st.body s.action s.edge held z st.at r.small small local r.way) ∙ is)
       go false out =
-          let was = before z small (sym (stays_aside z small out p st.number s.edge held s.action r.small r.sets r.moves r.makes r.no_reset) ∙ is) in
+          let was = before z small (left_aside z small out p st.number s.edge held s.action r.small r.sets r.moves r.makes is) in
           ap (root_of k) (other z out ∙ same_place p h k fields fr.method fr.locals z) ∙ root_later z o small was
 
   -- what a fact of this origin knows is to be true: it says that the object is owned, or it is that of what is lent
@@ -160,14 +165,14 @@ module _ (p : Program) (ac : Accept p) (h k : HeapContents) (links : HasEarlierL
   IsTrusted g f = (is_owned_in f.mode ≡ true) ⊎ (is_lent p (method_at p fr.method) g.kind ≡ true)
 
   -- the step lets the fact go on, and what it knows to have been called was
-  module _ (frs : List Frame) (away : Bool) (o : ℕ) (x y : Object) (before : object_at h o ≡ Some x) (at : object_at k o ≡ Some y) (class : y.class ≡ x.class) (wide : is_heavy_class p x.class ≡ true)
-      (goes : x.finished ≡ true → Continues x y) (ready : y.finished ≡ true → x.finished ≡ true) (gifts : KeepsGiven p h k frs) (others : StaysApart p h k (length frs + 1) fr) (c : Covers p h away frs fr o x)
+  module _ (frs : List Frame) (away anew : Bool) (o : ℕ) (x y : Object) (before : object_at h o ≡ Some x) (at : object_at k o ≡ Some y) (class : y.class ≡ x.class) (wide : is_heavy_class p x.class ≡ true)
+      (goes : x.finished ≡ true → Continues x y) (ready : y.finished ≡ true → x.finished ≡ true) (gifts : KeepsGiven p h k frs) (others : StaysApart p h k frs fr) (c : Covers p h away anew frs fr o x)
       (More : Fact → Type 0)
       (row : (q : Place) → has (later c.fact.places) q ≡ true
       → After (λ (g : Fact). GoesAs c.fact (later c.fact.places) (called_after p st.number s.action s.edge c.fact) g × More g) (flow p st.number c.origin s.action s.edge c.fact))
       (spared : (g : Fact) → More g → is_own g.mode ≡ true → is_owning_fact p c.origin c.fact ≡ true → away ≡ false)
-      (known : (g : Fact) → More g → IsTrusted c.origin g → away ≡ false → x.finished ≡ true → is_heavy_class p c.origin.class ≡ true → set.is_subset c.fact.called y.called ≡ true
-      → set.is_subset (called_after p st.number s.action s.edge c.fact) y.called ≡ true)
+      (known : (g : Fact) → More g → IsTrusted c.origin g → away ≡ false → anew ≡ false → x.finished ≡ true → (names : Names) → set.is_subset y.called names ≡ true → set.is_subset c.fact.called names ≡ true
+      → set.is_subset (called_after p st.number s.action s.edge c.fact) names ≡ true)
       (alias : GivesIt c.fact.places o) where
     reached : Reach p st.number (relation_of p st.number) c.origin fr.control c.fact
     reached = subst (λ (b : BodyId). Reach p b (relation_of p b) c.origin fr.control c.fact) (same_body c.body st.number (body_id p fr.method) c.id st.id) c.reached
@@ -189,8 +194,8 @@ module _ (p : Program) (ac : Accept p) (h k : HeapContents) (links : HasEarlierL
       more : More g
       more = goes_on.1.1
 
-      aside : (n : ℕ) → n < 16 → has (later c.fact.places) (places.Field n) ≡ has c.fact.places (places.Field n)
-      aside n inside = stays_aside (places.Field n) inside refl p st.number s.edge c.fact.places s.action r.small r.sets r.moves r.makes r.no_reset
+      aside : (n : ℕ) → n < 16 → has (later c.fact.places) (places.Field n) ≡ true → has c.fact.places (places.Field n) ≡ true
+      aside n inside = left_aside (places.Field n) inside refl p st.number s.edge c.fact.places s.action r.small r.sets r.moves r.makes
 
       -- where it says that the frame owns the object, so did the fact before
       pub owning_before : is_owning_fact p c.origin g ≡ true → is_owning_fact p c.origin c.fact ≡ true
@@ -219,7 +224,7 @@ module _ (p : Program) (ac : Accept p) (h k : HeapContents) (links : HasEarlierL
           by true own = ap (λ (b : Bool). b && is_own c.fact.mode) (stays_owned owned.0 own)
           by false other = none away (is_own c.fact.mode) (ap is_own (sym (on.mode owned.1)) ∙ other)
 
-      was_true : claims p (method_at p fr.method) c.origin g ≡ true → IsTrueOf p x c.origin c.fact
+      was_true : claims p (method_at p fr.method) c.origin g ≡ true → IsTrueOf p x c.origin (fact_as anew c.fact)
       was_true claimed = c.true' (claims_as p (method_at p fr.method) c.origin c.fact g (on.mode (claims_owned p (method_at p fr.method) c.origin g claimed).1) claimed) (not_given claimed)
 
       not_away : claims p (method_at p fr.method) c.origin g ≡ true → away ≡ false
@@ -237,21 +242,11 @@ module _ (p : Program) (ac : Accept p) (h k : HeapContents) (links : HasEarlierL
           by false other =
               let held : is_held g.mode ≡ true = second (is_own g.mode) (is_held g.mode) owned.1 other in
               let was : c.fact.mode ≡ modes.Held = held_mode c.fact.mode (held_before held) in
-              (c.known (was_true claimed).finished (held_tells p fr.method c.origin c.fact was owned.0)
+              (c.known (was_true claimed).finished (held_tells p fr.method c.origin c.fact was)
               (apart_alone p h frs fr o x c.fact was (claims_alone p (method_at p fr.method) c.origin g (held_mode g.mode held) claimed))).0
 
-      truth : claims p (method_at p fr.method) c.origin g ≡ true → IsTrueOf p y c.origin g
-      truth claimed =
-          let owned = claims_owned p (method_at p fr.method) c.origin g claimed in
-          let was = was_true claimed in
-          let still = still_true p x y c.origin c.fact (goes was.finished).0 was in
-          record {
-            finished = still.finished;
-            class = still.class;
-            bounded = still.bounded;
-            need = by_full still on.full;
-            called = within_trans g.called (called_after p st.number s.action s.edge c.fact) y.called on.known (known g more (inl owned.1) (not_away claimed) was.finished owned.0 still.called);
-          }
+      truth : claims p (method_at p fr.method) c.origin g ≡ true → IsTrueOf p y c.origin (fact_as anew g)
+      truth claimed = as_read anew refl (still_true p x y c.origin (fact_as anew c.fact) (goes (was_true claimed).finished).0 (was_true claimed))
         where
           -- needed is what was, or all that the class asks for
           by_full : IsTrueOf p y c.origin c.fact → (g.full ≡ c.fact.full) ⊎ (g.full ≡ true) → set.is_subset y.must (cond g.full c.origin.full c.origin.first) ≡ true
@@ -261,13 +256,31 @@ module _ (p : Program) (ac : Accept p) (h k : HeapContents) (links : HasEarlierL
               (within_trans y.must (must_of p y.class) c.origin.full was.bounded
               (subst (λ (t : Names). set.is_subset (must_of p y.class) t ≡ true) (sym (origin_needs_all p st.number c.origin fr.control c.fact reached)) was.class))
 
-      -- what it tells of the object
-      tells_before : (is_lent p (method_at p fr.method) c.origin.kind ≡ true) ⊎ ((is_heavy_class p c.origin.class ≡ true) × (is_held g.mode ≡ true))
-          → (tells_calls p fr.method c.origin c.fact ≡ true) × IsTrusted c.origin g × (is_heavy_class p c.origin.class ≡ true)
-      tells_before (inl lent) = (lent_tells p fr.method c.origin c.fact lent, inr lent, (c.lent lent).1)
-      tells_before (inr held) = (held_tells p fr.method c.origin c.fact (held_mode c.fact.mode (held_before held.1)) held.0, inl (or_right (is_own g.mode) (is_held g.mode) held.1), held.0)
+          as_read : (b : Bool) → anew ≡ b → IsTrueOf p y c.origin (fact_as b c.fact) → IsTrueOf p y c.origin (fact_as b g)
+          as_read true is still = true_alike p y c.origin c.fact g still
+          as_read false is still =
+              let owned = claims_owned p (method_at p fr.method) c.origin g claimed in
+              record {
+                finished = still.finished;
+                class = still.class;
+                bounded = still.bounded;
+                need = by_full still on.full;
+                called = within_trans g.called (called_after p st.number s.action s.edge c.fact) y.called on.known (known g more (inl owned.1) (not_away claimed) is (was_true claimed).finished y.called (within_self y.called) still.called);
+              }
 
-      pub covers_on : Covers p k false frs after o y
+      -- what it tells of the object
+      tells_before : (is_lent p (method_at p fr.method) c.origin.kind ≡ true) ⊎ (is_held g.mode ≡ true) → (tells_calls p fr.method c.origin c.fact ≡ true) × IsTrusted c.origin g
+      tells_before (inl lent) = (lent_tells p fr.method c.origin c.fact lent, inr lent)
+      tells_before (inr held) = (held_tells p fr.method c.origin c.fact (held_mode c.fact.mode (held_before held)), inl (or_right (is_own g.mode) (is_held g.mode) held))
+
+      -- what its origin asks for
+      abbrev asked : Names
+      asked = asked_of p (method_at p fr.method) c.origin.kind
+
+      was_apart : x.finished ≡ true → is_apart p k frs after o y g ≡ true → is_apart p h frs fr o x c.fact ≡ true
+      was_apart was_done apart = apart_before p h k frs fr o x y c.fact g gifts class held_before (λ plain own. others.content o x y before at was_done wide plain own) (λ low. others.low o x y before at was_done wide low) apart
+
+      pub covers_on : Covers p k false anew frs after o y
       covers_on = record {
         body = st.number;
         id = st.id;
@@ -277,21 +290,26 @@ module _ (p : Program) (ac : Accept p) (h k : HeapContents) (links : HasEarlierL
         alone = λ n inside'. places_stay_in_range p st.number s.action s.edge c.fact.places r.small c.alone n (sym (on.places n) ∙ inside');
         places = λ z' small' inside'. still_holds c.fact.places o c.places alias z' small' (sym (on.places (number_of z')) ∙ inside');
         true' = λ claimed spared'. truth claimed;
-        lent = λ lent. (stays_unowned c.fact.mode g.mode on.mode (c.lent lent).0, (c.lent lent).1);
-        free = λ claimed held. others.free o x y before at (was_true claimed).finished wide (c.free (claims_as p (method_at p fr.method) c.origin c.fact g (on.mode (claims_owned p (method_at p fr.method) c.origin g claimed).1) claimed) (held_before held));
+        lent = λ lent. (stays_unowned p c.origin c.fact g on.mode (c.lent lent).0, (λ held. (c.lent lent).1 (held_before held)));
+        free = λ done held alone. others.free o x y before at (ready done) wide (c.free (ready done) (held_before held) alone);
+        lends = λ lent done. (refl, lent_after p h k frs o x.owner y.owner gifts (others.keeps o x y before at (ready done) wide) (c.lends (on.lent lent) (ready done)).1);
+        makes = λ constructor this. still_unfinished x y ready (c.makes constructor this);
+        unrenewed = λ done tells apart. c.unrenewed (ready done) (tells_before (tells_by p fr.method c.origin g tells)).0 (was_apart (ready done) apart);
         known = λ done tells apart.
             let was_done = ready done in
             let told = tells_before (tells_by p fr.method c.origin g tells) in
-            let was = c.known was_done told.0 (apart_before p h k frs fr o x y c.fact g gifts class held_before (λ plain own. others.content o x y before at was_done wide plain own) (λ low. others.low o x y before at was_done wide low) apart) in (
+            let was = c.known was_done told.0 (was_apart was_done apart) in (
               refl,
               others.apart o x y before at was_done wide was.1,
-              within_trans g.called (called_after p st.number s.action s.edge c.fact) y.called on.known
-                  (known g more told.1 was.0 was_done told.2 (within_trans c.fact.called x.called y.called was.2 (goes was_done).0.called)),
+              within_trans g.called (called_after p st.number s.action s.edge c.fact) (set.union asked y.called) on.known
+                  (known g more told.1 was.0 (c.unrenewed was_done told.0 (was_apart was_done apart)) was_done (set.union asked y.called) (within_union_right asked y.called) (known_on c.fact.called asked x.called y.called was.2 (goes was_done).0.called)),
             );
-        fields = λ n inside' wide' there. c.fields n inside' wide' (sym (aside n inside') ∙ sym (on.places (161 + n)) ∙ there);
+        fields = λ n inside' wide' there. c.fields n inside' wide' (aside n inside' (sym (on.places (161 + n)) ∙ there));
         held = λ n inside' there heavy.
-            let was = c.held n inside' (sym (aside n inside') ∙ sym (on.places (161 + n)) ∙ there) heavy in
+            let was = c.held n inside' (aside n inside' (sym (on.places (161 + n)) ∙ there)) heavy in
             (on.held was.0 (in_this (later c.fact.places) n inside' (sym (on.places (161 + n)) ∙ there)), was.1);
+        outside = λ plain n inside' there.
+            on.held (c.outside plain n inside' (aside n inside' (sym (on.places (161 + n)) ∙ there))) (in_this (later c.fact.places) n inside' (sym (on.places (161 + n)) ∙ there));
       }
 
       pub has_on : (q : Place) → has (later c.fact.places) q ≡ true → has g.places q ≡ true
@@ -303,33 +321,33 @@ module _ (p : Program) (ac : Accept p) (h k : HeapContents) (links : HasEarlierL
 
   -- The step gives the object to the place. A fact is born there, and no fact of the frame goes on owning the object; or a fact that does not own it stands
   -- there; or it comes from another place.
-  abbrev pub IsMadeSo : List Frame → (ℕ → ClassId → Bool) → (Origin → Fact → Fact → Type 0) → Place → ℕ → Object → Type 0
-  IsMadeSo frs gives More q o y =
-      ((d : Covers p k false frs after o y) × (has d.fact.places q ≡ true) × (y.owner ≡ owners.Frame (length frs + 1)) × StopsOwning p h fr frs gives More o) ⊎ (IsUnowned p k false frs after q o y ⊎ ComesFrom q o)
+  abbrev pub IsMadeSo : List Frame → (ℕ → ClassId → Bool) → (ℕ → Bool) → (Origin → Fact → Fact → Type 0) → Place → ℕ → Object → Type 0
+  IsMadeSo frs gives renewed More q o y =
+      ((d : Covers p k false (renewed o) frs after o y) × (has d.fact.places q ≡ true) × (y.owner ≡ owners.Frame (length frs + 1)) × StopsOwning p h fr frs gives renewed More o) ⊎ (IsUnowned p k false (renewed o) frs after q o y ⊎ ComesFrom q o)
 
   -- a fact that says after the step that the frame owns the object said so before it, or no other fact goes on owning it
-  abbrev pub IsOwnedFrom : List Frame → (ℕ → ClassId → Bool) → (Origin → Fact → Fact → Type 0) → ℕ → Origin → Fact → Type 0
-  IsOwnedFrom frs gives More o origin g =
-      ((x : Object) × (object_at h o ≡ Some x) × (c : Covers p h (gives o x.class) frs fr o x) × IsOwned p h (gives o x.class) frs fr o x c × (origin ≡ c.origin) × More c.origin c.fact g)
-      ⊎ StopsOwning p h fr frs gives More o
+  abbrev pub IsOwnedFrom : List Frame → (ℕ → ClassId → Bool) → (ℕ → Bool) → (Origin → Fact → Fact → Type 0) → ℕ → Origin → Fact → Type 0
+  IsOwnedFrom frs gives renewed More o origin g =
+      ((x : Object) × (object_at h o ≡ Some x) × (c : Covers p h (gives o x.class) (renewed o) frs fr o x) × IsOwned p h (gives o x.class) (renewed o) frs fr o x c × (origin ≡ c.origin) × More c.origin c.fact g)
+      ⊎ StopsOwning p h fr frs gives renewed More o
 
   -- the place is in a fact that owns the object so, or in one that does not
-  abbrev pub IsKeyedFrom : List Frame → (ℕ → ClassId → Bool) → (Origin → Fact → Fact → Type 0) → Place → ℕ → Object → Type 0
-  IsKeyedFrom frs gives More q o y =
-      ((c : Covers p k false frs after o y) × (has c.fact.places q ≡ true) × IsOwned p k false frs after o y c × IsOwnedFrom frs gives More o c.origin c.fact) ⊎ IsUnowned p k false frs after q o y
+  abbrev pub IsKeyedFrom : List Frame → (ℕ → ClassId → Bool) → (ℕ → Bool) → (Origin → Fact → Fact → Type 0) → Place → ℕ → Object → Type 0
+  IsKeyedFrom frs gives renewed More q o y =
+      ((c : Covers p k false (renewed o) frs after o y) × (has c.fact.places q ≡ true) × IsOwned p k false (renewed o) frs after o y c × IsOwnedFrom frs gives renewed More o c.origin c.fact) ⊎ IsUnowned p k false (renewed o) frs after q o y
 
   -- all that the frame's places hold after the step was held before it, or the step made it
-  module _ (frs : List Frame) (gives : ℕ → ClassId → Bool) (covered : IsCovered p h gives frs fr) (ready : KeepsReady p h k fr) (gifts : KeepsGiven p h k frs) (others : StaysApart p h k (length frs + 1) fr)
+  module _ (frs : List Frame) (gives : ℕ → ClassId → Bool) (renewed : ℕ → Bool) (covered : IsCovered p h gives renewed frs fr) (ready : KeepsReady p h k fr) (gifts : KeepsGiven p h k frs) (others : StaysApart p h k frs fr)
       (More : Origin → Fact → Fact → Type 0)
-      (row : (o : ℕ) (x : Object) (c : Covers p h (gives o x.class) frs fr o x) (q : Place) → has (later c.fact.places) q ≡ true
+      (row : (o : ℕ) (x : Object) (c : Covers p h (gives o x.class) (renewed o) frs fr o x) (q : Place) → has (later c.fact.places) q ≡ true
       → After (λ (g : Fact). GoesAs c.fact (later c.fact.places) (called_after p st.number s.action s.edge c.fact) g × More c.origin c.fact g) (flow p st.number c.origin s.action s.edge c.fact))
-      (known : (o : ℕ) (x y : Object) (c : Covers p h (gives o x.class) frs fr o x) → object_at h o ≡ Some x → object_at k o ≡ Some y → (g : Fact) → More c.origin c.fact g → IsTrusted c.origin g → gives o x.class ≡ false → x.finished ≡ true → GoesOn x y
-      → is_heavy_class p c.origin.class ≡ true → is_heavy_class p x.class ≡ true → may_owe x ≡ true → set.is_subset c.fact.called y.called ≡ true → set.is_subset (called_after p st.number s.action s.edge c.fact) y.called ≡ true)
-      (alias : (o : ℕ) (x : Object) (c : Covers p h (gives o x.class) frs fr o x) → object_at h o ≡ Some x → is_heavy_class p x.class ≡ true → may_owe x ≡ true → GivesIt c.fact.places o)
-      (own : (o : ℕ) (x y : Object) (c : Covers p h (gives o x.class) frs fr o x) → IsOwned p h (gives o x.class) frs fr o x c → object_at h o ≡ Some x → object_at k o ≡ Some y → is_heavy_class p x.class ≡ true → may_owe x ≡ true
+      (known : (o : ℕ) (x y : Object) (c : Covers p h (gives o x.class) (renewed o) frs fr o x) → object_at h o ≡ Some x → object_at k o ≡ Some y → (g : Fact) → More c.origin c.fact g → IsTrusted c.origin g → gives o x.class ≡ false → renewed o ≡ false → x.finished ≡ true → GoesOn x y
+      → is_heavy_class p x.class ≡ true → may_owe x ≡ true → (names : Names) → set.is_subset y.called names ≡ true → set.is_subset c.fact.called names ≡ true → set.is_subset (called_after p st.number s.action s.edge c.fact) names ≡ true)
+      (alias : (o : ℕ) (x : Object) (c : Covers p h (gives o x.class) (renewed o) frs fr o x) → object_at h o ≡ Some x → is_heavy_class p x.class ≡ true → may_owe x ≡ true → GivesIt c.fact.places o)
+      (own : (o : ℕ) (x y : Object) (c : Covers p h (gives o x.class) (renewed o) frs fr o x) → IsOwned p h (gives o x.class) (renewed o) frs fr o x c → object_at h o ≡ Some x → object_at k o ≡ Some y → is_heavy_class p x.class ≡ true → may_owe x ≡ true
       → (g : Fact) → More c.origin c.fact g → is_own g.mode ≡ true → (gives o x.class ≡ false) × (x.finished ≡ true → x.owner ≡ owners.Frame (length frs + 1) → y.owner ≡ owners.Frame (length frs + 1)))
       (made : (q : Place) (o : ℕ) (y : Object) → IsSmall q → is_local q ≡ true → source p st.body s.action s.edge q ≡ None → is_made (made_place s.action) q ≡ true → place_value p k fr.method after.locals q ≡ v → root_of k v ≡ Some o → object_at k o ≡ Some y
-      → is_heavy_class p y.class ≡ true → may_owe y ≡ true → IsMadeSo frs gives More q o y) where
+      → is_heavy_class p y.class ≡ true → may_owe y ≡ true → IsMadeSo frs gives renewed More q o y) where
     -- the place takes what the step makes
     abbrev IsMadeAt : Place → Type 0
     IsMadeAt q = (is_local q ≡ true) × (source p st.body s.action s.edge q ≡ None) × (is_made (made_place s.action) q ≡ true) × (place_value p k fr.method after.locals q ≡ v)
@@ -355,7 +373,7 @@ module _ (p : Program) (ac : Accept p) (h k : HeapContents) (links : HasEarlierL
           q,
           small,
           root_earlier q o small (ap (root_of k) (sym (other q out ∙ same_place p h k fields fr.method fr.locals q)) ∙ held),
-          (λ held' one. stays_aside q small out p st.number s.edge held' s.action r.small r.sets r.moves r.makes r.no_reset ∙ one),
+          (λ held' one. stays_aside q small out p st.number s.edge held' s.action r.small r.sets r.moves r.makes (λ resets. holds_no_part p ac k fr st after.locals (r.elsewhere resets) q o small held) ∙ one),
         )
 
     -- an object that was there
@@ -364,54 +382,57 @@ module _ (p : Program) (ac : Accept p) (h k : HeapContents) (links : HasEarlierL
       abbrev away : Bool
       away = gives o x.class
 
+      abbrev anew : Bool
+      anew = renewed o
+
       -- a fact that does not own it
-      unowned_on : (z q : Place) → IsUnowned p h away frs fr z o x → ((held : PlaceSet) → has held z ≡ true → has (later held) q ≡ true) → IsUnowned p k false frs after q o y
+      unowned_on : (z q : Place) → IsUnowned p h away anew frs fr z o x → ((held : PlaceSet) → has held z ≡ true → has (later held) q ≡ true) → IsUnowned p k false (renewed o) frs after q o y
       unfolding covers_on
-      unowned_on z q u goes_to = by (gone_on frs away o x y before at class wide goes done gifts others u.covers (More u.covers.origin u.covers.fact) (row o x u.covers) spared trusted (alias o x u.covers before wide owes) q (goes_to u.covers.fact.places u.here))
+      unowned_on z q u goes_to = by (gone_on frs away anew o x y before at class wide goes done gifts others u.covers (More u.covers.origin u.covers.fact) (row o x u.covers) spared trusted (alias o x u.covers before wide owes) q (goes_to u.covers.fact.places u.here))
         where
           spared : (g : Fact) → More u.covers.origin u.covers.fact g → is_own g.mode ≡ true → is_owning_fact p u.covers.origin u.covers.fact ≡ true → away ≡ false
           spared g its mine owning = absurd (true≢false (sym owning ∙ u.unowned))
 
-          trusted : (g : Fact) → More u.covers.origin u.covers.fact g → IsTrusted u.covers.origin g → away ≡ false → x.finished ≡ true → is_heavy_class p u.covers.origin.class ≡ true → set.is_subset u.covers.fact.called y.called ≡ true
-              → set.is_subset (called_after p st.number s.action s.edge u.covers.fact) y.called ≡ true
-          trusted g its trust stays finished heavy was = known o x y u.covers before at g its trust stays finished (goes finished).0 heavy wide owes was
+          trusted : (g : Fact) → More u.covers.origin u.covers.fact g → IsTrusted u.covers.origin g → away ≡ false → anew ≡ false → x.finished ≡ true → (names : Names) → set.is_subset y.called names ≡ true → set.is_subset u.covers.fact.called names ≡ true
+              → set.is_subset (called_after p st.number s.action s.edge u.covers.fact) names ≡ true
+          trusted g its trust stays old finished names less was = known o x y u.covers before at g its trust stays old finished (goes finished).0 wide owes names less was
 
-          by : (g : Fact) × Goes frs away o x y before at class wide goes done gifts others u.covers (More u.covers.origin u.covers.fact) (row o x u.covers) spared trusted (alias o x u.covers before wide owes) g → IsUnowned p k false frs after q o y
+          by : (g : Fact) × Goes frs away anew o x y before at class wide goes done gifts others u.covers (More u.covers.origin u.covers.fact) (row o x u.covers) spared trusted (alias o x u.covers before wide owes) g → IsUnowned p k false (renewed o) frs after q o y
           by (g, on) = record {
-            covers = covers_on frs away o x y before at class wide goes done gifts others u.covers (More u.covers.origin u.covers.fact) (row o x u.covers) spared trusted (alias o x u.covers before wide owes) g on;
-            here = has_on frs away o x y before at class wide goes done gifts others u.covers (More u.covers.origin u.covers.fact) (row o x u.covers) spared trusted (alias o x u.covers before wide owes) g on q (goes_to u.covers.fact.places u.here);
+            covers = covers_on frs away anew o x y before at class wide goes done gifts others u.covers (More u.covers.origin u.covers.fact) (row o x u.covers) spared trusted (alias o x u.covers before wide owes) g on;
+            here = has_on frs away anew o x y before at class wide goes done gifts others u.covers (More u.covers.origin u.covers.fact) (row o x u.covers) spared trusted (alias o x u.covers before wide owes) g on q (goes_to u.covers.fact.places u.here);
             unowned = not_owning (is_owning_fact p u.covers.origin g) refl;
           }
             where
               not_owning : (b : Bool) → is_owning_fact p u.covers.origin g ≡ b → is_owning_fact p u.covers.origin g ≡ false
               not_owning false none = none
               not_owning true owning =
-                  absurd (true≢false (sym (owning_before frs away o x y before at class wide goes done gifts others u.covers (More u.covers.origin u.covers.fact) (row o x u.covers) spared trusted (alias o x u.covers before wide owes) g on owning) ∙ u.unowned))
+                  absurd (true≢false (sym (owning_before frs away anew o x y before at class wide goes done gifts others u.covers (More u.covers.origin u.covers.fact) (row o x u.covers) spared trusted (alias o x u.covers before wide owes) g on owning) ∙ u.unowned))
 
       -- the fact that owns it
-      module _ (c : Covers p h away frs fr o x) (key : IsOwned p h away frs fr o x c) (z : Place) (small : IsSmall z) (held : root_of h (place_value p h fr.method fr.locals z) ≡ Some o) where
+      module _ (c : Covers p h away anew frs fr o x) (key : IsOwned p h away anew frs fr o x c) (z : Place) (small : IsSmall z) (held : root_of h (place_value p h fr.method fr.locals z) ≡ Some o) where
         spared : (g : Fact) → More c.origin c.fact g → is_own g.mode ≡ true → is_owning_fact p c.origin c.fact ≡ true → away ≡ false
         spared g its mine owning = (own o x y c key before at wide owes g its mine).0
 
-        trusted : (g : Fact) → More c.origin c.fact g → IsTrusted c.origin g → away ≡ false → x.finished ≡ true → is_heavy_class p c.origin.class ≡ true → set.is_subset c.fact.called y.called ≡ true
-            → set.is_subset (called_after p st.number s.action s.edge c.fact) y.called ≡ true
-        trusted g its trust stays finished heavy was = known o x y c before at g its trust stays finished (goes finished).0 heavy wide owes was
+        trusted : (g : Fact) → More c.origin c.fact g → IsTrusted c.origin g → away ≡ false → anew ≡ false → x.finished ≡ true → (names : Names) → set.is_subset y.called names ≡ true → set.is_subset c.fact.called names ≡ true
+            → set.is_subset (called_after p st.number s.action s.edge c.fact) names ≡ true
+        trusted g its trust stays old finished names less was = known o x y c before at g its trust stays old finished (goes finished).0 wide owes names less was
 
         abbrev GoesSo : Fact → Type 0
-        GoesSo g = Goes frs away o x y before at class wide goes done gifts others c (More c.origin c.fact) (row o x c) spared trusted (alias o x c before wide owes) g
+        GoesSo g = Goes frs away anew o x y before at class wide goes done gifts others c (More c.origin c.fact) (row o x c) spared trusted (alias o x c before wide owes) g
 
         goes_so : (q : Place) → has (later c.fact.places) q ≡ true → (g : Fact) × GoesSo g
-        goes_so q is = gone_on frs away o x y before at class wide goes done gifts others c (More c.origin c.fact) (row o x c) spared trusted (alias o x c before wide owes) q is
+        goes_so q is = gone_on frs away anew o x y before at class wide goes done gifts others c (More c.origin c.fact) (row o x c) spared trusted (alias o x c before wide owes) q is
 
         module _ (g : Fact) (on : GoesSo g) where
-          abbrev now : Covers p k false frs after o y
-          now = covers_on frs away o x y before at class wide goes done gifts others c (More c.origin c.fact) (row o x c) spared trusted (alias o x c before wide owes) g on
+          abbrev now : Covers p k false (renewed o) frs after o y
+          now = covers_on frs away anew o x y before at class wide goes done gifts others c (More c.origin c.fact) (row o x c) spared trusted (alias o x c before wide owes) g on
 
           there : (q : Place) → has (later c.fact.places) q ≡ true → has g.places q ≡ true
-          there q is = has_on frs away o x y before at class wide goes done gifts others c (More c.origin c.fact) (row o x c) spared trusted (alias o x c before wide owes) g on q is
+          there q is = has_on frs away anew o x y before at class wide goes done gifts others c (More c.origin c.fact) (row o x c) spared trusted (alias o x c before wide owes) g on q is
 
           -- where it goes on owning it, each other place is in it, or in one that does not
-          still_owned : is_owning_fact p c.origin g ≡ true → IsOwned p k false frs after o y now
+          still_owned : is_owning_fact p c.origin g ≡ true → IsOwned p k false (renewed o) frs after o y now
           unfolding covers_on
           still_owned owning = record {
             owning = owning;
@@ -423,37 +444,37 @@ module _ (p : Program) (ac : Accept p) (h k : HeapContents) (links : HasEarlierL
               owned : is_own g.mode ≡ true
               owned = (and_parts (is_heavy_class p c.origin.class) (is_own g.mode) owning).1
 
-              comes : (q : Place) → ComesFrom q o → (has g.places q ≡ true) ⊎ IsUnowned p k false frs after q o y
+              comes : (q : Place) → ComesFrom q o → (has g.places q ≡ true) ⊎ IsUnowned p k false (renewed o) frs after q o y
               comes q (u, less, was, goes_to) = elim (key.others u less was) [ inl in' ↦ inl (there q (goes_to c.fact.places in')) | inr free ↦ inr (unowned_on u q free goes_to) ]
 
-              makes : (q : Place) → IsMadeSo frs gives More q o y → (has g.places q ≡ true) ⊎ IsUnowned p k false frs after q o y
+              makes : (q : Place) → IsMadeSo frs gives renewed More q o y → (has g.places q ≡ true) ⊎ IsUnowned p k false (renewed o) frs after q o y
               makes q (inl (d, has', mine, ends)) = absurd (true≢false (sym owned ∙ ends x before z small held c key g on.1.1))
               makes q (inr (inl free)) = inr free
               makes q (inr (inr from)) = comes q from
 
-              each : (q : Place) → IsSmall q → root_of k (place_value p k after.method after.locals q) ≡ Some o → (has g.places q ≡ true) ⊎ IsUnowned p k false frs after q o y
+              each : (q : Place) → IsSmall q → root_of k (place_value p k after.method after.locals q) ≡ Some o → (has g.places q ≡ true) ⊎ IsUnowned p k false (renewed o) frs after q o y
               each q less is = elim (origin_of_place q o less is) [
                 | inl from ↦ comes q from
                 | inr new ↦ makes q (made q o y less new.0 new.1 new.2 new.3 (ap (root_of k) (sym new.3) ∙ is) at wide' owes')
               ]
 
-          keyed_by : (q : Place) → has (later c.fact.places) q ≡ true → IsKeyedFrom frs gives More q o y
+          keyed_by : (q : Place) → has (later c.fact.places) q ≡ true → IsKeyedFrom frs gives renewed More q o y
           unfolding covers_on
           keyed_by q is = go (is_owning_fact p c.origin g) refl
             where
-              go : (b : Bool) → is_owning_fact p c.origin g ≡ b → IsKeyedFrom frs gives More q o y
+              go : (b : Bool) → is_owning_fact p c.origin g ≡ b → IsKeyedFrom frs gives renewed More q o y
               go true owning = inl (now, there q is, still_owned owning, inl (x, before, c, key, refl, on.1.1))
               go false none = inr (record { covers = now; here = there q is; unowned = none })
 
-        keyed_on : (q : Place) → has (later c.fact.places) q ≡ true → IsKeyedFrom frs gives More q o y
+        keyed_on : (q : Place) → has (later c.fact.places) q ≡ true → IsKeyedFrom frs gives renewed More q o y
         keyed_on q is = let on = goes_so q is in keyed_by on.0 on.1 q is
 
         -- where no fact goes on owning it
-        freed_on : StopsOwning p h fr frs gives More o → (q : Place) → has (later c.fact.places) q ≡ true → IsUnowned p k false frs after q o y
+        freed_on : StopsOwning p h fr frs gives renewed More o → (q : Place) → has (later c.fact.places) q ≡ true → IsUnowned p k false (renewed o) frs after q o y
         unfolding covers_on
         freed_on ends q is = by (goes_so q is)
           where
-            by : (g : Fact) × GoesSo g → IsUnowned p k false frs after q o y
+            by : (g : Fact) × GoesSo g → IsUnowned p k false (renewed o) frs after q o y
             by (g, on) = record {
               covers = now g on;
               here = there g on q is;
@@ -465,20 +486,20 @@ module _ (p : Program) (ac : Accept p) (h k : HeapContents) (links : HasEarlierL
                 none false b off = refl
 
       -- a place held it before
-      was_keyed : (z : Place) → IsSmall z → root_of h (place_value p h fr.method fr.locals z) ≡ Some o → IsKeyed p h away frs fr z o x
+      was_keyed : (z : Place) → IsSmall z → root_of h (place_value p h fr.method fr.locals z) ≡ Some o → IsKeyed p h away anew frs fr z o x
       was_keyed z small held = covered z o x small held before wide owes
 
-      keyed_from : (q : Place) → ComesFrom q o → IsKeyedFrom frs gives More q o y
+      keyed_from : (q : Place) → ComesFrom q o → IsKeyedFrom frs gives renewed More q o y
       keyed_from q (z, small, held, goes_to) = by (was_keyed z small held)
         where
-          by : IsKeyed p h away frs fr z o x → IsKeyedFrom frs gives More q o y
+          by : IsKeyed p h away anew frs fr z o x → IsKeyedFrom frs gives renewed More q o y
           by (owned c in' key) = keyed_on c key z small held q (goes_to c.fact.places in')
           by (unowned u) = inr (unowned_on z q u goes_to)
 
-      freed_from : StopsOwning p h fr frs gives More o → (q : Place) → ComesFrom q o → IsUnowned p k false frs after q o y
+      freed_from : StopsOwning p h fr frs gives renewed More o → (q : Place) → ComesFrom q o → IsUnowned p k false (renewed o) frs after q o y
       freed_from ends q (z, small, held, goes_to) = by (was_keyed z small held)
         where
-          by : IsKeyed p h away frs fr z o x → IsUnowned p k false frs after q o y
+          by : IsKeyed p h away anew frs fr z o x → IsUnowned p k false (renewed o) frs after q o y
           by (owned c in' key) = freed_on c key z small held ends q (goes_to c.fact.places in')
           by (unowned u) = unowned_on z q u goes_to
 
@@ -487,17 +508,17 @@ module _ (p : Program) (ac : Accept p) (h k : HeapContents) (links : HasEarlierL
       carried_from : (q : Place) → ComesFrom q o → IsCarried h o y
       carried_from q (z, small, held, goes_to) = carries o y at (numbered h links (place_value p h fr.method fr.locals z) o held (inside z small)).1
 
-      came : (q : Place) → ComesFrom q o → IsKeyedFrom frs gives More q o y
+      came : (q : Place) → ComesFrom q o → IsKeyedFrom frs gives renewed More q o y
       came q from = by (carried_from q from)
         where
-          by : IsCarried h o y → IsKeyedFrom frs gives More q o y
+          by : IsCarried h o y → IsKeyedFrom frs gives renewed More q o y
           by (x, before, class, goes) =
               keyed_from o x y before at class (ap (is_heavy_class p) (sym class) ∙ wide') (owed_before x y goes owes') wide' owes' goes (ready from.0 o x y from.1 from.2 before at) q from
 
-      freed : StopsOwning p h fr frs gives More o → (q : Place) → ComesFrom q o → IsUnowned p k false frs after q o y
+      freed : StopsOwning p h fr frs gives renewed More o → (q : Place) → ComesFrom q o → IsUnowned p k false (renewed o) frs after q o y
       freed ends q from = by (carried_from q from)
         where
-          by : IsCarried h o y → IsUnowned p k false frs after q o y
+          by : IsCarried h o y → IsUnowned p k false (renewed o) frs after q o y
           by (x, before, class, goes) =
               freed_from o x y before at class (ap (is_heavy_class p) (sym class) ∙ wide') (owed_before x y goes owes') wide' owes' goes (ready from.0 o x y from.1 from.2 before at) ends q from
 
@@ -506,29 +527,29 @@ module _ (p : Program) (ac : Accept p) (h k : HeapContents) (links : HasEarlierL
       one_made None q z one two = absurd (true≢false (sym one))
       one_made (Some u) q z one two = sym (single_place-same u q one) ∙ single_place-same u z two
 
-      makes : (q : Place) → IsSmall q → IsMadeAt q → IsMadeSo frs gives More q o y → IsKeyedFrom frs gives More q o y
+      makes : (q : Place) → IsSmall q → IsMadeAt q → IsMadeSo frs gives renewed More q o y → IsKeyedFrom frs gives renewed More q o y
       makes q less new (inr (inl free)) = inr free
       makes q less new (inr (inr from)) = came q from
       makes q less new (inl (d, in', mine, ends)) = go (is_owning_fact p d.origin d.fact) refl
         where
-          each : (z : Place) → IsSmall z → root_of k (place_value p k after.method after.locals z) ≡ Some o → (has d.fact.places z ≡ true) ⊎ IsUnowned p k false frs after z o y
+          each : (z : Place) → IsSmall z → root_of k (place_value p k after.method after.locals z) ≡ Some o → (has d.fact.places z ≡ true) ⊎ IsUnowned p k false (renewed o) frs after z o y
           each z small is = elim (origin_of_place z o small is) [
             | inl from ↦ inr (freed ends z from)
             | inr also ↦ inl (ap (has d.fact.places) (one_made (made_place s.action) z q also.2 new.2) ∙ in')
           ]
 
-          go : (b : Bool) → is_owning_fact p d.origin d.fact ≡ b → IsKeyedFrom frs gives More q o y
+          go : (b : Bool) → is_owning_fact p d.origin d.fact ≡ b → IsKeyedFrom frs gives renewed More q o y
           go true owning = inl (d, in', record { owning = owning; owner = λ stays. mine; others = each }, inr ends)
           go false none = inr (record { covers = d; here = in'; unowned = none })
 
     pub top_from : (q : Place) (o : ℕ) (y : Object) → IsSmall q → root_of k (place_value p k after.method after.locals q) ≡ Some o → object_at k o ≡ Some y → is_heavy_class p y.class ≡ true → may_owe y ≡ true
-        → IsKeyedFrom frs gives More q o y
+        → IsKeyedFrom frs gives renewed More q o y
     top_from q o y small held at heavy owes = elim (origin_of_place q o small held) [
       | inl from ↦ came o y at heavy owes q from
       | inr new ↦ makes o y at heavy owes q small new (made q o y small new.0 new.1 new.2 new.3 (ap (root_of k) (sym new.3) ∙ held) at heavy owes)
     ]
 
-    pub top_covered : IsCovered p k gives_none frs after
+    pub top_covered : IsCovered p k gives_none renewed frs after
     top_covered q o y small held at heavy owes = elim (top_from q o y small held at heavy owes) [
       | inl key ↦ owned key.0 key.1 key.2
       | inr free ↦ unowned free

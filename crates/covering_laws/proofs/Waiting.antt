@@ -1,5 +1,5 @@
 -- A frame whose places stay as they are goes on to be covered, where the objects that they hold go on.
-use Rattle.std.proofs.Common.{◌≡◌, inl, inr, ℕ, ◌+◌, ◌<◌, ◌≤◌, Bool, true, false, not, ◌&&◌, true≢false, Option, Some, None, List, [], ◌∷◌, length, refl, sym, ap, ◌∙◌, subst, arith, ◌||◌}
+use Rattle.std.proofs.Common.{◌≡◌, inl, inr, ℕ, ◌+◌, ◌<◌, ◌≤◌, Bool, true, false, not, ◌&&◌, true≢false, Option, Some, None, List, [], ◌∷◌, refl, sym, ap, ◌∙◌, subst, arith, ◌||◌}
 use Rattle.std.proofs.lemmas.Bool.{and_from, and_parts, or_left}
 use Rattle.std.specs.FinSet as set
 use Rattle.rlc_base.proofs.SetLaws.{within_trans}
@@ -29,11 +29,12 @@ use Rattle.java_control.specs.Owned.{fields_in}
 use Rattle.value_laws.specs.Heaps.{GoesOn, HasEarlierLinks, KeepsLinks}
 use Rattle.value_laws.proofs.HeapLaws.{numbers_are_in_range, roots_go_on-number, roots_of_links-absent, roots_of_links-itself, roots_of_links-there}
 use Rattle.ledger_obligations.specs.Obligations.{is_library_owner}
-use Rattle.value_laws.specs.PlaceFacts.{AreWaiting, Covers, IsCovered, IsKeyed, IsOwned, IsTrueOf, IsUnowned, is_given, may_owe, owned, unowned}
-use Rattle.covering_laws.proofs.HeavyFields.{owning_claims, owning_in_no_field}
+use Rattle.value_laws.specs.PlaceFacts.{AreWaiting, Covers, IsCovered, IsKeyed, IsOwned, IsTrueOf, IsUnowned, asked_of, is_given, is_owning_fact, may_owe, owned, unowned}
+use Rattle.covering_laws.proofs.HeavyFields.{known_on, owning_claims, owning_in_no_field}
+use Rattle.value_laws.specs.Renewing.{fact_as, is_renewed}
 use Rattle.value_laws.specs.Ranges.{IsInRange, IsNumber}
 use Rattle.covering_laws.specs.Making.{HoldNone}
-use Rattle.covering_laws.proofs.Owners.{AllKeepGifts, AllKeepOwners, KeepsGifts, KeepsGiven, KeepsOwners, apart_before, given_kept, is_field_place}
+use Rattle.covering_laws.proofs.Owners.{AllKeepGifts, AllKeepOwners, KeepsGifts, KeepsGiven, KeepsOwners, apart_before, given_kept, is_field_place, lent_after}
 use Rattle.value_laws.proofs.Chains.{object_there}
 use Rattle.value_laws.proofs.FieldPlaces.{passes}
 use Rattle.java_control.specs.declared.fact.Mode.{Mode}
@@ -83,6 +84,14 @@ not_own away m held = none away (is_own m) (apart m held)
     none : (a b : Bool) → b ≡ false → (a && b) ≡ false
     none true b is = is
     none false b is = refl
+
+-- what is finished only if it was is not finished where it was not
+pub still_unfinished : (x y : Object) → (y.finished ≡ true → x.finished ≡ true) → x.finished ≡ false → y.finished ≡ false
+still_unfinished x y was none = go y.finished refl
+  where
+    go : (b : Bool) → y.finished ≡ b → y.finished ≡ false
+    go false is = is
+    go true is = absurd (true≢false (sym (was is) ∙ none))
 
 -- what is true of an object stays so as it goes on
 pub still_true : (p : Program) (x y : Object) (o : Origin) (f : Fact) → GoesOn x y → IsTrueOf p x o f → IsTrueOf p y o f
@@ -193,7 +202,7 @@ KeepsPlaces p h k fr = (q : Place) → IsSmall q → place_value p k fr.method f
 abbrev pub KeepsReady : Program → HeapContents → HeapContents → Frame → Type 0
 KeepsReady p h k fr = (q : Place) (o : ℕ) (x y : Object) → IsSmall q → root_of h (place_value p h fr.method fr.locals q) ≡ Some o → object_at h o ≡ Some x → object_at k o ≡ Some y → y.finished ≡ true → x.finished ≡ true
 
-was_ready : (x y : Object) → (x.finished ≡ false → y.finished ≡ false) → y.finished ≡ true → x.finished ≡ true
+pub was_ready : (x y : Object) → (x.finished ≡ false → y.finished ≡ false) → y.finished ≡ true → x.finished ≡ true
 was_ready x y keeps done = go x.finished refl
   where
     go : (b : Bool) → x.finished ≡ b → x.finished ≡ true
@@ -215,9 +224,9 @@ HoldsThere p h fr = (q : Place) → IsSmall q → IsInRange h (place_value p h f
 abbrev pub KeepsRootsOf : Program → HeapContents → HeapContents → Frame → Type 0
 KeepsRootsOf p h k fr = (q : Place) → IsSmall q → root_of k (place_value p h fr.method fr.locals q) ≡ root_of h (place_value p h fr.method fr.locals q)
 
-module _ (p : Program) (h k : HeapContents) (gives : ℕ → ClassId → Bool) (frs : List Frame) (fr : Frame) (roots : KeepsRootsOf p h k fr) (same : KeepsPlaces p h k fr)
+module _ (p : Program) (h k : HeapContents) (gives : ℕ → ClassId → Bool) (renewed : ℕ → Bool) (frs : List Frame) (fr : Frame) (roots : KeepsRootsOf p h k fr) (same : KeepsPlaces p h k fr)
     (was : (q : Place) (o : ℕ) (y : Object) → IsSmall q → root_of h (place_value p h fr.method fr.locals q) ≡ Some o → object_at k o ≡ Some y → IsCarried h o y) (ready : KeepsReady p h k fr)
-    (gifts : KeepsGiven p h k frs) (keeps : KeepsOwners p h k gives (length frs + 1) fr) where
+    (gifts : KeepsGiven p h k frs) (keeps : KeepsOwners p h k gives frs fr) where
   root_before : (q : Place) (o : ℕ) → IsSmall q → root_of k (place_value p k fr.method fr.locals q) ≡ Some o → root_of h (place_value p h fr.method fr.locals q) ≡ Some o
   root_before q o small is = sym (roots q small) ∙ ap (root_of k) (sym (same q small)) ∙ is
 
@@ -226,8 +235,8 @@ module _ (p : Program) (h k : HeapContents) (gives : ℕ → ClassId → Bool) (
 
   -- a finished object goes on
   module _ (o : ℕ) (x y : Object) (before : object_at h o ≡ Some x) (at : object_at k o ≡ Some y) (class : y.class ≡ x.class) (heavy : is_heavy_class p x.class ≡ true) (goes : x.finished ≡ true → Continues x y)
-      (done : y.finished ≡ true → x.finished ≡ true) (away : Bool) (spared : away ≡ false → gives o x.class ≡ false) where
-    pub covers_after : Covers p h away frs fr o x → Covers p k away frs fr o y
+      (done : y.finished ≡ true → x.finished ≡ true) (away anew : Bool) (spared : away ≡ false → gives o x.class ≡ false) where
+    pub covers_after : Covers p h away anew frs fr o x → Covers p k away anew frs fr o y
     covers_after c = record {
       body = c.body;
       id = c.id;
@@ -236,23 +245,29 @@ module _ (p : Program) (h k : HeapContents) (gives : ℕ → ClassId → Bool) (
       reached = c.reached;
       alone = c.alone;
       places = λ z small' is. root_after z o small' (c.places z small' is);
-      true' = λ claimed spared. still_true p x y c.origin c.fact (goes (c.true' claimed spared).finished).0 (c.true' claimed spared);
+      true' = λ claimed spared. still_true p x y c.origin (fact_as anew c.fact) (goes (c.true' claimed spared).finished).0 (c.true' claimed spared);
       lent = c.lent;
-      free = λ claimed held. keeps.others.free o x y before at (c.true' claimed (not_own away c.fact.mode held)).finished heavy (c.free claimed held);
+      free = λ finished held alone. keeps.others.free o x y before at (done finished) heavy (c.free (done finished) held alone);
+      lends = λ is finished. (let was = c.lends is (done finished) in (was.0, lent_after p h k frs o x.owner y.owner gifts (keeps.others.keeps o x y before at (done finished) heavy) was.1));
+      makes = λ constructor this. still_unfinished x y done (c.makes constructor this);
+      unrenewed = λ finished tells is.
+          let was_done = done finished in
+          c.unrenewed was_done tells (apart_before p h k frs fr o x y c.fact c.fact gifts class (λ held. held) (λ plain own. keeps.others.content o x y before at was_done heavy plain own) (λ low. keeps.others.low o x y before at was_done heavy low) is);
       known = λ finished tells is.
           let was_done = done finished in
           let known = c.known was_done tells (apart_before p h k frs fr o x y c.fact c.fact gifts class (λ held. held) (λ plain own. keeps.others.content o x y before at was_done heavy plain own) (λ low. keeps.others.low o x y before at was_done heavy low) is) in
-          (known.0, keeps.others.apart o x y before at was_done heavy known.1, within_trans c.fact.called x.called y.called known.2 (goes was_done).0.called);
+          (known.0, keeps.others.apart o x y before at was_done heavy known.1, known_on c.fact.called (asked_of p (method_at p fr.method) c.origin.kind) x.called y.called known.2 (goes was_done).0.called);
       fields = c.fields;
       held = c.held;
+      outside = c.outside;
     }
 
-    unowned_after : (q : Place) → IsUnowned p h away frs fr q o x → IsUnowned p k away frs fr q o y
+    unowned_after : (q : Place) → IsUnowned p h away anew frs fr q o x → IsUnowned p k away anew frs fr q o y
     unfolding covers_after
     unowned_after q u = record { covers = covers_after u.covers; here = u.here; unowned = u.unowned }
 
-    owned_after : (q : Place) → IsSmall q → root_of h (place_value p h fr.method fr.locals q) ≡ Some o → (c : Covers p h away frs fr o x) → has c.fact.places q ≡ true → IsOwned p h away frs fr o x c
-        → IsOwned p k away frs fr o y (covers_after c)
+    owned_after : (q : Place) → IsSmall q → root_of h (place_value p h fr.method fr.locals q) ≡ Some o → (c : Covers p h away anew frs fr o x) → has c.fact.places q ≡ true → IsOwned p h away anew frs fr o x c
+        → IsOwned p k away anew frs fr o y (covers_after c)
     unfolding covers_after
     owned_after q small held c here key = record {
       owning = key.owning;
@@ -262,30 +277,32 @@ module _ (p : Program) (h k : HeapContents) (gives : ℕ → ClassId → Bool) (
     }
       where
         part : (z : Place) → IsSmall z → has c.fact.places z ≡ true → is_field_place z ≡ false
-        part (places.Field n) inside there = absurd (owning_in_no_field p h away frs fr o x c key.owning n inside there)
+        part (places.Field n) inside there = absurd (owning_in_no_field p h away anew frs fr o x c key.owning n inside there)
         part (places.Var i) inside there = refl
         part places.This inside there = refl
         part (places.Temp d) inside there = refl
         part places.Super inside there = refl
 
-    pub keyed_after : (q : Place) → IsSmall q → root_of h (place_value p h fr.method fr.locals q) ≡ Some o → IsKeyed p h away frs fr q o x → IsKeyed p k away frs fr q o y
+    pub keyed_after : (q : Place) → IsSmall q → root_of h (place_value p h fr.method fr.locals q) ≡ Some o → IsKeyed p h away anew frs fr q o x → IsKeyed p k away anew frs fr q o y
     unfolding covers_after
     keyed_after q small held (owned c here key) = owned (covers_after c) here (owned_after q small held c here key)
     keyed_after q small held (unowned u) = unowned (unowned_after q u)
 
-  pub stays_covered : IsCovered p h gives frs fr → IsCovered p k gives frs fr
+  pub stays_covered : IsCovered p h gives renewed frs fr → IsCovered p k gives renewed frs fr
   stays_covered covered q o y small root at heavy owes = by (was q o y small (root_before q o small root) at)
     where
-      by : IsCarried h o y → IsKeyed p k (gives o y.class) frs fr q o y
+      by : IsCarried h o y → IsKeyed p k (gives o y.class) (renewed o) frs fr q o y
       by (x, before, class, goes) =
           let heavy' : is_heavy_class p x.class ≡ true = ap (is_heavy_class p) (sym class) ∙ heavy in
           let root' = root_before q o small root in
-          subst (λ (c : ClassId). IsKeyed p k (gives o c) frs fr q o y) (sym class)
-          (keyed_after o x y before at class heavy' goes (ready q o x y small root' before at) (gives o x.class) (λ none. none) q small root' (covered q o x small root' before heavy' (owed_before x y goes owes)))
+          subst (λ (c : ClassId). IsKeyed p k (gives o c) (renewed o) frs fr q o y) (sym class)
+          (keyed_after o x y before at class heavy' goes (ready q o x y small root' before at) (gives o x.class) (renewed o) (λ none. none) q small root' (covered q o x small root' before heavy' (owed_before x y goes owes)))
 
--- what is covered where these objects are given away is so where the same ones are
-pub given_alike : (p : Program) (h : HeapContents) (f g : ℕ → ClassId → Bool) (frs : List Frame) (fr : Frame) → ((o : ℕ) (c : ClassId) → g o c ≡ f o c) → IsCovered p h f frs fr → IsCovered p h g frs fr
-given_alike p h f g frs fr same covered q o x small root at heavy owes = subst (λ (b : Bool). IsKeyed p h b frs fr q o x) (sym (same o x.class)) (covered q o x small root at heavy owes)
+-- what is covered where these objects are given away, and of these the obligations created anew, is so where the same ones are
+pub given_alike : (p : Program) (h : HeapContents) (f g : ℕ → ClassId → Bool) (d e : ℕ → Bool) (frs : List Frame) (fr : Frame) → ((o : ℕ) (c : ClassId) → g o c ≡ f o c) → ((o : ℕ) → e o ≡ d o) → IsCovered p h f d frs fr
+    → IsCovered p h g e frs fr
+given_alike p h f g d e frs fr same alike covered q o x small root at heavy owes =
+    subst (λ (b : Bool). IsKeyed p h (g o x.class) b frs fr q o x) (sym (alike o)) (subst (λ (b : Bool). IsKeyed p h b (d o) frs fr q o x) (sym (same o x.class)) (covered q o x small root at heavy owes))
 
 abbrev pub AllKeep : Program → HeapContents → HeapContents → List Frame → Type 0
 AllKeep p h k [] = Unit {0}
@@ -324,10 +341,10 @@ all_keep_other_roots p h k w roots (fr ∷ frs) inside none = (
 )
 
 module _ (p : Program) (h k : HeapContents) (links : HasEarlierLinks h) (carries : Carries h k) where
-  waits_on : (frs : List Frame) (fr : Frame) → KeepsRootsOf p h k fr → KeepsPlaces p h k fr → HoldsThere p h fr → KeepsReady p h k fr → KeepsGifts p h k fr → KeepsGiven p h k frs → KeepsOwners p h k (is_given p h fr) (length frs + 1) fr
-      → IsCovered p h (is_given p h fr) frs fr → IsCovered p k (is_given p k fr) frs fr
-  waits_on frs fr roots same inside ready mine gifts keeps covered = given_alike p k (is_given p h fr) (is_given p k fr) frs fr mine
-      (stays_covered p h k (is_given p h fr) frs fr roots same
+  waits_on : (frs : List Frame) (fr : Frame) → KeepsRootsOf p h k fr → KeepsPlaces p h k fr → HoldsThere p h fr → KeepsReady p h k fr → KeepsGifts p h k fr → KeepsGiven p h k frs → KeepsOwners p h k (is_given p h fr) frs fr
+      → IsCovered p h (is_given p h fr) (is_renewed p h fr) frs fr → IsCovered p k (is_given p k fr) (is_renewed p k fr) frs fr
+  waits_on frs fr roots same inside ready mine gifts keeps covered = given_alike p k (is_given p h fr) (is_given p k fr) (is_renewed p h fr) (is_renewed p k fr) frs fr (λ o. (mine o).0) (λ o. (mine o).1)
+      (stays_covered p h k (is_given p h fr) (is_renewed p h fr) frs fr roots same
       (λ q o y small root at. carries o y at (numbered h links (place_value p h fr.method fr.locals q) o root (inside q small)).1) ready gifts keeps covered)
 
   -- frames that wait stay covered
@@ -348,12 +365,14 @@ all_keep p h k fields (fr ∷ frs) = ((λ q small. same_place p h k fields fr.me
 
 -- ---- lent facts
 
--- a fact that goes on in its mode, where it says that the object is owned, is not the frame's own where it was not
-pub stays_unowned : (f g : Mode) → ((is_own g || is_held g) ≡ true → g ≡ f) → is_own f ≡ false → is_own g ≡ false
-stays_unowned f g same none = go (is_own g) refl
+-- a fact that goes on in its mode, where it says that the object is owned, does not say that the frame owns it where it did not
+pub stays_unowned : (p : Program) (o : Origin) (f g : Fact) → ((is_own g.mode || is_held g.mode) ≡ true → g.mode ≡ f.mode) → is_owning_fact p o f ≡ false → is_owning_fact p o g ≡ false
+stays_unowned p o f g same none = go (is_owning_fact p o g) refl
   where
-    go : (b : Bool) → is_own g ≡ b → is_own g ≡ false
-    go true is = absurd (true≢false (sym is ∙ ap is_own (same (or_left (is_own g) (is_held g) is)) ∙ none))
+    go : (b : Bool) → is_owning_fact p o g ≡ b → is_owning_fact p o g ≡ false
+    go true is =
+        let parts = and_parts (is_heavy_class p o.class) (is_own g.mode) is in
+        absurd (true≢false (sym (and_from (is_heavy_class p o.class) (is_own f.mode) parts.0 (ap is_own (sym (same (or_left (is_own g.mode) (is_held g.mode) parts.1))) ∙ parts.1)) ∙ none))
     go false is = is
 
 -- ---- objects that no place of a frame holds

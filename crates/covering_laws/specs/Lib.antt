@@ -1,6 +1,7 @@
 pub mod Covering
 pub mod Throws
 pub mod Linking
+pub mod Sight
 pub mod Texts
 pub mod Making
 pub mod Running
@@ -19,7 +20,8 @@ pub use Rattle.value_laws.specs.Choosing
 pub use Rattle.value_laws.specs.Configuration
 pub use Rattle.value_laws.specs.Constructors
 pub use Rattle.value_laws.specs.Ends
-pub use Rattle.value_laws.specs.ExceptionOperands
+pub use Rattle.value_laws.specs.ClassOperands
+pub use Rattle.value_laws.specs.ClassValues
 pub use Rattle.value_laws.specs.Exceptions
 pub use Rattle.value_laws.specs.FactGoing
 pub use Rattle.value_laws.specs.FieldContents
@@ -36,6 +38,7 @@ pub use Rattle.value_laws.specs.LibraryCalls
 pub use Rattle.value_laws.specs.LibraryClasses
 pub use Rattle.value_laws.specs.MadeClasses
 pub use Rattle.value_laws.specs.Moves
+pub use Rattle.value_laws.specs.Objects
 pub use Rattle.value_laws.specs.MustSets
 pub use Rattle.value_laws.specs.NameTable
 pub use Rattle.value_laws.specs.Naming
@@ -48,11 +51,12 @@ pub use Rattle.value_laws.specs.PlaceFacts
 pub use Rattle.value_laws.specs.PlacePlaces
 pub use Rattle.value_laws.specs.PlaceRows
 pub use Rattle.value_laws.specs.Places
-pub use Rattle.value_laws.specs.PlainCalls
 pub use Rattle.value_laws.specs.PlainForms
+pub use Rattle.value_laws.specs.Renewable
 pub use Rattle.value_laws.specs.Preconditions
 pub use Rattle.value_laws.specs.ProgramCalls
 pub use Rattle.value_laws.specs.Ranges
+pub use Rattle.value_laws.specs.Renewing
 pub use Rattle.value_laws.specs.Safety
 pub use Rattle.value_laws.specs.Signed
 pub use Rattle.value_laws.specs.Starts

@@ -9,10 +9,12 @@ use Rattle.program_model.specs.Lookups.{method_at}
 use Rattle.program_model.specs.SuperTests.{is_under}
 use Rattle.ledger_obligations.specs.Bodies.{is_constructor_kind}
 use Rattle.ledger_obligations.specs.MustCallSets.{is_heavy_class}
+use Rattle.ownership_rules.specs.Signatures.{type_at}
 use Rattle.ledger_state.specs.Contents.{HeapContents}
 use Rattle.ledger_state.specs.Heaps.{object_at}
 use Rattle.ledger_state.specs.declared.object.Link.{Link}
 use Rattle.ledger_state.specs.declared.object.Object.{Object}
+use Rattle.value_laws.specs.Objects.{object_class}
 
 -- it gives objects of the class: a constructor those of its own, a method those of its result's, or of one under it
 abbrev pub GivesClass : Program → Method → ClassId → Type 0
@@ -27,6 +29,21 @@ pub record IsGivenAsAlias (p : Program) (e : ClassId) : Type 0 where
   pub alias : method.sig.alias ≡ Some position
   pub class : GivesClass p method e
 
--- each object that is linked to another one is of such a class
+-- some method or constructor gives aliases of an argument of the class
+pub record IsAliased (p : Program) (e : ClassId) : Type 0 where
+  pub number : MethodId
+  pub method : Method
+  pub at : method_at p number ≡ Some method
+  pub position : ℕ
+  pub alias : method.sig.alias ≡ Some position
+  pub type : ClassId
+  pub takes : type_at method.sig position ≡ Some (types.Obj type)
+  pub under : is_under p e type ≡ true
+
+-- each object that is linked to another one is linked to one of such a class
+abbrev pub LinksReachAliased : Program → HeapContents → Type 0
+LinksReachAliased p h = (k : ℕ) (x : Object) (l : Link) → object_at h k ≡ Some x → x.link ≡ Some l → (e : ClassId) × (object_class h l.to ≡ Some e) × IsAliased p e
+
+-- each object that is linked to another one is of a class whose objects are given as aliases
 abbrev pub LinkedAreAliases : Program → HeapContents → Type 0
 LinkedAreAliases p h = (k : ℕ) (x : Object) (l : Link) → object_at h k ≡ Some x → x.link ≡ Some l → IsGivenAsAlias p x.class

@@ -1,5 +1,5 @@
 -- What runs at a call of a method of the program, beside the method that the call names.
-use Rattle.std.specs.Prelude.{◌≡◌, ℕ, Bool, true, false, Some, None, List, slice_get}
+use Rattle.std.specs.Prelude.{◌≡◌, ◌⊎◌, ℕ, Bool, true, false, Some, None, List, slice_get}
 use Rattle.program_model.specs.declared.kinds.BodyId.{BodyId}
 use Rattle.program_model.specs.declared.kinds.MethodId.{MethodId}
 use Rattle.program_model.specs.declared.kinds.MethodKind.TheVariants as methods
@@ -14,7 +14,7 @@ use Rattle.java_control.specs.declared.action.Action.{Action}
 use Rattle.java_control.specs.declared.action.Action.TheVariants as actions
 use Rattle.java_control.specs.declared.action.TargetForm.TheVariants as forms
 use Rattle.value_laws.specs.Paths.{Comes, Move, relation_of}
-use Rattle.value_laws.specs.PlainForms.{MayRun}
+use Rattle.value_laws.specs.PlainForms.{MayRun, all_owe_nothing}
 
 -- a call that has a target
 abbrev pub is_on_object : Action → Bool
@@ -23,12 +23,12 @@ is_on_object (actions.Call m d n form) = true
 is_on_object a = false
 
 -- At the call `a`, which names `n`, `x` runs: on an object it is an instance method (no static method hides one, JLS 8.4.8.2); it gives
--- a result only where the named one does; and where nothing must be called on its result, nothing must be called on the named one's (JLS
--- 8.4.5).
+-- a result only where the named one does; and where the named one's result is owning and something must be called on it, something must be called on
+-- its own, or on no object that it may give (JLS 8.4.5).
 pub record IsAlike (p : Program) (a : Action) (n x : Method) : Type 0 where
   pub kind : is_on_object a ≡ true → x.kind ≡ methods.Instance
   pub none : n.sig.result ≡ None → x.sig.result ≡ None
-  pub light : is_empty (must_of_optional p x.sig.result) ≡ true → is_empty (must_of_optional p n.sig.result) ≡ true
+  pub light : n.sig.owning_result ≡ true → is_empty (must_of_optional p x.sig.result) ≡ true → (is_empty (must_of_optional p n.sig.result) ≡ true) ⊎ (all_owe_nothing p x.sig.result ≡ true)
 
 -- what may run at the calls of bodies is so
 pub record HasPlainRuns (p : Program) : Type 0 where

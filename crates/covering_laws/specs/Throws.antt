@@ -1,7 +1,10 @@
 -- What is thrown, and which objects exceptions are.
 use Rattle.std.specs.Prelude.{◌≡◌, ℕ, true, false, Option, Some, List, slice_get, None, [], ◌∷◌}
 use Rattle.program_model.specs.declared.kinds.ClassId.{ClassId}
+use Rattle.program_model.specs.declared.kinds.VType.TheVariants as types
+use Rattle.program_model.specs.declared.program.Method.{Method}
 use Rattle.program_model.specs.declared.program.Program.{Program}
+use Rattle.program_model.specs.Lookups.{method_at}
 use Rattle.program_model.specs.SuperTests.{is_under}
 use Rattle.java_control.specs.declared.action.Action.TheVariants as actions
 use Rattle.ledger_state.specs.Contents.{HeapContents}
@@ -38,3 +41,17 @@ EndsByException p h fr = (i : ℕ) (s : Step) (d : ℕ) (t : ClassId) (pos : Pos
 abbrev pub TopEndsByException : Program → HeapContents → List Frame → Type 0
 TopEndsByException p h [] = Unit {0}
 TopEndsByException p h (fr ∷ frs) = EndsByException p h fr
+
+-- an object that the frame gives, whose method has a result of a class that `String` is not under, is of a class under that
+abbrev pub GivesResultClass : Program → HeapContents → Frame → Type 0
+GivesResultClass p h fr = (i : ℕ) (s : Step) (d : ℕ) (pos : Pos) (m : Method) (c : ClassId) (k : ℕ) (x : Object) → slice_get (frame_steps p fr) i ≡ Some s → s.action ≡ actions.End (completions.ReturnValue d pos)
+    → method_at p fr.method ≡ Some m → m.sig.result ≡ Some (types.Obj c) → is_under p p.core.string c ≡ false → temp_value fr.locals d ≡ values.Object k → object_at h k ≡ Some x → is_under p x.class c ≡ true
+
+-- the frame ends as its method declares: by an exception that has a class, or by an object of a class under that of the result
+pub record EndsAsDeclared (p : Program) (h : HeapContents) (fr : Frame) : Type 0 where
+  pub throws : EndsByException p h fr
+  pub gives : GivesResultClass p h fr
+
+abbrev pub TopEndsAsDeclared : Program → HeapContents → List Frame → Type 0
+TopEndsAsDeclared p h [] = Unit {0}
+TopEndsAsDeclared p h (fr ∷ frs) = EndsAsDeclared p h fr

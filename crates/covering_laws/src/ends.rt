@@ -19,21 +19,21 @@ ghost use Rattle.value_laws.specs.Configuration.{Frame};
 ghost use Rattle.value_laws.specs.Choosing.{frame_steps};
 ghost use Rattle.value_laws.specs.Agreement.{Stands};
 ghost use Rattle.value_laws.specs.FieldContents.{promised_on};
-ghost use Rattle.value_laws.specs.PlaceFacts.{IsCovered, gives_none};
+ghost use Rattle.value_laws.specs.PlaceFacts.{IsCovered, gives_none, renews_none};
 ghost use Rattle.covering_laws.specs.Covering.{HoldsHeavy, IsNotGiven};
 
 /// As a frame ends, all that its method promises on an owning field of its class was called on what the field holds, where that is finished and the call
-/// did not give it to the frame, or the field owns it. By an exception it ends so where the method is a must-call method.
+/// did not give it to the frame, or the field owns it, and the method is no constructor. By an exception it ends so where the method is a must-call method.
 pub fn promises_are_kept_at_end()
-    ensures { (p : Program) → Accept p → (h : HeapContents) (frs : List Frame) (fr : Frame) → (st : Stands p fr) → IsCovered p h gives_none frs fr
+    ensures { (p : Program) → Accept p → (h : HeapContents) (frs : List Frame) (fr : Frame) → (st : Stands p fr) → IsCovered p h gives_none renews_none frs fr
         → (i : ℕ) (s : Step) (q : Completion) (m : Method) (f : FieldId) (w o : ℕ) (x : Object) → slice_get (frame_steps p fr) i ≡ Some s → s.action ≡ actions.End q
-        → method_at p fr.method ≡ Some m → has_field_place p st.number f ≡ true → (is_throw q ≡ false) ⊎ (is_finalizer p st.number ≡ true)
+        → method_at p fr.method ≡ Some m → constructs (method_at p fr.method) ≡ false → has_field_place p st.number f ≡ true → (is_throw q ≡ false) ⊎ (is_finalizer p st.number ≡ true)
         → HoldsHeavy p h fr w f o x → IsNotGiven p h frs fr o x → x.finished ≡ true → set.is_subset (promised_on f m) x.called ≡ true }
 {}
 
 /// A constructor that ends by an exception owns nothing in its fields that is unmet.
 pub fn contents_are_met_at_throw()
-    ensures { (p : Program) → Accept p → (h : HeapContents) (frs : List Frame) (fr : Frame) → (st : Stands p fr) → IsCovered p h gives_none frs fr
+    ensures { (p : Program) → Accept p → (h : HeapContents) (frs : List Frame) (fr : Frame) → (st : Stands p fr) → IsCovered p h gives_none renews_none frs fr
         → (i : ℕ) (s : Step) (q : Completion) (f : FieldId) (w o : ℕ) (x : Object) → slice_get (frame_steps p fr) i ≡ Some s → s.action ≡ actions.End q
         → alias_position p st.number ≡ None → is_throw q ≡ true → constructs (method_at p fr.method) ≡ true → has_field_place p st.number f ≡ true → HoldsHeavy p h fr w f o x → is_unmet x ≡ false }
 {}

@@ -16,12 +16,12 @@ ghost use Rattle.value_laws.specs.Configuration.{Frame};
 ghost use Rattle.value_laws.specs.Choosing.{frame_steps};
 ghost use Rattle.value_laws.specs.Agreement.{Stands};
 ghost use Rattle.value_laws.specs.PlainForms.{HasPlainForms};
-ghost use Rattle.value_laws.specs.PlaceFacts.{IsCovered, gives_none};
+ghost use Rattle.value_laws.specs.PlaceFacts.{IsCovered, gives_none, renews_none};
 ghost use Rattle.covering_laws.specs.Covering.{HoldsHeavy};
 
 /// What an owning field held is met where another object is stored over it.
 pub fn overwritten_is_met()
-    ensures { (p : Program) → Accept p → HasPlainForms p → (h : HeapContents) (frs : List Frame) (fr : Frame) → (st : Stands p fr) → alias_position p st.number ≡ None → IsCovered p h gives_none frs fr
+    ensures { (p : Program) → Accept p → HasPlainForms p → (h : HeapContents) (frs : List Frame) (fr : Frame) → (st : Stands p fr) → alias_position p st.number ≡ None → IsCovered p h gives_none renews_none frs fr
         → (i d : ℕ) (s : Step) (f : FieldId) (w o : ℕ) (x : Object) → slice_get (frame_steps p fr) i ≡ Some s → s.action ≡ actions.PutOwn f d
         → HoldsHeavy p h fr w f o x → (root_of h (temp_value fr.locals d) ≡ Some o → ⊥) → is_unmet x ≡ false }
 {}

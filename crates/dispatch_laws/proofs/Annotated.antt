@@ -22,7 +22,6 @@ use Rattle.annotation_rules.specs.AnnotationCases as rules
 use Rattle.annotation_rules.specs.Declarations.{allowed, bad_annotation, declaration_cases, is_wrong, repeats, speaks_of_owning}
 use Rattle.annotation_rules.specs.declared.declaration.Declaration.{Declaration}
 use Rattle.annotation_rules.specs.declared.declaration.Declaration.TheVariants as declarations
-use Rattle.annotation_rules.specs.Effective.{first_set}
 use Rattle.annotation_rules.specs.Sets.{value_set}
 use Rattle.annotation_rules.specs.SignedMethods.{IsSignedMethod}
 use Rattle.agreement.proofs.SignedTables.{before}
@@ -57,15 +56,15 @@ same_library : (o : Option Class) → rules.is_library_in o ≡ is_library_in o
 same_library None = refl
 same_library (Some k) = refl
 
--- the first of a list in which none is one
-first_none : (annos : List RawAnno) → ((a : RawAnno) → Contains annos a → is_of annotations.MustCall a ≡ true → ⊥) → first_of annotations.MustCall annos ≡ None
-first_none annos never = go (first_of annotations.MustCall annos) refl
+-- the first of a list in which none is of the kind
+pub first_none : (kind : AnnotationKind) (annos : List RawAnno) → ((a : RawAnno) → Contains annos a → is_of kind a ≡ true → ⊥) → first_of kind annos ≡ None
+first_none kind annos never = go (first_of kind annos) refl
   where
-    go : (o : Option RawAnno) → first_of annotations.MustCall annos ≡ o → first_of annotations.MustCall annos ≡ None
+    go : (o : Option RawAnno) → first_of kind annos ≡ o → first_of kind annos ≡ None
     go None is = is
-    go (Some a) is = let found = find-among (is_of annotations.MustCall) annos a is in absurd (never a found.0 found.1)
+    go (Some a) is = let found = find-among (is_of kind) annos a is in absurd (never a found.0 found.1)
 
-module _ (p : Program) (ac : Accept p) (m : MethodId) (x : Method) (at : method_at p m ≡ Some x) (own : is_library p x.class ≡ false) where
+module _ (p : Program) (ac : Accept p) (m : MethodId) (x : Method) (at : method_at p m ≡ Some x) where
   placed : declaration_cases (rules.declaration_of_method p x) x.annos.items ≡ []
   placed =
       let every = nil_left _ (flat_map (body_cases p) p.bodies.items) ac.annotations in
@@ -76,7 +75,8 @@ module _ (p : Program) (ac : Accept p) (m : MethodId) (x : Method) (at : method_
       (nil_left (declaration_cases (rules.declaration_of_method p x) x.annos.items ++ declaration_cases declarations.Receiver x.sig.receiver.annos.items)
       (flat_map (λ (z : ParamSig). declaration_cases declarations.Parameter z.annos.items) x.sig.params.items) places)
 
-  right : (a : RawAnno) → Contains x.annos.items a → is_wrong (rules.declaration_of_method p x) a ≡ false
+  -- none of its annotations stands where it may not
+  pub right : (a : RawAnno) → Contains x.annos.items a → is_wrong (rules.declaration_of_method p x) a ≡ false
   right a has =
       let d : Declaration = rules.declaration_of_method p x in
       let all : flat_map (λ (b : RawAnno). bad_annotation (is_wrong d b) b) x.annos.items ≡ [] =
@@ -84,18 +84,23 @@ module _ (p : Program) (ac : Accept p) (m : MethodId) (x : Method) (at : method_
       (nil_left (flat_map (λ (b : RawAnno). bad_annotation (is_wrong d b) b) x.annos.items ++ flat_map (λ kind. repeats (is_of kind) x.annos.items) kinds) (repeats speaks_of_owning x.annos.items) placed) in
       not_refused (is_wrong d a) refused.BadAnno a.pos (none_gathered (λ (b : RawAnno). bad_annotation (is_wrong d b) b) x.annos.items a all has)
 
-  is_program : rules.is_library_in (class_at p x.class) ≡ false
-  is_program = same_library (class_at p x.class) ∙ own
-
-  never_there : (a : RawAnno) → Contains x.annos.items a → is_of annotations.MustCall a ≡ true → ⊥
-  never_there a has is =
-      let Never : Bool → Type 0 = λ b. list_any (λ (k : AnnotationKind). bytes_eq wanted (name_of k)) (allowed (declaration_of b (is_class_result x.sig.result) x.kind)) ≡ false in
-      let none : Never (rules.is_library_in (class_at p x.class)) = subst Never (sym is_program) (not_allowed (is_class_result x.sig.result) x.kind) in
-      true≢false (sym (wrong (rules.declaration_of_method p x) a none is) ∙ right a has)
-
-  -- no method or constructor of the program has a set of its own for what it makes
-  pub no_first_set : x.sig.first ≡ None
-  no_first_set =
+  -- the method is signed as its annotations say
+  pub as_signed : IsSignedMethod p.names p.fields.items p.classes.items x x
+  as_signed =
       let was = before (IsSignedMethod p.names p.fields.items p.classes.items) p.methods.items p.methods.items m.0 x ac.signatures.methods at in
       let same : was.0 ≡ x = some_is was.0 x (sym was.1 ∙ at) in
-      was.2.signature.first ∙ ap (first_set p.names) same ∙ ap (value_set p.names) (first_none x.annos.items never_there)
+      subst (λ (y : Method). IsSignedMethod p.names p.fields.items p.classes.items y x) same was.2
+
+  module _ (own : is_library p x.class ≡ false) where
+    is_program : rules.is_library_in (class_at p x.class) ≡ false
+    is_program = same_library (class_at p x.class) ∙ own
+
+    never_there : (a : RawAnno) → Contains x.annos.items a → is_of annotations.MustCall a ≡ true → ⊥
+    never_there a has is =
+        let Never : Bool → Type 0 = λ b. list_any (λ (k : AnnotationKind). bytes_eq wanted (name_of k)) (allowed (declaration_of b (is_class_result x.sig.result) x.kind)) ≡ false in
+        let none : Never (rules.is_library_in (class_at p x.class)) = subst Never (sym is_program) (not_allowed (is_class_result x.sig.result) x.kind) in
+        true≢false (sym (wrong (rules.declaration_of_method p x) a none is) ∙ right a has)
+
+    -- no method or constructor of the program has a set of its own for what it makes
+    pub no_first_set : x.sig.first ≡ None
+    no_first_set = as_signed.signature.first ∙ ap (value_set p.names) (first_none annotations.MustCall x.annos.items never_there)

@@ -1,7 +1,9 @@
 pub mod Lists
 pub mod OverridingSignatures
 pub mod OverridingRuns
+pub mod Constants
 mod Pairs
+mod PairClasses
 pub mod Overriding
 pub mod Names
 pub mod OwnMethodRuns
@@ -13,7 +15,6 @@ mod Annotated
 mod Running
 mod DispatchSignatures
 pub mod Calls
-pub mod Unoverridden
 pub mod Conducts
 pub mod Operations
 pub use Rattle.agreement.proofs.Begun
@@ -22,8 +23,11 @@ pub use Rattle.agreement.proofs.Counts
 pub use Rattle.agreement.proofs.Emptied
 pub use Rattle.agreement.proofs.EndLaws
 pub use Rattle.agreement.proofs.EndLinks
-pub use Rattle.agreement.proofs.ExceptionItems
-pub use Rattle.agreement.proofs.ExceptionWays
+pub use Rattle.agreement.proofs.ClassItems
+pub use Rattle.agreement.proofs.ClassTypes
+pub use Rattle.agreement.proofs.ClassWays
+pub use Rattle.agreement.proofs.EndResets
+pub use Rattle.agreement.proofs.ResetHeaps
 pub use Rattle.agreement.proofs.FieldPlaces
 pub use Rattle.agreement.proofs.Fields
 pub use Rattle.agreement.proofs.HeapFrameEnds

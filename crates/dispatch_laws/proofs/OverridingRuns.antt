@@ -44,7 +44,7 @@ listed_class (e ∷ es) d h =
       | inr more ↦ contains-later e es d (listed_class es d more)
     ]
 
-above_under : (p : Program) → IsHierarchy p → (c d : ClassId) → Contains (classes_above c (class_at p c)) d → IsUnder p c d
+pub above_under : (p : Program) → IsHierarchy p → (c d : ClassId) → Contains (classes_above c (class_at p c)) d → IsUnder p c d
 above_under p h c d listed = (is_under_law p h c d).0 (class_listed (classes_above c (class_at p c)) d listed)
 
 sup_is_direct : (p : Program) (c e : ClassId) (k : Class) → class_at p c ≡ Some k → k.sup ≡ Some e → IsDirectSuper p c e

@@ -14,8 +14,8 @@ use Rattle.program_model.proofs.HierarchyLaws.{is_under_law}
 use Rattle.java_conversions.specs.Conversions.{fits}
 use Rattle.java_conversions.specs.Types.{is_reference}
 use Rattle.agreement.specs.Results.{is_result_under}
-use Rattle.agreement.specs.ExceptionOperands.{IsException, OfException, TextsAreNoExceptions}
-use Rattle.agreement.proofs.ExceptionTypes.{throwable_exception}
+use Rattle.agreement.specs.ClassOperands.{IsOfClass, OfClass, IsNotAboveString}
+use Rattle.agreement.proofs.ClassTypes.{null_or_under}
 use Rattle.dispatch_laws.proofs.Types.{one_type, same_class, same_element}
 
 none_is_some : {X : Type 0} (x : X) → ◌≡◌ {A = Option X} None (Some x) → ⊥
@@ -65,35 +65,35 @@ no_result p None b under is = refl
 no_result p (Some u) None under is = absurd (true≢false (sym under))
 no_result p (Some u) (Some v) under is = absurd (none_is_some v (sym is))
 
--- ---- results of the type of exceptions
+-- ---- results of a type under a class
 
 under_trans : (p : Program) (c d e : ClassId) → IsUnder p c d → IsUnder p d e → IsUnder p c e
 under_trans p c d e (itself same) rest = rest
 under_trans p c d e (above x y z direct more) rest = above x y e direct (under_trans p y z e more rest)
 
-module _ (p : Program) (typed : IsTypedProgram p) (texts : TextsAreNoExceptions p) where
+module _ (p : Program) (bound : ClassId) (typed : IsTypedProgram p) (texts : IsNotAboveString p bound) where
   under_law : (c d : ClassId) → is_under p c d ≡ true → IsUnder p c d
   under_law c d is = (is_under_law p typed.hierarchy c d).0 is
 
-  -- what fits a class of exceptions has a class under `Throwable`
-  fitting_exception : (u : VType) (c : ClassId) → IsDeclarable p u → fits p u (types.Obj c) ≡ true → IsUnder p c p.core.throwable → IsTypeUnder p p.core.throwable u
-  fitting_exception (types.Primitive k) c known is over = absurd (true≢false (sym is))
-  fitting_exception types.Str c known is over = under_trans p p.core.string c p.core.throwable (under_law p.core.string c is) over
-  fitting_exception (types.Arr e) c known is over = subst (λ (d : ClassId). IsUnder p d p.core.throwable) (same_class c p.core.object is) over
-  fitting_exception (types.Obj d) c known is over = under_trans p d c p.core.throwable (under_law d c is) over
-  fitting_exception types.NullType c known is over = absurd known
+  -- what fits a class under `bound` has a class under it
+  fitting_class : (u : VType) (c : ClassId) → IsDeclarable p u → fits p u (types.Obj c) ≡ true → IsUnder p c bound → IsTypeUnder p bound u
+  fitting_class (types.Primitive k) c known is over = absurd (true≢false (sym is))
+  fitting_class types.Str c known is over = under_trans p p.core.string c bound (under_law p.core.string c is) over
+  fitting_class (types.Arr e) c known is over = subst (λ (d : ClassId). IsUnder p d bound) (same_class c p.core.object is) over
+  fitting_class (types.Obj d) c known is over = under_trans p d c bound (under_law d c is) over
+  fitting_class types.NullType c known is over = absurd known
 
-  fits_exception : (u t : VType) → IsDeclarable p u → IsDeclarable p t → fits p u t ≡ true → IsException p t → OfException p (Some u)
-  fits_exception u (types.Primitive k) known wanted is to = absurd to
-  fits_exception u types.Str known wanted is to = absurd to
-  fits_exception u (types.Arr e) known wanted is to = absurd to
-  fits_exception u types.NullType known wanted is to = absurd wanted
-  fits_exception u (types.Obj c) known wanted is to =
-      throwable_exception p typed texts (Some u) (inr (fitting_exception u c known is (under_law c p.core.throwable to)))
+  fits_class : (u t : VType) → IsDeclarable p u → IsDeclarable p t → fits p u t ≡ true → IsOfClass p bound t → OfClass p bound (Some u)
+  fits_class u (types.Primitive k) known wanted is to = absurd to
+  fits_class u types.Str known wanted is to = absurd to
+  fits_class u (types.Arr e) known wanted is to = absurd to
+  fits_class u types.NullType known wanted is to = absurd wanted
+  fits_class u (types.Obj c) known wanted is to =
+      null_or_under p bound typed texts bound u (inr (fitting_class u c known is (under_law c bound to))) (itself bound)
 
-  -- a result that may stand for one of the type of exceptions is of that type
-  pub exception_result : (a b : Option VType) → IsResult p a → IsResult p b → is_result_under p a b ≡ true → OfException p b → OfException p a
-  exception_result a None known wanted under to = absurd to
-  exception_result None (Some v) known wanted under to = absurd (true≢false (sym under))
-  exception_result (Some u) (Some v) known wanted under to =
-      under_parts p u v (OfException p (Some u)) under (λ same. subst (λ (t : VType). OfException p (Some t)) (sym same) to) (λ reference fit. fits_exception u v known wanted fit to)
+  -- a result that may stand for one of a type under the class is of such a type
+  pub class_result : (a b : Option VType) → IsResult p a → IsResult p b → is_result_under p a b ≡ true → OfClass p bound b → OfClass p bound a
+  class_result a None known wanted under to = absurd to
+  class_result None (Some v) known wanted under to = absurd (true≢false (sym under))
+  class_result (Some u) (Some v) known wanted under to =
+      under_parts p u v (OfClass p bound (Some u)) under (λ same. subst (λ (t : VType). OfClass p bound (Some t)) (sym same) to) (λ reference fit. fits_class u v known wanted fit to)

@@ -1,7 +1,5 @@
 -- Which methods may run at a call.
-use Rattle.std.proofs.Common.{◌≡◌, ◌∙◌, ◌⊎◌, inl, inr, ap, refl, sym, subst, eqb-true, true≢false, Bool, true, false, ◌||◌, not, Some}
-use Rattle.std.specs.Prelude.{nat_eq}
-use Rattle.std.proofs.lemmas.Bool.{eqb-false}
+use Rattle.std.proofs.Common.{◌≡◌, ◌∙◌, ◌⊎◌, inl, inr, ap, refl, sym, subst, true≢false, Bool, true, false, ◌||◌, not, None, Some}
 use Rattle.program_model.specs.declared.kinds.ClassId.{ClassId}
 use Rattle.program_model.specs.declared.kinds.MethodId.{MethodId}
 use Rattle.program_model.specs.declared.program.Method.{Method}
@@ -11,7 +9,10 @@ use Rattle.program_model.specs.Overrides.{is_abstract, is_library}
 use Rattle.agreement.specs.AcceptedProgramsConditions.{HasWholeLibrary}
 use Rattle.agreement.specs.Accept.{Accept}
 use Rattle.agreement.specs.PlainForms.{MayRun, by_class, by_name, may_be_made, run_by}
-use Rattle.agreement.specs.LedgerCallsCalls.{overriding_in}
+use Rattle.agreement.specs.LedgerCallsCalls.{overriding, overriding_in}
+use Rattle.program_model.specs.Validity.{IsTypedProgram}
+use Rattle.program_model.proofs.HierarchyLaws.{is_under_law}
+use Rattle.dispatch_laws.proofs.OverridingRuns.{dispatched}
 use Rattle.dispatch_laws.specs.Dispatch.{IsOverriding}
 use Rattle.dispatch_laws.proofs.Lists.{some_is}
 use Rattle.dispatch_laws.proofs.Overriding.{library_runs, named_or_overriding}
@@ -61,10 +62,18 @@ module _ (p : Program) (ac : Accept p) (whole : HasWholeLibrary p) (m : MethodId
   runs_as _ by_name at = itself m refl at
   runs_as _ (by_class c made) at = of_class c made (is_library p c) (is_abstract p c) refl refl at
 
--- the two are one, or are not
-pub one_or_other : (r m : MethodId) → (r ≡ m) ⊎ (r ≡ m → ⊥)
-one_or_other r m = go (nat_eq r.0 m.0) refl
-  where
-    go : (b : Bool) → nat_eq r.0 m.0 ≡ b → (r ≡ m) ⊎ (r ≡ m → ⊥)
-    go true is = inl (let same : r.0 ≡ m.0 = eqb-true r.0 m.0 is in λ i. record { 0 = same i })
-    go false is = inr (λ same. eqb-false r.0 m.0 is (ap (λ (z : MethodId). z.0) same))
+-- an object of an abstract class of the library runs the named method itself, or that is one of the library too
+pub abstract_above : (p : Program) → IsTypedProgram p → HasWholeLibrary p → (m : MethodId) (n x : Method) → method_at p m ≡ Some n → RunsAbstractly p m x → (x ≡ n) ⊎ (is_library p n.class ≡ true)
+unfolding run_by
+abstract_above p typed whole m n x at_n runs =
+    let at : method_at p (overriding p m n runs.class) ≡ Some x = ap (λ o. method_at p (overriding_in p m o runs.class)) (sym at_n) ∙ runs.at in
+    elim (dispatched p m n runs.class) [
+      | inl same ↦ inl (some_is x n (sym at ∙ ap (method_at p) same ∙ at_n))
+      | inr other ↦ inr (whole runs.class n.class ((is_under_law p typed.hierarchy runs.class n.class).0 other.1) runs.library)
+    ]
+
+-- what names no method runs none
+pub none_runs : (p : Program) (m r : MethodId) → MayRun p m r → method_at p m ≡ None → method_at p r ≡ None
+unfolding run_by
+none_runs p m _ by_name at = at
+none_runs p m _ (by_class c made) at = rw at at

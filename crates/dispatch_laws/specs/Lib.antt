@@ -1,7 +1,6 @@
 pub mod Dispatch
 pub mod Owners
 pub mod PlainCalls
-pub mod Unoverridden
 pub mod MadeClasses
 pub use Rattle.agreement.specs.Accept
 pub use Rattle.agreement.specs.AcceptedProgramsConditions
@@ -11,7 +10,7 @@ pub use Rattle.agreement.specs.Calls
 pub use Rattle.agreement.specs.Constructors
 pub use Rattle.annotation_rules.specs.Effective
 pub use Rattle.agreement.specs.Ends
-pub use Rattle.agreement.specs.ExceptionOperands
+pub use Rattle.agreement.specs.ClassOperands
 pub use Rattle.agreement.specs.FieldContents
 pub use Rattle.agreement.specs.FrameValues
 pub use Rattle.agreement.specs.Leading
@@ -20,9 +19,11 @@ pub use Rattle.agreement.specs.MustSets
 pub use Rattle.agreement.specs.Operands
 pub use Rattle.agreement.specs.PlaceFacts
 pub use Rattle.agreement.specs.PlainForms
+pub use Rattle.agreement.specs.Renewable
 pub use Rattle.agreement.specs.Preconditions
 pub use Rattle.agreement.specs.ProgramCalls
 pub use Rattle.agreement.specs.Promises
+pub use Rattle.agreement.specs.Renewing
 pub use Rattle.agreement.specs.Safety
 pub use Rattle.agreement.specs.Signed
 pub use Rattle.agreement.specs.StepOrigins

@@ -2,8 +2,9 @@
 //!
 //! - The method that runs at a call is as the signature that the call names says, in a program whose overriding methods are not refused.
 //! - Which method an object of a class with owning fields runs.
-//! - Which methods may run at a call, and what of a call that is plain follows from the rules on overriding.
-//! - Of which classes objects are that no `new` of the program makes: those that the library makes, and exceptions that operators throw.
+//! - Which methods may run at a call, and that each call is a plain one by the rules on overriding.
+//! - Of which classes objects are that no `new` of the program makes: those that the library makes, and exceptions that operators throw; and
+//!   that constants of the library create no obligation anew.
 #![tactic(auto)]
 
 mod dispatch;
@@ -11,10 +12,10 @@ mod library_class;
 mod overriding_call;
 mod own_method;
 
-pub use dispatch::{
-    named_or_overriding_method_runs, plainly_called_is_plain_call, unoverridden_is_called_plainly,
+pub use dispatch::{call_is_plain, named_or_overriding_method_runs};
+pub use library_class::{
+    constants_create_nothing, library_makes_made_classes, operations_throw_made_classes,
 };
-pub use library_class::{library_makes_made_classes, operations_throw_made_classes};
 pub use overriding_call::{
     library_object_runs_library_method, method_keeps_own_signature, overriding_is_right,
     running_method_keeps_signature, running_method_overrides,

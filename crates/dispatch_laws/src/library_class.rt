@@ -1,10 +1,14 @@
-//! Of which classes objects are that no `new` of the program makes. Each law is the contract of a function that does nothing.
+//! Of which classes objects are that no `new` of the program makes, and constants of the library. Each law is the contract of a function that
+//! does nothing.
 
-ghost use Rattle.std.specs.Prelude.{◌≡◌, ℕ, true, Some, List};
+ghost use Rattle.std.specs.Prelude.{◌≡◌, ℕ, true, None, Some, List};
 ghost use Rattle.program_model.specs.declared.kinds.ClassId.{ClassId};
 ghost use Rattle.program_model.specs.declared.kinds.MethodId.{MethodId};
+ghost use Rattle.program_model.specs.declared.kinds.MethodKind.TheVariants as methods;
+ghost use Rattle.program_model.specs.declared.program.Method.{Method};
 ghost use Rattle.program_model.specs.declared.program.Program.{Program};
 ghost use Rattle.program_model.specs.Lookups.{method_at};
+ghost use Rattle.agreement.specs.Accept.{Accept};
 ghost use Rattle.agreement.specs.LibraryClasses.{GivesLibraryClasses, ThrowsMadeClasses};
 ghost use Rattle.agreement.specs.PlainForms.{may_be_made};
 ghost use Rattle.java_control.specs.declared.action.Action.{Action};
@@ -29,4 +33,9 @@ pub fn library_makes_made_classes()
 pub fn operations_throw_made_classes()
     ensures { (p : Program) → ThrowsMadeClasses p → (h : HeapContents) (arrays : List ArrayObject) (l : Locals) (a : Action) (e : ClassId)
         → thrown_by_operation p h arrays l a ≡ Some e → may_be_made p e ≡ true }
+{}
+
+/// In an accepted program a constant of the library creates no obligation anew: no annotation may stand on it.
+pub fn constants_create_nothing()
+    ensures { (p : Program) → Accept p → (m : MethodId) (x : Method) → method_at p m ≡ Some x → x.kind ≡ methods.Constant → x.sig.reset ≡ None }
 {}

@@ -41,7 +41,7 @@ use Rattle.java_control.specs.declared.place.Place.TheVariants as places
 use Rattle.ownership_rules.specs.Bodies.{fields_of, has_field_place}
 use Rattle.ownership_rules.specs.MustCallSets.{Names, is_heavy_class, no_names}
 use Rattle.ownership_rules.specs.Signatures.{field_type, is_position, is_present}
-use Rattle.ownership_rules.specs.Facts.{has, is_alias, is_held, position_of}
+use Rattle.ownership_rules.specs.Facts.{has, is_alias, position_of}
 use Rattle.ownership_rules.specs.Births.{Birth, birth_on, birth_on_go, births_at_entry, births_of_step, born, born_in, class_of, constant_birth, entry_births_in, entry_births_of, fact_at, field_birth, field_birth_place, field_births, has_this, held_births, new_birth, origin_of, owning_field_birth, parameter_birth, parameter_births, parameter_mode, reset_births, result_birth, result_fact, this_birth, this_mode}
 use Rattle.ownership_rules.specs.MovesAtReturns.{result_in}
 use Rattle.fact_laws.proofs.ParameterBirths.{AllBirths, OnBirth, birth_at, births_both, listed}
@@ -65,21 +65,6 @@ kind_is p kind pos c (Some names) = refl
 abbrev pub IsElsewhere : Birth → Type 0
 IsElsewhere x = (is_alias (x.1).mode ≡ false) × (position_of (x.0).kind ≡ None)
 
--- nor held in a field of `this`
-abbrev IsMade : Birth → Type 0
-IsMade x = (is_held (x.1).mode ≡ false) × IsElsewhere x
-
-made_elsewhere : (x : Option Birth) → OnBirth IsMade x → OnBirth IsElsewhere x
-made_elsewhere None on = tt
-made_elsewhere (Some x) on = on.1
-
-abbrev IsUnheld : Birth → Type 0
-IsUnheld x = is_held (x.1).mode ≡ false
-
-made_unheld : (x : Option Birth) → OnBirth IsMade x → OnBirth IsUnheld x
-made_unheld None on = tt
-made_unheld (Some x) on = on.0
-
 module _ (p : Program) where
   born_elsewhere : (kind : OriginKind) (pos : Pos) (t : Option VType) (first : Option Names) (f : Fact) → is_alias f.mode ≡ false → position_of kind ≡ None → OnBirth IsElsewhere (born p kind pos t first f)
   born_elsewhere kind pos t first f mode none = born_so IsElsewhere p kind pos t first f (λ c is. (mode, ap position_of (kind_is p kind pos c first) ∙ none))
@@ -100,49 +85,46 @@ module _ (p : Program) where
       go None on rest = rest
       go (Some x) on rest = (on, rest)
 
-  born_made : (kind : OriginKind) (pos : Pos) (t : Option VType) (first : Option Names) (f : Fact) → is_held f.mode ≡ false → is_alias f.mode ≡ false → position_of kind ≡ None → OnBirth IsMade (born p kind pos t first f)
-  born_made kind pos t first f unheld mode none = born_so IsMade p kind pos t first f (λ c is. (unheld, (mode, ap position_of (kind_is p kind pos c first) ∙ none)))
-
-  new_made : (d : ℕ) (pos : Pos) (m : Option Method) → OnBirth IsMade (new_birth p d pos m)
-  new_made d pos None = tt
-  new_made d pos (Some m) = go (is_heavy_class p m.class && not (is_present m.sig.alias))
+  new_elsewhere : (d : ℕ) (pos : Pos) (m : Option Method) → OnBirth IsElsewhere (new_birth p d pos m)
+  new_elsewhere d pos None = tt
+  new_elsewhere d pos (Some m) = go (is_heavy_class p m.class && not (is_present m.sig.alias))
     where
-      go : (y : Bool) → OnBirth IsMade (if y then born p kinds.New pos (Some (types.Obj m.class)) m.sig.first (fact_at (places.Temp d) modes.Own no_names false) else None)
-      go true = born_made kinds.New pos (Some (types.Obj m.class)) m.sig.first (fact_at (places.Temp d) modes.Own no_names false) refl refl refl
+      go : (y : Bool) → OnBirth IsElsewhere (if y then born p kinds.New pos (Some (types.Obj m.class)) m.sig.first (fact_at (places.Temp d) modes.Own no_names false) else None)
+      go true = born_elsewhere kinds.New pos (Some (types.Obj m.class)) m.sig.first (fact_at (places.Temp d) modes.Own no_names false) refl refl
       go false = tt
 
-  result_made : (d : ℕ) (pos : Pos) (m : Option Method) → OnBirth IsMade (result_birth p d pos m)
-  result_made d pos None = tt
-  result_made d pos (Some m) = go (is_present m.sig.alias) m.sig.owning_result
+  result_elsewhere : (d : ℕ) (pos : Pos) (m : Option Method) → OnBirth IsElsewhere (result_birth p d pos m)
+  result_elsewhere d pos None = tt
+  result_elsewhere d pos (Some m) = go (is_present m.sig.alias) m.sig.owning_result
     where
-      go : (y z : Bool) → OnBirth IsMade (if y then None else born p kinds.Result pos m.sig.result m.sig.first (result_fact d z))
+      go : (y z : Bool) → OnBirth IsElsewhere (if y then None else born p kinds.Result pos m.sig.result m.sig.first (result_fact d z))
       go true z = tt
-      go false true = born_made kinds.Result pos m.sig.result m.sig.first (result_fact d true) refl refl refl
-      go false false = born_made kinds.Result pos m.sig.result m.sig.first (result_fact d false) refl refl refl
+      go false true = born_elsewhere kinds.Result pos m.sig.result m.sig.first (result_fact d true) refl refl
+      go false false = born_elsewhere kinds.Result pos m.sig.result m.sig.first (result_fact d false) refl refl
 
-  read_made : (x : Place) (pos : Pos) (t : Option VType) → OnBirth IsMade (born p kinds.Read pos t None (fact_at x modes.None no_names true))
-  read_made x pos t = born_made kinds.Read pos t None (fact_at x modes.None no_names true) refl refl refl
+  read_elsewhere : (x : Place) (pos : Pos) (t : Option VType) → OnBirth IsElsewhere (born p kinds.Read pos t None (fact_at x modes.None no_names true))
+  read_elsewhere x pos t = born_elsewhere kinds.Read pos t None (fact_at x modes.None no_names true) refl refl
 
-  constant_made : (x : Place) (pos : Pos) (v : PlainValue) → OnBirth IsMade (constant_birth p x pos v)
-  constant_made x pos (plain.Literal l) = tt
-  constant_made x pos (plain.LibraryConstant m) = read_made x pos (result_in (method_at p m))
-  constant_made x pos v = tt
+  constant_elsewhere : (x : Place) (pos : Pos) (v : PlainValue) → OnBirth IsElsewhere (constant_birth p x pos v)
+  constant_elsewhere x pos (plain.Literal l) = tt
+  constant_elsewhere x pos (plain.LibraryConstant m) = read_elsewhere x pos (result_in (method_at p m))
+  constant_elsewhere x pos v = tt
 
-  go_made : (a : Action) (pos : Pos) → OnBirth IsMade (birth_on_go p a pos)
-  go_made actions.Skip pos = tt
-  go_made (actions.New m d n) pos = new_made d pos (method_at p m)
-  go_made (actions.Call m d n form) pos = result_made d pos (method_at p m)
-  go_made (actions.Get f d this) pos = read_made (places.Temp d) pos (field_type p f)
-  go_made (actions.Plain x v) pos = constant_made x pos v
-  go_made a pos = tt
+  go_elsewhere : (a : Action) (pos : Pos) → OnBirth IsElsewhere (birth_on_go p a pos)
+  go_elsewhere actions.Skip pos = tt
+  go_elsewhere (actions.New m d n) pos = new_elsewhere d pos (method_at p m)
+  go_elsewhere (actions.Call m d n form) pos = result_elsewhere d pos (method_at p m)
+  go_elsewhere (actions.Get f d this) pos = read_elsewhere (places.Temp d) pos (field_type p f)
+  go_elsewhere (actions.Plain x v) pos = constant_elsewhere x pos v
+  go_elsewhere a pos = tt
 
-  on_made : (a : Action) (e : Edge) (pos : Pos) → OnBirth IsMade (birth_on p a e pos)
-  on_made a edges.Go pos = go_made a pos
-  on_made a edges.Null pos = tt
-  on_made a edges.NonNull pos = tt
-  on_made a edges.True pos = tt
-  on_made a edges.False pos = tt
-  on_made a (edges.Throws c) pos = tt
+  on_elsewhere : (a : Action) (e : Edge) (pos : Pos) → OnBirth IsElsewhere (birth_on p a e pos)
+  on_elsewhere a edges.Go pos = go_elsewhere a pos
+  on_elsewhere a edges.Null pos = tt
+  on_elsewhere a edges.NonNull pos = tt
+  on_elsewhere a edges.True pos = tt
+  on_elsewhere a edges.False pos = tt
+  on_elsewhere a (edges.Throws c) pos = tt
 
   reset_elsewhere : (b : BodyId) (a : Action) (pos : Pos) → AllBirths IsElsewhere (reset_births p b a pos)
   reset_elsewhere b a pos = go (is_reset_of_this p a)
@@ -155,18 +137,7 @@ module _ (p : Program) where
       → (is_alias f.mode ≡ false) × (position_of o.kind ≡ None)
   step_elsewhere b a e pos n o f there =
       birth_at IsElsewhere (births_of_step p b a e pos) n (o, f)
-      (births_both IsElsewhere (optional (birth_on p a e pos)) (reset_births p b a pos) (listed IsElsewhere (birth_on p a e pos) (made_elsewhere (birth_on p a e pos) (on_made a e pos))) (reset_elsewhere b a pos)) there
-
-  -- a step that creates the obligation of `this` not anew bears nothing that is held in a field of `this`
-  pub step_unheld : (b : BodyId) (a : Action) (e : Edge) (pos : Pos) (n : ℕ) (o : Origin) (f : Fact) → is_reset_of_this p a ≡ false → slice_get (births_of_step p b a e pos) n ≡ Some (o, f) → is_held f.mode ≡ false
-  step_unheld b a e pos n o f no_reset there = birth_at IsUnheld (births_of_step p b a e pos) n (o, f) all there
-    where
-      none : (y : Bool) → y ≡ false → AllBirths IsUnheld (if y then field_births p b (Some pos) else [])
-      none true is = absurd (true≢false is)
-      none false is = tt
-
-      all : AllBirths IsUnheld (births_of_step p b a e pos)
-      all = births_both IsUnheld (optional (birth_on p a e pos)) (reset_births p b a pos) (listed IsUnheld (birth_on p a e pos) (made_unheld (birth_on p a e pos) (on_made a e pos))) (none (is_reset_of_this p a) no_reset)
+      (births_both IsElsewhere (optional (birth_on p a e pos)) (reset_births p b a pos) (listed IsElsewhere (birth_on p a e pos) (on_elsewhere a e pos)) (reset_elsewhere b a pos)) there
 
   -- ---- at the entry
 

@@ -59,6 +59,18 @@ mode_stays modes.Held held is = go (is_in_this held) is
     go true one = refl
     go false one = absurd (true≢false (sym one))
 
+-- a fact at other places is lent only where it was
+pub lent_before : (m : Mode) (held : PlaceSet) → mode_at m held ≡ modes.Lent → m ≡ modes.Lent
+lent_before modes.Own held is = is
+lent_before modes.None held is = is
+lent_before modes.Lent held is = is
+lent_before modes.Alias held is = is
+lent_before modes.Held held is = go (is_in_this held) is
+  where
+    go : (b : Bool) → (if b then modes.Held else modes.None) ≡ modes.Lent → modes.Held ≡ modes.Lent
+    go true one = one
+    go false one = absurd (let never : modes.None ≡ modes.Lent = one in cc)
+
 pub held_stays : (m : Mode) (held : PlaceSet) → m ≡ modes.Held → is_in_this held ≡ true → mode_at m held ≡ modes.Held
 held_stays m held is inside = rw (is, inside) refl
 
@@ -67,13 +79,14 @@ pub left_as : (P : Fact → Type 0) (o : Origin) (f : Fact) (held : PlaceSet) (q
 left_as P o f held q is good = rw (somewhere held q is) good
 
 same_fact : (f : Fact) (held : PlaceSet) → ArePlaces f.places held → GoesAs f held f.called f
-same_fact f held same = record { places = same; full = inl refl; mode = λ owned. refl; known = within_self f.called; held = λ is inside. is }
+same_fact f held same = record { places = same; full = inl refl; mode = λ owned. refl; lent = λ lent. lent; known = within_self f.called; held = λ is inside. is }
 
 moved_fact : (f g : Fact) (held : PlaceSet) (called : Names) → g.mode ≡ f.mode → g.full ≡ f.full → g.called ≡ called → GoesAs f held called (record g { places = held; mode = mode_at g.mode held })
 moved_fact f g held called mode full names = record {
   places = λ n. refl;
   full = inl full;
   mode = λ owned. mode_stays g.mode held owned ∙ mode;
+  lent = λ lent. sym mode ∙ lent_before g.mode held lent;
   known = ap (λ (s : Names). set.is_subset s called) names ∙ within_self called;
   held = λ is inside. held_stays g.mode held (mode ∙ is) inside;
 }
@@ -164,6 +177,7 @@ module _ (p : Program) (b : BodyId) (o : Origin) (f : Fact) (q : Place) where
     places = λ n. refl;
     full = inl refl;
     mode = λ owned. absurd (true≢false (sym owned));
+    lent = λ lent. absurd (let never : modes.None ≡ modes.Lent = lent in cc);
     known = within;
     held = λ is inside. absurd (other is);
   }

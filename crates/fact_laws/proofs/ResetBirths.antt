@@ -1,6 +1,6 @@
--- The modes of facts that are born: lent is `this` alone, where the method creates no obligation anew; and held in a field of `this` is one only as an instance method
--- begins, or where a call creates the obligation of `this` anew.
-use Rattle.std.proofs.Common.{◌≡◌, ◌∙◌, ap, refl, sym, subst, ℕ, ◌+◌, Bool, true, false, true≢false, not, ◌&&◌, Option, Some, None, List, [], ◌∷◌, ◌++◌, slice_get}
+-- The modes of facts that are born: lent is the argument alone whose obligation the method creates anew, or `this` of a constructor; and held in a field of `this` is one
+-- only as an instance method begins, or where a call creates the obligation of `this` anew, and only in the bodies of a class with owning fields.
+use Rattle.std.proofs.Common.{◌≡◌, ◌∙◌, ap, refl, sym, subst, ℕ, ◌+◌, Bool, true, false, true≢false, not, ◌&&◌, ◌||◌, Option, Some, None, List, [], ◌∷◌, ◌++◌, slice_get}
 use Rattle.std.specs.Prelude.{if◌then◌else◌}
 use Rattle.std.specs.List.{cons_option, filter_map}
 use Rattle.rlc_base.specs.declared.place.Pos.{Pos}
@@ -32,14 +32,15 @@ use Rattle.java_control.specs.declared.fact.OriginKind.{OriginKind}
 use Rattle.java_control.specs.declared.fact.OriginKind.TheVariants as kinds
 use Rattle.java_control.specs.declared.place.Place.{Place}
 use Rattle.java_control.specs.declared.place.Place.TheVariants as places
-use Rattle.ownership_rules.specs.Bodies.{fields_of, has_field_place}
+use Rattle.ownership_rules.specs.Bodies.{fields_of, has_field_place, is_constructor_kind}
 use Rattle.ownership_rules.specs.MustCallSets.{Names, is_heavy_class, no_names}
 use Rattle.ownership_rules.specs.Signatures.{field_type, is_position, is_present}
 use Rattle.ownership_rules.specs.Facts.{is_held, is_lent}
 use Rattle.ownership_rules.specs.Births.{Birth, birth_on, birth_on_go, births_at_entry, births_of_step, born, constant_birth, entry_births_in, entry_births_of, fact_at, field_birth, field_birth_place, field_births, has_this, held_births, new_birth, owning_field_birth, parameter_birth, parameter_births, parameter_mode, reset_births, result_birth, result_fact, this_birth, this_mode}
 use Rattle.ownership_rules.specs.MovesAtReturns.{result_in}
 use Rattle.fact_laws.proofs.ParameterBirths.{AllBirths, OnBirth, birth_at, births_both, listed}
-use Rattle.fact_laws.proofs.EntryFacts.{born_so, kind_is}
+use Rattle.fact_laws.specs.Lending.{may_be_lent}
+use Rattle.fact_laws.proofs.EntryFacts.{born_so}
 
 -- `this` of a method is held in no field
 method_unheld : (lent alias : Bool) → is_held (if lent then modes.Lent else (if alias then modes.Alias else modes.None)) ≡ false
@@ -47,10 +48,10 @@ method_unheld true alias = refl
 method_unheld false true = refl
 method_unheld false false = refl
 
-module _ (p : Program) (b : BodyId) (Free : Type 0) where
-  -- what is lent is `this`, and, where the body is free of that, nothing is held in a field
+module _ (p : Program) (b : BodyId) (m : Method) (Free : Type 0) where
+  -- what is lent may be so, and, where the body is free of that, nothing is held in a field
   abbrev pub HasPlainMode : Birth → Type 0
-  HasPlainMode x = (is_lent (x.1).mode ≡ true → (x.0).kind ≡ kinds.ThisRef) × (Free → is_held (x.1).mode ≡ false)
+  HasPlainMode x = (is_lent (x.1).mode ≡ true → may_be_lent m (x.0).kind ≡ true) × (Free → is_held (x.1).mode ≡ false)
 
   -- a birth in a mode that is neither
   plainly_born : (kind : OriginKind) (pos : Pos) (t : Option VType) (first : Option Names) (f : Fact) → is_lent f.mode ≡ false → is_held f.mode ≡ false → OnBirth HasPlainMode (born p kind pos t first f)
@@ -58,16 +59,20 @@ module _ (p : Program) (b : BodyId) (Free : Type 0) where
 
   -- ---- the fields
 
-  field_born : (Free → ⊥) → (pos : Option Pos) (g : FieldId) → OnBirth HasPlainMode (field_birth p b pos g)
+  -- where the body is free, no owning field has a place in it
+  abbrev HasNoPlaces : Type 0
+  HasNoPlaces = Free → (g : FieldId) → has_field_place p b g ≡ false
+
+  field_born : HasNoPlaces → (pos : Option Pos) (g : FieldId) → OnBirth HasPlainMode (field_birth p b pos g)
   field_born never pos g = go (has_field_place p b g) refl (field_at p g)
     where
       go : (y : Bool) → has_field_place p b g ≡ y → (x : Option Field) → OnBirth HasPlainMode (if y then owning_field_birth p g pos x else None)
       go false is x = tt
       go true is None = tt
       go true is (Some x) = born_so HasPlainMode p (kinds.FieldAt g) (field_birth_place pos x) (Some x.vtype) None (fact_at (place_of_field p g) modes.Held no_names true)
-          (λ c class. ((λ lent. absurd (true≢false (sym lent))), (λ free. absurd (never free))))
+          (λ c class. ((λ lent. absurd (true≢false (sym lent))), (λ free. absurd (true≢false (sym is ∙ never free g)))))
 
-  fields_born : (Free → ⊥) → (pos : Option Pos) (gs : List FieldId) → AllBirths HasPlainMode (filter_map (field_birth p b pos) gs)
+  fields_born : HasNoPlaces → (pos : Option Pos) (gs : List FieldId) → AllBirths HasPlainMode (filter_map (field_birth p b pos) gs)
   fields_born never pos [] = tt
   fields_born never pos (g ∷ gs) = go (field_birth p b pos g) (field_born never pos g) (fields_born never pos gs)
     where
@@ -118,37 +123,38 @@ module _ (p : Program) (b : BodyId) (Free : Type 0) where
   on_born a edges.False pos = tt
   on_born a (edges.Throws c) pos = tt
 
-  reset_born : (a : Action) → (is_reset_of_this p a ≡ true → Free → ⊥) → (pos : Pos) → AllBirths HasPlainMode (reset_births p b a pos)
+  reset_born : (a : Action) → (is_reset_of_this p a ≡ true → HasNoPlaces) → (pos : Pos) → AllBirths HasPlainMode (reset_births p b a pos)
   reset_born a never pos = go (is_reset_of_this p a) refl
     where
       go : (y : Bool) → is_reset_of_this p a ≡ y → AllBirths HasPlainMode (if y then field_births p b (Some pos) else [])
       go true is = fields_born (never is) (Some pos) (fields_of p b)
       go false is = tt
 
-  pub step_born : (a : Action) → (is_reset_of_this p a ≡ true → Free → ⊥) → (e : Edge) (pos : Pos) (n : ℕ) (o : Origin) (f : Fact) → slice_get (births_of_step p b a e pos) n ≡ Some (o, f) → HasPlainMode (o, f)
+  pub step_born : (a : Action) → (is_reset_of_this p a ≡ true → HasNoPlaces) → (e : Edge) (pos : Pos) (n : ℕ) (o : Origin) (f : Fact) → slice_get (births_of_step p b a e pos) n ≡ Some (o, f) → HasPlainMode (o, f)
   step_born a never e pos n o f there =
       birth_at HasPlainMode (births_of_step p b a e pos) n (o, f)
       (births_both HasPlainMode (optional (birth_on p a e pos)) (reset_births p b a pos) (listed HasPlainMode (birth_on p a e pos) (on_born a e pos)) (reset_born a never pos)) there
 
   -- ---- at the entry
 
-  module _ (m : Method) (none : m.sig.reset ≡ None) (never : m.kind ≡ methods.Instance → Free → ⊥) where
-    parameter_modes : (k : ℕ) (x : ParamSig) → (is_lent (parameter_mode m.sig k x) ≡ false) × (is_held (parameter_mode m.sig k x) ≡ false)
-    parameter_modes k x = by x.owning (is_position m.sig.alias k) (is_position m.sig.reset k) (ap (λ (r : Option ℕ). is_position r k) none)
+  module _ (never : m.kind ≡ methods.Instance → HasNoPlaces) where
+    parameter_modes : (k : ℕ) (x : ParamSig) → (is_lent (parameter_mode m.sig k x) ≡ true → is_position m.sig.reset k ≡ true) × (is_held (parameter_mode m.sig k x) ≡ false)
+    parameter_modes k x = by x.owning (is_position m.sig.alias k) (is_position m.sig.reset k)
       where
-        by : (u v w : Bool) → w ≡ false → (is_lent (if u then modes.Own else (if v then modes.Alias else (if w then modes.Lent else modes.None))) ≡ false)
+        by : (u v w : Bool) → (is_lent (if u then modes.Own else (if v then modes.Alias else (if w then modes.Lent else modes.None))) ≡ true → w ≡ true)
             × (is_held (if u then modes.Own else (if v then modes.Alias else (if w then modes.Lent else modes.None))) ≡ false)
-        by true v w is = (refl, refl)
-        by false true w is = (refl, refl)
-        by false false true is = absurd (true≢false is)
-        by false false false is = (refl, refl)
+        by true v w = ((λ lent. absurd (true≢false (sym lent))), refl)
+        by false true w = ((λ lent. absurd (true≢false (sym lent))), refl)
+        by false false true = ((λ lent. refl), refl)
+        by false false false = ((λ lent. absurd (true≢false (sym lent))), refl)
 
     parameter_born : (y : Body) (k : ℕ) (x : ParamSig) → OnBirth HasPlainMode (parameter_birth p m.sig k x (variable_at y k))
     parameter_born y k x = go (variable_at y k)
       where
         go : (v : Option Var) → OnBirth HasPlainMode (parameter_birth p m.sig k x v)
         go None = tt
-        go (Some v) = plainly_born (kinds.Param k) v.pos (Some x.vtype) None (fact_at (places.Var k) (parameter_mode m.sig (k + 1) x) x.before true) (parameter_modes (k + 1) x).0 (parameter_modes (k + 1) x).1
+        go (Some v) = born_so HasPlainMode p (kinds.Param k) v.pos (Some x.vtype) None (fact_at (places.Var k) (parameter_mode m.sig (k + 1) x) x.before true)
+            (λ c class. ((parameter_modes (k + 1) x).0, (λ free. (parameter_modes (k + 1) x).1)))
 
     parameters_born : (y : Body) (k : ℕ) (xs : List ParamSig) → AllBirths HasPlainMode (parameter_births p y m.sig k xs)
     parameters_born y k [] = tt
@@ -162,12 +168,24 @@ module _ (p : Program) (b : BodyId) (Free : Type 0) where
     this_unheld methods.Static = method_unheld (is_position m.sig.reset 0) (is_position m.sig.alias 0)
     this_unheld methods.Constant = method_unheld (is_position m.sig.reset 0) (is_position m.sig.alias 0)
 
+    -- `this` of a method is lent where it creates the obligation of `this` anew
+    method_lent : (lent alias : Bool) → is_lent (if lent then modes.Lent else (if alias then modes.Alias else modes.None)) ≡ true → lent ≡ true
+    method_lent true alias is = refl
+    method_lent false true is = absurd (true≢false (sym is))
+    method_lent false false is = absurd (true≢false (sym is))
+
+    this_lent : (kind : MethodKind) → is_lent (this_mode m.sig kind) ≡ true → (is_constructor_kind kind || is_position m.sig.reset 0) ≡ true
+    this_lent methods.Ctor is = refl
+    this_lent methods.Instance is = method_lent (is_position m.sig.reset 0) (is_position m.sig.alias 0) is
+    this_lent methods.Static is = method_lent (is_position m.sig.reset 0) (is_position m.sig.alias 0) is
+    this_lent methods.Constant is = method_lent (is_position m.sig.reset 0) (is_position m.sig.alias 0) is
+
     this_born : OnBirth HasPlainMode (this_birth p m)
     this_born = go (has_this m.kind)
       where
         go : (y : Bool) → OnBirth HasPlainMode (if y then born p kinds.ThisRef m.pos (Some (types.Obj m.class)) None (fact_at places.This (this_mode m.sig m.kind) no_names true) else None)
         go true = born_so HasPlainMode p kinds.ThisRef m.pos (Some (types.Obj m.class)) None (fact_at places.This (this_mode m.sig m.kind) no_names true)
-            (λ c class. ((λ lent. kind_is p kinds.ThisRef m.pos c None), (λ free. this_unheld m.kind)))
+            (λ c class. (this_lent m.kind, (λ free. this_unheld m.kind)))
         go false = tt
 
     held_born : (k : MethodKind) → m.kind ≡ k → AllBirths HasPlainMode (held_births p b k)

@@ -32,7 +32,7 @@ use Rattle.rlc_base.proofs.SetLaws.{empty_within}
 use Rattle.java_control.specs.declared.fact.Outcome.{Outcome}
 use Rattle.java_control.specs.declared.fact.Outcome.TheVariants.{Next, Gone, Fault}
 use Rattle.fact_laws.specs.Going.{GoesAs}
-use Rattle.fact_laws.proofs.Going.{apart, held_stays, left_as, mode_stays}
+use Rattle.fact_laws.proofs.Going.{apart, held_stays, left_as, lent_before, mode_stays}
 use Rattle.fact_laws.proofs.FactTargets.{may_be_anew, targeted, untouched}
 
 -- the fact goes on in mode Own, at these places and with these names
@@ -174,6 +174,7 @@ anew_goes f held names = record {
   places = λ n. refl;
   full = inr refl;
   mode = λ owned. mode_stays f.mode held owned;
+  lent = λ lent. lent_before f.mode held lent;
   known = empty_within names;
   held = λ is inside. held_stays f.mode held is inside;
 }

@@ -28,7 +28,7 @@ use Rattle.place_laws.specs.OwningFieldsStores.{heavy_stored, is_heavy_store, ke
 use Rattle.place_laws.specs.Flow.{flow}
 use Rattle.fact_laws.specs.Outcomes.{After}
 use Rattle.fact_laws.specs.Going.{ArePlaces, StoresAs, left, taken}
-use Rattle.fact_laws.proofs.Going.{held_stays, left_as, mode_stays}
+use Rattle.fact_laws.proofs.Going.{held_stays, left_as, lent_before, mode_stays}
 
 -- a place more that was there
 there_already : (held : PlaceSet) (x : Place) → has held x ≡ true → ArePlaces held (with_place held x)
@@ -90,6 +90,7 @@ module _ (p : Program) (b : BodyId) (o : Origin) (x : FieldId) (d : ℕ) (e : Ed
       λ n. there_already f.places (place_of_field p x) is n ∙ ap (λ (s : PlaceSet). set.contains s n) (sym joined),
       left in_ctor refl refl (record {
         mode = λ owned. refl;
+        lent = λ lent. lent;
         held = λ one within. one;
         met = λ out one held. absurd (true≢false (sym there ∙ out));
         light = λ one out. absurd (true≢false (sym is ∙ out));
@@ -101,6 +102,7 @@ module _ (p : Program) (b : BodyId) (o : Origin) (x : FieldId) (d : ℕ) (e : Ed
       λ n. ap (λ (s : PlaceSet). set.contains s n) (sym joined),
       left in_ctor refl refl (record {
         mode = λ owned. refl;
+        lent = λ lent. lent;
         held = λ one within. one;
         met = λ out one held. absurd (true≢false (sym there ∙ out));
         light = λ one out. light;
@@ -161,6 +163,7 @@ module _ (p : Program) (b : BodyId) (o : Origin) (x : FieldId) (d : ℕ) (e : Ed
       λ n. gone_already f.places (place_of_field p x) absent n ∙ ap (λ (s : PlaceSet). set.contains s n) (sym dropped),
       left in_ctor refl refl (record {
         mode = λ owned. refl;
+        lent = λ lent. lent;
         held = λ one within. one;
         met = λ none one held. absurd (true≢false (sym one ∙ absent));
         light = λ one none. absurd (true≢false (sym one ∙ out));
@@ -173,6 +176,7 @@ module _ (p : Program) (b : BodyId) (o : Origin) (x : FieldId) (d : ℕ) (e : Ed
       λ n. ap (λ (s : PlaceSet). set.contains s n) (sym dropped),
       left in_ctor refl refl (record {
         mode = λ owned. mode_stays f.mode (without f.places (place_of_field p x)) owned;
+        lent = λ lent. lent_before f.mode (without f.places (place_of_field p x)) lent;
         held = λ one within. held_stays f.mode (without f.places (place_of_field p x)) one within;
         met = λ none one held. met held;
         light = λ one none. absurd (true≢false (sym one ∙ out));

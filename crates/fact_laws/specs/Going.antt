@@ -29,12 +29,13 @@ abbrev pub is_in_this : PlaceSet → Bool
 is_in_this held = has held places.This || has_part held
 
 -- The fact `f` goes on as `g` at these places, with these called names, or fewer; what its first set asks for is needed still, or all that its class asks for.
--- Where `g` says that the object is owned, so did `f`, in the same way. What is held in `this` stays so while `this`, its super class's part or one of its
--- fields holds it.
+-- Where `g` says that the object is owned, so did `f`, in the same way; where it says that it is lent, so did `f`. What is held in `this` stays so while
+-- `this`, its super class's part or one of its fields holds it.
 pub record GoesAs (f : Fact) (kept : PlaceSet) (names : Names) (g : Fact) : Type 0 where
   pub places : ArePlaces g.places kept
   pub full : (g.full ≡ f.full) ⊎ (g.full ≡ true)
   pub mode : is_owned_in g.mode ≡ true → g.mode ≡ f.mode
+  pub lent : g.mode ≡ modes.Lent → f.mode ≡ modes.Lent
   pub known : set.is_subset g.called names ≡ true
   pub held : f.mode ≡ modes.Held → is_in_this kept ≡ true → g.mode ≡ modes.Held
 
@@ -53,6 +54,7 @@ pub record IsTaken (p : Program) (b : BodyId) (o : Origin) (x : FieldId) (d : �
 -- held it already, or neither the object's class nor the field's type has an obligation.
 pub record IsLeft (p : Program) (o : Origin) (x : FieldId) (d : ℕ) (f g : Fact) : Type 0 where
   pub mode : is_owned_in g.mode ≡ true → g.mode ≡ f.mode
+  pub lent : g.mode ≡ modes.Lent → f.mode ≡ modes.Lent
   pub held : f.mode ≡ modes.Held → is_in_this g.places ≡ true → g.mode ≡ modes.Held
   pub met : has f.places (places.Temp d) ≡ false → has f.places (place_of_field p x) ≡ true → f.mode ≡ modes.Held → is_met o f ≡ true
   pub light : has f.places (places.Temp d) ≡ true → has f.places (place_of_field p x) ≡ false → is_heavy_store p o x ≡ false

@@ -1,6 +1,7 @@
 pub mod Outcomes
 pub mod Anew
 pub mod Going
+pub mod Lending
 pub mod Storing
 pub use Rattle.place_laws.specs.Accept
 pub use Rattle.place_laws.specs.Aliases

@@ -27,5 +27,6 @@ pub use owned_fact::{
     result_of_no_type_stays,
 };
 pub use reset_target::{
-    facts_keep_out_of_fields, lent_facts_are_those_of_this, origins_need_all, targets_are_owned,
+    facts_keep_out_of_fields, lent_facts_are_those_of_targets, origins_need_all,
+    targets_are_owned_or_lent,
 };

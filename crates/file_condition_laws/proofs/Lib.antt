@@ -1,6 +1,8 @@
 mod Meanings
 mod Library
 pub mod Read
+mod Results
+mod Owners
 mod Trees
 mod Laid
 mod Written

@@ -1,15 +1,21 @@
 -- In a table that is built all classes above one of a stub are of stubs, and so are those that a method of a stub gives and throws.
-use Rattle.std.proofs.Common.{◌≡◌, ◌∙◌, inr, All, ap, refl, sym, subst, arith, true≢false, Bool, true, false, Option, Some, None, List, [], ◌∷◌, ◌++◌, Contains, ⊎_elim}
+use Rattle.std.proofs.Common.{◌≡◌, ◌∙◌, inl, inr, All, ap, refl, sym, subst, arith, true≢false, Bool, true, false, ◌&&◌, Option, Some, None, List, [], ◌∷◌, ◌++◌, Contains, ⊎_elim}
 use Rattle.std.specs.Prelude.{if◌then◌else◌, slice_get}
 use Rattle.std.specs.List.{AllZip}
 use Rattle.std.specs.Option.{option_map}
 use Rattle.std.proofs.lemmas.List.Elements.{All-cons, All-contains, All-contains_itself, All-nil, All-weaker, Contains-append_cases}
 use Rattle.std.proofs.lemmas.Option.{same_Some, slice_get-map, slice_get_within}
+use Rattle.java_syntax.specs.declared.declaration_trees.FieldDecl.{FieldDecl}
+use Rattle.java_syntax.specs.declared.declaration_trees.Member.{Member}
+use Rattle.java_syntax.specs.declared.declaration_trees.Member.TheVariants as members
+use Rattle.java_syntax.specs.declared.declaration_trees.MethodDecl.{MethodDecl}
 use Rattle.java_syntax.specs.declared.names.Name.{Name}
 use Rattle.java_syntax.specs.declared.names.Typ.{Typ}
 use Rattle.java_syntax.specs.declared.settings.Settings.{Settings}
 use Rattle.program_model.specs.declared.kinds.ClassId.{ClassId}
 use Rattle.program_model.specs.declared.kinds.MethodId.{MethodId}
+use Rattle.program_model.specs.declared.kinds.MethodKind.{MethodKind}
+use Rattle.program_model.specs.declared.kinds.MethodKind.TheVariants as kinds
 use Rattle.program_model.specs.declared.kinds.VType.{VType}
 use Rattle.program_model.specs.declared.kinds.VType.TheVariants as types
 use Rattle.program_model.specs.declared.program.Method.{Method}
@@ -25,7 +31,7 @@ use Rattle.agreement.specs.LibraryClasses.{language_exceptions}
 use Rattle.class_names.specs.declared.class_name.ClassName.{ClassName}
 use Rattle.class_names.specs.Meanings.{CompilationUnit, has}
 use Rattle.acceptance_laws.specs.Cases.{IsLeast}
-use Rattle.acceptance_laws.specs.ClassOrderDeclarations.{Declaration, class_name_of, class_names}
+use Rattle.acceptance_laws.specs.ClassOrderDeclarations.{Declaration, class_name_of, class_names, place_of}
 use Rattle.acceptance_laws.specs.SuperTypes.{SuperTypes, class_named, declared_supers, implied_class, super_class, super_interfaces}
 use Rattle.class_members.proofs.Elements.{contains-first, contains-none, contains-one, gathered-among}
 use Rattle.acceptance_laws.specs.SuperCases.{IsCoreLibrary, core_misplaced, direct_in, is_library_at}
@@ -37,7 +43,7 @@ use Rattle.acceptance_laws.proofs.Owners.{IsTied, tied_at}
 use Rattle.acceptance_laws.proofs.WrittenFacts.{IsMethodIn, methods_in}
 use Rattle.acceptance_laws.specs.Table.{all_methods}
 use Rattle.acceptance_laws.specs.Methods.{IsMethod, IsNamedClass, IsWrittenAs}
-use Rattle.acceptance_laws.specs.ClassDeclarationsMembers.{WrittenMethod, result_of, throws_of}
+use Rattle.acceptance_laws.specs.ClassDeclarationsMembers.{Written, MethodOf, ConstructorOf, ImpliedConstructor, ConstantOf, WrittenMethod, constants_among, implied_constructor, is_constant, kind_of, needs_constructor, result_of, throws_of, written_by, written_by_all, written_in}
 use Rattle.file_condition_laws.proofs.Meanings.{IsOfStub, class_in_stub, type_in_stub}
 
 -- ---- the root of all classes
@@ -100,6 +106,53 @@ implied_is : (p : Program) (interface : Bool) (e : ClassId) → Contains (implie
 implied_is p true e h = contains-one p.core.object e h
 implied_is p false e h = absurd (contains-none e h)
 
+-- ---- constants
+
+-- what is no constant is of another kind
+abbrev is_constant_kind : MethodKind → Bool
+is_constant_kind kinds.Constant = true
+is_constant_kind k = false
+
+abbrev IsOther : Written → Type 0
+IsOther w = is_constant_kind (kind_of w) ≡ false
+
+no_constant : (w : Written) → IsOther w → kind_of w ≡ kinds.Constant → ⊥
+no_constant w other is = true≢false (sym (ap is_constant_kind is) ∙ other)
+
+method_is_other : (m : MethodDecl) → IsOther (MethodOf m)
+method_is_other m = by _
+  where
+    by : (b : Bool) → is_constant_kind (if b then kinds.Static else kinds.Instance) ≡ false
+    by true = refl
+    by false = refl
+
+one_other : (v w : Written) → IsOther v → Contains (v ∷ []) w → kind_of w ≡ kinds.Constant → ⊥
+one_other v w other among = no_constant w (subst IsOther (contains-one v w among) other)
+
+implied_other : (d : Declaration) (w : Written) → Contains (implied_constructor d) w → kind_of w ≡ kinds.Constant → ⊥
+implied_other d w = by (needs_constructor d)
+  where
+    by : (b : Bool) → Contains (if b then ImpliedConstructor (place_of d) ∷ [] else []) w → kind_of w ≡ kinds.Constant → ⊥
+    by true among is = one_other (ImpliedConstructor (place_of d)) w refl among is
+    by false among is = contains-none w among
+
+constant_by : (classes : List ClassName) (d : Declaration) (m : Member) (w : Written) → Contains (written_by classes d m) w → kind_of w ≡ kinds.Constant → d.unit.library ≡ true
+constant_by classes d (members.Method m) w among is = absurd (one_other (MethodOf m) w (method_is_other m) among is)
+constant_by classes d (members.Constructor k) w among is = absurd (one_other (ConstructorOf k) w refl among is)
+constant_by classes d (members.Field f) w among is = by d.unit.library (is_constant classes d f) among
+  where
+    by : (x y : Bool) → Contains (if x && y then constants_among f f.variables.items else []) w → x ≡ true
+    by true y listed = refl
+    by false y listed = absurd (contains-none w listed)
+
+-- a constant is written in a stub
+constant_in_stub : (classes : List ClassName) (d : Declaration) (w : Written) → Contains (written_in classes d) w → kind_of w ≡ kinds.Constant → d.unit.library ≡ true
+constant_in_stub classes d w among is =
+    elim (Contains-append_cases (implied_constructor d) (written_by_all classes d d.class_tree.members.items) w among) [
+      | inl implied_one ↦ absurd (implied_other d w implied_one is)
+      | inr written_one ↦ (let from = gathered-among (written_by classes d) d.class_tree.members.items w written_one in constant_by classes d from.0 w from.2 is)
+    ]
+
 -- ---- the table
 
 module _ (order : List Declaration) (settings : Settings) (p : Program) (built : IsBuilt order settings p) where
@@ -157,6 +210,15 @@ module _ (order : List Declaration) (settings : Settings) (p : Program) (built :
       let w : WrittenMethod = tied.part in
       let there : is_library p w.class' ≡ true = sym (ap (is_library p) tied.tied.class') ∙ library in
       record { written = w; stub = stub_declares w.class' w.declaration there tied.holds.declared; is = tied.tied }
+
+  -- a constant is a library's
+  pub constants_of_library : (m : MethodId) (x : Method) → method_at p m ≡ Some x → x.kind ≡ kinds.Constant → is_library p x.class ≡ true
+  constants_of_library m x at constant =
+      let tied : IsTied (IsMethodIn order (class_names order)) (IsMethod (class_names order)) x =
+      tied_at (IsMethodIn order (class_names order)) (IsMethod (class_names order)) (all_methods order) p.methods.items m.0 x (methods_in order) built.table.methods at in
+      let w : WrittenMethod = tied.part in
+      let stub = constant_in_stub (class_names order) w.declaration w.written tied.holds.member (sym tied.tied.kind ∙ constant) in
+      ap (is_library p) tied.tied.class' ∙ in_table w.class' (slice_get order w.class'.0) refl (ap is_library_at tied.holds.declared ∙ stub)
 
   in_library : (c : ClassId) → IsOfStub (class_names order) c → is_library p c ≡ true
   in_library c is = in_table c (slice_get order c.0) refl (declared_there order c is)

@@ -1,8 +1,15 @@
 -- What holds of the library of a table holds of that of the program of files, which has the classes and the heads of methods of its table.
-use Rattle.std.proofs.Common.{◌≡◌, ◌∙◌, ap, refl, sym, subst, true≢false, Bool, true, false, All, Option, Some, None, List, Contains}
+use Rattle.std.proofs.Common.{◌≡◌, ◌∙◌, ap, refl, sym, subst, true≢false, Bool, true, false, ◌||◌, All, Option, Some, None, List, [], ◌∷◌, Contains}
+use Rattle.std.specs.List.{list_any}
 use Rattle.std.proofs.lemmas.List.Elements.{All-weaker}
+use Rattle.rlc_base.specs.declared.code.Code.{Code}
+use Rattle.rlc_base.specs.declared.code.Code.TheVariants as refused
+use Rattle.rlc_base.specs.declared.faults.Refusal.{Refusal}
+use Rattle.rlc_base.specs.declared.place.Pos.{Pos}
+use Rattle.refusal_order.specs.Refusals.{refused_at, where_true}
 use Rattle.program_model.specs.declared.kinds.ClassId.{ClassId}
 use Rattle.program_model.specs.declared.kinds.MethodId.{MethodId}
+use Rattle.program_model.specs.declared.kinds.MethodKind.TheVariants as methods
 use Rattle.program_model.specs.declared.kinds.VType.TheVariants as types
 use Rattle.program_model.specs.declared.program.Class.{Class}
 use Rattle.program_model.specs.declared.program.CoreClasses.{CoreClasses}
@@ -11,10 +18,11 @@ use Rattle.program_model.specs.declared.program.Program.{Program}
 use Rattle.program_model.specs.Hierarchy.{IsHierarchy, IsUnder}
 use Rattle.program_model.specs.Lookups.{class_at, method_at}
 use Rattle.program_model.specs.Overrides.{is_library, is_library_in}
-use Rattle.program_model.specs.SuperTests.{is_under}
+use Rattle.program_model.specs.SuperTests.{classes_above, is_under}
 use Rattle.program_model.proofs.HierarchyLaws.{is_under_law}
 use Rattle.agreement.specs.AcceptedProgramsConditions.{HasWholeLibrary}
-use Rattle.agreement.specs.LibraryClasses.{language_exceptions}
+use Rattle.agreement.specs.LibraryClasses.{HasLightTexts, language_exceptions, makes_alias_text}
+use Rattle.must_call_sets.specs.MustCallSets.{is_heavy_class}
 use Rattle.agreement.proofs.SignedTables.{at_equal, before}
 use Rattle.acceptance_laws.specs.ClassOrderDeclarations.{Declaration}
 use Rattle.acceptance_laws.specs.Passes.{IsBuilt, classes_of}
@@ -22,8 +30,9 @@ use Rattle.acceptance_laws.proofs.StringClass.{string_is_no_exception}
 use Rattle.acceptance_laws.specs.SameTables.{HasSameHead, HaveSameTables, IsSameClass}
 use Rattle.acceptance_laws.proofs.SignedTables.{signed_tables}
 use Rattle.acceptance_laws.specs.Programs.{Input, IsProgram}
+use Rattle.acceptance_laws.specs.TextCases.{has_heavy_texts, text_cases_in}
 use Rattle.acceptance_laws.specs.TypedPrograms.{IsTyped}
-use Rattle.file_condition_laws.proofs.Library.{exceptions_of_library, object_of_library, results_of_library, string_of_library, table_whole, throws_of_library}
+use Rattle.file_condition_laws.proofs.Library.{constants_of_library, exceptions_of_library, object_of_library, results_of_library, string_of_library, table_whole, throws_of_library}
 
 library_class : (o : Option Class) → is_library_in o ≡ true → (k : Class) × (o ≡ Some k)
 library_class None is = absurd (true≢false (sym is))
@@ -59,6 +68,12 @@ same_throws p q same throws m x at library =
     let there = throws m first.0 first.1 (ap (is_library p) first.2.class' ∙ same_library p q same x.class ∙ library) in
     All-weaker (λ c. is_library p c ≡ true) (λ c. is_library q c ≡ true) (λ c is. sym (same_library p q same c) ∙ is) x.sig.throws.items
     (subst (λ (cs : List ClassId). All (λ c. is_library p c ≡ true) cs) first.2.throws there)
+
+same_constants : (p q : Program) → HaveSameTables p q → ((m : MethodId) (x : Method) → method_at p m ≡ Some x → x.kind ≡ methods.Constant → is_library p x.class ≡ true)
+    → (m : MethodId) (x : Method) → method_at q m ≡ Some x → x.kind ≡ methods.Constant → is_library q x.class ≡ true
+same_constants p q same constants m x at constant =
+    let first = before HasSameHead p.methods.items q.methods.items m.0 x same.methods at in
+    sym (same_library p q same x.class) ∙ sym (ap (is_library p) first.2.class') ∙ constants m first.0 first.1 (first.2.kind ∙ constant)
 
 -- ---- the class of strings
 
@@ -102,6 +117,9 @@ module _ (input : Input) (p : Program) (is : IsProgram input p) where
   pub read_throws : (m : MethodId) (x : Method) → method_at p m ≡ Some x → is_library p x.class ≡ true → All (λ c. is_library p c ≡ true) x.sig.throws.items
   read_throws = same_throws table p same (throws_of_library order input.settings table built)
 
+  pub read_constants : (m : MethodId) (x : Method) → method_at p m ≡ Some x → x.kind ≡ methods.Constant → is_library p x.class ≡ true
+  read_constants = same_constants table p same (constants_of_library order input.settings table built)
+
   -- a class that the language names is of the library where it is so in the table
   of_core : (name : CoreClasses → ClassId) → is_library table (name table.core) ≡ true → is_library p (name p.core) ≡ true
   of_core name library = ap (λ (core : CoreClasses). is_library p (name core)) (sym same.core) ∙ sym (same_library table p same (name table.core)) ∙ library
@@ -127,3 +145,24 @@ read_whole input p is =
     same_whole table p typed.built.valid.typed.hierarchy is.well_formed.valid.typed.hierarchy
     (signed_tables table is.typed p is.typed.bodies.items typed.elaborated.table is.annotated.signed)
     (table_whole _ input.settings table typed.built)
+
+-- ---- texts
+
+pub not_refused : (b : Bool) (code : Code) (pos : Pos) → where_true b code pos ≡ [] → b ≡ false
+not_refused true code pos none = absurd (let never : ◌≡◌ {A = List Refusal} (refused_at code pos ∷ []) [] = none in cc)
+not_refused false code pos none = refl
+
+pub neither : (a b : Bool) → (a || b) ≡ false → (a ≡ false) × (b ≡ false)
+neither true b none = absurd (true≢false none)
+neither false b none = (refl, none)
+
+-- objects of class `String` owe no calls, and are no aliases
+pub read_light_texts : (input : Input) (p : Program) → IsProgram input p → HasLightTexts p
+read_light_texts input p is =
+    let k = library_class (class_at p p.core.string) (read_roots input p is).1 in
+    let cases : text_cases_in p (Some k.0) ≡ [] = sym (ap (text_cases_in p) k.1) ∙ is.right.texts in
+    let none = neither (list_any (is_heavy_class p) k.0.above.items) (list_any (makes_alias_text p) p.methods.items) (not_refused (has_heavy_texts p k.0) refused.BadAlias k.0.pos cases) in
+    record {
+      classes = ap (λ (o : Option Class). list_any (is_heavy_class p) (classes_above p.core.string o)) k.1 ∙ none.0;
+      constructors = none.1;
+    }

@@ -9,10 +9,10 @@ mod file_condition;
 mod super_argument;
 mod whole_library;
 
-pub use file_condition::read_program_meets_conditions;
+pub use file_condition::{read_program_keeps_obligations, read_program_meets_conditions};
 pub use super_argument::read_program_passes_no_this;
 pub use whole_library::{
-    read_exceptions_are_library, read_library_gives_its_classes, read_library_throws_its_classes,
-    read_program_has_whole_library, read_roots_are_library, read_string_is_no_exception,
-    table_has_whole_library,
+    read_constants_are_library, read_exceptions_are_library, read_library_gives_its_classes,
+    read_library_throws_its_classes, read_program_has_whole_library, read_roots_are_library,
+    read_string_is_no_exception, read_texts_are_light, table_has_whole_library,
 };

@@ -4,6 +4,7 @@ ghost use Rattle.std.specs.Prelude.{◌≡◌, true, false, Some, List, All};
 ghost use Rattle.java_syntax.specs.declared.settings.Settings.{Settings};
 ghost use Rattle.program_model.specs.declared.kinds.ClassId.{ClassId};
 ghost use Rattle.program_model.specs.declared.kinds.MethodId.{MethodId};
+ghost use Rattle.program_model.specs.declared.kinds.MethodKind.TheVariants as methods;
 ghost use Rattle.program_model.specs.declared.kinds.VType.TheVariants as types;
 ghost use Rattle.program_model.specs.declared.program.Method.{Method};
 ghost use Rattle.program_model.specs.declared.program.Program.{Program};
@@ -11,7 +12,7 @@ ghost use Rattle.program_model.specs.Lookups.{method_at};
 ghost use Rattle.program_model.specs.Overrides.{is_library};
 ghost use Rattle.program_model.specs.SuperTests.{is_under};
 ghost use Rattle.agreement.specs.AcceptedProgramsConditions.{HasWholeLibrary};
-ghost use Rattle.agreement.specs.LibraryClasses.{language_exceptions};
+ghost use Rattle.agreement.specs.LibraryClasses.{HasLightTexts, language_exceptions};
 ghost use Rattle.acceptance_laws.specs.ClassOrderDeclarations.{Declaration};
 ghost use Rattle.acceptance_laws.specs.Passes.{IsBuilt};
 ghost use Rattle.acceptance_laws.specs.Programs.{Input, IsProgram};
@@ -52,4 +53,15 @@ pub fn read_exceptions_are_library()
 /// In the program of files the class of strings is no class of exceptions (JLS 4.3.3, 11.1.1).
 pub fn read_string_is_no_exception()
     ensures { (input : Input) (p : Program) → IsProgram input p → is_under p p.core.string p.core.throwable ≡ false }
+{}
+
+/// In the program of files constants are declared by classes of the library: a static field of a source is a field.
+pub fn read_constants_are_library()
+    ensures { (input : Input) (p : Program) → IsProgram input p → (m : MethodId) (x : Method) → method_at p m ≡ Some x → x.kind ≡ methods.Constant → is_library p x.class ≡ true }
+{}
+
+/// In the program of files the class of strings has no obligation, by itself or from above, and none of its constructors makes an alias of an
+/// argument: the rules on signatures refuse a library that says otherwise.
+pub fn read_texts_are_light()
+    ensures { (input : Input) (p : Program) → IsProgram input p → HasLightTexts p }
 {}

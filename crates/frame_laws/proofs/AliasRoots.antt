@@ -38,7 +38,8 @@ use Rattle.agreement.proofs.LibraryCallLaws.{appended_object_at-object, changed_
 use Rattle.agreement.specs.LibraryCalls.{IsAliasMadeAs, IsAliasOf}
 use Rattle.agreement.specs.HeapAnew.{is_anew}
 use Rattle.agreement.proofs.LibraryCallLaws.{any_library_aliases_are_older_or_made, any_library_links_stay, any_library_objects_go_on, aside_links}
-use Rattle.agreement.specs.PlainForms.{IsPlainAction}
+use Rattle.agreement.specs.PlainForms.{IsAnsweredBy, IsPlainAction}
+use Rattle.frame_laws.proofs.LibraryRuns.{one_alias}
 use Rattle.frame_laws.specs.Steps.{is_super}
 use Rattle.frame_laws.proofs.AliasConducts.{GivesAlias, gives_object, library_gives}
 use Rattle.frame_laws.proofs.CallNames.{object_with_root, operand_is_near}
@@ -194,28 +195,31 @@ plain_super p (actions.Super m d n) e held plain gives = absurd (true≢false (s
 plain_super p a e held plain gives = refl
 
 -- A call of the library gives an object whose root is the object of the fact, where it gives an alias of it. `operands`: the operands that are among
--- the places of the fact have it for their root.
-pub library_alias : (p : Program) (ac : Accept p) (h : HeapContents) (links : HasEarlierLinks h) (arrays : List ArrayObject) (l : Locals) (a : Action) (e : Edge) (held : PlaceSet) (named : MethodId) (signed : Option Method) (d : Conduct) (at count o : ℕ)
-    → IsSmallAction p a → IsPlainAction p a → callee p a ≡ method_at p named → OperandsAreThere h l a
-    → ((choice : Choice) × (d ≡ on_this a (settled p h arrays named choice (position_of None l a))))
+-- the places of the fact have it for their root. The library answers by the signature of the method `m`.
+pub library_alias : (p : Program) (ac : Accept p) (h : HeapContents) (links : HasEarlierLinks h) (arrays : List ArrayObject) (l : Locals) (a : Action) (e : Edge) (held : PlaceSet) (named m : MethodId) (signed : Option Method) (d : Conduct) (at count o : ℕ)
+    → IsSmallAction p a → IsPlainAction p a → callee p a ≡ method_at p named → IsAnsweredBy p named m → OperandsAreThere h l a
+    → ((choice : Choice) × (d ≡ on_this a (settled p h arrays m choice (position_of None l a))))
     → ((x : ClassId) → d ≡ conducts.Throws x → (c : ClassId) × (e ≡ edges.Throws c))
     → ((k : ℕ) → k < 4294967296 → holds_operand a held k ≡ true → root_of h (operand_of l a k) ≡ Some o)
     → gives_alias p a e held ≡ true
-    → root_of (library_heap p l a signed (method_at p named) d at h) (conduct_value count (method_at p named) (positions l a (next_number h) d) (next_number h) d) ≡ Some o
-library_alias p ac h links arrays l a e held named signed d at count o small plain same there by thrown operands gives = go (method_at p named) refl
+    → root_of (library_heap p l a signed (method_at p m) d at h) (conduct_value count (method_at p m) (positions l a (next_number h) d) (next_number h) d) ≡ Some o
+library_alias p ac h links arrays l a e held named m signed d at count o small plain same answers there by thrown operands gives = go (method_at p m) refl
   where
     given : GivesOperand a held (method_at p named) × (e ≡ edges.Go)
     given = gives_operand p a e held (method_at p named) small same gives
 
+    alias : alias_position (method_at p m) ≡ Some given.0.position
+    alias = one_alias p named m answers ∙ given.0.alias
+
     normal : (x : ClassId) → d ≡ conducts.Throws x → ⊥
     normal x is = let never : edges.Go ≡ edges.Throws (thrown x is).0 = sym given.1 ∙ (thrown x is).1 in cc
 
-    of : (m : Method) → method_at p named ≡ Some m → GivesAlias p m d
-    of m named_at =
-        let alias : m.sig.alias ≡ Some given.0.position = ap alias_position (sym named_at) ∙ given.0.alias in
-        subst (GivesAlias p m) (sym by.1) (library_gives p m given.0.position alias (gives_object p ac.well_formed named m named_at given.0.position alias) h arrays named named_at by.0 (position_of None l a) a (plain_super p a e held plain gives))
+    of : (x : Method) → method_at p m ≡ Some x → GivesAlias p x d
+    of x m_at =
+        let its : x.sig.alias ≡ Some given.0.position = ap alias_position (sym m_at) ∙ alias in
+        subst (GivesAlias p x) (sym by.1) (library_gives p x given.0.position its (gives_object p ac.well_formed m x m_at given.0.position its) h arrays m m_at by.0 (position_of None l a) a (plain_super p a e held plain gives))
 
-    go : (x : Option Method) → method_at p named ≡ x
-        → root_of (library_heap p l a signed (method_at p named) d at h) (conduct_value count (method_at p named) (positions l a (next_number h) d) (next_number h) d) ≡ Some o
-    go None named_at = absurd (let never : None ≡ Some given.0.position = ap alias_position (sym named_at) ∙ given.0.alias in cc)
-    go (Some m) named_at = alias_root p l a signed (method_at p named) d at count h links there given.0.position given.0.alias o (operands given.0.position given.0.small given.0.operand) m (of m named_at) normal
+    go : (x : Option Method) → method_at p m ≡ x
+        → root_of (library_heap p l a signed (method_at p m) d at h) (conduct_value count (method_at p m) (positions l a (next_number h) d) (next_number h) d) ≡ Some o
+    go None m_at = absurd (let never : None ≡ Some given.0.position = ap alias_position (sym m_at) ∙ alias in cc)
+    go (Some x) m_at = alias_root p l a signed (method_at p m) d at count h links there given.0.position alias o (operands given.0.position given.0.small given.0.operand) x (of x m_at) normal

@@ -1,5 +1,5 @@
 -- The object that a call makes or gives for its frame is tracked from its birth on.
-use Rattle.std.proofs.Common.{◌≡◌, ℕ, ◌+◌, ◌<◌, ◌≤◌, max, Bool, true, false, not, Option, Some, None, ◌++◌, slice_get, nat_lt, nat_le, refl, sym, ap, ◌∙◌, subst, true≢false, if◌then◌else◌, arith, lt-ltb, le-leb}
+use Rattle.std.proofs.Common.{◌≡◌, inl, inr, ℕ, ◌+◌, ◌<◌, ◌≤◌, max, Bool, true, false, not, Option, Some, None, ◌++◌, slice_get, nat_lt, nat_le, refl, sym, ap, ◌∙◌, subst, true≢false, if◌then◌else◌, arith, lt-ltb, le-leb}
 use Rattle.std.specs.FinSet as set
 use Rattle.std.proofs.lemmas.Cmp.{nat_cmp_total}
 use Rattle.std.specs.Prelude.{MatchBool}
@@ -44,7 +44,7 @@ use Rattle.ledger_moves.specs.Choosing.{frame_steps}
 use Rattle.ledger_moves.specs.LedgerFramesFrames.{frame_after, locals_after, made_place}
 use Rattle.agreement.specs.PlacePlaces.{IsWay, is_local}
 use Rattle.agreement.specs.Agreement.{Stands, Tracks}
-use Rattle.agreement.specs.PlainForms.{HasPlainForms}
+use Rattle.agreement.specs.PlainForms.{HasPlainForms, IsAnsweredBy, LibraryRunsFor}
 use Rattle.fact_laws.specs.Naming.{IsOfItsKind}
 use Rattle.fact_laws.proofs.NamedReached.{names_what_is_there}
 use Rattle.agreement.specs.Fitting.{FitsMethod}
@@ -56,6 +56,7 @@ use Rattle.agreement.specs.LibraryCalls.{IsMadeAs}
 use Rattle.fact_laws.specs.Outcomes.{IsCallRow}
 use Rattle.frame_laws.specs.Steps.{is_super}
 use Rattle.frame_laws.proofs.Carried.{Ready}
+use Rattle.frame_laws.proofs.LibraryRuns.{constructor_itself, named_result, one_owning, result_within}
 use Rattle.fact_laws.proofs.PlaceLaws.{made_value_stands, single_place-alone, single_place-has, single_place-same, single_place-some}
 use Rattle.frame_laws.proofs.Ready.{ready, step_there}
 
@@ -186,15 +187,15 @@ module _ (p : Program) (ac : Accept p) (forms : HasPlainForms p) (h k : HeapCont
         (ap (λ (t : Names). set.is_subset t o.first) made.0.1 ∙ first_is_needed p kinds.New s.pos x.class e x.sig.first fit)
         (bounded_by x made.0.0 made.0.1)
 
-    by_call : (m : MethodId) (d c : ℕ) (form : TargetForm) (x : Method) → s.action ≡ actions.Call m d c form → method_at p m ≡ Some x → x.sig.alias ≡ None
-        → is_constructor_kind x.kind ≡ false → x.sig.owning_result ≡ true → IsMade (Some x) → Tracks p k (frame_after p h fr s w) n y
-    by_call m d c form x is named alias kind owning made =
-        let result : (r : ClassId) × (x.sig.result ≡ Some (types.Obj r)) × (fits p e r ≡ true) = subst (λ (b : Bool). MatchBool b (x.class ≡ e) ((r : ClassId) × (x.sig.result ≡ Some (types.Obj r)) × (fits p e r ≡ true))) kind made.1 in
-        let o = origin_of p kinds.Result s.pos result.0 x.sig.first in
-        result_tracks m d c form x result.0 is edge named alias result.1 owning
-        (ap (λ (z : ClassId). fits p z result.0) made.0.0 ∙ result.2)
-        (ap (λ (t : Names). set.is_subset t o.first) made.0.1 ∙ first_is_needed p kinds.Result s.pos result.0 e x.sig.first result.2)
-        (bounded_by x made.0.0 made.0.1)
+    -- the result of the method `x`, by the signature of `f`, which is that method or runs for it
+    by_call : (m : MethodId) (d c : ℕ) (form : TargetForm) (x f : Method) (r : ClassId) → s.action ≡ actions.Call m d c form → method_at p m ≡ Some x → x.sig.alias ≡ None
+        → x.sig.result ≡ Some (types.Obj r) → x.sig.owning_result ≡ true → fits p e r ≡ true → set.is_subset (first_set p e f.sig.first) (origin_of p kinds.Result s.pos r x.sig.first).first ≡ true
+        → IsMadeAs p s.action (Some f) at (conducts.Fresh e) y → Tracks p k (frame_after p h fr s w) n y
+    by_call m d c form x f r is named alias result owning fit needed made =
+        result_tracks m d c form x r is edge named alias result owning
+        (ap (λ (z : ClassId). fits p z r) made.0 ∙ fit)
+        (ap (λ (t : Names). set.is_subset t (origin_of p kinds.Result s.pos r x.sig.first).first) made.1 ∙ needed)
+        (bounded_by f made.0 made.1)
 
     frame_is_owning : (x : Option Method) → (if owning_in x then owners.Frame at else owners.Library) ≡ owners.Frame j → owning_in x ≡ true
     frame_is_owning x same = go (owning_in x) refl same
@@ -203,31 +204,65 @@ module _ (p : Program) (ac : Accept p) (forms : HasPlainForms p) (h k : HeapCont
         go true is one = is
         go false is one = absurd (let never : owners.Library ≡ owners.Frame j = one in cc)
 
-    -- where the method that the call names has no aliased argument
+    abbrev Gives : Method → Type 0
+    Gives x = (r : ClassId) × (x.sig.result ≡ Some (types.Obj r)) × (fits p e r ≡ true)
+
+    gives : (x : Method) → is_constructor_kind x.kind ≡ false → FitsMethod p (Some x) (conducts.Fresh e) → Gives x
+    gives x kind fit = subst (λ (b : Bool). MatchBool b (x.class ≡ e) (Gives x)) kind fit
+
+    -- What the call makes by the signature of the method `f`, where the method that the call names has no aliased argument.
+    abbrev IsMadeFor : MethodId → MethodId → Type 0
+    IsMadeFor m f = IsAnsweredBy p m f × IsMade (method_at p f)
+
+    by_named : (m : MethodId) (d c : ℕ) (form : TargetForm) (x : Method) → s.action ≡ actions.Call m d c form → method_at p m ≡ Some x → x.sig.alias ≡ None → is_constructor_kind x.kind ≡ false → IsMade (Some x)
+        → Tracks p k (frame_after p h fr s w) n y
+    by_named m d c form x is named alias kind made =
+        let result = gives x kind made.1 in
+        by_call m d c form x x result.0 is named alias result.1
+        (frame_is_owning (Some x) (ap (λ (a : Action). result_owner a (Some x) at) (sym is) ∙ sym made.0.2 ∙ owner))
+        result.2 (first_is_needed p kinds.Result s.pos result.0 e x.sig.first result.2) made.0
+
+    by_other : (m f : MethodId) (d c : ℕ) (form : TargetForm) → s.action ≡ actions.Call m d c form → alias_in (method_at p m) ≡ None → (runs : LibraryRunsFor p m f) → IsMade (method_at p f)
+        → Tracks p k (frame_after p h fr s w) n y
+    by_other m f d c form is alias runs made' =
+        let made : IsMade (Some runs.running) = subst IsMade runs.running_at made' in
+        let result = gives runs.running (runs.fit.makes ∙ ap is_constructor_kind runs.kind) made.1 in
+        let named = named_result p m f runs result.0 result.1 in
+        let owning : runs.running.sig.owning_result ≡ true = frame_is_owning (Some runs.running) (ap (λ (a : Action). result_owner a (Some runs.running) at) (sym is) ∙ sym made.0.2 ∙ owner) in
+        let owned : runs.method.sig.owning_result ≡ true = sym (one_owning p m f runs (types.Obj result.0) result.1) ∙ owning in
+        let fit : fits p e named.0 ≡ true = within_trans (must_of p e) (must_of p result.0) (must_of p named.0) result.2 (result_within p m f runs result.0 named.0 result.1 named.1 owned) in
+        by_call m d c form runs.method runs.running named.0 is runs.named_at (sym (ap alias_in runs.named_at) ∙ alias) named.1 owned fit
+        (within_trans (first_set p e runs.running.sig.first) (must_of p e) (origin_of p kinds.Result s.pos named.0 runs.method.sig.first).first (first_within p e runs.running.sig.first)
+        (ap (λ (o : Option Names). set.is_subset (must_of p e) (origin_of p kinds.Result s.pos named.0 o).first) runs.fit.first ∙ fit))
+        made.0
+
     pub made_tracks : IsCallRow s.action → is_super s.action ≡ false → ((m : MethodId) → called_method s.action ≡ Some m → alias_in (method_at p m) ≡ None)
-        → ((m : MethodId) → called_method s.action ≡ Some m → IsMade (method_at p m)) → Tracks p k (frame_after p h fr s w) n y
-    made_tracks row other alias made = go s.action refl
+        → (f : MethodId) → ((m : MethodId) → called_method s.action ≡ Some m → IsMadeFor m f) → Tracks p k (frame_after p h fr s w) n y
+    made_tracks row other alias f made = go s.action refl
       where
         go : (a : Action) → s.action ≡ a → Tracks p k (frame_after p h fr s w) n y
         go actions.Skip is = absurd (subst IsCallRow is row)
-        go (actions.New m d c) is = by (method_at p m) refl
+        go (actions.New m d c) is = by (method_at p m) refl (made m (ap called_method is))
           where
-            by : (x : Option Method) → method_at p m ≡ x → Tracks p k (frame_after p h fr s w) n y
-            by None named = absurd (subst IsMade named (made m (ap called_method is))).1
-            by (Some x) named =
-                let one = subst IsMade named (made m (ap called_method is)) in
-                by_new m d c x is named (sym (ap alias_in named) ∙ alias m (ap called_method is))
-                (sym (ap constructs named) ∙ subst (IsOfItsKind p) is kind_of)
-                one
-        go (actions.Call m d c form) is = by (method_at p m) refl
+            new : constructs (method_at p m) ≡ true
+            new = subst (IsOfItsKind p) is kind_of
+
+            by : (x : Option Method) → method_at p m ≡ x → IsMadeFor m f → Tracks p k (frame_after p h fr s w) n y
+            by None named one = absurd (true≢false (sym new ∙ ap constructs named))
+            by (Some x) named one =
+                let itself : f ≡ m = constructor_itself p m f one.0 new in
+                by_new m d c x is named (sym (ap alias_in named) ∙ alias m (ap called_method is)) (sym (ap constructs named) ∙ new)
+                (subst IsMade (ap (method_at p) itself ∙ named) one.1)
+        go (actions.Call m d c form) is = by (method_at p m) refl (made m (ap called_method is)).0
           where
-            by : (x : Option Method) → method_at p m ≡ x → Tracks p k (frame_after p h fr s w) n y
-            by None named = absurd (subst IsMade named (made m (ap called_method is))).1
-            by (Some x) named =
-                let one = subst IsMade named (made m (ap called_method is)) in
-                by_call m d c form x is named (sym (ap alias_in named) ∙ alias m (ap called_method is))
-                (sym (ap constructs named) ∙ subst (IsOfItsKind p) is kind_of)
-                (frame_is_owning (Some x) (ap (λ (a : Action). result_owner a (Some x) at) (sym is) ∙ sym one.0.2 ∙ owner))
-                one
+            one : IsMade (method_at p f)
+            one = (made m (ap called_method is)).1
+
+            by : (x : Option Method) → method_at p m ≡ x → IsAnsweredBy p m f → Tracks p k (frame_after p h fr s w) n y
+            by None named (inl itself) = absurd (subst IsMade (ap (method_at p) itself ∙ named) one).1
+            by (Some x) named (inl itself) =
+                by_named m d c form x is named (sym (ap alias_in named) ∙ alias m (ap called_method is)) (sym (ap constructs named) ∙ subst (IsOfItsKind p) is kind_of)
+                (subst IsMade (ap (method_at p) itself ∙ named) one)
+            by x named (inr runs) = by_other m f d c form is (alias m (ap called_method is)) runs one
         go (actions.Super m d c) is = absurd (true≢false (sym (ap is_super is) ∙ other))
         go a is = absurd (subst IsCallRow is row)

@@ -35,8 +35,11 @@ use Rattle.ledger_moves.specs.LedgerFramesFrames.{is_made, locals_after, made_pl
 use Rattle.rlc_base.proofs.SetLaws.{within_trans}
 use Rattle.agreement.specs.Heaps.{GoesOn}
 use Rattle.agreement.specs.PlacePlaces.{HasTarget, IsWay, SetsLocals, has_source, is_local, takes_alias}
-use Rattle.agreement.specs.Agreement.{Awaits, Follows, IsAwaited, Tracks}
+use Rattle.agreement.specs.Agreement.{Awaits, Follows, IsAwaited, TracksAs}
+use Rattle.agreement.specs.Renewing.{fact_as, is_renewed}
+use Rattle.fact_laws.proofs.Needs.{origin_needs_all}
 use Rattle.frame_laws.specs.Steps.{RootsStay}
+use Rattle.frame_laws.proofs.Readings.{read_as, renewed_on}
 use Rattle.fact_laws.proofs.PlaceLaws.{alias_stands, no_other_place_joins, places_come_from_sources, places_stay_in_range, source_is_small, value_comes_from_source}
 
 -- all that the laws on places ask of a step
@@ -118,7 +121,7 @@ module _ (p : Program) (h k : HeapContents) (m : MethodId) (l : Locals) (b : Bod
 -- ---- frames that wait
 
 -- what a variable or a temp holds does not stand in the heap
-local_value : (p : Program) (h k : HeapContents) (m : MethodId) (l : Locals) (q : Place) → is_local q ≡ true → place_value p k m l q ≡ place_value p h m l q
+pub local_value : (p : Program) (h k : HeapContents) (m : MethodId) (l : Locals) (q : Place) → is_local q ≡ true → place_value p k m l q ≡ place_value p h m l q
 local_value p h k m l (places.Var i) local = refl
 local_value p h k m l (places.Temp d) local = refl
 local_value p h k m l places.This local = absurd (true≢false (sym local))
@@ -140,14 +143,17 @@ awaits p h k m l o x y origin f stay goes before = record {
       (was.0, ap (root_of k) (local_value p h k m l q was.0) ∙ stay (place_value p h m l q) was.1);
 }
 
-abbrev pub tracks_on : (p : Program) (h k : HeapContents) (fr : Frame) (o : ℕ) (x y : Object) → RootsStay h k o → GoesOn x y → Tracks p h fr o x → Tracks p k fr o y
-tracks_on p h k fr o x y stay goes t = record {
+-- a frame goes on to track the object; it may come to wait for a call that creates its obligation anew
+abbrev pub tracks_on : (p : Program) (h k : HeapContents) (before after : Bool) (fr : Frame) (o : ℕ) (x y : Object) → (before ≡ true → after ≡ true) → RootsStay h k o → GoesOn x y
+    → TracksAs p h before fr o x → TracksAs p k after fr o y
+tracks_on p h k before after fr o x y more stay goes t = record {
   body = t.body;
   id = t.id;
   origin = t.origin;
   fact = t.fact;
   reached = t.reached;
-  follows = awaits p h k fr.method fr.locals o x y t.origin t.fact stay goes t.follows;
+  follows = read_as p k fr.method fr.locals o y t.origin t.fact (origin_needs_all p t.body t.origin fr.control t.fact t.reached) before after more
+      (awaits p h k fr.method fr.locals o x y t.origin (fact_as before t.fact) stay goes t.follows);
 }
 
 pub still_awaited : (p : Program) (h k : HeapContents) (frs : List Frame) (o : ℕ) (x y : Object) (j : ℕ) → RootsStay h k o → GoesOn x y
@@ -157,5 +163,5 @@ still_awaited p h k (fr ∷ frs) o x y j stay goes before = go (still_awaited p 
   where
     go : (IsAwaited p h frs o x j → IsAwaited p k frs o y j) → (b : Bool)
         → MatchBool b (Awaits p h fr o x) (IsAwaited p h frs o x j) → MatchBool b (Awaits p k fr o y) (IsAwaited p k frs o y j)
-    go further true t = record { tracks = tracks_on p h k fr o x y stay goes t.tracks; stays = t.stays }
+    go further true t = record { tracks = tracks_on p h k (is_renewed p h fr o) (is_renewed p k fr o) fr o x y (renewed_on p h k fr o stay) stay goes t.tracks; stays = t.stays }
     go further false w = further w

@@ -39,7 +39,7 @@ use Rattle.ledger_moves.specs.declared.standing.FirstAction.{FirstAction}
 use Rattle.ledger_moves.specs.Moves.{Move, Inner, Start, Stray, Rest, by_class, by_edge, call, call_of, chosen_of, fits_target, has_body, inner_by, library_as, library_by, library_call, next_move, null_target, operate, program_call, standing, take, take_chosen, take_plain}
 use Rattle.agreement.specs.PlacePlaces.{IsWay}
 use Rattle.agreement.specs.Agreement.{HasMadeClasses, Stands}
-use Rattle.agreement.specs.PlainForms.{HasPlainForms, IsPlainAction, IsPlainCall, IsPlainSignature, MayRun, by_name, may_be_made, run_by}
+use Rattle.agreement.specs.PlainForms.{HasPlainForms, IsAnsweredBy, IsPlainAction, IsPlainCall, LibraryRunsFor, MayRun, by_name, may_be_made, run_by}
 use Rattle.agreement.specs.PlainForms as plain_forms
 use Rattle.agreement.specs.Fitting.{FitsMethod}
 use Rattle.agreement.proofs.Conducts.{made_object_fits}
@@ -191,52 +191,49 @@ module _ (p : Program) (ac : Accept p) (forms : HasPlainForms p) (h : HeapConten
     ends_normally named (conducts.Throws c) f none left = absurd (none c refl)
     ends_normally named d f none left = left
 
-    library_next : (named : MethodId) → may_call s.action ≡ true → IsRow named → IsPlainSignature p (method_at p named) → is_library_method p (method_at p named) ≡ true → (d : Conduct) → FitsMethod p (method_at p named) d → IsNoSuper d
-        → IsChosen named s.action d → IsRan named s.action → (f : Edge) → ((g : Edge) → same_edge f g ≡ true → IsLeft named d g) → (t : Option Step) → by_edge f steps ≡ t → Next (library_by named named d t)
-    library_next named call' row plain lib d fits' other chosen ran f left None is = tt
-    library_next named call' row plain lib d fits' other chosen ran f left (Some t) is =
-        let found = found_in (goes_by f) steps t is in
-        let same = one_call call' t found.0 found.1 in
-        record {
-          index = found.0;
-          here = found.1;
-          same = refl;
-          row = subst (λ (a : Action). (IsCallRow a × (called_method a ≡ Some named)) ⊎ IsConstantRead a) (sym same) row;
-          signature = plain;
-          library = lib;
-          other = λ c fresh. ap is_super same ∙ other c fresh;
-          edge = λ c fresh. subst (λ (k : Conduct). IsLeft named k t.edge) fresh (left t.edge found.2);
-          thrown = λ c throws. subst (λ (k : Conduct). IsLeft named k t.edge) throws (left t.edge found.2);
-          normal = λ none. ends_normally named d t.edge none (left t.edge found.2);
-          fits = fits';
-          ran = subst (IsRan named) (sym same) ran;
-          by = subst (λ (a : Action). IsChosen named a d) (sym same) chosen;
-        }
+    module _ (named m : MethodId) (call' : may_call s.action ≡ true) (answers : IsAnsweredBy p named m) (row : IsRow named) (lib : is_library_method p (method_at p m) ≡ true)
+        (ran : IsRan named s.action) where
+      library_next : (d : Conduct) → FitsMethod p (method_at p m) d → IsNoSuper d → IsChosen m s.action d → (f : Edge) → ((g : Edge) → same_edge f g ≡ true → IsLeft named d g) → (t : Option Step) → by_edge f steps ≡ t
+          → Next (library_by named m d t)
+      library_next d fits' other chosen f left None is = tt
+      library_next d fits' other chosen f left (Some t) is =
+          let found = found_in (goes_by f) steps t is in
+          let same = one_call call' t found.0 found.1 in
+          record {
+            index = found.0;
+            here = found.1;
+            answers = answers;
+            row = subst (λ (a : Action). (IsCallRow a × (called_method a ≡ Some named)) ⊎ IsConstantRead a) (sym same) row;
+            library = lib;
+            other = λ c fresh. ap is_super same ∙ other c fresh;
+            edge = λ c fresh. subst (λ (k : Conduct). IsLeft named k t.edge) fresh (left t.edge found.2);
+            thrown = λ c throws. subst (λ (k : Conduct). IsLeft named k t.edge) throws (left t.edge found.2);
+            normal = λ none. ends_normally named d t.edge none (left t.edge found.2);
+            fits = fits';
+            ran = subst (IsRan named) (sym same) ran;
+            by = subst (λ (a : Action). IsChosen m a d) (sym same) chosen;
+          }
 
-    library_throws : (named : MethodId) → may_call s.action ≡ true → IsRow named → IsPlainSignature p (method_at p named) → is_library_method p (method_at p named) ≡ true → (c : ClassId) → FitsMethod p (method_at p named) (conducts.Throws c)
-        → IsNoSuper (conducts.Throws c) → IsChosen named s.action (conducts.Throws c) → IsRan named s.action → (x : Option ClassId) → leaves_by p (method_at p named) c ≡ x
-        → Next (library_by named named (conducts.Throws c) (by_class x steps))
-    library_throws named call' row plain lib c fits' other chosen ran None is = tt
-    library_throws named call' row plain lib c fits' other chosen ran (Some k) is =
-        library_next named call' row plain lib (conducts.Throws c) fits' other chosen ran (edges.Throws k) (λ g same. (k, is, class_edge (Some k) g same)) _ refl
+      library_throws : (c : ClassId) → FitsMethod p (method_at p m) (conducts.Throws c) → IsNoSuper (conducts.Throws c) → IsChosen m s.action (conducts.Throws c) → (x : Option ClassId) → leaves_by p (method_at p named) c ≡ x
+          → Next (library_by named m (conducts.Throws c) (by_class x steps))
+      library_throws c fits' other chosen None is = tt
+      library_throws c fits' other chosen (Some k) is = library_next (conducts.Throws c) fits' other chosen (edges.Throws k) (λ g same. (k, is, class_edge (Some k) g same)) _ refl
 
-    library_goes : (named : MethodId) → may_call s.action ≡ true → IsRow named → IsPlainSignature p (method_at p named) → is_library_method p (method_at p named) ≡ true → (d : Conduct) → FitsMethod p (method_at p named) d → IsNoSuper d
-        → IsChosen named s.action d → IsRan named s.action → Next (library_as p steps s.pos named named d)
-    unfolding library_as
-    library_goes named call' row plain lib (conducts.Throws c) fits' other chosen ran = go (is_stray_from p (method_at p named) c)
-      where
-        go : (b : Bool) → Next (if b then Stray c s.pos else library_by named named (conducts.Throws c) (by_class (leaves_by p (method_at p named) c) steps))
-        go true = tt
-        go false = library_throws named call' row plain lib c fits' other chosen ran (leaves_by p (method_at p named) c) refl
-    library_goes named call' row plain lib d fits' other chosen ran = library_next named call' row plain lib d fits' other chosen ran edges.Go (λ g same. go_edge g same) _ refl
+      library_goes : (d : Conduct) → FitsMethod p (method_at p m) d → IsNoSuper d → IsChosen m s.action d → Next (library_as p steps s.pos named m d)
+      unfolding library_as
+      library_goes (conducts.Throws c) fits' other chosen = go (is_stray_from p (method_at p named) c)
+        where
+          go : (b : Bool) → Next (if b then Stray c s.pos else library_by named m (conducts.Throws c) (by_class (leaves_by p (method_at p named) c) steps))
+          go true = tt
+          go false = library_throws c fits' other chosen (leaves_by p (method_at p named) c) refl
+      library_goes d fits' other chosen = library_next d fits' other chosen edges.Go (λ g same. go_edge g same) _ refl
 
-    library_called : (named : MethodId) → may_call s.action ≡ true → IsRow named → IsPlainSignature p (method_at p named) → is_library_method p (method_at p named) ≡ true → IsRan named s.action
-        → Next (library_call p h arrays choice fr.locals steps s.action s.pos named named)
-    unfolding library_call
-    library_called named call' row plain lib ran = library_goes named call' row plain lib (on_this s.action (settled p h arrays named choice (position_of None fr.locals s.action)))
-        (made_object_fits p h arrays named choice (position_of None fr.locals s.action) s.action)
-        (λ c fresh. fresh_is_other s.action (settled p h arrays named choice (position_of None fr.locals s.action)) c fresh)
-        (choice, refl) ran
+      library_called : Next (library_call p h arrays choice fr.locals steps s.action s.pos named m)
+      unfolding library_call
+      library_called = library_goes (on_this s.action (settled p h arrays m choice (position_of None fr.locals s.action)))
+          (made_object_fits p h arrays m choice (position_of None fr.locals s.action) s.action)
+          (λ c fresh. fresh_is_other s.action (settled p h arrays m choice (position_of None fr.locals s.action)) c fresh)
+          (choice, refl)
 
     -- the method that runs may run at a call that names the other
     may_by_class : (m : MethodId) (c : Option ClassId) → ((k : ClassId) → c ≡ Some k → may_be_made p k ≡ true) → MayRun p m (overriding_by p m c)
@@ -350,8 +347,17 @@ module _ (p : Program) (ac : Accept p) (forms : HasPlainForms p) (h : HeapConten
       where
         go : (b : Bool) → is_library_method p (method_at p runs) ≡ b
             → Next (if b then library_call p h arrays choice fr.locals steps s.action s.pos named (library_method p named runs) else program_call p s.action s.pos named runs)
-        go true lib = rw (form'.library runs may lib) (library_called named (call_may s.action row) (inl (row, is)) form'.signature (form'.library runs may lib)
-            (λ called. (ap (λ (k : MethodId). is_library_method p (method_at p k)) (sym selected) ∙ lib, fits', made (operand_of fr.locals s.action 0))))
+        go true lib = by (is_library_method p (method_at p named)) refl
+          where
+            ran : IsRan named s.action
+            ran called = (ap (λ (k : MethodId). is_library_method p (method_at p k)) (sym selected) ∙ lib, fits', made (operand_of fr.locals s.action 0))
+
+            its : is_library_method p (method_at p named) ≡ false → LibraryRunsFor p named runs
+            its declared = elim (form'.library runs may lib) [ inl same ↦ absurd (true≢false (sym same ∙ declared)) | inr other ↦ other ]
+
+            by : (b : Bool) → is_library_method p (method_at p named) ≡ b → Next (library_call p h arrays choice fr.locals steps s.action s.pos named (if b then named else runs))
+            by true declared = library_called named named (call_may s.action row) (inl refl) (inl (row, is)) declared ran
+            by false declared = library_called named runs (call_may s.action row) (inr (its declared)) (inl (row, is)) lib ran
         go false other = started named runs s.pos row is there' fits' selected may form' other
 
     call_of_goes : (named : MethodId) → IsCallRow s.action → called_method s.action ≡ Some named → has_null_target fr.locals s.action ≡ false
@@ -376,7 +382,7 @@ module _ (p : Program) (ac : Accept p) (forms : HasPlainForms p) (h : HeapConten
     constant_goes q (plain.Default t) is = inner_by_row None (sym (ap (thrown_by_operation p h arrays fr.locals) is)) (subst IsPlainRow (sym is) tt)
     constant_goes q (plain.StaticField f) is = inner_by_row None (sym (ap (thrown_by_operation p h arrays fr.locals) is)) (subst IsPlainRow (sym is) tt)
     constant_goes q (plain.LibraryConstant m) is =
-        library_called m (ap may_call is) (inr (subst IsConstantRead (sym is) tt)) (subst (IsPlainAction p) is form).0 (subst (IsPlainAction p) is form).1
+        library_called m m (ap may_call is) (inl refl) (inr (subst IsConstantRead (sym is) tt)) (subst (IsPlainAction p) is form).0
         (λ called. absurd (let never : ◌≡◌ {A = Option MethodId} None (Some m) = ap called_method (sym is) ∙ called in cc))
 
     other_goes : IsPlainRow s.action → Next (Inner e s)

@@ -19,15 +19,16 @@ use Rattle.ledger_steps.specs.Effects.{left}
 use Rattle.ledger_state.specs.Leaks.{is_leak}
 use Rattle.agreement.specs.Heaps.{HasEarlierLinks}
 use Rattle.agreement.specs.Chains.{HaveEnds}
-use Rattle.agreement.specs.Agreement.{Agrees, AllStand, Awaits, HasMadeClasses, IsAwaited, IsStacked, IsTracked, Tracks, is_answering}
+use Rattle.agreement.specs.Agreement.{Agrees, AllStand, Awaits, HasMadeClasses, IsAwaited, IsStacked, IsTracked, Tracks, TracksAs, is_answering}
+use Rattle.agreement.specs.Renewing.{fact_as, is_renewed}
 use Rattle.agreement.proofs.LibraryCallLaws.{nothing_is_lost, step_leaks_nothing-lines}
 use Rattle.fact_laws.proofs.PlaceLaws.{held_place_counts, some_place_is_held}
 
 -- a frame holds what it tracks
-tracks_held : (p : Program) (h : HeapContents) (fr : Frame) (o : ℕ) (x : Object) → Tracks p h fr o x → holds h (held fr.locals) o ≡ true
-tracks_held p h fr o x t =
+tracks_held : (p : Program) (h : HeapContents) (anew : Bool) (fr : Frame) (o : ℕ) (x : Object) → TracksAs p h anew fr o x → holds h (held fr.locals) o ≡ true
+tracks_held p h anew fr o x t =
     let f = t.follows in
-    let q = some_place_is_held t.fact.places f.alone f.some in
+    let q = some_place_is_held (fact_as anew t.fact).places f.alone f.some in
     let is = f.places q.0 q.1 q.2 in
     held_place_counts p h fr.method fr.locals q.0 o is.0 is.1
 
@@ -60,7 +61,7 @@ awaited_held p h (fr ∷ frs) o x j t = go (awaited_held p h frs o x j) (nat_eq 
   where
     go : (IsAwaited p h frs o x j → holds h (held_at (held_by frs) j) o ≡ true) → (b : Bool) → nat_eq (length frs + 1) j ≡ b
         → MatchBool b (Awaits p h fr o x) (IsAwaited p h frs o x j) → holds h (held_at (held_by (fr ∷ frs)) j) o ≡ true
-    go further true at w = top_held p h fr frs o j at (tracks_held p h fr o x w.tracks)
+    go further true at w = top_held p h fr frs o j at (tracks_held p h (is_renewed p h fr o) fr o x w.tracks)
     go further false at w = rest_held p h fr frs o j at (further w)
 
 pub tracked_held : (p : Program) (h : HeapContents) (frs : List Frame) (o : ℕ) (x : Object) (j : ℕ) → IsTracked p h frs o x j → holds h (held_at (held_by frs) j) o ≡ true
@@ -68,7 +69,7 @@ tracked_held p h [] o x j t = absurd t
 tracked_held p h (fr ∷ frs) o x j t = go (nat_eq (length frs + 1) j) refl t
   where
     go : (b : Bool) → nat_eq (length frs + 1) j ≡ b → MatchBool b (Tracks p h fr o x) (IsAwaited p h frs o x j) → holds h (held_at (held_by (fr ∷ frs)) j) o ≡ true
-    go true at w = top_held p h fr frs o j at (tracks_held p h fr o x w)
+    go true at w = top_held p h fr frs o j at (tracks_held p h false fr o x w)
     go false at w = rest_held p h fr frs o j at (awaited_held p h frs o x j w)
 
 owner_holds_it : (p : Program) (h : HeapContents) (frs : List Frame) (o : ℕ) (x : Object) (w : Owner)

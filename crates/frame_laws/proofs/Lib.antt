@@ -2,6 +2,7 @@ pub mod TargetValues
 pub mod TargetBegun
 pub mod Moved
 pub mod TargetLaws
+pub mod Readings
 pub mod Carried
 pub mod Following
 pub mod Ready
@@ -10,6 +11,7 @@ pub mod SignedPromises
 pub mod CallNames
 pub mod Moving
 pub mod Tracking
+pub mod LibraryRuns
 pub mod Births
 pub mod Landing
 pub mod Stacks

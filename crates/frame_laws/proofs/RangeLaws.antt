@@ -1,5 +1,5 @@
 -- Each step of a run leaves all that is held in range.
-use Rattle.std.proofs.Common.{◌≡◌, ℕ, inl, inr, Some, None, List, [], ◌∷◌, All, length, refl, sym, ap, ◌∙◌, subst}
+use Rattle.std.proofs.Common.{◌≡◌, ℕ, inl, inr, true, Some, None, List, [], ◌∷◌, All, length, refl, sym, ap, ◌∙◌, subst}
 use Rattle.std.proofs.lemmas.List.Elements.{All-head, All-nil, All-cons, All-tail}
 use Rattle.program_model.specs.declared.kinds.ClassId.{ClassId}
 use Rattle.program_model.specs.declared.kinds.ElementType.TheVariants as elements
@@ -50,6 +50,7 @@ use Rattle.agreement.specs.Ranges.{AreInRange, IsInRange, IsStoredInRange, Local
 use Rattle.frame_laws.proofs.Configs.{FramesIn, began_in_range, library_in_range, main_in_range, returned_in_range, within_in_range}
 use Rattle.frame_laws.proofs.RangeGiven.{argument_in_range, existing_there, given_in_range, no_argument}
 use Rattle.frame_laws.proofs.Growth.{IsMadeIn}
+use Rattle.frame_laws.proofs.LibraryRuns.{constructor_itself}
 use Rattle.frame_laws.proofs.RangeValues.{begun_in_range, nothing_in_range}
 
 -- a call that gives an argument makes no object
@@ -71,7 +72,8 @@ makes_none p h arrays l steps named m d s next kind is n = go s.action refl kind
     go : (a : Action) → s.action ≡ a → IsOfItsKind p a → made_by_new a n d ≡ None
     go actions.Skip it kind = refl
     go (actions.New k e i) it kind =
-        absurd (no_argument p h arrays named next.by.0 (position_of None l s.action) s.action (ap (λ (z : MethodId). constructs (method_at p z)) (sym (same_named k (ap called_method it))) ∙ kind) (sym next.by.1 ∙ is))
+        let new : constructs (method_at p named) ≡ true = ap (λ (z : MethodId). constructs (method_at p z)) (sym (same_named k (ap called_method it))) ∙ kind in
+        absurd (no_argument p h arrays m next.by.0 (position_of None l s.action) s.action (ap (λ (z : MethodId). constructs (method_at p z)) (constructor_itself p named m next.answers new) ∙ new) (sym next.by.1 ∙ is))
     go a it kind = refl
 
 thrown_made : (h k : HeapContents) (d : Conduct) (e : ClassId) → IsMadeIn h k d → d ≡ conducts.Throws e → next_number h < next_number k
@@ -90,7 +92,7 @@ module _ (p : Program) (ac : Accept p) (forms : HasPlainForms p) (c d : Config) 
       given_in_range k (length (arguments_shared c.arrays fr.locals s.action (method_at p named))) (method_at p m) (positions fr.locals s.action (next_number c.heap) x) (next_number c.heap)
       x
       (λ e is. (omega arith, thrown_made c.heap k x e made is)) (λ e is. (omega arith, fresh_made c.heap k x e made is))
-      (λ j is. (let number = existing_there p c.heap c.arrays named next.by.0 (position_of None fr.locals s.action) s.action j (sym next.by.1 ∙ is) in (number.0, (let below = number.1 in omega (arith, below, more)))))
+      (λ j is. (let number = existing_there p c.heap c.arrays m next.by.0 (position_of None fr.locals s.action) s.action j (sym next.by.1 ∙ is) in (number.0, (let below = number.1 in omega (arith, below, more)))))
       (λ is. argument_in_range c.heap k more fr.locals top s.action (next_number c.heap) x (makes_none p c.heap c.arrays fr.locals (frame_steps p fr) named m x s next kind is (next_number c.heap)) (method_at p m))
     where
       kind : IsOfItsKind p s.action

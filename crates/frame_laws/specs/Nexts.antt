@@ -28,7 +28,7 @@ use Rattle.ledger_steps.specs.Conducts.{on_this, settled}
 use Rattle.ledger_moves.specs.Choosing.{agrees_with}
 use Rattle.ledger_moves.specs.Moves.{Move, Inner, Start, Library, End, Stray, Rest, Return, Back, StrayBack, NoWay, fits_target, has_body}
 use Rattle.agreement.specs.PlacePlaces.{IsWay}
-use Rattle.agreement.specs.PlainForms.{IsPlainCall, IsPlainSignature, MayRun, RunsFor, may_be_made}
+use Rattle.agreement.specs.PlainForms.{IsAnsweredBy, IsPlainCall, MayRun, RunsFor, may_be_made}
 use Rattle.agreement.specs.Fitting.{FitsMethod}
 use Rattle.fact_laws.specs.Outcomes.{IsCallRow, IsPlainRow}
 use Rattle.frame_laws.specs.Steps.{IsTrueTest, is_super}
@@ -68,23 +68,23 @@ abbrev pub IsConstantRead : Action → Type 0
 IsConstantRead (actions.Plain q (plain.LibraryConstant m)) = Unit {0}
 IsConstantRead a = ⊥
 
--- a call of the library, or a read of its constant: it does what the conduct says, which a choice gave
+-- A call of the library, or a read of its constant: it does what the conduct says, which a choice gave, by the signature of this method, which is the named
+-- one, or runs for it.
 pub record IsLibraryMove (p : Program) (h : HeapContents) (arrays : List ArrayObject) (l : Locals) (steps : List Step) (named m : MethodId) (d : Conduct) (s : Step) : Type 0 where
   pub index : ℕ
   pub here : slice_get steps index ≡ Some s
-  pub same : m ≡ named
+  pub answers : IsAnsweredBy p named m
   pub row : (IsCallRow s.action × (called_method s.action ≡ Some named)) ⊎ IsConstantRead s.action
-  pub signature : IsPlainSignature p (method_at p named)
-  pub library : is_library_method p (method_at p named) ≡ true
+  pub library : is_library_method p (method_at p m) ≡ true
   pub other : (e : ClassId) → d ≡ conducts.Fresh e → is_super s.action ≡ false
   pub edge : (e : ClassId) → d ≡ conducts.Fresh e → s.edge ≡ edges.Go
   pub thrown : (e : ClassId) → d ≡ conducts.Throws e → (c : ClassId) × (leaves_by p (method_at p named) e ≡ Some c) × (s.edge ≡ edges.Throws c)
   pub normal : ((e : ClassId) → d ≡ conducts.Throws e → ⊥) → s.edge ≡ edges.Go
-  pub fits : FitsMethod p (method_at p named) d
+  pub fits : FitsMethod p (method_at p m) d
   pub ran : called_method s.action ≡ Some named → (is_library_method p (method_at p (running p h l s.action named)) ≡ true)
       × (fits_target p h arrays (method_at p named) (form_of s.action) (operand_of l s.action 0) ≡ true)
       × ((c : ClassId) → runtime_class p h (operand_of l s.action 0) ≡ Some c → may_be_made p c ≡ true)
-  pub by : (choice : Choice) × (d ≡ on_this s.action (settled p h arrays named choice (position_of None l s.action)))
+  pub by : (choice : Choice) × (d ≡ on_this s.action (settled p h arrays m choice (position_of None l s.action)))
 
 -- a call of the program whose target is there
 pub record IsStartMove (p : Program) (h : HeapContents) (arrays : List ArrayObject) (l : Locals) (steps : List Step) (named runs : MethodId) (a : Action) : Type 0 where

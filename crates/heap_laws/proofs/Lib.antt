@@ -26,6 +26,8 @@ pub mod Reached
 pub mod Begun
 pub mod Returned
 pub mod EndLinks
+pub mod ResetHeaps
+pub mod EndResets
 pub mod Conducts
 pub use Rattle.ledger_steps.proofs.Elements
 pub use Rattle.ledger_steps.proofs.Walks

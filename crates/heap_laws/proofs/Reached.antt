@@ -25,7 +25,7 @@ use Rattle.heap_laws.proofs.Links.{called_evolves}
 use Rattle.heap_laws.proofs.Renewed.{called_back, fresh_unfinished}
 
 -- a root that no field owns leads no further
-ends_there : (h : HeapContents) (o : Owner) → is_field_owner o ≡ false → finished_holder h o ≡ None
+pub ends_there : (h : HeapContents) (o : Owner) → is_field_owner o ≡ false → finished_holder h o ≡ None
 ends_there h (owners.Field w f) none = absurd (true≢false none)
 ends_there h (owners.Frame j) none = refl
 ends_there h owners.Library none = refl
@@ -38,11 +38,11 @@ begins : (h : HeapContents) (k s : ℕ) → has_number (reached h (Some k)) s �
     → has_number (if false || not (finished_in (object_at h (root h k))) then [] else reach_on (reached_within (length h.objects) h) (root h k ∷ []) (finished_holder h (owner_in (object_at h (root h k))))) s ≡ true
 begins h k s is = subst (λ (n : ℕ). has_number (reached_within n h [] k) s ≡ true) (let more : length h.objects + 1 ≡ suc (length h.objects) = omega arith in more) is
 
-nothing_open : (h : HeapContents) (k s : ℕ) → finished_in (object_at h (root h k)) ≡ false → has_number (reached h (Some k)) s ≡ true → ⊥
+pub nothing_open : (h : HeapContents) (k s : ℕ) → finished_in (object_at h (root h k)) ≡ false → has_number (reached h (Some k)) s ≡ true → ⊥
 nothing_open h k s unmade is = let never : false ≡ true = rw unmade at (begins h k s is) in true≢false (sym never)
 
 -- where it is finished and no field owns it, the reset reaches it alone
-alone : (h : HeapContents) (k s : ℕ) → finished_in (object_at h (root h k)) ≡ true → finished_holder h (owner_in (object_at h (root h k))) ≡ None
+pub alone : (h : HeapContents) (k s : ℕ) → finished_in (object_at h (root h k)) ≡ true → finished_holder h (owner_in (object_at h (root h k))) ≡ None
     → has_number (reached h (Some k)) s ≡ true → s ≡ root h k
 alone h k s done none is = by_test (nat_eq (root h k) s) refl (let one : (nat_eq (root h k) s || false) ≡ true = rw (done, none) at (begins h k s is) in one)
   where

@@ -65,7 +65,7 @@ reach_finished (suc n) h seen k each s is = go (stops h seen (root h k)) refl (�
     go true at beyond has = each s has
     go false at beyond has = further (finished_holder h (owner_in (object_at h (root h k)))) at beyond has
 
-roots_finished : (h : HeapContents) (k : Option ℕ) (s : ℕ) → has_number (reached h k) s ≡ true → finished_in (object_at h s) ≡ true
+pub roots_finished : (h : HeapContents) (k : Option ℕ) (s : ℕ) → has_number (reached h k) s ≡ true → finished_in (object_at h s) ≡ true
 roots_finished h None s is = absurd (true≢false (sym is))
 roots_finished h (Some k) s is = reach_finished (length h.objects + 1) h [] k (λ u has. absurd (true≢false (sym has))) s is
 
@@ -86,7 +86,7 @@ reset_keeps p h roots n x = go (is_reached h roots n)
     go false = (refl, refl, refl, refl)
 
 -- a change of one object that the reset does not reach
-commutes : (p : Program) (c : HeapContents) (roots : List ℕ) (k : ℕ) (f : Object → Object) (n : ℕ) → is_reached c roots k ≡ false
+pub commutes : (p : Program) (c : HeapContents) (roots : List ℕ) (k : ℕ) (f : Object → Object) (n : ℕ) → is_reached c roots k ≡ false
     → object_at (change_one k f (reset_roots p roots c)) n ≡ option_map (reset_in p c roots n) (object_at (change_one k f c) n)
 commutes p c roots k f n apart =
     changed_object_at-object (only_at k f) (reset_roots p roots c) n

@@ -235,6 +235,21 @@ made_alias p i self a named (Some w) n notes z new is alias = record {
   linked = rw alias (refl, refl, refl);
 }
 
+-- what is made has its number already
+module _ (p : Program) (i : ℕ) (a : Action) (named : Option Method) where
+  self_count : (w alias : Option ℕ) (k : HeapContents) → next_number (self_finished p i named w alias k) ≡ next_number k
+  self_count None alias k = refl
+  self_count (Some n) alias k = changed_count (only_at n (object_finished p i named alias)) k
+
+  new_count : (b : Action) (w alias : Option ℕ) (k : HeapContents) → next_number (finished_by_new p i b named w alias k) ≡ next_number k
+  new_count actions.Skip w alias k = refl
+  new_count (actions.New m d c) w alias k = self_count w alias k
+  new_count b w alias k = refl
+
+  pub birth_count : (e : Option ClassId) (w alias : Option ℕ) (k : HeapContents) → next_number (program_birth p i a named w alias e k) ≡ next_number k
+  birth_count None w alias k = new_count a w alias k
+  birth_count (Some c) w alias k = refl
+
 module _ (p : Program) (i : ℕ) (self : Value) (l : Locals) (a : Action) (named : Option Method) (g : HeapContents) (no_reset : reset_position named ≡ None) where
   abbrev pub AllNotes : HeapContents → ℕ → Object → Object → Type 0
   AllNotes k n x y = noted_object (all_notes p k (receiver_note l a named)) n x ≡ y
@@ -291,22 +306,9 @@ module _ (p : Program) (i : ℕ) (self : Value) (l : Locals) (a : Action) (named
   end_back None n y at = by_action a refl n y at
   end_back (Some c) n y at = inr (inr (noted_back n y at))
 
-  self_count : (w alias : Option ℕ) (k : HeapContents) → next_number (self_finished p i named w alias k) ≡ next_number k
-  self_count None alias k = refl
-  self_count (Some n) alias k = changed_count (only_at n (object_finished p i named alias)) k
-
-  new_count : (b : Action) (w alias : Option ℕ) (k : HeapContents) → next_number (finished_by_new p i b named w alias k) ≡ next_number k
-  new_count actions.Skip w alias k = refl
-  new_count (actions.New m d c) w alias k = self_count w alias k
-  new_count b w alias k = refl
-
-  birth_count : (e : Option ClassId) (w alias : Option ℕ) (k : HeapContents) → next_number (program_birth p i a named w alias e k) ≡ next_number k
-  birth_count None w alias k = new_count a w alias k
-  birth_count (Some c) w alias k = refl
-
   pub end_count : (e : Option ClassId) → next_number (call_ended p i self l a named e g) ≡ next_number g
   end_count e =
-      birth_count e (number_of self) (alias_target (operand_of l a) named) (returned_reset p l a named g)
+      birth_count p i a named e (number_of self) (alias_target (operand_of l a) named) (returned_reset p l a named g)
       ∙ ap next_number reset_nothing ∙ changed_count (noted_object (all_notes p g (receiver_note l a named))) g
 
 -- no line of the call's end is a leak

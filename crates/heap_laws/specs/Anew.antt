@@ -13,6 +13,7 @@ use Rattle.ledger_state.specs.declared.entry.Owner.TheVariants as owners
 use Rattle.ledger_state.specs.declared.locals.Locals.{Locals}
 use Rattle.ledger_state.specs.declared.object.Object.{Object}
 use Rattle.ledger_steps.specs.CallSteps.{library_called, library_roots}
+use Rattle.ledger_steps.specs.Ends.{returned_called, returned_roots}
 use Rattle.ledger_obligations.specs.MustCallSets.{must_of}
 use Rattle.ledger_obligations.specs.Obligations.{finished_in}
 use Rattle.ledger_steps.specs.LedgerCallsCalls.{operand_of, reset_target}
@@ -20,6 +21,10 @@ use Rattle.ledger_steps.specs.LedgerCallsCalls.{operand_of, reset_target}
 -- the call creates the obligation of object `n` anew: the reset reaches its root
 unfoldable pub is_anew : Program → Locals → Action → Option Method → Option Method → Conduct → HeapContents → ℕ → Bool
 is_anew p l a named m d h n = is_reached (library_called p l a named m d h) (library_roots p l a named m d h) n
+
+-- the end of a call of the program's method creates the obligation of object `n` anew, where `h` is the heap when the frame has gone
+unfoldable pub is_anew_at_end : Program → Locals → Action → Option Method → HeapContents → ℕ → Bool
+is_anew_at_end p l a named h n = is_reached (returned_called p l a named h) (returned_roots p l a named h) n
 
 -- the root of the object, where that is finished
 abbrev pub finished_root : HeapContents → Option ℕ → Option ℕ

@@ -20,9 +20,9 @@ pub use Rattle.step_laws.proofs.AssignedSources
 pub use Rattle.step_laws.proofs.CallNames
 pub use Rattle.step_laws.proofs.CallWays
 pub use Rattle.step_laws.proofs.ConstructorReached
-pub use Rattle.step_laws.proofs.ExceptionItems
-pub use Rattle.step_laws.proofs.ExceptionTypes
-pub use Rattle.step_laws.proofs.ExceptionWays
+pub use Rattle.step_laws.proofs.ClassItems
+pub use Rattle.step_laws.proofs.ClassTypes
+pub use Rattle.step_laws.proofs.ClassWays
 pub use Rattle.step_laws.proofs.NamedReached
 pub use Rattle.step_laws.proofs.Orders
 pub use Rattle.step_laws.proofs.Origins

@@ -15,14 +15,14 @@ use Rattle.java_control.specs.declared.action.Scope.TheVariants as scopes
 use Rattle.java_control.specs.declared.place.Place.{Place}
 use Rattle.java_control.specs.declared.place.Place.TheVariants as places
 use Rattle.java_control.specs.Calls.{completion_temp, is_reset_of_this}
-use Rattle.java_control.specs.PlaceNumbers.{IsSmall}
-use Rattle.java_control.specs.Sources.{is_null_pointer, is_place, is_temp_among}
+use Rattle.java_control.specs.PlaceNumbers.{IsSmall, number_of}
+use Rattle.java_control.specs.Sources.{is_null_pointer, is_part, is_place, is_temp_among}
 use Rattle.step_laws.specs.Facts.{PlaceSet, has, has_temp, with_place, without, without_parts, without_scope, without_temps}
 use Rattle.step_laws.specs.SmallActions.{IsSmallAction, IsSmallScope}
 use Rattle.step_laws.specs.Aliases.{called_places, gives_alias, without_operands, without_reset}
 use Rattle.step_laws.specs.PlaceRows.{below, cast, copied, dropped, places_after, stored}
 use Rattle.place_laws.specs.Places.{SetsLocals, is_local}
-use Rattle.place_laws.proofs.SetLaws.{has_copied, has_temps, has_with, has_without, variable_aside}
+use Rattle.place_laws.proofs.SetLaws.{has_copied, has_temps, has_with, has_without, parts_apart, parts_within, variable_aside}
 
 -- what is no variable and no temp
 module _ (q : Place) (small : IsSmall q) (other : is_local q ≡ false) where
@@ -120,9 +120,13 @@ module _ (q : Place) (small : IsSmall q) (other : is_local q ≡ false) where
   raised_aside held d true fits = without_temp held d fits
   raised_aside held d false fits = refl
 
-  reset_aside : (held : PlaceSet) (b : Bool) → b ≡ false → has (if b then without_parts held else held) q ≡ has held q
-  reset_aside held true none = absurd (true≢false none)
+  reset_aside : (held : PlaceSet) (b : Bool) → (b ≡ true → is_part q ≡ false) → has (if b then without_parts held else held) q ≡ has held q
+  reset_aside held true none = parts_apart held q (none refl) small
   reset_aside held false none = refl
+
+  reset_left : (held : PlaceSet) (b : Bool) → has (if b then without_parts held else held) q ≡ true → has held q ≡ true
+  reset_left held true is = parts_within held (number_of q) is
+  reset_left held false is = is
 
   module _ (p : Program) (b : BodyId) (e : Edge) (held : PlaceSet) where
     called_aside : (a : Action) (d : ℕ) → d < 64 → has (called_places p a d e held) q ≡ has (without_operands a (without_reset p a held)) q
@@ -132,9 +136,9 @@ module _ (q : Place) (small : IsSmall q) (other : is_local q ≡ false) where
         go true = with_temp (without_operands a (without_reset p a held)) d fits
         go false = refl
 
-    -- a place that is neither a variable nor a temp stays, where the step empties none but these
+    -- a place that is neither a variable nor a temp stays, where the step empties none but these; what creates the obligation of `this` anew empties its parts
     pub stays_aside : (a : Action) → IsSmallAction p a → SetsLocals a → ((x y : Place) → a ≡ actions.Move x y → is_local y ≡ true) → ((x : Place) (v : PlainValue) → a ≡ actions.Plain x v → is_local x ≡ true)
-        → is_reset_of_this p a ≡ false → has (places_after p b a e held) q ≡ has held q
+        → (is_reset_of_this p a ≡ true → is_part q ≡ false) → has (places_after p b a e held) q ≡ has held q
     stays_aside actions.Skip fits sets moves makes resets = refl
     stays_aside (actions.Copy x y) fits sets moves makes resets = copied_aside held x y fits.0 (no_local x sets)
     stays_aside (actions.Move x y) fits sets moves makes resets =
@@ -158,3 +162,13 @@ module _ (q : Place) (small : IsSmall q) (other : is_local q ≡ false) where
         called_aside (actions.Super m d n) d fits.0 ∙ without_temp (without_temps held d n) d fits.0 ∙ without_all held d n fits.1
     stays_aside (actions.Raise d c) fits sets moves makes resets = raised_aside held d (is_null_pointer p e) fits
     stays_aside (actions.End c) fits sets moves makes resets = refl
+
+    -- so it was there before the step, if it is there after it
+    pub left_aside : (a : Action) → IsSmallAction p a → SetsLocals a → ((x y : Place) → a ≡ actions.Move x y → is_local y ≡ true) → ((x : Place) (v : PlainValue) → a ≡ actions.Plain x v → is_local x ≡ true)
+        → has (places_after p b a e held) q ≡ true → has held q ≡ true
+    left_aside actions.Skip fits sets moves makes is = is
+    left_aside (actions.Call m d n form) fits sets moves makes is =
+        reset_left held (is_reset_of_this p (actions.Call m d n form)) (
+        sym (called_aside (actions.Call m d n form) d fits.0 ∙ without_temp (without_temps (without_reset p (actions.Call m d n form) held) d n) d fits.0
+        ∙ without_all (without_reset p (actions.Call m d n form) held) d n fits.1) ∙ is)
+    left_aside a fits sets moves makes is = sym (stays_aside a fits sets moves makes (λ reset. absurd (true≢false (sym reset)))) ∙ is

@@ -11,7 +11,7 @@ use Rattle.java_control.specs.declared.place.Place.{Place}
 use Rattle.java_control.specs.declared.place.Place.TheVariants as places
 use Rattle.java_control.specs.PlaceNumbers.{IsSmall, number_of}
 use Rattle.java_control.specs.Scopes.{drops_variable}
-use Rattle.java_control.specs.Sources.{is_place, is_temp_among}
+use Rattle.java_control.specs.Sources.{is_part, is_place, is_temp_among}
 use Rattle.step_laws.specs.Facts.{PlaceSet, has, with_place, without, without_fields, without_fields_from, without_parts, without_temps, without_variables}
 use Rattle.step_laws.specs.PlaceRows.{copied}
 use Rattle.place_laws.specs.Places.{HasPlacesAlone, is_local}
@@ -135,31 +135,42 @@ has_variables b s held i (suc n) j fits small =
 
 -- ---- the parts of `this`
 
--- a variable or a temp is no part
-local_is_no_field : (q : Place) (k : ℕ) → is_local q ≡ true → is_place (places.Field k) q ≡ false
-local_is_no_field (places.Var i) k local = refl
-local_is_no_field (places.Temp d) k local = refl
-local_is_no_field places.This k local = refl
-local_is_no_field (places.Field j) k local = absurd (true≢false (sym local))
-local_is_no_field places.Super k local = refl
+-- what is no part is no field, and not the super class's part
+other_is_no_field : (q : Place) (k : ℕ) → is_part q ≡ false → is_place (places.Field k) q ≡ false
+other_is_no_field (places.Var i) k other = refl
+other_is_no_field (places.Temp d) k other = refl
+other_is_no_field places.This k other = refl
+other_is_no_field (places.Field j) k other = absurd (true≢false other)
+other_is_no_field places.Super k other = refl
 
-local_is_no_super : (q : Place) → is_local q ≡ true → is_place places.Super q ≡ false
-local_is_no_super (places.Var i) local = refl
-local_is_no_super (places.Temp d) local = refl
-local_is_no_super places.This local = refl
-local_is_no_super (places.Field j) local = refl
-local_is_no_super places.Super local = absurd (true≢false (sym local))
+other_is_no_super : (q : Place) → is_part q ≡ false → is_place places.Super q ≡ false
+other_is_no_super (places.Var i) other = refl
+other_is_no_super (places.Temp d) other = refl
+other_is_no_super places.This other = refl
+other_is_no_super (places.Field j) other = refl
+other_is_no_super places.Super other = absurd (true≢false other)
 
-fields_aside : (q : Place) → is_local q ≡ true → IsSmall q → (held : PlaceSet) (k n : ℕ) → k + n ≤ 16 → has (without_fields_from held k n) q ≡ has held q
+fields_aside : (q : Place) → is_part q ≡ false → IsSmall q → (held : PlaceSet) (k n : ℕ) → k + n ≤ 16 → has (without_fields_from held k n) q ≡ has held q
 unfolding without_fields_from
-fields_aside q local small held k zero fits = refl
-fields_aside q local small held k (suc n) fits =
-    fields_aside q local small (without held (places.Field k)) (k + 1) n (omega (arith, fits))
-    ∙ has_without held (places.Field k) q (omega (arith, fits)) small ∙ ap (λ b. not b && has held q) (local_is_no_field q k local)
+fields_aside q other small held k zero fits = refl
+fields_aside q other small held k (suc n) fits =
+    fields_aside q other small (without held (places.Field k)) (k + 1) n (omega (arith, fits))
+    ∙ has_without held (places.Field k) q (omega (arith, fits)) small ∙ ap (λ b. not b && has held q) (other_is_no_field q k other)
+
+pub parts_apart : (held : PlaceSet) (q : Place) → is_part q ≡ false → IsSmall q → has (without_parts held) q ≡ has held q
+parts_apart held q other small =
+    has_without (without_fields held) places.Super q tt small ∙ ap (λ b. not b && has (without_fields held) q) (other_is_no_super q other) ∙ fields_aside q other small held 0 16 (omega arith)
+
+-- a variable or a temp is none
+local_is_no_part : (q : Place) → is_local q ≡ true → is_part q ≡ false
+local_is_no_part (places.Var i) local = refl
+local_is_no_part (places.Temp d) local = refl
+local_is_no_part places.This local = absurd (true≢false (sym local))
+local_is_no_part (places.Field j) local = absurd (true≢false (sym local))
+local_is_no_part places.Super local = absurd (true≢false (sym local))
 
 pub parts_aside : (held : PlaceSet) (q : Place) → is_local q ≡ true → IsSmall q → has (without_parts held) q ≡ has held q
-parts_aside held q local small =
-    has_without (without_fields held) places.Super q tt small ∙ ap (λ b. not b && has (without_fields held) q) (local_is_no_super q local) ∙ fields_aside q local small held 0 16 (omega arith)
+parts_aside held q local small = parts_apart held q (local_is_no_part q local) small
 
 -- ---- no more than there were
 

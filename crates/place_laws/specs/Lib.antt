@@ -12,7 +12,7 @@ pub use Rattle.step_laws.specs.Constructors
 pub use Rattle.step_laws.specs.Effective
 pub use Rattle.step_laws.specs.EffectiveSignaturesTargets
 pub use Rattle.step_laws.specs.Ends
-pub use Rattle.step_laws.specs.ExceptionOperands
+pub use Rattle.step_laws.specs.ClassOperands
 pub use Rattle.step_laws.specs.Flow
 pub use Rattle.step_laws.specs.MustSets
 pub use Rattle.step_laws.specs.NameTable

@@ -32,6 +32,9 @@ pub use Rattle.class_table.specs.SuperPass
 pub use Rattle.class_table.specs.SuperTypes
 pub use Rattle.program_elaboration.specs.Surroundings
 pub use Rattle.class_table.specs.Table
+pub use Rattle.signature_rules.specs.TextCases
+pub use Rattle.signature_rules.specs.ResultCases
+pub use Rattle.signature_rules.specs.OwnerCases
 pub use Rattle.program_elaboration.specs.TypedBodies
 pub use Rattle.program_elaboration.specs.TypedStatements
 pub use Rattle.program_elaboration.specs.TypedTrees

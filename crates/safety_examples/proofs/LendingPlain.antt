@@ -6,7 +6,7 @@ use Rattle.java_control.specs.Remaining.{Todo}
 use Rattle.java_control.specs.declared.action.Action.{Action}
 use Rattle.java_control.specs.declared.action.Action.TheVariants as actions
 use Rattle.soundness_laws.specs.Paths.{Comes, Move, relation_of}
-use Rattle.soundness_laws.specs.Plain.{IsPlain, IsPlainStep}
+use Rattle.soundness_laws.specs.Plain.{IsPlain}
 use Rattle.soundness_laws.specs.AgreementConditions.{MeetsFileConditions}
 use Rattle.soundness_laws.proofs.Tests.{meets_by_tests}
 use Rattle.soundness_laws.proofs.CreatingNothing.{creates_plainly}
@@ -14,7 +14,6 @@ use Rattle.safety_examples.proofs.LendingValid.{valid_program}
 use Rattle.safety_examples.specs.LendingControls.{main_controls, shut_controls}
 use Rattle.safety_examples.specs.LendingPrograms.{lending, main_body, shut_body}
 use Rattle.safety_examples.proofs.Tests.{all_of}
-use Rattle.safety_examples.proofs.LendingCalls.{close_plain, resource_plain, shut_plain}
 use Rattle.safety_examples.proofs.LendingReached.{HoldsOfSteps, reached}
 use Rattle.safety_examples.proofs.LendingWalks.{AllActions, acts}
 use Rattle.safety_examples.proofs.CarefulSets.{both_light}
@@ -27,17 +26,17 @@ is_mild (actions.PutOwn f d) = false
 is_mild a = true
 
 abbrev IsMild : Action → Type 0
-IsMild a = IsPlainStep lending a × (is_mild a ≡ true)
+IsMild a = is_mild a ≡ true
 
 mild_shut : All (AllActions shut_body IsMild) shut_controls
 unfolding next_of
 mild_shut = all_of (AllActions shut_body IsMild) shut_controls
-    (acts shut_body shut_controls IsMild 0 ((tt, refl), tt), (acts shut_body shut_controls IsMild 1 ((tt, refl), tt), (acts shut_body shut_controls IsMild 2 ((tt, refl), tt), (acts shut_body shut_controls IsMild 3 ((tt, refl), tt), (acts shut_body shut_controls IsMild 4 ((close_plain, refl), tt), (acts shut_body shut_controls IsMild 5 ((tt, refl), tt), (acts shut_body shut_controls IsMild 6 ((tt, refl), tt), (acts shut_body shut_controls IsMild 7 tt, tt))))))))
+    (acts shut_body shut_controls IsMild 0 (refl, tt), (acts shut_body shut_controls IsMild 1 (refl, tt), (acts shut_body shut_controls IsMild 2 (refl, tt), (acts shut_body shut_controls IsMild 3 (refl, tt), (acts shut_body shut_controls IsMild 4 (refl, tt), (acts shut_body shut_controls IsMild 5 (refl, tt), (acts shut_body shut_controls IsMild 6 (refl, tt), (acts shut_body shut_controls IsMild 7 tt, tt))))))))
 
 mild_main : All (AllActions main_body IsMild) main_controls
 unfolding next_of
 mild_main = all_of (AllActions main_body IsMild) main_controls
-    (acts main_body main_controls IsMild 0 ((tt, refl), tt), (acts main_body main_controls IsMild 1 ((tt, refl), tt), (acts main_body main_controls IsMild 2 ((resource_plain, refl), tt), (acts main_body main_controls IsMild 3 ((tt, refl), tt), (acts main_body main_controls IsMild 4 ((tt, refl), tt), (acts main_body main_controls IsMild 5 ((tt, refl), tt), (acts main_body main_controls IsMild 6 ((tt, refl), tt), (acts main_body main_controls IsMild 7 ((tt, refl), tt), (acts main_body main_controls IsMild 8 ((shut_plain, refl), tt), (acts main_body main_controls IsMild 9 ((tt, refl), tt), (acts main_body main_controls IsMild 10 ((tt, refl), tt), (acts main_body main_controls IsMild 11 tt, tt))))))))))))
+    (acts main_body main_controls IsMild 0 (refl, tt), (acts main_body main_controls IsMild 1 (refl, tt), (acts main_body main_controls IsMild 2 (refl, tt), (acts main_body main_controls IsMild 3 (refl, tt), (acts main_body main_controls IsMild 4 (refl, tt), (acts main_body main_controls IsMild 5 (refl, tt), (acts main_body main_controls IsMild 6 (refl, tt), (acts main_body main_controls IsMild 7 (refl, tt), (acts main_body main_controls IsMild 8 (refl, tt), (acts main_body main_controls IsMild 9 (refl, tt), (acts main_body main_controls IsMild 10 (refl, tt), (acts main_body main_controls IsMild 11 tt, tt))))))))))))
 
 all_mild : HoldsOfSteps IsMild
 all_mild = record { shut = mild_shut; main = mild_main }
@@ -50,12 +49,11 @@ mild_step b k i t comes at = reached IsMild all_mild b.0 k i t comes at
 
 pub lending_plain : IsPlain lending
 lending_plain = record {
-  steps = λ b {k} i t comes at. (mild_step b k i t comes at).0;
-  stores = λ b {k} i t f d comes at is. absurd (true≢false (sym (mild_step b k i t comes at).1 ∙ ap is_mild is));
+  stores = λ b {k} i t f d comes at is. absurd (true≢false (sym (mild_step b k i t comes at) ∙ ap is_mild is));
   creations = creates_plainly lending refl;
-  texts = record { classes = both_light; constructors = refl };
+  updates = refl;
 }
 
 -- it has what every program of files has
 pub lending_files : MeetsFileConditions lending
-lending_files = meets_by_tests lending valid_program.typed.hierarchy refl
+lending_files = meets_by_tests lending valid_program.typed.hierarchy (record { classes = both_light; constructors = refl }) refl

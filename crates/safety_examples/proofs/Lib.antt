@@ -12,7 +12,6 @@ pub mod CarefulFlows
 pub mod CarefulFaults
 pub mod CarefulDeclared
 pub mod CarefulAccepted
-pub mod CarefulCalls
 pub mod CarefulSteps
 pub mod StreamingValid
 pub mod StreamingFormed
@@ -20,7 +19,6 @@ pub mod StreamingDeclared
 pub mod StreamingFlows
 pub mod StreamingFaults
 pub mod StreamingAccepted
-pub mod StreamingCalls
 pub mod StreamingPlain
 pub mod OwnerSets
 pub mod OwnerBodies
@@ -36,7 +34,6 @@ pub mod OwnerClosePaths
 pub mod OwnerMainPaths
 pub mod OwnerReached
 pub mod OwnerAccepted
-pub mod OwnerCalls
 pub mod OwnerPlain
 pub mod LendingBodies
 pub mod LendingValid
@@ -49,7 +46,6 @@ pub mod ShutPaths
 pub mod LendingMainPaths
 pub mod LendingReached
 pub mod LendingAccepted
-pub mod LendingCalls
 pub mod LendingPlain
 pub mod AliasBodies
 pub mod AliasValid
@@ -63,7 +59,6 @@ pub mod AliasMainPaths
 pub mod AliasReached
 pub mod Mild
 pub mod AliasAccepted
-pub mod AliasCalls
 pub mod AliasPlain
 pub mod WrappingBodies
 pub mod WrappingValid
@@ -78,7 +73,6 @@ pub mod WrappingClosePaths
 pub mod WrappingMainPaths
 pub mod WrappingReached
 pub mod WrappingAccepted
-pub mod WrappingCalls
 pub mod WrappingPlain
 pub mod ExtendingSets
 pub mod ExtendingBodies
@@ -95,7 +89,6 @@ pub mod ExtendingClosePaths
 pub mod ExtendingMainPaths
 pub mod ExtendingReached
 pub mod ExtendingAccepted
-pub mod ExtendingCalls
 pub mod ExtendingPlain
 pub mod ResettingBodies
 pub mod ResettingValid
@@ -110,6 +103,17 @@ pub mod ResettingClosePaths
 pub mod ResettingMainPaths
 pub mod ResettingReached
 pub mod ResettingAccepted
-pub mod ResettingCalls
 pub mod ResettingStored
 pub mod ResettingPlain
+pub mod ReopeningBodies
+pub mod ReopeningValid
+pub mod ReopeningFormed
+pub mod ReopeningDeclared
+pub mod ReopenFlows
+pub mod ReopeningMainFlows
+pub mod ReopeningWalks
+pub mod ReopenPaths
+pub mod ReopeningMainPaths
+pub mod ReopeningReached
+pub mod ReopeningAccepted
+pub mod ReopeningPlain

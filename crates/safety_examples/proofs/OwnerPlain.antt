@@ -8,14 +8,13 @@ use Rattle.java_control.specs.declared.action.Action.{Action}
 use Rattle.java_control.specs.declared.action.Action.TheVariants as actions
 use Rattle.soundness_laws.specs.Paths.{Comes, Move, relation_of}
 use Rattle.soundness_laws.proofs.CreatingNothing.{creates_plainly}
-use Rattle.soundness_laws.specs.Plain.{IsPlain, IsPlainStep}
+use Rattle.soundness_laws.specs.Plain.{IsPlain}
 use Rattle.soundness_laws.specs.AgreementConditions.{MeetsFileConditions}
 use Rattle.soundness_laws.proofs.Tests.{meets_by_tests}
 use Rattle.safety_examples.proofs.OwnerValid.{valid_program}
 use Rattle.safety_examples.specs.OwnerControls.{close_controls, constructor_controls, main_controls}
 use Rattle.safety_examples.specs.OwnerPrograms.{close_body, constructor_body, holding, main_body}
 use Rattle.safety_examples.proofs.Tests.{all_of}
-use Rattle.safety_examples.proofs.OwnerCalls.{close_plain, constructor_plain, quietly_plain, resource_plain}
 use Rattle.safety_examples.proofs.OwnerReached.{HoldsOfSteps, reached}
 use Rattle.safety_examples.proofs.OwnerWalks.{AllActions, acts}
 use Rattle.safety_examples.proofs.CarefulSets.{both_light}
@@ -28,22 +27,22 @@ is_mild b (actions.PutOwn f d) = is_constructor holding b
 is_mild b a = true
 
 abbrev IsMild : BodyId → Action → Type 0
-IsMild b a = IsPlainStep holding a × (is_mild b a ≡ true)
+IsMild b a = is_mild b a ≡ true
 
 mild_constructor : All (AllActions constructor_body (IsMild constructor_body)) constructor_controls
 unfolding next_of
 mild_constructor = all_of (AllActions constructor_body (IsMild constructor_body)) constructor_controls
-    (acts constructor_body constructor_controls (IsMild constructor_body) 0 ((tt, refl), tt), (acts constructor_body constructor_controls (IsMild constructor_body) 1 ((tt, refl), tt), (acts constructor_body constructor_controls (IsMild constructor_body) 2 ((tt, refl), tt), (acts constructor_body constructor_controls (IsMild constructor_body) 3 ((tt, refl), tt), (acts constructor_body constructor_controls (IsMild constructor_body) 4 ((tt, refl), tt), (acts constructor_body constructor_controls (IsMild constructor_body) 5 ((tt, refl), tt), (acts constructor_body constructor_controls (IsMild constructor_body) 6 ((tt, refl), tt), (acts constructor_body constructor_controls (IsMild constructor_body) 7 tt, tt))))))))
+    (acts constructor_body constructor_controls (IsMild constructor_body) 0 (refl, tt), (acts constructor_body constructor_controls (IsMild constructor_body) 1 (refl, tt), (acts constructor_body constructor_controls (IsMild constructor_body) 2 (refl, tt), (acts constructor_body constructor_controls (IsMild constructor_body) 3 (refl, tt), (acts constructor_body constructor_controls (IsMild constructor_body) 4 (refl, tt), (acts constructor_body constructor_controls (IsMild constructor_body) 5 (refl, tt), (acts constructor_body constructor_controls (IsMild constructor_body) 6 (refl, tt), (acts constructor_body constructor_controls (IsMild constructor_body) 7 tt, tt))))))))
 
 mild_close : All (AllActions close_body (IsMild close_body)) close_controls
 unfolding next_of
 mild_close = all_of (AllActions close_body (IsMild close_body)) close_controls
-    (acts close_body close_controls (IsMild close_body) 0 ((tt, refl), tt), (acts close_body close_controls (IsMild close_body) 1 ((tt, refl), tt), (acts close_body close_controls (IsMild close_body) 2 ((tt, refl), tt), (acts close_body close_controls (IsMild close_body) 3 ((tt, refl), tt), (acts close_body close_controls (IsMild close_body) 4 ((quietly_plain, refl), tt), (acts close_body close_controls (IsMild close_body) 5 ((tt, refl), tt), (acts close_body close_controls (IsMild close_body) 6 ((tt, refl), tt), (acts close_body close_controls (IsMild close_body) 7 tt, tt))))))))
+    (acts close_body close_controls (IsMild close_body) 0 (refl, tt), (acts close_body close_controls (IsMild close_body) 1 (refl, tt), (acts close_body close_controls (IsMild close_body) 2 (refl, tt), (acts close_body close_controls (IsMild close_body) 3 (refl, tt), (acts close_body close_controls (IsMild close_body) 4 (refl, tt), (acts close_body close_controls (IsMild close_body) 5 (refl, tt), (acts close_body close_controls (IsMild close_body) 6 (refl, tt), (acts close_body close_controls (IsMild close_body) 7 tt, tt))))))))
 
 mild_main : All (AllActions main_body (IsMild main_body)) main_controls
 unfolding next_of
 mild_main = all_of (AllActions main_body (IsMild main_body)) main_controls
-    (acts main_body main_controls (IsMild main_body) 0 ((tt, refl), tt), (acts main_body main_controls (IsMild main_body) 1 ((tt, refl), tt), (acts main_body main_controls (IsMild main_body) 2 ((tt, refl), tt), (acts main_body main_controls (IsMild main_body) 3 ((resource_plain, refl), tt), (acts main_body main_controls (IsMild main_body) 4 ((constructor_plain, refl), tt), (acts main_body main_controls (IsMild main_body) 5 ((tt, refl), tt), (acts main_body main_controls (IsMild main_body) 6 ((tt, refl), tt), (acts main_body main_controls (IsMild main_body) 7 ((tt, refl), tt), (acts main_body main_controls (IsMild main_body) 8 ((tt, refl), tt), (acts main_body main_controls (IsMild main_body) 9 ((tt, refl), tt), (acts main_body main_controls (IsMild main_body) 10 ((close_plain, refl), tt), (acts main_body main_controls (IsMild main_body) 11 ((tt, refl), tt), (acts main_body main_controls (IsMild main_body) 12 ((tt, refl), tt), (acts main_body main_controls (IsMild main_body) 13 tt, tt))))))))))))))
+    (acts main_body main_controls (IsMild main_body) 0 (refl, tt), (acts main_body main_controls (IsMild main_body) 1 (refl, tt), (acts main_body main_controls (IsMild main_body) 2 (refl, tt), (acts main_body main_controls (IsMild main_body) 3 (refl, tt), (acts main_body main_controls (IsMild main_body) 4 (refl, tt), (acts main_body main_controls (IsMild main_body) 5 (refl, tt), (acts main_body main_controls (IsMild main_body) 6 (refl, tt), (acts main_body main_controls (IsMild main_body) 7 (refl, tt), (acts main_body main_controls (IsMild main_body) 8 (refl, tt), (acts main_body main_controls (IsMild main_body) 9 (refl, tt), (acts main_body main_controls (IsMild main_body) 10 (refl, tt), (acts main_body main_controls (IsMild main_body) 11 (refl, tt), (acts main_body main_controls (IsMild main_body) 12 (refl, tt), (acts main_body main_controls (IsMild main_body) 13 tt, tt))))))))))))))
 
 all_mild : HoldsOfSteps IsMild
 all_mild = record { constructor = mild_constructor; close = mild_close; main = mild_main }
@@ -56,12 +55,11 @@ mild_step b k i t comes at = reached IsMild all_mild b.0 k i t comes at
 
 pub holding_plain : IsPlain holding
 holding_plain = record {
-  steps = λ b {k} i t comes at. (mild_step b k i t comes at).0;
-  stores = λ b {k} i t f d comes at is. sym (ap (is_mild b) is) ∙ (mild_step b k i t comes at).1;
+  stores = λ b {k} i t f d comes at is. sym (ap (is_mild b) is) ∙ mild_step b k i t comes at;
   creations = creates_plainly holding refl;
-  texts = record { classes = both_light; constructors = refl };
+  updates = refl;
 }
 
 -- it has what every program of files has
 pub holding_files : MeetsFileConditions holding
-holding_files = meets_by_tests holding valid_program.typed.hierarchy refl
+holding_files = meets_by_tests holding valid_program.typed.hierarchy (record { classes = both_light; constructors = refl }) refl

@@ -8,7 +8,7 @@ use Rattle.java_control.specs.declared.action.Action.{Action}
 use Rattle.java_control.specs.declared.action.Action.TheVariants as actions
 use Rattle.soundness_laws.specs.Paths.{Comes, Move, relation_of}
 use Rattle.soundness_laws.proofs.CreatingNothing.{creates_plainly}
-use Rattle.soundness_laws.specs.Plain.{IsPlain, IsPlainStep}
+use Rattle.soundness_laws.specs.Plain.{IsPlain}
 use Rattle.soundness_laws.specs.AgreementConditions.{MeetsFileConditions}
 use Rattle.soundness_laws.proofs.Tests.{meets_by_tests}
 use Rattle.safety_examples.proofs.StreamingValid.{valid_program}
@@ -18,7 +18,6 @@ use Rattle.safety_examples.proofs.StreamingFaults.{certificate, control, facts, 
 use Rattle.safety_examples.proofs.Certified.{comes_listed}
 use Rattle.safety_examples.proofs.StreamingFlows.{body}
 use Rattle.safety_examples.proofs.Tests.{all_at, all_of}
-use Rattle.safety_examples.proofs.StreamingCalls.{close_plain, constructor_plain, stream_plain}
 use Rattle.safety_examples.proofs.CarefulSets.{both_light}
 
 -- ---- the steps
@@ -28,9 +27,8 @@ abbrev is_mild : Action → Bool
 is_mild (actions.PutOwn f d) = false
 is_mild a = true
 
--- the step is plain and mild
 abbrev IsMild : Action → Type 0
-IsMild a = IsPlainStep streaming a × (is_mild a ≡ true)
+IsMild a = is_mild a ≡ true
 
 abbrev IsMildMove : Move (List Todo) → Type 0
 IsMildMove t = IsMild t.action
@@ -40,7 +38,7 @@ mild_at n each = all_of IsMildMove (relation.next (control n)) each
 
 all_mild : All (λ k. All IsMildMove (relation.next k)) controls
 unfolding next_of
-all_mild = all_of (λ k. All IsMildMove (relation.next k)) controls (mild_at 0 ((tt, refl), tt), (mild_at 1 ((tt, refl), tt), (mild_at 2 ((constructor_plain, refl), tt), (mild_at 3 ((tt, refl), tt), (mild_at 4 ((tt, refl), tt), (mild_at 5 ((tt, refl), tt), (mild_at 6 ((tt, refl), tt), (mild_at 7 ((tt, refl), tt), (mild_at 8 ((stream_plain, refl), tt), (mild_at 9 ((tt, refl), tt), (mild_at 10 ((tt, refl), tt), (mild_at 11 ((tt, refl), tt), (mild_at 12 ((tt, refl), tt), (mild_at 13 ((tt, refl), tt), (mild_at 14 ((close_plain, refl), ((close_plain, refl), tt)), (mild_at 15 ((tt, refl), tt), (mild_at 16 ((tt, refl), tt), (mild_at 17 ((tt, refl), tt), (mild_at 18 ((tt, refl), tt), (mild_at 19 tt, tt))))))))))))))))))))
+all_mild = all_of (λ k. All IsMildMove (relation.next k)) controls (mild_at 0 (refl, tt), (mild_at 1 (refl, tt), (mild_at 2 (refl, tt), (mild_at 3 (refl, tt), (mild_at 4 (refl, tt), (mild_at 5 (refl, tt), (mild_at 6 (refl, tt), (mild_at 7 (refl, tt), (mild_at 8 (refl, tt), (mild_at 9 (refl, tt), (mild_at 10 (refl, tt), (mild_at 11 (refl, tt), (mild_at 12 (refl, tt), (mild_at 13 (refl, tt), (mild_at 14 (refl, (refl, tt)), (mild_at 15 (refl, tt), (mild_at 16 (refl, tt), (mild_at 17 (refl, tt), (mild_at 18 (refl, tt), (mild_at 19 tt, tt))))))))))))))))))))
 
 -- each step that a body can reach is so
 mild_step : (n : ℕ) (k : List Todo) (i : ℕ) (t : Move (List Todo)) → Comes (relation_of streaming (record { 0 = n })) k → slice_get ((relation_of streaming (record { 0 = n })).next k) i ≡ Some t → IsMild t.action
@@ -53,12 +51,11 @@ mild_step (suc n) k i t comes at = absurd (no_step n i k t at)
 
 pub streaming_plain : IsPlain streaming
 streaming_plain = record {
-  steps = λ b {k} i t comes at. (mild_step b.0 k i t comes at).0;
-  stores = λ b {k} i t f d comes at is. absurd (true≢false (sym (mild_step b.0 k i t comes at).1 ∙ ap is_mild is));
+  stores = λ b {k} i t f d comes at is. absurd (true≢false (sym (mild_step b.0 k i t comes at) ∙ ap is_mild is));
   creations = creates_plainly streaming refl;
-  texts = record { classes = both_light; constructors = refl };
+  updates = refl;
 }
 
 -- it has what every program of files has
 pub streaming_files : MeetsFileConditions streaming
-streaming_files = meets_by_tests streaming valid_program.typed.hierarchy refl
+streaming_files = meets_by_tests streaming valid_program.typed.hierarchy (record { classes = both_light; constructors = refl }) refl

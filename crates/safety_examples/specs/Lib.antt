@@ -16,3 +16,5 @@ pub mod ExtendingPrograms
 pub mod ExtendingControls
 pub mod ResettingPrograms
 pub mod ResettingControls
+pub mod ReopeningPrograms
+pub mod ReopeningControls

@@ -16,6 +16,8 @@
 //! - A program that shows that what is said of accepted plain programs speaks of calls that create obligations anew, beside owning fields: it makes a
 //!   socket on which nothing must be called, connects it, and gives it to a holder, whose constructor connects it anew before it keeps it in an owning field,
 //!   and which has it closed.
+//! - A program that shows that what is said of accepted plain programs speaks of methods of the program itself that create obligations anew: `main` makes a socket on
+//!   which nothing must be called, has it connected by `reopen`, which is lent it, and closes it.
 #![tactic(auto)]
 
 mod aliasing;
@@ -24,6 +26,7 @@ mod extending;
 mod holding;
 mod laws;
 mod lending;
+mod reopening;
 mod resetting;
 mod streaming;
 mod wrapping;
@@ -39,6 +42,9 @@ pub use laws::{
     careful_run_ends, careless_is_not_safe,
 };
 pub use lending::{lending_has_main, lending_is_accepted, lending_is_plain, lending_is_safe};
+pub use reopening::{
+    reopening_has_main, reopening_is_accepted, reopening_is_plain, reopening_is_safe,
+};
 pub use resetting::{
     resetting_has_main, resetting_is_accepted, resetting_is_plain, resetting_is_safe,
 };

@@ -16,7 +16,7 @@ pub fn wrapping_has_main()
     ensures { IsMain wrapping main_method }
 {}
 
-/// That program is plain: its constructor asks for no calls on the aliased argument before.
+/// That program is plain: the aliased argument of its constructor is that of a parameter.
 pub fn wrapping_is_plain()
     ensures { IsPlain wrapping }
 {}

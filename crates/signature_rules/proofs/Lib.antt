@@ -1,1 +1,2 @@
 mod NoCases
+pub mod ResultLaws

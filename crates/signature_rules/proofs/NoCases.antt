@@ -7,7 +7,10 @@ use Rattle.alias_sets.specs.AliasCases.{alias_cases}
 use Rattle.called_methods.specs.OverrideCases.{override_cases}
 use Rattle.must_call_reset.specs.OwningCases.{owning_cases}
 use Rattle.must_call_reset.specs.ResetCases.{reset_cases}
+use Rattle.signature_rules.specs.OwnerCases.{owner_cases}
 use Rattle.signature_rules.specs.RulePasses.{HasNoRuleCase}
+use Rattle.signature_rules.specs.TextCases.{text_cases}
+use Rattle.signature_rules.specs.ResultCases.{result_cases}
 
 no_least : (cases : List Refusal) → least cases ≡ None → cases ≡ []
 no_least [] none = refl
@@ -20,7 +23,9 @@ ok_none (Some x) u is = absurd (let no : Ok u ≡ Err x = is in cc)
 pub no_cases : (cases : List Refusal) (u : Unit {0}) → Ok u ≡ verdict_of (least cases) → cases ≡ []
 no_cases cases u is = no_least cases (ok_none (least cases) u is)
 
-pub all_passed : (p : Program) (last : Result (Unit {0}) Refusal) → alias_cases p ≡ [] → override_cases p ≡ [] → owning_cases p ≡ [] → last ≡ verdict_of (least (reset_cases p))
+pub all_passed : (p : Program) (last : Result (Unit {0}) Refusal) → alias_cases p ≡ [] → override_cases p ≡ [] → owning_cases p ≡ [] → reset_cases p ≡ [] → text_cases p ≡ [] → result_cases p ≡ []
+    → last ≡ verdict_of (least (owner_cases p))
     → OnOk last (HasNoRuleCase p)
-all_passed p (Ok u) aliases overrides owning is = record { aliases = aliases; overrides = overrides; owning = owning; resets = no_cases (reset_cases p) u is }
-all_passed p (Err r) aliases overrides owning is = tt
+all_passed p (Ok u) aliases overrides owning resets texts results is =
+    record { aliases = aliases; overrides = overrides; owning = owning; resets = resets; texts = texts; results = results; owners = no_cases (owner_cases p) u is }
+all_passed p (Err r) aliases overrides owning resets texts results is = tt

@@ -1,1 +1,4 @@
+pub mod OwnerCases
 pub mod RulePasses
+pub mod TextCases
+pub mod ResultCases

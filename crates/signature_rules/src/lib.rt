@@ -1,6 +1,9 @@
 //! The rules on effective signatures, in the order in which they refuse a program.
 #![tactic(auto)]
 
+mod owners;
 mod passes;
+mod results;
+mod texts;
 
 pub use passes::rule_refusal;

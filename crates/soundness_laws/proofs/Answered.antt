@@ -36,7 +36,7 @@ use Rattle.ledger_state.specs.declared.value.Value.{Value}
 use Rattle.ledger_state.specs.declared.value.Value.TheVariants as values
 use Rattle.ledger_obligations.specs.Obligations.{is_unmet}
 use Rattle.content_laws.specs.Places.{class_of_method}
-use Rattle.ledger_steps.specs.LedgerCallsCalls.{is_alias, reset_position}
+use Rattle.ledger_steps.specs.LedgerCallsCalls.{is_alias}
 use Rattle.ledger_steps.specs.Conducts as conducts
 use Rattle.content_laws.specs.Configuration.{Frame}
 use Rattle.content_laws.specs.Choosing.{frame_steps}
@@ -64,7 +64,6 @@ pub record IsAnswered (p : Program) (h : HeapContents) (fr caller : Frame) (q : 
   pub running : Method
   pub running_at : method_at p fr.method ≡ Some running
   pub fit : RunsFor p method running
-  pub no_reset : reset_position (method_at p named) ≡ None
   pub normal : exception_class p h (thrown_in fr.locals q) ≡ None → t.edge ≡ edges.Go
   pub thrown : (c : ClassId) → exception_class p h (thrown_in fr.locals q) ≡ Some c → (k : ClassId) × (t.edge ≡ edges.Throws k)
   pub makes : IsMadeBy p h t.action fr.locals.this

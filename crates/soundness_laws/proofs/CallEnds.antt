@@ -1,21 +1,20 @@
 -- A frame ends, and with it the call at which the frame below waits.
-use Rattle.std.proofs.Common.{if◌then◌else◌, ◌≡◌, ◌⊎◌, inl, inr, ℕ, ◌+◌, ◌<◌, Bool, true, false, not, Option, Some, None, List, ◌∷◌, ◌++◌, length, option_map, slice_get, nat_eq, refl, sym, ap, ◌∙◌, subst, true≢false, arith, eq-eqb, eqb-true, lt-ltb}
+use Rattle.std.proofs.Common.{◌≡◌, ◌⊎◌, inl, inr, ℕ, ◌+◌, ◌<◌, ◌≤◌, Bool, true, false, not, Option, Some, None, List, ◌∷◌, ◌++◌, length, option_map, slice_get, nat_eq, refl, sym, ap, ◌∙◌, subst, true≢false, arith, eq-eqb, eqb-true, lt-ltb}
 use Rattle.std.specs.FinSet as set
 use Rattle.std.specs.Prelude.{MatchBool}
 use Rattle.rlc_base.specs.declared.name_id.NameId.{NameId}
 use Rattle.rlc_base.specs.declared.place.Pos.{Pos}
 use Rattle.std.specs.Option.{is_some}
 use Rattle.std.proofs.lemmas.Bool.{and_parts}
-use Rattle.rlc_base.proofs.SetLaws.{within_at, within_trans}
+use Rattle.rlc_base.proofs.SetLaws.{within_self, within_trans}
 use Rattle.program_model.specs.declared.kinds.ClassId.{ClassId}
 use Rattle.program_model.specs.declared.kinds.MethodId.{MethodId}
 use Rattle.program_model.specs.declared.kinds.VType.{VType}
 use Rattle.program_model.specs.declared.program.Method.{Method}
 use Rattle.program_model.specs.declared.program.Program.{Program}
 use Rattle.program_model.specs.Lookups.{method_at}
-use Rattle.ledger_obligations.specs.Bodies.{alias_in, constructs, method_in, reset_in}
-use Rattle.ownership_rules.specs.Signatures.{is_present}
-use Rattle.ledger_obligations.specs.MustCallSets.{is_heavy_class, must_of}
+use Rattle.ledger_obligations.specs.Bodies.{alias_in, constructs, method_in}
+use Rattle.ledger_obligations.specs.MustCallSets.{Names, is_heavy_class, must_of}
 use Rattle.ledger_obligations.specs.WellFormed.{HasSmallInterests}
 use Rattle.java_control.specs.Calls.{called_method}
 use Rattle.java_control.specs.Control.{Step}
@@ -24,6 +23,8 @@ use Rattle.java_control.specs.declared.action.Action.TheVariants as actions
 use Rattle.java_control.specs.declared.action.Completion.{Completion}
 use Rattle.java_control.specs.declared.action.Edge.{Edge}
 use Rattle.java_control.specs.declared.action.Edge.TheVariants as edges
+use Rattle.java_control.specs.declared.fact.Fact.{Fact}
+use Rattle.java_control.specs.declared.fact.Origin.{Origin}
 use Rattle.ownership_rules.specs.Callees.{callee_in}
 use Rattle.ownership_rules.specs.Callees as callees
 use Rattle.ownership_rules.specs.Facts.{PlaceSet}
@@ -33,11 +34,12 @@ use Rattle.content_laws.specs.CalledRows.{holds_receiver, interest_in, promises_
 use Rattle.content_laws.specs.Flow.{flow}
 use Rattle.content_laws.specs.Accept.{Accept}
 use Rattle.content_laws.specs.Paths.{Reach, move_of, relation_of}
-use Rattle.ownership_rules.specs.MovesAtReturns.{moved_at_return, owning_result_in, result_in}
+use Rattle.ownership_rules.specs.MovesAtCalls.{moved_at_call}
+use Rattle.ownership_rules.specs.MovesAtReturns.{moved_at_return}
 use Rattle.ownership_rules.specs.declared.moved.Moved.TheVariants as moves
 use Rattle.program_model.specs.declared.kinds.BodyId.{BodyId}
 use Rattle.ledger_state.specs.Contents.{HeapContents}
-use Rattle.ledger_state.specs.Heaps.{next_number, object_at, root, root_of, unfinished}
+use Rattle.ledger_state.specs.Heaps.{is_reached, next_number, object_at, root, root_of, unfinished}
 use Rattle.ledger_state.specs.declared.entry.Entry.{Entry}
 use Rattle.ledger_state.specs.declared.entry.Owner.{Owner}
 use Rattle.ledger_state.specs.declared.entry.Owner.TheVariants as owners
@@ -45,110 +47,82 @@ use Rattle.ledger_state.specs.declared.object.Link.{Link}
 use Rattle.ledger_state.specs.declared.object.Object.{Object}
 use Rattle.ledger_state.specs.Values.{number_of}
 use Rattle.ledger_state.specs.declared.value.Value.{Value}
+use Rattle.ledger_state.specs.declared.value.Value.TheVariants as values
 use Rattle.ledger_obligations.specs.declared.note.Note.{Note}
-use Rattle.ledger_obligations.specs.Obligations.{all_notes, end_holder, is_frame, is_held_by, is_library_owner, is_unmet, may_move, note, noted_object, with_owner}
+use Rattle.ledger_obligations.specs.Obligations.{all_notes, emptied, has_note, is_frame, is_held_by, is_library_owner, is_unmet, may_move, note, noted_object}
+use Rattle.ledger_obligations.specs.Obligations as obligations
 use Rattle.ledger_steps.specs.LedgerCallsCalls.{alias_position, alias_target, is_alias, object_by, operand_of, receiver_note, reset_position}
-use Rattle.ledger_steps.specs.LedgerCallsCalls as calls
-use Rattle.ledger_steps.specs.Conducts as conducts
 use Rattle.content_laws.specs.Configuration.{Frame, held_by}
 use Rattle.content_laws.specs.Choosing.{body_id, frame_steps}
 use Rattle.content_laws.specs.LedgerFramesFrames.{frame_after}
 use Rattle.ledger_steps.specs.Entries.{owner_entries}
 use Rattle.ledger_steps.specs.Effects.{left}
-use Rattle.ledger_steps.specs.Ends.{answered, call_end_entries, call_ended, constructor_ended, exception_class, frame_ended, frame_gone, result_moved, result_value, returned, returned_heap, thrown_in}
-use Rattle.content_laws.specs.Heaps.{GoesOn, HasEarlierLinks, IsKeptOr, KeepsLinks}
-use Rattle.content_laws.specs.Leading.{Leads, LinksOne, is_passed_on}
-use Rattle.content_laws.proofs.LibraryCallLaws.{changed_object_at-object, evolving_heaps-links, leading_links-on, noted_names_reach_roots, notes_add_names-object, roots_go_on-number, roots_go_on-root, roots_go_on-value, roots_of_links-itself, roots_over_a_link-linked, roots_over_a_link-value, unchanged_fields_keep_contents}
+use Rattle.ledger_steps.specs.Ends.{answered, call_end_entries, call_ended, exception_class, frame_gone, result_moved, result_value, returned, returned_called, returned_heap, returned_roots, thrown_in}
+use Rattle.content_laws.specs.Heaps.{GoesOn, HasEarlierLinks, KeepsLinks}
+use Rattle.content_laws.specs.Leading.{LinksOne}
+use Rattle.content_laws.proofs.LibraryCallLaws.{changed_object_at-object, evolving_heaps-links, notes_add_names-object, roots_go_on-number, roots_go_on-root, roots_go_on-value, roots_of_links-itself, roots_over_a_link-linked, roots_over_a_link-value}
 use Rattle.content_laws.proofs.RootLaws.{has_object}
 use Rattle.content_laws.proofs.ObjectLaws.{goes_on_further}
-use Rattle.content_laws.proofs.Links.{passed_on}
-use Rattle.content_laws.specs.ProgramCalls.{IsLinkedTo, IsOlderAtResult, IsReturned, is_new}
+use Rattle.content_laws.specs.ProgramCalls.{IsFinished, IsLinkedTo, IsOlderAtResult, IsReturned, is_new}
 use Rattle.content_laws.proofs.EndLinks.{end_keeps, end_links, end_links_one, gone_evolves, gone_links}
 use Rattle.content_laws.proofs.Returned.{IsFrom, end_back, end_count, end_lines, finished_by, gone_back, gone_count, gone_unowned, result_back, result_takes}
 use Rattle.content_laws.proofs.HeapFrameEnds.{contents_end_met, nothing_unmet_goes}
 use Rattle.soundness_laws.specs.Supports.{Supports}
 use Rattle.content_laws.specs.Chains.{HaveEnds, IsLast}
-use Rattle.content_laws.specs.Agreement.{Agrees, Awaits, HasMadeClasses, IsAwaited, IsMadeAfter, IsMadeBy, IsTracked, Stands, Tracks, is_answering}
+use Rattle.content_laws.specs.Agreement.{Agrees, Awaits, HasMadeClasses, IsAwaited, IsMadeAfter, IsMadeBy, IsTracked, Stands, Tracks, TracksAs, is_answering}
+use Rattle.content_laws.specs.Anew.{is_target}
+use Rattle.content_laws.specs.HeapAnew.{is_anew_at_end}
+use Rattle.content_laws.specs.Sight.{ActsInSight}
+use Rattle.content_laws.specs.Nexts.{IsBackStep}
+use Rattle.content_laws.specs.Ranges.{LocalsInRange}
+use Rattle.content_laws.specs.Renewing.{IsLentFrom, is_renewed}
 use Rattle.content_laws.specs.PlainForms.{HasPlainForms, IsPlainAction}
 use Rattle.content_laws.specs.FieldContents as fields
-use Rattle.content_laws.specs.FieldContents.{IsBeingMade, LinksLead}
-use Rattle.content_laws.specs.PlaceFacts.{IsCovered, gives_none, is_frame_below, may_owe}
-use Rattle.content_laws.proofs.Growth.{gone_grows}
+use Rattle.content_laws.specs.FieldContents.{IsBeingMade, LinksLead, OwningFieldsOwn}
+use Rattle.content_laws.specs.PlaceFacts.{AreWaiting, IsCovered, gives_none, is_frame_from, is_given, may_owe, renews_none}
 use Rattle.content_laws.specs.Outcomes.{IsFault}
 use Rattle.content_laws.proofs.FactEnds.{end_row}
 use Rattle.content_laws.proofs.OwedFacts.{owed}
-use Rattle.content_laws.proofs.CallNames.{IsReceiver, noted_receiver, object_with_root, same_interest, small_name}
+use Rattle.content_laws.proofs.CallNames.{IsReceiver, noted_receiver, object_with_root}
 use Rattle.content_laws.proofs.Births.{heavy_by_unmet}
-use Rattle.content_laws.proofs.EndHeaps.{small_notes}
 use Rattle.content_laws.proofs.Goes.{not_the_librarys_owes}
-use Rattle.content_laws.proofs.OwnNames.{chosen_by_note, own_name_called}
 use Rattle.content_laws.proofs.KnownNames.{AreKept, known_after_call}
-use Rattle.content_laws.proofs.LocalSteps.{resets_nothing}
 use Rattle.soundness_laws.proofs.KeptPromises.{GivesRoot, ReturnsAlias, ShowsOperands}
 use Rattle.content_laws.specs.Steps.{RootsStay}
-use Rattle.content_laws.proofs.Carried.{still_awaited}
+use Rattle.content_laws.proofs.Carried.{still_awaited, still_bounded}
+use Rattle.content_laws.proofs.Emptied.{plain_note}
+use Rattle.content_laws.proofs.EndOwners.{end_keeps_library, end_keeps_own, end_owners_go, same_new}
+use Rattle.content_laws.proofs.EndResets.{plain_alias_position}
+use Rattle.content_laws.proofs.EndTargets.{as_turned, reset_of}
+use Rattle.content_laws.proofs.Owners.{OwnerGoes}
+use Rattle.content_laws.proofs.Owners as owner_goes
+use Rattle.content_laws.proofs.Renewed.{says_nothing, without_reset}
+use Rattle.content_laws.proofs.ResetHeaps.{IsResetOf, reset_back, reset_root, reset_stays, reset_was}
+use Rattle.content_laws.proofs.ResultOwners.{returned_owner}
+use Rattle.content_laws.proofs.WaitingTargets.{OwnsTarget, covered_tracks, its_owner, lender_below, owned_or_lent}
 use Rattle.content_laws.proofs.FrameFollowing.{breaks_nothing}
-use Rattle.content_laws.proofs.Chains.{IsLastOwned, IsOwnedAs, IsSame, ends_on, given_up_last, kept_owner, object_there}
-use Rattle.content_laws.proofs.EndLaws.{frame_back, holder_back, is_held}
+use Rattle.content_laws.proofs.Chains.{IsLastOwned, IsSame, ends_on, object_there}
 use Rattle.content_laws.proofs.Landing.{landed}
 use Rattle.soundness_laws.proofs.MadeClasses.{classes_on}
-use Rattle.content_laws.proofs.Ready.{plain_step, ready, resets_plainly, step_there}
+use Rattle.content_laws.proofs.Ready.{plain_step, ready, step_there}
 use Rattle.content_laws.proofs.Results.{IsGivenBack, moved_is_result}
 use Rattle.content_laws.proofs.Stacks.{KeepsClasses, below_top, called_on, tracked_bounded}
-use Rattle.content_laws.proofs.TargetTracks.{untargeted}
+use Rattle.content_laws.proofs.TargetTracks.{target_or_not, tracks_target}
 use Rattle.content_laws.proofs.Tracking.{same_body, tracks_call}
 use Rattle.content_laws.proofs.Unmet.{owner_of, may_go, unmet_before, way_of_call}
+use Rattle.soundness_laws.proofs.LentTargets.{lent_awaited}
 use Rattle.soundness_laws.proofs.LibrarySteps.{same_alias}
 use Rattle.soundness_laws.proofs.Supporting.{object_of_number}
 use Rattle.soundness_laws.proofs.Answered.{IsAnswered, finished_tracks, returned_tracks}
-
-owned_by_frame : (w : Owner) (j : ℕ) → is_frame w j ≡ true → w ≡ owners.Frame j
-owned_by_frame (owners.Frame i) j is = ap owners.Frame (eqb-true i j is)
-owned_by_frame (owners.Field v f) j is = absurd (true≢false (sym is))
-owned_by_frame owners.Library j is = absurd (true≢false (sym is))
-owned_by_frame owners.Released j is = absurd (true≢false (sym is))
-owned_by_frame owners.Lost j is = absurd (true≢false (sym is))
-owned_by_frame owners.Unowned j is = absurd (true≢false (sym is))
-
-owning_same : (m : Option Method) → owning_result_in m ≡ true → conducts.owning_in m ≡ true
-owning_same None is = is
-owning_same (Some m) is = is
-
-result_same : (m : Option Method) (t : VType) → result_in m ≡ Some t → conducts.result_in m ≡ Some t
-result_same None t is = is
-result_same (Some m) t is = is
-
-not_next : (i : ℕ) → owners.Frame i ≡ owners.Frame (i + 1) → ⊥
-not_next i same = let one : i ≡ i + 1 = cc in omega (arith, one)
-
-none_present : (x : Option ℕ) → is_present x ≡ false → x ≡ None
-none_present None is = refl
-none_present (Some k) is = absurd (true≢false is)
-
--- a `new`, in the words of the two crates
-same_new : (a : Action) → is_new a ≡ true → fields.is_new a ≡ true
-same_new actions.Skip new = new
-same_new (actions.New m d n) new = refl
-same_new a new = new
-
--- an unmet object that no `new` has just finished: it was there before, when the result had moved and when the frame had gone, and the call was
--- noted on it
-pub record IsKept (p : Program) (i : ℕ) (runs : Option Method) (v : Value) (e : Option ClassId) (h k g : HeapContents) (noted_as : ℕ → Object → Object) (n : ℕ) (y : Object) : Type 0 where
-  pub before : Object
-  pub there : object_at h n ≡ Some before
-  pub goes_on : GoesOn before y
-  pub between : Object
-  pub present : object_at k n ≡ Some between
-  pub remains : object_at g n ≡ Some between
-  pub unmet : is_unmet between ≡ true
-  pub owned : between.owner ≡ y.owner
-  pub noted : noted_as n between ≡ y
-  pub owner : (y.owner ≡ before.owner) ⊎ IsReturned p i runs v e h n before y
+use Rattle.soundness_laws.proofs.EndedNames.{name_called}
+use Rattle.soundness_laws.proofs.EndedObjects.{IsKept, answers_library, from_first, gone_owner, last_as, none_present, not_next, owned_by_frame, owning_same, result_same, target_renews}
 
 module _ (p : Program) (ac : Accept p) (forms : HasPlainForms p) (names : HasSmallInterests p) (fr caller : Frame) (frs : List Frame) (h : HeapContents) (es : List Entry)
     (agrees : Agrees p (fr ∷ caller ∷ frs) h es) (i : ℕ) (s : Step) (here : slice_get (frame_steps p fr) i ≡ Some s) (q : Completion) (is : s.action ≡ actions.End q)
     (j : ℕ) (t : Step) (there : slice_get (frame_steps p caller) j ≡ Some t) (named : MethodId) (answer : IsAnswered p h fr caller q t named) (sup : Supports p h fr) (making : IsBeingMade p h fr caller)
-    (shows : ShowsOperands p h fr caller (length frs + 1)) (led : LinksLead p h) (covered : IsCovered p h gives_none (caller ∷ frs) fr) (dispatched : fields.IsDispatched p h fr caller) where
+    (shows : ShowsOperands p h fr caller (length frs + 1)) (led : LinksLead p h) (covered : IsCovered p h gives_none renews_none (caller ∷ frs) fr) (dispatched : fields.IsDispatched p h fr caller)
+    (waiting : AreWaiting p h (caller ∷ frs)) (owning : OwningFieldsOwn p h) (sight : ActsInSight p h caller) (mine' : LocalsInRange h fr.locals) (ranges : LocalsInRange h caller.locals)
+    (back : IsBackStep p (frame_steps p caller) (exception_class p h (thrown_in fr.locals q)) named t) where
   st : Stands p fr
   st = agrees.standing.0
 
@@ -179,6 +153,32 @@ module _ (p : Program) (ac : Accept p) (forms : HasPlainForms p) (names : HasSma
 
   abbrev heap : HeapContents
   heap = returned_heap p at fr.locals.this caller.locals t.action runs (method_at p named) v e h
+
+  -- the call without its reset
+  abbrev plain : Option Method
+  plain = without_reset (method_at p named)
+
+  says_none : reset_position plain ≡ None
+  says_none = says_nothing (method_at p named)
+
+  -- the heap that the call would leave without it
+  abbrev kept_heap : HeapContents
+  kept_heap = returned_heap p at fr.locals.this caller.locals t.action runs plain v e h
+
+  abbrev called : HeapContents
+  called = returned_called p caller.locals t.action (method_at p named) gone
+
+  abbrev roots : List ℕ
+  roots = returned_roots p caller.locals t.action (method_at p named) gone
+
+  reset_is : IsResetOf p called roots kept_heap heap
+  reset_is = reset_of p ac forms h agrees.links fr caller frs below sight dispatched making e v t named back agrees.ends answer.later ranges owning waiting.0
+
+  was_kept : (n : ℕ) (y : Object) → object_at heap n ≡ Some y → (z : Object) × (object_at kept_heap n ≡ Some z) × (y.class ≡ z.class) × (y.link ≡ z.link) × (y.finished ≡ z.finished) × (y.owner ≡ z.owner)
+  was_kept = reset_was p called roots kept_heap heap reset_is
+
+  same_roots : (u : Value) → root_of heap u ≡ root_of kept_heap u
+  same_roots = reset_root p called roots kept_heap heap reset_is
 
   form : IsPlainAction p t.action
   form = plain_step p ac forms caller below j t there
@@ -230,8 +230,8 @@ module _ (p : Program) (ac : Accept p) (forms : HasPlainForms p) (names : HasSma
 
   -- ---- where an object comes from
 
-  from : (n : ℕ) (y : Object) → object_at heap n ≡ Some y → IsFrom p at fr.locals.this caller.locals t.action (method_at p named) gone answer.no_reset e n y
-  from n y now = end_back p at fr.locals.this caller.locals t.action (method_at p named) gone answer.no_reset e n y now
+  from : (n : ℕ) (y : Object) → object_at kept_heap n ≡ Some y → IsFrom p at fr.locals.this caller.locals t.action plain gone says_none e n y
+  from n y now = end_back p at fr.locals.this caller.locals t.action plain gone says_none e n y now
 
   -- an object of the heap when the frame has gone was there before
   was_there : (n : ℕ) (x : Object) → object_at gone n ≡ Some x → (z : Object) × (object_at h n ≡ Some z) × GoesOn z x
@@ -265,14 +265,17 @@ module _ (p : Program) (ac : Accept p) (forms : HasPlainForms p) (names : HasSma
 
   -- the argument of which the object of a `new` is to be an alias
   abbrev aliased : Option ℕ
-  aliased = alias_target (operand_of caller.locals t.action) (method_at p named)
+  aliased = alias_target (operand_of caller.locals t.action) plain
+
+  aliased_is : aliased ≡ alias_target (operand_of caller.locals t.action) (method_at p named)
+  aliased_is = ap (object_by (operand_of caller.locals t.action)) (plain_alias_position (method_at p named))
 
   same_named : (m : MethodId) → called_method t.action ≡ Some m → m ≡ named
   same_named m called = let same : Some m ≡ Some named = sym called ∙ answer.calls in cc
 
   -- it was there before
   made_after : (n w : ℕ) → is_new t.action ≡ true → number_of fr.locals.this ≡ Some n → aliased ≡ Some w → (0 < w) × (w < n)
-  made_after n w new number to = go t.action refl new answer.later to
+  made_after n w new number to = go t.action refl new answer.later (sym aliased_is ∙ to)
     where
       go : (a : Action) → t.action ≡ a → is_new a ≡ true → IsMadeAfter p caller.locals a fr.locals.this → alias_target (operand_of caller.locals a) (method_at p named) ≡ Some w → (0 < w) × (w < n)
       go actions.Skip it new' later to' = absurd (true≢false (sym new'))
@@ -280,8 +283,14 @@ module _ (p : Program) (ac : Accept p) (forms : HasPlainForms p) (names : HasSma
           later n w number (ap (λ (k : MethodId). alias_target (operand_of caller.locals (actions.New m d c)) (method_at p k)) (same_named m (ap called_method it)) ∙ to')
       go a it new' later to' = absurd (true≢false (sym new'))
 
+  kept_links : HasEarlierLinks kept_heap
+  kept_links = end_links p at fr.locals.this caller.locals t.action plain gone says_none gone_linked made_unowned made_after e
+
   links : HasEarlierLinks heap
-  links = end_links p at fr.locals.this caller.locals t.action (method_at p named) gone answer.no_reset gone_linked made_unowned made_after e
+  links n y l now some =
+      let z = was_kept n y now in
+      let it = kept_links n z.0 l z.1 (sym z.3 ∙ some) in
+      record { there = it.there; before = it.before; owner = z.5 ∙ it.owner; finished = z.4 ∙ it.finished }
 
   -- ---- no object is linked, or that of the `new`
 
@@ -292,7 +301,7 @@ module _ (p : Program) (ac : Accept p) (forms : HasPlainForms p) (names : HasSma
   link_to k = record { to = k; by_library = false }
 
   abbrev IsLinking : Type 0
-  IsLinking = (w : ℕ) × (k : ℕ) × (is_new t.action ≡ true) × (number_of fr.locals.this ≡ Some w) × (aliased ≡ Some k) × LinksOne w (link_to k) gone heap
+  IsLinking = (w : ℕ) × (k : ℕ) × (is_new t.action ≡ true) × (number_of fr.locals.this ≡ Some w) × (aliased ≡ Some k) × LinksOne w (link_to k) gone kept_heap
 
   self_is : is_new t.action ≡ true → (w : ℕ) × (number_of fr.locals.this ≡ Some w) × (0 < w) × (w < next_number h)
   self_is new = go t.action refl new answer.makes
@@ -302,10 +311,10 @@ module _ (p : Program) (ac : Accept p) (forms : HasPlainForms p) (names : HasSma
       go (actions.New m d c) it new' made = (made.0, ap number_of made.1, made.4, made.2)
       go a it new' made = absurd (true≢false (sym new'))
 
-  is_aliased : (k : ℕ) → aliased ≡ Some k → is_alias (method_at p named) ≡ true
-  is_aliased k to = go (alias_position (method_at p named)) refl
+  is_aliased : (k : ℕ) → aliased ≡ Some k → is_alias plain ≡ true
+  is_aliased k to = go (alias_position plain) refl
     where
-      go : (a : Option ℕ) → alias_position (method_at p named) ≡ a → is_some a ≡ true
+      go : (a : Option ℕ) → alias_position plain ≡ a → is_some a ≡ true
       go None none' = absurd (let never : None ≡ Some k = sym (ap (object_by (operand_of caller.locals t.action)) none') ∙ to in cc)
       go (Some a) some = refl
 
@@ -322,8 +331,8 @@ module _ (p : Program) (ac : Accept p) (forms : HasPlainForms p) (names : HasSma
         new,
         w.1,
         to,
-        subst (λ (c : Option ClassId). LinksOne w.0 (link_to k) gone (call_ended p at fr.locals.this caller.locals t.action (method_at p named) c gone)) (sym normal)
-            (end_links_one p at fr.locals.this caller.locals t.action (method_at p named) gone answer.no_reset gone_linked new w.0 w.1 k y.0 (is_aliased k to) to y.1 free'.0 before.0 before.1),
+        subst (λ (c : Option ClassId). LinksOne w.0 (link_to k) gone (call_ended p at fr.locals.this caller.locals t.action plain c gone)) (sym normal)
+            (end_links_one p at fr.locals.this caller.locals t.action plain gone says_none gone_linked new w.0 w.1 k y.0 (is_aliased k to) to y.1 free'.0 before.0 before.1),
       )
 
   linking : LinksNone ⊎ IsLinking
@@ -338,45 +347,54 @@ module _ (p : Program) (ac : Accept p) (forms : HasPlainForms p) (names : HasSma
   gone_keeps : KeepsLinks h gone
   gone_keeps = evolving_heaps-links h gone (gone_evolves p at fr.locals.this runs v e h)
 
-  keeps_links : LinksNone → KeepsLinks h heap
+  keeps_links : LinksNone → KeepsLinks h kept_heap
   keeps_links none' n x before =
       let y = gone_keeps n x before in
-      let z = end_keeps p at fr.locals.this caller.locals t.action (method_at p named) gone answer.no_reset e none' n y.0 y.1 in
+      let z = end_keeps p at fr.locals.this caller.locals t.action plain gone says_none e none' n y.0 y.1 in
       (z.0, z.1, z.2 ∙ y.2)
 
-  -- what has an unmet object for its root has it still
-  stays : (n : ℕ) (x : Object) → object_at h n ≡ Some x → is_unmet x ≡ true → RootsStay h heap n
-  stays n x before unmet u root' = elim linking [
-    | inl none' ↦ roots_go_on-value h heap u n x agrees.links (keeps_links none') root' before
+  -- what has a finished object for its root has it still
+  stays : (n : ℕ) (x : Object) → object_at h n ≡ Some x → x.finished ≡ true → RootsStay h heap n
+  stays n x before done u root' = same_roots u ∙ elim linking [
+    | inl none' ↦ roots_go_on-value h kept_heap u n x agrees.links (keeps_links none') root' before
     | inr one ↦ (let y = gone_keeps n x before in
-        (roots_over_a_link-value gone heap one.0 (link_to one.1) gone_linked one.5 links u n y.0 (roots_go_on-value h gone u n x agrees.links gone_keeps root' before) y.1).1
-        (λ same. true≢false (sym (and_parts x.finished (not (set.is_subset x.must x.called)) unmet).0 ∙ being_made n x one.2 (one.3 ∙ ap Some (sym same)) before)))
+        (roots_over_a_link-value gone kept_heap one.0 (link_to one.1) gone_linked one.5 kept_links u n y.0 (roots_go_on-value h gone u n x agrees.links gone_keeps root' before) y.1).1
+        (λ same. true≢false (sym done ∙ being_made n x one.2 (one.3 ∙ ap Some (sym same)) before)))
   ]
 
-  class_before : (n : ℕ) (y : Object) → IsFrom p at fr.locals.this caller.locals t.action (method_at p named) gone answer.no_reset e n y → (x : Object) × (object_at h n ≡ Some x) × (y.class ≡ x.class)
+  finished_by_unmet : (x : Object) → is_unmet x ≡ true → x.finished ≡ true
+  finished_by_unmet x unmet = (and_parts x.finished (not (set.is_subset x.must x.called)) unmet).0
+
+  class_before : (n : ℕ) (y : Object) → IsFrom p at fr.locals.this caller.locals t.action plain gone says_none e n y → (x : Object) × (object_at h n ≡ Some x) × (y.class ≡ x.class)
   class_before n y (inl made) = let z = was_there n made.0 made.1 in (z.0, z.1, made.2.class ∙ z.2.class)
   class_before n y (inr (inl alias)) = let z = was_there n alias.0 alias.1 in (z.0, z.1, alias.2.class ∙ z.2.class)
   class_before n y (inr (inr noted)) = let z = was_there n noted.0 noted.1 in (z.0, z.1, sym (ap (λ (u : Object). u.class) noted.2) ∙ z.2.class)
 
+  class_was : (n : ℕ) (y : Object) → object_at heap n ≡ Some y → (x : Object) × (object_at h n ≡ Some x) × (y.class ≡ x.class)
+  class_was n y now =
+      let z = was_kept n y now in
+      let x = class_before n z.0 (from n z.0 z.1) in
+      (x.0, x.1, z.2 ∙ x.2)
+
   keeps : KeepsClasses h heap
   keeps = record {
-    count = (let same = end_count p at fr.locals.this caller.locals t.action (method_at p named) gone answer.no_reset e in
-        let more = gone_count p at fr.locals.this runs v e h in omega (arith, same, more));
-    class = λ n y now small. class_before n y (from n y now);
+    count = (let same = end_count p at fr.locals.this caller.locals t.action plain gone says_none e in
+        let more = gone_count p at fr.locals.this runs v e h in let one = reset_is.count in omega (arith, same, more, one));
+    class = λ n y now small. class_was n y now;
   }
 
   classes : HasMadeClasses p heap
-  classes = classes_on p h heap agrees.classes (λ n y now. inl (class_before n y (from n y now)))
+  classes = classes_on p h heap agrees.classes (λ n y now. inl (class_was n y now))
 
   abbrev all : ℕ → Object → Object
-  all = noted_object (all_notes p gone (receiver_note caller.locals t.action (method_at p named)))
+  all = noted_object (all_notes p gone (receiver_note caller.locals t.action plain))
 
   abbrev IsOld : ℕ → Object → Type 0
   IsOld n y = IsKept p at runs v e h moved gone all n y
 
   kept : (n : ℕ) (y : Object) → is_unmet y ≡ true → (x : Object) → object_at gone n ≡ Some x → all n x ≡ y → IsOld n y
   kept n y unmet x now noted =
-      let goes : GoesOn x y = subst (GoesOn x) noted (notes_add_names-object (all_notes p gone (receiver_note caller.locals t.action (method_at p named))) n x) in
+      let goes : GoesOn x y = subst (GoesOn x) noted (notes_add_names-object (all_notes p gone (receiver_note caller.locals t.action plain)) n x) in
       let unmet' = unmet_before x y goes unmet in
       let there' = nothing_unmet_goes p at fr.locals.this runs v e h none free n x now unmet' in
       let same : x.owner ≡ y.owner = ap (λ (u : Object). u.owner) noted in
@@ -399,60 +417,6 @@ module _ (p : Program) (ac : Accept p) (forms : HasPlainForms p) (names : HasSma
         ];
       }
 
-  -- ---- the names of the call
-
-  module _ (n : ℕ) (y : Object) (old : IsOld n y) (unmet : is_unmet y ≡ true) (mine : old.before.owner ≡ owners.Frame at) (heavy : is_heavy_class p old.before.class ≡ true) (name : NameId)
-      (r : IsReceiver h caller.locals t.action (method_at p named) n name) (interest : interest_in (callees.callee p t.action) ≡ Some name) where
-    was_unmet : is_unmet old.before ≡ true
-    was_unmet = unmet_before old.before y old.goes_on unmet
-
-    owes : may_owe old.before ≡ true
-    owes = not_the_librarys_owes old.before (ap is_library_owner mine)
-
-    -- the caller, a frame below, owns the object
-    low : is_frame_below (length (caller ∷ frs) + 1) old.before.owner ≡ true
-    low = ap (is_frame_below (length (caller ∷ frs) + 1)) mine ∙ lt-ltb at (length (caller ∷ frs) + 1) (omega arith)
-
-    first : (x : Object) × (object_at h r.object ≡ Some x)
-    first = has_object h r.object n old.before r.root old.there
-
-    way : Leads p h r.object n
-    way = led r.object n first.0 old.before first.1 r.root old.there heavy owes
-
-    same_callee : callees.callee p t.action ≡ method_at p named
-    same_callee = ap (callee_in p) answer.calls
-
-    abbrev its : Note
-    its = note false r.object name
-
-    small : (i' : NameId) → calls.interest_in (method_at p named) ≡ Some i' → i'.0 < 128
-    small i' is' = small_name p t.action i' names (ap interest_in same_callee ∙ sym (same_interest (method_at p named)) ∙ is')
-
-    -- the note goes on to the root
-    passed_called : is_passed_on p its first.0 ≡ true → set.contains y.called name.0 ≡ true
-    passed_called passed =
-        let on = gone_evolves p at fr.locals.this runs v e h in
-        let now = on r.object first.0 first.1 in
-        noted_names_reach_roots p (receiver_note caller.locals t.action (method_at p named)) gone its n now.0 y (small_notes caller.locals t.action (method_at p named) small) r.noted now.1
-        (passed_on p its first.0 now.0 now.2 ∙ passed)
-        (leading_links-on p h gone r.object n agrees.links on (unchanged_fields_keep_contents p h gone (gone_grows p at fr.locals.this runs v e h).fields) way)
-        (changed_object_at-object all gone n ∙ ap (option_map (all n)) old.remains ∙ ap Some old.noted)
-
-    -- or the class's own method ran, which has called it
-    own_called : is_passed_on p its first.0 ≡ false → set.contains y.called name.0 ≡ true
-    own_called stopped =
-        within_at old.before.called y.called old.goes_on.called name.0
-        (own_name_called p ac forms h agrees.links fr caller frs st covered i s q here is j t there named answer.method answer.calls answer.named_at dispatched name
-        (ap interest_in (sym (same_callee ∙ answer.named_at)) ∙ interest) (chosen_by_note caller.locals t.action (method_at p named) its r.noted) n old.before old.there heavy owes
-        (and_parts old.before.finished (not (set.is_subset old.before.must old.before.called)) was_unmet).0 agrees.classes (inr (inl low)) r.object first.0 r.value first.1 way stopped)
-
-    name_called : set.contains y.called name.0 ≡ true
-    name_called = go (is_passed_on p its first.0) refl
-      where
-        go : (b : Bool) → is_passed_on p its first.0 ≡ b → set.contains y.called name.0 ≡ true
-        go true passed = passed_called passed
-        go false stopped = own_called stopped
-
   -- ---- the alias that the call gives
 
   abbrev given : Value
@@ -468,15 +432,15 @@ module _ (p : Program) (ac : Accept p) (forms : HasPlainForms p) (names : HasSma
       go None normal = normal
       go (Some c) thrown = let k = answer.thrown c thrown in absurd (by_edge k.0 k.1)
 
-  given_root : (n : ℕ) (x : Object) → object_at h n ≡ Some x → is_unmet x ≡ true → e ≡ None → GivesRoot p h caller.locals t.action given n → root_of heap given ≡ Some n
-  given_root n x before unmet normal gives = go t.action refl gives
+  given_root : (n : ℕ) (x : Object) → object_at h n ≡ Some x → x.finished ≡ true → e ≡ None → GivesRoot p h caller.locals t.action given n → root_of heap given ≡ Some n
+  given_root n x before done normal gives = go t.action refl gives
     where
       go : (a : Action) → t.action ≡ a → GivesRoot p h caller.locals a given n → root_of heap given ≡ Some n
-      go actions.Skip it root' = stays n x before unmet given root'
+      go actions.Skip it root' = stays n x before done given root'
       go (actions.New m d c) it gives' =
           let operand = object_with_root h (operand_of caller.locals (actions.New m d c) gives'.0) n gives'.2 in
           let to : aliased ≡ Some operand.0 = (
-          ap (λ (a : Action). alias_target (operand_of caller.locals a) (method_at p named)) it
+          aliased_is ∙ ap (λ (a : Action). alias_target (operand_of caller.locals a) (method_at p named)) it
           ∙ ap (λ (k : MethodId). alias_target (operand_of caller.locals (actions.New m d c)) (method_at p k)) (sym (same_named m (ap called_method it)))
           ∙ ap (object_by (operand_of caller.locals (actions.New m d c))) gives'.1 ∙ ap number_of operand.1) in
           let is_it : given ≡ fr.locals.this = ap (λ (a : Action). answered fr.locals.this a v e) it ∙ ap (answered fr.locals.this (actions.New m d c) v) normal in
@@ -485,11 +449,33 @@ module _ (p : Program) (ac : Accept p) (forms : HasPlainForms p) (names : HasSma
             | inl none' ↦ absurd (let never : None ≡ Some operand.0 = sym (none' normal (ap is_new it)) ∙ to in cc)
             | inr one ↦ (
                 let same : one.1 ≡ operand.0 = (let both : Some one.1 ≡ Some operand.0 = sym one.4 ∙ to in (let it' : one.1 ≡ operand.0 = cc in it')) in
-                ap (root_of heap) (is_it ∙ object_of_number fr.locals.this one.0 one.3)
-                ∙ ap Some (roots_over_a_link-linked gone heap one.0 (link_to one.1) gone_linked one.5 links
+                same_roots given ∙ ap (root_of kept_heap) (is_it ∙ object_of_number fr.locals.this one.0 one.3)
+                ∙ ap Some (roots_over_a_link-linked gone kept_heap one.0 (link_to one.1) gone_linked one.5 kept_links
                 ∙ ap (root gone) same ∙ roots_go_on-number h gone operand.0 there'.0 agrees.links gone_keeps there'.1 ∙ operand.2))
           ]
-      go a it root' = stays n x before unmet given root'
+      go a it root' = stays n x before done given root'
+
+  -- ---- the object whose obligation the call creates anew
+
+  -- the frame that goes on owns it
+  renewed_here : (n : ℕ) (x y : Object) → object_at h n ≡ Some x → x.finished ≡ true → is_heavy_class p x.class ≡ true → may_owe x ≡ true → x.owner ≡ owners.Frame at → is_renewed p h caller n ≡ true → y.class ≡ x.class
+      → set.is_subset y.must (must_of p y.class) ≡ true → is_unmet y ≡ true → Tracks p heap after n y
+  renewed_here n x y before done heavy owes mine renewed class bounded unmet =
+      tracks_target p ac forms h heap caller below j t there (way_of_call t answer.row) given n x y (stays n x before done) class bounded unmet (is_renewed p h caller n) tr.0 answer.row
+      (ap (λ (f : Fact). is_target p t.action f.places) tr.1 ∙ it.target j t there)
+      (λ gives. given_root n x before done (gives_normally tr.0.fact.places gives) (shown gives))
+    where
+      it : OwnsTarget p h frs caller n x
+      it = its_owner p ac forms h caller frs below j t there answer.row waiting.0 n x before heavy owes done renewed mine
+
+      tr : (w : TracksAs p h (is_renewed p h caller n) caller n x) × (w.fact ≡ it.covers.fact) × (w.origin ≡ it.covers.origin)
+      tr = covered_tracks p ac h caller frs below (is_given p h caller n x.class) (is_renewed p h caller n) n x it.covers it.key it.kept it.temp it.there
+
+      still : moved_at_call p tr.0.origin t.action t.edge tr.0.fact ≡ moves.Moves → ⊥
+      still moved = it.stays j t there (ap (λ (f : Fact). moved_at_call p it.covers.origin t.action t.edge f) (sym tr.1) ∙ ap (λ (g : Origin). moved_at_call p g t.action t.edge tr.0.fact) (sym tr.2) ∙ moved)
+
+      shown : ReturnsAlias p h fr caller t.action t.edge tr.0.fact.places q n
+      shown = (shows below i j s t q n x (is_renewed p h caller n) tr.0 here is there answer.row answer.normal answer.thrown before done heavy mine still).1
 
   -- ---- the frame that goes on
 
@@ -497,32 +483,60 @@ module _ (p : Program) (ac : Accept p) (forms : HasPlainForms p) (names : HasSma
     were_unmet : is_unmet old.before ≡ true
     were_unmet = unmet_before old.before y old.goes_on unmet
 
-    goes_on : old.before.owner ≡ owners.Frame at → Awaits p h caller n old.before → Tracks p heap after n y
-    goes_on mine w =
-        tracks_call p ac forms h heap caller below j t there (way_of_call t answer.row) given n old.before y (stays n old.before old.there were_unmet) old.goes_on unmet w.tracks answer.row
-        (untargeted p t.action w.tracks.fact.places (ap reset_in (ap (callee_in p) answer.calls ∙ answer.named_at) ∙ sym (ap reset_position answer.named_at) ∙ answer.no_reset))
-        (known_after_call p below.number t.action t.edge w.tracks.fact y.called answer.row (resets_nothing p below.number caller.control t.action (resets_plainly p ac forms caller below j t there))
-        (within_trans w.tracks.fact.called old.before.called y.called w.tracks.follows.called old.goes_on.called) noted
-        shown.0)
-        (λ gives. given_root n old.before old.there were_unmet (gives_normally w.tracks.fact.places gives) (shown.1 gives))
-        (w.stays j t there)
-      where
-        shown : AreKept p below.number t.action w.tracks.fact.places y.called (promises_at p t.action t.edge) × ReturnsAlias p h fr caller t.action t.edge w.tracks.fact.places q n
-        shown = shows below i j s t q n old.before y w.tracks here is there answer.row answer.normal answer.thrown old.there were_unmet old.goes_on mine (w.stays j t there)
+    done : old.before.finished ≡ true
+    done = finished_by_unmet old.before were_unmet
 
-        noted : (name : NameId) → holds_receiver t.action w.tracks.fact.places ≡ true → interest_in (callees.callee p t.action) ≡ Some name → set.contains y.called name.0 ≡ true
+    heavy_before : set.is_subset old.before.must (must_of p old.before.class) ≡ true → is_heavy_class p old.before.class ≡ true
+    heavy_before bound = heavy_by_unmet p old.before.class old.before were_unmet bound
+
+    -- where the call does not create its obligation anew
+    goes_plainly : old.before.owner ≡ owners.Frame at → is_renewed p h caller n ≡ false → (tr : Tracks p h caller n old.before) → (moved_at_call p tr.origin t.action t.edge tr.fact ≡ moves.Moves → ⊥) → Tracks p heap after n y
+    goes_plainly mine out tr still =
+        tracks_call p ac forms h heap caller below j t there (way_of_call t answer.row) given n old.before y (stays n old.before old.there done) old.goes_on unmet tr answer.row apart
+        (known_after_call p below.number t.action t.edge tr.fact y.called answer.row
+        (within_trans tr.fact.called old.before.called y.called tr.follows.called old.goes_on.called) noted
+        (shown.0 y old.goes_on out refl))
+        (λ gives. given_root n old.before old.there done (gives_normally tr.fact.places gives) (shown.1 gives))
+        still
+      where
+        small_call : IsSmallAction p t.action
+        small_call = (ready p ac forms caller below j t there (way_of_call t answer.row)).small
+
+        apart : is_target p t.action tr.fact.places ≡ false
+        apart = elim (target_or_not p t.action tr.fact.places) [
+          | inl target ↦ absurd (true≢false (sym (target_renews p h caller j t n tr.fact.places there small_call tr.follows.places target) ∙ out))
+          | inr other ↦ other
+        ]
+
+        heavy : is_heavy_class p old.before.class ≡ true
+        heavy = heavy_before tr.follows.bounded
+
+        shown : ((z : Object) → GoesOn old.before z → is_renewed p h caller n ≡ false → false ≡ false → AreKept p below.number t.action tr.fact.places z.called (promises_at p t.action t.edge)) × ReturnsAlias p h fr caller t.action t.edge tr.fact.places q n
+        shown = shows below i j s t q n old.before false tr here is there answer.row answer.normal answer.thrown old.there done heavy mine still
+
+        noted : (name : NameId) → holds_receiver t.action tr.fact.places ≡ true → interest_in (callees.callee p t.action) ≡ Some name → set.contains y.called name.0 ≡ true
         noted name receives interest =
-            name_called n y old unmet mine (heavy_by_unmet p old.before.class old.before were_unmet w.tracks.follows.bounded) name
-            (subst (λ (m : Option Method). IsReceiver h caller.locals t.action m n name) (ap (callee_in p) answer.calls)
-            (noted_receiver p ac h caller.method caller.locals t.action n w.tracks.fact.places name form (ready p ac forms caller below j t there (way_of_call t answer.row)).small
-            w.tracks.follows.places receives interest)) interest
+            name_called p ac forms names fr caller frs st h agrees.links agrees.classes i s here q is j t there named answer led covered dispatched n y old unmet mine heavy name
+            (plain_receiver (subst (λ (m : Option Method). IsReceiver h caller.locals t.action m n name) (ap (callee_in p) answer.calls)
+            (noted_receiver p ac h caller.method caller.locals t.action n tr.fact.places name form small_call tr.follows.places receives interest))) interest out
+          where
+            plain_receiver : IsReceiver h caller.locals t.action (method_at p named) n name → IsReceiver h caller.locals t.action plain n name
+            plain_receiver r = record { object = r.object; value = r.value; root = r.root; noted = ap (λ (ns : List Note). has_note ns (note false r.object name)) (plain_note caller.locals t.action (method_at p named)) ∙ r.noted }
+
+    goes_on : old.before.owner ≡ owners.Frame at → Awaits p h caller n old.before → Tracks p heap after n y
+    goes_on mine w = by (is_renewed p h caller n) refl w.tracks (w.stays j t there)
+      where
+        by : (b : Bool) → is_renewed p h caller n ≡ b → (tr : TracksAs p h b caller n old.before) → (moved_at_call p tr.origin t.action t.edge tr.fact ≡ moves.Moves → ⊥) → Tracks p heap after n y
+        by false out tr still = goes_plainly mine out tr still
+        by true renewed tr still =
+            renewed_here n old.before y old.there done (heavy_before tr.follows.bounded) (not_the_librarys_owes old.before (ap is_library_owner mine)) mine renewed old.goes_on.class (still_bounded p old.before y old.goes_on tr.follows.bounded) unmet
 
     waited : old.before.owner ≡ owners.Frame k → IsAwaited p h (caller ∷ frs) n old.before k → IsTracked p heap (after ∷ frs) n y k
     waited mine w = go (nat_eq (length frs + 1) k) refl w
       where
         go : (b : Bool) → nat_eq (length frs + 1) k ≡ b → MatchBool b (Awaits p h caller n old.before) (IsAwaited p h frs n old.before k) → MatchBool b (Tracks p heap after n y) (IsAwaited p heap frs n y k)
         go true here' w' = goes_on (mine ∙ ap owners.Frame (sym (eqb-true (length frs + 1) k here'))) w'
-        go false other w' = still_awaited p h heap frs n old.before y k (stays n old.before old.there were_unmet) old.goes_on w'
+        go false other w' = still_awaited p h heap frs n old.before y k (stays n old.before old.there done) old.goes_on w'
 
     at_top : at ≡ k → Tracks p heap after n y → IsTracked p heap (after ∷ frs) n y k
     at_top same w = rw (eq-eqb (length frs + 1) k same) w
@@ -534,7 +548,7 @@ module _ (p : Program) (ac : Accept p) (forms : HasPlainForms p) (names : HasSma
           (agrees.tracked n old.before k old.there (unmet_before old.before y old.goes_on unmet) (sym same ∙ owner)))
       | inr given ↦ at_top (let same : owners.Frame at ≡ owners.Frame k = sym given.owner ∙ owner in cc)
           (returned_tracks p ac forms h heap fr caller below j t there q named answer at n old.before y old.there old.goes_on unmet
-          (bound old.before old.there (roots_go_on-root h v n old.before agrees.links given.root old.there) (unmet_before old.before y old.goes_on unmet) given.type given.may) given (stays n old.before old.there were_unmet))
+          (bound old.before old.there (roots_go_on-root h v n old.before agrees.links given.root old.there) (unmet_before old.before y old.goes_on unmet) given.type given.may) given (stays n old.before old.there done))
     ]
       where
         bound : (x : Object) → object_at h n ≡ Some x → x.link ≡ None → is_unmet x ≡ true → (u : VType) → may_move p u x ≡ true → set.is_subset x.must (must_of p x.class) ≡ true
@@ -553,34 +567,182 @@ module _ (p : Program) (ac : Accept p) (forms : HasPlainForms p) (names : HasSma
   alias_owner n x y None new self' there' linked' = inl (linked'.1, refl)
   alias_owner n x y (Some w) new self' there' linked' = inr (linked'.1 ∙ (made_unowned n x new self' there').1, (link_to w, linked'.2))
 
+  -- ---- the object is as the call would leave it without its reset, or its obligation is created anew
+
+  free_before : (n : ℕ) (z : Object) → object_at kept_heap n ≡ Some z → z.link ≡ None → (w : Object) × (object_at gone n ≡ Some w) × (w.link ≡ None)
+  free_before n z at' free' = by (from n z at')
+    where
+      unlinked : (to : Option ℕ) (w : Object) → IsLinkedTo p to w z → w.link ≡ None
+      unlinked None w it = sym it.2 ∙ free'
+      unlinked (Some k) w it = absurd (let never : None ≡ Some (link_to k) = sym free' ∙ it.2 in cc)
+
+      by : IsFrom p at fr.locals.this caller.locals t.action plain gone says_none e n z → (w : Object) × (object_at gone n ≡ Some w) × (w.link ≡ None)
+      by (inl made) = (made.0, made.1, sym made.2.link ∙ free')
+      by (inr (inl alias)) = (alias.0, alias.1, unlinked aliased alias.0 alias.2.linked)
+      by (inr (inr noted)) = (noted.0, noted.1, ap (λ (u : Object). u.link) noted.2 ∙ free')
+
+  abbrev IsSettled : ℕ → Object → Type 0
+  IsSettled n y = (object_at kept_heap n ≡ Some y) ⊎ ((is_renewed p h caller n ≡ true) × (y.must ≡ must_of p y.class) × ((x : Object) → object_at h n ≡ Some x → x.finished ≡ true))
+
+  settled : (n : ℕ) (y : Object) → object_at heap n ≡ Some y → y.link ≡ None → IsSettled n y
+  unfolding is_anew_at_end
+  settled n y now free' = go (is_anew_at_end p caller.locals t.action (method_at p named) gone n) refl
+    where
+      z : (z : Object) × (object_at kept_heap n ≡ Some z) × (y.class ≡ z.class) × (y.link ≡ z.link) × (y.finished ≡ z.finished) × (y.owner ≡ z.owner)
+      z = was_kept n y now
+
+      itself : root called n ≡ n
+      itself =
+          let w = free_before n z.0 z.1 (sym z.3 ∙ free') in
+          let notes : ℕ → Object → Object = noted_object (all_notes p gone (receiver_note caller.locals t.action (method_at p named))) in
+          roots_of_links-itself called n (notes n w.0) (changed_object_at-object notes gone n ∙ ap (option_map (notes n)) w.1)
+          ((notes_add_names-object (all_notes p gone (receiver_note caller.locals t.action (method_at p named))) n w.0).link ∙ w.2)
+
+      all_must : is_reached called roots n ≡ true → y.must ≡ must_of p y.class
+      all_must is' =
+          let b = reset_back p called roots kept_heap heap reset_is n y now in
+          let turn : obligations.reset_in p called roots n b.0 ≡ emptied p true b.0 = rw is' (ap (λ (c : Bool). emptied p c b.0) (ap (λ (k : ℕ). nat_eq k n) itself ∙ eq-eqb n n refl)) in
+          let same : y ≡ emptied p true b.0 = sym b.2 ∙ turn in
+          ap (λ (u : Object). u.must) same ∙ ap (must_of p) (sym (ap (λ (u : Object). u.class) same))
+
+      go : (b : Bool) → is_anew_at_end p caller.locals t.action (method_at p named) gone n ≡ b → IsSettled n y
+      go false out = inl (reset_stays p called roots kept_heap heap reset_is n y out now)
+      go true anew = elim (as_turned p ac forms h agrees.links fr caller frs below sight dispatched making e v t named back agrees.ends answer.later ranges owning waiting.0 n y (values.Object n)
+          (ap Some (roots_of_links-itself heap n y now free')) now true anew z.0 z.1) [
+            | inl same ↦ inl (z.1 ∙ ap Some (sym same))
+            | inr turned ↦ inr (turned.1, all_must anew, turned.2)
+          ]
+
+  -- the frame owned its result
+  result_owner : (n : ℕ) (x u : Object) → object_at h n ≡ Some x → is_heavy_class p x.class ≡ true → may_owe x ≡ true → IsReturned p at runs v e h n x u → x.owner ≡ owners.Frame (at + 1)
+  result_owner n x u before heavy owes r =
+      returned_owner p ac h fr (caller ∷ frs) st mine' covered i s q here is at n x u before heavy owes r ∙ ap owners.Frame (let number : length (caller ∷ frs) + 1 ≡ at + 1 = omega arith in number)
+
+  unmade : (w : ℕ) (x : Object) → fields.is_new t.action ≡ true → fr.locals.this ≡ values.Object w → object_at h w ≡ Some x → x.finished ≡ false
+  unmade w x new this before = making j t w x there new this before
+
+  -- what a frame below the caller owns it goes on owning
+  low_stays : (a b : Owner) → OwnerGoes None at a b → (k : ℕ) → a ≡ owners.Frame k → k < at → b ≡ a
+  low_stays a b (owner_goes.stays same) k frame below' = same
+  low_stays a b (owner_goes.passed above held' frames) k frame below' = absurd (true≢false (sym above ∙ ap (is_frame_from at) frame ∙ ap not (lt-ltb k at below')))
+  low_stays a b (owner_goes.left none' gone' held') k frame below' = absurd (true≢false (sym (ap (is_frame_from 0) frame ∙ from_first k) ∙ none'))
+  low_stays a b (owner_goes.taken none' gone' held') k frame below' = absurd (true≢false (sym (ap (is_frame_from 0) frame ∙ from_first k) ∙ none'))
+
+  -- an object whose obligation is created anew is that of a frame, which tracks it
+  module _ (n : ℕ) (y : Object) (now : object_at heap n ≡ Some y) (unmet : is_unmet y ≡ true) (stays' : is_library_owner y.owner ≡ false)
+      (renewed : is_renewed p h caller n ≡ true) (must : y.must ≡ must_of p y.class) (made : (x : Object) → object_at h n ≡ Some x → x.finished ≡ true) where
+    x : (x : Object) × (object_at h n ≡ Some x) × (y.class ≡ x.class)
+    x = class_was n y now
+
+    z : (z : Object) × (object_at kept_heap n ≡ Some z) × (y.class ≡ z.class) × (y.link ≡ z.link) × (y.finished ≡ z.finished) × (y.owner ≡ z.owner)
+    z = was_kept n y now
+
+    bounded : set.is_subset y.must (must_of p y.class) ≡ true
+    bounded = ap (λ (u : Names). set.is_subset u (must_of p y.class)) must ∙ within_self (must_of p y.class)
+
+    heavy : is_heavy_class p x.0.class ≡ true
+    heavy = ap (is_heavy_class p) (sym x.2) ∙ heavy_by_unmet p y.class y unmet bounded
+
+    finished : x.0.finished ≡ true
+    finished = made x.0 x.1
+
+    still_owes : may_owe x.0 ≡ true
+    still_owes = not_the_librarys_owes x.0 (by (is_library_owner x.0.owner) refl)
+      where
+        by : (b : Bool) → is_library_owner x.0.owner ≡ b → is_library_owner x.0.owner ≡ false
+        by false none' = none'
+        by true library = absurd (true≢false (sym (ap is_library_owner z.5 ∙ end_keeps_library p at fr.locals.this caller.locals t.action runs plain v e h says_none unmade n x.0 z.0 x.1 z.1 finished library) ∙ stays'))
+
+    abbrev IsSomeones : Type 0
+    IsSomeones = (k : ℕ) × (y.owner ≡ owners.Frame k) × IsTracked p heap (after ∷ frs) n y k
+
+    callers : OwnsTarget p h frs caller n x.0 → IsSomeones
+    callers it =
+        let mine = it.key.owner it.kept in (
+          at,
+          z.5 ∙ end_keeps_own p at fr.locals.this caller.locals t.action runs plain v e h says_none unmade result_owner n x.0 z.0 x.1 z.1 finished heavy mine,
+          rw (eq-eqb (length frs + 1) at refl) (renewed_here n x.0 y x.1 finished heavy still_owes mine renewed x.2 bounded unmet),
+        )
+
+    lenders : IsLentFrom p h frs n x.0.owner → IsSomeones
+    lenders lent =
+        let it = lender_below p h frs n x.0.owner lent in
+        let low' = it.2 in
+        let kept_owner' : z.0.owner ≡ x.0.owner =
+        low_stays x.0.owner z.0.owner (end_owners_go p at fr.locals.this caller.locals t.action runs plain v e h says_none unmade result_owner None n x.0 z.0 x.1 z.1 finished heavy) it.0 it.1 (omega (arith, low')) in (
+          it.0,
+          z.5 ∙ kept_owner' ∙ it.1,
+          below_caller it.0 it.2 (lent_awaited p ac forms h heap n x.0 y x.1 heavy still_owes finished (stays n x.0 x.1 finished) x.2 bounded caller frs agrees.standing.1.1 agrees.stacked.1 waiting.1 it.0 it.1 lent),
+        )
+      where
+        below_caller : (k : ℕ) → k ≤ length frs → IsAwaited p heap frs n y k → IsTracked p heap (after ∷ frs) n y k
+        below_caller k low w = go (nat_eq (length frs + 1) k) refl
+          where
+            go : (b : Bool) → nat_eq (length frs + 1) k ≡ b → MatchBool b (Tracks p heap after n y) (IsAwaited p heap frs n y k)
+            go true here' = absurd (let same = eqb-true (length frs + 1) k here' in omega (arith, same, low))
+            go false other = w
+
+    someones : IsSomeones
+    someones = elim (owned_or_lent p ac forms h caller frs below j t there answer.row waiting.0 n x.0 x.1 heavy still_owes finished renewed) [ inl it ↦ callers it | inr lent ↦ lenders lent ]
+
+  -- a frame owns nothing that is linked
+  owned_free : (n k : ℕ) (y : Object) → object_at heap n ≡ Some y → y.owner ≡ owners.Frame k → y.link ≡ None
+  owned_free n k y now owner = go y.link refl
+    where
+      go : (l : Option Link) → y.link ≡ l → y.link ≡ None
+      go None none' = none'
+      go (Some l) some = absurd (let never : owners.Frame k ≡ owners.Unowned = sym owner ∙ (links n y l now some).owner in cc)
+
   tracked : (n : ℕ) (y : Object) (k : ℕ) → object_at heap n ≡ Some y → is_unmet y ≡ true → y.owner ≡ owners.Frame k → IsTracked p heap (after ∷ frs) n y k
-  tracked n y k now unmet owner = by (from n y now)
+  tracked n y k now unmet owner = elim (settled n y now (owned_free n k y now owner)) [
+    | inl there' ↦ by there' (from n y there')
+    | inr anew ↦ (let it = someones n y now unmet (ap is_library_owner owner) anew.0 anew.1 anew.2 in
+        subst (λ (c : ℕ). IsTracked p heap (after ∷ frs) n y c) (let both : owners.Frame it.0 ≡ owners.Frame k = sym it.1 ∙ owner in (let one : it.0 ≡ k = cc in one)) it.2)
+  ]
     where
       top : at ≡ k → Tracks p heap after n y → IsTracked p heap (after ∷ frs) n y k
       top same w = rw (eq-eqb (length frs + 1) k same) w
 
-      by : IsFrom p at fr.locals.this caller.locals t.action (method_at p named) gone answer.no_reset e n y → IsTracked p heap (after ∷ frs) n y k
-      by (inl made) =
+      by : object_at kept_heap n ≡ Some y → IsFrom p at fr.locals.this caller.locals t.action plain gone says_none e n y → IsTracked p heap (after ∷ frs) n y k
+      by there' (inl made) =
           let z = was_there n made.0 made.1 in
           top (let same : owners.Frame at ≡ owners.Frame k = sym made.2.owner ∙ owner in cc)
-          (finished_tracks p ac forms h heap fr caller below j t there q named answer at n z.0 made.0 y z.1 z.2 unmet made.2
-          (ap Some (roots_of_links-itself heap n y now (made.2.link ∙ z.2.link ∙ made_free n z.0 made.2.new made.2.self z.1))))
-      by (inr (inl alias)) = elim (alias_owner n alias.0 y aliased alias.2.new alias.2.self alias.1 alias.2.linked) [
+          (finished_tracks p ac forms h heap fr caller below j t there q named answer at n z.0 made.0 y z.1 z.2 unmet (finished_as (method_at p named) made.2)
+          (same_roots (values.Object n) ∙ ap Some (roots_of_links-itself kept_heap n y there' (made.2.link ∙ z.2.link ∙ made_free n z.0 made.2.new made.2.self z.1))))
+        where
+          finished_as : (m : Option Method) → IsFinished p at fr.locals.this t.action (without_reset m) e n made.0 y → IsFinished p at fr.locals.this t.action m e n made.0 y
+          finished_as None it = it
+          finished_as (Some m) it = record {
+            normal = it.normal;
+            new = it.new;
+            own = it.own;
+            self = it.self;
+            class = it.class;
+            finished = it.finished;
+            link = it.link;
+            must = it.must;
+            owner = it.owner;
+          }
+      by there' (inr (inl alias)) = elim (alias_owner n alias.0 y aliased alias.2.new alias.2.self alias.1 alias.2.linked) [
         | inl library ↦ absurd (let never : owners.Library ≡ owners.Frame k = sym library.0 ∙ owner in cc)
         | inr none' ↦ absurd (let never : owners.Unowned ≡ owners.Frame k = sym none'.0 ∙ owner in cc)
       ]
-      by (inr (inr noted)) = old_tracked n k y (kept n y unmet noted.0 noted.1 noted.2) unmet owner
+      by there' (inr (inr noted)) = old_tracked n k y (kept n y unmet noted.0 noted.1 noted.2) unmet owner
 
   answers : (n : ℕ) (y : Object) → object_at heap n ≡ Some y → y.link ≡ None → is_unmet y ≡ true → is_answering y.owner ≡ true
-  answers n y now free' unmet = by_from (from n y now)
+  answers n y now free' unmet = elim (settled n y now free') [ inl there' ↦ by_from (from n y there') | inr anew ↦ by_owner (is_library_owner y.owner) refl anew ]
     where
+      by_owner : (b : Bool) → is_library_owner y.owner ≡ b → (is_renewed p h caller n ≡ true) × (y.must ≡ must_of p y.class) × ((x : Object) → object_at h n ≡ Some x → x.finished ≡ true) → is_answering y.owner ≡ true
+      by_owner true library anew = answers_library y.owner library
+      by_owner false other anew = ap is_answering (someones n y now unmet other anew.0 anew.1 anew.2).1
+
       by : IsOld n y → is_answering y.owner ≡ true
       by old = elim old.owner [
         | inl same ↦ ap is_answering same ∙ agrees.answered n old.before old.there (sym old.goes_on.link ∙ free') (unmet_before old.before y old.goes_on unmet)
         | inr given' ↦ ap is_answering given'.owner
       ]
 
-      by_from : IsFrom p at fr.locals.this caller.locals t.action (method_at p named) gone answer.no_reset e n y → is_answering y.owner ≡ true
+      by_from : IsFrom p at fr.locals.this caller.locals t.action plain gone says_none e n y → is_answering y.owner ≡ true
       by_from (inl made) = ap is_answering made.2.owner
       by_from (inr (inl alias)) = elim (alias_owner n alias.0 y aliased alias.2.new alias.2.self alias.1 alias.2.linked) [
         | inl library ↦ ap is_answering library.0
@@ -590,75 +752,7 @@ module _ (p : Program) (ac : Accept p) (forms : HasPlainForms p) (names : HasSma
 
   -- ---- owners
 
-  -- what a frame or a field owns is finished
-  held_finished : (n : ℕ) (x : Object) (test : Owner → Bool) → test owners.Unowned ≡ false → object_at moved n ≡ Some x → test x.owner ≡ true → x.finished ≡ true
-  held_finished n x test none' now is' = go x.finished refl
-    where
-      go : (b : Bool) → x.finished ≡ b → b ≡ true
-      go true made = refl
-      go false unmade = absurd (true≢false (sym is' ∙ by (result_back p at runs v h e n x now)))
-        where
-          by : IsOlderAtResult p at runs v e h n x → test x.owner ≡ false
-          by old = elim old.owner [
-            | inl same ↦ ap test (same ∙ agrees.ends.unfinished n old.before old.at (sym old.goes_on.finished ∙ unmade)) ∙ none'
-            | inr given' ↦ absurd (true≢false (sym (finished_by p given'.type old.before given'.may) ∙ sym old.goes_on.finished ∙ unmade))
-          ]
-
-  frame_owner : (n : ℕ) (z : Object) → object_at (frame_ended p at runs v e h) n ≡ Some z → (x : Object) × (object_at moved n ≡ Some x) × (IsLastOwned z ⊎ IsSame x z)
-  frame_owner n z now =
-      let x = frame_back (at + 1) moved n z now in
-      (x.0, x.1, kept_owner (is_frame x.0.owner (at + 1)) x.0 z (held_finished n x.0 (λ w. is_frame w (at + 1)) refl x.1) x.2)
-
-  -- an object that the frame's end leaves has the owner that it had when the result had moved, or one that is no field
-  thrown_owner : (n : ℕ) (y z : Object) (w : Option ℕ) → (x : Object) × (object_at moved n ≡ Some x) × (IsLastOwned z ⊎ IsSame x z) → IsKeptOr (is_held w z) z y
-      → (x : Object) × (object_at moved n ≡ Some x) × (IsLastOwned y ⊎ IsSame x y)
-  thrown_owner n y z w x (inl same) = (x.0, x.1, subst (λ (u : Object). IsLastOwned u ⊎ IsSame x.0 u) (sym same) x.2)
-  thrown_owner n y z w x (inr gave) = (x.0, x.1, inl (subst (λ (u : Object). IsLast u.owner) (sym gave.1) (given_up_last z), inl (ap (λ (u : Object). u.finished) gave.1 ∙ made (is_held w z) gave.0 x.2)))
-    where
-      by_number : (o : Option ℕ) (u : Object) → u.owner ≡ owners.Unowned → is_held o u ≡ false
-      by_number None u none' = refl
-      by_number (Some c) u none' = ap (λ (q' : Owner). is_held_by q' c) none'
-
-      as_held : (o : Option ℕ) (a b : Object) → a.owner ≡ b.owner → is_held o a ≡ is_held o b
-      as_held None a b same = refl
-      as_held (Some c) a b same = ap (λ (q' : Owner). is_held_by q' c) same
-
-      unheld : (o : Option ℕ) (u : Object) → is_held o u ≡ true → u.owner ≡ owners.Unowned → ⊥
-      unheld o u held none' = true≢false (sym held ∙ by_number o u none')
-
-      made : (b : Bool) → is_held w z ≡ true → IsLastOwned z ⊎ IsSame x.0 z → z.finished ≡ true
-      made b held (inl last) = elim last.1 [
-        | inl done ↦ done
-        | inr none' ↦ absurd (unheld w z held none')
-      ]
-      made b held (inr same) =
-          same.1 ∙ held_finished n x.0 (λ o. is_held w (with_owner o x.0)) (by_number w (with_owner owners.Unowned x.0) refl) x.1 (as_held w (with_owner x.0.owner x.0) z (sym same.0) ∙ held)
-
-  gone_owner : (n : ℕ) (y : Object) → object_at gone n ≡ Some y → (x : Object) × (object_at moved n ≡ Some x) × (IsLastOwned y ⊎ IsSame x y)
-  gone_owner n y now = by_thrown e now
-    where
-      by_thrown : (c : Option ClassId) → object_at (constructor_ended fr.locals.this runs c (frame_ended p at runs v e h)) n ≡ Some y → (x : Object) × (object_at moved n ≡ Some x) × (IsLastOwned y ⊎ IsSame x y)
-      by_thrown None now' = frame_owner n y now'
-      by_thrown (Some c) now' = go (constructs runs) now'
-        where
-          go : (b : Bool) → object_at (if b then end_holder (number_of fr.locals.this) (frame_ended p at runs v e h) else frame_ended p at runs v e h) n ≡ Some y
-              → (x : Object) × (object_at moved n ≡ Some x) × (IsLastOwned y ⊎ IsSame x y)
-          go true there' =
-              let z = holder_back (number_of fr.locals.this) (frame_ended p at runs v e h) n y there' in
-              thrown_owner n y z.0 (number_of fr.locals.this) (frame_owner n z.0 z.1) z.2
-          go false there' = frame_owner n y there'
-
-  -- an object with an owner and a state
-  last_as : (x y : Object) → y.owner ≡ x.owner → y.finished ≡ x.finished → IsLastOwned x → IsLastOwned y
-  last_as x y owner finished last = (
-    subst IsLast (sym owner) last.0,
-    elim last.1 [
-      | inl done ↦ inl (finished ∙ done)
-      | inr none' ↦ inr (owner ∙ none')
-    ],
-  )
-
-  owned : (n : ℕ) (y : Object) → IsFrom p at fr.locals.this caller.locals t.action (method_at p named) gone answer.no_reset e n y → IsOwnedAs h heap n y
+  owned : (n : ℕ) (y : Object) → IsFrom p at fr.locals.this caller.locals t.action plain gone says_none e n y → IsLastOwned y ⊎ ((x : Object) × (object_at h n ≡ Some x) × IsSame x y)
   owned n y (inl made) = inl (subst IsLast (sym made.2.owner) tt, inl made.2.finished)
   owned n y (inr (inl alias)) = inl (
     elim (alias_owner n alias.0 y aliased alias.2.new alias.2.self alias.1 alias.2.linked) [
@@ -668,20 +762,25 @@ module _ (p : Program) (ac : Accept p) (forms : HasPlainForms p) (names : HasSma
     inl alias.2.finished,
   )
   owned n y (inr (inr noted)) =
-      let x = gone_owner n noted.0 noted.1 in
+      let x = gone_owner p at fr.locals.this runs v e h agrees.ends n noted.0 noted.1 in
       let old = result_back p at runs v h e n x.0 x.1 in
       let owner : y.owner ≡ noted.0.owner = sym (ap (λ (u : Object). u.owner) noted.2) in
       let finished : y.finished ≡ noted.0.finished = sym (ap (λ (u : Object). u.finished) noted.2) in
       elim x.2 [
         | inl last ↦ inl (last_as noted.0 y owner finished last)
         | inr same ↦ elim old.owner [
-          | inl kept' ↦ inr (inl (old.before, old.at, (owner ∙ same.0 ∙ kept', finished ∙ same.1 ∙ old.goes_on.finished)))
+          | inl kept' ↦ inr (old.before, old.at, (owner ∙ same.0 ∙ kept', finished ∙ same.1 ∙ old.goes_on.finished))
           | inr given' ↦ inl (subst IsLast (sym (owner ∙ same.0 ∙ given'.owner)) tt, inl (finished ∙ same.1 ∙ old.goes_on.finished ∙ finished_by p given'.type old.before given'.may))
         ]
       ]
 
   ends : HaveEnds heap
-  ends = ends_on h heap agrees.ends keeps.count (λ n y now. owned n y (from n y now))
+  ends = ends_on h heap agrees.ends keeps.count (λ n y now.
+      let z = was_kept n y now in
+      elim (owned n z.0 (from n z.0 z.1)) [
+        | inl last ↦ inl (last_as z.0 y z.5 z.4 last)
+        | inr same ↦ inr (inl (same.0, same.1, (z.5 ∙ same.2.0, z.4 ∙ same.2.1)))
+      ])
 
   pub returned_agrees : Stands p after → (pos : Pos)
       → Agrees p (after ∷ frs) (returned p h at fr.locals.this caller.locals t.action runs (method_at p named) v e pos t.pos (held_by (after ∷ frs))).heap

@@ -69,7 +69,8 @@ use Rattle.content_laws.proofs.GivenArguments.{asked_of_operand}
 use Rattle.content_laws.proofs.OwnerSteps.{movable_owes}
 use Rattle.content_laws.proofs.Chains.{IsOwnedAs, ends_on}
 use Rattle.content_laws.proofs.Landing.{landed}
-use Rattle.content_laws.specs.PlaceFacts.{IsCovered, gives_none, may_owe}
+use Rattle.content_laws.specs.Renewing.{is_renewed}
+use Rattle.content_laws.specs.PlaceFacts.{IsCovered, gives_none, renews_none, may_owe}
 use Rattle.content_laws.specs.Ranges.{LocalsInRange}
 use Rattle.content_laws.proofs.RangeValues.{operand_in_range}
 use Rattle.content_laws.proofs.Returned.{finished_by}
@@ -98,7 +99,7 @@ first_value l d n some small =
     ap (λ (t : Bool). temp_in l (if t then Some (d + 0) else None)) (is_there d n some small) ∙ ap (temp_value l) (let same : d + 0 ≡ d = omega arith in same)
 
 module _ (p : Program) (ac : Accept p) (forms : HasPlainForms p) (fr callee : Frame) (frs : List Frame) (h : HeapContents) (es : List Entry) (agrees : Agrees p (fr ∷ frs) h es)
-    (i : ℕ) (s : Step) (here : slice_get (frame_steps p fr) i ≡ Some s) (named runs : MethodId) (start : IsStarted p fr callee h s named runs) (sup : Supports p h fr) (targets : KeepsTargets p fr) (ranges : LocalsInRange h fr.locals) (covered : IsCovered p h gives_none frs fr) where
+    (i : ℕ) (s : Step) (here : slice_get (frame_steps p fr) i ≡ Some s) (named runs : MethodId) (start : IsStarted p fr callee h s named runs) (sup : Supports p h fr) (targets : KeepsTargets p fr) (ranges : LocalsInRange h fr.locals) (covered : IsCovered p h gives_none renews_none frs fr) where
   abbrev frames : List Frame
   frames = callee ∷ fr ∷ frs
 
@@ -146,7 +147,7 @@ module _ (p : Program) (ac : Accept p) (forms : HasPlainForms p) (fr callee : Fr
   awaits_top : (o j : ℕ) (x y : Object) → object_at h o ≡ Some x → object_at heap o ≡ Some y → GoesOn x y → is_unmet y ≡ true → x.owner ≡ owners.Frame j → y.owner ≡ owners.Frame j → j ≤ length (fr ∷ frs)
       → Tracks p h fr o x → Awaits p heap fr o y
   awaits_top o j x y before now goes unmet mine owner within t = record {
-    tracks = tracks_on p h heap fr o x y (stays o x before) goes t;
+    tracks = tracks_on p h heap false (is_renewed p heap fr o) fr o x y (λ never. absurd (true≢false (sym never))) (stays o x before) goes t;
     stays = λ k u there moved.
         let one : u.action ≡ s.action = one_action p agrees.standing.0.number fr.control i k s u (step_here p fr agrees.standing.0 i s here) (step_here p fr agrees.standing.0 k u there) (call_may s.action start.row) in
         let given : IsGiven p (operand_of fr.locals s.action) 1 (params_in (callees.callee p s.action)) h o x =

@@ -3,13 +3,16 @@ use Rattle.std.proofs.Common.{◌≡◌, ◌∙◌, ℕ, zero, suc, Bool, true, 
 use Rattle.std.specs.Prelude.{is_some}
 use Rattle.std.specs.List.{list_all}
 use Rattle.std.proofs.lemmas.Bool.{and_parts}
+use Rattle.program_model.specs.declared.kinds.BodyId.{BodyId}
 use Rattle.program_model.specs.declared.kinds.MethodId.{MethodId}
 use Rattle.program_model.specs.declared.program.Method.{Method}
 use Rattle.program_model.specs.declared.program.Program.{Program}
-use Rattle.program_model.specs.Lookups.{method_at}
-use Rattle.ledger_obligations.specs.Bodies.{reset_in}
+use Rattle.program_model.specs.declared.tree.Body.{Body}
+use Rattle.program_model.specs.Lookups.{body_at, method_at}
+use Rattle.ledger_obligations.specs.Bodies.{method_in, method_of, reset_in}
 use Rattle.java_control.specs.Calls.{called_method}
 use Rattle.java_control.specs.declared.action.Action.{Action}
+use Rattle.ledger_obligations.specs.Signatures.{is_position}
 use Rattle.content_laws.specs.PlainForms.{ResetsPlainly}
 use Rattle.ownership_rules.specs.Callees.{callee_in}
 use Rattle.soundness_laws.specs.Plain.{CreatesPlainly, creates_nothing}
@@ -31,6 +34,18 @@ module _ (p : Program) (nothing : creates_nothing p ≡ true) where
   no_reset : (m : MethodId) (n : Method) → method_at p m ≡ Some n → n.sig.reset ≡ None
   no_reset m n at = none_there n.sig.reset (all_at (λ (x : Method). not (is_some x.sig.reset)) p.methods.items m.0 n nothing at)
 
+  -- nor does the method of a body
+  none_of : (b : BodyId) → reset_in (method_of p b) ≡ None
+  none_of b = of (body_at p b)
+    where
+      method : (x : Option Method) (m : MethodId) → method_at p m ≡ x → reset_in x ≡ None
+      method None m at = refl
+      method (Some n) m at = no_reset m n at
+
+      of : (x : Option Body) → reset_in (method_in p x) ≡ None
+      of None = refl
+      of (Some x) = method (method_at p x.method) x.method refl
+
   none_in : (m : Option MethodId) → reset_in (callee_in p m) ≡ None
   none_in None = refl
   none_in (Some m) = go (method_at p m) refl
@@ -41,6 +56,6 @@ module _ (p : Program) (nothing : creates_nothing p ≡ true) where
 
   pub creates_plainly : CreatesPlainly p
   creates_plainly = record {
-    bodies = λ b x m at_b at. no_reset x.method m at;
+    bodies = λ b says f. absurd (true≢false (sym says ∙ ap (λ (r : Option ℕ). is_position r 0) (none_of b)));
     steps = λ b {k} i t comes there. inl (none_in (called_method t.action));
   }

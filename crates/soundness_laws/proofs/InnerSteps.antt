@@ -44,7 +44,6 @@ use Rattle.content_laws.specs.Nexts.{IsNullCall, IsPlainStep}
 use Rattle.content_laws.specs.Steps.{RootsStay}
 use Rattle.content_laws.proofs.CallNames.{operand_of_fact, receiver_operand}
 use Rattle.content_laws.proofs.KnownNames.{known_after_call}
-use Rattle.content_laws.proofs.LocalSteps.{resets_nothing}
 use Rattle.content_laws.proofs.Operations.{null_pointer_class, operations_throw_made_classes}
 use Rattle.soundness_laws.proofs.KeptPromises.{null_target_promises}
 use Rattle.soundness_laws.proofs.MadeClasses.{classes_on}
@@ -56,7 +55,7 @@ use Rattle.content_laws.proofs.LibraryCallLaws.{exceptions_are_the_librarys, exc
 use Rattle.content_laws.proofs.Stacks.{KeepsClasses, called_on}
 use Rattle.content_laws.proofs.Unmet.{way_of_call}
 use Rattle.content_laws.proofs.Moving.{moved_is_given}
-use Rattle.content_laws.proofs.Ready.{plain_step, ready, resets_plainly}
+use Rattle.content_laws.proofs.Ready.{plain_step, ready}
 use Rattle.content_laws.proofs.TargetTracks.{target_or_not, tracks_target}
 use Rattle.content_laws.proofs.Tracking.{is_owing, null_is_no_object, stack_tracks, tracks_call, tracks_plain}
 
@@ -157,10 +156,10 @@ module _ (p : Program) (ac : Accept p) (forms : HasPlainForms p) (fr : Frame) (f
       let way = way_of_call s row in
       let small = (ready p ac forms fr st i s here way).small in
       elim (target_or_not p s.action t.fact.places) [
-        | inl target ↦ tracks_target p ac forms h heap fr st i s here way v o y y (stays o y before) refl t.follows.bounded unmet t row target
+        | inl target ↦ tracks_target p ac forms h heap fr st i s here way v o y y (stays o y before) refl t.follows.bounded unmet false t row target
             (λ gives. absurd (null_gives_none p s.action s.edge t.fact.places call.target gives))
         | inr out ↦ tracks_call p ac forms h heap fr st i s here way v o y y (stays o y before) (same_goes_on y) unmet t row out
-            (known_after_call p st.number s.action s.edge t.fact y.called row (resets_nothing p st.number fr.control s.action (resets_plainly p ac forms fr st i s here)) t.follows.called
+            (known_after_call p st.number s.action s.edge t.fact y.called row t.follows.called
             (λ n held named. absurd (null_is_no_object h (operand_of fr.locals s.action 0) o call.null
             (operand_of_fact p h fr.method fr.locals s.action o 0 t.fact.places small (omega arith) t.follows.places (receiver_operand p h fr.method fr.locals o s.action t.fact.places t.follows.places held).1)))
             (null_target_promises p st.number s.action s.edge t.fact.places y.called call.target))

@@ -5,6 +5,9 @@ pub mod Finalizers
 pub mod SuperCalls
 pub mod CreatingNothing
 pub mod SuperAliases
+pub mod FieldShapes
+pub mod FieldsAlone
+pub mod ConstantReads
 pub mod PlainCalls
 pub mod PlainPrograms
 pub mod KeptPromises
@@ -12,10 +15,12 @@ pub mod InnerSteps
 pub mod StoreSteps
 pub mod OwnedFacts
 pub mod StoredFacts
-pub mod ResetSteps
+pub mod LentTargets
 pub mod LibrarySteps
 pub mod CallStarts
 pub mod Answered
+pub mod EndedObjects
+pub mod EndedNames
 pub mod CallEnds
 pub mod MainEnds
 pub mod Steps
@@ -28,4 +33,3 @@ pub mod SafeRuns
 pub mod BodilessRuns
 pub mod Answers
 pub use Rattle.content_laws.proofs.Tests
-pub use Rattle.content_laws.proofs.Unoverridden

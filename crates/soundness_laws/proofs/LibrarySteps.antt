@@ -1,5 +1,6 @@
 -- A call of the library begins and ends in one step.
-use Rattle.std.proofs.Common.{◌≡◌, ◌⊎◌, inl, inr, ℕ, ◌+◌, Bool, true, false, true≢false, Option, Some, None, List, ◌∷◌, ◌++◌, length, slice_get, refl, sym, ap, ◌∙◌, subst, if◌then◌else◌, arith, eq-eqb}
+use Rattle.std.specs.Prelude.{MatchBool}
+use Rattle.std.proofs.Common.{◌≡◌, ◌⊎◌, inl, inr, ℕ, ◌+◌, ◌≤◌, nat_eq, eqb-true, Bool, true, false, true≢false, Option, Some, None, List, ◌∷◌, ◌++◌, length, slice_get, refl, sym, ap, ◌∙◌, subst, if◌then◌else◌, arith, eq-eqb}
 use Rattle.std.specs.FinSet as set
 use Rattle.rlc_base.specs.declared.name_id.NameId.{NameId}
 use Rattle.rlc_base.proofs.SetLaws.{within_self, within_trans}
@@ -46,8 +47,8 @@ use Rattle.content_laws.specs.Heaps.{GoesOn, HasEarlierLinks, KeepsLinks}
 use Rattle.content_laws.specs.PlacePlaces.{IsWay}
 use Rattle.content_laws.specs.Chains.{HaveEnds, IsLast}
 use Rattle.content_laws.specs.LibraryClasses.{GivesLibraryClasses, ThrowsMadeClasses}
-use Rattle.content_laws.specs.Agreement.{Agrees, HasMadeClasses, IsTracked, Stands, Tracks, is_answering}
-use Rattle.content_laws.specs.PlainForms.{HasPlainForms, IsPlainAction, IsPlainReset, IsPlainSignature, may_be_made}
+use Rattle.content_laws.specs.Agreement.{Agrees, HasMadeClasses, IsAwaited, IsTracked, Stands, Tracks, is_answering}
+use Rattle.content_laws.specs.PlainForms.{HasPlainForms, IsAnsweredBy, IsPlainAction, IsPlainReset, may_be_made}
 use Rattle.content_laws.specs.Fitting.{FitsMethod}
 use Rattle.content_laws.proofs.LibraryCallLaws.{roots_go_on-value, roots_of_links-itself}
 use Rattle.content_laws.proofs.RootLaws.{has_object}
@@ -63,17 +64,17 @@ use Rattle.std.proofs.Common.{nat_lt}
 use Rattle.java_control.specs.declared.action.Edge.{Edge}
 use Rattle.content_laws.specs.Steps.{IsTrueTest, RootsStay, is_super}
 use Rattle.content_laws.proofs.AliasRoots.{OperandsAreThere, library_alias}
+use Rattle.content_laws.proofs.LibraryRuns.{one_alias}
 use Rattle.content_laws.proofs.Births.{heavy_by_unmet, made_tracks}
 use Rattle.content_laws.proofs.LibraryNames.{library_name_goes_on}
 use Rattle.content_laws.proofs.Goes.{not_the_librarys_owes}
 use Rattle.content_laws.specs.FieldContents.{LinksLead, OwningFieldsOwn}
-use Rattle.content_laws.specs.Linking.{LinkedAreAliases}
+use Rattle.content_laws.specs.Sight.{ActsInSight}
 use Rattle.content_laws.specs.Nexts.{IsConstantRead}
 use Rattle.content_laws.specs.Ranges.{LocalsInRange}
 use Rattle.content_laws.proofs.RangeValues.{operand_in_range}
 use Rattle.content_laws.proofs.CallNames.{noted_receiver, operand_of_fact, same_interest, small_name}
 use Rattle.content_laws.proofs.KnownNames.{AreKept, known_after_call}
-use Rattle.content_laws.proofs.LocalSteps.{resets_nothing}
 use Rattle.soundness_laws.proofs.KeptPromises.{library_promises_kept}
 use Rattle.content_laws.proofs.Unmet.{unmet_before, way_of_call}
 use Rattle.content_laws.proofs.Stacks.{KeepsClasses, called_on}
@@ -90,11 +91,15 @@ use Rattle.content_laws.proofs.LibraryCallLaws.{any_given_arguments_stay_given, 
 use Rattle.ledger_obligations.specs.Bodies.{reset_in}
 use Rattle.ledger_obligations.specs.MustCallSets.{Names, must_of}
 use Rattle.java_control.specs.declared.fact.Fact.{Fact}
+use Rattle.java_control.specs.declared.place.Place.TheVariants as places
+use Rattle.ownership_rules.specs.Facts.{has}
 use Rattle.content_laws.specs.Anew.{is_target}
-use Rattle.content_laws.specs.PlaceFacts.{IsCovered, gives_none}
-use Rattle.content_laws.proofs.ResetJoins.{no_holder, renewed_owned}
+use Rattle.content_laws.specs.PlaceFacts.{AreWaiting, Covers, IsCovered, IsOwned, gives_none, renews_none}
+use Rattle.content_laws.specs.Renewing.{IsLentFrom}
+use Rattle.content_laws.proofs.ResetJoins.{no_holder, renewed_in_hands}
 use Rattle.content_laws.proofs.TargetTracks.{target_or_not, tracks_target}
-use Rattle.soundness_laws.proofs.ResetSteps.{covered_tracks}
+use Rattle.content_laws.proofs.WaitingTargets.{covered_tracks, lender_below}
+use Rattle.soundness_laws.proofs.LentTargets.{lent_awaited}
 use Rattle.content_laws.proofs.Ready.{plain_step, ready, resets_plainly}
 use Rattle.content_laws.proofs.Tracking.{stack_tracks, tracks_call, tracks_plain}
 
@@ -154,48 +159,48 @@ constant_target h l a named is = go (reset_position named)
 abbrev pub IsBorn : Program → Locals → Action → Option Method → ℕ → Conduct → Object → Type 0
 IsBorn p l a m i d y = ((alias_position m ≡ None) × IsMadeAs p a m i d y) ⊎ ((k : ℕ) × (alias_position m ≡ Some k) × IsAliasMadeAs l a k d y)
 
--- a call of the library that names this method, or a read of a constant
-pub record IsLibraryStep (p : Program) (h : HeapContents) (arrays : List ArrayObject) (l : Locals) (s : Step) (named : MethodId) (d : Conduct) (v : Value) : Type 0 where
+-- a call of the library that names this method, or a read of a constant, which the library answers by the signature of the method `m`
+pub record IsLibraryStep (p : Program) (h : HeapContents) (arrays : List ArrayObject) (l : Locals) (s : Step) (named m : MethodId) (d : Conduct) (v : Value) : Type 0 where
+  pub answers : IsAnsweredBy p named m
   pub row : (IsCallRow s.action × (called_method s.action ≡ Some named)) ⊎ IsConstantRead s.action
-  pub signature : IsPlainSignature p (method_at p named)
-  pub library : is_library_method p (method_at p named) ≡ true
+  pub library : is_library_method p (method_at p m) ≡ true
   pub other : (e : ClassId) → d ≡ conducts.Fresh e → is_super s.action ≡ false
-  pub made : (e : ClassId) → d ≡ conducts.Fresh e → (s.edge ≡ edges.Go) × FitsMethod p (method_at p named) (conducts.Fresh e) × (v ≡ values.Object (next_number h))
+  pub made : (e : ClassId) → d ≡ conducts.Fresh e → (s.edge ≡ edges.Go) × FitsMethod p (method_at p m) (conducts.Fresh e) × (v ≡ values.Object (next_number h))
   pub thrown : (e : ClassId) → d ≡ conducts.Throws e → (c : ClassId) × (s.edge ≡ edges.Throws c)
   pub normal : ((e : ClassId) → d ≡ conducts.Throws e → ⊥) → s.edge ≡ edges.Go
-  pub by : (choice : Choice) × (d ≡ on_this s.action (settled p h arrays named choice (position_of None l s.action)))
+  pub by : (choice : Choice) × (d ≡ on_this s.action (settled p h arrays m choice (position_of None l s.action)))
   pub ran : called_method s.action ≡ Some named → (is_library_method p (method_at p (running p h l s.action named)) ≡ true)
       × (fits_target p h arrays (method_at p named) (form_of s.action) (operand_of l s.action 0) ≡ true)
       × ((c : ClassId) → runtime_class p h (operand_of l s.action 0) ≡ Some c → may_be_made p c ≡ true)
   pub count : ℕ
-  pub value : v ≡ conduct_value count (method_at p named) (positions l s.action (next_number h) d) (next_number h) d
+  pub value : v ≡ conduct_value count (method_at p m) (positions l s.action (next_number h) d) (next_number h) d
 
 module _ (p : Program) (ac : Accept p) (forms : HasPlainForms p) (names : HasSmallInterests p) (fr : Frame) (frs : List Frame) (h : HeapContents)
-    (es : List Entry) (agrees : Agrees p (fr ∷ frs) h es) (i : ℕ) (s : Step) (here : slice_get (frame_steps p fr) i ≡ Some s) (named : MethodId) (d : Conduct) (v : Value)
-    (arrays : List ArrayObject) (step : IsLibraryStep p h arrays fr.locals s named d v) (ranges : LocalsInRange h fr.locals) (led : LinksLead p h)
-    (covered : IsCovered p h gives_none frs fr) (owning : OwningFieldsOwn p h) (aliases : LinkedAreAliases p h) where
+    (es : List Entry) (agrees : Agrees p (fr ∷ frs) h es) (i : ℕ) (s : Step) (here : slice_get (frame_steps p fr) i ≡ Some s) (named m : MethodId) (d : Conduct) (v : Value)
+    (arrays : List ArrayObject) (step : IsLibraryStep p h arrays fr.locals s named m d v) (ranges : LocalsInRange h fr.locals) (led : LinksLead p h)
+    (covered : IsCovered p h gives_none renews_none frs fr) (waiting : AreWaiting p h frs) (owning : OwningFieldsOwn p h) (sight : ActsInSight p h fr) where
   abbrev after : Frame
   after = frame_after p h fr s v
 
   abbrev heap : HeapContents
-  heap = library_heap p fr.locals s.action (method_at p named) (method_at p named) d (length frs + 1) h
+  heap = library_heap p fr.locals s.action (method_at p named) (method_at p m) d (length frs + 1) h
 
   -- the obligation of the object is created anew
   abbrev anew : ℕ → Bool
-  anew = is_anew p fr.locals s.action (method_at p named) (method_at p named) d h
+  anew = is_anew p fr.locals s.action (method_at p named) (method_at p m) d h
 
   abbrev IsMade : ℕ → Object → Type 0
-  IsMade o y = (o ≡ next_number h) × IsBorn p fr.locals s.action (method_at p named) (length frs + 1) d y
+  IsMade o y = (o ≡ next_number h) × IsBorn p fr.locals s.action (method_at p m) (length frs + 1) d y
 
   was_there : (o : ℕ) (y : Object) → object_at heap o ≡ Some y → IsOlderAside anew h o y owners.Library ⊎ IsMade o y
-  was_there o y at = go (alias_position (method_at p named)) refl
+  was_there o y at = go (alias_position (method_at p m)) refl
     where
-      go : (alias : Option ℕ) → alias_position (method_at p named) ≡ alias → IsOlderAside anew h o y owners.Library ⊎ IsMade o y
-      go None none = elim (any_library_objects_are_older_or_made p fr.locals s.action (method_at p named) (method_at p named) d (length frs + 1) h o y none at) [
+      go : (alias : Option ℕ) → alias_position (method_at p m) ≡ alias → IsOlderAside anew h o y owners.Library ⊎ IsMade o y
+      go None none = elim (any_library_objects_are_older_or_made p fr.locals s.action (method_at p named) (method_at p m) d (length frs + 1) h o y none at) [
         | inl old ↦ inl old
         | inr new ↦ inr (new.0, inl (none, new.1))
       ]
-      go (Some k) some = elim (any_library_aliases_are_older_or_made p fr.locals s.action (method_at p named) (method_at p named) d (length frs + 1) h o k y some at) [
+      go (Some k) some = elim (any_library_aliases_are_older_or_made p fr.locals s.action (method_at p named) (method_at p m) d (length frs + 1) h o k y some at) [
         | inl old ↦ inl old
         | inr new ↦ inr (new.0, inr (k, some, new.1))
       ]
@@ -206,10 +211,10 @@ module _ (p : Program) (ac : Accept p) (forms : HasPlainForms p) (names : HasSma
   there k w number = operand_in_range h fr.locals ranges s.action k w number
 
   links : HasEarlierLinks heap
-  links = any_library_links_stay p fr.locals s.action (method_at p named) (method_at p named) d (length frs + 1) h agrees.links (λ k w alias number. there k w number)
+  links = any_library_links_stay p fr.locals s.action (method_at p named) (method_at p m) d (length frs + 1) h agrees.links (λ k w alias number. there k w number)
 
   keeps_links : KeepsLinks h heap
-  keeps_links = aside_links anew h heap (any_library_objects_go_on p fr.locals s.action (method_at p named) (method_at p named) d (length frs + 1) h)
+  keeps_links = aside_links anew h heap (any_library_objects_go_on p fr.locals s.action (method_at p named) (method_at p m) d (length frs + 1) h)
 
   roots_stay : (o : ℕ) (x : Object) → object_at h o ≡ Some x → RootsStay h heap o
   roots_stay o x before u root' = roots_go_on-value h heap u o x agrees.links keeps_links root' before
@@ -221,15 +226,15 @@ module _ (p : Program) (ac : Accept p) (forms : HasPlainForms p) (names : HasSma
   plain_goes o x y out on = record { class = on.class; link = on.link; finished = on.finished; must = on.must out; called = on.called out }
 
   new_stays : (o : ℕ) → o ≡ next_number h → anew o ≡ true → ⊥
-  new_stays o new is = true≢false (sym is ∙ ap anew new ∙ fresh_stays p fr.locals s.action (method_at p named) (method_at p named) d (length frs + 1) h)
+  new_stays o new is = true≢false (sym is ∙ ap anew new ∙ fresh_stays p fr.locals s.action (method_at p named) (method_at p m) d (length frs + 1) h)
 
   none_anew : (o : ℕ) → reset_position (method_at p named) ≡ None → anew o ≡ true → ⊥
-  none_anew o none is = true≢false (sym is ∙ emptied_roots-none p fr.locals s.action (method_at p named) (method_at p named) d h o none)
+  none_anew o none is = true≢false (sym is ∙ emptied_roots-none p fr.locals s.action (method_at p named) (method_at p m) d h o none)
 
   constant_stays : IsConstantRead s.action → (o : ℕ) (x : Object) → object_at h o ≡ Some x → anew o ≡ true → ⊥
   constant_stays constant o x before is =
       let none = constant_target h fr.locals s.action (method_at p named) constant in
-      let some = emptied_roots-root p fr.locals s.action (method_at p named) (method_at p named) d h o x agrees.links
+      let some = emptied_roots-root p fr.locals s.action (method_at p named) (method_at p m) d h o x agrees.links
       (λ n z target there. absurd (let never : None ≡ Some n = sym none ∙ target in cc)) before is in
       let never : None ≡ Some (root h o) = sym none ∙ some in
       cc
@@ -238,7 +243,7 @@ module _ (p : Program) (ac : Accept p) (forms : HasPlainForms p) (names : HasSma
   same_reset None = refl
   same_reset (Some m) = refl
 
-  -- an object whose obligation is created anew, and that may owe a call, is the frame's, which tracked it
+  -- an object whose obligation is created anew, and that may owe a call, is that of a frame, which tracks it
   module _ (o : ℕ) (y : Object) (at : object_at heap o ≡ Some y) (free : y.link ≡ None) (is : anew o ≡ true) (unmet : is_unmet y ≡ true) (stays : is_library_owner y.owner ≡ false) where
     before : (x : Object) × (object_at h o ≡ Some x) × (x.link ≡ None)
     before = elim (was_there o y at) [
@@ -247,7 +252,7 @@ module _ (p : Program) (ac : Accept p) (forms : HasPlainForms p) (names : HasSma
     ]
 
     must_is : y.must ≡ must_of p y.class
-    must_is = emptied_root p fr.locals s.action (method_at p named) (method_at p named) d (length frs + 1) h o before.0 y is before.1 before.2 at
+    must_is = emptied_root p fr.locals s.action (method_at p named) (method_at p m) d (length frs + 1) h o before.0 y is before.1 before.2 at
 
     bounded : set.is_subset y.must (must_of p y.class) ≡ true
     bounded = ap (λ (t : Names). set.is_subset t (must_of p y.class)) must_is ∙ within_self (must_of p y.class)
@@ -255,11 +260,22 @@ module _ (p : Program) (ac : Accept p) (forms : HasPlainForms p) (names : HasSma
     wide : is_heavy_class p y.class ≡ true
     wide = heavy_by_unmet p y.class y unmet bounded
 
-    abbrev IsTopmost : Type 0
-    IsTopmost = (y.owner ≡ owners.Frame (length frs + 1)) × Tracks p heap after o y
+    abbrev IsSomeones : Type 0
+    IsSomeones = (j : ℕ) × (y.owner ≡ owners.Frame j) × IsTracked p heap (after ∷ frs) o y j
 
-    topmost : IsTopmost
-    topmost = elim step.row [
+    top_owns : (y.owner ≡ owners.Frame (length frs + 1)) → Tracks p heap after o y → IsSomeones
+    top_owns mine t = (length frs + 1, mine, rw (eq-eqb (length frs + 1) (length frs + 1) refl) t)
+
+    -- a frame below
+    lent_tracked : (j : ℕ) → j ≤ length frs → IsAwaited p heap frs o y j → IsTracked p heap (after ∷ frs) o y j
+    lent_tracked j low w = go (nat_eq (length frs + 1) j) refl
+      where
+        go : (b : Bool) → nat_eq (length frs + 1) j ≡ b → MatchBool b (Tracks p heap after o y) (IsAwaited p heap frs o y j)
+        go true here' = absurd (let same = eqb-true (length frs + 1) j here' in omega (arith, same, low))
+        go false other = w
+
+    someones : IsSomeones
+    someones = elim step.row [
       | inl call ↦ elim (resets_plainly p ac forms fr agrees.standing.0 i s here) [
         | inl none ↦ absurd (none_anew o (sym (same_reset (method_at p named)) ∙ ap reset_in (sym (ap (callee_in p) call.1)) ∙ none) is)
         | inr plain ↦ by call.0 call.1 plain
@@ -267,32 +283,45 @@ module _ (p : Program) (ac : Accept p) (forms : HasPlainForms p) (names : HasSma
       | inr constant ↦ absurd (constant_stays constant o before.0 before.1 is)
     ]
       where
-        by : IsCallRow s.action → called_method s.action ≡ Some named → IsPlainReset p agrees.standing.0.number fr.control s.action → IsTopmost
+        by : IsCallRow s.action → called_method s.action ≡ Some named → IsPlainReset p agrees.standing.0.number fr.control s.action → IsSomeones
         by row called plain =
-            let r = renewed_owned p ac forms h agrees.links fr frs agrees.standing.0 ranges named d i s here called row plain covered
-            (no_holder p ac forms h agrees.links fr frs agrees.standing.0 ranges named d i s here called row plain covered owning aliases arrays (step.ran called).1)
+            let r = renewed_in_hands p ac forms h agrees.links fr frs agrees.standing.0 ranges named m d i s here called row plain covered
+            (no_holder p ac forms h agrees.links fr frs agrees.standing.0 ranges named m d i s here called row plain covered owning sight arrays (step.ran called).1)
             o y at free is wide (not_the_librarys_owes y stays) in
-            let x = r.1.0 in
-            let t = covered_tracks p ac h fr frs agrees.standing.0 o x r.1.3.0 r.1.3.1 r.1.3.3.0 r.1.3.3.1 in
-            let small : IsSmallAction p s.action = (ready p ac forms fr agrees.standing.0 i s here (way_of_call s row)).small in (
-              r.0,
-              tracks_target p ac forms h heap fr agrees.standing.0 i s here (way_of_call s row) v o x y (roots_stay o x r.1.1) r.1.2 bounded unmet t.0 row
-                  (ap (λ (f : Fact). is_target p s.action f.places) t.1 ∙ r.1.3.2)
-                  (λ gives. ap (root_of heap) step.value
-                  ∙ library_alias p ac h agrees.links arrays fr.locals s.action s.edge t.0.fact.places named (method_at p named) d (length frs + 1) step.count o small (plain_step p ac forms fr agrees.standing.0 i s here)
-                  (ap (callee_in p) called) there step.by step.thrown (λ k near held. operand_of_fact p h fr.method fr.locals s.action o k t.0.fact.places small near t.0.follows.places held) gives),
-            )
+            in_hands r
+          where
+            small : IsSmallAction p s.action
+            small = (ready p ac forms fr agrees.standing.0 i s here (way_of_call s row)).small
 
-  owner_answers : (a : Action) (j : ℕ) → is_answering (result_owner a (method_at p named) j) ≡ true
+            in_hands : (x : Object) × (object_at h o ≡ Some x) × (x.finished ≡ true) × (y.class ≡ x.class) × (y.owner ≡ x.owner)
+                × (((x.owner ≡ owners.Frame (length frs + 1)) × ((c : Covers p h false false frs fr o x) × IsOwned p h false false frs fr o x c × (is_target p s.action c.fact.places ≡ true) × ((t : ℕ) × (has c.fact.places (places.Temp t) ≡ true))))
+                ⊎ IsLentFrom p h frs o x.owner) → IsSomeones
+            in_hands (x, was, done, class, owner, inl (mine, (c, key, target, (t, there')))) =
+                let tr = covered_tracks p ac h fr frs agrees.standing.0 false false o x c key refl t there' in
+                top_owns (owner ∙ mine)
+                (tracks_target p ac forms h heap fr agrees.standing.0 i s here (way_of_call s row) v o x y (roots_stay o x was) class bounded unmet false tr.0 row
+                (ap (λ (f : Fact). is_target p s.action f.places) tr.1 ∙ target)
+                (λ gives. ap (root_of heap) step.value
+                ∙ library_alias p ac h agrees.links arrays fr.locals s.action s.edge tr.0.fact.places named m (method_at p named) d (length frs + 1) step.count o small (plain_step p ac forms fr agrees.standing.0 i s here)
+                (ap (callee_in p) called) step.answers there step.by step.thrown (λ k near held. operand_of_fact p h fr.method fr.locals s.action o k tr.0.fact.places small near tr.0.follows.places held) gives))
+            in_hands (x, was, done, class, owner, inr lent) =
+                let lender = lender_below p h frs o x.owner lent in (
+                  lender.0,
+                  owner ∙ lender.1,
+                  lent_tracked lender.0 lender.2 (lent_awaited p ac forms h heap o x y was (ap (is_heavy_class p) (sym class) ∙ wide) (not_the_librarys_owes x (ap is_library_owner (sym owner) ∙ stays)) done
+                      (roots_stay o x was) class bounded fr frs agrees.standing.1 agrees.stacked waiting lender.0 lender.1 lent),
+                )
+
+  owner_answers : (a : Action) (j : ℕ) → is_answering (result_owner a (method_at p m) j) ≡ true
   owner_answers (actions.New m k n) j = refl
   owner_answers (actions.Plain q x) j = refl
-  owner_answers a j = either (owning_in (method_at p named))
+  owner_answers a j = either (owning_in (method_at p m))
     where
       either : (b : Bool) → is_answering (if b then owners.Frame j else owners.Library) ≡ true
       either true = refl
       either false = refl
 
-  made_answers : (y : Object) (c : Conduct) → IsMadeAs p s.action (method_at p named) (length frs + 1) c y → is_answering y.owner ≡ true
+  made_answers : (y : Object) (c : Conduct) → IsMadeAs p s.action (method_at p m) (length frs + 1) c y → is_answering y.owner ≡ true
   made_answers y (conducts.Throws e) made = ap is_answering made.0
   made_answers y (conducts.Fresh e) made = ap is_answering made.2 ∙ owner_answers s.action (length frs + 1)
   made_answers y conducts.Null made = absurd made
@@ -337,7 +366,7 @@ module _ (p : Program) (ac : Accept p) (forms : HasPlainForms p) (names : HasSma
 
       renewed : (b : Bool) → is_library_owner y.owner ≡ b → anew o ≡ true → is_answering y.owner ≡ true
       renewed true gone is = librarys y.owner gone
-      renewed false stays is = ap is_answering (topmost o y at free is unmet stays).0
+      renewed false stays is = ap is_answering (someones o y at free is unmet stays).1
 
       older_answers : (old : IsOlderAside anew h o y owners.Library) → y.owner ≡ old.before.owner → (b : Bool) → anew o ≡ b → is_answering y.owner ≡ true
       older_answers old same true is = renewed (is_library_owner y.owner) refl is
@@ -376,17 +405,17 @@ module _ (p : Program) (ac : Accept p) (forms : HasPlainForms p) (names : HasSma
         let leads = led is.object o first.0 x first.1 is.root before heavy (not_the_librarys_owes x (ap is_library_owner mine)) in
         let has = subst (λ (m : Option Method). has_note (receiver_note fr.locals s.action m) (note false is.object n) ≡ true) same_callee is.noted in
         let ran = step.ran called in
-        any_receiver_is_called p fr.locals s.action (method_at p named) (method_at p named) d (length frs + 1) h (note false is.object n) o first.0 y agrees.links few out has first.1
+        any_receiver_is_called p fr.locals s.action (method_at p named) (method_at p m) d (length frs + 1) h (note false is.object n) o first.0 y agrees.links few out has first.1
         (library_name_goes_on p ac forms h arrays fr.locals s.action named ran.0 ran.1 is.object n first.0 has first.1 ran.2 o leads) leads now
 
     kept : AreKept p st.number s.action t.fact.places y.called (promises_at p s.action s.edge)
-    kept = library_promises_kept p ac h agrees.links led fr.method fr.locals s.action named d (length frs + 1) small t.fact.places o out t.follows.places x y before heavy (not_the_librarys_owes x (ap is_library_owner mine)) now
+    kept = library_promises_kept p ac h agrees.links led fr.method fr.locals s.action named m step.answers d (length frs + 1) small t.fact.places o out t.follows.places x y before heavy (not_the_librarys_owes x (ap is_library_owner mine)) now
         st.number s.edge same_callee step.thrown step.normal
 
     stays : moved_at_call p t.origin s.action s.edge t.fact ≡ moves.Moves → ⊥
     stays moved =
         let given = given_argument p h fr.method fr.locals s.action s.edge o j x t.origin t.fact small t.follows (unmet_before x y goes unmet) mine moved in
-        let given_to = any_given_arguments_stay_given p fr.locals s.action (method_at p named) (method_at p named) d (length frs + 1) given.index given.param h o x y
+        let given_to = any_given_arguments_stay_given p fr.locals s.action (method_at p named) (method_at p m) d (length frs + 1) given.index given.param h o x y
         (subst (λ (m : Option Method). slice_get (params_in m) given.index ≡ Some given.param) same_callee given.at) given.owning given.root before given.may now in
         let never : owners.Frame j ≡ owners.Library = sym owner ∙ given_to in
         cc
@@ -395,18 +424,18 @@ module _ (p : Program) (ac : Accept p) (forms : HasPlainForms p) (names : HasSma
     alias_given : gives_alias p s.action s.edge t.fact.places ≡ true → root_of heap v ≡ Some o
     alias_given gives =
         ap (root_of heap) step.value
-        ∙ library_alias p ac h agrees.links arrays fr.locals s.action s.edge t.fact.places named (method_at p named) d (length frs + 1) step.count o small form same_callee there step.by step.thrown
+        ∙ library_alias p ac h agrees.links arrays fr.locals s.action s.edge t.fact.places named m (method_at p named) d (length frs + 1) step.count o small form same_callee step.answers there step.by step.thrown
         (λ k near held. operand_of_fact p h fr.method fr.locals s.action o k t.fact.places small near t.follows.places held) gives
 
     apart_call : is_target p s.action t.fact.places ≡ false → Tracks p heap after o y
     apart_call apart = tracks_call p ac forms h heap fr st i s here (way_of_call s row) v o x y (roots_stay o x before) goes unmet t row apart
-        (known_after_call p st.number s.action s.edge t.fact y.called row (resets_nothing p st.number fr.control s.action (resets_plainly p ac forms fr st i s here)) (within_trans t.fact.called x.called y.called t.follows.called goes.called) noted kept)
+        (known_after_call p st.number s.action s.edge t.fact y.called row (within_trans t.fact.called x.called y.called t.follows.called goes.called) noted kept)
         alias_given stays
 
     top_call : Tracks p heap after o y
     top_call = elim (target_or_not p s.action t.fact.places) [
       | inl target ↦ tracks_target p ac forms h heap fr st i s here (way_of_call s row) v o x y (roots_stay o x before) goes.class
-          (ap (λ (u : Names). set.is_subset u (must_of p y.class)) goes.must ∙ ap (λ (c : ClassId). set.is_subset x.must (must_of p c)) goes.class ∙ t.follows.bounded) unmet t row target alias_given
+          (ap (λ (u : Names). set.is_subset u (must_of p y.class)) goes.must ∙ ap (λ (c : ClassId). set.is_subset x.must (must_of p c)) goes.class ∙ t.follows.bounded) unmet false t row target alias_given
       | inr apart ↦ apart_call apart
     ]
 
@@ -419,23 +448,22 @@ module _ (p : Program) (ac : Accept p) (forms : HasPlainForms p) (names : HasSma
   ]
 
   -- the object that the call made for the frame
-  made_top : (e : ClassId) → d ≡ conducts.Fresh e → (j : ℕ) (y : Object) → object_at heap (next_number h) ≡ Some y → alias_position (method_at p named) ≡ None
-      → IsMadeAs p s.action (method_at p named) (length frs + 1) (conducts.Fresh e) y → is_unmet y ≡ true → y.owner ≡ owners.Frame j → IsTracked p heap (after ∷ frs) (next_number h) y j
+  made_top : (e : ClassId) → d ≡ conducts.Fresh e → (j : ℕ) (y : Object) → object_at heap (next_number h) ≡ Some y → alias_position (method_at p m) ≡ None
+      → IsMadeAs p s.action (method_at p m) (length frs + 1) (conducts.Fresh e) y → is_unmet y ≡ true → y.owner ≡ owners.Frame j → IsTracked p heap (after ∷ frs) (next_number h) y j
   made_top e is j y now plain made unmet owner = elim step.row [
-    | inl call ↦ at_top (frame_owner s.action (method_at p named) (length frs + 1) j (sym owner ∙ made.2)) (subst (λ (w : Value). Tracks p heap (frame_after p h fr s w) (next_number h) y) (sym (step.made e is).2)
+    | inl call ↦ at_top (frame_owner s.action (method_at p m) (length frs + 1) j (sym owner ∙ made.2)) (subst (λ (w : Value). Tracks p heap (frame_after p h fr s w) (next_number h) y) (sym (step.made e is).2)
         (made_tracks p ac forms h heap fr agrees.standing.0 i s here (way_of_call s call.0) (next_number h) y (values.Object (next_number h))
         (ap Some (roots_of_links-itself heap (next_number h) y now made.3)) e j (length frs + 1) unmet (step.made e is).0 owner call.0 (step.other e is)
-        (λ m at. ap (λ (z : MethodId). alias_in (method_at p z)) (let same : Some m ≡ Some named = sym at ∙ call.1 in (let one : m ≡ named = cc in one)) ∙ same_alias (method_at p named) ∙ plain)
-        (λ m at. subst (λ (z : MethodId). IsMadeAs p s.action (method_at p z) (length frs + 1) (conducts.Fresh e) y × FitsMethod p (method_at p z) (conducts.Fresh e))
-        (let same : Some named ≡ Some m = sym call.1 ∙ at in cc) (made, (step.made e is).1))))
-    | inr constant ↦ absurd (constant_owner s.action (method_at p named) (length frs + 1) j constant (sym owner ∙ made.2))
+        (λ k at. ap (λ (z : MethodId). alias_in (method_at p z)) (let same : Some k ≡ Some named = sym at ∙ call.1 in (let one : k ≡ named = cc in one)) ∙ same_alias (method_at p named) ∙ sym (one_alias p named m step.answers) ∙ plain)
+        m (λ k at. (subst (λ (z : MethodId). IsAnsweredBy p z m) (let same : Some named ≡ Some k = sym call.1 ∙ at in cc) step.answers, (made, (step.made e is).1)))))
+    | inr constant ↦ absurd (constant_owner s.action (method_at p m) (length frs + 1) j constant (sym owner ∙ made.2))
   ]
     where
       at_top : length frs + 1 ≡ j → Tracks p heap after (next_number h) y → IsTracked p heap (after ∷ frs) (next_number h) y j
       at_top same t = rw (eq-eqb (length frs + 1) j same) t
 
-  made_tracked : (c : Conduct) → d ≡ c → (j : ℕ) (y : Object) → object_at heap (next_number h) ≡ Some y → alias_position (method_at p named) ≡ None
-      → IsMadeAs p s.action (method_at p named) (length frs + 1) c y → is_unmet y ≡ true → y.owner ≡ owners.Frame j → IsTracked p heap (after ∷ frs) (next_number h) y j
+  made_tracked : (c : Conduct) → d ≡ c → (j : ℕ) (y : Object) → object_at heap (next_number h) ≡ Some y → alias_position (method_at p m) ≡ None
+      → IsMadeAs p s.action (method_at p m) (length frs + 1) c y → is_unmet y ≡ true → y.owner ≡ owners.Frame j → IsTracked p heap (after ∷ frs) (next_number h) y j
   made_tracked (conducts.Throws e) is j y now plain made unmet owner = absurd (let never : owners.Frame j ≡ owners.Library = sym owner ∙ made.0 in cc)
   made_tracked (conducts.Fresh e) is j y now plain made unmet owner = made_top e is j y now plain made unmet owner
   made_tracked conducts.Null is j y now plain made unmet owner = absurd made
@@ -480,9 +508,9 @@ module _ (p : Program) (ac : Accept p) (forms : HasPlainForms p) (names : HasSma
           (top o j old.before y old.at at goes unmet mine owner out)
           (agrees.tracked o old.before j old.at (unmet_before old.before y goes unmet) mine)
       go true is =
-          let it = topmost o y at (owned_free o j y at owner) is unmet (ap is_library_owner owner) in
-          let here' : length frs + 1 ≡ j = (let both : owners.Frame (length frs + 1) ≡ owners.Frame j = sym it.0 ∙ owner in (let one : length frs + 1 ≡ j = cc in one)) in
-          rw (eq-eqb (length frs + 1) j here') it.1
+          let it = someones o y at (owned_free o j y at owner) is unmet (ap is_library_owner owner) in
+          let same' : it.0 ≡ j = (let both : owners.Frame it.0 ≡ owners.Frame j = sym it.1 ∙ owner in (let one : it.0 ≡ j = cc in one)) in
+          subst (λ (n : ℕ). IsTracked p heap (after ∷ frs) o y n) same' it.2
 
   tracked : (o : ℕ) (y : Object) (j : ℕ) → object_at heap o ≡ Some y → is_unmet y ≡ true → y.owner ≡ owners.Frame j → IsTracked p heap (after ∷ frs) o y j
   tracked o y j at unmet owner = elim (was_there o y at) [
@@ -498,23 +526,23 @@ module _ (p : Program) (ac : Accept p) (forms : HasPlainForms p) (names : HasSma
 
   keeps : KeepsClasses h heap
   keeps = record {
-    count = library_count p fr.locals s.action (method_at p named) (method_at p named) d (length frs + 1) h;
+    count = library_count p fr.locals s.action (method_at p named) (method_at p m) d (length frs + 1) h;
     class = λ o y at small. elim (was_there o y at) [
       | inl old ↦ (old.before, old.at, old.goes_on.class)
       | inr new ↦ absurd (let number = new.0 in omega (arith, number, small))
     ];
   }
 
-  owner_last : (a : Action) (j : ℕ) → IsLast (result_owner a (method_at p named) j)
+  owner_last : (a : Action) (j : ℕ) → IsLast (result_owner a (method_at p m) j)
   owner_last (actions.New m k n) j = tt
   owner_last (actions.Plain q x) j = tt
-  owner_last a j = either (owning_in (method_at p named))
+  owner_last a j = either (owning_in (method_at p m))
     where
       either : (b : Bool) → IsLast (if b then owners.Frame j else owners.Library)
       either true = tt
       either false = tt
 
-  made_last : (y : Object) (c : Conduct) → IsMadeAs p s.action (method_at p named) (length frs + 1) c y → IsLast y.owner
+  made_last : (y : Object) (c : Conduct) → IsMadeAs p s.action (method_at p m) (length frs + 1) c y → IsLast y.owner
   made_last y (conducts.Throws e) made = subst IsLast (sym made.0) tt
   made_last y (conducts.Fresh e) made = subst IsLast (sym made.2) (owner_last s.action (length frs + 1))
   made_last y conducts.Null made = absurd made
@@ -543,7 +571,7 @@ module _ (p : Program) (ac : Accept p) (forms : HasPlainForms p) (names : HasSma
       go : (b : Bool) → y.finished ≡ b → (y.finished ≡ true) ⊎ (y.owner ≡ owners.Unowned)
       go true made = inl made
       go false unmade =
-          inr (any_unfinished_objects_stay_unowned p fr.locals s.action (method_at p named) (method_at p named) d (length frs + 1) h o y agrees.ends.unfinished at unmade)
+          inr (any_unfinished_objects_stay_unowned p fr.locals s.action (method_at p named) (method_at p m) d (length frs + 1) h o y agrees.ends.unfinished at unmade)
 
   owned : (o : ℕ) (y : Object) → object_at heap o ≡ Some y → IsOlderAside anew h o y owners.Library ⊎ IsMade o y → IsOwnedAs h heap o y
   owned o y at (inl old) = elim old.owner [
@@ -558,7 +586,7 @@ module _ (p : Program) (ac : Accept p) (forms : HasPlainForms p) (names : HasSma
 
   -- ---- classes
 
-  made_class : (y : Object) (c : Conduct) → HasMadeClass p c → IsMadeAs p s.action (method_at p named) (length frs + 1) c y → may_be_made p y.class ≡ true
+  made_class : (y : Object) (c : Conduct) → HasMadeClass p c → IsMadeAs p s.action (method_at p m) (length frs + 1) c y → may_be_made p y.class ≡ true
   made_class y (conducts.Throws e) class made = ap (may_be_made p) made.2 ∙ class
   made_class y (conducts.Fresh e) class made = ap (may_be_made p) made.0 ∙ class
   made_class y conducts.Null class made = absurd made
@@ -583,11 +611,11 @@ module _ (p : Program) (ac : Accept p) (forms : HasPlainForms p) (names : HasSma
   ])
     where
       own : HasMadeClass p d
-      own = subst (HasMadeClass p) (sym step.by.1) (library_makes_made_classes p gives throws h arrays named step.by.0 (position_of None fr.locals s.action) s.action step.library)
+      own = subst (HasMadeClass p) (sym step.by.1) (library_makes_made_classes p gives throws h arrays m step.by.0 (position_of None fr.locals s.action) s.action step.library)
 
   pub library_agrees : GivesLibraryClasses p → ThrowsMadeClasses p → Stands p after
-      → Agrees p (after ∷ frs) (library_done p h fr.locals s.action (method_at p named) (method_at p named) d (length frs + 1) s.pos (held_by (after ∷ frs))).heap
-      (es ++ (library_done p h fr.locals s.action (method_at p named) (method_at p named) d (length frs + 1) s.pos (held_by (after ∷ frs))).lines)
-  library_agrees gives throws stands = landed p (after ∷ frs) heap es s.pos (library_entries p s.pos fr.locals s.action (method_at p named) (method_at p named) d (length frs + 1) h)
+      → Agrees p (after ∷ frs) (library_done p h fr.locals s.action (method_at p named) (method_at p m) d (length frs + 1) s.pos (held_by (after ∷ frs))).heap
+      (es ++ (library_done p h fr.locals s.action (method_at p named) (method_at p m) d (length frs + 1) s.pos (held_by (after ∷ frs))).lines)
+  library_agrees gives throws stands = landed p (after ∷ frs) heap es s.pos (library_entries p s.pos fr.locals s.action (method_at p named) (method_at p m) d (length frs + 1) h)
       (stands, agrees.standing.1) (called_on p h heap keeps fr after frs refl refl agrees.stacked) links ends (classes gives throws) tracked answered agrees.no_leak
-      (library_calls_leak_nothing p s.pos fr.locals s.action (method_at p named) (method_at p named) d (length frs + 1) h)
+      (library_calls_leak_nothing p s.pos fr.locals s.action (method_at p named) (method_at p m) d (length frs + 1) h)

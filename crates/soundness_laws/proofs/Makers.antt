@@ -25,11 +25,10 @@ use Rattle.content_laws.specs.ProgramCalls.{is_new}
 use Rattle.content_laws.specs.Agreement.{AllStand, IsCalledFrom, IsMade, IsMadeBy, RunsItself, RunsOnSame, Stands, WaitsFor}
 use Rattle.ledger_state.specs.Fields.{field_value}
 use Rattle.content_laws.specs.Filled.{AreFilled}
-use Rattle.content_laws.specs.PlainForms.{HasPlainForms, IsPlainCall, IsPlainSignature, RunsFor, calls_constructor}
+use Rattle.content_laws.specs.PlainForms.{HasPlainForms, IsPlainCall, RunsFor, calls_constructor}
 use Rattle.content_laws.specs.Naming.{IsOfItsKind}
 use Rattle.content_laws.proofs.NamedReached.{names_what_is_there}
 use Rattle.content_laws.proofs.Cases.{none_runs}
-use Rattle.content_laws.proofs.FilledStores.{IsAliasForm, own_alias_form}
 use Rattle.content_laws.proofs.Ready.{plain_call, plain_step, step_there}
 use Rattle.content_laws.proofs.Unmet.{row_of}
 use Rattle.soundness_laws.proofs.Programs.{is_programs}
@@ -109,11 +108,6 @@ module _ (p : Program) (ac : Accept p) (forms : HasPlainForms p) where
             let one : m ≡ w.named = same_named m w.named (ap called_method (sym is) ∙ w.calls) in
             absurd (true≢false (sym names_new ∙ sym (ap (λ (k : MethodId). constructs (method_at p k)) one) ∙ subst (IsOfItsKind p) is kind))
         go a is = absurd (no_call w.named (ap called_method (sym is) ∙ w.calls))
-
-    -- so its aliased argument is that of a parameter, if it has one
-    pub constructor_alias : IsAliasForm (method_at p fr.method)
-    constructor_alias = own_alias_form p ac fr st new (subst (λ (m : MethodId). IsPlainSignature p (method_at p m)) (sym begun_by.0)
-        (plain_call p w.step.action w.named (plain_step p ac forms caller below w.index w.step w.here) (row_of w.step.action w.named w.calls) w.calls).signature)
 
   -- the method that runs for a `new` is a constructor
   pub new_constructs : (h : HeapContents) (fr caller : Frame) (below : Stands p caller) (w : WaitsFor p h caller fr) → is_new w.step.action ≡ true → constructs (method_at p fr.method) ≡ true

@@ -18,22 +18,24 @@ use Rattle.java_control.specs.declared.action.Action.TheVariants as actions
 use Rattle.java_control.specs.declared.action.TargetForm.TheVariants as forms
 use Rattle.content_laws.specs.Paths.{Comes, Move, relation_of}
 use Rattle.content_laws.specs.Accept.{Accept}
-use Rattle.content_laws.specs.Constructors.{CallsSuperClass, IsOfSuperClass, NamesInstance, StandsInBody}
-use Rattle.content_laws.proofs.ConstructorReached.{has_its_place, names_instance, super_stands}
+use Rattle.content_laws.specs.Constructors.{CallsSuperClass, IsOfSuperClass, NamesInstance, StandsInBody, StoresAssignedField}
+use Rattle.content_laws.proofs.ConstructorReached.{has_its_place, names_instance, stores_assigned, super_stands}
 use Rattle.content_laws.proofs.StartReached.{body_there}
-use Rattle.dispatch_laws.specs.Typed.{MovesLocals}
+use Rattle.dispatch_laws.specs.Typed.{MovesLocals, NamesMembers}
 use Rattle.dispatch_laws.proofs.Reached.{typed_step}
-use Rattle.content_laws.specs.ExceptionOperands.{OfException}
-use Rattle.content_laws.specs.PlainCalls.{IsPlainlyCalled}
-use Rattle.content_laws.proofs.Calls.{exception_runs, instance_runs, light_runs, no_result_runs, plain_call}
+use Rattle.content_laws.specs.ClassOperands.{IsNotAboveString, OfClass}
+use Rattle.content_laws.proofs.Calls.{class_runs, instance_runs, light_runs, no_result_runs, plain_call}
 use Rattle.ledger_steps.specs.LedgerCallsCalls.{body_of}
 use Rattle.content_laws.specs.Choosing.{body_id}
 use Rattle.content_laws.specs.PlainForms.{IsPlainAction, MayRun}
 use Rattle.content_laws.specs.Running.{HasPlainRuns, IsAlike, is_on_object}
-use Rattle.content_laws.specs.Exceptions.{HasPlainExceptions}
-use Rattle.content_laws.specs.ExceptionOperands.{result_of}
-use Rattle.soundness_laws.specs.Plain.{IsPlain, IsPlainStep}
+use Rattle.content_laws.specs.ClassValues.{HasClassResults, KeepsResultClasses}
+use Rattle.content_laws.specs.ClassOperands.{result_of}
+use Rattle.soundness_laws.specs.Plain.{IsPlain}
 use Rattle.content_laws.specs.AgreementConditions.{MeetsFileConditions}
+use Rattle.soundness_laws.proofs.ConstantReads.{plain_read}
+use Rattle.soundness_laws.proofs.FieldShapes.{assigned_is_unowned}
+use Rattle.soundness_laws.proofs.FieldsAlone.{fields_promised_alone}
 use Rattle.soundness_laws.proofs.Programs.{is_programs}
 use Rattle.soundness_laws.proofs.SuperAliases.{super_gives_no_alias}
 
@@ -72,34 +74,28 @@ instance_named p (actions.Call k d count form) m n names calls on at =
     known (method_at p k) n (λ x. x.kind ≡ methods.Instance) (ap (method_at p) same ∙ at) names
 instance_named p a m n names calls on at = absurd (true≢false (sym on))
 
-called_plainly : (p : Program) (a : Action) (m : MethodId) → IsPlainStep p a → called_method a ≡ Some m → IsPlainlyCalled p m
-called_plainly p actions.Skip m plain calls = absurd (let never : None ≡ Some m = calls in cc)
-called_plainly p (actions.Call k d n form) m plain calls = let same : k ≡ m = (let both : Some k ≡ Some m = calls in cc) in subst (IsPlainlyCalled p) same plain
-called_plainly p (actions.New k d n) m plain calls = let same : k ≡ m = (let both : Some k ≡ Some m = calls in cc) in subst (IsPlainlyCalled p) same plain
-called_plainly p (actions.Super k d n) m plain calls = let same : k ≡ m = (let both : Some k ≡ Some m = calls in cc) in subst (IsPlainlyCalled p) same plain
-called_plainly p a m plain calls = absurd (let never : None ≡ Some m = calls in cc)
-
 -- ---- programs
 
 module _ (p : Program) (ac : Accept p) (files : MeetsFileConditions p) (plain : IsPlain p) where
-  plain_action : (b : BodyId) (x : Body) (a : Action) → body_at p b ≡ Some x → CallsSuperClass p x a → StandsInBody x a → MovesLocals a → IsPlainStep p a → IsPlainAction p a
-  plain_action b x actions.Skip at place stands moves step = tt
-  plain_action b x (actions.Copy u v) at place stands moves step = moves
-  plain_action b x (actions.Move u v) at place stands moves step = moves.0
-  plain_action b x (actions.Plain u v) at place stands moves step = step
-  plain_action b x (actions.Put f d this) at place stands moves step = step
-  plain_action b x (actions.Call m d n form) at place stands moves step = plain_call p ac files.library m step
-  plain_action b x (actions.New m d n) at place stands moves step = plain_call p ac files.library m step
-  plain_action b x (actions.Super m d n) at place stands moves step =
-      (plain_call p ac files.library m step, super_constructs p x m place, super_gives_no_alias p ac b x m stands.0 at stands.1 stands.2)
-  plain_action b x a at place stands moves step = tt
+  plain_action : (b : BodyId) (x : Body) (a : Action) → body_at p b ≡ Some x → CallsSuperClass p x a → StandsInBody x a → MovesLocals a → NamesMembers p x a → StoresAssignedField p x a → IsPlainAction p a
+  plain_action b x actions.Skip at place stands moves names assigned = tt
+  plain_action b x (actions.Copy u v) at place stands moves names assigned = moves
+  plain_action b x (actions.Move u v) at place stands moves names assigned = moves.0
+  plain_action b x (actions.Plain u v) at place stands moves names assigned = plain_read p ac files x u v names
+  plain_action b x (actions.Put f d this) at place stands moves names assigned = assigned_is_unowned p ac plain.updates b x at f assigned
+  plain_action b x (actions.Call m d n form) at place stands moves names assigned = plain_call p ac files.library (fields_promised_alone p ac files) m
+  plain_action b x (actions.New m d n) at place stands moves names assigned = plain_call p ac files.library (fields_promised_alone p ac files) m
+  plain_action b x (actions.Super m d n) at place stands moves names assigned =
+      (plain_call p ac files.library (fields_promised_alone p ac files) m, super_constructs p x m place, super_gives_no_alias p ac b x m stands.0 at stands.1 stands.2)
+  plain_action b x a at place stands moves names assigned = tt
 
   pub plain_steps : (b : BodyId) {k : List Todo} (i : ℕ) (t : Move (List Todo)) → Comes (relation_of p b) k → slice_get ((relation_of p b).next k) i ≡ Some t → IsPlainAction p t.action
   plain_steps b {k = k} i t comes there =
       let x = body_there p b k i t there in
       let typed = ac.well_formed.valid.typed in
+      let members = typed_step p typed b x.0 k i t x.1 comes there in
       plain_action b x.0 t.action x.1 (has_its_place p typed b x.0 k i t x.1 comes there).0 (super_stands p typed b x.0 k i t x.1 comes there)
-      (typed_step p typed b x.0 k i t x.1 comes there).0 (plain.steps b i t comes there)
+      members.0 members.1 (stores_assigned p typed b x.0 k i t x.1 comes there)
 
   module _ (b : BodyId) (k : List Todo) (i : ℕ) (t : Move (List Todo)) (named r : MethodId) (n x : Method) (comes : Comes (relation_of p b) k) (there : slice_get ((relation_of p b).next k) i ≡ Some t)
       (calls : called_method t.action ≡ Some named) (may : MayRun p named r) (at_n : method_at p named ≡ Some n) (at_x : method_at p r ≡ Some x) (own : is_library p x.class ≡ false) where
@@ -110,7 +106,7 @@ module _ (p : Program) (ac : Accept p) (files : MeetsFileConditions p) (plain : 
         record {
           kind = λ on. instance_runs p ac files.library named r n x may at_n at_x own (instance_named p t.action named n names calls on at_n);
           none = λ none. no_result_runs p ac files.library named r n x may at_n at_x own none;
-          light = λ light. light_runs p ac files.library named r n x may at_n at_x own (called_plainly p t.action named (plain.steps b i t comes there) calls) light;
+          light = λ owning light. light_runs p ac files.library named r n x may at_n at_x own files.results owning light;
         }
 
   -- what may run at a call is like the named method
@@ -119,17 +115,18 @@ module _ (p : Program) (ac : Accept p) (files : MeetsFileConditions p) (plain : 
     alike = λ b {k} i t named r n x comes there calls may at_n at_x own. alike b k i t named r n x comes there calls may at_n at_x own;
   }
 
-  exception_results : (named runs : MethodId) (b : BodyId) → MayRun p named runs → body_id p runs ≡ Some b → OfException p (result_of (method_at p named)) → OfException p (result_of (method_at p runs))
-  exception_results named runs b may body to = by_named (method_at p named) refl to
-    where
-      by_runs : (n : Method) (o : Option Method) → method_at p named ≡ Some n → method_at p runs ≡ o → OfException p n.sig.result → OfException p (result_of o)
-      by_runs n None at_n at_x to' = absurd (let never : None ≡ Some b = sym (ap body_of at_x) ∙ body in cc)
-      by_runs n (Some x) at_n at_x to' = exception_runs p ac files.library named runs n x may at_n at_x (is_programs p ac runs x b at_x body) files.texts to'
+  module _ (bound : ClassId) (own : IsNotAboveString p bound) where
+    class_results : (named runs : MethodId) (b : BodyId) → MayRun p named runs → body_id p runs ≡ Some b → OfClass p bound (result_of (method_at p named)) → OfClass p bound (result_of (method_at p runs))
+    class_results named runs b may body to = by_named (method_at p named) refl to
+      where
+        by_runs : (n : Method) (o : Option Method) → method_at p named ≡ Some n → method_at p runs ≡ o → OfClass p bound n.sig.result → OfClass p bound (result_of o)
+        by_runs n None at_n at_x to' = absurd (let never : None ≡ Some b = sym (ap body_of at_x) ∙ body in cc)
+        by_runs n (Some x) at_n at_x to' = class_runs p ac files.library named runs n x may at_n at_x (is_programs p ac runs x b at_x body) bound own to'
 
-      by_named : (o : Option Method) → method_at p named ≡ o → OfException p (result_of o) → OfException p (result_of (method_at p runs))
-      by_named None at_n to' = absurd to'
-      by_named (Some n) at_n to' = by_runs n (method_at p runs) at_n refl to'
+        by_named : (o : Option Method) → method_at p named ≡ o → OfClass p bound (result_of o) → OfClass p bound (result_of (method_at p runs))
+        by_named None at_n to' = absurd to'
+        by_named (Some n) at_n to' = by_runs n (method_at p runs) at_n refl to'
 
-  -- where the named method gives exceptions, so does what may run
-  pub plain_exceptions : HasPlainExceptions p
-  plain_exceptions = record { texts = files.texts; results = exception_results }
+  -- where the named method gives objects of a class, so does what may run
+  pub plain_results : KeepsResultClasses p
+  plain_results bound own = record { texts = own; results = class_results bound own }

@@ -1,5 +1,5 @@
 -- A plain program that is accepted has the plain forms.
-use Rattle.std.proofs.Common.{◌≡◌, ℕ, zero, suc, Bool, true, false, not, ◌||◌, Option, Some, None, IsSomeAnd, List, [], ◌∷◌, map, slice_get, refl, sym, ap, ◌∙◌, subst, true≢false, eqb-true, eq-eqb, if◌then◌else◌}
+use Rattle.std.proofs.Common.{◌≡◌, ℕ, zero, suc, Bool, true, false, not, ◌||◌, Option, Some, None, IsSomeAnd, List, [], ◌∷◌, map, slice_get, refl, sym, ap, ◌∙◌, subst, true≢false}
 use Rattle.std.specs.List.{list_any}
 use Rattle.std.proofs.lemmas.Bool.{and_from, or_left, or_right}
 use Rattle.program_model.specs.declared.kinds.BodyId.{BodyId}
@@ -15,10 +15,7 @@ use Rattle.program_model.specs.declared.tree.Body.{Body}
 use Rattle.program_model.specs.Lookups.{body_at, class_at, field_at, method_at}
 use Rattle.program_model.specs.SuperTests.{is_class}
 use Rattle.ledger_obligations.specs.Bodies.{constructs, has_field_place, is_class_of, is_constructor, is_constructor_kind, is_extended, is_field_in, is_super, method_in, method_of}
-use Rattle.must_call_reset.specs.OwningCases.{field_ids, has_no_finalizer, is_assigned_from_outside, is_class_type, is_misshapen, may_hold_unseen_reset, owning_cases_in, owning_cases_of}
-use Rattle.rlc_base.specs.declared.code.Code.TheVariants as refused
-use Rattle.rlc_base.specs.declared.faults.Refusal.{Refusal}
-use Rattle.refusal_order.specs.Refusals.{refused_at, where_true}
+use Rattle.must_call_reset.specs.OwningCases.{is_assigned_from_outside, is_class_type, may_hold_unseen_reset}
 use Rattle.java_control.specs.Calls.{called_method}
 use Rattle.java_control.specs.Control.{next_of, steps_in}
 use Rattle.java_control.specs.Owned.{is_beside_method, is_owning, is_owning_field}
@@ -30,36 +27,13 @@ use Rattle.content_laws.specs.Accept.{Accept}
 use Rattle.content_laws.proofs.DispatchOwners.{runs_own}
 use Rattle.content_laws.specs.Constructors.{CallsSuperClass, IsOfSuperClass, StoresOwnField}
 use Rattle.content_laws.proofs.ConstructorReached.{has_its_place}
+use Rattle.soundness_laws.proofs.FieldShapes.{any_at, not_true, same_class, well_shaped}
 use Rattle.soundness_laws.proofs.MadeClasses.{concrete_by}
 use Rattle.content_laws.specs.PlainForms.{HasPlainForms, RunsOwnMethods, calls_constructor, run_by}
 use Rattle.soundness_laws.specs.Plain.{IsPlain}
 use Rattle.content_laws.specs.AgreementConditions.{MeetsFileConditions}
 use Rattle.soundness_laws.proofs.PlainCalls.{plain_steps}
 use Rattle.soundness_laws.proofs.SuperCalls.{supers_come_first}
-use Rattle.content_laws.proofs.Finalizers.{listed, none_at, parts_empty}
-
--- ---- lists
-
-any_at : {X : Type 0} (test : X → Bool) (xs : List X) (n : ℕ) (x : X) → slice_get xs n ≡ Some x → test x ≡ true → list_any test xs ≡ true
-any_at test [] n x at passes = absurd (none n at)
-  where
-    none : (n : ℕ) → slice_get [] n ≡ Some x → ⊥
-    none zero is = let never : None ≡ Some x = is in cc
-    none (suc n) is = let never : None ≡ Some x = is in cc
-any_at test (y ∷ ys) zero x at passes = let same : y ≡ x = (let both : Some y ≡ Some x = at in cc) in or_left (test y) (list_any test ys) (ap test same ∙ passes)
-any_at test (y ∷ ys) (suc n) x at passes = or_right (test y) (list_any test ys) (any_at test ys n x at passes)
-
-same_class : (c d : ClassId) → is_class c d ≡ true → is_class d c ≡ true
-same_class c d is = eq-eqb d.0 c.0 (sym (eqb-true c.0 d.0 is))
-
-not_true : (b : Bool) → (b ≡ true → ⊥) → b ≡ false
-not_true true never = absurd (never refl)
-not_true false never = refl
-
--- no refusal is there, so its case does not hold
-not_there : (b : Bool) (r : Refusal) → (if b then r ∷ [] else []) ≡ [] → b ≡ false
-not_there true r is = absurd (let never : r ∷ [] ≡ [] = is in cc)
-not_there false r is = refl
 
 -- ---- dispatch
 
@@ -119,16 +93,7 @@ module _ (p : Program) (ac : Accept p) where
   not_extended : (f : FieldId) (x : Field) → field_at p f ≡ Some x → x.owning ≡ true → is_extended p x.class ≡ false
   not_extended f x at owning = not_true (is_extended p x.class) (λ extended. true≢false (
       sym (or_left (x.is_static || not x.is_private || not (is_class_type x.vtype) || is_assigned_from_outside p f x || is_extended p x.class) (may_hold_unseen_reset p x.vtype)
-      (or_right (x.is_static || not x.is_private || not (is_class_type x.vtype) || is_assigned_from_outside p f x) (is_extended p x.class) extended)) ∙ well_shaped))
-    where
-      cases : owning_cases_of p f x ≡ []
-      cases = sym (ap (λ (b : Bool). if b then owning_cases_of p f x else []) owning) ∙ sym (ap (owning_cases_in p f) at)
-          ∙ none_at (λ (g : FieldId). owning_cases_in p g (field_at p g)) (field_ids p) f.0 f ac.well_formed.owning (listed p ac f x at)
-
-      well_shaped : is_misshapen p f x ≡ false
-      well_shaped =
-          not_there (is_misshapen p f x) (refused_at refused.OwningFieldShape x.pos)
-          (parts_empty (where_true (has_no_finalizer p f x) refused.NoFinalizer x.pos) (where_true (is_misshapen p f x) refused.OwningFieldShape x.pos) cases).1
+      (or_right (x.is_static || not x.is_private || not (is_class_type x.vtype) || is_assigned_from_outside p f x) (is_extended p x.class) extended)) ∙ well_shaped p ac f x at owning))
 
   super_is_other : (x : Body) (a : Action) (m : MethodId) (f : FieldId) (y : Field) → CallsSuperClass p x a → calls_constructor p a ≡ true → called_method a ≡ Some m → field_at p f ≡ Some y → y.owning ≡ true
       → is_class_of y.class (method_at p m) ≡ false

@@ -4,10 +4,13 @@ use Rattle.std.specs.List.{All}
 use Rattle.std.proofs.lemmas.List.Elements.{All-head}
 use Rattle.program_model.specs.declared.kinds.ClassId.{ClassId}
 use Rattle.program_model.specs.declared.kinds.MethodId.{MethodId}
+use Rattle.program_model.specs.declared.kinds.VType.TheVariants as types
 use Rattle.program_model.specs.declared.program.Method.{Method}
 use Rattle.program_model.specs.declared.program.Program.{Program}
 use Rattle.program_model.specs.Lookups.{method_at}
+use Rattle.program_model.specs.Hierarchy.{itself}
 use Rattle.program_model.specs.SuperTests.{is_under}
+use Rattle.program_model.proofs.HierarchyLaws.{is_under_law}
 use Rattle.ledger_obligations.specs.Bodies.{is_constructor_kind}
 use Rattle.content_laws.specs.Accept.{Accept}
 use Rattle.stub_conduct.specs.declared.choice.Choices.{Choices}
@@ -35,9 +38,12 @@ use Rattle.content_laws.specs.PlainForms.{HasPlainForms}
 use Rattle.content_laws.specs.FieldContents.{FieldsHold, IsBeingMade}
 use Rattle.content_laws.specs.PlaceFacts.{AreCovered}
 use Rattle.content_laws.specs.Ranges.{AreInRange, LocalsInRange}
-use Rattle.content_laws.specs.Linking.{LinkedAreAliases}
+use Rattle.content_laws.specs.Sight.{AllActInSight}
+use Rattle.content_laws.proofs.InSight.{acts_in_sight}
+use Rattle.content_laws.proofs.LinkTargets.{links_reach_aliased_at_start, links_reach_aliased_step}
 use Rattle.content_laws.specs.Making.{AreBeingMade}
-use Rattle.content_laws.specs.Throws.{TopEndsByException, TopRaisesExceptions}
+use Rattle.content_laws.specs.Throws.{TopEndsAsDeclared, TopEndsByException, TopRaisesExceptions}
+use Rattle.content_laws.proofs.GivenValues.{given_fits}
 use Rattle.content_laws.specs.Types.{TopHoldsWhatIsThere}
 use Rattle.content_laws.proofs.CoveringLaws.{types_at_start, types_step}
 use Rattle.content_laws.proofs.CoveringLaws.{ranges_at_start, ranges_step}
@@ -57,16 +63,18 @@ use Rattle.soundness_laws.specs.Holding.{Holds}
 use Rattle.soundness_laws.specs.Plain.{IsPlain}
 use Rattle.content_laws.specs.AgreementConditions.{MeetsFileConditions}
 use Rattle.soundness_laws.specs.Supports.{IsSupported}
-use Rattle.soundness_laws.proofs.PlainCalls.{plain_exceptions, plain_runs}
+use Rattle.soundness_laws.proofs.PlainCalls.{plain_results, plain_runs}
 use Rattle.soundness_laws.proofs.PlainPrograms.{plain_forms}
 use Rattle.soundness_laws.proofs.Safe.{safe_at}
 use Rattle.soundness_laws.proofs.Starts.{start_agrees, static_main}
 use Rattle.content_laws.specs.Arguments.{HaveArguments}
 use Rattle.content_laws.proofs.CoveringLaws.{arguments_at_start, arguments_step}
-use Rattle.content_laws.specs.Exceptions.{HasPlainExceptions, TopRaisesException}
-use Rattle.content_laws.proofs.ThrownLaws.{exceptions_at_start, exceptions_step}
+use Rattle.content_laws.specs.Exceptions.{TopRaisesException}
+use Rattle.content_laws.proofs.ThrownLaws.{classes_at_start, classes_step}
 use Rattle.content_laws.specs.Thrown.{HaveThrown}
-use Rattle.content_laws.specs.Values.{FitsException, IsExceptionClass}
+use Rattle.content_laws.specs.ClassOperands.{IsNotAboveString, OfClass, result_of}
+use Rattle.content_laws.specs.ClassValues.{FramesFitClass}
+use Rattle.content_laws.specs.Values.{FitsClass, HasClassUnder}
 use Rattle.content_laws.specs.Filled.{AreFilled}
 use Rattle.content_laws.proofs.Laws.{filled_at_start, filled_step}
 use Rattle.content_laws.proofs.ThrownLaws.{ends_by_exception, raised_values_are_exceptions, thrown_at_start, thrown_step}
@@ -89,13 +97,13 @@ top_shows : (p : Program) (ac : Accept p) (forms : HasPlainForms p) (h : HeapCon
 top_shows p ac forms h es [] agrees covered given exits = tt
 top_shows p ac forms h es (fr ∷ []) agrees covered given exits = tt
 top_shows p ac forms h es (fr ∷ caller ∷ frs) agrees covered given exits =
-    λ below i j s t q o x y w here is there row normal thrown before unmet goes mine stays.
-    operands_shown p ac forms h fr caller frs agrees.standing.0 agrees.stacked.0 covered.0 given.0 exits below i j s t q here is there row normal thrown o x y w before unmet goes mine stays
+    λ below i j s t q o x anew w here is there row normal thrown before done heavy mine stays.
+    operands_shown p ac forms h fr caller frs agrees.standing.0 agrees.stacked.0 covered.0 given.0 exits below i j s t q here is there row normal thrown o x anew w before done heavy mine stays
 
-pub agree_step : (p : Program) → Accept p → HasPlainForms p → GivesLibraryClasses p → ThrowsMadeClasses p → (c d : Config) → Agree p c → HaveTargets p c.frames → FieldsHold p c.frames c.heap → LinkedAreAliases p c.heap → AreCovered p c.heap c.frames → AreInRange c
+pub agree_step : (p : Program) → Accept p → HasPlainForms p → GivesLibraryClasses p → ThrowsMadeClasses p → (c d : Config) → Agree p c → HaveTargets p c.frames → FieldsHold p c.frames c.heap → AllActInSight p c.heap c.frames → AreCovered p c.heap c.frames → AreInRange c
     → AreBeingMade p c.heap c.frames → HaveArguments p c.frames → TopEndsByException p c.heap c.frames → AreFilled p c.heap c.frames → step p c ≡ went d → Agree p d
-agree_step p ac forms gives throws c d agrees targets fields aliases covered ranges making given exits filled is =
-    step_agrees p ac forms (accepted_names p ac) gives throws c d agrees targets fields aliases covered (top_supported p ac forms c.heap c.entries c.frames agrees fields covered filled) ranges making
+agree_step p ac forms gives throws c d agrees targets fields sight covered ranges making given exits filled is =
+    step_agrees p ac forms (accepted_names p ac) gives throws c d agrees targets fields sight covered (top_supported p ac forms c.heap c.entries c.frames agrees fields covered filled) ranges making
     (top_shows p ac forms c.heap c.entries c.frames agrees covered given exits) is
 
 -- an exception by which the top frame ends has a class
@@ -104,12 +112,23 @@ top_exits p ac h [] standing ranges thrown = tt
 top_exits p ac h (fr ∷ frs) standing ranges thrown =
     λ i s d t pos here is no_class. ends_by_exception p ac h fr standing.0 (All-head (λ (x : Frame). LocalsInRange h x.locals) fr frs ranges) thrown.0 i s d t pos here is no_class
 
+-- the top frame ends as its method declares
+top_declared : (p : Program) → Accept p → (h : HeapContents) (frs : List Frame) → TopEndsByException p h frs → ((bound : ClassId) → IsNotAboveString p bound → FramesFitClass p bound h frs) → TopEndsAsDeclared p h frs
+top_declared p ac h [] exits values = tt
+top_declared p ac h (fr ∷ frs) exits values = record {
+  throws = exits;
+  gives = λ i s d pos m c k x here is m_at result apart value at.
+      let itself' : OfClass p c (Some (types.Obj c)) = (is_under_law p ac.well_formed.valid.typed.hierarchy c c).1 (itself c) in
+      let fitting : FitsClass p c h (temp_value fr.locals d) = given_fits p c ac apart h fr (values c apart).0 i s d pos here is (subst (OfClass p c) (sym (ap result_of m_at ∙ result)) itself') in
+      subst (λ (o : Option Object). HasClassUnder p c (class_in o)) at (subst (FitsClass p c h) value fitting);
+}
+
 -- an object that a `throw` of the top frame throws is an exception
 top_raises : (p : Program) (h : HeapContents) (frs : List Frame) → TopRaisesException p h frs → TopRaisesExceptions p h frs
 top_raises p h [] raises = tt
-top_raises p h (fr ∷ frs) raises = λ i s d c k here is same. there k (object_at h k) refl (subst (FitsException p h) same (raises i s d c here is))
+top_raises p h (fr ∷ frs) raises = λ i s d c k here is same. there k (object_at h k) refl (subst (FitsClass p p.core.throwable h) same (raises i s d c here is))
   where
-    there : (k : ℕ) (x : Option Object) → object_at h k ≡ x → IsExceptionClass p (class_in x) → (y : Object) × (object_at h k ≡ Some y) × (is_under p y.class p.core.throwable ≡ true)
+    there : (k : ℕ) (x : Option Object) → object_at h k ≡ x → HasClassUnder p p.core.throwable (class_in x) → (y : Object) × (object_at h k ≡ Some y) × (is_under p y.class p.core.throwable ≡ true)
     there k None at under = absurd under
     there k (Some y) at under = (y, at, under)
 
@@ -148,26 +167,28 @@ pub holds_step : (p : Program) → Accept p → MeetsFileConditions p → IsPlai
 holds_step p ac files plain c d holds is =
     let forms = plain_forms p ac files plain in
     let alike = plain_runs p ac files plain in
-    let of_exceptions = plain_exceptions p ac files plain in
     let exits = top_exits p ac c.heap c.frames holds.agree.standing holds.ranges.frames holds.thrown in
-    let raises = top_raises p c.heap c.frames (raised_values_are_exceptions p ac of_exceptions c.heap c.frames holds.values.frames) in
-    let agree' = agree_step p ac forms files.given files.exceptions c d holds.agree holds.targets holds.fields holds.aliases holds.covered holds.ranges holds.making holds.arguments exits holds.filled is in record {
+    let declared = top_declared p ac c.heap c.frames exits (λ bound own. (holds.values bound own).frames) in
+    let raises = top_raises p c.heap c.frames (raised_values_are_exceptions p ac files.texts c.heap c.frames (holds.values p.core.throwable files.texts).frames) in
+    let sight = acts_in_sight p ac c.heap c.frames holds.agree.links (λ bound own. (holds.values bound own).frames) holds.aliases holds.reached in
+    let agree' = agree_step p ac forms files.given files.exceptions c d holds.agree holds.targets holds.fields sight holds.covered holds.ranges holds.making holds.arguments exits holds.filled is in record {
       agree = agree';
       targets = targets_step p ac c d holds.targets is;
       types = types_step p ac forms files.given.string c d holds.agree.classes (top_there c.heap c.frames holds.ranges.frames) holds.types is;
       ranges = ranges_step p ac forms c d holds.agree holds.targets holds.ranges is;
-      covered = covered_step p ac forms alike (accepted_names p ac) plain.texts c d holds.agree holds.targets holds.types holds.ranges holds.fields holds.making holds.aliases holds.covered holds.arguments exits raises is;
-      making = being_made_step p ac forms alike (accepted_names p ac) plain.texts c d holds.agree holds.targets holds.types holds.ranges holds.fields holds.making holds.aliases holds.covered holds.arguments exits raises is;
-      aliases = linked_are_aliases_step p ac forms alike (accepted_names p ac) plain.texts c d holds.agree holds.targets holds.types holds.ranges holds.fields holds.making holds.aliases holds.covered holds.arguments exits raises is;
+      covered = covered_step p ac forms alike (accepted_names p ac) files.light_texts c d holds.agree holds.targets holds.types holds.ranges holds.fields holds.making holds.aliases holds.covered holds.arguments declared raises sight is;
+      making = being_made_step p ac forms alike (accepted_names p ac) files.light_texts c d holds.agree holds.targets holds.types holds.ranges holds.fields holds.making holds.aliases holds.covered holds.arguments declared raises sight is;
+      aliases = linked_are_aliases_step p ac forms alike (accepted_names p ac) files.light_texts c d holds.agree holds.targets holds.types holds.ranges holds.fields holds.making holds.aliases holds.covered holds.arguments declared raises sight is;
       fields = fields_hold_step p ac forms c d holds.agree holds.targets holds.ranges holds.covered holds.fields
-          (λ fr caller rest frames. top_making p c.heap c.frames fr caller rest frames holds.making) holds.aliases agree'.links holds.arguments (top_ends_by_class p c.heap c.frames exits) is;
+          (λ fr caller rest frames. top_making p c.heap c.frames fr caller rest frames holds.making) sight agree'.links holds.arguments (top_ends_by_class p c.heap c.frames exits) is;
       arguments = arguments_step p ac forms c d holds.agree.classes holds.agree.standing holds.targets holds.arguments is;
-      values = exceptions_step p ac forms of_exceptions c d holds.agree holds.targets exits holds.values is;
-      thrown = thrown_step p ac forms of_exceptions c d holds.agree holds.targets holds.values holds.thrown is;
+      reached = links_reach_aliased_step p ac forms c d holds.agree holds.targets holds.ranges holds.fields holds.making holds.values holds.reached is;
+      values = classes_step p ac forms (plain_results p ac files plain) c d holds.agree holds.targets exits holds.values is;
+      thrown = thrown_step p ac forms files.texts c d holds.agree holds.targets holds.values holds.thrown is;
       filled = filled_step p ac forms c d holds.agree.classes holds.agree.standing holds.targets holds.ranges holds.fields.new holds.filled is;
     }
 
-module _ (p : Program) (ac : Accept p) (gives : GivesLibraryClasses p) (exceptions : HasPlainExceptions p) (main : MethodId) (choices : Choices) (is : IsMain p main) where
+module _ (p : Program) (ac : Accept p) (gives : GivesLibraryClasses p) (main : MethodId) (choices : Choices) (is : IsMain p main) where
   pub holds_at_start : Holds p (start_config p main choices)
   holds_at_start = go (method_at p main) refl is.0 is.1
     where
@@ -183,7 +204,8 @@ module _ (p : Program) (ac : Accept p) (gives : GivesLibraryClasses p) (exceptio
         aliases = linked_are_aliases_at_start p main choices;
         fields = fields_hold_at_start p main m choices at (ap is_constructor_kind (static_main m main'));
         arguments = arguments_at_start p main choices;
-        values = exceptions_at_start p ac exceptions main m choices at body;
+        reached = links_reach_aliased_at_start p main choices;
+        values = classes_at_start p ac main m choices at body;
         thrown = thrown_at_start p main choices;
         filled = filled_at_start p main choices;
       }
@@ -201,5 +223,5 @@ module _ (p : Program) (ac : Accept p) (files : MeetsFileConditions p) (plain : 
 pub accepted_is_safe : (p : Program) → Accept p → MeetsFileConditions p → IsPlain p → IsSafe p
 unfolding run
 accepted_is_safe p ac files plain main choices n is =
-    let holds = run_holds p ac files plain n (start_config p main choices) (holds_at_start p ac files.given (plain_exceptions p ac files plain) main choices is) in
+    let holds = run_holds p ac files plain n (start_config p main choices) (holds_at_start p ac files.given main choices is) in
     safe_at p ac (run p main choices n).config holds.agree holds.fields.contents

@@ -1,7 +1,7 @@
 -- Each step of the machine keeps the agreement, where it is not stray.
 use Rattle.std.proofs.Common.{◌≡◌, inl, inr, ℕ, ◌+◌, ◌≤◌, Option, Some, None, List, [], ◌∷◌, ◌++◌, length, slice_get, refl, sym, ap, ◌∙◌, subst, arith}
 use Rattle.std.specs.List.{All}
-use Rattle.std.proofs.lemmas.List.Elements.{All-head}
+use Rattle.std.proofs.lemmas.List.Elements.{All-head, All-tail}
 use Rattle.std.proofs.lemmas.List.FromFn.{length-map-range_with_len}
 use Rattle.rlc_base.specs.declared.place.Pos.{Pos}
 use Rattle.program_model.specs.declared.kinds.ClassId.{ClassId}
@@ -27,7 +27,7 @@ use Rattle.ledger_state.specs.declared.locals.Locals.{Locals}
 use Rattle.ledger_state.specs.declared.value.Value.{Value}
 use Rattle.ledger_state.specs.declared.value.Value.TheVariants as values
 use Rattle.content_laws.specs.Operations.{made_value, next_choice}
-use Rattle.ledger_steps.specs.LedgerCallsCalls.{argument_values, begun, body_of, operand_of, params_in, reset_position, running}
+use Rattle.ledger_steps.specs.LedgerCallsCalls.{argument_values, begun, body_of, operand_of, params_in, running}
 use Rattle.ledger_steps.specs.Conducts.{arguments_shared, conduct_value, positions}
 use Rattle.content_laws.specs.Configuration.{Config, Frame, held_by}
 use Rattle.content_laws.specs.Choosing.{frame_steps}
@@ -53,8 +53,8 @@ use Rattle.soundness_laws.proofs.Answered.{IsAnswered}
 use Rattle.soundness_laws.proofs.CallEnds.{returned_agrees}
 use Rattle.soundness_laws.proofs.CallStarts.{IsStarted, began_agrees}
 use Rattle.content_laws.specs.FieldContents.{FieldsHold, IsBeingMade}
-use Rattle.content_laws.specs.Linking.{LinkedAreAliases}
-use Rattle.content_laws.specs.PlaceFacts.{AreCovered, IsCovered, gives_none}
+use Rattle.content_laws.specs.Sight.{ActsInSight, AllActInSight}
+use Rattle.content_laws.specs.PlaceFacts.{AreCovered, IsCovered, gives_none, renews_none}
 use Rattle.content_laws.specs.Ranges.{AreInRange, LocalsInRange}
 use Rattle.content_laws.specs.Making.{AreBeingMade}
 use Rattle.content_laws.specs.Nexts.{IsBack, IsBackStep, IsInnerStep, IsLibraryMove, IsNext, IsStartMove}
@@ -87,9 +87,9 @@ made_number : (count n : ℕ) (m : Option Method) (at : ℕ → Value) (d : Cond
 made_number count n m at d e is = rw is refl
 
 -- the value that a call of the library gives
-abbrev pub call_value : Program → Config → Frame → MethodId → Conduct → Step → Value
-call_value p c fr named x s =
-    conduct_value (length (arguments_shared c.arrays fr.locals s.action (method_at p named))) (method_at p named) (positions fr.locals s.action (next_number c.heap) x) (next_number c.heap) x
+abbrev pub call_value : Program → Config → Frame → MethodId → MethodId → Conduct → Step → Value
+call_value p c fr named m x s =
+    conduct_value (length (arguments_shared c.arrays fr.locals s.action (method_at p named))) (method_at p m) (positions fr.locals s.action (next_number c.heap) x) (next_number c.heap) x
 
 module _ (p : Program) (ac : Accept p) (forms : HasPlainForms p) (names : HasSmallInterests p) (gives : GivesLibraryClasses p) (throws : ThrowsMadeClasses p) where
   -- ---- the end of a frame
@@ -119,7 +119,6 @@ module _ (p : Program) (ac : Accept p) (forms : HasPlainForms p) (names : HasSma
             running = x;
             running_at = at;
             fit = fit;
-            no_reset = ap reset_position named_at ∙ plain.resets fr.method n x w.runs named_at at program;
             normal = normal;
             thrown = thrown;
             makes = subst (λ (a : Action). IsMadeBy p h a fr.locals.this) (sym same) w.makes;
@@ -128,7 +127,7 @@ module _ (p : Program) (ac : Accept p) (forms : HasPlainForms p) (names : HasSma
 
   module _ (c d : Config) (fr caller : Frame) (frs : List Frame) (i : ℕ) (s : Step) (pos : Pos) (q : Completion) (agrees : Agrees p (fr ∷ caller ∷ frs) c.heap c.entries)
       (here : slice_get (frame_steps p fr) i ≡ Some s) (is : s.action ≡ actions.End q) (before : Agree p c) (sup : Supports p c.heap fr) (making : IsBeingMade p c.heap fr caller) (keeps : ShowsOperands p c.heap fr caller (length frs + 1)) (fields : FieldsHold p (fr ∷ caller ∷ frs) c.heap)
-      (covered : IsCovered p c.heap gives_none (caller ∷ frs) fr) where
+      (covered : AreCovered p c.heap (fr ∷ caller ∷ frs)) (sight : ActsInSight p c.heap caller) (ranges : All (λ (x : Frame). LocalsInRange c.heap x.locals) (fr ∷ caller ∷ frs)) where
     abbrev e : Option ClassId
     e = exception_class p c.heap (thrown_in fr.locals q)
 
@@ -153,7 +152,9 @@ module _ (p : Program) (ac : Accept p) (forms : HasPlainForms p) (names : HasSma
     back_step : (t : Step) → IsBackStep p steps e w.named t → Agree p (returned p c fr caller frs pos q e w.named t)
     back_step t back =
         returned_agrees p ac forms names fr caller frs c.heap c.entries agrees i s here q is back.index t back.here w.named
-        (answer c.heap fr caller q agrees.standing.0 below w t (one_call back.index t back.here) back.normal (λ x thrown. (let way = back.thrown x thrown in (way.0, way.2)))) sup making keeps fields.leads covered fields.dispatched.0
+        (answer c.heap fr caller q agrees.standing.0 below w t (one_call back.index t back.here) back.normal (λ x thrown. (let way = back.thrown x thrown in (way.0, way.2)))) sup making keeps fields.leads covered.0 fields.dispatched.0
+        covered.1 fields.owning sight (All-head (λ (x : Frame). LocalsInRange c.heap x.locals) fr (caller ∷ frs) ranges)
+        (All-head (λ (x : Frame). LocalsInRange c.heap x.locals) caller frs (All-tail (λ (x : Frame). LocalsInRange c.heap x.locals) fr (caller ∷ frs) ranges)) back
         (stands_on p ac c.heap caller below back.index t (answered fr.locals.this t.action (result_value fr.locals (method_at p fr.method) q) e) back.here) pos
 
     back_agrees : (r : Return) → IsBack p steps e w.named r → returned_by p c fr caller frs pos q r ≡ went d → Agree p d
@@ -169,11 +170,12 @@ module _ (p : Program) (ac : Accept p) (forms : HasPlainForms p) (names : HasSma
 
   end_agrees : (c d : Config) (fr : Frame) (frs : List Frame) (i : ℕ) (s : Step) (pos : Pos) (q : Completion) → Agrees p (fr ∷ frs) c.heap c.entries
       → slice_get (frame_steps p fr) i ≡ Some s → s.action ≡ actions.End q → Agree p c → Supports p c.heap fr → AreBeingMade p c.heap (fr ∷ frs) → TopShowsOperands p c.heap (fr ∷ frs)
-      → FieldsHold p (fr ∷ frs) c.heap → IsCovered p c.heap gives_none frs fr → end p c fr frs pos q ≡ went d → Agree p d
-  end_agrees c d fr [] i s pos q agrees here is before sup making keeps fields covered same =
+      → FieldsHold p (fr ∷ frs) c.heap → AreCovered p c.heap (fr ∷ frs) → AllActInSight p c.heap (fr ∷ frs) → All (λ (x : Frame). LocalsInRange c.heap x.locals) (fr ∷ frs) → end p c fr frs pos q ≡ went d → Agree p d
+  end_agrees c d fr [] i s pos q agrees here is before sup making keeps fields covered sight ranges same =
       subst (Agree p) (let one : main_ended p c fr pos q ≡ d = (let both : went (main_ended p c fr pos q) ≡ went d = same in cc) in one)
       (main_agrees p ac fr c.heap c.entries agrees i s here q is pos)
-  end_agrees c d fr (caller ∷ frs) i s pos q agrees here is before sup making keeps fields covered same = ends_below c d fr caller frs i s pos q agrees here is before sup making.0 keeps fields covered same
+  end_agrees c d fr (caller ∷ frs) i s pos q agrees here is before sup making keeps fields covered sight ranges same =
+      ends_below c d fr caller frs i s pos q agrees here is before sup making.0 keeps fields covered sight.1.0 ranges same
 
   -- ---- the start of a call
 
@@ -185,7 +187,7 @@ module _ (p : Program) (ac : Accept p) (forms : HasPlainForms p) (names : HasSma
   itself h l a named runs is = tt
 
   begin_agrees : (c : Config) (fr : Frame) (frs : List Frame) (named runs : MethodId) (a : Action) (pos : Pos) → Agrees p (fr ∷ frs) c.heap c.entries
-      → IsStartMove p c.heap c.arrays fr.locals (frame_steps p fr) named runs a → Supports p c.heap fr → KeepsTargets p fr → LocalsInRange c.heap fr.locals → IsCovered p c.heap gives_none frs fr → Agree p (began p c fr frs named runs a pos)
+      → IsStartMove p c.heap c.arrays fr.locals (frame_steps p fr) named runs a → Supports p c.heap fr → KeepsTargets p fr → LocalsInRange c.heap fr.locals → IsCovered p c.heap gives_none renews_none frs fr → Agree p (began p c fr frs named runs a pos)
   begin_agrees c fr frs named runs a pos agrees next sup targets ranges covered =
       subst (λ (b : Action). Agree p (began p c fr frs named runs b pos)) next.same
       (began_agrees p ac forms fr (callee next.step.action) frs c.heap c.entries agrees next.index next.step next.here named runs start sup targets ranges covered pos)
@@ -216,8 +218,9 @@ module _ (p : Program) (ac : Accept p) (forms : HasPlainForms p) (names : HasSma
   -- ---- all moves
 
   library_step : (c : Config) (fr : Frame) (named m : MethodId) (x : Conduct) (s : Step) → IsLibraryMove p c.heap c.arrays fr.locals (frame_steps p fr) named m x s
-      → IsLibraryStep p c.heap c.arrays fr.locals s named x (call_value p c fr named x s)
+      → IsLibraryStep p c.heap c.arrays fr.locals s named m x (call_value p c fr named m x s)
   library_step c fr named m x s next = record {
+    answers = next.answers;
     thrown = λ e is. (let to = next.thrown e is in (to.0, to.2));
     normal = next.normal;
     by = next.by;
@@ -225,13 +228,12 @@ module _ (p : Program) (ac : Accept p) (forms : HasPlainForms p) (names : HasSma
     count = length (arguments_shared c.arrays fr.locals s.action (method_at p named));
     value = refl;
     row = next.row;
-    signature = next.signature;
     library = next.library;
     other = next.other;
     made = λ e is. (
       next.edge e is,
-      subst (FitsMethod p (method_at p named)) is next.fits,
-      made_number (length (arguments_shared c.arrays fr.locals s.action (method_at p named))) (next_number c.heap) (method_at p named) (positions fr.locals s.action (next_number c.heap) x) x e is,
+      subst (FitsMethod p (method_at p m)) is next.fits,
+      made_number (length (arguments_shared c.arrays fr.locals s.action (method_at p named))) (next_number c.heap) (method_at p m) (positions fr.locals s.action (next_number c.heap) x) x e is,
     );
   }
 
@@ -249,33 +251,32 @@ module _ (p : Program) (ac : Accept p) (forms : HasPlainForms p) (names : HasSma
       (stands_on p ac c.heap fr agrees.standing.0 i s v here)
 
   moved_agrees : (c d : Config) (fr : Frame) (frs : List Frame) (mv : Move) → Agrees p (fr ∷ frs) c.heap c.entries → IsNext p c.heap c.arrays fr.method fr.locals (frame_steps p fr) mv → moved p c fr frs mv ≡ went d
-      → Agree p c → Supports p c.heap fr → KeepsTargets p fr → LocalsInRange c.heap fr.locals → AreBeingMade p c.heap (fr ∷ frs) → TopShowsOperands p c.heap (fr ∷ frs) → FieldsHold p (fr ∷ frs) c.heap
-      → LinkedAreAliases p c.heap → IsCovered p c.heap gives_none frs fr → Agree p d
-  moved_agrees c d fr frs (Inner e s) agrees next same before sup targets ranges making keeps fields aliases covered =
+      → Agree p c → Supports p c.heap fr → KeepsTargets p fr → All (λ (x : Frame). LocalsInRange c.heap x.locals) (fr ∷ frs) → AreBeingMade p c.heap (fr ∷ frs) → TopShowsOperands p c.heap (fr ∷ frs) → FieldsHold p (fr ∷ frs) c.heap
+      → AllActInSight p c.heap (fr ∷ frs) → AreCovered p c.heap (fr ∷ frs) → Agree p d
+  moved_agrees c d fr frs (Inner e s) agrees next same before sup targets ranges making keeps fields sight covered =
       let made = made_value p c.heap c.arrays c.statics (next_choice c.choices c.used) fr.locals s.action in
       let v = thrown_value c.heap e made in
       subst (Agree p) (let one : within p c fr frs e s ≡ d = (let both : went (within p c fr frs e s) ≡ went d = same in cc) in one)
       (inner_step c fr frs e s v agrees next.0 next.1 next.2 sup)
-  moved_agrees c d fr frs (Start named runs a pos) agrees next same before sup targets ranges making keeps fields aliases covered =
+  moved_agrees c d fr frs (Start named runs a pos) agrees next same before sup targets ranges making keeps fields sight covered =
       subst (Agree p) (let one : began p c fr frs named runs a pos ≡ d = (let both : went (began p c fr frs named runs a pos) ≡ went d = same in cc) in one)
-      (begin_agrees c fr frs named runs a pos agrees next sup targets ranges covered)
-  moved_agrees c d fr frs (Library named m x s) agrees next same before sup targets ranges making keeps fields aliases covered =
+      (begin_agrees c fr frs named runs a pos agrees next sup targets (All-head (λ (x : Frame). LocalsInRange c.heap x.locals) fr frs ranges) covered.0)
+  moved_agrees c d fr frs (Library named m x s) agrees next same before sup targets ranges making keeps fields sight covered =
       subst (Agree p) (let one : library_went p c fr frs named m x s ≡ d = (let both : went (library_went p c fr frs named m x s) ≡ went d = same in cc) in one)
-      (subst (λ (z : MethodId). Agree p (library_went p c fr frs named z x s)) (sym next.same)
-      (library_agrees p ac forms names fr frs c.heap c.entries agrees next.index s next.here named x (call_value p c fr named x s) c.arrays (library_step c fr named m x s next) ranges fields.leads covered fields.owning aliases gives throws
-      (stands_on p ac c.heap fr agrees.standing.0 next.index s (call_value p c fr named x s) next.here)))
-  moved_agrees c d fr frs (End pos q) agrees next same before sup targets ranges making keeps fields aliases covered = end_agrees c d fr frs next.0 next.1 pos q agrees next.2 next.3 before sup making keeps fields covered same
-  moved_agrees c d fr frs (Stray e pos) agrees next same before sup targets ranges making keeps fields aliases covered = absurd (let never : stray e pos ≡ went d = same in cc)
-  moved_agrees c d fr frs Rest agrees next same before sup targets ranges making keeps fields aliases covered = subst (Agree p) (let one : c ≡ d = (let both : went c ≡ went d = same in cc) in one) before
+      (library_agrees p ac forms names fr frs c.heap c.entries agrees next.index s next.here named m x (call_value p c fr named m x s) c.arrays (library_step c fr named m x s next) (All-head (λ (x : Frame). LocalsInRange c.heap x.locals) fr frs ranges) fields.leads covered.0 covered.1 fields.owning sight.0 gives throws
+      (stands_on p ac c.heap fr agrees.standing.0 next.index s (call_value p c fr named m x s) next.here))
+  moved_agrees c d fr frs (End pos q) agrees next same before sup targets ranges making keeps fields sight covered = end_agrees c d fr frs next.0 next.1 pos q agrees next.2 next.3 before sup making keeps fields covered sight ranges same
+  moved_agrees c d fr frs (Stray e pos) agrees next same before sup targets ranges making keeps fields sight covered = absurd (let never : stray e pos ≡ went d = same in cc)
+  moved_agrees c d fr frs Rest agrees next same before sup targets ranges making keeps fields sight covered = subst (Agree p) (let one : c ≡ d = (let both : went c ≡ went d = same in cc) in one) before
 
   by_frames : (c d : Config) (frs : List Frame) → Agrees p frs c.heap c.entries → HaveTargets p frs → IsSupported p c.heap frs → All (λ (fr : Frame). LocalsInRange c.heap fr.locals) frs → AreBeingMade p c.heap frs → TopShowsOperands p c.heap frs
-      → FieldsHold p frs c.heap → LinkedAreAliases p c.heap → AreCovered p c.heap frs → moved_by p c frs (top_move p c frs) ≡ went d → Agree p c → Agree p d
-  by_frames c d [] agrees targets sup ranges making keeps fields aliases covered same before = absurd (let never : ended c.ended ≡ went d = same in cc)
-  by_frames c d (fr ∷ frs) agrees targets sup ranges making keeps fields aliases covered same before =
+      → FieldsHold p frs c.heap → AllActInSight p c.heap frs → AreCovered p c.heap frs → moved_by p c frs (top_move p c frs) ≡ went d → Agree p c → Agree p d
+  by_frames c d [] agrees targets sup ranges making keeps fields sight covered same before = absurd (let never : ended c.ended ≡ went d = same in cc)
+  by_frames c d (fr ∷ frs) agrees targets sup ranges making keeps fields sight covered same before =
       moved_agrees c d fr frs (top_move p c (fr ∷ frs)) agrees
-      (next_is p ac forms c.heap c.arrays (next_choice c.choices c.used) fr agrees.standing.0 targets.0 agrees.classes) same before sup targets.0 (All-head (λ (x : Frame). LocalsInRange c.heap x.locals) fr frs ranges) making keeps fields aliases covered.0
+      (next_is p ac forms c.heap c.arrays (next_choice c.choices c.used) fr agrees.standing.0 targets.0 agrees.classes) same before sup targets.0 ranges making keeps fields sight covered
 
-  pub step_agrees : (c d : Config) → Agree p c → HaveTargets p c.frames → FieldsHold p c.frames c.heap → LinkedAreAliases p c.heap → AreCovered p c.heap c.frames → IsSupported p c.heap c.frames → AreInRange c
+  pub step_agrees : (c d : Config) → Agree p c → HaveTargets p c.frames → FieldsHold p c.frames c.heap → AllActInSight p c.heap c.frames → AreCovered p c.heap c.frames → IsSupported p c.heap c.frames → AreInRange c
       → AreBeingMade p c.heap c.frames → TopShowsOperands p c.heap c.frames → step p c ≡ went d → Agree p d
   unfolding step
-  step_agrees c d agrees targets fields aliases covered sup ranges making keeps same = by_frames c d c.frames agrees targets sup ranges.frames making keeps fields aliases covered same agrees
+  step_agrees c d agrees targets fields sight covered sup ranges making keeps same = by_frames c d c.frames agrees targets sup ranges.frames making keeps fields sight covered same agrees

@@ -1,6 +1,6 @@
 -- A constructor with an aliased argument stores no object that its frame owns.
-use Rattle.std.proofs.Common.{◌≡◌, ◌∙◌, ap, refl, sym, subst, arith, ℕ, suc, ◌+◌, Bool, true, false, not, ◌||◌, true≢false, eq-eqb, Option, Some, None, slice_get}
-use Rattle.std.proofs.lemmas.Bool.{or_left, or_parts}
+use Rattle.std.proofs.Common.{◌≡◌, ◌∙◌, ap, refl, sym, subst, arith, ℕ, zero, suc, ◌+◌, Bool, true, false, not, ◌||◌, true≢false, eq-eqb, Option, Some, None, slice_get}
+use Rattle.std.proofs.lemmas.Bool.{and_from, or_left, or_parts}
 use Rattle.rlc_base.proofs.SetLaws.{within_trans}
 use Rattle.program_model.specs.declared.kinds.BodyId.{BodyId}
 use Rattle.program_model.specs.declared.kinds.FieldId.{FieldId}
@@ -10,9 +10,9 @@ use Rattle.program_model.specs.declared.program.ParamSig.{ParamSig}
 use Rattle.program_model.specs.declared.program.Program.{Program}
 use Rattle.program_model.specs.Lookups.{method_at}
 use Rattle.content_laws.specs.AliasCases.{calls_alias, gives_exception, has_bad_alias_form, has_owning_alias, has_unequal_sets, is_half_marked}
-use Rattle.ledger_obligations.specs.Bodies.{alias_position, constructs}
+use Rattle.ledger_obligations.specs.Bodies.{alias_in, alias_position, constructs, is_constructor}
 use Rattle.ledger_obligations.specs.MustCallSets.{is_empty, is_heavy_class, must_of, no_names}
-use Rattle.ownership_rules.specs.Signatures.{is_owning_at, owning_in}
+use Rattle.ownership_rules.specs.Signatures.{is_owning_at, is_present, owning_in}
 use Rattle.java_control.specs.Control.{Step}
 use Rattle.java_control.specs.Owned.{field_number, place_of_field}
 use Rattle.java_control.specs.declared.action.Action.{Action}
@@ -36,9 +36,8 @@ use Rattle.content_laws.proofs.AliasConducts.{no_refusal}
 use Rattle.content_laws.proofs.SetLaws.{has_copied}
 use Rattle.content_laws.specs.FactGoing.{ArePlaces, StoresAs, left, taken}
 use Rattle.content_laws.proofs.CoveringStoring.{stores}
-use Rattle.content_laws.proofs.KeptFacts.{own_position}
-use Rattle.content_laws.proofs.Following.{followed, same_body, small_step, step_there}
-use Rattle.content_laws.proofs.Constructors.{aliased, in_body, position}
+use Rattle.content_laws.proofs.KeptFacts.{own_position, this_stays}
+use Rattle.content_laws.proofs.Following.{followed, method_here, same_body, small_step, step_there}
 use Rattle.content_laws.proofs.Unmet.{nothing_to_call}
 use Rattle.soundness_laws.proofs.OwnedFacts.{never_own}
 
@@ -59,7 +58,7 @@ alias_unowned p ac m x k at alias =
     sym (ap (has_owning_alias x) alias) ∙ two.1
 
 module _ (p : Program) (ac : Accept p) (h : HeapContents) (fr : Frame) (st : Stands p fr) (i d : ℕ) (s : Step) (f : FieldId) (n : ℕ) (x : Object) (v : ℕ) (here : slice_get (frame_steps p fr) i ≡ Some s)
-    (is : s.action ≡ actions.PutOwn f d) (makes : constructs (method_at p fr.method) ≡ true) (alias : alias_position p st.number ≡ Some (suc v)) (t : Tracks p h fr n x) (unmet : is_unmet x ≡ true)
+    (is : s.action ≡ actions.PutOwn f d) (makes : constructs (method_at p fr.method) ≡ true) (alias : alias_position p st.number ≡ Some v) (t : Tracks p h fr n x) (unmet : is_unmet x ≡ true)
     (has' : has t.fact.places (places.Temp d) ≡ true) where
   run : (m : Method) × (method_at p fr.method ≡ Some m)
   run = makes_some (method_at p fr.method) makes
@@ -92,17 +91,24 @@ module _ (p : Program) (ac : Accept p) (h : HeapContents) (fr : Frame) (st : Sta
   absent : has t.fact.places (place_of_field p f) ≡ false
   absent = not_true (has t.fact.places (place_of_field p f)) (λ there. true≢false (sym (t.follows.places (place_of_field p f) room.1 there).0))
 
-  -- it is not that of the argument
+  of : method_at p st.body.method ≡ Some run.0
+  of = ap (method_at p) st.method ∙ run.1
+
+  -- it is not that of the argument: neither a parameter that is not owning, nor `this`, which is in no fact of an object that the frame owns
   unowned_argument : is_origin_at t.origin.kind (alias_position p st.number) ≡ true → ⊥
-  unowned_argument at =
-      let named = position p ac fr st run.0 run.1 v makes alias in
-      let plain : (q : ParamSig) → slice_get (run.0).sig.params.items v ≡ Some q → q.owning ≡ false = (λ q there. ap owning_in (sym there) ∙ alias_unowned p ac fr.method run.0 (suc v) run.1 named) in
-      let kind = own_position v t.origin.kind (ap (is_origin_at t.origin.kind) (ap Some (let next : v + 1 ≡ suc v = omega arith in next) ∙ sym alias) ∙ at) in
-      true≢false (sym (ap is_own t.follows.own) ∙ never_own p run.0 v plain st.number st.body st.at (in_body p ac fr st run.0 run.1 v makes alias) t.origin fr.control t.fact reached kind)
+  unowned_argument at = by v alias
+    where
+      by : (k : ℕ) → alias_position p st.number ≡ Some k → ⊥
+      by zero same = true≢false (sym (t.follows.places places.This tt (this_stays p ac st.number st.body run.0 st.at of t.origin fr.control t.fact reached (ap (is_origin_at t.origin.kind) (sym same) ∙ at))).0)
+      by (suc k) same =
+          let named : (run.0).sig.alias ≡ Some (suc k) = ap alias_in (sym run.1) ∙ ap alias_in (sym (method_here p fr st)) ∙ same in
+          let plain : (q : ParamSig) → slice_get (run.0).sig.params.items k ≡ Some q → q.owning ≡ false = (λ q there. ap owning_in (sym there) ∙ alias_unowned p ac fr.method run.0 (suc k) run.1 named) in
+          let kind = own_position k t.origin.kind (ap (is_origin_at t.origin.kind) (ap Some (let next : k + 1 ≡ suc k = omega arith in next) ∙ sym same) ∙ at) in
+          true≢false (sym (ap is_own t.follows.own) ∙ never_own p run.0 k plain st.number st.body st.at of t.origin fr.control t.fact reached kind)
 
   pub owned_not_stored : ⊥
   owned_not_stored = by goes
     where
       by : (g : Fact) × Reach p st.number (relation_of p st.number) t.origin s.to g × Goes g → ⊥
-      by (g, reach, (same, taken reset called full k)) = unowned_argument (k.alias (aliased p ac fr st run.0 run.1 v makes alias))
+      by (g, reach, (same, taken reset called full k)) = unowned_argument (k.alias (and_from (is_constructor p st.number) (is_present (alias_position p st.number)) (ap constructs (method_here p fr st) ∙ makes) (ap is_present alias)))
       by (g, reach, (same, left reset called full l)) = true≢false (sym (or_left (is_heavy_class p t.origin.class) _ heavy) ∙ l.light has' absent)

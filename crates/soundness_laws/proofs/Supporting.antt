@@ -1,5 +1,5 @@
 -- What the other invariants say of fields is what the agreement needs to know of them.
-use Rattle.std.proofs.Common.{◌≡◌, inl, inr, ℕ, suc, Bool, true, false, not, ◌&&◌, ◌||◌, Option, Some, None, List, [], ◌∷◌, is_some, slice_get, refl, sym, ap, ◌∙◌, true≢false, eqb-true}
+use Rattle.std.proofs.Common.{◌≡◌, inl, inr, ℕ, Bool, true, false, not, ◌&&◌, ◌||◌, Option, Some, None, List, ◌∷◌, is_some, slice_get, refl, sym, ap, ◌∙◌, true≢false, eqb-true}
 use Rattle.std.proofs.lemmas.Bool.{and_parts}
 use Rattle.rlc_base.proofs.SetLaws.{within_trans}
 use Rattle.program_model.specs.declared.kinds.ClassId.{ClassId}
@@ -41,7 +41,7 @@ use Rattle.content_laws.proofs.StoredObjects.{unfinished_stays}
 use Rattle.content_laws.specs.Agreement.{AllStand, IsCalledFrom, IsMade, Stands, Tracks}
 use Rattle.content_laws.specs.PlainForms.{HasPlainForms}
 use Rattle.content_laws.specs.FieldContents.{AreNew, AreUnfinished, DeclaresOwning, HaveContents, IsContent, is_made_in}
-use Rattle.content_laws.specs.PlaceFacts.{IsCovered, gives_none}
+use Rattle.content_laws.specs.PlaceFacts.{IsCovered, gives_none, renews_none}
 use Rattle.content_laws.specs.Covering.{HoldsHeavy}
 use Rattle.content_laws.proofs.Goes.{not_the_librarys_owes}
 use Rattle.content_laws.proofs.CoveringLaws.{contents_are_met_at_throw, overwritten_is_met}
@@ -52,13 +52,13 @@ use Rattle.content_laws.proofs.Unmet.{nothing_to_call}
 use Rattle.content_laws.specs.Stores.{IsDisplaced}
 use Rattle.soundness_laws.proofs.StoredFacts.{owned_not_stored}
 use Rattle.content_laws.proofs.Finished.{alias_makes_none, made_by_none}
-use Rattle.content_laws.proofs.FilledStores.{IsAliasForm}
+use Rattle.content_laws.proofs.FilledStores.{alias_form}
 use Rattle.java_control.specs.declared.place.Place.TheVariants as places
 use Rattle.ownership_rules.specs.Facts.{has}
 use Rattle.soundness_laws.specs.Supports.{StoresWell, Supports}
 use Rattle.content_laws.specs.Filled.{AreFilled}
 use Rattle.content_laws.proofs.CallNames.{object_with_root}
-use Rattle.soundness_laws.proofs.Makers.{body_method, class_of_maker, constructor_alias, new_of_owner}
+use Rattle.soundness_laws.proofs.Makers.{body_method, class_of_maker, new_of_owner}
 
 pub not_true : (b : Bool) → (b ≡ true → ⊥) → b ≡ false
 not_true true never = absurd (never refl)
@@ -90,15 +90,7 @@ throws_by p h l (completions.Break pos) c is = absurd (let never : None ≡ Some
 throws_by p h l (completions.Continue pos) c is = absurd (let never : None ≡ Some c = is in cc)
 
 module _ (p : Program) (ac : Accept p) (forms : HasPlainForms p) (h : HeapContents) (fr : Frame) (frs : List Frame) (st : Stands p fr) (rest : AllStand p frs) (called : IsCalledFrom p h fr frs)
-    (contents : HaveContents p (fr ∷ frs) h) (covered : IsCovered p h gives_none frs fr) (unmade : AreUnfinished p h (fr ∷ frs)) (news : AreNew p (fr ∷ frs)) (filled : AreFilled p h frs) where
-  -- the aliased argument of a constructor that runs is that of a parameter, if it has one
-  alias_form : constructs (method_at p fr.method) ≡ true → IsAliasForm (method_at p fr.method)
-  alias_form new = go frs rest called
-    where
-      go : (frs : List Frame) → AllStand p frs → IsCalledFrom p h fr frs → IsAliasForm (method_at p fr.method)
-      go [] rest' called' = absurd (true≢false (sym new ∙ called'.1))
-      go (caller ∷ more) rest' called' = constructor_alias p ac forms h fr caller st rest'.0 called'.0 new
-
+    (contents : HaveContents p (fr ∷ frs) h) (covered : IsCovered p h gives_none renews_none frs fr) (unmade : AreUnfinished p h (fr ∷ frs)) (news : AreNew p (fr ∷ frs)) (filled : AreFilled p h frs) where
   body_alias : alias_position p st.number ≡ alias_in (method_at p fr.method)
   body_alias = ap alias_in (body_method p ac forms fr st)
 
@@ -114,7 +106,7 @@ module _ (p : Program) (ac : Accept p) (forms : HasPlainForms p) (h : HeapConten
       ∙ ap (λ (b : Bool). b && same_root (root_of h v) (root_of_number h (alias_target (parameter fr.locals) (method_at p fr.method)))) (no_and (constructs (method_at p fr.method)))
 
   -- where it has one, the object that it makes owns nothing in its fields that is unmet
-  owns_nothing : (v w o : ℕ) (x : Object) (f : FieldId) → constructs (method_at p fr.method) ≡ true → alias_in (method_at p fr.method) ≡ Some (suc v) → fr.locals.this ≡ values.Object w
+  owns_nothing : (v w o : ℕ) (x : Object) (f : FieldId) → constructs (method_at p fr.method) ≡ true → alias_in (method_at p fr.method) ≡ Some v → fr.locals.this ≡ values.Object w
       → DeclaresOwning p fr.method → (y : Object) → object_at h w ≡ Some y → IsContent p (fr ∷ frs) h o x w f → ⊥
   owns_nothing v w o x f makes alias this declares y at content =
       made_by_none p w content.field.class frs (news.0 w declares makes this)
@@ -161,14 +153,14 @@ module _ (p : Program) (ac : Accept p) (forms : HasPlainForms p) (h : HeapConten
 
         -- an object of the frame is not stored as the argument
         tracked_free : (n : ℕ) (y : Object) (t : Tracks p h fr n y) → is_unmet y ≡ true → has t.fact.places (places.Temp d) ≡ true → is_bound h (method_at p fr.method) fr.locals v ≡ false
-        tracked_free n y t unmet has' = elim (alias_form new) [
+        tracked_free n y t unmet has' = elim (alias_form (method_at p fr.method)) [
           | inl none ↦ not_bound v none
           | inr alias ↦ absurd (owned_not_stored p ac h fr st i d s f n y alias.0 here is new (body_alias ∙ alias.1) t unmet has')
         ]
 
         -- what the field gives up is met
         displaced_met : (w n : ℕ) (y : Object) → fr.locals.this ≡ values.Object w → (o : Object) → object_at h w ≡ Some o → object_at h n ≡ Some y → IsDisplaced p h w f v n y → is_unmet y ≡ true → ⊥
-        displaced_met w n y this o there there' gone unmet = elim (alias_form new) [
+        displaced_met w n y this o there there' gone unmet = elim (alias_form (method_at p fr.method)) [
           | inl none ↦ true≢false (sym unmet ∙
               overwritten_is_met p ac forms h frs fr st (body_alias ∙ none) covered i d s f w n y here is (heavy_content n y w f there' unmet gone.owner this) gone.other)
           | inr alias ↦ owns_nothing alias.0 w n y f new alias.1 this declares o there (contents n y w f there' unmet gone.owner)
@@ -204,7 +196,7 @@ module _ (p : Program) (ac : Accept p) (forms : HasPlainForms p) (h : HeapConten
       let class = class_of_maker p ac forms h fr frs st rest called new w value.0 k.holder owner.0 k.field this k.at k.declared k.owning k.class value.1 filled in
       let place : has_field_place p st.number owner.0 ≡ true =
       ap (is_field_in p st.number) k.declared ∙ ap (λ (b : Bool). b && is_class_of k.field.class (method_of p st.number)) k.owning ∙ ap (is_class_of k.field.class) (body_method p ac forms fr st) ∙ class in
-      elim (alias_form new) [
+      elim (alias_form (method_at p fr.method)) [
         | inl none ↦ true≢false (sym unmet ∙ contents_are_met_at_throw p ac h frs fr st covered i s q owner.0 w n x here is (body_alias ∙ none) (throws_by p h fr.locals q c thrown) new place
             (heavy_content n x w owner.0 at unmet owner.1 this))
         | inr alias ↦ owns_nothing alias.0 w n x owner.0 new alias.1 this (owner.0, k.field, k.declared, k.owning, class) k.holder k.at k

@@ -15,8 +15,8 @@ pub use Rattle.content_laws.specs.Moves
 pub use Rattle.content_laws.specs.MustSets
 pub use Rattle.content_laws.specs.NameTable
 pub use Rattle.content_laws.specs.Paths
-pub use Rattle.content_laws.specs.PlainCalls
 pub use Rattle.content_laws.specs.PlainForms
+pub use Rattle.content_laws.specs.Renewable
 pub use Rattle.ownership_rules.specs.Room
 pub use Rattle.run_command.specs.RunAnswers
 pub use Rattle.run_command.specs.Runs
@@ -24,4 +24,3 @@ pub use Rattle.content_laws.specs.Safety
 pub use Rattle.content_laws.specs.Signed
 pub use Rattle.content_laws.specs.Starts
 pub use Rattle.content_laws.specs.Storing
-pub use Rattle.content_laws.specs.Texts

@@ -1,52 +1,58 @@
 -- Of which programs it is shown that they are safe if they are accepted.
-use Rattle.std.specs.Prelude.{◌≡◌, ℕ, Bool, true, false, not, None, Some, List, is_some, slice_get}
-use Rattle.std.specs.List.{list_all}
+use Rattle.std.specs.Prelude.{◌≡◌, ℕ, Bool, true, false, not, Option, None, Some, List, is_some, slice_get}
+use Rattle.std.specs.List.{list_all, list_any}
 use Rattle.program_model.specs.declared.kinds.BodyId.{BodyId}
 use Rattle.program_model.specs.declared.kinds.FieldId.{FieldId}
 use Rattle.program_model.specs.declared.program.Program.{Program}
 use Rattle.program_model.specs.declared.program.Method.{Method}
 use Rattle.program_model.specs.declared.tree.Body.{Body}
+use Rattle.program_model.specs.declared.tree.ExpressionKind.{ExpressionKind}
+use Rattle.program_model.specs.declared.tree.ExpressionKind.TheVariants as expressions
+use Rattle.program_model.specs.declared.tree.TExpr.{TExpr}
 use Rattle.program_model.specs.Lookups.{body_at, method_at}
-use Rattle.ledger_obligations.specs.Bodies.{is_constructor}
+use Rattle.program_model.specs.Typing.{kind_at}
+use Rattle.ledger_obligations.specs.Bodies.{is_constructor, has_field_place, resets_this}
 use Rattle.java_control.specs.Owned.{is_owning}
 use Rattle.java_control.specs.Remaining.{Todo}
-use Rattle.java_control.specs.declared.action.Action.{Action}
 use Rattle.java_control.specs.declared.action.Action.TheVariants as actions
 use Rattle.content_laws.specs.Paths.{Comes, Move, relation_of}
-use Rattle.content_laws.specs.PlainCalls.{IsPlainlyCalled}
-use Rattle.content_laws.specs.PlainForms.{IsPlainRead, ResetsPlainly}
-use Rattle.content_laws.specs.Texts.{HasLightTexts}
+use Rattle.content_laws.specs.PlainForms.{ResetsPlainly}
 
--- The step has a plain form: it reads plain constants of the library; it stores into no owning field but those of `this`; and what it calls is called
--- plainly.
-abbrev pub IsPlainStep : Program → Action → Type 0
-IsPlainStep p (actions.Plain x v) = IsPlainRead p v
-IsPlainStep p (actions.Put f d this) = is_owning p f ≡ false
-IsPlainStep p (actions.Call m d n form) = IsPlainlyCalled p m
-IsPlainStep p (actions.New m d n) = IsPlainlyCalled p m
-IsPlainStep p (actions.Super m d n) = IsPlainlyCalled p m
-IsPlainStep p a = Unit {0}
+-- the expression reads an owning field
+abbrev pub is_owning_place : Program → Option ExpressionKind → Bool
+is_owning_place p (Some (expressions.Field e f)) = is_owning p f
+is_owning_place p k = false
+
+-- the expression assigns an owning field by another operator than `=` (JLS 15.26.2, 15.14.2, 15.15.1); with an owning field, that is `+=` on one of type `String`
+abbrev pub updates_owning : Program → Body → ExpressionKind → Bool
+updates_owning p b (expressions.OperatorAssignment a) = is_owning_place p (kind_at b a.target)
+updates_owning p b (expressions.PostfixStep a) = is_owning_place p (kind_at b a.target)
+updates_owning p b k = false
+
+abbrev pub updates_owning_in : Program → Body → Bool
+updates_owning_in p b = list_any (λ (e : TExpr). updates_owning p b e.kind) b.expressions.items
+
+-- some body does so
+abbrev pub updates_owning_fields : Program → Bool
+updates_owning_fields p = list_any (updates_owning_in p) p.bodies.items
 
 -- no method of the program or of the library creates an obligation anew
 abbrev pub creates_nothing : Program → Bool
 creates_nothing p = list_all (λ (m : Method). not (is_some m.sig.reset)) p.methods.items
 
--- No method with a body creates an obligation anew; where a body calls one that does, it does so plainly: not for `this`, in a constructor behind no store into an owning field, and,
--- in a program with owning fields, for a receiver that the rules of bodies follow.
+-- No method of a class with owning fields creates the obligation of `this` anew. Where a body calls a method that creates one anew, it does so plainly: for `this` only in a class without
+-- owning fields, in a constructor behind no store into an owning field, and, in a program with owning fields, where these and the targets of such methods are of no type that a text may have.
 pub record CreatesPlainly (p : Program) : Type 0 where
-  pub bodies : (b : BodyId) (x : Body) (m : Method) → body_at p b ≡ Some x → method_at p x.method ≡ Some m → m.sig.reset ≡ None
+  pub bodies : (b : BodyId) → resets_this p b ≡ true → (f : FieldId) → has_field_place p b f ≡ false
   pub steps : (b : BodyId) {k : List Todo} (i : ℕ) (t : Move (List Todo)) → Comes (relation_of p b) k
       → slice_get ((relation_of p b).next k) i ≡ Some t → ResetsPlainly p b k t.action
 
--- A plain program: what its bodies do has plain forms.
+-- A plain program: owning fields are stored, and obligations created anew, in plain forms.
 pub record IsPlain (p : Program) : Type 0 where
-  -- each step that a control of a body can reach has a plain form
-  pub steps : (b : BodyId) {k : List Todo} (i : ℕ) (t : Move (List Todo)) → Comes (relation_of p b) k
-      → slice_get ((relation_of p b).next k) i ≡ Some t → IsPlainStep p t.action
   -- owning fields are stored by constructors alone
   pub stores : (b : BodyId) {k : List Todo} (i : ℕ) (t : Move (List Todo)) (f : FieldId) (d : ℕ) → Comes (relation_of p b) k
       → slice_get ((relation_of p b).next k) i ≡ Some t → t.action ≡ actions.PutOwn f d → is_constructor p b ≡ true
   -- what creates obligations anew does so plainly
   pub creations : CreatesPlainly p
-  -- objects of class `String` owe no calls, and are no aliases: a premise on the library alone
-  pub texts : HasLightTexts p
+  -- no owning field is assigned by another operator than `=`
+  pub updates : updates_owning_fields p ≡ false

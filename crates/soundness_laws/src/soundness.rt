@@ -18,10 +18,9 @@ ghost use Rattle.content_laws.specs.FieldContents.{FieldsHold, HaveContents};
 ghost use Rattle.content_laws.specs.PlaceFacts.{AreCovered};
 ghost use Rattle.content_laws.specs.Ranges.{AreInRange};
 ghost use Rattle.content_laws.specs.Arguments.{HaveArguments};
-ghost use Rattle.content_laws.specs.Linking.{LinkedAreAliases};
+ghost use Rattle.content_laws.specs.Sight.{AllActInSight};
 ghost use Rattle.content_laws.specs.Making.{AreBeingMade};
 ghost use Rattle.content_laws.specs.Throws.{TopEndsByException};
-ghost use Rattle.content_laws.specs.Exceptions.{HasPlainExceptions};
 ghost use Rattle.soundness_laws.specs.Holding.{Holds};
 ghost use Rattle.content_laws.specs.Filled.{AreFilled};
 ghost use Rattle.soundness_laws.specs.Plain.{IsPlain};
@@ -35,12 +34,12 @@ pub fn plain_program_has_plain_forms()
 
 /// All invariants hold as a run of an accepted program begins.
 pub fn holds_at_start()
-    ensures { (p : Program) → Accept p → GivesLibraryClasses p → HasPlainExceptions p → (main : MethodId) (choices : Choices) → IsMain p main → Holds p (start_config p main choices) }
+    ensures { (p : Program) → Accept p → GivesLibraryClasses p → (main : MethodId) (choices : Choices) → IsMain p main → Holds p (start_config p main choices) }
 {}
 
 /// Each step that is not stray keeps the agreement with the facts, in an accepted program of the plain forms, by what else holds.
 pub fn agree_step()
-    ensures { (p : Program) → Accept p → HasPlainForms p → GivesLibraryClasses p → ThrowsMadeClasses p → (c d : Config) → Agree p c → HaveTargets p c.frames → FieldsHold p c.frames c.heap → LinkedAreAliases p c.heap → AreCovered p c.heap c.frames
+    ensures { (p : Program) → Accept p → HasPlainForms p → GivesLibraryClasses p → ThrowsMadeClasses p → (c d : Config) → Agree p c → HaveTargets p c.frames → FieldsHold p c.frames c.heap → AllActInSight p c.heap c.frames → AreCovered p c.heap c.frames
         → AreInRange c → AreBeingMade p c.heap c.frames → HaveArguments p c.frames → TopEndsByException p c.heap c.frames → AreFilled p c.heap c.frames → step p c ≡ went d → Agree p d }
 {}
 

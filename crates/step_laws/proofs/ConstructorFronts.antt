@@ -40,7 +40,7 @@ use Rattle.program_model.specs.declared.tree.TExpr.{TExpr}
 use Rattle.program_model.specs.declared.tree.TryStatement.{TryStatement}
 use Rattle.program_model.specs.Lookups.{class_at, expression_at, method_at, variable_type}
 use Rattle.program_model.specs.Overrides.{is_abstract, is_abstract_in}
-use Rattle.program_model.specs.Typing.{AreArguments, Fits, IsCall, IsCallTarget, IsClose, IsConcrete, IsConstruction, IsNewObject, IsResource, IsOfOptionalType, IsSuperCall, IsTypedStatement}
+use Rattle.program_model.specs.Typing.{AreArguments, Fits, IsCall, IsCallTarget, IsClose, IsConcrete, IsConstruction, IsNewObject, IsResource, IsOfOptionalType, IsSuperCall, IsTypedStatement, kind_at, kind_in}
 use Rattle.rlc_base.specs.declared.place.Pos.{Pos}
 use Rattle.java_control.specs.Conditions.{binary_condition, condition_front, equal_condition, kind_condition, literal_condition, node_condition, not_equal_condition, tests_value, unary_condition}
 use Rattle.java_control.specs.Expressions.{assignment_front, binary_front, call_with, comparison_front, computes, evaluations, expression_front, field_read, field_store, new_front, postfix_front, stored, stored_at, stored_in, type_or_null, unary_front, update_front}
@@ -56,7 +56,7 @@ use Rattle.java_control.specs.declared.action.TargetForm.TheVariants as forms
 use Rattle.java_control.specs.declared.place.Place.TheVariants as places
 use Rattle.java_control.specs.declared.item.Condition.{Condition}
 use Rattle.java_control.specs.declared.item.Condition.TheVariants as conditions
-use Rattle.step_laws.specs.Constructors.{IsOfSuperClass, StandsInBody}
+use Rattle.step_laws.specs.Constructors.{AssignsField, IsFieldAssigned, IsOfField, IsOfSuperClass, IsOtherField, StandsInBody}
 use Rattle.step_laws.proofs.ConstructorItems.{AllGood, AreGood, IsInstanceMethod, IsOwn, SuitsTarget, all_reversed, good_both, good_each, good_flat, good_todos}
 
 module _ (p : Program) (b : Body) where
@@ -74,47 +74,47 @@ module _ (p : Program) (b : Body) where
       go true = ((tt, tt), tt)
       go false = (tt, ((tt, tt), tt))
 
-  good_field_store : (e : ExprId) (f : FieldId) (value : ExprId) (d : ℕ) (pos : Pos) → AllGood p b (field_store p b e f value d pos)
-  good_field_store e f value d pos = go (is_this b e) (is_owning p f) (declares_field p b f) refl refl
+  good_field_store : (e : ExprId) (f : FieldId) (value : ExprId) (d : ℕ) (pos : Pos) → (has_place p b e f ≡ false → IsFieldAssigned p b f) → AllGood p b (field_store p b e f value d pos)
+  good_field_store e f value d pos assigned = go (is_this b e) (is_owning p f) (declares_field p b f) refl refl assigned
     where
-      go : (x y z : Bool) → is_owning p f ≡ y → declares_field p b f ≡ z
+      go : (x y z : Bool) → is_owning p f ≡ y → declares_field p b f ≡ z → ((if x then (if y then z else false) else false) ≡ false → IsFieldAssigned p b f)
           → AllGood p b (if (if x then (if y then z else false) else false) then Ev value d ∷ Act (actions.PutOwn f d) pos ∷ [] else (Ev e d ∷ Ev value (d + 1) ∷ Act (actions.Put f d (is_this b e)) pos ∷ []))
-      go true true true owning declared = (tt, ((tt, (owning, declared)), tt))
-      go true true false owning declared = (tt, (tt, ((tt, tt), tt)))
-      go true false z owning declared = (tt, (tt, ((tt, tt), tt)))
-      go false y z owning declared = (tt, (tt, ((tt, tt), tt)))
+      go true true true owning declared assigned' = (tt, ((tt, (owning, declared)), tt))
+      go true true false owning declared assigned' = (tt, (tt, ((tt, assigned' refl), tt)))
+      go true false z owning declared assigned' = (tt, (tt, ((tt, assigned' refl), tt)))
+      go false y z owning declared assigned' = (tt, (tt, ((tt, assigned' refl), tt)))
 
-  good_assignment : (x : AssignmentTarget) (value : ExprId) (d : ℕ) (pos : Pos) → AllGood p b (assignment_front p b x value d pos)
-  good_assignment (targets.Local x) value d pos = (tt, ((tt, tt), tt))
-  good_assignment (targets.Field e f) value d pos = good_field_store e f value d pos
-  good_assignment (targets.StaticField f) value d pos = good_computes (operators.StoreStatic f) (value ∷ []) d pos
-  good_assignment (targets.Element a i) value d pos = good_computes operators.StoreElement (a ∷ i ∷ value ∷ []) d pos
+  good_assignment : (x : AssignmentTarget) (value : ExprId) (d : ℕ) (pos : Pos) → ((f : FieldId) → IsOtherField p b f x → IsFieldAssigned p b f) → AllGood p b (assignment_front p b x value d pos)
+  good_assignment (targets.Local x) value d pos assigned = (tt, ((tt, tt), tt))
+  good_assignment (targets.Field e f) value d pos assigned = good_field_store e f value d pos (λ other. assigned f (refl, other))
+  good_assignment (targets.StaticField f) value d pos assigned = good_computes (operators.StoreStatic f) (value ∷ []) d pos
+  good_assignment (targets.Element a i) value d pos assigned = good_computes operators.StoreElement (a ∷ i ∷ value ∷ []) d pos
 
-  good_stored_in : (k : ExpressionKind) (d : ℕ) (pos : Pos) → AllGood p b (stored_in k d pos)
-  good_stored_in (expressions.Literal l) d pos = tt
-  good_stored_in (expressions.Local x) d pos = ((tt, tt), tt)
-  good_stored_in (expressions.StaticField f) d pos = ((tt, tt), tt)
-  good_stored_in (expressions.Field e f) d pos = ((tt, tt), ((tt, tt), ((tt, tt), tt)))
-  good_stored_in k d pos = tt
+  good_stored_in : (k : ExpressionKind) (d : ℕ) (pos : Pos) → ((f : FieldId) → IsOfField f (Some k) → IsFieldAssigned p b f) → AllGood p b (stored_in k d pos)
+  good_stored_in (expressions.Literal l) d pos assigned = tt
+  good_stored_in (expressions.Local x) d pos assigned = ((tt, tt), tt)
+  good_stored_in (expressions.StaticField f) d pos assigned = ((tt, tt), tt)
+  good_stored_in (expressions.Field e f) d pos assigned = ((tt, tt), ((tt, tt), ((tt, assigned f refl), tt)))
+  good_stored_in k d pos assigned = tt
 
-  good_stored : (target : ExprId) (d : ℕ) (pos : Pos) → AllGood p b (stored b target d pos)
-  good_stored target d pos = go (expression_at b target)
+  good_stored : (target : ExprId) (d : ℕ) (pos : Pos) → ((f : FieldId) → IsOfField f (kind_at b target) → IsFieldAssigned p b f) → AllGood p b (stored b target d pos)
+  good_stored target d pos assigned = go (expression_at b target) assigned
     where
-      go : (x : Option TExpr) → AllGood p b (stored_at x d pos)
-      go None = tt
-      go (Some x) = good_stored_in x.kind d pos
+      go : (x : Option TExpr) → ((f : FieldId) → IsOfField f (kind_in x) → IsFieldAssigned p b f) → AllGood p b (stored_at x d pos)
+      go None assigned' = tt
+      go (Some x) assigned' = good_stored_in x.kind d pos assigned'
 
-  good_update : (a : OperatorAssignment) (u : Option VType) (d : ℕ) (pos : Pos) → AllGood p b (update_front b a u d pos)
-  good_update a u d pos =
+  good_update : (a : OperatorAssignment) (u : Option VType) (d : ℕ) (pos : Pos) → ((f : FieldId) → IsOfField f (kind_at b a.target) → IsFieldAssigned p b f) → AllGood p b (update_front b a u d pos)
+  good_update a u d pos assigned =
       good_both p b (computes (operators.Binary a.operator a.operands (type_or_null u)) (a.target ∷ a.value ∷ []) d pos) (stored b a.target d pos)
-      (good_computes (operators.Binary a.operator a.operands (type_or_null u)) (a.target ∷ a.value ∷ []) d pos) (good_stored a.target d pos)
+      (good_computes (operators.Binary a.operator a.operands (type_or_null u)) (a.target ∷ a.value ∷ []) d pos) (good_stored a.target d pos assigned)
 
-  good_postfix : (a : OperatorAssignment) (u : Option VType) (d : ℕ) (pos : Pos) → AllGood p b (postfix_front b a u d pos)
-  good_postfix a u d pos =
+  good_postfix : (a : OperatorAssignment) (u : Option VType) (d : ℕ) (pos : Pos) → ((f : FieldId) → IsOfField f (kind_at b a.target) → IsFieldAssigned p b f) → AllGood p b (postfix_front b a u d pos)
+  good_postfix a u d pos assigned =
       good_both p b (Ev a.target d ∷ computes (operators.Binary a.operator a.operands (type_or_null u)) (a.target ∷ a.value ∷ []) (d + 1) pos ++ stored b a.target (d + 1) pos)
       (Act (actions.Drop (scopes.Temp (d + 1))) pos ∷ [])
       (good_both p b (Ev a.target d ∷ computes (operators.Binary a.operator a.operands (type_or_null u)) (a.target ∷ a.value ∷ []) (d + 1) pos) (stored b a.target (d + 1) pos)
-      (tt, good_computes (operators.Binary a.operator a.operands (type_or_null u)) (a.target ∷ a.value ∷ []) (d + 1) pos) (good_stored a.target (d + 1) pos))
+      (tt, good_computes (operators.Binary a.operator a.operands (type_or_null u)) (a.target ∷ a.value ∷ []) (d + 1) pos) (good_stored a.target (d + 1) pos assigned))
       ((tt, tt), tt)
 
   -- a call whose target is an object names an instance method
@@ -167,30 +167,30 @@ module _ (p : Program) (b : Body) where
   good_binary o x e t d pos = good_computes (operators.Binary x.operator x.operands (type_or_null t)) (x.left ∷ x.right ∷ []) d pos
 
   -- an expression of a type, or a call of none
-  pub good_expression : (k : ExpressionKind) (e : ExprId) (t : Option VType) (d : ℕ) (pos : Pos) → IsOfOptionalType p b k t → AllGood p b (expression_front k p b e t d pos)
-  good_expression (expressions.Call c) e None d pos is = good_call_with c.method c.arguments.items c.target d pos (called c None is)
-  good_expression (expressions.Literal l) e None d pos is = absurd is
-  good_expression k e None d pos is = absurd is
-  good_expression (expressions.Literal l) e (Some t) d pos is = ((tt, tt), tt)
-  good_expression (expressions.Local x) e (Some t) d pos is = ((tt, tt), tt)
-  good_expression (expressions.This written) e (Some t) d pos is = ((tt, tt), tt)
-  good_expression (expressions.Field x f) e (Some t) d pos is = good_read x f d pos
-  good_expression (expressions.StaticField f) e (Some t) d pos is = ((tt, tt), tt)
-  good_expression (expressions.LibraryConstant m) e (Some t) d pos is = ((tt, tt), tt)
-  good_expression (expressions.Unary o x) e (Some t) d pos is = good_unary o x e (Some t) d pos
-  good_expression (expressions.Binary x) e (Some t) d pos is = good_binary x.operator x e (Some t) d pos
-  good_expression (expressions.Conditional c x y) e (Some t) d pos is = (((tt, tt), (tt, tt)), tt)
-  good_expression (expressions.InstanceOf x tested) e (Some t) d pos is = good_computes (operators.InstanceOf tested) (x ∷ []) d pos
-  good_expression (expressions.PrimitiveCast x) e (Some t) d pos is = good_computes (operators.Convert t) (x ∷ []) d pos
-  good_expression (expressions.ReferenceCast x) e (Some t) d pos is = (tt, ((tt, tt), tt))
-  good_expression (expressions.Assignment x value) e (Some t) d pos is = good_assignment x value d pos
-  good_expression (expressions.OperatorAssignment a) e (Some t) d pos is = good_update a (Some t) d pos
-  good_expression (expressions.PostfixStep a) e (Some t) d pos is = good_postfix a (Some t) d pos
-  good_expression (expressions.Call c) e (Some t) d pos is = good_call_with c.method c.arguments.items c.target d pos (called c (Some t) is)
-  good_expression (expressions.NewObject n) e (Some t) d pos is = good_new n t d pos is
-  good_expression (expressions.NewArray x) e (Some t) d pos is = good_computes (operators.NewArray t) (x ∷ []) d pos
-  good_expression (expressions.Element a i) e (Some t) d pos is = good_computes operators.Element (a ∷ i ∷ []) d pos
-  good_expression (expressions.Length a) e (Some t) d pos is = good_computes operators.Length (a ∷ []) d pos
+  pub good_expression : (k : ExpressionKind) (e : ExprId) (t : Option VType) (d : ℕ) (pos : Pos) → IsOfOptionalType p b k t → ((f : FieldId) → AssignsField p b f k → IsFieldAssigned p b f) → AllGood p b (expression_front k p b e t d pos)
+  good_expression (expressions.Call c) e None d pos is assigned = good_call_with c.method c.arguments.items c.target d pos (called c None is)
+  good_expression (expressions.Literal l) e None d pos is assigned = absurd is
+  good_expression k e None d pos is assigned = absurd is
+  good_expression (expressions.Literal l) e (Some t) d pos is assigned = ((tt, tt), tt)
+  good_expression (expressions.Local x) e (Some t) d pos is assigned = ((tt, tt), tt)
+  good_expression (expressions.This written) e (Some t) d pos is assigned = ((tt, tt), tt)
+  good_expression (expressions.Field x f) e (Some t) d pos is assigned = good_read x f d pos
+  good_expression (expressions.StaticField f) e (Some t) d pos is assigned = ((tt, tt), tt)
+  good_expression (expressions.LibraryConstant m) e (Some t) d pos is assigned = ((tt, tt), tt)
+  good_expression (expressions.Unary o x) e (Some t) d pos is assigned = good_unary o x e (Some t) d pos
+  good_expression (expressions.Binary x) e (Some t) d pos is assigned = good_binary x.operator x e (Some t) d pos
+  good_expression (expressions.Conditional c x y) e (Some t) d pos is assigned = (((tt, tt), (tt, tt)), tt)
+  good_expression (expressions.InstanceOf x tested) e (Some t) d pos is assigned = good_computes (operators.InstanceOf tested) (x ∷ []) d pos
+  good_expression (expressions.PrimitiveCast x) e (Some t) d pos is assigned = good_computes (operators.Convert t) (x ∷ []) d pos
+  good_expression (expressions.ReferenceCast x) e (Some t) d pos is assigned = (tt, ((tt, tt), tt))
+  good_expression (expressions.Assignment x value) e (Some t) d pos is assigned = good_assignment x value d pos assigned
+  good_expression (expressions.OperatorAssignment a) e (Some t) d pos is assigned = good_update a (Some t) d pos assigned
+  good_expression (expressions.PostfixStep a) e (Some t) d pos is assigned = good_postfix a (Some t) d pos assigned
+  good_expression (expressions.Call c) e (Some t) d pos is assigned = good_call_with c.method c.arguments.items c.target d pos (called c (Some t) is)
+  good_expression (expressions.NewObject n) e (Some t) d pos is assigned = good_new n t d pos is
+  good_expression (expressions.NewArray x) e (Some t) d pos is assigned = good_computes (operators.NewArray t) (x ∷ []) d pos
+  good_expression (expressions.Element a i) e (Some t) d pos is assigned = good_computes operators.Element (a ∷ i ∷ []) d pos
+  good_expression (expressions.Length a) e (Some t) d pos is assigned = good_computes operators.Length (a ∷ []) d pos
 
   -- ---- conditions
 

@@ -16,11 +16,12 @@ use Rattle.program_model.specs.Lookups.{method_at, statement_at}
 use Rattle.java_control.specs.Remaining.{Todo, Todos, nil, cons, todos, Do, Ev, Act, Cond, NullFork, BoolFork, LoopEnd, For, Leave, Catch, Fin, Close, Finish, Supp, Out, Ended}
 use Rattle.java_control.specs.declared.action.Action.{Action}
 use Rattle.java_control.specs.declared.action.Action.TheVariants as actions
-use Rattle.step_laws.specs.Constructors.{CallsSuperClass, IsCallOf, MakesConcrete, NamesInstance, StandsInBody, StoresOwnField}
+use Rattle.step_laws.specs.Constructors.{CallsSuperClass, IsCallOf, MakesConcrete, NamesInstance, StandsInBody, StoresAssignedField, StoresOwnField}
 
 -- what the action stores, makes or calls may be stored, made or called there
 abbrev pub IsAllowed : Program → Body → Action → Type 0
 IsAllowed p b (actions.PutOwn f d) = StoresOwnField p b (actions.PutOwn f d)
+IsAllowed p b (actions.Put f d this) = StoresAssignedField p b (actions.Put f d this)
 IsAllowed p b (actions.New m d n) = MakesConcrete p (actions.New m d n)
 IsAllowed p b (actions.Call m d n form) = NamesInstance p (actions.Call m d n form)
 IsAllowed p b (actions.Super m d n) = StandsInBody b (actions.Super m d n)
@@ -33,6 +34,11 @@ pub allowed_store : (p : Program) (b : Body) (a : Action) → IsAllowed p b a �
 allowed_store p b actions.Skip allowed = tt
 allowed_store p b (actions.PutOwn f d) allowed = allowed
 allowed_store p b a allowed = tt
+
+pub allowed_field : (p : Program) (b : Body) (a : Action) → IsAllowed p b a → StoresAssignedField p b a
+allowed_field p b actions.Skip allowed = tt
+allowed_field p b (actions.Put f d this) allowed = allowed
+allowed_field p b a allowed = tt
 
 pub allowed_making : (p : Program) (b : Body) (a : Action) → IsAllowed p b a → MakesConcrete p a
 allowed_making p b actions.Skip allowed = tt

@@ -1,5 +1,5 @@
 -- Each control that a body reaches has such items alone, and its steps have their place.
-use Rattle.std.proofs.Common.{◌≡◌, ℕ, zero, suc, ◌+◌, Bool, true, false, Option, Some, None, List, [], ◌∷◌, ◌++◌, map, slice_get, option_map, refl, sym, ap, ◌∙◌, subst, if◌then◌else◌}
+use Rattle.std.proofs.Common.{◌≡◌, ℕ, zero, suc, ◌+◌, Bool, true, false, Option, Some, None, IsSomeAnd, List, [], ◌∷◌, ◌++◌, map, slice_get, option_map, refl, sym, ap, ◌∙◌, subst, if◌then◌else◌}
 use Rattle.std.proofs.lemmas.Option.{slice_get-map}
 use Rattle.program_model.specs.declared.kinds.BodyId.{BodyId}
 use Rattle.program_model.specs.declared.kinds.ClassId.{ClassId}
@@ -27,10 +27,10 @@ use Rattle.java_control.specs.declared.item.Closing.{Closing}
 use Rattle.java_control.specs.declared.action.Completion.{Completion}
 use Rattle.java_control.specs.declared.action.Completion.TheVariants as completions
 use Rattle.accepted_programs.specs.Paths.{Comes, Move, move_of, on, relation_of, start}
-use Rattle.step_laws.specs.Constructors.{CallsSuperClass, MakesConcrete, NamesInstance, StandsInBody, StoresOwnField}
+use Rattle.step_laws.specs.Constructors.{AssignsField, CallsSuperClass, MakesConcrete, NamesInstance, StandsInBody, StoresAssignedField, StoresOwnField}
 use Rattle.step_laws.proofs.ConstructorFronts.{good_condition, good_expression, good_for_turn, good_loop_turn, good_statement, good_super}
 use Rattle.step_laws.proofs.OwnStatements.{super_is_own}
-use Rattle.step_laws.proofs.ConstructorItems.{AllGood, HasPlace, IsInstanceMethod, IsOwn, allowed_call, allowed_making, allowed_store, allowed_super, good_both, good_todos}
+use Rattle.step_laws.proofs.ConstructorItems.{AllGood, HasPlace, IsInstanceMethod, IsOwn, allowed_call, allowed_field, allowed_making, allowed_store, allowed_super, good_both, good_todos}
 
 -- the way takes an action that has its place, and leaves such items
 abbrev pub LeavesGood : Program → Body → Way → Type 0
@@ -53,6 +53,10 @@ way_at p b [] i w all at = absurd (no_way i w at)
 way_at p b (v ∷ ws) zero w all at = subst (LeavesGood p b) (let both : Some v ≡ Some w = at in (let same : v ≡ w = cc in same)) all.0
 way_at p b (v ∷ ws) (suc i) w all at = way_at p b ws i w all.1 at
 
+-- the expression is there, and so is what it does
+known : (b : Body) (e : ExprId) (x : TExpr) (P : TExpr → Type 0) → expression_at b e ≡ Some x → P x → IsSomeAnd (expression_at b e) P
+known b e x P at does = let Q : Option TExpr → Type 0 = λ y. IsSomeAnd y P in subst Q (sym at) does
+
 module _ (p : Program) (b : Body) (n : BodyId) (valid : IsValidBody p n b) where
   throwing : (a : Action) (pos : Pos) (k : List Todo) (cs : List ClassId) → HasPlace p b a → AllGood p b k → AllLeaveGood p b (map (throws a pos k) cs)
   throwing a pos k [] names good = tt
@@ -73,7 +77,7 @@ module _ (p : Program) (b : Body) (n : BodyId) (valid : IsValidBody p n b) where
 
   in_expression : (e : ExprId) (d : ℕ) (x : Option TExpr) (k : List Todo) → expression_at b e ≡ x → AllGood p b k → AllLeaveGood p b (expression_ways p b e d x k)
   in_expression e d None k at good = tt
-  in_expression e d (Some x) k at good = (((tt, tt), good_both p b _ k (good_expression p b x.kind e x.vtype d x.pos (valid.expressions e x at).typed) good), tt)
+  in_expression e d (Some x) k at good = (((tt, tt), good_both p b _ k (good_expression p b x.kind e x.vtype d x.pos (valid.expressions e x at).typed (λ f assigns. (e, known b e x (λ y. AssignsField p b f y.kind) at assigns))) good), tt)
 
   in_loop : (w : StmtId) (d : ℕ) (x : Option TStmt) (k : List Todo) → AllGood p b k → AllLeaveGood p b (loop_ways b w d x k)
   in_loop w d None k good = tt
@@ -215,3 +219,7 @@ names_instance p typed b x k i t at comes there = allowed_call p x t.action (goo
 pub super_stands : (p : Program) → IsTypedProgram p → (b : BodyId) (x : Body) (k : List Todo) (i : ℕ) (t : Move (List Todo)) → body_at p b ≡ Some x → Comes (relation_of p b) k
     → slice_get ((relation_of p b).next k) i ≡ Some t → StandsInBody x t.action
 super_stands p typed b x k i t at comes there = allowed_super p x t.action (good_move p typed b x at k i t (reached_is_good p typed b x at k comes) there).0.1
+
+pub stores_assigned : (p : Program) → IsTypedProgram p → (b : BodyId) (x : Body) (k : List Todo) (i : ℕ) (t : Move (List Todo)) → body_at p b ≡ Some x → Comes (relation_of p b) k
+    → slice_get ((relation_of p b).next k) i ≡ Some t → StoresAssignedField p x t.action
+stores_assigned p typed b x k i t at comes there = allowed_field p x t.action (good_move p typed b x at k i t (reached_is_good p typed b x at k comes) there).0.1

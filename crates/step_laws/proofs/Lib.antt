@@ -34,12 +34,12 @@ pub mod TypeFronts
 pub mod TypeStatements
 pub mod TypeWays
 mod Root
-pub mod ExceptionItems
-pub mod ExceptionTypes
-pub mod ExceptionConditions
-pub mod ExceptionFronts
-pub mod ExceptionStatements
-pub mod ExceptionWays
+pub mod ClassItems
+pub mod ClassTypes
+pub mod ClassConditions
+pub mod ClassFronts
+pub mod ClassStatements
+pub mod ClassWays
 pub mod Origins
 pub use Rattle.accepted_programs.proofs.Alike
 pub use Rattle.accepted_programs.proofs.CallNames

@@ -1,17 +1,16 @@
--- All classes stand under `Object`, which is therefore under no other class, and no class of exceptions (JLS 4.3.2, 8.1.4).
+-- All classes stand under `Object` (JLS 4.3.2, 8.1.4).
 use Rattle.std.proofs.Common.{◌≡◌, ◌∙◌, ◌⊎◌, inl, inr, sym, ap, refl, subst, arith, eqb-true, true≢false, ℕ, zero, suc, ◌+◌, ◌<◌, ◌≤◌, ◌||◌, Bool, true, false, not, Option, Some, None, List, [], ◌∷◌, ◌++◌, Contains, IsSomeAnd, codes, length, map, get_or, slice_index, slice_get}
 use Rattle.std.specs.Prelude.{is_some}
 use Rattle.std.specs.List.Sorted.{IsStrictlyIncreasing}
 use Rattle.std.proofs.lemmas.List.{length-map}
 use Rattle.std.proofs.lemmas.List.Elements.{Contains-append_left, Contains-append_right}
-use Rattle.std.proofs.lemmas.Slice.Eq.{bytes_eq-Decides}
 use Rattle.program_model.specs.declared.kinds.ClassId.{ClassId}
 use Rattle.program_model.specs.declared.program.Class.{Class}
 use Rattle.program_model.specs.declared.program.Program.{Program}
 use Rattle.program_model.specs.Hierarchy.{IsDirectSuper, IsHierarchy, IsUnder, above, class_number, implied_super, itself}
 use Rattle.program_model.specs.Lookups.{class_at, optional}
 use Rattle.program_model.specs.SuperTests.{is_class}
-use Rattle.program_model.specs.Validity.{IsNamed, IsTypedProgram, has_super_class}
+use Rattle.program_model.specs.Validity.{IsTypedProgram, has_super_class}
 
 -- ---- lists of rising numbers
 
@@ -162,24 +161,10 @@ module _ (p : Program) (typed : IsTypedProgram p) where
       absurd (let some = own.1 in omega (arith, some, few))
   all_under (suc m) c k at few = under_step m c k at (all_under m) few
 
-  -- ---- `Object` is no class of exceptions
-
-  one_name : (o : Option Class) (a b : List ℕ) → IsSomeAnd o (λ k. k.name ≡ a) → IsSomeAnd o (λ k. k.name ≡ b) → a ≡ b
-  one_name None a b h g = absurd h
-  one_name (Some k) a b h g = sym h ∙ g
-
-  two_names : p.core.object ≡ p.core.throwable → ⊥
-  two_names same =
-      let one : codes "java.lang.Object" ≡ codes "java.lang.Throwable" =
-      one_name (class_at p p.core.throwable) (codes "java.lang.Object") (codes "java.lang.Throwable") (subst (λ (c : ClassId). IsNamed p c (codes "java.lang.Object")) same typed.core.object) typed.core.throwable in
-      true≢false (sym ((bytes_eq-Decides (codes "java.lang.Object") (codes "java.lang.Throwable")).1 one))
-
-  under_itself : (c : ClassId) → IsUnder p p.core.object c → p.core.object ≡ c
-  under_itself _ (itself _) = refl
-  under_itself c (above _ e _ direct rest) = absurd (
-      let j = class_of_super p.core.object e direct.0 direct.1 direct in
-      (typed.hierarchy.supers p.core.object direct.0 direct.1).acyclic e direct (all_under (length j.0.above.items) e j.0 j.1 (omega arith))
-      )
-
-  pub object_no_exception : IsUnder p p.core.object p.core.throwable → ⊥
-  object_no_exception under = two_names (under_itself p.core.throwable under)
+  -- `String` is there, so it does
+  pub string_under_object : IsUnder p p.core.string p.core.object
+  string_under_object = go (class_at p p.core.string) refl typed.core.string
+    where
+      go : (x : Option Class) → class_at p p.core.string ≡ x → IsSomeAnd x (λ k. k.name ≡ codes "java.lang.String") → IsUnder p p.core.string p.core.object
+      go None at named = absurd named
+      go (Some k) at named = all_under (length k.above.items) p.core.string k at (omega arith)

@@ -1,15 +1,22 @@
--- Steps that have their place: calls on objects and of super constructors, objects that are made, and stores into owning fields of `this`.
-use Rattle.std.specs.Prelude.{◌≡◌, true, false, IsSomeAnd, Contains}
+-- Steps that have their place: calls on objects and of super constructors, objects that are made, and stores into fields.
+use Rattle.std.specs.Prelude.{◌≡◌, true, false, Option, Some, IsSomeAnd, Contains}
+use Rattle.program_model.specs.declared.kinds.ExprId.{ExprId}
+use Rattle.program_model.specs.declared.kinds.FieldId.{FieldId}
 use Rattle.program_model.specs.declared.kinds.MethodId.{MethodId}
 use Rattle.program_model.specs.declared.kinds.MethodKind.TheVariants as methods
 use Rattle.program_model.specs.declared.kinds.StmtId.{StmtId}
 use Rattle.program_model.specs.declared.program.Program.{Program}
+use Rattle.program_model.specs.declared.tree.AssignmentTarget.{AssignmentTarget}
+use Rattle.program_model.specs.declared.tree.AssignmentTarget.TheVariants as targets
 use Rattle.program_model.specs.declared.tree.Body.{Body}
+use Rattle.program_model.specs.declared.tree.ExpressionKind.{ExpressionKind}
+use Rattle.program_model.specs.declared.tree.ExpressionKind.TheVariants as expressions
 use Rattle.program_model.specs.declared.tree.StatementKind.{StatementKind}
 use Rattle.program_model.specs.declared.tree.StatementKind.TheVariants as statements
-use Rattle.program_model.specs.Lookups.{class_at, method_at, statement_at}
+use Rattle.program_model.specs.Lookups.{class_at, expression_at, method_at, statement_at}
 use Rattle.program_model.specs.Overrides.{is_abstract}
-use Rattle.java_control.specs.Owned.{declares_field, is_owning}
+use Rattle.program_model.specs.Typing.{kind_at}
+use Rattle.java_control.specs.Owned.{declares_field, has_place, is_owning}
 use Rattle.java_control.specs.declared.action.Action.{Action}
 use Rattle.java_control.specs.declared.action.Action.TheVariants as actions
 use Rattle.java_control.specs.declared.action.TargetForm.TheVariants as forms
@@ -50,3 +57,30 @@ MakesConcrete p a = Unit {0}
 abbrev pub StoresOwnField : Program → Body → Action → Type 0
 StoresOwnField p b (actions.PutOwn f d) = (is_owning p f ≡ true) × (declares_field p b f ≡ true)
 StoresOwnField p b a = Unit {0}
+
+-- the expression reads the field of some object
+abbrev pub IsOfField : FieldId → Option ExpressionKind → Type 0
+IsOfField f (Some (expressions.Field e g)) = g ≡ f
+IsOfField f k = ⊥
+
+-- the target is the field, which is no owning field of `this` that the body's class declares
+abbrev pub IsOtherField : Program → Body → FieldId → AssignmentTarget → Type 0
+IsOtherField p b f (targets.Field e g) = (g ≡ f) × (has_place p b e g ≡ false)
+IsOtherField p b f x = ⊥
+
+-- The expression assigns the field: by `=`, where it is no owning field of `this` that the body's class declares, or by another operator
+-- (JLS 15.26, 15.14.2, 15.15.1).
+abbrev pub AssignsField : Program → Body → FieldId → ExpressionKind → Type 0
+AssignsField p b f (expressions.Assignment x value) = IsOtherField p b f x
+AssignsField p b f (expressions.OperatorAssignment a) = IsOfField f (kind_at b a.target)
+AssignsField p b f (expressions.PostfixStep a) = IsOfField f (kind_at b a.target)
+AssignsField p b f k = ⊥
+
+-- an expression of the body assigns the field
+abbrev pub IsFieldAssigned : Program → Body → FieldId → Type 0
+IsFieldAssigned p b f = (e : ExprId) × IsSomeAnd (expression_at b e) (λ x. AssignsField p b f x.kind)
+
+-- a field that is stored, other than as an owning field of `this` in its class, is one that an expression of the body assigns
+abbrev pub StoresAssignedField : Program → Body → Action → Type 0
+StoresAssignedField p b (actions.Put f d this) = IsFieldAssigned p b f
+StoresAssignedField p b a = Unit {0}

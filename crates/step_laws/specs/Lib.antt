@@ -6,7 +6,7 @@ pub mod Constructors
 pub mod SuperArguments
 pub mod Starts
 pub mod Operands
-pub mod ExceptionOperands
+pub mod ClassOperands
 pub mod Origins
 pub use Rattle.accepted_programs.specs.Accept
 pub use Rattle.accepted_programs.specs.Conditions as AcceptedProgramsConditions

@@ -8,7 +8,7 @@ ghost use Rattle.program_model.specs.Lookups.{body_at};
 ghost use Rattle.program_model.specs.Validity.{IsTypedProgram};
 ghost use Rattle.java_control.specs.Remaining.{Todo};
 ghost use Rattle.accepted_programs.specs.Paths.{Comes, Move, relation_of};
-ghost use Rattle.step_laws.specs.Constructors.{CallsSuperClass, MakesConcrete, NamesInstance, StandsInBody, StoresOwnField};
+ghost use Rattle.step_laws.specs.Constructors.{CallsSuperClass, MakesConcrete, NamesInstance, StandsInBody, StoresAssignedField, StoresOwnField};
 
 /// Each step of a reached control that calls a super constructor stands in a constructor, and calls one of the class that its own class
 /// extends (JLS 8.8.7.1); each that stores into an owning field of `this` stands in the class that declares the field.
@@ -33,4 +33,11 @@ pub fn calls_on_objects_name_instance_methods()
 pub fn super_calls_stand_in_bodies()
     ensures { (p : Program) → IsTypedProgram p → (b : BodyId) (x : Body) (k : List Todo) (i : ℕ) (t : Move (List Todo)) → body_at p b ≡ Some x → Comes (relation_of p b) k
         → slice_get ((relation_of p b).next k) i ≡ Some t → StandsInBody x t.action }
+{}
+
+/// Each step of a reached control that stores into a field, other than an owning field of `this` in the class that declares it, does so where an
+/// expression of the body assigns that field (JLS 15.26).
+pub fn stored_fields_are_assigned()
+    ensures { (p : Program) → IsTypedProgram p → (b : BodyId) (x : Body) (k : List Todo) (i : ℕ) (t : Move (List Todo)) → body_at p b ≡ Some x → Comes (relation_of p b) k
+        → slice_get ((relation_of p b).next k) i ≡ Some t → StoresAssignedField p x t.action }
 {}

@@ -6,18 +6,18 @@
 //!   assigns one.
 //! - Each step of a valid body that takes `this` from a temp finds it there.
 //! - Super constructors are called by constructors, and are those of the super class; owning fields of `this` are stored where their class
-//!   declares them; the objects that are made are of classes that are not abstract; calls on objects name instance methods; and a super
-//!   call is one of the body's own statements.
+//!   declares them, other fields where an expression of the body assigns them; the objects that are made are of classes that are not
+//!   abstract; calls on objects name instance methods; and a super call is one of the body's own statements.
 //! - The call of the super class's constructor comes first in a constructor: no owning field of `this` is stored before it.
 //! - Each step of a valid body takes no object but one of class `String` where the static type is no class type.
-//! - Each step of a valid body takes an exception or null where the static type is that of exceptions, and throws one.
+//! - Each step of a valid body takes an object of a class or null where the static type is under the class: where it stores, passes, returns or throws a value.
 //! - A temp that is known to hold no object after a step takes its value from a place that holds none, or from what the step makes.
 #![tactic(auto)]
 
 mod assigned_step;
 mod call_step;
+mod class_operand;
 mod constructor_step;
-mod exception_operand;
 mod named_step;
 mod operand_type;
 mod sources;
@@ -26,11 +26,11 @@ mod target_step;
 
 pub use assigned_step::{spoken_parameters_stay, this_stays, unset_variables_keep_their_values};
 pub use call_step::call_has_one_action;
+pub use class_operand::{start_finds_class, steps_find_class};
 pub use constructor_step::{
     calls_on_objects_name_instance_methods, made_objects_are_concrete, steps_have_their_place,
-    super_calls_stand_in_bodies,
+    stored_fields_are_assigned, super_calls_stand_in_bodies,
 };
-pub use exception_operand::{start_finds_exceptions, steps_find_exceptions};
 pub use named_step::steps_name_what_is_there;
 pub use operand_type::{start_finds_types, steps_find_types};
 pub use sources::temps_hold_none;

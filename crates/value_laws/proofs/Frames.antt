@@ -45,7 +45,7 @@ use Rattle.dispatch_laws.specs.PlainForms.{HasPlainForms}
 use Rattle.frame_laws.specs.Outcomes.{IsCallRow, IsPlainRow}
 use Rattle.frame_laws.specs.Nexts.{IsConstantRead, IsInnerStep, IsPlainStep}
 use Rattle.frame_laws.proofs.Ready.{step_here, step_there}
-use Rattle.value_laws.specs.Values.{FitsException}
+use Rattle.value_laws.specs.Values.{FitsClass}
 use Rattle.value_laws.specs.Thrown.{HasClass, HoldsThrown, KeepsThrown, holds_class}
 use Rattle.value_laws.proofs.ThrownValues.{RaisesClass, after_is}
 use Rattle.value_laws.proofs.Ways.{EndsHeld, start_keeps, step_keeps}
@@ -93,7 +93,7 @@ begun_holds p m self arguments = by_body (body_of (method_at p m)) (holds_class 
 
 -- ---- values that are thrown
 
-has_class : (p : Program) (h : HeapContents) (v : Value) → is_null v ≡ false → FitsException p h v → HasClass v
+has_class : (p : Program) (h : HeapContents) (v : Value) → is_null v ≡ false → FitsClass p p.core.throwable h v → HasClass v
 has_class p h values.Nothing null fits = absurd (true≢false null)
 has_class p h values.Null null fits = absurd (true≢false null)
 has_class p h values.Text null fits = tt
@@ -131,7 +131,7 @@ module _ (p : Program) (h : HeapContents) (arrays : List ArrayObject) (m : Metho
   none_thrown a c made row none is = absurd (none_made _ made)
 
   -- what is thrown and is not null has a class
-  raised_class : (d : ℕ) (x : Option ClassId) → thrown_by_operation p h arrays l (actions.Raise d x) ≡ None → FitsException p h (temp_value l d) → HasClass (temp_value l d)
+  raised_class : (d : ℕ) (x : Option ClassId) → thrown_by_operation p h arrays l (actions.Raise d x) ≡ None → FitsClass p p.core.throwable h (temp_value l d) → HasClass (temp_value l d)
   raised_class d x none fits = go (is_null (temp_value l d)) refl none
     where
       go : (b : Bool) → is_null (temp_value l d) ≡ b → thrown_where b p.core.null_pointer_exception ≡ None → HasClass (temp_value l d)
@@ -142,14 +142,14 @@ module _ (p : Program) (h : HeapContents) (arrays : List ArrayObject) (m : Metho
   null_edge : (c : ClassId) → same_edge (edges.Throws p.core.null_pointer_exception) (edges.Throws c) ≡ true → is_null_pointer p (edges.Throws c) ≡ false → ⊥
   null_edge c is other = true≢false (sym (eq-eqb c.0 p.core.null_pointer_exception.0 (sym (eqb-true p.core.null_pointer_exception.0 c.0 is))) ∙ other)
 
-  by_edge : (d : ℕ) (x : Option ClassId) (c : ClassId) → agrees_with p h arrays m l (actions.Raise d x) (edges.Throws c) ≡ true → is_null_pointer p (edges.Throws c) ≡ false → FitsException p h (temp_value l d) → HasClass (temp_value l d)
+  by_edge : (d : ℕ) (x : Option ClassId) (c : ClassId) → agrees_with p h arrays m l (actions.Raise d x) (edges.Throws c) ≡ true → is_null_pointer p (edges.Throws c) ≡ false → FitsClass p p.core.throwable h (temp_value l d) → HasClass (temp_value l d)
   by_edge d x c agreeing other fits = go (is_null (temp_value l d)) refl agreeing
     where
       go : (b : Bool) → is_null (temp_value l d) ≡ b → same_edge (operation_edge (actions.Raise d x) (thrown_where b p.core.null_pointer_exception)) (edges.Throws c) ≡ true → HasClass (temp_value l d)
       go true null agree = absurd (null_edge c agree other)
       go false null agree = has_class p h (temp_value l d) null fits
 
-  module _ (s : Step) (made : Value) (raised : (d : ℕ) (x : Option ClassId) → s.action ≡ actions.Raise d x → (made ≡ temp_value l d) × FitsException p h (temp_value l d)) where
+  module _ (s : Step) (made : Value) (raised : (d : ℕ) (x : Option ClassId) → s.action ≡ actions.Raise d x → (made ≡ temp_value l d) × FitsClass p p.core.throwable h (temp_value l d)) where
     plain_thrown : (e : Option ClassId) → IsPlainStep p h arrays m l e s → IsThrown s (thrown_value h e made)
     plain_thrown (Some x) step c is place = tt
     plain_thrown None step c is place =

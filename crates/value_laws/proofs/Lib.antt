@@ -7,19 +7,20 @@ mod ValueTypeGifts
 pub mod Moved
 mod ValueTypeBegun
 pub mod ValueTypeLaws
-mod ObjectClasses
+pub mod ObjectClasses
 mod Origins
 mod Temps
-mod ExceptionVariables
-mod ExceptionOperands
-mod ExceptionGifts
+mod ClassVariables
+mod ClassOperands
+mod ClassGifts
 mod CaughtClasses
-mod ExceptionFields
-mod ExceptionOwningFields
-mod ExceptionBegun
+mod ClassFields
+mod ClassOwningFields
+mod ClassBegun
 mod Made
-pub mod ExceptionLaws
-pub mod Plain
+pub mod ClassLaws
+pub mod ClassArguments
+pub mod GivenValues
 pub mod Fronts
 pub mod Statements
 pub mod Kept
@@ -36,6 +37,7 @@ pub use Rattle.frame_laws.proofs.CallNames
 pub use Rattle.frame_laws.proofs.CallWays
 pub use Rattle.dispatch_laws.proofs.Calls
 pub use Rattle.frame_laws.proofs.Carried
+pub use Rattle.frame_laws.proofs.Readings
 pub use Rattle.frame_laws.proofs.Cases
 pub use Rattle.frame_laws.proofs.Chains
 pub use Rattle.dispatch_laws.proofs.Conducts
@@ -46,6 +48,8 @@ pub use Rattle.dispatch_laws.proofs.Owners as DispatchOwners
 pub use Rattle.dispatch_laws.proofs.Emptied
 pub use Rattle.dispatch_laws.proofs.EndLaws
 pub use Rattle.dispatch_laws.proofs.EndLinks
+pub use Rattle.dispatch_laws.proofs.EndResets
+pub use Rattle.dispatch_laws.proofs.ResetHeaps
 pub use Rattle.frame_laws.proofs.Ending
 pub use Rattle.frame_laws.proofs.Entries
 pub use Rattle.frame_laws.proofs.EntryFacts
@@ -65,6 +69,7 @@ pub use Rattle.dispatch_laws.proofs.HeapLaws
 pub use Rattle.frame_laws.proofs.KeptFacts
 pub use Rattle.frame_laws.proofs.Landing
 pub use Rattle.frame_laws.proofs.LibraryCallLaws
+pub use Rattle.frame_laws.proofs.LibraryRuns
 pub use Rattle.dispatch_laws.proofs.Links
 pub use Rattle.frame_laws.proofs.Moving
 pub use Rattle.frame_laws.proofs.NameCounts
@@ -107,5 +112,4 @@ pub use Rattle.dispatch_laws.proofs.Traces
 pub use Rattle.frame_laws.proofs.Tracking
 pub use Rattle.frame_laws.proofs.TrackingGiven
 pub use Rattle.frame_laws.proofs.Unmet
-pub use Rattle.dispatch_laws.proofs.Unoverridden
 pub use Rattle.dispatch_laws.proofs.ValuesAfter

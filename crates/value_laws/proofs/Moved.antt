@@ -38,7 +38,8 @@ use Rattle.ledger_moves.specs.declared.standing.FirstAction.{FirstAction}
 use Rattle.ledger_moves.specs.Moves.{Move, Inner, Start, Library, End, Stray, Rest, by_class, by_edge, call, call_of, chosen_of, fits_target, has_body, inner_by, library_as, library_by, library_call, next_move, null_target, operate, program_call, standing, take, take_chosen, take_plain}
 use Rattle.ledger_moves.specs.Moves.{Return, Back, StrayBack, NoWay, back_as, back_by, back_from, back_to, return_move}
 use Rattle.frame_laws.specs.Agreement.{HasMadeClasses}
-use Rattle.dispatch_laws.specs.PlainForms.{IsPlainAction, IsPlainCall, IsPlainSignature, MayRun, by_class as of_class, by_name, may_be_made, run_by}
+use Rattle.dispatch_laws.specs.PlainForms.{IsAnsweredBy, IsPlainAction, IsPlainCall, LibraryRunsFor, MayRun, by_name, may_be_made, run_by}
+use Rattle.dispatch_laws.specs.PlainForms as plain_forms
 use Rattle.frame_laws.specs.Calling.{may_call}
 use Rattle.frame_laws.proofs.CallWays.{one_action}
 
@@ -142,15 +143,14 @@ abbrev pub IsConstantRead : Action → MethodId → Type 0
 IsConstantRead (actions.Plain x (plain.LibraryConstant m)) named = m ≡ named
 IsConstantRead a named = ⊥
 
--- A call of the library, or a read of its constant: it does what the conduct says, which a choice gave, and goes by the way of an
--- exception where it throws.
+-- A call of the library, or a read of its constant: it does what the conduct says, which a choice gave, by the signature of this method, which is the named
+-- one, or runs for it; and it goes by the way of an exception where it throws.
 pub record IsLibraryNext (p : Program) (h : HeapContents) (arrays : List ArrayObject) (l : Locals) (steps : List Step) (named m : MethodId) (d : Conduct) (s : Step) : Type 0 where
   pub index : ℕ
   pub here : slice_get steps index ≡ Some s
-  pub same : m ≡ named
+  pub answers : IsAnsweredBy p named m
   pub row : (called_method s.action ≡ Some named) ⊎ IsConstantRead s.action named
-  pub signature : IsPlainSignature p (method_at p named)
-  pub by : (choice : Choice) × (d ≡ on_this s.action (settled p h arrays named choice (position_of None l s.action)))
+  pub by : (choice : Choice) × (d ≡ on_this s.action (settled p h arrays m choice (position_of None l s.action)))
   pub thrown : ((e : ClassId) → d ≡ conducts.Throws e → ⊥) ⊎ (is_throws s.edge ≡ true)
 
 abbrev pub IsNext : Program → HeapContents → List ArrayObject → MethodId → Locals → List Step → Move → Type 0
@@ -213,52 +213,51 @@ module _ (p : Program) (n : BodyId) (control : List Todo) (plains : (i : ℕ) (s
     abbrev IsBy : Action → MethodId → Conduct → Type 0
     IsBy a named d = (c : Choice) × (d ≡ on_this a (settled p h arrays named c (position_of None l a)))
 
-    module _ (named : MethodId) (calls : may_call s.action ≡ true) (row : IsRow s.action named) (signature : IsPlainSignature p (method_at p named)) where
-      library_there : (d : Conduct) → IsBy s.action named d → (j : ℕ) (t : Step) → slice_get steps j ≡ Some t → ((c : ClassId) → d ≡ conducts.Throws c → ⊥) ⊎ (is_throws t.edge ≡ true) → Next (Library named named d t)
+    module _ (named k : MethodId) (calls : may_call s.action ≡ true) (answers : IsAnsweredBy p named k) (row : IsRow s.action named) where
+      library_there : (d : Conduct) → IsBy s.action k d → (j : ℕ) (t : Step) → slice_get steps j ≡ Some t → ((c : ClassId) → d ≡ conducts.Throws c → ⊥) ⊎ (is_throws t.edge ≡ true) → Next (Library named k d t)
       library_there d by j t there goes =
           let same = one_call calls t j there in
           record {
             index = j;
             here = there;
-            same = refl;
+            answers = answers;
             row = subst (λ (a : Action). IsRow a named) (sym same) row;
-            signature = signature;
-            by = subst (λ (a : Action). IsBy a named d) (sym same) by;
+            by = subst (λ (a : Action). IsBy a k d) (sym same) by;
             thrown = goes;
           }
 
-      library_on : (d : Conduct) → IsBy s.action named d → ((c : ClassId) → d ≡ conducts.Throws c → ⊥) → (t : Option Step) → by_edge edges.Go steps ≡ t → Next (library_by named named d t)
+      library_on : (d : Conduct) → IsBy s.action k d → ((c : ClassId) → d ≡ conducts.Throws c → ⊥) → (t : Option Step) → by_edge edges.Go steps ≡ t → Next (library_by named k d t)
       library_on d by normal None is = tt
       library_on d by normal (Some t) is = let found = found_in (goes_by edges.Go) steps t is in library_there d by found.0 t found.1 (inl normal)
 
-      library_thrown : (d : Conduct) → IsBy s.action named d → (c : Option ClassId) (t : Option Step) → by_class c steps ≡ t → Next (library_by named named d t)
+      library_thrown : (d : Conduct) → IsBy s.action k d → (c : Option ClassId) (t : Option Step) → by_class c steps ≡ t → Next (library_by named k d t)
       library_thrown d by c None is = tt
       library_thrown d by None (Some t) is = absurd (let never : None ≡ Some t = is in cc)
       library_thrown d by (Some c) (Some t) is = let found = found_in (goes_by (edges.Throws c)) steps t is in library_there d by found.0 t found.1 (inr (throws_edge c t.edge found.2))
 
-      library_goes : (pos : Pos) (d : Conduct) → IsBy s.action named d → Next (library_as p steps pos named named d)
+      library_goes : (pos : Pos) (d : Conduct) → IsBy s.action k d → Next (library_as p steps pos named k d)
       unfolding library_as
       library_goes pos (conducts.Throws c) by = go (is_stray_from p (method_at p named) c)
         where
-          go : (b : Bool) → Next (if b then Stray c pos else library_by named named (conducts.Throws c) (by_class (leaves_by p (method_at p named) c) steps))
+          go : (b : Bool) → Next (if b then Stray c pos else library_by named k (conducts.Throws c) (by_class (leaves_by p (method_at p named) c) steps))
           go true = tt
           go false = library_thrown (conducts.Throws c) by (leaves_by p (method_at p named) c) _ refl
-      library_goes pos (conducts.Fresh c) by = library_on (conducts.Fresh c) by (λ k is. (let never : conducts.Fresh c ≡ conducts.Throws k = is in cc)) _ refl
-      library_goes pos conducts.Null by = library_on conducts.Null by (λ k is. (let never : conducts.Null ≡ conducts.Throws k = is in cc)) _ refl
-      library_goes pos (conducts.Existing j) by = library_on (conducts.Existing j) by (λ k is. (let never : conducts.Existing j ≡ conducts.Throws k = is in cc)) _ refl
-      library_goes pos conducts.Argument by = library_on conducts.Argument by (λ k is. (let never : conducts.Argument ≡ conducts.Throws k = is in cc)) _ refl
-      library_goes pos (conducts.Value z) by = library_on (conducts.Value z) by (λ k is. (let never : conducts.Value z ≡ conducts.Throws k = is in cc)) _ refl
-      library_goes pos conducts.Nothing by = library_on conducts.Nothing by (λ k is. (let never : conducts.Nothing ≡ conducts.Throws k = is in cc)) _ refl
+      library_goes pos (conducts.Fresh c) by = library_on (conducts.Fresh c) by (λ x is. (let never : conducts.Fresh c ≡ conducts.Throws x = is in cc)) _ refl
+      library_goes pos conducts.Null by = library_on conducts.Null by (λ x is. (let never : conducts.Null ≡ conducts.Throws x = is in cc)) _ refl
+      library_goes pos (conducts.Existing j) by = library_on (conducts.Existing j) by (λ x is. (let never : conducts.Existing j ≡ conducts.Throws x = is in cc)) _ refl
+      library_goes pos conducts.Argument by = library_on conducts.Argument by (λ x is. (let never : conducts.Argument ≡ conducts.Throws x = is in cc)) _ refl
+      library_goes pos (conducts.Value z) by = library_on (conducts.Value z) by (λ x is. (let never : conducts.Value z ≡ conducts.Throws x = is in cc)) _ refl
+      library_goes pos conducts.Nothing by = library_on conducts.Nothing by (λ x is. (let never : conducts.Nothing ≡ conducts.Throws x = is in cc)) _ refl
 
-      library_called : Next (library_call p h arrays choice l steps s.action s.pos named named)
+      library_called : Next (library_call p h arrays choice l steps s.action s.pos named k)
       unfolding library_call
-      library_called = library_goes s.pos (on_this s.action (settled p h arrays named choice (position_of None l s.action))) (choice, refl)
+      library_called = library_goes s.pos (on_this s.action (settled p h arrays k choice (position_of None l s.action))) (choice, refl)
 
     -- the method that runs may run at a call that names the other
     may_by_class : (named : MethodId) (c : Option ClassId) → ((k : ClassId) → c ≡ Some k → may_be_made p k ≡ true) → MayRun p named (overriding_by p named c)
     unfolding run_by
     may_by_class named None of_made = by_name
-    may_by_class named (Some c) of_made = of_class c (of_made c refl)
+    may_by_class named (Some c) of_made = plain_forms.by_class c (of_made c refl)
 
     may_run : (a : Action) (named : MethodId) → MayRun p named (running p h l a named)
     may_run actions.Skip named = by_name
@@ -310,7 +309,14 @@ module _ (p : Program) (n : BodyId) (control : List Todo) (plains : (i : ℕ) (s
         where
           go : (b : Bool) → is_library_method p (method_at p runs) ≡ b
               → Next (if b then library_call p h arrays choice l steps s.action s.pos named (library_method p named runs) else program_call p s.action s.pos named runs)
-          go true lib = rw (form.library runs may lib) (library_called named (call_may s.action named called) (inl called) form.signature)
+          go true lib = by (is_library_method p (method_at p named)) refl
+            where
+              its : is_library_method p (method_at p named) ≡ false → LibraryRunsFor p named runs
+              its declared = elim (form.library runs may lib) [ inl same ↦ absurd (true≢false (sym same ∙ declared)) | inr other ↦ other ]
+
+              by : (b : Bool) → is_library_method p (method_at p named) ≡ b → Next (library_call p h arrays choice l steps s.action s.pos named (if b then named else runs))
+              by true declared = library_called named named (call_may s.action named called) (inl refl) (inl called)
+              by false declared = library_called named runs (call_may s.action named called) (inr (its declared)) (inl called)
           go false other = started s.pos runs may new other
 
       call_goes : Next (call p h arrays choice l steps s.action s.pos named)
@@ -337,7 +343,7 @@ module _ (p : Program) (n : BodyId) (control : List Todo) (plains : (i : ℕ) (s
     unfolding take_plain
     plain_goes x (plain.LibraryConstant k) is =
         let reads : IsConstantRead s.action k = subst (λ (a : Action). IsConstantRead a k) (sym is) refl in
-        library_called k (read_may s.action k reads) (inr reads) (subst (IsPlainAction p) is form).0
+        library_called k k (read_may s.action k reads) (inl refl) (inr reads)
     plain_goes x (plain.Literal z) is = inner_goes
     plain_goes x (plain.Default t) is = inner_goes
     plain_goes x (plain.StaticField f) is = inner_goes

@@ -1,4 +1,4 @@
--- From where a temp takes its value that is known to hold an exception or null after a step.
+-- From where a temp takes its value that is known to hold an object of the class or null after a step.
 use Rattle.std.proofs.Common.{◌≡◌, ◌∙◌, ap, refl, sym, subst, arith, ℕ, ◌+◌, ◌<◌, Bool, true, false, ◌&&◌, ◌||◌, true≢false, Option, Some, None, max, min, inl, inr}
 use Rattle.std.specs.Prelude.{if◌then◌else◌, nat_eq, nat_le, nat_lt}
 use Rattle.std.proofs.lemmas.Bool.Decides.{nat_tests}
@@ -18,9 +18,9 @@ use Rattle.java_control.specs.declared.place.Place.{Place}
 use Rattle.java_control.specs.declared.place.Place.TheVariants as places
 use Rattle.java_control.specs.Calls.{completion_temp, is_reset_of_this}
 use Rattle.java_control.specs.Sources.{emptied, is_null_pointer, is_temp_among, is_throws, next_depth, source, source_or_itself, temp_of}
-use Rattle.dispatch_laws.specs.ExceptionOperands.{below_and_at, dropped, moved, thrown_after}
-use Rattle.dispatch_laws.specs.ExceptionOperands.{GivesException, GivesExceptionAt, after, copied, left_held}
-use Rattle.value_laws.specs.Origins.{ComesFromException, MakesException, TakesException}
+use Rattle.dispatch_laws.specs.ClassOperands.{below_and_at, dropped, moved, thrown_after}
+use Rattle.dispatch_laws.specs.ClassOperands.{GivesClass, GivesHeld, after, copied, left_held}
+use Rattle.value_laws.specs.Origins.{ComesFromClass, MakesClass, TakesClass}
 
 -- ---- tests of depths
 
@@ -96,15 +96,15 @@ either_first false u is = absurd (true≢false (sym is))
 not_among : (d n x : ℕ) → x < d → is_temp_among d n (places.Temp x) ≡ false
 not_among d n x under = not_first (nat_le d x) (nat_lt x (d + n)) (not_from d x under)
 
-module _ (p : Program) (b : Body) (held : ℕ → Type 0) (x : ℕ) (small : x < 64) where
-  kept : (a : Action) (e : Edge) → source p b a e (places.Temp x) ≡ Some (places.Temp x) → held x → TakesException p b a e held x
-  kept a e is has = inl (subst (ComesFromException p b held ((is_throws e ≡ false) × MakesException p a)) (sym is) has)
+module _ (p : Program) (bound : ClassId) (b : Body) (held : ℕ → Type 0) (x : ℕ) (small : x < 64) where
+  kept : (a : Action) (e : Edge) → source p b a e (places.Temp x) ≡ Some (places.Temp x) → held x → TakesClass p bound b a e held x
+  kept a e is has = inl (subst (ComesFromClass p bound b held ((is_throws e ≡ false) × MakesClass p bound a)) (sym is) has)
 
-  given : (a : Action) (e : Edge) (y : Place) → source p b a e (places.Temp x) ≡ Some y → GivesException p b y held → TakesException p b a e held x
-  given a e y is has = inl (subst (ComesFromException p b held ((is_throws e ≡ false) × MakesException p a)) (sym is) has)
+  given : (a : Action) (e : Edge) (y : Place) → source p b a e (places.Temp x) ≡ Some y → GivesClass p bound b y held → TakesClass p bound b a e held x
+  given a e y is has = inl (subst (ComesFromClass p bound b held ((is_throws e ≡ false) × MakesClass p bound a)) (sym is) has)
 
-  made : (a : Action) (e : Edge) → source p b a e (places.Temp x) ≡ None → is_throws e ≡ false → MakesException p a → TakesException p b a e held x
-  made a e is goes makes = inl (subst (ComesFromException p b held ((is_throws e ≡ false) × MakesException p a)) (sym is) (goes, makes))
+  made : (a : Action) (e : Edge) → source p b a e (places.Temp x) ≡ None → is_throws e ≡ false → MakesClass p bound a → TakesClass p bound b a e held x
+  made a e is goes makes = inl (subst (ComesFromClass p bound b held ((is_throws e ≡ false) × MakesClass p bound a)) (sym is) (goes, makes))
 
   -- ---- temps below the action's
 
@@ -123,7 +123,7 @@ module _ (p : Program) (b : Body) (held : ℕ → Type 0) (x : ℕ) (small : x <
 
   -- ---- an action that throws
 
-  thrown : (a : Action) (c : ClassId) → thrown_after a held x → TakesException p b a (edges.Throws c) held x
+  thrown : (a : Action) (c : ClassId) → thrown_after a held x → TakesClass p bound b a (edges.Throws c) held x
   thrown (actions.Op k d n) c has = kept (actions.Op k d n) (edges.Throws c) (op_stays d (max n 1) has.0) has.1
   thrown (actions.Get f d this) c has = kept (actions.Get f d this) (edges.Throws c) (stays_unless (nat_eq d x) (places.Temp x) (above d x has.0)) has.1
   thrown (actions.Put f d this) c has = kept (actions.Put f d this) (edges.Throws c) (op_stays d 2 has.0) has.1
@@ -138,13 +138,13 @@ module _ (p : Program) (b : Body) (held : ℕ → Type 0) (x : ℕ) (small : x <
 
   -- ---- an action that goes on
 
-  copy_goes : (to from : Place) (e : Edge) → copied p b to from held x → TakesException p b (actions.Copy to from) e held x
+  copy_goes : (to from : Place) (e : Edge) → copied p bound b to from held x → TakesClass p bound b (actions.Copy to from) e held x
   copy_goes (places.Temp d) y e (inl other) = kept (actions.Copy (places.Temp d) y) e (takes_unless (nat_eq d x) y (places.Temp x) (apart d x other.0)) other.1
   copy_goes (places.Temp d) y e (inr same) = given (actions.Copy (places.Temp d) y) e y (takes_where (nat_eq d x) y (places.Temp x) (itself d x same.0)) same.1
   copy_goes (places.Var i) y e has = kept (actions.Copy (places.Var i) y) e refl has
   copy_goes to y e has = kept (actions.Copy to y) e refl has
 
-  move_goes : (to from : Place) (e : Edge) → moved to from held x → TakesException p b (actions.Move to from) e held x
+  move_goes : (to from : Place) (e : Edge) → moved to from held x → TakesClass p bound b (actions.Move to from) e held x
   move_goes (places.Var i) (places.Temp d) e has = kept (actions.Move (places.Var i) (places.Temp d)) e (moves (nat_eq d x) (above d x has.0)) has.1
     where
       moves : (t : Bool) → t ≡ false → (if t then None else Some (places.Temp x)) ≡ Some (places.Temp x)
@@ -155,13 +155,13 @@ module _ (p : Program) (b : Body) (held : ℕ → Type 0) (x : ℕ) (small : x <
   move_goes places.This y e has = absurd has
   move_goes to y e has = absurd has
 
-  drop_goes : (s : Scope) (e : Edge) → dropped s held x → TakesException p b (actions.Drop s) e held x
+  drop_goes : (s : Scope) (e : Edge) → dropped s held x → TakesClass p bound b (actions.Drop s) e held x
   drop_goes (scopes.Temp d) e has = kept (actions.Drop (scopes.Temp d)) e (stays_unless (nat_eq d x) (places.Temp x) (above d x has.0)) has.1
   drop_goes (scopes.TempsAbove d) e has = kept (actions.Drop (scopes.TempsAbove d)) e (stays_unless (nat_lt d x) (places.Temp x) (not_past d x has.0)) has.1
   drop_goes (scopes.Declared s) e has = kept (actions.Drop (scopes.Declared s)) e refl has
   drop_goes (scopes.Variable y) e has = kept (actions.Drop (scopes.Variable y)) e refl has
 
-  settles_at : (c : Completion) (d : ℕ) (e : Edge) → x ≡ d → GivesExceptionAt c held → TakesException p b (actions.Settle d c) e held x
+  settles_at : (c : Completion) (d : ℕ) (e : Edge) → x ≡ d → GivesHeld c held → TakesClass p bound b (actions.Settle d c) e held x
   settles_at (completions.ReturnValue k pos) d e same gives =
       given (actions.Settle d (completions.ReturnValue k pos)) e (places.Temp k) (first_of (nat_eq d x) (nat_le d x) (Some (places.Temp k)) (places.Temp x) (itself d x same)) gives
   settles_at (completions.Break pos) d e same gives = absurd gives
@@ -175,7 +175,7 @@ module _ (p : Program) (b : Body) (held : ℕ → Type 0) (x : ℕ) (small : x <
       first_of (nat_eq d x) (nat_eq (next_depth d) x) (Some (places.Temp (next_depth d))) (places.Temp x) (itself d x same) ∙ ap (λ (n : ℕ). Some (places.Temp n)) (next_is d x small same)
 
   put_by : (f : FieldId) (d : ℕ) (this : Bool) (e : Edge) → source p b (actions.Put f d this) e (places.Temp x) ≡ (if nat_eq d x then Some (places.Temp (next_depth d)) else emptied (nat_eq (next_depth d) x) (places.Temp x))
-      → below_and_at d (held (d + 1)) held x → TakesException p b (actions.Put f d this) e held x
+      → below_and_at d (held (d + 1)) held x → TakesClass p bound b (actions.Put f d this) e held x
   put_by f d this e is (inl under) = kept (actions.Put f d this) e (is ∙ stored d under.0) under.1
   put_by f d this e is (inr same) = given (actions.Put f d this) e (places.Temp (d + 1)) (is ∙ stored_here d same.0) same.1
 
@@ -184,7 +184,7 @@ module _ (p : Program) (b : Body) (held : ℕ → Type 0) (x : ℕ) (small : x <
   PutSource a e = Unit {0}
 
   -- `e` is no exception's edge
-  goes : (a : Action) (e : Edge) → is_throws e ≡ false → PutSource a e → after p b a held x → TakesException p b a e held x
+  goes : (a : Action) (e : Edge) → is_throws e ≡ false → PutSource a e → after p bound b a held x → TakesClass p bound b a e held x
   goes actions.Skip e none other has = kept actions.Skip e refl has
   goes (actions.Copy to from) e none other has = copy_goes to from e has
   goes (actions.Move to from) e none other has = move_goes to from e has
@@ -240,7 +240,7 @@ module _ (p : Program) (b : Body) (held : ℕ → Type 0) (x : ℕ) (small : x <
   at_False actions.Skip = tt
   at_False a = tt
 
-  pub left : (a : Action) (e : Edge) → left_held p b a e held x → TakesException p b a e held x
+  pub left : (a : Action) (e : Edge) → left_held p bound b a e held x → TakesClass p bound b a e held x
   left a (edges.Throws c) has = thrown a c has
   left a edges.Go has = goes a edges.Go refl (at_Go a) has
   left a edges.Null has = goes a edges.Null refl (at_Null a) has

@@ -1,10 +1,11 @@
--- The temps that are known to hold an exception or null after a step hold one.
+-- The temps that are known to hold an object of the class or null after a step hold one.
 use Rattle.std.proofs.Common.{◌≡◌, ◌∙◌, ap, refl, sym, subst, arith, ℕ, ◌<◌, ◌≤◌, Bool, true, false, ◌&&◌, true≢false, Option, Some, None, List, length, map, max, min, inl, inr, if◌then◌else◌}
 use Rattle.std.specs.Prelude.{nat_eq, slice_get}
 use Rattle.std.specs.List.{range_with_len}
 use Rattle.std.proofs.lemmas.Bool.{cases_lt}
 use Rattle.std.proofs.lemmas.Option.{slice_get-get_or, slice_get_past}
 use Rattle.std.proofs.lemmas.List.FromFn.{get_or-map-range_with_len, length-map-range_with_len}
+use Rattle.program_model.specs.declared.kinds.ClassId.{ClassId}
 use Rattle.program_model.specs.declared.kinds.MethodId.{MethodId}
 use Rattle.program_model.specs.declared.program.Program.{Program}
 use Rattle.program_model.specs.declared.tree.Body.{Body}
@@ -24,10 +25,10 @@ use Rattle.ledger_state.specs.declared.value.Value.TheVariants as values
 use Rattle.ledger_moves.specs.Choosing.{method_body}
 use Rattle.ledger_moves.specs.LedgerFramesFrames.{depth_of, is_made, locals_after, made_place, sourced, source_by, value_after}
 use Rattle.frame_laws.specs.Places.{place_value}
-use Rattle.dispatch_laws.specs.ExceptionOperands.{GivesException, OfException, own_type}
-use Rattle.value_laws.specs.Values.{FitsException, temp_holds_exception}
-use Rattle.value_laws.specs.Origins.{ComesFromException, IsCastToException, MakesException, TakesException}
-use Rattle.value_laws.specs.Exceptions.{FieldsHoldException, VariablesHoldException}
+use Rattle.dispatch_laws.specs.ClassOperands.{GivesClass, OfClass, own_type}
+use Rattle.value_laws.specs.Values.{FitsClass, temp_fits_class}
+use Rattle.value_laws.specs.Origins.{ComesFromClass, IsCastToClass, MakesClass, TakesClass}
+use Rattle.value_laws.specs.ClassValues.{FieldsFitClass, VariablesFitClass}
 
 below_range : (n x : ℕ) → x < 64 → x < n → x < min n 4294967296
 below_range n x small inside = omega (arith, small, inside)
@@ -49,40 +50,40 @@ no_cast : (t : Bool) (d x : ℕ) → t ≡ false → emptied (t && nat_eq d x) (
 no_cast true d x is = absurd (true≢false is)
 no_cast false d x is = refl
 
-module _ (p : Program) (K h : HeapContents) (m : MethodId) (b : Body) (l : Locals) (v : Value) (a : Action) (e : Edge) (x : ℕ) (body : method_body p m ≡ Some b) (small : x < 64) where
+module _ (p : Program) (bound : ClassId) (K h : HeapContents) (m : MethodId) (b : Body) (l : Locals) (v : Value) (a : Action) (e : Edge) (x : ℕ) (body : method_body p m ≡ Some b) (small : x < 64) where
   -- a temp that the frame has after the step, by its source
   sourced_there : (o : Option Place) → x < max (length l.temps) (depth_of a) → source p b a e (places.Temp x) ≡ o → temp_value (locals_after p h m l a e v) x ≡ sourced p h m l a v (places.Temp x) o
   sourced_there o inside is =
       value_at (λ d. value_after p h m l a e v (places.Temp d)) (max (length l.temps) (depth_of a)) x small inside
       ∙ ap (λ (y : Option Body). sourced p h m l a v (places.Temp x) (source_by p y a e (places.Temp x))) body ∙ ap (sourced p h m l a v (places.Temp x)) is
 
-  module _ (this : OfException p (own_type (method_at p b.method)) → FitsException p K l.this) (variables : VariablesHoldException p K b l) (fields : FieldsHoldException p K h m b l) (makes : is_throws e ≡ false → MakesException p a → FitsException p K v) (casts : is_throws e ≡ false → IsCastToException p a x → FitsException p K (temp_value l x)) where
-    place_none : (y : Place) → GivesException p b y (temp_holds_exception p K l) → FitsException p K (place_value p h m l y)
+  module _ (this : OfClass p bound (own_type (method_at p b.method)) → FitsClass p bound K l.this) (variables : VariablesFitClass p bound K b l) (fields : FieldsFitClass p bound K h m b l) (makes : is_throws e ≡ false → MakesClass p bound a → FitsClass p bound K v) (casts : is_throws e ≡ false → IsCastToClass p bound a x → FitsClass p bound K (temp_value l x)) where
+    place_none : (y : Place) → GivesClass p bound b y (temp_fits_class p bound K l) → FitsClass p bound K (place_value p h m l y)
     place_none (places.Var i) gives = variables i gives
     place_none (places.Field k) gives = fields k gives
     place_none (places.Temp d) gives = gives
     place_none places.This gives = this gives
     place_none places.Super gives = absurd gives
 
-    made_none : (t : Bool) → FitsException p K v → FitsException p K (if t then v else values.Nothing)
+    made_none : (t : Bool) → FitsClass p bound K v → FitsClass p bound K (if t then v else values.Nothing)
     made_none true none = none
     made_none false none = tt
 
-    source_none : (o : Option Place) → ComesFromException p b (temp_holds_exception p K l) ((is_throws e ≡ false) × MakesException p a) o → FitsException p K (sourced p h m l a v (places.Temp x) o)
+    source_none : (o : Option Place) → ComesFromClass p bound b (temp_fits_class p bound K l) ((is_throws e ≡ false) × MakesClass p bound a) o → FitsClass p bound K (sourced p h m l a v (places.Temp x) o)
     source_none None none = made_none (is_made (made_place a) (places.Temp x)) (makes none.0 none.1)
     source_none (Some y) none = place_none y none
 
-    cast_source : (c : Action) → is_throws e ≡ false → IsCastToException p c x → source p b c e (places.Temp x) ≡ Some (places.Temp x)
+    cast_source : (c : Action) → is_throws e ≡ false → IsCastToClass p bound c x → source p b c e (places.Temp x) ≡ Some (places.Temp x)
     cast_source (actions.Cast t d) goes is = no_cast (is_throws e) d x goes
     cast_source actions.Skip goes is = absurd is
     cast_source c goes is = absurd is
 
-    inside_none : x < max (length l.temps) (depth_of a) → TakesException p b a e (temp_holds_exception p K l) x → temp_holds_exception p K (locals_after p h m l a e v) x
-    inside_none inside (inl comes) = subst (FitsException p K) (sym (sourced_there (source p b a e (places.Temp x)) inside refl)) (source_none (source p b a e (places.Temp x)) comes)
-    inside_none inside (inr cast) = subst (FitsException p K) (sym (sourced_there (Some (places.Temp x)) inside (cast_source a cast.0 cast.1))) (casts cast.0 cast.1)
+    inside_none : x < max (length l.temps) (depth_of a) → TakesClass p bound b a e (temp_fits_class p bound K l) x → temp_fits_class p bound K (locals_after p h m l a e v) x
+    inside_none inside (inl comes) = subst (FitsClass p bound K) (sym (sourced_there (source p b a e (places.Temp x)) inside refl)) (source_none (source p b a e (places.Temp x)) comes)
+    inside_none inside (inr cast) = subst (FitsClass p bound K) (sym (sourced_there (Some (places.Temp x)) inside (cast_source a cast.0 cast.1))) (casts cast.0 cast.1)
 
-    pub after_none : TakesException p b a e (temp_holds_exception p K l) x → temp_holds_exception p K (locals_after p h m l a e v) x
+    pub after_none : TakesClass p bound b a e (temp_fits_class p bound K l) x → temp_fits_class p bound K (locals_after p h m l a e v) x
     after_none takes = elim (cases_lt x (max (length l.temps) (depth_of a))) [
       | inl inside ↦ inside_none inside takes
-      | inr past ↦ subst (FitsException p K) (sym (nothing_at (λ d. value_after p h m l a e v (places.Temp d)) (max (length l.temps) (depth_of a)) x past)) tt
+      | inr past ↦ subst (FitsClass p bound K) (sym (nothing_at (λ d. value_after p h m l a e v (places.Temp d)) (max (length l.temps) (depth_of a)) x past)) tt
     ]

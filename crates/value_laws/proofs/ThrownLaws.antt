@@ -1,6 +1,6 @@
 -- Each step of the machine leaves exceptions in their temps.
 pub use Rattle.frame_laws.proofs.TargetLaws.{targets_at_start, targets_step}
-pub use Rattle.value_laws.proofs.ExceptionLaws.{exceptions_at_start, exceptions_step, raised_values_are_exceptions}
+pub use Rattle.value_laws.proofs.ClassLaws.{classes_at_start, classes_step, raised_values_are_exceptions}
 use Rattle.std.proofs.Common.{◌≡◌, ℕ, Option, Some, None, List, [], ◌∷◌, length, slice_get, refl, sym, ap, ◌∙◌, subst}
 use Rattle.rlc_base.specs.declared.place.Pos.{Pos}
 use Rattle.program_model.specs.declared.kinds.ClassId.{ClassId}
@@ -40,16 +40,18 @@ use Rattle.frame_laws.specs.Frames.{HaveTargets}
 use Rattle.frame_laws.specs.Nexts.{IsBack, IsNext}
 use Rattle.frame_laws.proofs.Cases.{next_is}
 use Rattle.frame_laws.proofs.Returns.{back_is}
-use Rattle.value_laws.specs.Exceptions.{HasPlainExceptions, HaveExceptions, RaisesException, TopRaisesException}
-use Rattle.value_laws.specs.Values.{FitsException}
-use Rattle.value_laws.proofs.ExceptionLaws.{raised_values_are_exceptions}
+use Rattle.dispatch_laws.specs.ClassOperands.{IsNotAboveString}
+use Rattle.value_laws.specs.ClassValues.{HaveClasses}
+use Rattle.value_laws.specs.Exceptions.{RaisesException, TopRaisesException}
+use Rattle.value_laws.specs.Values.{FitsClass}
+use Rattle.value_laws.proofs.ClassLaws.{raised_values_are_exceptions}
 use Rattle.value_laws.specs.Thrown.{HasClass, HaveThrown, HoldsThrown}
 use Rattle.value_laws.proofs.Frames.{begun_holds, call_raises, ends_held, holds_still, inner_raises, inner_thrown, library_raises, library_thrown, returned_thrown}
 
 same_went : (c d : Config) → went c ≡ went d → c ≡ d
 same_went c d is = cc
 
-module _ (p : Program) (ac : Accept p) (forms : HasPlainForms p) (exceptions : HasPlainExceptions p) where
+module _ (p : Program) (ac : Accept p) (forms : HasPlainForms p) (own : IsNotAboveString p p.core.throwable) where
   -- what holds of the frames of the one holds of those of the other
   carried : (c d : Config) → went c ≡ went d → HaveThrown p c.frames → HaveThrown p d.frames
   carried c d is have = subst (λ (x : Config). HaveThrown p x.frames) (same_went c d is) have
@@ -80,7 +82,7 @@ module _ (p : Program) (ac : Accept p) (forms : HasPlainForms p) (exceptions : H
     moved_have : AllStand p frs → IsCalledFrom p c.heap fr frs → (mv : Move) → IsNext p c.heap c.arrays fr.method fr.locals (frame_steps p fr) mv → moved p c fr frs mv ≡ went d → HaveThrown p d.frames
     moved_have standing stacked (Inner x s) next same =
         let made = made_value p c.heap c.arrays c.statics (next_choice c.choices c.used) fr.locals s.action in
-        let raised : (d : ℕ) (y : Option ClassId) → s.action ≡ actions.Raise d y → (made ≡ temp_value fr.locals d) × FitsException p c.heap (temp_value fr.locals d) =
+        let raised : (d : ℕ) (y : Option ClassId) → s.action ≡ actions.Raise d y → (made ≡ temp_value fr.locals d) × FitsClass p p.core.throwable c.heap (temp_value fr.locals d) =
         λ d y is. (ap (made_value p c.heap c.arrays c.statics (next_choice c.choices c.used) fr.locals) is, raises next.0 s d y next.1 is) in
         carried (within p c fr frs x s) d same (
           holds_still p ac fr st next.0 s next.1 forms c.heap (thrown_value c.heap x made)
@@ -109,9 +111,9 @@ module _ (p : Program) (ac : Accept p) (forms : HasPlainForms p) (exceptions : H
 
 -- ---- the laws
 
-pub thrown_step : (p : Program) → Accept p → HasPlainForms p → HasPlainExceptions p → (c d : Config) → Agree p c → HaveTargets p c.frames → HaveExceptions p c → HaveThrown p c.frames → step p c ≡ went d → HaveThrown p d.frames
+pub thrown_step : (p : Program) → Accept p → HasPlainForms p → IsNotAboveString p p.core.throwable → (c d : Config) → Agree p c → HaveTargets p c.frames → HaveClasses p c → HaveThrown p c.frames → step p c ≡ went d → HaveThrown p d.frames
 unfolding step
-thrown_step p ac forms exceptions c d agrees targets keep have same = by_frames p ac forms exceptions c d c.frames agrees.classes (raised_values_are_exceptions p ac exceptions c.heap c.frames keep.frames) have agrees.standing agrees.stacked targets have same
+thrown_step p ac forms own c d agrees targets keep have same = by_frames p ac forms own c d c.frames agrees.classes (raised_values_are_exceptions p ac own c.heap c.frames (keep p.core.throwable own).frames) have agrees.standing agrees.stacked targets have same
 
 pub thrown_at_start : (p : Program) (main : MethodId) (choices : Choices) → HaveThrown p (start_config p main choices).frames
 unfolding start_config

@@ -10,6 +10,7 @@ use Rattle.program_model.specs.declared.kinds.ClassId.{ClassId}
 use Rattle.program_model.specs.declared.kinds.BodyId.{BodyId}
 use Rattle.program_model.specs.declared.kinds.ElementType.TheVariants as elements
 use Rattle.program_model.specs.declared.kinds.MethodId.{MethodId}
+use Rattle.program_model.specs.declared.kinds.MethodKind.{MethodKind}
 use Rattle.program_model.specs.declared.kinds.MethodKind.TheVariants as methods
 use Rattle.program_model.specs.declared.kinds.VType.{VType}
 use Rattle.program_model.specs.declared.kinds.VType.TheVariants as types
@@ -64,7 +65,7 @@ use Rattle.frame_laws.specs.LedgerRunsOutcomes.{went, ended, stray}
 use Rattle.frame_laws.specs.Starts.{start_config}
 use Rattle.frame_laws.specs.LedgerRunsSteps.{began, end, if_thrown, library_went, main_ended, moved, moved_by, returned, returned_by, step, top_move, within}
 use Rattle.frame_laws.specs.Agreement.{HasMadeClasses}
-use Rattle.dispatch_laws.specs.PlainForms.{HasPlainForms, IsPlainAction, IsPlainCall, MayRun, RunsFor, by_class, by_name, run_by}
+use Rattle.dispatch_laws.specs.PlainForms.{HasPlainForms, IsAnsweredBy, IsPlainAction, IsPlainCall, LibraryRunsFor, MayRun, RunsFor, by_class, by_name, run_by}
 use Rattle.frame_laws.proofs.CallWays.{one_action}
 use Rattle.dispatch_laws.specs.Operands.{Fits, MakesText, NoObject, Returns, params_of, result_of}
 use Rattle.dispatch_laws.specs.StepOrigins.{IsCastToNone, MakesNone}
@@ -103,6 +104,21 @@ names_none p (actions.New m d n) named (inl called) makes = inr (m, d, n, refl, 
 names_none p (actions.New m d n) named (inr reads) makes = absurd reads
 names_none p actions.Skip named row makes = absurd makes
 names_none p a named row makes = absurd makes
+
+-- so does what answers the call
+answers_none : (p : Program) (a : Action) (named m : MethodId) → IsAnsweredBy p named m → NamesNone p a named → NamesNone p a m
+answers_none p a named m (inl same) names = subst (NamesNone p a) (sym same) names
+answers_none p a named m (inr runs) (inl none) = inl (subst (λ (x : Option Method). NoObject (result_of x)) (sym runs.running_at) (by runs.method.sig.result refl (subst (λ (x : Option Method). NoObject (result_of x)) runs.named_at none)))
+  where
+    by : (o : Option VType) → runs.method.sig.result ≡ o → NoObject o → NoObject runs.running.sig.result
+    by None is none' = absurd none'
+    by (Some t) is light = subst NoObject (sym (runs.fit.kind t is light)) light
+answers_none p a named m (inr runs) (inr (k, d, n, is, text)) =
+    let makes : IsSomeAnd (Some runs.method) (λ x. (x.kind ≡ methods.Ctor) × (x.class ≡ p.core.string)) = subst (λ (o : Option Method). IsSomeAnd o (λ x. (x.kind ≡ methods.Ctor) × (x.class ≡ p.core.string))) runs.named_at text in
+    absurd (no_constructor runs.method.kind makes.0 runs.kind)
+  where
+    no_constructor : (k : MethodKind) → k ≡ methods.Ctor → k ≡ methods.Instance → ⊥
+    no_constructor k constructor instance = let never : methods.Ctor ≡ methods.Instance = sym constructor ∙ instance in cc
 
 -- what names no method runs none
 none_runs : (p : Program) (m r : MethodId) → MayRun p m r → method_at p m ≡ None → method_at p r ≡ None
@@ -374,20 +390,18 @@ module _ (texts : ℕ → Bool) where
           asks : Fits p keeps.body s.action (temp_holds_none texts fr.locals)
           asks = fits texts p ac fr keeps next.index s next.here
 
-          gives : ((e : ClassId) → d ≡ conducts.Throws e → ⊥) → NamesNone p s.action named
-              → IsNoObjectBut texts (conduct_value (length shared) (method_at p named) (positions fr.locals s.action (next_number c.heap) d) (next_number c.heap) d)
+          gives : ((e : ClassId) → d ≡ conducts.Throws e → ⊥) → NamesNone p s.action m
+              → IsNoObjectBut texts (conduct_value (length shared) (method_at p m) (positions fr.locals s.action (next_number c.heap) d) (next_number c.heap) d)
           gives normal (inl none) =
-              library_value_none texts p ac.well_formed.valid.typed c.heap c.arrays named next.by.0 fr.locals s.action d (length shared) (next_number c.heap) next.by.1 normal none
+              library_value_none texts p ac.well_formed.valid.typed c.heap c.arrays m next.by.0 fr.locals s.action d (length shared) (next_number c.heap) next.by.1 normal none
           gives normal (inr (k, j, n, new, text)) =
-              library_text texts p c.heap c.arrays named next.by.0 fr.locals s.action d (length shared) (next_number c.heap) j n k new next.by.1 normal fresh text
+              library_text texts p c.heap c.arrays m next.by.0 fr.locals s.action d (length shared) (next_number c.heap) j n k new next.by.1 normal fresh text
 
           makes : is_throws s.edge ≡ false → MakesNone p s.action → IsNoObjectBut texts v
           makes goes makes' = by next.thrown
             where
               by : ((e : ClassId) → d ≡ conducts.Throws e → ⊥) ⊎ (is_throws s.edge ≡ true) → IsNoObjectBut texts v
-              by (inl normal) =
-                  subst (λ (k : MethodId). IsNoObjectBut texts (conduct_value (length shared) (method_at p k) (positions fr.locals s.action (next_number c.heap) d) (next_number c.heap) d)) (sym next.same)
-                  (gives normal (names_none p s.action named next.row makes'))
+              by (inl normal) = gives normal (answers_none p s.action named m next.answers (names_none p s.action named next.row makes'))
               by (inr throws) = absurd (true≢false (sym throws ∙ goes))
 
           casts : (x : ℕ) → is_throws s.edge ≡ false → IsCastToNone s.action x → IsNoObjectBut texts (temp_value fr.locals x)

@@ -2,6 +2,7 @@ pub mod Types
 pub mod Objects
 pub mod Values
 pub mod Origins
+pub mod ClassValues
 pub mod Exceptions
 pub mod Thrown
 pub use Rattle.dispatch_laws.specs.Accept
@@ -21,7 +22,7 @@ pub use Rattle.dispatch_laws.specs.Constructors
 pub use Rattle.dispatch_laws.specs.Effective
 pub use Rattle.frame_laws.specs.EffectiveSignaturesTargets
 pub use Rattle.dispatch_laws.specs.Ends
-pub use Rattle.dispatch_laws.specs.ExceptionOperands
+pub use Rattle.dispatch_laws.specs.ClassOperands
 pub use Rattle.frame_laws.specs.FactGoing
 pub use Rattle.dispatch_laws.specs.FieldContents
 pub use Rattle.frame_laws.specs.Fitting
@@ -50,12 +51,13 @@ pub use Rattle.dispatch_laws.specs.PlaceFacts
 pub use Rattle.frame_laws.specs.PlacePlaces
 pub use Rattle.frame_laws.specs.PlaceRows
 pub use Rattle.frame_laws.specs.Places
-pub use Rattle.dispatch_laws.specs.PlainCalls
 pub use Rattle.dispatch_laws.specs.PlainForms
+pub use Rattle.dispatch_laws.specs.Renewable
 pub use Rattle.dispatch_laws.specs.Preconditions
 pub use Rattle.dispatch_laws.specs.ProgramCalls
 pub use Rattle.dispatch_laws.specs.Promises
 pub use Rattle.frame_laws.specs.Ranges
+pub use Rattle.dispatch_laws.specs.Renewing
 pub use Rattle.dispatch_laws.specs.Safety
 pub use Rattle.dispatch_laws.specs.Signed
 pub use Rattle.frame_laws.specs.Starts

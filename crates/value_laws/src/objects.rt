@@ -21,7 +21,8 @@ ghost use Rattle.frame_laws.specs.Agreement.{Agree, Stands};
 ghost use Rattle.dispatch_laws.specs.PlainForms.{HasPlainForms};
 ghost use Rattle.frame_laws.specs.Ranges.{LocalsInRange};
 ghost use Rattle.frame_laws.specs.Frames.{HaveTargets};
-ghost use Rattle.value_laws.specs.Exceptions.{HasPlainExceptions, HaveExceptions};
+ghost use Rattle.dispatch_laws.specs.ClassOperands.{IsNotAboveString};
+ghost use Rattle.value_laws.specs.ClassValues.{HaveClasses};
 ghost use Rattle.value_laws.specs.Thrown.{HaveThrown, HoldsThrown};
 
 /// No exception is on its way out as a run begins.
@@ -33,7 +34,7 @@ pub fn thrown_at_start()
 /// what waits stands below the temps in which a `finally` or the closing of a resource works (JLS 14.20.2), and what a `throw` throws is an
 /// object, or null, for which a NullPointerException is thrown (JLS 14.18).
 pub fn thrown_step()
-    ensures { (p : Program) → Accept p → HasPlainForms p → HasPlainExceptions p → (c d : Config) → Agree p c → HaveTargets p c.frames → HaveExceptions p c → HaveThrown p c.frames → step p c ≡ went d
+    ensures { (p : Program) → Accept p → HasPlainForms p → IsNotAboveString p p.core.throwable → (c d : Config) → Agree p c → HaveTargets p c.frames → HaveClasses p c → HaveThrown p c.frames → step p c ≡ went d
         → HaveThrown p d.frames }
 {}
 

@@ -1,0 +1,302 @@
+-- A frame waits for a call that creates the obligation of an object anew, or stands at one: which facts have the object, and that the frame tracks it if it owns it.
+use Rattle.std.proofs.Common.{◌≡◌, ◌⊎◌, inl, inr, ℕ, ◌+◌, ◌<◌, ◌≤◌, Bool, true, false, true≢false, ◌&&◌, eqb-true, Option, Some, None, List, [], ◌∷◌, length, slice_get, refl, sym, ap, ◌∙◌, subst, arith}
+use Rattle.std.specs.FinSet as set
+use Rattle.std.proofs.lemmas.Bool.{and_from, and_parts}
+use Rattle.rlc_base.proofs.SetLaws.{empty_within, within_trans}
+use Rattle.program_model.specs.declared.kinds.BodyId.{BodyId}
+use Rattle.program_model.specs.declared.program.Method.{Method}
+use Rattle.program_model.specs.declared.program.Program.{Program}
+use Rattle.program_model.specs.Lookups.{method_at}
+use Rattle.ledger_obligations.specs.Bodies.{reset_in}
+use Rattle.ledger_obligations.specs.MustCallSets.{fits, is_heavy_class, must_of}
+use Rattle.java_control.specs.Control.{Step}
+use Rattle.java_control.specs.PlaceNumbers.{IsSmall}
+use Rattle.java_control.specs.declared.action.Action.{Action}
+use Rattle.java_control.specs.declared.fact.Mode.{Mode}
+use Rattle.java_control.specs.declared.fact.Mode.TheVariants as modes
+use Rattle.java_control.specs.declared.fact.OriginKind.{OriginKind}
+use Rattle.java_control.specs.declared.fact.OriginKind.TheVariants as kinds
+use Rattle.java_control.specs.declared.place.Place.{Place}
+use Rattle.java_control.specs.declared.place.Place.TheVariants as places
+use Rattle.ownership_rules.specs.Callees.{callee}
+use Rattle.ownership_rules.specs.Facts.{PlaceSet, has, has_temp, is_nowhere, is_origin_at, is_own}
+use Rattle.ownership_rules.specs.MovesAtCalls.{moved_at_call}
+use Rattle.ownership_rules.specs.SmallActions.{IsSmallTemp}
+use Rattle.ownership_rules.specs.declared.moved.Moved.TheVariants as moves
+use Rattle.ownership_rules.proofs.SmallOperands.{operand_has_room}
+use Rattle.ledger_state.specs.Contents.{HeapContents}
+use Rattle.ledger_state.specs.Heaps.{object_at, root_of}
+use Rattle.ledger_state.specs.declared.entry.Owner.{Owner}
+use Rattle.ledger_state.specs.declared.entry.Owner.TheVariants as owners
+use Rattle.ledger_state.specs.declared.object.Object.{Object}
+use Rattle.value_laws.specs.Accept.{Accept}
+use Rattle.value_laws.specs.Agreement.{Awaits, Follows, Stands, TracksAs}
+use Rattle.value_laws.specs.Anew.{MayBeAnew, holds_target, is_target}
+use Rattle.value_laws.specs.Choosing.{body_id, frame_steps}
+use Rattle.value_laws.specs.Configuration.{Frame}
+use Rattle.value_laws.specs.Outcomes.{IsCallRow}
+use Rattle.value_laws.specs.Paths.{Reach, move_of, relation_of}
+use Rattle.value_laws.specs.PlaceFacts.{Covers, IsCovered, IsKeyed, IsOwned, is_given, is_lent, is_owning_fact, may_owe, owned, unowned}
+use Rattle.value_laws.specs.PlacePlaces.{HasPlacesAlone, is_local}
+use Rattle.value_laws.specs.Places.{place_value}
+use Rattle.value_laws.specs.PlainForms.{HasPlainForms, IsPlainReset}
+use Rattle.value_laws.specs.Renewing.{IsLentFrom, fact_as, is_renewed, renews}
+use Rattle.value_laws.specs.Steps.{RootsStay}
+use Rattle.value_laws.proofs.Carried.{local_value}
+use Rattle.value_laws.proofs.CallWays.{one_action}
+use Rattle.value_laws.proofs.FactOrigins.{this_own}
+use Rattle.value_laws.proofs.FrameFollowing.{breaks_nothing}
+use Rattle.value_laws.proofs.Going.{somewhere}
+use Rattle.value_laws.proofs.Needs.{origin_needs_all}
+use Rattle.value_laws.proofs.Readings.{mode_as, places_as, renewed_operand}
+use Rattle.value_laws.proofs.Ready.{resets_plainly, step_here, step_there}
+use Rattle.value_laws.proofs.ResetTargets.{answered_targets}
+use Rattle.value_laws.proofs.Resetting.{answered_target}
+use Rattle.value_laws.proofs.Tracking.{same_body}
+use Rattle.value_laws.proofs.Unmet.{call_may}
+use Rattle.covering_laws.proofs.Bodies.{running_method}
+use Rattle.covering_laws.proofs.Following.{small_step}
+use Rattle.covering_laws.proofs.GivenArguments.{away_moves}
+use Rattle.covering_laws.proofs.GivenAway.{at_any, given_at_step}
+use Rattle.covering_laws.proofs.HeavyFields.{owning_claims, owning_in_no_field}
+use Rattle.covering_laws.proofs.KnownNames.{operand_temp}
+use Rattle.covering_laws.proofs.Resets.{this_elsewhere}
+
+-- what is lent is owned by a frame below
+pub lender_below : (p : Program) (h : HeapContents) (frs : List Frame) (o : ℕ) (w : Owner) → IsLentFrom p h frs o w → (j : ℕ) × (w ≡ owners.Frame j) × (j ≤ length frs)
+lender_below p h [] o w lent = absurd lent
+lender_below p h (fr ∷ frs) o w (is, inl here) = (length frs + 1, here, omega arith)
+lender_below p h (fr ∷ frs) o w (is, inr on) = let it = lender_below p h frs o w on in let low = it.2 in (it.0, it.1, omega (arith, low))
+
+own_mode : (m : Mode) → is_own m ≡ true → m ≡ modes.Own
+own_mode modes.Own is = refl
+own_mode modes.None is = absurd (true≢false (sym is))
+own_mode modes.Held is = absurd (true≢false (sym is))
+own_mode modes.Lent is = absurd (true≢false (sym is))
+own_mode modes.Alias is = absurd (true≢false (sym is))
+
+this_kind : (kind : OriginKind) → is_origin_at kind (Some 0) ≡ true → kind ≡ kinds.ThisRef
+this_kind kinds.ThisRef is = refl
+this_kind (kinds.Param j) is = absurd (let same : j + 1 ≡ 0 = eqb-true (j + 1) 0 is in omega (arith, same))
+this_kind kind is = absurd (true≢false (sym is))
+
+-- ---- a fact that says that the frame owns the object
+
+module _ (p : Program) (ac : Accept p) (h : HeapContents) (fr : Frame) (frs : List Frame) (st : Stands p fr) (away anew : Bool) (o : ℕ) (x : Object)
+    (c : Covers p h away anew frs fr o x) (key : IsOwned p h away anew frs fr o x c) where
+  reached : Reach p st.number (relation_of p st.number) c.origin fr.control c.fact
+  reached = subst (λ (b : BodyId). Reach p b (relation_of p b) c.origin fr.control c.fact) (same_body c.body st.number (body_id p fr.method) c.id st.id) c.reached
+
+  parts : (is_heavy_class p c.origin.class ≡ true) × (is_own c.fact.mode ≡ true)
+  parts = and_parts (is_heavy_class p c.origin.class) (is_own c.fact.mode) key.owning
+
+  -- no owning field holds it
+  no_field : (k : ℕ) → k < 16 → has c.fact.places (places.Field k) ≡ true → ⊥
+  no_field = owning_in_no_field p h away anew frs fr o x c key.owning
+
+  -- nor is it `this`, which is lent
+  no_this : has c.fact.places places.This ≡ true → ⊥
+  no_this is =
+      let run = running_method p ac fr st in
+      let kind = this_kind c.origin.kind (this_own p ac st.number st.body st.at c.origin fr.control c.fact reached is) in
+      let lent : is_lent p (method_at p fr.method) c.origin.kind ≡ true =
+      ap (is_lent p (method_at p fr.method)) kind ∙ ap (λ (z : Option Method). is_lent p z kinds.ThisRef) run.1 in
+      true≢false (sym key.owning ∙ (c.lent lent).0)
+
+  local_places : (q : Place) → IsSmall q → has c.fact.places q ≡ true → is_local q ≡ true
+  local_places (places.Var i) small is = refl
+  local_places (places.Temp d) small is = refl
+  local_places places.This small is = absurd (no_this is)
+  local_places (places.Field k) small is = absurd (no_field k small is)
+  local_places places.Super small is = absurd (let never : None ≡ Some o = c.places places.Super small is in cc)
+
+  -- tracks it, unless it is given away
+  pub covered_tracks : away ≡ false → (t : ℕ) → has c.fact.places (places.Temp t) ≡ true → (it : TracksAs p h anew fr o x) × (it.fact ≡ c.fact) × (it.origin ≡ c.origin)
+  covered_tracks kept t there =
+      let truth = c.true' (owning_claims p (method_at p fr.method) c.origin c.fact key.owning) (ap (λ (b : Bool). b && is_own c.fact.mode) kept) in
+      let same : c.fact.places ≡ (fact_as anew c.fact).places = sym (places_as anew c.fact) in (
+        record {
+          body = c.body;
+          id = c.id;
+          origin = c.origin;
+          fact = c.fact;
+          reached = c.reached;
+          follows = record {
+            own = mode_as anew c.fact ∙ own_mode c.fact.mode parts.1;
+            class = truth.class;
+            bounded = truth.bounded;
+            need = truth.need;
+            called = truth.called;
+            some = ap is_nowhere (places_as anew c.fact) ∙ somewhere c.fact.places (places.Temp t) there;
+            alone = subst HasPlacesAlone same c.alone;
+            places = λ q small is. let in' : has c.fact.places q ≡ true = ap (λ (held : PlaceSet). has held q) same ∙ is in (local_places q small in', c.places q small in');
+          };
+        },
+        refl,
+        refl,
+      )
+
+-- ---- the fact that has the target
+
+module _ (p : Program) (ac : Accept p) (forms : HasPlainForms p) (h : HeapContents) (fr : Frame) (frs : List Frame) (st : Stands p fr)
+    (i : ℕ) (s : Step) (here : slice_get (frame_steps p fr) i ≡ Some s) (row : IsCallRow s.action) where
+  module _ (away anew : Bool) (o : ℕ) (x : Object) (c : Covers p h away anew frs fr o x) (target : is_target p s.action c.fact.places ≡ true) where
+    target_reached : Reach p st.number (relation_of p st.number) c.origin fr.control c.fact
+    target_reached = subst (λ (b : BodyId). Reach p b (relation_of p b) c.origin fr.control c.fact) (same_body c.body st.number (body_id p fr.method) c.id st.id) c.reached
+
+    answer : (k : ℕ) × (reset_in (callee p s.action) ≡ Some k) × MayBeAnew p st.number c.origin s.action k c.fact × (moved_at_call p c.origin s.action s.edge c.fact ≡ moves.Moves → ⊥)
+    answer = elim (answered_target p st.number c.origin s.action s.edge c.fact row target) [
+      | inl fault ↦ absurd (breaks_nothing p ac st.number c.origin i (move_of s) c.fact target_reached (step_there p fr st i s here) fault)
+      | inr is ↦ is
+    ]
+
+    plain : IsPlainReset p st.number fr.control s.action
+    plain = elim (resets_plainly p ac forms fr st i s here) [
+      | inl none ↦ absurd (let never : None ≡ Some answer.0 = sym none ∙ answer.1 in cc)
+      | inr is ↦ is
+    ]
+
+    -- it says that the frame owns the object, or that it is lent
+    pub target_mode : (is_owning_fact p c.origin c.fact ≡ true) ⊎ (c.fact.mode ≡ modes.Lent)
+    target_mode =
+        let run = running_method p ac fr st in
+        elim (answered_targets p st.number st.body run.0 st.at (ap (method_at p) st.method ∙ run.1) (λ k n t. this_elsewhere p forms st.number k n t) (forms.bodies st.number)
+        (λ k n t g d comes there is. (forms.stores st.number n t g d comes there is).0) c.origin fr.control c.fact target_reached plain.before s.action answer.0 answer.2) [
+          | inl own ↦ inl (and_from (is_heavy_class p c.origin.class) (is_own c.fact.mode) own.1 (ap is_own own.0))
+          | inr lent ↦ inr lent
+        ]
+
+    -- and it does not move
+    pub target_stays : moved_at_call p c.origin s.action s.edge c.fact ≡ moves.Moves → ⊥
+    target_stays = answer.3
+
+  -- a place that holds the object is the operand
+  pub target_temp : (o : ℕ) → renews p h fr.locals s.action o ≡ true
+      → (t : ℕ) × IsSmall (places.Temp t) × (root_of h (place_value p h fr.method fr.locals (places.Temp t)) ≡ Some o) × ((held : PlaceSet) → has held (places.Temp t) ≡ true → is_target p s.action held ≡ true)
+  target_temp o is =
+      let k = renewed_operand p h fr.locals s.action o is in
+      let t = operand_temp fr.locals s.action k.0 h o k.2 in (
+        t.0,
+        subst IsSmallTemp t.1 (operand_has_room p s.action k.0 (small_step p ac fr st i s here)),
+        ap (root_of h) (sym t.2) ∙ k.2,
+        λ held in'. ap (holds_target s.action held) k.1 ∙ ap (has_temp held) t.1 ∙ in',
+      )
+
+-- ---- frames that wait
+
+-- the call at which the frame waits is that of each of its steps
+pub renewed_at_step : (p : Program) (h : HeapContents) (fr : Frame) → Stands p fr → (i : ℕ) (s : Step) (o : ℕ) → slice_get (frame_steps p fr) i ≡ Some s → IsCallRow s.action → is_renewed p h fr o ≡ true
+    → renews p h fr.locals s.action o ≡ true
+renewed_at_step p h fr st i s o here row is =
+    let t = at_any (λ (u : Step). renews p h fr.locals u.action o) (frame_steps p fr) is in
+    let one : t.1.action ≡ s.action = one_action p st.number fr.control i t.0 s t.1 (step_here p fr st i s here) (step_here p fr st t.0 t.1 t.2) (call_may s.action row) in
+    ap (λ (a : Action). renews p h fr.locals a o) (sym one) ∙ t.3
+
+-- the frame that waits and owns the object has it in a fact that says so, with the operand
+pub record OwnsTarget (p : Program) (h : HeapContents) (frs : List Frame) (fr : Frame) (o : ℕ) (x : Object) : Type 0 where
+  pub covers : Covers p h (is_given p h fr o x.class) (is_renewed p h fr o) frs fr o x
+  pub key : IsOwned p h (is_given p h fr o x.class) (is_renewed p h fr o) frs fr o x covers
+  pub temp : ℕ
+  pub there : has covers.fact.places (places.Temp temp) ≡ true
+  pub kept : is_given p h fr o x.class ≡ false
+  pub target : (i : ℕ) (s : Step) → slice_get (frame_steps p fr) i ≡ Some s → is_target p s.action covers.fact.places ≡ true
+  pub stays : (i : ℕ) (s : Step) → slice_get (frame_steps p fr) i ≡ Some s → moved_at_call p covers.origin s.action s.edge covers.fact ≡ moves.Moves → ⊥
+
+module _ (p : Program) (ac : Accept p) (forms : HasPlainForms p) (h : HeapContents) (fr : Frame) (frs : List Frame) (st : Stands p fr)
+    (i : ℕ) (s : Step) (here : slice_get (frame_steps p fr) i ≡ Some s) (row : IsCallRow s.action) (covered : IsCovered p h (is_given p h fr) (is_renewed p h fr) frs fr)
+    (o : ℕ) (x : Object) (at : object_at h o ≡ Some x) (heavy : is_heavy_class p x.class ≡ true) (owes : may_owe x ≡ true) (done : x.finished ≡ true) (renewed : is_renewed p h fr o ≡ true) where
+  abbrev away : Bool
+  away = is_given p h fr o x.class
+
+  abbrev anew : Bool
+  anew = is_renewed p h fr o
+
+  temp : (t : ℕ) × IsSmall (places.Temp t) × (root_of h (place_value p h fr.method fr.locals (places.Temp t)) ≡ Some o) × ((held : PlaceSet) → has held (places.Temp t) ≡ true → is_target p s.action held ≡ true)
+  temp = target_temp p ac forms h fr frs st i s here row o (renewed_at_step p h fr st i s o here row renewed)
+
+  -- the object is in a fact that says that the frame owns it, or one that says that it is lent
+  pub owned_or_lent : OwnsTarget p h frs fr o x ⊎ IsLentFrom p h frs o x.owner
+  owned_or_lent = by (covered (places.Temp temp.0) o x temp.1 temp.2 at heavy owes)
+    where
+      lent : (c : Covers p h away anew frs fr o x) → c.fact.mode ≡ modes.Lent → IsLentFrom p h frs o x.owner
+      lent c mode = (c.lends mode done).1
+
+      owning : (c : Covers p h away anew frs fr o x) → has c.fact.places (places.Temp temp.0) ≡ true → IsOwned p h away anew frs fr o x c → OwnsTarget p h frs fr o x
+      owning c in' key = record {
+        covers = c;
+        key = key;
+        temp = temp.0;
+        there = in';
+        kept = none_away away refl;
+        target = λ n t there. ap (λ (a : Action). is_target p a c.fact.places) (one n t there) ∙ temp.3 c.fact.places in';
+        stays = λ n t there. target_stays p ac forms h fr frs st n t there (subst IsCallRow (sym (one n t there)) row) away anew o x c (ap (λ (a : Action). is_target p a c.fact.places) (one n t there) ∙ temp.3 c.fact.places in');
+      }
+        where
+          one : (n : ℕ) (t : Step) → slice_get (frame_steps p fr) n ≡ Some t → t.action ≡ s.action
+          one n t there = one_action p st.number fr.control i n s t (step_here p fr st i s here) (step_here p fr st n t there) (call_may s.action row)
+
+          none_away : (b : Bool) → away ≡ b → away ≡ false
+          none_away false kept = kept
+          none_away true gives = absurd (target_stays p ac forms h fr frs st i s here row away anew o x c (temp.3 c.fact.places in')
+              (away_moves p ac h fr st frs i s here row away anew o x c key heavy (given_at_step p h fr st i s o x.class here row gives)))
+
+      by : IsKeyed p h away anew frs fr (places.Temp temp.0) o x → OwnsTarget p h frs fr o x ⊎ IsLentFrom p h frs o x.owner
+      by (owned c in' key) = inl (owning c in' key)
+      by (unowned u) = elim (target_mode p ac forms h fr frs st i s here row away anew o x u.covers (temp.3 u.covers.fact.places u.here)) [
+        | inl own ↦ absurd (true≢false (sym own ∙ u.unowned))
+        | inr mode ↦ inr (lent u.covers mode)
+      ]
+
+  -- where the frame owns it
+  pub its_owner : x.owner ≡ owners.Frame (length frs + 1) → OwnsTarget p h frs fr o x
+  its_owner mine = elim owned_or_lent [
+    | inl is ↦ is
+    | inr lent ↦ (
+        let it = lender_below p h frs o x.owner lent in
+        let same : length frs + 1 ≡ it.0 = (let both : owners.Frame (length frs + 1) ≡ owners.Frame it.0 = sym mine ∙ it.1 in (let one : length frs + 1 ≡ it.0 = cc in one)) in
+        let low = it.2 in absurd (omega (arith, same, low)))
+  ]
+
+  -- so it tracks it
+  awaits : OwnsTarget p h frs fr o x → Awaits p h fr o x
+  unfolding covered_tracks
+  awaits it = record {
+    tracks = (covered_tracks p ac h fr frs st away anew o x it.covers it.key it.kept it.temp it.there).0;
+    stays = λ n u there moved. it.stays n u there moved;
+  }
+
+  pub owner_awaits : x.owner ≡ owners.Frame (length frs + 1) → Awaits p h fr o x
+  owner_awaits mine = awaits (its_owner mine)
+
+-- ---- over the reset
+
+-- what is true of the object, as it is read anew, is so when its obligation is created anew
+pub follows_anew : (p : Program) (h k : HeapContents) (before after : Bool) (fr : Frame) (o : ℕ) (x y : Object) → after ≡ true → RootsStay h k o → y.class ≡ x.class → set.is_subset y.must (must_of p y.class) ≡ true
+    → (t : TracksAs p h before fr o x) → Follows p k fr.method fr.locals o y t.origin (fact_as after t.fact)
+follows_anew p h k before after fr o x y anew stay class bounded t = subst (λ (b : Bool). Follows p k fr.method fr.locals o y t.origin (fact_as b t.fact)) (sym anew) (record {
+  own = sym (mode_as before t.fact) ∙ t.follows.own;
+  class = its_class;
+  bounded = bounded;
+  need = ap (set.is_subset y.must) (origin_needs_all p t.body t.origin fr.control t.fact t.reached) ∙ within_trans y.must (must_of p y.class) (must_of p t.origin.class) bounded its_class;
+  called = empty_within y.called;
+  some = ap is_nowhere (sym (places_as before t.fact)) ∙ t.follows.some;
+  alone = subst HasPlacesAlone (places_as before t.fact) t.follows.alone;
+  places = λ q small is.
+      let was = t.follows.places q small (ap (λ (held : PlaceSet). has held q) (places_as before t.fact) ∙ is) in
+      (was.0, ap (root_of k) (local_value p h k fr.method fr.locals q was.0) ∙ stay (place_value p h fr.method fr.locals q) was.1);
+})
+  where
+    its_class : fits p y.class t.origin.class ≡ true
+    its_class = ap (λ c. fits p c t.origin.class) class ∙ t.follows.class
+
+-- so a frame that tracks it goes on to do so
+abbrev pub tracks_anew : (p : Program) (h k : HeapContents) (before after : Bool) (fr : Frame) (o : ℕ) (x y : Object) → after ≡ true → RootsStay h k o → y.class ≡ x.class
+    → set.is_subset y.must (must_of p y.class) ≡ true → TracksAs p h before fr o x → TracksAs p k after fr o y
+tracks_anew p h k before after fr o x y anew stay class bounded t = record {
+  body = t.body;
+  id = t.id;
+  origin = t.origin;
+  fact = t.fact;
+  reached = t.reached;
+  follows = follows_anew p h k before after fr o x y anew stay class bounded t;
+}

@@ -1,0 +1,32 @@
+-- What the rule on owning fields sees, by static types, of the next step of a frame.
+use Rattle.std.specs.Prelude.{◌≡◌, ℕ, true, Some, List, [], ◌∷◌, slice_get}
+use Rattle.program_model.specs.declared.kinds.FieldId.{FieldId}
+use Rattle.program_model.specs.declared.kinds.MethodId.{MethodId}
+use Rattle.program_model.specs.declared.program.Field.{Field}
+use Rattle.program_model.specs.declared.program.Program.{Program}
+use Rattle.program_model.specs.Lookups.{field_at, method_at}
+use Rattle.java_control.specs.Calls.{called_method}
+use Rattle.java_control.specs.Control.{Step}
+use Rattle.java_control.specs.declared.action.Action.TheVariants as actions
+use Rattle.ledger_state.specs.Contents.{HeapContents}
+use Rattle.ledger_state.specs.Heaps.{object_at, root_of}
+use Rattle.ledger_state.specs.Locals.{temp_value}
+use Rattle.ledger_state.specs.declared.object.Object.{Object}
+use Rattle.value_laws.specs.ClassValues.{IsOnInstance}
+use Rattle.value_laws.specs.Choosing.{frame_steps}
+use Rattle.value_laws.specs.Configuration.{Frame}
+use Rattle.value_laws.specs.HeapAnew.{target_root}
+use Rattle.value_laws.specs.Renewable.{IsFollowed, IsRenewable, KeepsTextsOut}
+
+-- Where no text stands where the rule on owning fields looks: an object whose obligation a call creates anew is of a class whose obligation may be created
+-- anew, and an object that is stored into an owning field is one that the rules of bodies follow, or its obligation is never created anew. (The object is the root of the operand, or of the value.)
+pub record ActsInSight (p : Program) (h : HeapContents) (fr : Frame) : Type 0 where
+  pub renews : KeepsTextsOut p → (i : ℕ) (s : Step) (named : MethodId) (n : ℕ) (x : Object) → slice_get (frame_steps p fr) i ≡ Some s → called_method s.action ≡ Some named
+      → IsOnInstance p h fr.locals s.action (method_at p named) → target_root h fr.locals s.action (method_at p named) ≡ Some n → object_at h n ≡ Some x → IsRenewable p x.class
+  pub stores : KeepsTextsOut p → (i : ℕ) (s : Step) (f : FieldId) (field : Field) (d n : ℕ) (x : Object) → slice_get (frame_steps p fr) i ≡ Some s → s.action ≡ actions.PutOwn f d → field_at p f ≡ Some field → field.owning ≡ true → root_of h (temp_value fr.locals d) ≡ Some n → object_at h n ≡ Some x
+      → IsFollowed p x.class
+
+-- so it is of all of these frames
+abbrev pub AllActInSight : Program → HeapContents → List Frame → Type 0
+AllActInSight p h [] = Unit {0}
+AllActInSight p h (fr ∷ frs) = ActsInSight p h fr × AllActInSight p h frs

@@ -1,6 +1,0 @@
--- The law is a lemma over the definitions alone.
-use Rattle.dispatch_laws.proofs.Calls.{plain_call}
-use Rattle.dispatch_laws.proofs.dispatch.plainly_called_is_plain_call.Goals as goal
-
-pub returns : goal.returns
-returns c = plain_call

@@ -1,0 +1,31 @@
+-- What the stubs of the library may not say of `String`. No body owns a text, so nobody would call what an object of class `String` asks for,
+-- nor what the resource asks for that such an object stands for (Checker Framework manual, Resource Leak Checker, "Resource aliasing").
+use Rattle.std.specs.Prelude.{Bool, ◌&&◌, ◌||◌, Option, Some, None, List, []}
+use Rattle.std.specs.List.{list_any}
+use Rattle.rlc_base.specs.declared.code.Code.TheVariants as refused
+use Rattle.rlc_base.specs.declared.faults.Refusal.{Refusal}
+use Rattle.program_model.specs.declared.program.Class.{Class}
+use Rattle.program_model.specs.declared.program.Method.{Method}
+use Rattle.program_model.specs.declared.program.Program.{Program}
+use Rattle.program_model.specs.Lookups.{class_at}
+use Rattle.program_model.specs.SuperTests.{is_class}
+use Rattle.must_call_sets.specs.Bodies.{is_constructor_kind}
+use Rattle.must_call_sets.specs.MustCallSets.{is_heavy_class}
+use Rattle.must_call_sets.specs.Signatures.{is_present}
+use Rattle.refusal_order.specs.Refusals.{where_true}
+
+-- a constructor of `String` that makes an alias of an argument
+abbrev pub makes_alias_text : Program → Method → Bool
+makes_alias_text p m = is_constructor_kind m.kind && is_class m.class p.core.string && is_present m.sig.alias
+
+-- objects of class `String` owe calls: it has an obligation, or what is above it has one; or they may be aliases
+abbrev pub has_heavy_texts : Program → Class → Bool
+has_heavy_texts p string = list_any (is_heavy_class p) string.above.items || list_any (makes_alias_text p) p.methods.items
+
+abbrev pub text_cases_in : Program → Option Class → List Refusal
+text_cases_in p None = []
+text_cases_in p (Some string) = where_true (has_heavy_texts p string) refused.BadAlias string.pos
+
+-- all cases: there is one at most, at the class `String`
+abbrev pub text_cases : Program → List Refusal
+text_cases p = text_cases_in p (class_at p p.core.string)

@@ -1,0 +1,146 @@
+-- Owning fields of an accepted program have the shape that is asked, and no plain store is into one of them.
+use Rattle.std.proofs.Common.{◌≡◌, ◌⊎◌, inl, inr, ℕ, zero, suc, Bool, true, false, not, ◌&&◌, ◌||◌, Option, Some, None, IsSomeAnd, List, [], ◌∷◌, slice_get, refl, sym, ap, ◌∙◌, true≢false, eqb-true, eq-eqb, if◌then◌else◌}
+use Rattle.std.specs.Prelude.{nat_eq}
+use Rattle.std.specs.List.{list_any}
+use Rattle.std.proofs.lemmas.Bool.{and_from, and_parts, or_left, or_right}
+use Rattle.program_model.specs.declared.kinds.BodyId.{BodyId}
+use Rattle.program_model.specs.declared.kinds.ClassId.{ClassId}
+use Rattle.program_model.specs.declared.kinds.ExprId.{ExprId}
+use Rattle.program_model.specs.declared.kinds.FieldId.{FieldId}
+use Rattle.program_model.specs.declared.program.Field.{Field}
+use Rattle.program_model.specs.declared.program.Method.{Method}
+use Rattle.program_model.specs.declared.program.Program.{Program}
+use Rattle.program_model.specs.declared.tree.AssignmentTarget.{AssignmentTarget}
+use Rattle.program_model.specs.declared.tree.AssignmentTarget.TheVariants as targets
+use Rattle.program_model.specs.declared.tree.Body.{Body}
+use Rattle.program_model.specs.declared.tree.ExpressionKind.{ExpressionKind}
+use Rattle.program_model.specs.declared.tree.ExpressionKind.TheVariants as expressions
+use Rattle.program_model.specs.declared.tree.TExpr.{TExpr}
+use Rattle.program_model.specs.Lookups.{body_at, expression_at, field_at, method_at}
+use Rattle.program_model.specs.SuperTests.{is_class}
+use Rattle.program_model.specs.Typing.{kind_at, kind_in}
+use Rattle.program_model.specs.Typing as typing
+use Rattle.ledger_obligations.specs.Bodies.{is_class_of, is_extended}
+use Rattle.must_call_reset.specs.OwningCases.{assigns_from_outside, field_ids, has_no_finalizer, is_assigned_from_outside, is_assigned_in, is_class_type, is_foreign, is_foreign_target, is_misshapen, may_hold_unseen_reset, owning_cases_in, owning_cases_of}
+use Rattle.rlc_base.specs.declared.code.Code.TheVariants as refused
+use Rattle.rlc_base.specs.declared.faults.Refusal.{Refusal}
+use Rattle.refusal_order.specs.Refusals.{refused_at, where_true}
+use Rattle.java_control.specs.Owned.{declares_field, has_place, is_beside_method, is_owning, is_owning_field}
+use Rattle.java_control.specs.Owned as owned
+use Rattle.content_laws.specs.Accept.{Accept}
+use Rattle.content_laws.specs.Constructors.{AssignsField, IsFieldAssigned, IsOfField, IsOtherField}
+use Rattle.content_laws.proofs.Finalizers.{listed, none_at, parts_empty}
+use Rattle.soundness_laws.specs.Plain.{is_owning_place, updates_owning, updates_owning_fields, updates_owning_in}
+
+-- ---- lists
+
+pub any_at : {X : Type 0} (test : X → Bool) (xs : List X) (n : ℕ) (x : X) → slice_get xs n ≡ Some x → test x ≡ true → list_any test xs ≡ true
+any_at test [] n x at passes = absurd (none n at)
+  where
+    none : (n : ℕ) → slice_get [] n ≡ Some x → ⊥
+    none zero is = let never : None ≡ Some x = is in cc
+    none (suc n) is = let never : None ≡ Some x = is in cc
+any_at test (y ∷ ys) zero x at passes = let same : y ≡ x = (let both : Some y ≡ Some x = at in cc) in or_left (test y) (list_any test ys) (ap test same ∙ passes)
+any_at test (y ∷ ys) (suc n) x at passes = or_right (test y) (list_any test ys) (any_at test ys n x at passes)
+
+pub same_class : (c d : ClassId) → is_class c d ≡ true → is_class d c ≡ true
+same_class c d is = eq-eqb d.0 c.0 (sym (eqb-true c.0 d.0 is))
+
+pub not_true : (b : Bool) → (b ≡ true → ⊥) → b ≡ false
+not_true true never = absurd (never refl)
+not_true false never = refl
+
+-- no refusal is there, so its case does not hold
+not_there : (b : Bool) (r : Refusal) → (if b then r ∷ [] else []) ≡ [] → b ≡ false
+not_there true r is = absurd (let never : r ∷ [] ≡ [] = is in cc)
+not_there false r is = refl
+
+-- ---- the shape of owning fields
+
+module _ (p : Program) (ac : Accept p) (f : FieldId) (x : Field) (at : field_at p f ≡ Some x) (owning : x.owning ≡ true) where
+  cases : owning_cases_of p f x ≡ []
+  cases = sym (ap (λ (b : Bool). if b then owning_cases_of p f x else []) owning) ∙ sym (ap (owning_cases_in p f) at)
+      ∙ none_at (λ (g : FieldId). owning_cases_in p g (field_at p g)) (field_ids p) f.0 f ac.well_formed.owning (listed p ac f x at)
+
+  pub well_shaped : is_misshapen p f x ≡ false
+  well_shaped =
+      not_there (is_misshapen p f x) (refused_at refused.OwningFieldShape x.pos)
+      (parts_empty (where_true (has_no_finalizer p f x) refused.NoFinalizer x.pos) (where_true (is_misshapen p f x) refused.OwningFieldShape x.pos) cases).1
+
+  -- no body assigns the field other than through `this` in its class
+  not_assigned_outside : is_assigned_from_outside p f x ≡ true → ⊥
+  not_assigned_outside assigned =
+      let before : Bool = x.is_static || not x.is_private || not (is_class_type x.vtype) in
+      let shape = or_right before (is_assigned_from_outside p f x) assigned in
+      let extended = or_left (before || is_assigned_from_outside p f x) (is_extended p x.class) shape in
+      true≢false (sym (or_left (before || is_assigned_from_outside p f x || is_extended p x.class) (may_hold_unseen_reset p x.vtype) extended) ∙ well_shaped)
+
+-- ---- plain stores
+
+module _ (p : Program) (ac : Accept p) (none : updates_owning_fields p ≡ false) (n : BodyId) (b : Body) (at_b : body_at p n ≡ Some b) where
+  -- both ways to ask whether an expression is `this` tell the same
+  same_this : (e : ExprId) → typing.is_this b e ≡ owned.is_this b e
+  same_this e = by_node (expression_at b e)
+    where
+      by_kind : (k : ExpressionKind) → typing.is_this_kind (Some k) ≡ owned.is_this_kind k
+      by_kind (expressions.This written) = refl
+      by_kind (expressions.Literal l) = refl
+      by_kind k = refl
+
+      by_node : (x : Option TExpr) → typing.is_this_kind (kind_in x) ≡ owned.is_this_node x
+      by_node None = refl
+      by_node (Some x) = by_kind x.kind
+
+  module _ (f : FieldId) (x : Field) (at : field_at p f ≡ Some x) (owning : x.owning ≡ true) where
+    is_owned : is_owning p f ≡ true
+    is_owned = ap is_owning_field at ∙ owning
+
+    beside : (m : Option Method) → is_class_of x.class m ≡ true → is_beside_method (Some x) m ≡ true
+    beside None is = absurd (true≢false (sym is))
+    beside (Some m) is = same_class x.class m.class is
+
+    -- what has no place is no field of `this` in its class
+    without_place : (e : ExprId) → has_place p b e f ≡ false → (typing.is_this b e && is_class_of x.class (method_at p b.method)) ≡ false
+    without_place e free =
+        not_true (typing.is_this b e && is_class_of x.class (method_at p b.method)) (λ both.
+        let parts = and_parts (typing.is_this b e) (is_class_of x.class (method_at p b.method)) both in
+        let this : owned.is_this b e ≡ true = sym (same_this e) ∙ parts.0 in
+        let declared : declares_field p b f ≡ true = ap (λ (o : Option Field). is_beside_method o (method_at p b.method)) at ∙ beside (method_at p b.method) parts.1 in
+        let place : has_place p b e f ≡ true = rw (this, is_owned, declared) refl in
+        true≢false (sym place ∙ free))
+
+    by_target : (t : AssignmentTarget) → IsOtherField p b f t → is_foreign_target p b f x t ≡ true
+    by_target (targets.Field e g) (same, free) =
+        and_from (nat_eq g.0 f.0) (not (typing.is_this b e && is_class_of x.class (method_at p b.method))) (eq-eqb g.0 f.0 (ap (λ (h : FieldId). h.0) same))
+        (ap not (without_place e (sym (ap (has_place p b e) same) ∙ free)))
+    by_target t other = absurd other
+
+    by_place : (k : Option ExpressionKind) → IsOfField f k → is_owning_place p k ≡ true
+    by_place (Some (expressions.Field e g)) same = ap (is_owning p) same ∙ is_owned
+    by_place k is = absurd is
+
+    by_kind : (k : ExpressionKind) → AssignsField p b f k → (assigns_from_outside p b f x k ≡ true) ⊎ (updates_owning p b k ≡ true)
+    by_kind (expressions.Assignment t value) assigns = inl (by_target t assigns)
+    by_kind (expressions.OperatorAssignment a) assigns = inr (by_place (kind_at b a.target) assigns)
+    by_kind (expressions.PostfixStep a) assigns = inr (by_place (kind_at b a.target) assigns)
+    by_kind k assigns = absurd assigns
+
+    not_assigned : IsFieldAssigned p b f → ⊥
+    not_assigned (e, assigned) = by_expression (expression_at b e) refl assigned
+      where
+        by_expression : (o : Option TExpr) → expression_at b e ≡ o → IsSomeAnd o (λ y. AssignsField p b f y.kind) → ⊥
+        by_expression None there has = has
+        by_expression (Some y) there has = elim (by_kind y.kind has) [
+          | inl outside ↦
+              not_assigned_outside p ac f x at owning (any_at (is_assigned_in p f x) p.bodies.items n.0 b at_b (any_at (λ (z : TExpr). assigns_from_outside p b f x z.kind) b.expressions.items e.0 y there outside))
+          | inr updated ↦
+              true≢false (sym (any_at (updates_owning_in p) p.bodies.items n.0 b at_b (any_at (λ (z : TExpr). updates_owning p b z.kind) b.expressions.items e.0 y there updated)) ∙ none)
+        ]
+
+  -- a field that an expression of the body assigns, other than as an owning field of `this`, is no owning one
+  pub assigned_is_unowned : (f : FieldId) → IsFieldAssigned p b f → is_owning p f ≡ false
+  assigned_is_unowned f assigned = not_true (is_owning p f) (λ owning. by_field (field_at p f) refl owning)
+    where
+      by_field : (o : Option Field) → field_at p f ≡ o → is_owning_field o ≡ true → ⊥
+      by_field None at owning = true≢false (sym owning)
+      by_field (Some x) at owning = not_assigned f x at owning assigned
