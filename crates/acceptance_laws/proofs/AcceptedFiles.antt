@@ -10,6 +10,7 @@ use Rattle.accepted_programs.specs.Accept.{Accept}
 use Rattle.program_reading.specs.Programs.{Input, IsProgram}
 use Rattle.program_reading.specs.TypedPrograms.{IsTyped}
 use Rattle.program_faults.specs.ProgramReports.{IsFaultCount, IsFaulty}
+use Rattle.acceptance_laws.proofs.ReadExceptions.{covers}
 use Rattle.acceptance_laws.proofs.Rooms.{counted_fits}
 use Rattle.acceptance_laws.proofs.SameCases.{same_cases}
 use Rattle.acceptance_laws.proofs.SignedTables.{no_cases, signed_tables}
@@ -36,6 +37,7 @@ counted_accepted input p is counted none = record {
   overriding = overriding input p is;
   annotations = is.annotated.right;
   signatures = signed_twice is.typed p is.annotated.signed;
+  covers = covers input p is;
   fits = counted_fits p 0 (λ f x found. (is.well_formed.valid.typed.fields f x found).listed) counted;
   no_fault = λ b o rule at names faulty. none (record { body = b; origin = o; rule = rule; at = at; names = names; faulty = faulty });
 }

@@ -29,6 +29,7 @@ pub use Rattle.program_reading.specs.SuperTypes
 pub use Rattle.program_reading.specs.Surroundings
 pub use Rattle.program_reading.specs.Table
 pub use Rattle.program_reading.specs.TextCases
+pub use Rattle.program_reading.specs.TextFieldCases
 pub use Rattle.program_reading.specs.ResultCases
 pub use Rattle.program_reading.specs.OwnerCases
 pub use Rattle.program_reading.specs.TypedBodies

@@ -6,8 +6,8 @@ ghost use Rattle.program_reading.specs.Programs.{Input, IsProgram};
 ghost use Rattle.program_faults.specs.ProgramReports.{IsFaultCount, IsFaulty};
 
 /// The program of files is accepted where its faults are counted, and there is none: it is well formed, no class declares two methods of
-/// one signature, what its classes override and leave without a body is as Java asks, its annotations are right, no body passes a limit on
-/// places, and no path in a body breaks a rule.
+/// one signature, what its classes override and leave without a body is as Java asks, its annotations are right, its bodies catch or declare
+/// their checked exceptions and pass no limit on places, and no path in a body breaks a rule.
 pub fn counted_program_is_accepted()
     ensures { (input : Input) (p : Program) → IsProgram input p → IsFaultCount p 0 → (IsFaulty p → ⊥) → Accept p }
 {}

@@ -4,15 +4,21 @@
 //! - No class of the program of files declares two methods of one name and one parameter list.
 //! - Laws of the faults of a program: their number is one, and so is the stop of a program whose faults are not told; the paths of a
 //!   program with a number of faults stay within the limits on places.
+//! - What is laid from typed statements and expressions in which nothing is refused throws no checked exception that is neither caught nor
+//!   declared (JLS 11.2): bodies that are laid in tables, elaborated programs, and so the program of files.
 //! - Which programs of files are accepted.
 #![tactic(auto)]
 
 mod acceptance;
+mod checked_exception;
 mod distinct_method;
 mod overriding;
 mod program_fault;
 
 pub use acceptance::counted_program_is_accepted;
+pub use checked_exception::{
+    elaborated_program_covers_its_exceptions, read_program_covers_its_exceptions,
+};
 pub use distinct_method::{read_program_declares_once, table_declares_once};
 pub use overriding::{
     accepted_table_has_no_override_cases, programs_of_same_tables_have_same_cases,

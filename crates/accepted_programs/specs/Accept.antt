@@ -12,11 +12,12 @@ use Rattle.must_call_types.specs.AnnotationCases.{annotation_cases}
 use Rattle.must_call_types.specs.Signed.{IsSigned}
 use Rattle.flow_rules.specs.WellFormed.{IsWellFormed}
 use Rattle.accepted_programs.specs.Conditions.{DeclaresOnce}
+use Rattle.accepted_programs.specs.Coverage.{CoversItsExceptions}
 use Rattle.flow_rules.specs.Paths.{Faulty, FitsPlaces, relation_of}
 
 -- A program is accepted: it is well formed, no class declares two methods of one signature, what its classes override and leave
--- without a body is as Java asks, its annotations are right, and its sets and signatures are what they say; no body of it passes the
--- limits on places, and no path in a body breaks a rule.
+-- without a body is as Java asks, its annotations are right, and its sets and signatures are what they say; its bodies catch or declare
+-- the checked exceptions that they throw, none of them passes the limits on places, and no path in one breaks a rule.
 pub record Accept (p : Program) : Type 0 where
   -- its tables belong together, its bodies are typed trees, and no case of the rules on signatures holds
   pub well_formed : IsWellFormed p
@@ -28,6 +29,8 @@ pub record Accept (p : Program) : Type 0 where
   pub annotations : annotation_cases p ≡ []
   -- the must-call sets and the effective signatures are those that the annotations say
   pub signatures : IsSigned p p
+  -- no body throws a checked exception that is neither caught nor declared (JLS 11.2)
+  pub covers : CoversItsExceptions p
   -- no body passes the limits on places
   pub fits : (b : BodyId) → FitsPlaces p b (relation_of p b)
   -- no path from an origin in a body comes to a fault

@@ -1,5 +1,9 @@
 pub mod Conditions
 pub mod Accept
+pub mod Completions
+pub mod Coverage
+pub mod Exceptions
+pub mod TreeOrder
 pub use Rattle.flow_rules.specs.Aliases
 pub use Rattle.must_call_types.specs.Assigned
 pub use Rattle.flow_rules.specs.Bodies

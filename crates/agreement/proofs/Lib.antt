@@ -12,6 +12,7 @@ pub use Rattle.heap_laws.proofs.EndResets
 pub use Rattle.heap_laws.proofs.ResetHeaps
 pub use Rattle.place_laws.proofs.ClassItems
 pub use Rattle.place_laws.proofs.ClassTypes
+pub use Rattle.place_laws.proofs.Root
 pub use Rattle.place_laws.proofs.ClassWays
 pub use Rattle.place_laws.proofs.FieldPlaces
 pub use Rattle.heap_laws.proofs.Fields

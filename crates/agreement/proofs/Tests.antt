@@ -11,6 +11,7 @@ use Rattle.program_model.specs.declared.kinds.MethodKind.TheVariants as methods
 use Rattle.program_model.specs.declared.kinds.VType.{VType}
 use Rattle.program_model.specs.declared.kinds.VType.TheVariants as types
 use Rattle.program_model.specs.declared.program.Class.{Class}
+use Rattle.program_model.specs.declared.program.Field.{Field}
 use Rattle.program_model.specs.declared.program.Method.{Method}
 use Rattle.program_model.specs.declared.program.Program.{Program}
 use Rattle.program_model.specs.Hierarchy.{IsHierarchy}
@@ -20,7 +21,7 @@ use Rattle.program_model.specs.SuperTests.{is_under}
 use Rattle.program_model.specs.Validity.{is_constant}
 use Rattle.place_laws.specs.AcceptedProgramsConditions.{HasWholeLibrary}
 use Rattle.place_laws.proofs.Arguments.{calls_pass_nothing, passing_nothing}
-use Rattle.agreement.specs.Conditions.{KeepsObligations, MeetsFileConditions, OwnersStandAlone, stands_under_owner}
+use Rattle.agreement.specs.Conditions.{KeepsObligations, MeetsFileConditions, OwnersStandAlone, OwnsNoRenewedText, may_own_renewed_text, stands_under_owner}
 use Rattle.agreement.specs.LibraryClasses.{HasLightTexts, language_exceptions}
 use Rattle.agreement.specs.PlainForms.{all_owe_nothing, may_be_made}
 use Rattle.ownership_rules.specs.MustCallSets.{is_empty, must_of, must_of_optional, must_of_type}
@@ -58,12 +59,12 @@ all_alone p n [] = true
 all_alone p n (k ∷ ks) = not (stands_under_owner p (record { 0 = n }) k) && all_alone p (n + 1) ks
 
 -- so it is with all classes and methods, with `Object` and `String`; there may be objects of the exceptions of the language, `String` is no class of
--- exceptions, results stand so, no class stands under an owner, and super calls have no arguments
+-- exceptions, results stand so, no class stands under an owner, no field may own a text that is created anew, and super calls have no arguments
 abbrev pub passes_tests : Program → Bool
 passes_tests p =
     list_all (λ (k : Class). class_stands p k) p.classes.items && (list_all (λ (m : Method). method_stands p m) p.methods.items
     && (is_library p p.core.object && (is_library p p.core.string && (list_all (λ c. may_be_made p c) (language_exceptions p.core)
-    && (not (is_under p p.core.string p.core.throwable) && (list_all (λ (n : Method). results_stand p n) p.methods.items && (all_alone p 0 p.classes.items && calls_pass_nothing p)))))))
+    && (not (is_under p p.core.string p.core.throwable) && (list_all (λ (n : Method). results_stand p n) p.methods.items && (all_alone p 0 p.classes.items && (list_all (λ (x : Field). not (may_own_renewed_text p x)) p.fields.items && calls_pass_nothing p))))))))
 
 -- ---- what they tell
 
@@ -162,6 +163,9 @@ module _ (p : Program) where
       let sum : c.0 ≡ 0 + c.0 = omega arith in
       ap (λ (s : ℕ). stands_under_owner p (record { 0 = s }) k) sum ∙ number_alone 0 c.0 p.classes.items k all at
 
+  text_fields : list_all (λ (x : Field). not (may_own_renewed_text p x)) p.fields.items ≡ true → OwnsNoRenewedText p
+  text_fields all f x at = is_false (may_own_renewed_text p x) (at_number (λ (y : Field). not (may_own_renewed_text p y)) p.fields.items f.0 x all at)
+
 pub meets_by_tests : (p : Program) → IsHierarchy p → HasLightTexts p → passes_tests p ≡ true → MeetsFileConditions p
 meets_by_tests p hierarchy light passes =
     let classes = and_parts (list_all (λ (k : Class). class_stands p k) p.classes.items) _ passes in
@@ -171,7 +175,8 @@ meets_by_tests p hierarchy light passes =
     let exceptions = and_parts (list_all (λ c. may_be_made p c) (language_exceptions p.core)) _ string.1 in
     let texts = and_parts (not (is_under p p.core.string p.core.throwable)) _ exceptions.1 in
     let results' = and_parts (list_all (λ (n : Method). results_stand p n) p.methods.items) _ texts.1 in
-    let alone = and_parts (all_alone p 0 p.classes.items) (calls_pass_nothing p) results'.1 in
+    let alone = and_parts (all_alone p 0 p.classes.items) _ results'.1 in
+    let fields = and_parts (list_all (λ (x : Field). not (may_own_renewed_text p x)) p.fields.items) (calls_pass_nothing p) alone.1 in
     record {
       library = whole p hierarchy classes.0;
       given = record { results = results p methods.0; throws = throws p methods.0; constants = constants p methods.0; object = object.0; string = string.0 };
@@ -180,5 +185,6 @@ meets_by_tests p hierarchy light passes =
       light_texts = light;
       results = obligations p results'.0;
       owners = owners p alone.0;
-      passes = passing_nothing p alone.1;
+      text_fields = text_fields p fields.0;
+      passes = passing_nothing p fields.1;
     }

@@ -1,10 +1,14 @@
 -- What every program of files has, and the laws on safety ask of a program in hand.
-use Rattle.std.specs.Prelude.{◌≡◌, ◌⊎◌, Bool, true, false, not, ◌&&◌, Some}
+use Rattle.std.specs.Prelude.{◌≡◌, ◌⊎◌, Bool, true, false, not, ◌&&◌, Option, Some}
 use Rattle.std.specs.List.{list_any}
 use Rattle.program_model.specs.declared.kinds.ClassId.{ClassId}
+use Rattle.program_model.specs.declared.kinds.FieldId.{FieldId}
 use Rattle.program_model.specs.declared.kinds.MethodId.{MethodId}
 use Rattle.program_model.specs.declared.kinds.MethodKind.TheVariants as methods
+use Rattle.program_model.specs.declared.kinds.VType.{VType}
+use Rattle.program_model.specs.declared.kinds.VType.TheVariants as types
 use Rattle.program_model.specs.declared.program.Class.{Class}
+use Rattle.program_model.specs.declared.program.Field.{Field}
 use Rattle.program_model.specs.declared.program.Method.{Method}
 use Rattle.program_model.specs.declared.program.Program.{Program}
 use Rattle.program_model.specs.Lookups.{class_at, field_at, method_at}
@@ -12,6 +16,7 @@ use Rattle.program_model.specs.Overrides.{are_alike}
 use Rattle.program_model.specs.SuperTests.{has_class, is_class, is_under}
 use Rattle.must_call_sets.specs.AliasCases.{is_owning_in}
 use Rattle.must_call_sets.specs.Bodies.{fields_in}
+use Rattle.must_call_sets.specs.OwningCases.{type_at_some}
 use Rattle.ownership_rules.specs.MustCallSets.{is_empty, must_of_optional}
 use Rattle.place_laws.specs.AcceptedProgramsConditions.{HasWholeLibrary}
 use Rattle.agreement.specs.LibraryClasses.{GivesLibraryClasses, HasLightTexts, ThrowsMadeClasses}
@@ -37,6 +42,24 @@ stands_under_owner p c k = list_any (λ d. not (is_class d c) && declares_owning
 abbrev pub OwnersStandAlone : Program → Type 0
 OwnersStandAlone p = (c : ClassId) (k : Class) → class_at p c ≡ Some k → stands_under_owner p c k ≡ false
 
+-- a text may stand where this is the type: it is `String`, or a class or interface above it
+abbrev pub may_be_text : Program → Option VType → Bool
+may_be_text p (Some types.Str) = true
+may_be_text p (Some (types.Obj c)) = is_under p p.core.string c
+may_be_text p t = false
+
+-- the method creates anew the obligation of what may be a text
+abbrev pub may_renew_text : Program → Method → Bool
+may_renew_text p m = may_be_text p (type_at_some m.sig m.sig.reset)
+
+-- the field may own a text, and some method may create its obligation anew
+abbrev pub may_own_renewed_text : Program → Field → Bool
+may_own_renewed_text p x = x.owning && (may_be_text p (Some x.vtype) && list_any (may_renew_text p) p.methods.items)
+
+-- no owning field may hold a text, or no method creates the obligation of a text anew
+abbrev pub OwnsNoRenewedText : Program → Type 0
+OwnsNoRenewedText p = (f : FieldId) (x : Field) → field_at p f ≡ Some x → may_own_renewed_text p x ≡ false
+
 -- The program has what the files of a program give it.
 pub record MeetsFileConditions (p : Program) : Type 0 where
   -- all classes above one of the library are the library's
@@ -53,5 +76,7 @@ pub record MeetsFileConditions (p : Program) : Type 0 where
   pub results : KeepsObligations p
   -- a class with owning fields has no class under it but itself
   pub owners : OwnersStandAlone p
+  -- no owning field may hold a text, or no method creates the obligation of a text anew
+  pub text_fields : OwnsNoRenewedText p
   -- no argument of a super call refers to `this` (JLS 8.8.7.1)
   pub passes : SuperCallsPassNoThis p

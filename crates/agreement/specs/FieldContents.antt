@@ -1,5 +1,5 @@
 -- What owning fields hold and own.
-use Rattle.std.specs.Prelude.{◌≡◌, ℕ, Bool, true, false, not, ◌&&◌, Some, None, List, [], ◌∷◌, slice_get}
+use Rattle.std.specs.Prelude.{◌≡◌, ℕ, Bool, true, false, not, ◌&&◌, ◌||◌, Some, None, List, [], ◌∷◌, slice_get}
 use Rattle.std.specs.List.{list_any}
 use Rattle.std.specs.FinSet as set
 use Rattle.rlc_base.specs.declared.name_id.NameId.{NameId}
@@ -35,7 +35,7 @@ use Rattle.ledger_runs.specs.Configuration.{Frame}
 use Rattle.ledger_runs.specs.Choosing.{frame_steps}
 use Rattle.heap_laws.specs.Leading.{Leads}
 use Rattle.agreement.specs.PlainForms.{run_by}
-use Rattle.agreement.specs.Renewable.{IsFollowed, KeepsTextsOut}
+use Rattle.agreement.specs.Renewable.{IsFollowed}
 use Rattle.agreement.specs.PlaceFacts.{may_owe}
 use Rattle.agreement.specs.Safety.{constructs_object}
 
@@ -62,8 +62,8 @@ abbrev pub is_made_in : Program → ℕ → ClassId → List Frame → Bool
 is_made_in p w c frs = list_any (makes_holder p w c) frs
 
 -- Field `f` of object `w` owns object `o`, which is `x`: the class of the holder, one of the program, declares the field, which holds the object and whose
--- type bounds its obligation; the holder is linked to none; where it is finished, what was called on it was done to the object, and where
--- it is not, its constructor runs, which makes no alias.
+-- type bounds the obligation of its class, and, where it is unmet, its own; the holder is linked to none; where it is finished, what was called on it was done to
+-- the object, and where it is not, its constructor runs, which makes no alias.
 pub record IsContent (p : Program) (frs : List Frame) (h : HeapContents) (o : ℕ) (x : Object) (w : ℕ) (f : FieldId) : Type 0 where
   pub holder : Object
   pub at : object_at h w ≡ Some holder
@@ -74,19 +74,23 @@ pub record IsContent (p : Program) (frs : List Frame) (h : HeapContents) (o : �
   pub owning : field.owning ≡ true
   pub held : root_of h (field_value p h w f) ≡ Some o
   pub bounded : set.is_subset (must_of p x.class) (must_of_type p field.vtype) ≡ true
-  pub own : set.is_subset x.must (must_of p x.class) ≡ true
+  pub own : is_unmet x ≡ true → set.is_subset x.must (must_of p x.class) ≡ true
   pub whole : holder.finished ≡ true → holder.must ≡ must_of p holder.class
   pub unlinked : holder.link ≡ None
   pub kept : holder.finished ≡ true → IsKept p holder f x
   pub made : holder.finished ≡ false → is_made_in p w field.class frs ≡ true
 
--- each unmet object that a field owns is such a content
-abbrev pub HaveContents : Program → List Frame → HeapContents → Type 0
-HaveContents p frs h = (o : ℕ) (x : Object) (w : ℕ) (f : FieldId) → object_at h o ≡ Some x → is_unmet x ≡ true → x.owner ≡ owners.Field w f → IsContent p frs h o x w f
+-- something must be called on the object, or its class asks for it
+abbrev pub has_obligation : Program → Object → Bool
+has_obligation p x = is_unmet x || is_heavy_class p x.class
 
--- what fields own owning fields own, and it is followed, where no text stands where the rule on owning fields looks
+-- each such object that a field owns is such a content
+abbrev pub HaveContents : Program → List Frame → HeapContents → Type 0
+HaveContents p frs h = (o : ℕ) (x : Object) (w : ℕ) (f : FieldId) → object_at h o ≡ Some x → has_obligation p x ≡ true → x.owner ≡ owners.Field w f → IsContent p frs h o x w f
+
+-- what fields own owning fields own, and it is followed
 abbrev pub OwningFieldsOwn : Program → HeapContents → Type 0
-OwningFieldsOwn p h = (o : ℕ) (x : Object) (w : ℕ) (f : FieldId) → object_at h o ≡ Some x → x.owner ≡ owners.Field w f → (is_owning p f ≡ true) × (KeepsTextsOut p → IsFollowed p x.class)
+OwningFieldsOwn p h = (o : ℕ) (x : Object) (w : ℕ) (f : FieldId) → object_at h o ≡ Some x → x.owner ≡ owners.Field w f → (is_owning p f ≡ true) × IsFollowed p x.class
 
 -- calls on each object reach its root, where that is one whose class has an obligation, and that may owe a call
 abbrev pub LinksLead : Program → HeapContents → Type 0
@@ -98,6 +102,13 @@ LinksLead p h = (k o : ℕ) (x y : Object) → object_at h k ≡ Some x → root
 abbrev pub RunOnOthers : ℕ → List Frame → Type 0
 RunOnOthers w [] = Unit {0}
 RunOnOthers w (fr ∷ frs) = (fr.locals.this ≡ values.Object w → ⊥) × RunOnOthers w frs
+
+-- Where the top one of these frames runs a constructor on an object of which a field owns an object with an obligation, no other runs on it. (The constructors of
+-- super classes run before anything is stored into owning fields.)
+abbrev pub TopRunsAlone : Program → HeapContents → List Frame → Type 0
+TopRunsAlone p h [] = Unit {0}
+TopRunsAlone p h (fr ∷ frs) = (o : ℕ) (x : Object) (w : ℕ) (f : FieldId) → constructs (method_at p fr.method) ≡ true → fr.locals.this ≡ values.Object w → object_at h o ≡ Some x
+    → is_heavy_class p x.class ≡ true → x.owner ≡ owners.Field w f → RunOnOthers w frs
 
 -- the class of the method declares an owning field
 abbrev pub DeclaresOwning : Program → MethodId → Type 0

@@ -1,5 +1,5 @@
 -- Of which classes the objects are that no `new` of the program makes.
-use Rattle.std.specs.Prelude.{◌≡◌, Bool, true, false, ◌&&◌, Some, List, [], ◌∷◌}
+use Rattle.std.specs.Prelude.{◌≡◌, ℕ, zero, Bool, true, false, not, ◌&&◌, ◌||◌, Option, Some, List, [], ◌∷◌}
 use Rattle.std.specs.List.{All, list_any}
 use Rattle.program_model.specs.declared.kinds.ClassId.{ClassId}
 use Rattle.program_model.specs.declared.kinds.MethodId.{MethodId}
@@ -40,8 +40,23 @@ ThrowsMadeClasses p = All (λ c. may_be_made p c ≡ true) (language_exceptions 
 abbrev pub makes_alias_text : Program → Method → Bool
 makes_alias_text p m = is_constructor_kind m.kind && is_class m.class p.core.string && is_present m.sig.alias
 
--- Objects of class `String` owe no calls: neither `String` nor a class or interface above it has an obligation, and no constructor of it makes an
--- alias of an argument. (What says otherwise is a stub of the library.)
+-- the position is the receiver
+abbrev pub is_receiver : Option ℕ → Bool
+is_receiver (Some zero) = true
+is_receiver k = false
+
+-- a method of `String` that creates the obligation of its text anew
+abbrev pub renews_own_text : Program → Method → Bool
+renews_own_text p m = is_class m.class p.core.string && is_receiver m.sig.reset
+
+-- a class or interface that is neither `String` nor `Object`
+abbrev pub is_no_text_class : Program → ClassId → Bool
+is_no_text_class p c = not (is_class c p.core.string || is_class c p.core.object)
+
+-- Objects of class `String` owe no calls: neither `String` nor a class or interface above it has an obligation, of which there is none but `Object`,
+-- no constructor of it makes an alias of an argument, and no method of it creates its obligation anew. (What says otherwise is a stub of the library.)
 pub record HasLightTexts (p : Program) : Type 0 where
   pub classes : list_any (is_heavy_class p) (classes_above p.core.string (class_at p p.core.string)) ≡ false
+  pub above : list_any (is_no_text_class p) (classes_above p.core.string (class_at p p.core.string)) ≡ false
   pub constructors : list_any (makes_alias_text p) p.methods.items ≡ false
+  pub resets : list_any (renews_own_text p) p.methods.items ≡ false

@@ -12,10 +12,11 @@ use Rattle.program_model.specs.declared.program.Method.{Method}
 use Rattle.program_model.specs.declared.program.ParamSig.{ParamSig}
 use Rattle.program_model.specs.declared.program.Program.{Program}
 use Rattle.program_model.specs.Lookups.{method_at}
-use Rattle.ownership_rules.specs.Bodies.{alias_in, constructs}
+use Rattle.ownership_rules.specs.Bodies.{constructs}
 use Rattle.ownership_rules.specs.MustCallSets.{Names, fits, fits_type, is_empty, is_heavy_class, must_of, must_of_optional, no_names}
-use Rattle.ownership_rules.specs.Signatures.{field_type, is_present}
+use Rattle.ownership_rules.specs.Signatures.{field_type}
 use Rattle.java_control.specs.PlaceNumbers.{IsSmall}
+use Rattle.java_control.specs.Owned.{place_of_field}
 use Rattle.java_control.specs.declared.action.Action.{Action}
 use Rattle.java_control.specs.declared.fact.Fact.{Fact}
 use Rattle.java_control.specs.declared.fact.Mode.TheVariants as modes
@@ -25,7 +26,7 @@ use Rattle.java_control.specs.declared.fact.OriginKind.TheVariants as kinds
 use Rattle.java_control.specs.declared.place.Place.{Place}
 use Rattle.java_control.specs.declared.place.Place.TheVariants as place
 use Rattle.ownership_rules.specs.Callees.{callee}
-use Rattle.ownership_rules.specs.Facts.{PlaceSet, has, is_held, is_own, is_this_origin, need}
+use Rattle.ownership_rules.specs.Facts.{PlaceSet, has, is_held, is_own, is_this_origin, need, without}
 use Rattle.place_laws.specs.Paths.{Reach, relation_of}
 use Rattle.ledger_state.specs.Contents.{HeapContents}
 use Rattle.ledger_state.specs.Heaps.{object_at, root_of, same_root}
@@ -35,22 +36,19 @@ use Rattle.ledger_state.specs.declared.locals.Locals.{Locals}
 use Rattle.ledger_state.specs.declared.object.Object.{Object}
 use Rattle.ledger_state.specs.declared.value.Value.{Value}
 use Rattle.ledger_state.specs.declared.value.Value.TheVariants as values
-use Rattle.place_laws.specs.Obligations.{is_held_by, is_library_owner}
+use Rattle.place_laws.specs.Obligations.{finished_in, is_held_by, is_library_owner}
 use Rattle.heap_laws.specs.Places.{owning_field_beside, place_value}
 use Rattle.heap_laws.specs.LedgerCallsCalls.{operand_of}
 use Rattle.ledger_runs.specs.Configuration.{Frame}
 use Rattle.ledger_runs.specs.Choosing.{body_id, frame_steps}
 use Rattle.place_laws.specs.Places.{HasPlacesAlone}
 use Rattle.agreement.specs.PlainForms.{is_lent_parameter}
-use Rattle.agreement.specs.Renewing.{IsLentFrom, fact_as, is_renewed, was_renewed}
+use Rattle.fact_laws.specs.Going.{is_in_this}
+use Rattle.agreement.specs.Renewing.{IsLentFrom, IsOwnedByThis, fact_as, is_renewed, makes_alone, was_renewed}
 
 -- the object is not finished yet, or the library does not own it. (What the library owns it owns for ever. An alias of null is the library's.)
 abbrev pub may_owe : Object → Bool
 may_owe x = not (x.finished && is_library_owner x.owner)
-
--- the method is a constructor without an aliased argument
-abbrev pub makes_alone : Option Method → Bool
-makes_alone m = constructs m && not (is_present (alias_in m))
 
 -- The fact says that the object is owned, and that it has an obligation: the frame owns it, or, in a constructor without an aliased argument, a
 -- field of `this`. (Elsewhere a field may hold what it does not own, such as an aliased argument that a constructor has kept.) A fact whose class
@@ -118,9 +116,10 @@ abbrev pub asked_of : Program → Option Method → OriginKind → Names
 asked_of p None kind = no_names
 asked_of p (Some m) kind = asked_in p m kind
 
--- the fact is that of a lent parameter, or of `this`, or it says that a field of `this` holds the object
+-- The fact is that of a lent parameter, or of `this`, or it says that a field of `this` holds the object. (In a constructor without an aliased
+-- argument such a fact claims that the field owns the object, and says more.)
 abbrev pub tells_calls : Program → MethodId → Origin → Fact → Bool
-tells_calls p m o f = is_lent p (method_at p m) o.kind || is_held f.mode
+tells_calls p m o f = (is_lent p (method_at p m) o.kind || is_held f.mode) && not (is_held f.mode && makes_alone (method_at p m))
 
 -- ---- what is given to a frame
 
@@ -181,17 +180,33 @@ OwnersBelow h n = (o : ℕ) (x : Object) → object_at h o ≡ Some x → is_fra
 
 -- ---- what is known of an object
 
--- A field of `this` holds the object: a constructor without an aliased argument has stored it there, or the frame runs no constructor, and
--- the field owns the object.
+-- a field of `this` holds the object, and owns it, and the frame runs no constructor
 abbrev pub is_content : Program → Frame → Owner → Fact → Bool
-is_content p fr owner f =
-    is_held f.mode && (makes_alone (method_at p fr.method) || not (constructs (method_at p fr.method)) && is_field_of fr.locals.this owner)
+is_content p fr owner f = is_held f.mode && (not (constructs (method_at p fr.method)) && is_field_of fr.locals.this owner)
 
--- a field of `this` holds the object; or the frame did not begin with a call that creates its obligation anew, and it was not given the object, or a frame
+-- the frame did not begin with a call that creates the object's obligation anew; and a field of `this` holds the object, or the frame was not given it, or a frame
 -- below owns it
 abbrev pub is_apart : Program → HeapContents → List Frame → Frame → ℕ → Object → Fact → Bool
 is_apart p h frs fr o x f =
-    is_content p fr x.owner f || not (was_renewed p h frs o) && (not (was_given p h frs o x.class) || is_frame_below (length frs + 1) x.owner)
+    not (was_renewed p h frs o) && (is_content p fr x.owner f || (not (was_given p h frs o x.class) || is_frame_below (length frs + 1) x.owner))
+
+-- one of these frames runs on the object
+abbrev pub RunsOn : ℕ → List Frame → Type 0
+RunsOn w [] = ⊥
+RunsOn w (fr ∷ frs) = (fr.locals.this ≡ values.Object w) ⊎ RunsOn w frs
+
+-- where a field owns the object, the field's object is finished, or one of these frames runs on it
+abbrev pub HasOlderHolder : HeapContents → List Frame → Owner → Type 0
+HasOlderHolder h frs owner = (w : ℕ) → is_held_by owner w ≡ true → (finished_in (object_at h w) ≡ true) ⊎ RunsOn w frs
+
+-- so it is with each object that has an obligation
+abbrev pub HoldersAreOlder : Program → HeapContents → List Frame → Type 0
+HoldersAreOlder p h frs = (o : ℕ) (x : Object) → object_at h o ≡ Some x → is_heavy_class p x.class ≡ true → HasOlderHolder h frs x.owner
+
+-- an owning field of `this` owns the object, and of `this`, its parts and its fields that field's place alone is among these
+abbrev pub IsInField : Program → Frame → PlaceSet → Owner → Type 0
+IsInField p fr held owner =
+    (c : IsOwnedByThis p fr owner) × (has held (place_of_field p c.field) ≡ true) × (is_in_this (without held (place_of_field p c.field)) ≡ false)
 
 -- the fact says that the frame owns the object, and that it has an obligation
 abbrev pub is_owning_fact : Program → Origin → Fact → Bool
@@ -199,12 +214,13 @@ is_owning_fact p o f = is_heavy_class p o.class && is_own f.mode
 
 -- A fact that a path brings to the frame's control stands for object `o`, which is `x`: all places of the fact hold the object. `frs` are the
 -- frames below, `away` says that the call at which the frame waits gives the object away, and `anew` that it creates the object's obligation anew.
--- Where the fact says that the object is owned, that is true, as the fact is read while the frame waits, unless the frame owned it and it is given away. No
--- frame owns a finished object of which it says, in a constructor without an aliased argument, that a field holds it. Where it says that the object is lent, the call that began the frame creates the object's obligation anew,
+-- Where the fact says that the object is owned, that is true, as the fact is read while the frame waits, unless the frame owned it and it is given away. Where it says
+-- in a constructor without an aliased argument that a field holds a finished object, it is not given away, its class has an obligation, and one of its places is that of the owning field that owns the
+-- object, the one place of it that is `this`'s. Where it says that the object is lent, the call that began the frame creates the object's obligation anew,
 -- and a frame that waits for such a call owns the object; it is not given away. Where it is the fact of `this` in a constructor, the object is not finished.
 -- Where the fact is that of a lent parameter, or of `this`, it says never that the frame owns an object with an obligation, and that a field holds it in a
--- constructor alone. What it then knows to be called on a finished object was called, or was asked for before; so also where it says that a field holds it; if the
--- frame was not given the object: then neither this frame nor one above it owns the object, it is not given away, and its obligation is not created anew.
+-- constructor with an aliased argument alone. What it then knows to be called on a finished object was called, or was asked for before; so also where it says that a field holds it; if the
+-- frame was not given the object: then neither this frame nor one above it owns the object, nor a field of what these make, it is not given away, and its obligation is not created anew.
 -- Where its class has an obligation, it is in owning fields alone whose types bound this. Where it is in an owning field whose type has one, or outside
 -- constructors in any, it says that the field holds it.
 pub record Covers (p : Program) (h : HeapContents) (away anew : Bool) (frs : List Frame) (fr : Frame) (o : ℕ) (x : Object) : Type 0 where
@@ -216,29 +232,32 @@ pub record Covers (p : Program) (h : HeapContents) (away anew : Bool) (frs : Lis
   pub alone : HasPlacesAlone fact.places
   pub places : AllHold p h fr.method fr.locals o fact.places
   pub true' : claims p (method_at p fr.method) origin fact ≡ true → (away && is_own fact.mode) ≡ false → IsTrueOf p x origin (fact_as anew fact)
-  pub lent : is_lent p (method_at p fr.method) origin.kind ≡ true → (is_owning_fact p origin fact ≡ false) × (is_held fact.mode ≡ true → constructs (method_at p fr.method) ≡ true)
-  pub free : x.finished ≡ true → is_held fact.mode ≡ true → makes_alone (method_at p fr.method) ≡ true → is_frame_from 0 x.owner ≡ false
+  pub lent : is_lent p (method_at p fr.method) origin.kind ≡ true → (is_owning_fact p origin fact ≡ false)
+      × (is_held fact.mode ≡ true → (constructs (method_at p fr.method) ≡ true) × (makes_alone (method_at p fr.method) ≡ false))
+  pub free : x.finished ≡ true → is_held fact.mode ≡ true → makes_alone (method_at p fr.method) ≡ true
+      → (away ≡ false) × (is_heavy_class p origin.class ≡ true) × IsInField p fr fact.places x.owner
   pub lends : fact.mode ≡ modes.Lent → x.finished ≡ true → (away ≡ false) × IsLentFrom p h frs o x.owner
   pub makes : constructs (method_at p fr.method) ≡ true → is_this_origin origin.kind ≡ true → x.finished ≡ false
   pub unrenewed : x.finished ≡ true → tells_calls p fr.method origin fact ≡ true → is_apart p h frs fr o x fact ≡ true → anew ≡ false
   pub known : x.finished ≡ true → tells_calls p fr.method origin fact ≡ true → is_apart p h frs fr o x fact ≡ true
       → (away ≡ false) × (is_frame_from (length frs + 1) x.owner ≡ false) × (set.is_subset fact.called (set.union (asked_of p (method_at p fr.method) origin.kind) x.called) ≡ true)
+      × HasOlderHolder h frs x.owner
   pub fields : (k : ℕ) → k < 16 → is_heavy_class p origin.class ≡ true → has fact.places (place.Field k) ≡ true → fits_field p fr.method k origin.class ≡ true
   pub held : (k : ℕ) → k < 16 → has fact.places (place.Field k) ≡ true → is_heavy_field p fr.method (place.Field k) ≡ true
       → (fact.mode ≡ modes.Held) × (is_heavy_class p origin.class ≡ true)
   pub outside : constructs (method_at p fr.method) ≡ false → (k : ℕ) → k < 16 → has fact.places (place.Field k) ≡ true → fact.mode ≡ modes.Held
 
--- the place, which holds the object, is in a fact that does not say that the frame owns it
+-- the place, which holds the object, is in a fact that claims nothing of it
 pub record IsUnowned (p : Program) (h : HeapContents) (away anew : Bool) (frs : List Frame) (fr : Frame) (q : Place) (o : ℕ) (x : Object) : Type 0 where
   pub covers : Covers p h away anew frs fr o x
   pub here : has covers.fact.places q ≡ true
-  pub unowned : is_owning_fact p covers.origin covers.fact ≡ false
+  pub unowned : claims p (method_at p fr.method) covers.origin covers.fact ≡ false
 
--- The fact says that the frame owns the object, which it does unless it is given away, and no other fact says so: each place that holds the
--- object is in this fact, or in one that does not.
+-- The fact claims that the frame owns the object, or a field of `this`; where it says that the frame does, that is so unless it is given away; and no other fact claims
+-- anything of it: each place that holds the object is in this fact, or in one that does not.
 pub record IsOwned (p : Program) (h : HeapContents) (away anew : Bool) (frs : List Frame) (fr : Frame) (o : ℕ) (x : Object) (c : Covers p h away anew frs fr o x) : Type 0 where
-  pub owning : is_owning_fact p c.origin c.fact ≡ true
-  pub owner : away ≡ false → x.owner ≡ owners.Frame (length frs + 1)
+  pub owning : claims p (method_at p fr.method) c.origin c.fact ≡ true
+  pub owner : away ≡ false → is_own c.fact.mode ≡ true → x.owner ≡ owners.Frame (length frs + 1)
   pub others : (q : Place) → IsSmall q → root_of h (place_value p h fr.method fr.locals q) ≡ Some o → (has c.fact.places q ≡ true) ⊎ IsUnowned p h away anew frs fr q o x
 
 -- the place is in such a fact

@@ -16,9 +16,10 @@ use Rattle.program_model.specs.declared.program.Method.{Method}
 use Rattle.program_model.specs.declared.program.ParamSig.{ParamSig}
 use Rattle.program_model.specs.declared.program.Program.{Program}
 use Rattle.program_model.specs.declared.program.Promise.{Promise}
+use Rattle.program_model.specs.declared.tree.Body.{Body}
 use Rattle.program_model.specs.declared.kinds.Target.{Target}
 use Rattle.program_model.specs.declared.kinds.Target.TheVariants as promised
-use Rattle.program_model.specs.Lookups.{field_at, method_at}
+use Rattle.program_model.specs.Lookups.{body_at, field_at, method_at}
 use Rattle.program_model.specs.Overrides.{are_types, is_abstract, is_library}
 use Rattle.program_model.specs.SuperTests.{has_class, is_under}
 use Rattle.program_model.specs.Validity.{is_class_type}
@@ -28,7 +29,7 @@ use Rattle.must_call_sets.specs.OwningCases.{gives_as_alias}
 use Rattle.ownership_rules.specs.OverrideCases.{has_other_owning, has_other_result, has_wider_result}
 use Rattle.ownership_rules.specs.Signatures.{is_at, promised_names}
 use Rattle.java_control.specs.Calls.{called_method, is_reset_of_this}
-use Rattle.java_control.specs.Owned.{is_owning}
+use Rattle.java_control.specs.Owned.{declares_field, is_owning}
 use Rattle.java_control.specs.Remaining.{Todo}
 use Rattle.java_control.specs.declared.action.Action.{Action}
 use Rattle.java_control.specs.declared.action.Action.TheVariants as actions
@@ -39,9 +40,9 @@ use Rattle.heap_laws.specs.LedgerCallsCalls.{overriding_in}
 use Rattle.ownership_rules.specs.Callees.{callee}
 use Rattle.heap_laws.specs.Results.{is_result_under}
 use Rattle.place_laws.specs.Obligations.{is_library_method}
+use Rattle.place_laws.specs.ClassOperands.{field_type}
 use Rattle.place_laws.specs.Places.{SetsLocals}
 use Rattle.fact_laws.specs.Storing.{HasStored}
-use Rattle.agreement.specs.Renewable.{KeepsTextsOut}
 
 -- ---- calls
 
@@ -126,8 +127,6 @@ abbrev pub IsPlainAction : Program → Action → Type 0
 IsPlainAction p (actions.Copy x y) = SetsLocals (actions.Copy x y)
 IsPlainAction p (actions.Move x y) = SetsLocals (actions.Move x y)
 IsPlainAction p (actions.Plain x v) = IsPlainRead p v
-IsPlainAction p (actions.Put f d this) = is_owning p f ≡ false
-IsPlainAction p (actions.PutOwn f d) = Unit {0}
 IsPlainAction p (actions.Call m d n form) = IsPlainCall p m
 IsPlainAction p (actions.New m d n) = IsPlainCall p m
 IsPlainAction p (actions.Super m d n) = IsPlainCall p m × (constructs (method_at p m) ≡ true) × (alias_in (method_at p m) ≡ None)
@@ -154,19 +153,20 @@ abbrev pub all_owe_nothing : Program → Option VType → Bool
 all_owe_nothing p (Some (types.Obj c)) = not (is_under p p.core.string c) && list_all (λ (k : Class). not (has_class k.above.items c) || owes_nothing p k) p.classes.items
 all_owe_nothing p t = false
 
--- A call that creates an obligation anew, at the control `k`, does so of `this` only in a body in which no owning field has a place, and in a constructor behind no store into an
--- owning field. Where the program declares owning fields, no text stands where the rule on them looks.
+-- A call that creates an obligation anew, at the control `k`, does so of `this` only in a body in which no owning field has a place.
 pub record IsPlainReset (p : Program) (b : BodyId) (k : List Todo) (a : Action) : Type 0 where
   pub other : is_reset_of_this p a ≡ true → (f : FieldId) → has_field_place p b f ≡ false
-  pub before : is_constructor p b ≡ true → HasStored p b k → ⊥
-  pub seen : ((f : FieldId) → is_owning p f ≡ false) ⊎ KeepsTextsOut p
 
 -- the action at the control creates no obligation anew, or does so plainly
 abbrev pub ResetsPlainly : Program → BodyId → List Todo → Action → Type 0
 ResetsPlainly p b k a = (reset_in (callee p a) ≡ None) ⊎ IsPlainReset p b k a
 
--- Each step that a control of a body can reach has one of the plain forms; owning fields are stored in constructors of the class that
--- declares them, and no super constructor is called behind such a store; no class with owning fields is the one whose constructor is called so; and
+-- The owning field is one of `this`, which the body's class declares, and of type `String`: so it is where another operator than `=` stores it (JLS 15.26.2).
+abbrev pub IsTextUpdate : Program → Body → FieldId → Bool → Type 0
+IsTextUpdate p b f through_this = (through_this ≡ true) × (declares_field p b f ≡ true) × (field_type p f ≡ Some types.Str)
+
+-- Each step that a control of a body can reach has one of the plain forms; owning fields are stored by `=` in constructors of the class that
+-- declares them, and otherwise by `+=` on texts alone; no super constructor is called behind such a store; no class with owning fields is the one whose constructor is called so; and
 -- objects with owning fields run their own must-call methods. A method in which an owning field has a place creates the obligation of `this` not anew, and where bodies call what
 -- creates one anew, they do so plainly.
 pub record HasPlainForms (p : Program) : Type 0 where
@@ -178,6 +178,8 @@ pub record HasPlainForms (p : Program) : Type 0 where
       → slice_get ((relation_of p b).next k) i ≡ Some t → calls_constructor p t.action ≡ true → is_constructor p b ≡ true
   pub stores : (b : BodyId) {k : List Todo} (i : ℕ) (t : Move (List Todo)) (f : FieldId) (d : ℕ) → Comes (relation_of p b) k
       → slice_get ((relation_of p b).next k) i ≡ Some t → t.action ≡ actions.PutOwn f d → (is_constructor p b ≡ true) × (has_field_place p b f ≡ true)
+  pub updates : (b : BodyId) (x : Body) {k : List Todo} (i : ℕ) (t : Move (List Todo)) (f : FieldId) (d : ℕ) (through_this : Bool) → body_at p b ≡ Some x → Comes (relation_of p b) k
+      → slice_get ((relation_of p b).next k) i ≡ Some t → t.action ≡ actions.Put f d through_this → is_owning p f ≡ true → IsTextUpdate p x f through_this
   pub parents : (b : BodyId) {k : List Todo} (i : ℕ) (t : Move (List Todo)) (m : MethodId) (f : FieldId) (x : Field) → Comes (relation_of p b) k
       → slice_get ((relation_of p b).next k) i ≡ Some t → calls_constructor p t.action ≡ true → called_method t.action ≡ Some m → field_at p f ≡ Some x → x.owning ≡ true
       → is_class_of x.class (method_at p m) ≡ false

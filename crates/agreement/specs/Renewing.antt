@@ -1,9 +1,15 @@
 -- Calls that create an obligation anew, while they go on: whose obligation they create anew, how the facts of a frame that waits for such a call
 -- are read, and where the owner of an object is that a frame has in such a call's hands.
-use Rattle.std.specs.Prelude.{◌≡◌, ◌⊎◌, ℕ, ◌+◌, Bool, true, false, Option, Some, None, List, [], ◌∷◌, length}
+use Rattle.std.specs.Prelude.{◌≡◌, ◌⊎◌, ℕ, ◌+◌, Bool, true, false, not, ◌&&◌, Option, Some, None, List, [], ◌∷◌, length}
 use Rattle.std.specs.List.{list_any}
+use Rattle.program_model.specs.declared.kinds.FieldId.{FieldId}
+use Rattle.program_model.specs.declared.kinds.MethodId.{MethodId}
+use Rattle.program_model.specs.declared.program.Field.{Field}
+use Rattle.program_model.specs.declared.program.Method.{Method}
 use Rattle.program_model.specs.declared.program.Program.{Program}
-use Rattle.ownership_rules.specs.Bodies.{reset_in}
+use Rattle.program_model.specs.Lookups.{field_at, method_at}
+use Rattle.ownership_rules.specs.Bodies.{alias_in, constructs, is_class_of, reset_in}
+use Rattle.ownership_rules.specs.Signatures.{is_present}
 use Rattle.ownership_rules.specs.Callees.{callee}
 use Rattle.ownership_rules.specs.MustCallSets.{no_names}
 use Rattle.java_control.specs.declared.action.Action.{Action}
@@ -13,6 +19,7 @@ use Rattle.ledger_state.specs.Heaps.{root_of, same_root}
 use Rattle.ledger_state.specs.declared.entry.Owner.{Owner}
 use Rattle.ledger_state.specs.declared.entry.Owner.TheVariants as owners
 use Rattle.ledger_state.specs.declared.locals.Locals.{Locals}
+use Rattle.ledger_state.specs.declared.value.Value.TheVariants as values
 use Rattle.heap_laws.specs.LedgerCallsCalls.{operand_of}
 use Rattle.ledger_runs.specs.Configuration.{Frame}
 use Rattle.ledger_runs.specs.Choosing.{frame_steps}
@@ -47,8 +54,30 @@ fact_as false f = f
 
 -- ---- where the owner is
 
+-- the method is a constructor without an aliased argument
+abbrev pub makes_alone : Option Method → Bool
+makes_alone m = constructs m && not (is_present (alias_in m))
+
+-- it is an owning field of the method's class
+abbrev pub is_declared_beside : Program → MethodId → Option Field → Bool
+is_declared_beside p m None = false
+is_declared_beside p m (Some x) = x.owning && is_class_of x.class (method_at p m)
+
+-- an owning field of `this`, of the class of the frame's method, owns the object
+pub record IsOwnedByThis (p : Program) (fr : Frame) (owner : Owner) : Type 0 where
+  pub field : FieldId
+  pub declared : is_declared_beside p fr.method (field_at p field) ≡ true
+  pub holder : ℕ
+  pub runs : fr.locals.this ≡ values.Object holder
+  pub owns : owner ≡ owners.Field holder field
+
+-- the frame runs a constructor without an aliased argument, and an owning field of `this` owns the object
+abbrev pub IsHeldBy : Program → Frame → Owner → Type 0
+IsHeldBy p fr owner = (makes_alone (method_at p fr.method) ≡ true) × IsOwnedByThis p fr owner
+
 -- A frame, where `frs` are the frames below it, began with a call that creates the obligation of object `o` anew: the frame that waits for this call owns
--- the object, or it began with such a call itself, and so on down to the owner.
+-- the object, or it began with such a call itself, and so on down to the owner, or the frame is a constructor that has the object in a field of `this`.
 abbrev pub IsLentFrom : Program → HeapContents → List Frame → ℕ → Owner → Type 0
 IsLentFrom p h [] o owner = ⊥
-IsLentFrom p h (fr ∷ frs) o owner = (is_renewed p h fr o ≡ true) × ((owner ≡ owners.Frame (length frs + 1)) ⊎ IsLentFrom p h frs o owner)
+IsLentFrom p h (fr ∷ frs) o owner =
+    (is_renewed p h fr o ≡ true) × ((owner ≡ owners.Frame (length frs + 1)) ⊎ (IsLentFrom p h frs o owner ⊎ IsHeldBy p fr owner))

@@ -1,5 +1,5 @@
 -- The store into an owning field of `this`.
-use Rattle.std.specs.Prelude.{is_some, not, ◌&&◌, ◌||◌}
+use Rattle.std.specs.Prelude.{is_some, not, ◌&&◌}
 use Rattle.std.proofs.lemmas.Bool.{and_parts, not-true}
 use Rattle.std.specs.FinSet as set
 use Rattle.std.proofs.Common.{◌≡◌, ◌⊎◌, ℕ, zero, suc, Bool, true, false, true≢false, Option, Some, None, List, [], ◌∷◌, slice_get, nat_eq, refl, sym, ap, ◌∙◌, subst, inl, inr, IsSomeAnd, eqb-true, eq-eqb}
@@ -18,7 +18,7 @@ use Rattle.program_model.specs.Validity.{MayHaveBody}
 use Rattle.program_model.specs.declared.program.Class.{Class}
 use Rattle.ledger_steps.specs.LedgerCallsCalls.{alias_position as alias_of, body_of, object_by}
 use Rattle.must_call_sets.specs.Bodies.{alias_in, alias_position, constructs, has_field_place, is_class_of, is_constructor_kind, is_field_in, method_in, method_of}
-use Rattle.must_call_sets.specs.MustCallSets.{must_of, must_of_type}
+use Rattle.must_call_sets.specs.MustCallSets.{is_heavy_class, must_of, must_of_type}
 use Rattle.java_control.specs.Calls.{called_method}
 use Rattle.java_control.specs.Control.{Step}
 use Rattle.java_control.specs.Owned.{is_owning, is_owning_field}
@@ -46,25 +46,22 @@ use Rattle.covering_laws.specs.PlainForms.{HasPlainForms, calls_constructor}
 use Rattle.covering_laws.specs.Places.{class_of_method}
 use Rattle.covering_laws.specs.Naming.{IsOfItsKind}
 use Rattle.covering_laws.proofs.NamedReached.{names_what_is_there}
-use Rattle.covering_laws.specs.Covering.{HoldsHeavy}
-use Rattle.rlc_base.proofs.SetLaws.{within_self, within_trans}
+use Rattle.rlc_base.proofs.SetLaws.{within_self}
 use Rattle.covering_laws.specs.Heaps.{Evolves, GoesOn, HasEarlierLinks}
 use Rattle.covering_laws.proofs.HeapLaws.{roots_go_on-root, roots_of_links-absent}
 use Rattle.covering_laws.specs.Stores.{IsMovedIn, IsStored}
 use Rattle.covering_laws.proofs.Fields.{holds_here, holds_other}
-use Rattle.covering_laws.proofs.StoredObjects.{bound_back, stored_back, stored_forward, stored_goes_on, unfinished_stays}
+use Rattle.covering_laws.proofs.StoredObjects.{bound_back, stored_back, stored_forward, stored_gives_up, stored_goes_on, unfinished_stays}
 use Rattle.covering_laws.proofs.Ready.{step_there}
 use Rattle.covering_laws.proofs.Unmet.{may_lies}
-use Rattle.covering_laws.proofs.CoveredFieldLaws.{overwritten_is_met}
-use Rattle.covering_laws.specs.FieldContents.{FieldsHold, HaveContents, IsContent, LinksLead, is_made_in, OwningFieldsOwn}
+use Rattle.covering_laws.specs.FieldContents.{FieldsHold, HaveContents, IsContent, LinksLead, OwningFieldsOwn, has_obligation, is_made_in}
 use Rattle.covering_laws.specs.PlaceFacts.{IsCovered, gives_none, renews_none}
-use Rattle.covering_laws.specs.Renewable.{IsFollowed, KeepsTextsOut}
+use Rattle.covering_laws.specs.Renewable.{IsFollowed}
 use Rattle.covering_laws.specs.Sight.{ActsInSight}
 use Rattle.covering_laws.proofs.KeptArguments.{argument_alone, this_alone}
 use Rattle.covering_laws.proofs.StoreJoins.{unlinked_root}
-use Rattle.content_laws.proofs.Ends.{heavy_field_by, holds_heavy}
-use Rattle.content_laws.proofs.Finished.{alias_makes_none, made_by_none}
-use Rattle.content_laws.proofs.Goes.{content_goes_on, led_there, root_stays, roots_by_links, unmet_is_heavy, not_the_librarys_owes}
+use Rattle.content_laws.proofs.Ends.{heavy_field_by}
+use Rattle.content_laws.proofs.Goes.{content_goes_on, led_there, not_the_librarys_owes, obligation_is_heavy, root_stays, roots_by_links}
 use Rattle.content_laws.proofs.Leading.{HoldsOn}
 use Rattle.content_laws.proofs.LinkSteps.{leads_stay}
 use Rattle.content_laws.proofs.Leaves.{given_no_field}
@@ -135,6 +132,11 @@ may_library : (p : Program) (t : VType) (x : Object) → may_move p t x ≡ true
 may_library p t x may =
     not-true (is_library_owner x.owner) (and_parts x.finished (not (is_library_owner x.owner))
     (and_parts (x.finished && not (is_library_owner x.owner)) (set.is_subset (must_of p x.class) (must_of_type p t)) may).0).1
+
+-- and finished
+may_finished : (p : Program) (t : VType) (x : Object) → may_move p t x ≡ true → x.finished ≡ true
+may_finished p t x may =
+    (and_parts x.finished (not (is_library_owner x.owner)) (and_parts (x.finished && not (is_library_owner x.owner)) (set.is_subset (must_of p x.class) (must_of_type p t)) may).0).0
 
 all_true : (a b c : Bool) → a ≡ true → b ≡ true → c ≡ true → (a && b && c) ≡ true
 all_true true true true x y z = refl
@@ -272,13 +274,6 @@ module _ (p : Program) (ac : Accept p) (forms' : HasPlainForms p) (h : HeapConte
   same_alias None = refl
   same_alias (Some m) = refl
 
-  -- a constructor of an alias owns nothing that is unmet in its object's fields
-  no_content : (a : ℕ) → alias_in (method_at p fr.method) ≡ Some a → (o : ℕ) (x : Object) (g : FieldId) → IsContent p (fr ∷ frs) h o x w g → ⊥
-  no_content a alias o x g content =
-      made_by_none p w content.field.class frs (hold.new.0 w (f, field, declared.1, declared.2, in_class) constructor this)
-      (sym (ap (λ (b : Bool). b || is_made_in p w content.field.class frs) (alias_makes_none p w fr w content.field.class (ap is_some (same_alias (method_at p fr.method) ∙ alias))))
-      ∙ content.made (ap (λ (z : Object). z.finished) (let both : Some content.holder ≡ Some self = sym content.at ∙ self_at in (let one : content.holder ≡ self = cc in one)) ∙ unfinished))
-
   -- the type bounds the obligation of what moves
   own_bound : (o : ℕ) (x : Object) → object_at h o ≡ Some x → is_unmet x ≡ true → IsMovedIn p h f v o x → set.is_subset x.must (must_of p x.class) ≡ true
   own_bound o x at unmet moved = bounded o x at (roots_go_on-root h v o x links moved.root at) unmet (type_of_field (field_at p f)) moved.may
@@ -286,34 +281,42 @@ module _ (p : Program) (ac : Accept p) (forms' : HasPlainForms p) (h : HeapConte
   type_bound : (o : ℕ) (x : Object) → IsMovedIn p h f v o x → set.is_subset (must_of p x.class) (must_of_type p field.vtype) ≡ true
   type_bound o x moved = ap (λ (t : VType). set.is_subset (must_of p x.class) (must_of_type p t)) (sym (ap type_of_field declared.1)) ∙ may_lies p (type_of_field (field_at p f)) x moved.may
 
-  -- nor does it take what is unmet, but its argument, which is bound
-  pub unmet_is_bound : (a : ℕ) → alias_in (method_at p fr.method) ≡ Some a → (o : ℕ) (x : Object) → object_at h o ≡ Some x → is_unmet x ≡ true → IsMovedIn p h f v o x → bound ≡ true
-  unmet_is_bound zero alias o x at unmet moved =
+  -- a constructor of an alias takes no object with an obligation, but its argument, which is bound
+  pub heavy_is_bound : (a : ℕ) → alias_in (method_at p fr.method) ≡ Some a → (o : ℕ) (x : Object) → object_at h o ≡ Some x → is_heavy_class p x.class ≡ true → IsMovedIn p h f v o x → bound ≡ true
+  heavy_is_bound zero alias o x at heavy moved =
       let root : root_of h fr.locals.this ≡ Some o =
       this_alone p ac forms' h frs fr st covered i d s f o x here is constructor (alias_is ∙ alias)
-      (heavy_field_by p f field declared.1 x unmet (within_trans x.must (must_of p x.class) (must_of_type p field.vtype) (own_bound o x at unmet moved) (type_bound o x moved)))
-      moved.root at (unmet_is_heavy p x unmet (own_bound o x at unmet moved)) (not_the_librarys_owes x (may_library p (type_of_field (field_at p f)) x moved.may)) in
+      (heavy_field_by p f field declared.1 x.class heavy (type_bound o x moved))
+      moved.root at heavy (not_the_librarys_owes x (may_library p (type_of_field (field_at p f)) x moved.may)) in
       let same : w ≡ o = (let both : Some w ≡ Some o = sym (ap (root_of h) this ∙ unlinked_root h links w self self_at unfinished) ∙ root in (let one : w ≡ o = cc in one)) in
       let one : self ≡ x = (let both : Some self ≡ Some x = sym self_at ∙ ap (object_at h) same ∙ at in (let it : self ≡ x = cc in it)) in
-      absurd (true≢false (sym (and_parts x.finished (not (set.is_subset x.must x.called)) unmet).0 ∙ ap (λ (z : Object). z.finished) (sym one) ∙ unfinished))
-  unmet_is_bound (suc a) alias o x at unmet moved =
+      absurd (true≢false (sym (may_finished p (type_of_field (field_at p f)) x moved.may) ∙ ap (λ (z : Object). z.finished) (sym one) ∙ unfinished))
+  heavy_is_bound (suc a) alias o x at heavy moved =
       bound_when h (method_at p fr.method) fr.locals v a o constructor alias moved.root
       (argument_alone p ac forms' h frs fr st covered i d s f o x a here is constructor (alias_is ∙ alias)
-      (heavy_field_by p f field declared.1 x unmet (within_trans x.must (must_of p x.class) (must_of_type p field.vtype) (own_bound o x at unmet moved) (type_bound o x moved)))
-      moved.root at (unmet_is_heavy p x unmet (own_bound o x at unmet moved)) (not_the_librarys_owes x (may_library p (type_of_field (field_at p f)) x moved.may)))
+      (heavy_field_by p f field declared.1 x.class heavy (type_bound o x moved))
+      moved.root at heavy (not_the_librarys_owes x (may_library p (type_of_field (field_at p f)) x moved.may)))
 
   -- the frame after the store makes what it made
   module _ (own' : PromisesItsOwn p) (after : Frame) (same_makes : (u : ℕ) (c : ClassId) → is_made_in p u c (after ∷ frs) ≡ is_made_in p u c (fr ∷ frs)) where
-    old_content : (o : ℕ) (x : Object) (u : ℕ) (g : FieldId) → object_at h o ≡ Some x → object_at k o ≡ Some x → is_unmet x ≡ true → x.owner ≡ owners.Field u g → IsContent p (after ∷ frs) k o x u g
-    old_content o x u g at now unmet owner =
+    old_content : (o : ℕ) (x : Object) (u : ℕ) (g : FieldId) → object_at h o ≡ Some x → object_at k o ≡ Some x → has_obligation p x ≡ true → x.owner ≡ owners.Field u g → IsContent p (after ∷ frs) k o x u g
+    old_content o x u g at now has owner =
         content_goes_on p own' h k NoName (fr ∷ frs) (after ∷ frs) o x x u g content at now (record { class = refl; link = refl; finished = refl; must = refl; called = within_self x.called })
-        (named u content.holder content.at) held (led_there p h hold.leads (field_value p h u g) o x content.held at (unmet_is_heavy p x unmet content.own) (not_the_librarys_owes x (ap is_library_owner owner))) (λ m e n fin there class interest must never. absurd never) (λ un' made. same_makes u content.field.class ∙ made)
+        (named u content.holder content.at) held (led_there p h hold.leads (field_value p h u g) o x content.held at (obligation_is_heavy p x has content.own) (not_the_librarys_owes x (ap is_library_owner owner))) (λ m e n fin there class interest must never. absurd never) (λ un' made. same_makes u content.field.class ∙ made)
       where
         content : IsContent p (fr ∷ frs) h o x u g
-        content = hold.contents o x u g at unmet owner
+        content = hold.contents o x u g at has owner
 
         value_held' : root_of h v ≡ Some o → root_of k (field_value p k w f) ≡ Some o
         value_held' root = value_held o x root at
+
+        -- what the field gives up it owns no more
+        not_displaced : (u ≡ w) × (g ≡ f) → (root_of h v ≡ Some o → ⊥) → ⊥
+        not_displaced same other =
+            let mine : x.owner ≡ owners.Field w f = owner ∙ ap (λ (z : ℕ). owners.Field z g) same.0 ∙ ap (owners.Field w) same.1 in
+            let here' : root_of h (field_value p h w f) ≡ Some o = sym (ap (λ (z : ℕ). root_of h (field_value p h z g)) same.0 ∙ ap (λ (z : FieldId). root_of h (field_value p h w z)) same.1) ∙ content.held in
+            let gone = stored_gives_up p h w f v bound o x x (still bound) at (record { owner = mine; held = here'; other = other }) now in
+            given_no_field x w f (ap (λ (z : Object). z.owner) (sym gone) ∙ mine)
 
         held : root_of k (field_value p k u g) ≡ Some o
         held = elim (one_field w u f g) [
@@ -321,18 +324,13 @@ module _ (p : Program) (ac : Accept p) (forms' : HasPlainForms p) (h : HeapConte
           | inl same ↦ subst (λ (z : ℕ). root_of k (field_value p k z g) ≡ Some o) (sym same.0) (subst (λ (z : FieldId). root_of k (field_value p k w z) ≡ Some o) (sym same.1)
               (value_held' (elim (root_is (root_of h v) o) [
                 | inl root ↦ root
-                | inr other ↦ absurd (elim form [
-                  | inr alias ↦ no_content alias.0 alias.1 o x g (subst (λ (z : ℕ). IsContent p (fr ∷ frs) h o x z g) same.0 content)
-                  | inl none ↦ true≢false (sym unmet ∙ overwritten_is_met p ac forms' h frs fr st (alias_is ∙ none) covered i d s f w o x here is
-                      (subst (λ (z : FieldId). HoldsHeavy p h fr w z o x) same.1 (subst (λ (z : ℕ). HoldsHeavy p h fr z g o x) same.0 (holds_heavy p h (fr ∷ frs) fr o x u g content at unmet owner (this ∙ ap values.Object (sym same.0)))))
-                      other)
-                ])
+                | inr other ↦ absurd (not_displaced same other)
               ])))
         ]
 
-    new_content : alias_in (method_at p fr.method) ≡ None → (o : ℕ) (x : Object) → object_at h o ≡ Some x → is_unmet x ≡ true → IsMovedIn p h f v o x
+    new_content : alias_in (method_at p fr.method) ≡ None → (o : ℕ) (x : Object) → object_at h o ≡ Some x → IsMovedIn p h f v o x
         → IsContent p (after ∷ frs) k o (with_owner (owners.Field w f) x) w f
-    new_content none o x at unmet moved = record {
+    new_content none o x at moved = record {
       holder = holder.0;
       at = holder.1;
       field = field;
@@ -342,7 +340,7 @@ module _ (p : Program) (ac : Accept p) (forms' : HasPlainForms p) (h : HeapConte
       owning = declared.2;
       held = value_held o x moved.root at;
       bounded = type_bound o x moved;
-      own = own_bound o x at unmet moved;
+      own = λ unmet. own_bound o x at unmet moved;
       whole = λ fin. absurd (true≢false (sym fin ∙ holder.2.finished ∙ unfinished));
       unlinked = holder.2.link ∙ free self.link refl;
       kept = λ fin. absurd (true≢false (sym fin ∙ holder.2.finished ∙ unfinished));
@@ -366,32 +364,33 @@ module _ (p : Program) (ac : Accept p) (forms' : HasPlainForms p) (h : HeapConte
         making : is_made_in p w field.class (fr ∷ frs) ≡ true
         making = rw (constructor, in_class, this, eq-eqb w w refl, same_alias (method_at p fr.method), none) refl
 
-    kept_content : (o : ℕ) (y : Object) (u : ℕ) (g : FieldId) → object_at k o ≡ Some y → is_unmet y ≡ true → y.owner ≡ owners.Field u g → (x : Object) → object_at h o ≡ Some x → y ≡ x → IsContent p (after ∷ frs) k o y u g
-    kept_content o y u g at unmet owner x before same =
+    kept_content : (o : ℕ) (y : Object) (u : ℕ) (g : FieldId) → object_at k o ≡ Some y → has_obligation p y ≡ true → y.owner ≡ owners.Field u g → (x : Object) → object_at h o ≡ Some x → y ≡ x → IsContent p (after ∷ frs) k o y u g
+    kept_content o y u g at has owner x before same =
         subst (λ (z : Object). IsContent p (after ∷ frs) k o z u g) (sym same)
-        (old_content o x u g before (at ∙ ap Some same) (ap is_unmet (sym same) ∙ unmet) (ap (λ (z : Object). z.owner) (sym same) ∙ owner))
+        (old_content o x u g before (at ∙ ap Some same) (ap (has_obligation p) (sym same) ∙ has) (ap (λ (z : Object). z.owner) (sym same) ∙ owner))
 
     pub stored_contents : HaveContents p (after ∷ frs) k
-    stored_contents o y u g at unmet owner = go bound refl at
+    stored_contents o y u g at has owner = go bound refl at
       where
         taken_content : bound ≡ false → (x : Object) → object_at h o ≡ Some x → IsMovedIn p h f v o x → y ≡ with_owner (owners.Field w f) x → IsContent p (after ∷ frs) k o y u g
         taken_content free x before moved taken =
             let field_is : owners.Field w f ≡ owners.Field u g = ap (λ (z : Object). z.owner) (sym taken) ∙ owner in
             let same_object : w ≡ u = cc in
             let same_one : f ≡ g = cc in
-            let unmet' : is_unmet x ≡ true = ap is_unmet (sym taken) ∙ unmet in
+            let had : has_obligation p x ≡ true = ap (has_obligation p) (sym taken) ∙ has in
+            let heavy = obligation_is_heavy p x had (λ unmet. own_bound o x before unmet moved) in
             subst (λ (z : ℕ). IsContent p (after ∷ frs) k o y z g) same_object
             (subst (λ (z : FieldId). IsContent p (after ∷ frs) k o y w z) same_one
             (subst (λ (z : Object). IsContent p (after ∷ frs) k o z w f) (sym taken)
-            (new_content (elim form [ inl none ↦ none | inr alias ↦ absurd (true≢false (sym (unmet_is_bound alias.0 alias.1 o x before unmet' moved) ∙ free)) ]) o x before unmet' moved)))
+            (new_content (elim form [ inl none ↦ none | inr alias ↦ absurd (true≢false (sym (heavy_is_bound alias.0 alias.1 o x before heavy moved) ∙ free)) ]) o x before moved)))
 
         go : (b : Bool) → bound ≡ b → object_at (stored_owning p h w f b v) o ≡ Some y → IsContent p (after ∷ frs) k o y u g
         go true tied at' = let x = bound_back p h w f v o y at' in elim x.2 [
-          | inl same ↦ kept_content o y u g at unmet owner x.0 x.1 same
+          | inl same ↦ kept_content o y u g at has owner x.0 x.1 same
           | inr gone ↦ absurd (given_no_field x.0 u g (ap (λ (z : Object). z.owner) (sym gone.1) ∙ owner))
         ]
         go false free at' = let x = stored_back p h w f v false o y (still false) at' in elim x.2 [
-          | inl same ↦ kept_content o y u g at unmet owner x.0 x.1 same
+          | inl same ↦ kept_content o y u g at has owner x.0 x.1 same
           | inr more ↦ elim more [
             | inl gone ↦ absurd (given_no_field x.0 u g (ap (λ (z : Object). z.owner) (sym gone.1) ∙ owner))
             | inr taken ↦ taken_content free x.0 x.1 taken.0 taken.1
@@ -420,16 +419,16 @@ module _ (p : Program) (ac : Accept p) (forms' : HasPlainForms p) (h : HeapConte
   pub store_owning : ActsInSight p h fr → OwningFieldsOwn p k
   store_owning sight o y u g at owner = let z = stored_back p h w f v bound o y (still bound) at in by z.0 z.1 z.2
     where
-      by : (x : Object) → object_at h o ≡ Some x → IsStored p h w f v o x y → (is_owning p g ≡ true) × (KeepsTextsOut p → IsFollowed p y.class)
+      by : (x : Object) → object_at h o ≡ Some x → IsStored p h w f v o x y → (is_owning p g ≡ true) × IsFollowed p y.class
       by x before (inl same) =
           let was = hold.owning o x u g before (ap (λ (z : Object). z.owner) (sym same) ∙ owner) in
-          (was.0, λ out. subst (λ (z : Object). IsFollowed p z.class) (sym same) (was.1 out))
+          (was.0, subst (λ (z : Object). IsFollowed p z.class) (sym same) was.1)
       by x before (inr (inl gone)) = absurd (given_no_field x u g (ap (λ (z : Object). z.owner) (sym gone.1) ∙ owner))
       by x before (inr (inr moved)) =
           let same : owners.Field w f ≡ owners.Field u g = ap (λ (z : Object). z.owner) (sym moved.1) ∙ owner in
           let one : f ≡ g = cc in (
             ap (is_owning p) (sym one) ∙ (ap is_owning_field declared.1 ∙ declared.2),
-            λ out. subst (IsFollowed p) (sym (ap (λ (z : Object). z.class) moved.1)) (sight.stores out i s f declared.0 d o x here is declared.1 declared.2 moved.0.root before),
+            subst (IsFollowed p) (sym (ap (λ (z : Object). z.class) moved.1)) (sight.stores i s f declared.0 d o x here is declared.1 declared.2 moved.0.root before),
           )
 
   pub stored_leads : LinksLead p k

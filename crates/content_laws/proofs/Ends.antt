@@ -1,8 +1,8 @@
 -- The end of a frame and of the call at which the frame below waits.
+use Rattle.covering_laws.specs.Renewing.{is_renewed}
 use Rattle.std.specs.Prelude.{not}
 use Rattle.std.specs.FinSet as set
-use Rattle.std.proofs.Common.{◌≡◌, ℕ, true, false, Option, Some, None, List, ◌∷◌, slice_get, refl, sym, ap, ◌∙◌, inr, eq-eqb}
-use Rattle.std.proofs.lemmas.Bool.{and_parts}
+use Rattle.std.proofs.Common.{◌≡◌, ℕ, Bool, true, false, true≢false, Option, Some, None, List, ◌∷◌, slice_get, refl, sym, ap, ◌∙◌, inr, eq-eqb}
 use Rattle.rlc_base.proofs.SetLaws.{within_trans}
 use Rattle.rlc_base.specs.declared.name_id.NameId.{NameId}
 use Rattle.program_model.specs.declared.kinds.ClassId.{ClassId}
@@ -13,9 +13,8 @@ use Rattle.program_model.specs.declared.program.Method.{Method}
 use Rattle.program_model.specs.declared.program.Program.{Program}
 use Rattle.program_model.specs.Lookups.{field_at, method_at}
 use Rattle.program_model.specs.SuperTests.{is_class, is_under}
-use Rattle.program_model.specs.declared.kinds.VType.{VType}
 use Rattle.must_call_sets.specs.Bodies.{constructs, has_field_place, is_constructor_kind, is_field_in, is_finalizer, is_finalizer_in, method_in, method_of}
-use Rattle.must_call_sets.specs.MustCallSets.{is_empty, is_heavy_class, must_of, must_of_optional, must_of_type}
+use Rattle.must_call_sets.specs.MustCallSets.{is_empty, is_heavy_class, must_of, must_of_optional, must_of_type, no_names}
 use Rattle.must_call_sets.specs.Signatures.{type_of_field}
 use Rattle.java_control.specs.Calls.{called_method}
 use Rattle.java_control.specs.Control.{Step}
@@ -32,7 +31,7 @@ use Rattle.ledger_state.specs.declared.entry.Owner.TheVariants as owners
 use Rattle.ledger_state.specs.declared.object.Object.{Object}
 use Rattle.ledger_state.specs.declared.value.Value.{Value}
 use Rattle.ledger_state.specs.declared.value.Value.TheVariants as values
-use Rattle.ledger_obligations.specs.Obligations.{is_held_by, is_library_owner, is_unmet}
+use Rattle.ledger_obligations.specs.Obligations.{is_held_by, is_library_owner}
 use Rattle.ledger_steps.specs.LedgerCallsCalls.{operand_of}
 use Rattle.covering_laws.specs.Configuration.{Frame}
 use Rattle.covering_laws.specs.Choosing.{frame_steps}
@@ -44,34 +43,29 @@ use Rattle.covering_laws.proofs.CoveredFieldLaws.{promises_are_kept_at_end}
 use Rattle.covering_laws.proofs.Names.{of_interest}
 use Rattle.covering_laws.specs.FieldContents.{IsContent, IsDispatched, promised_on}
 use Rattle.covering_laws.specs.PlaceFacts.{IsCovered, gives_none, renews_none, is_field_of, is_heavy_in}
-use Rattle.covering_laws.proofs.FrameBirths.{heavy_by_unmet}
-use Rattle.covering_laws.proofs.Unmet.{object_type_of}
 use Rattle.content_laws.proofs.Goes.{not_the_librarys_owes}
 use Rattle.content_laws.specs.Going.{IsNotedBy}
 
--- ---- what an unmet content is
+-- ---- what a content with an obligation is
 
--- the type of a field that bounds the obligation of what is unmet has one
-pub heavy_field_by : (p : Program) (f : FieldId) (field : Field) → field_at p f ≡ Some field → (x : Object) → is_unmet x ≡ true → set.is_subset x.must (must_of_type p field.vtype) ≡ true → is_heavy_in p (Some f) ≡ true
-heavy_field_by p f field declared x unmet within =
-    let c = object_type_of p field.vtype x unmet within in
-    let heavy : is_heavy_class p c.0 ≡ true = heavy_by_unmet p c.0 x unmet (ap (λ (t : VType). set.is_subset x.must (must_of_type p t)) (sym c.1) ∙ within) in
-    ap (λ (y : Option Field). not (is_empty (must_of_optional p (type_of_field y)))) declared
-    ∙ ap (λ (t : VType). not (is_empty (must_of_type p t))) c.1 ∙ heavy
+-- the type of a field that bounds the obligation of a class has one, where the class has
+pub heavy_field_by : (p : Program) (f : FieldId) (field : Field) → field_at p f ≡ Some field → (c : ClassId) → is_heavy_class p c ≡ true → set.is_subset (must_of p c) (must_of_type p field.vtype) ≡ true → is_heavy_in p (Some f) ≡ true
+heavy_field_by p f field declared c heavy within = ap (λ (y : Option Field). not (is_empty (must_of_optional p (type_of_field y)))) declared ∙ go (is_empty (must_of_type p field.vtype)) refl
+  where
+    go : (b : Bool) → is_empty (must_of_type p field.vtype) ≡ b → not (is_empty (must_of_type p field.vtype)) ≡ true
+    go true light = absurd (true≢false (sym heavy ∙ ap not (within_trans (must_of p c) (must_of_type p field.vtype) no_names within light)))
+    go false some = ap not some
 
 module _ (p : Program) (h : HeapContents) (frs : List Frame) (fr : Frame) (o : ℕ) (x : Object) (w : ℕ) (f : FieldId) (content : IsContent p frs h o x w f) (at : object_at h o ≡ Some x)
-    (unmet : is_unmet x ≡ true) (owner : x.owner ≡ owners.Field w f) (this : fr.locals.this ≡ values.Object w) where
-  within_type : set.is_subset x.must (must_of_type p content.field.vtype) ≡ true
-  within_type = within_trans x.must (must_of p x.class) (must_of_type p content.field.vtype) content.own content.bounded
-
+    (class' : is_heavy_class p x.class ≡ true) (owner : x.owner ≡ owners.Field w f) (this : fr.locals.this ≡ values.Object w) where
   pub holds_heavy : HoldsHeavy p h fr w f o x
   holds_heavy = record {
     this = this;
     owning = ap is_owning_field content.declared ∙ content.owning;
-    heavy = heavy_field_by p f content.field content.declared x unmet within_type;
+    heavy = heavy_field_by p f content.field content.declared x.class class' content.bounded;
     held = content.held;
     at = at;
-    class = heavy_by_unmet p x.class x unmet content.own;
+    class = class';
     owes = not_the_librarys_owes x (ap is_library_owner owner);
   }
 
@@ -88,14 +82,14 @@ same_name a b same = ap (λ (k : ℕ). (let z : NameId = record { 0 = k } in z))
 module _ (p : Program) (ac : Accept p) (forms' : HasPlainForms p) (h : HeapContents) (fr caller : Frame) (frs : List Frame) (st : Stands p fr) (covered : IsCovered p h gives_none renews_none (caller ∷ frs) fr)
     (i : ℕ) (s : Step) (q : Completion) (here : slice_get (frame_steps p fr) i ≡ Some s) (is : s.action ≡ actions.End q) (j : ℕ) (t : Step) (there : slice_get (frame_steps p caller) j ≡ Some t)
     (named : MethodId) (n : Method) (called : called_method t.action ≡ Some named) (named_at : method_at p named ≡ Some n) (dispatched : IsDispatched p h fr caller) (made : HasMadeClasses p h) where
-  pub promise_is_kept : (o : ℕ) (x y : Object) (w : ℕ) (f : FieldId) → object_at h o ≡ Some x → is_unmet x ≡ true → GoesOn x y → x.owner ≡ owners.Field w f → (content : IsContent p (fr ∷ caller ∷ frs) h o x w f)
+  pub promise_is_kept : (o : ℕ) (x y : Object) (w : ℕ) (f : FieldId) → object_at h o ≡ Some x → is_heavy_class p x.class ≡ true → x.finished ≡ true → is_renewed p h caller o ≡ false → GoesOn x y → x.owner ≡ owners.Field w f → (content : IsContent p (fr ∷ caller ∷ frs) h o x w f)
       → (m : MethodId) (d : Method) (name : NameId) → method_at p m ≡ Some d → d.class ≡ content.holder.class → d.sig.interest ≡ Some name
       → set.contains (must_of p content.holder.class) name.0 ≡ true → IsNotedBy caller.locals t.action (Some n) w name.0 → set.is_subset (promised_on f d) y.called ≡ true
-  promise_is_kept o x y w f at unmet goes owner content m d name there' class interest must noted =
+  promise_is_kept o x y w f at heavy done still goes owner content m d name there' class interest must noted =
       within_trans (promised_on f d) x.called y.called
-      (promises_are_kept_at_end p ac h (caller ∷ frs) fr st covered i s q d f w o x here is method no_constructor place (inr finalizer) (holds_heavy p h (fr ∷ caller ∷ frs) fr o x w f content at unmet owner run.2)
-      (inr (no_constructor, owned))
-      (and_parts x.finished (not (set.is_subset x.must x.called)) unmet).0)
+      (promises_are_kept_at_end p ac h (caller ∷ frs) fr st covered i s q d f w o x here is method no_constructor place (inr finalizer) (holds_heavy p h (fr ∷ caller ∷ frs) fr o x w f content at heavy owner run.2)
+      (still, inr (inr (no_constructor, owned)))
+      done)
       goes.called
     where
       target : operand_of caller.locals t.action 0 ≡ values.Object w

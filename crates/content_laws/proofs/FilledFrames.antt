@@ -16,7 +16,9 @@ use Rattle.covering_laws.specs.Accept.{Accept}
 use Rattle.ledger_state.specs.Contents.{HeapContents}
 use Rattle.ledger_state.specs.Fields.{field_value}
 use Rattle.ledger_state.specs.declared.array.ArrayObject.{ArrayObject}
+use Rattle.ledger_state.specs.Values.{number_of}
 use Rattle.ledger_state.specs.declared.value.Value.{Value}
+use Rattle.ledger_state.specs.declared.value.Value.TheVariants as values
 use Rattle.ledger_steps.specs.LedgerCallsCalls.{argument_values, begun}
 use Rattle.covering_laws.specs.Configuration.{Frame}
 use Rattle.covering_laws.specs.Choosing.{body_id, frame_steps}
@@ -33,13 +35,17 @@ use Rattle.content_laws.proofs.ContentFrames.{constructor_new, new_object}
 use Rattle.content_laws.specs.Filled.{AreFilled, IsFilled}
 use Rattle.content_laws.proofs.FilledStores.{IsStore, new_holds_none}
 
+no_object : {v : Value} (c : ℕ) → v ≡ values.Object c → number_of v ≡ None → ⊥
+no_object c is none = let never : Some c ≡ None = sym (ap number_of is) ∙ none in cc
+
 -- what the owning fields hold stays
 abbrev pub KeepsOwning : Program → HeapContents → HeapContents → Type 0
 KeepsOwning p h k = (u : ℕ) (g : FieldId) (x : Field) → field_at p g ≡ Some x → x.owning ≡ true → field_value p k u g ≡ field_value p h u g
 
--- or the step of the frame stores it
+-- or the step of the frame stores it, or it holds no object
 abbrev pub StoresOwning : Program → HeapContents → HeapContents → Frame → Action → Type 0
-StoresOwning p h k fr a = (u : ℕ) (g : FieldId) (x : Field) → field_at p g ≡ Some x → x.owning ≡ true → (field_value p k u g ≡ field_value p h u g) ⊎ IsStore fr.locals a u g
+StoresOwning p h k fr a = (u : ℕ) (g : FieldId) (x : Field) → field_at p g ≡ Some x → x.owning ≡ true
+    → (field_value p k u g ≡ field_value p h u g) ⊎ (IsStore fr.locals a u g ⊎ (number_of (field_value p k u g) ≡ None))
 
 pub keeps_stores : (p : Program) (h k : HeapContents) (fr : Frame) (a : Action) → KeepsOwning p h k → StoresOwning p h k fr a
 keeps_stores p h k fr a keeps u g x declared owning = inl (keeps u g x declared owning)
@@ -59,7 +65,10 @@ module _ (p : Program) (forms : HasPlainForms p) (h k : HeapContents) (fr : Fram
   top_filled v filled b w c f x id new this declared owning class value = elim (stores w f x declared owning) [
     | inl same ↦ subst (λ (n : BodyId). HasStored p n s.to) (sym (same_body b id))
         (onward i (move_of s) (filled st.number w c f x st.id new this declared owning class (sym same ∙ value)) (step_there p fr st i s here))
-    | inr store ↦ subst (λ (n : BodyId). HasStored p n s.to) (sym (same_body b id)) (stored i (move_of s) f store.0 st.control (step_there p fr st i s here) store.1)
+    | inr new ↦ elim new [
+      | inl store ↦ subst (λ (n : BodyId). HasStored p n s.to) (sym (same_body b id)) (stored i (move_of s) f store.0 st.control (step_there p fr st i s here) store.1)
+      | inr none ↦ absurd (no_object c value none)
+    ]
   ]
 
   -- a constructor of the class that declares the field stores it
@@ -84,7 +93,7 @@ module _ (p : Program) (forms : HasPlainForms p) (h k : HeapContents) (fr : Fram
   waiting (y ∷ ys) others all = (
     λ b w c f x id new this declared owning class value. elim (stores w f x declared owning) [
       | inl same ↦ all.0 b w c f x id new this declared owning class (sym same ∙ value)
-      | inr store ↦ absurd ((others w f store).0 this)
+      | inr new' ↦ elim new' [ inl store ↦ absurd ((others w f store).0 this) | inr none ↦ absurd (no_object c value none) ]
     ],
     waiting ys (λ u g store. (others u g store).1) all.1,
   )

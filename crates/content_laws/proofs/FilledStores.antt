@@ -27,10 +27,10 @@ use Rattle.ledger_state.specs.declared.locals.Locals.{Locals}
 use Rattle.ledger_state.specs.declared.object.StoredField.{StoredField}
 use Rattle.ledger_state.specs.declared.value.Value.{Value}
 use Rattle.ledger_state.specs.declared.value.Value.TheVariants as values
+use Rattle.ledger_obligations.specs.Obligations.{stored_owning}
 use Rattle.ledger_steps.specs.declared.store.Store.{Store}
 use Rattle.ledger_steps.specs.InnerSteps.{heap_stored, inner, is_bound, store_into, store_of, store_unless, stored_by, thrown_heap}
-use Rattle.covering_laws.proofs.Fields.{holds_other, plain_holds, same_field}
-use Rattle.covering_laws.specs.PlainForms.{IsPlainAction}
+use Rattle.covering_laws.proofs.Fields.{holds_here, holds_other, plain_holds, same_field}
 use Rattle.covering_laws.specs.Ranges.{FieldsInRange, IsStoredInRange}
 
 no_object : (v : Value) (k : ℕ) → number_of v ≡ Some k → v ≡ values.Object k
@@ -44,21 +44,25 @@ no_object v k is = absurd (let never : None ≡ Some k = is in cc)
 abbrev pub IsStore : Locals → Action → ℕ → FieldId → Type 0
 IsStore l a u g = (d : ℕ) × (a ≡ actions.PutOwn g d) × (l.this ≡ values.Object u)
 
-into_is : (w : Option ℕ) (f : FieldId) (v : Value) (s : Store) → store_into w f v ≡ Some s → (w ≡ Some s.holder) × (f ≡ s.field)
+into_is : (w : Option ℕ) (f : FieldId) (v : Value) (s : Store) → store_into w f v ≡ Some s → (w ≡ Some s.holder) × (f ≡ s.field) × (v ≡ s.value)
 into_is None f v s is = absurd (let never : None ≡ Some s = is in cc)
 into_is (Some w) f v s is =
     let one : record { holder = w; field = f; value = v } ≡ s = (let both : ◌≡◌ {A = Option Store} (Some (record { holder = w; field = f; value = v })) (Some s) = is in cc) in
-    (ap (λ (z : Store). Some z.holder) one, ap (λ (z : Store). z.field) one)
+    (ap (λ (z : Store). Some z.holder) one, ap (λ (z : Store). z.field) one, ap (λ (z : Store). z.value) one)
 
-store_is : (p : Program) (l : Locals) (a : Action) (s : Store) → IsPlainAction p a → store_of l a ≡ Some s → is_owning p s.field ≡ true → IsStore l a s.holder s.field
-store_is p l actions.Skip s plain is owning = absurd (let never : None ≡ Some s = is in cc)
-store_is p l (actions.PutOwn f d) s plain is owning =
+-- what another operator than `=` stores into an owning field is no object
+abbrev pub StoresNoObject : Program → Locals → Action → Type 0
+StoresNoObject p l a = (f : FieldId) (d w : ℕ) (this : Bool) → a ≡ actions.Put f d this → is_owning p f ≡ true → number_of (temp_value l d) ≡ Some w → number_of (temp_value l (d + 1)) ≡ None
+
+store_is : (p : Program) (l : Locals) (a : Action) (s : Store) → StoresNoObject p l a → store_of l a ≡ Some s → is_owning p s.field ≡ true → IsStore l a s.holder s.field ⊎ (number_of s.value ≡ None)
+store_is p l actions.Skip s texts is owning = absurd (let never : None ≡ Some s = is in cc)
+store_is p l (actions.PutOwn f d) s texts is owning =
     let its = into_is (number_of l.this) f (temp_value l d) s is in
-    (d, ap (λ (g : FieldId). actions.PutOwn g d) its.1, no_object l.this s.holder its.0)
-store_is p l (actions.Put f d this) s plain is owning =
+    inl (d, ap (λ (g : FieldId). actions.PutOwn g d) its.1, no_object l.this s.holder its.0)
+store_is p l (actions.Put f d this) s texts is owning =
     let its = into_is (number_of (temp_value l d)) f (temp_value l (d + 1)) s is in
-    absurd (true≢false (sym owning ∙ ap (is_owning p) (sym its.1) ∙ plain))
-store_is p l a s plain is owning = absurd (let never : None ≡ Some s = is in cc)
+    inr (ap number_of (sym its.2) ∙ texts f d s.holder this refl (ap (is_owning p) its.1 ∙ owning) its.0)
+store_is p l a s texts is owning = absurd (let never : None ≡ Some s = is in cc)
 
 unless_is : (e : Option ClassId) (s : Option Store) (t : Store) → store_unless e s ≡ Some t → s ≡ Some t
 unless_is None s t is = is
@@ -68,7 +72,8 @@ module _ (p : Program) (m : Option Method) (l : Locals) (k : HeapContents) (u : 
   is_owned : is_owning p g ≡ true
   is_owned = ap is_owning_field declared ∙ owning
 
-  one_store : (s : Store) → (field_value p (stored_by p m l s k) u g ≡ field_value p k u g) ⊎ ((u ≡ s.holder) × (g ≡ s.field))
+  -- the field holds what it held, or what is stored
+  one_store : (s : Store) → (field_value p (stored_by p m l s k) u g ≡ field_value p k u g) ⊎ ((u ≡ s.holder) × (g ≡ s.field) × (field_value p (stored_by p m l s k) u g ≡ s.value))
   one_store s = go (is_owning p s.field) refl
     where
       same : (b c : Bool) → nat_eq u s.holder ≡ b → nat_eq g.0 s.field.0 ≡ c → ((u ≡ s.holder) × (g ≡ s.field)) ⊎ ((u ≡ s.holder) × (g ≡ s.field) → ⊥)
@@ -82,31 +87,40 @@ module _ (p : Program) (m : Option Method) (l : Locals) (k : HeapContents) (u : 
           same_number : (n : ℕ) → nat_eq n n ≡ true
           same_number n = grind (arith)
 
-      go : (b : Bool) → is_owning p s.field ≡ b → (field_value p (stored_by p m l s k) u g ≡ field_value p k u g) ⊎ ((u ≡ s.holder) × (g ≡ s.field))
+      here_now : (u ≡ s.holder) × (g ≡ s.field) → field_value p (stored_owning p k s.holder s.field (is_bound k m l s.value) s.value) u g ≡ s.value
+      here_now both = ap (λ (n : ℕ). field_value p (stored_owning p k s.holder s.field (is_bound k m l s.value) s.value) n g) both.0
+          ∙ ap (field_value p (stored_owning p k s.holder s.field (is_bound k m l s.value) s.value) s.holder) both.1 ∙ holds_here p k s.holder s.field (is_bound k m l s.value) s.value
+
+      go : (b : Bool) → is_owning p s.field ≡ b → (field_value p (stored_by p m l s k) u g ≡ field_value p k u g) ⊎ ((u ≡ s.holder) × (g ≡ s.field) × (field_value p (stored_by p m l s k) u g ≡ s.value))
       go true own = elim (same (nat_eq u s.holder) (nat_eq g.0 s.field.0) refl refl) [
-        | inl both ↦ inr both
+        | inl both ↦ inr (both.0, both.1, rw own (here_now both))
         | inr other ↦ inl (rw own (holds_other p k s.holder s.field (is_bound k m l s.value) s.value u g other))
       ]
       go false own = elim (plain_holds p k s.holder u s.field g s.value) [
         | inl still ↦ inl (rw own still)
-        | inr put ↦ inr (put.0, put.1)
+        | inr put ↦ inr (put.0, put.1, rw own put.2)
       ]
 
--- an owning field holds after a step within a frame what it held, or the step stores it
-pub inner_owning : (p : Program) (h : HeapContents) (m : MethodId) (l : Locals) (e : Option ClassId) (a : Action) (pos : Pos) (held : List (List Value)) → IsPlainAction p a → (u : ℕ) (g : FieldId) (x : Field)
-    → field_at p g ≡ Some x → x.owning ≡ true → (field_value p (inner p h m l e a pos held).heap u g ≡ field_value p h u g) ⊎ IsStore l a u g
-inner_owning p h m l e a pos held plain u g x declared owning = by_store (store_unless e (store_of l a)) refl
+-- an owning field holds after a step within a frame what it held, or the step stores it, or it holds no object
+pub inner_owning : (p : Program) (h : HeapContents) (m : MethodId) (l : Locals) (e : Option ClassId) (a : Action) (pos : Pos) (held : List (List Value)) → StoresNoObject p l a → (u : ℕ) (g : FieldId) (x : Field)
+    → field_at p g ≡ Some x → x.owning ≡ true
+    → (field_value p (inner p h m l e a pos held).heap u g ≡ field_value p h u g) ⊎ (IsStore l a u g ⊎ (number_of (field_value p (inner p h m l e a pos held).heap u g) ≡ None))
+inner_owning p h m l e a pos held texts u g x declared owning = by_store (store_unless e (store_of l a)) refl
   where
     thrown : (c : Option ClassId) → field_value p (thrown_heap p c h) u g ≡ field_value p h u g
     thrown None = refl
     thrown (Some c) = refl
 
-    by_store : (s : Option Store) → store_unless e (store_of l a) ≡ s → (field_value p (heap_stored p (method_at p m) l (store_unless e (store_of l a)) (thrown_heap p e h)) u g ≡ field_value p h u g) ⊎ IsStore l a u g
+    by_store : (s : Option Store) → store_unless e (store_of l a) ≡ s
+        → (field_value p (heap_stored p (method_at p m) l (store_unless e (store_of l a)) (thrown_heap p e h)) u g ≡ field_value p h u g)
+        ⊎ (IsStore l a u g ⊎ (number_of (field_value p (heap_stored p (method_at p m) l (store_unless e (store_of l a)) (thrown_heap p e h)) u g) ≡ None))
     by_store None is = inl (ap (λ (s : Option Store). field_value p (heap_stored p (method_at p m) l s (thrown_heap p e h)) u g) is ∙ thrown e)
     by_store (Some s) is = elim (one_store p (method_at p m) l (thrown_heap p e h) u g x declared owning s) [
       | inl same ↦ inl (ap (λ (t : Option Store). field_value p (heap_stored p (method_at p m) l t (thrown_heap p e h)) u g) is ∙ same ∙ thrown e)
-      | inr here ↦ inr (subst (λ (n : ℕ). IsStore l a n g) (sym here.0) (subst (IsStore l a s.holder) (sym here.1)
-          (store_is p l a s plain (unless_is e (store_of l a) s is) (ap (is_owning p) (sym here.1) ∙ ap is_owning_field declared ∙ owning))))
+      | inr here ↦ inr (elim (store_is p l a s texts (unless_is e (store_of l a) s is) (ap (is_owning p) (sym here.1) ∙ ap is_owning_field declared ∙ owning)) [
+        | inl store ↦ inl (subst (λ (n : ℕ). IsStore l a n g) (sym here.0) (subst (IsStore l a s.holder) (sym here.1) store))
+        | inr none ↦ inr (ap (λ (t : Option Store). number_of (field_value p (heap_stored p (method_at p m) l t (thrown_heap p e h)) u g)) is ∙ ap number_of here.2 ∙ none)
+      ])
     ]
 
 -- ---- a new object

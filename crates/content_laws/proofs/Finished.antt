@@ -17,14 +17,14 @@ use Rattle.ledger_state.specs.declared.value.Value.{Value}
 use Rattle.ledger_state.specs.declared.value.Value.TheVariants as values
 use Rattle.covering_laws.specs.PlainForms.{run_by}
 use Rattle.program_model.specs.SuperTests.{is_under}
-use Rattle.ledger_obligations.specs.Obligations.{finished, is_unmet}
+use Rattle.ledger_obligations.specs.Obligations.{finished}
 use Rattle.ledger_steps.specs.LedgerCallsCalls.{is_alias}
 use Rattle.covering_laws.specs.Configuration.{Frame}
 use Rattle.covering_laws.specs.Choosing.{is_number}
 use Rattle.must_call_sets.specs.Bodies.{constructs, is_class_of}
 use Rattle.program_model.specs.Lookups.{method_at}
 use Rattle.covering_laws.proofs.ObjectLaws.{changed_at, root_of_value_changed}
-use Rattle.covering_laws.specs.FieldContents.{AreDispatched, AreUnfinished, HaveContents, IsContent, RunOnOthers, is_made_in, makes_holder, makes_object}
+use Rattle.covering_laws.specs.FieldContents.{AreDispatched, AreUnfinished, HaveContents, IsContent, RunOnOthers, has_obligation, is_made_in, makes_holder, makes_object}
 use Rattle.content_laws.specs.Going.{linked}
 
 -- ---- which frames make an object that holds
@@ -113,10 +113,10 @@ module _ (p : Program) (j : HeapContents) (w : ℕ) (change : Object → Object)
   module _ (gs hs : List Frame) (have : HaveContents p hs j) (owned : (x : Object) (v : ℕ) (f : FieldId) → object_at j w ≡ Some x → (change x).owner ≡ owners.Field v f → ⊥)
       (held : (o : ℕ) (x : Object) (v : ℕ) (f : FieldId) → (o ≡ w → ⊥) → object_at j o ≡ Some x → IsContent p hs j o x v f → IsContent p gs k o x v f) where
     pub changed_contents : HaveContents p gs k
-    changed_contents o y v f at unmet owner = let x = one_back o y at in elim x.2 [
+    changed_contents o y v f at has owner = let x = one_back o y at in elim x.2 [
       | inl here ↦ absurd (owned x.0 v f (ap (object_at j) (sym here.0) ∙ x.1) (ap (λ (u : Object). u.owner) (sym here.1) ∙ owner))
       | inr there ↦ subst (λ (u : Object). IsContent p gs k o u v f) (sym there.1)
-          (held o x.0 v f there.0 x.1 (have o x.0 v f x.1 (ap is_unmet (sym there.1) ∙ unmet) (ap (λ (u : Object). u.owner) (sym there.1) ∙ owner)))
+          (held o x.0 v f there.0 x.1 (have o x.0 v f x.1 (ap (has_obligation p) (sym there.1) ∙ has) (ap (λ (u : Object). u.owner) (sym there.1) ∙ owner)))
     ]
 
   -- ---- frames
@@ -212,7 +212,7 @@ module _ (p : Program) (j : HeapContents) (w : ℕ) (alias : Option ℕ) (fr : F
   none_made : (v : ℕ) (c : ClassId) → is_made_in p v c (fr ∷ gs) ≡ true → is_made_in p v c gs ≡ true
   none_made v c is = sym (ap (λ (b : Bool). b || is_made_in p v c gs) (alias_makes_none p w fr v c makes)) ∙ is
 
-  -- it owns nothing that is unmet, since its constructor is one of an alias
+  -- it owns nothing that has an obligation, since its constructor is one of an alias
   holds_on : (o : ℕ) (x : Object) (v : ℕ) (f : FieldId) → (o ≡ w → ⊥) → object_at j o ≡ Some x → IsContent p (fr ∷ gs) j o x v f → IsContent p gs (change_one w (linked p alias) j) o x v f
   holds_on o x v f apart at content = record {
     holder = content.holder;

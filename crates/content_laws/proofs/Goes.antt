@@ -1,9 +1,10 @@
 -- What owning fields hold and own goes on over a step: the contents, what fits a field, and the frames.
-use Rattle.std.specs.Prelude.{◌<◌, ◌&&◌, not}
+use Rattle.std.specs.Prelude.{◌<◌, ◌&&◌, ◌||◌, not}
 use Rattle.std.specs.List.{All}
 use Rattle.std.specs.FinSet as set
 use Rattle.std.proofs.Common.{◌≡◌, ◌⊎◌, ℕ, zero, suc, Bool, true, false, true≢false, Option, Some, None, List, [], ◌∷◌, length, slice_get, option_map, nat_eq, unwrap_or, if◌then◌else◌, refl, sym, ap, ◌∙◌, subst, inl, inr, eqb-true, arith}
 use Rattle.std.specs.List.{find}
+use Rattle.std.proofs.lemmas.Bool.{or_left, or_right}
 use Rattle.std.proofs.lemmas.Bool.Decides.{nat_tests}
 use Rattle.std.proofs.lemmas.List.Elements.{All-head, All-tail}
 use Rattle.rlc_base.proofs.SetLaws.{empty_within, within_at, within_from, within_self, within_trans}
@@ -44,7 +45,7 @@ use Rattle.covering_laws.proofs.NoteLaws.{noted_goes_on}
 use Rattle.covering_laws.proofs.ObjectLaws.{changed_at, goes_on_further, in_range}
 use Rattle.content_laws.proofs.Leaves.{Leaves, StaysBut, leaves_self, lose_leaves, loses}
 use Rattle.content_laws.proofs.Noted.{AreNotesOf, noted_called}
-use Rattle.covering_laws.specs.FieldContents.{AreDispatched, AreUnfinished, DeclaresOwning, HaveContents, IsContent, IsDispatched, IsKept, LinksLead, is_made_in, promised_on}
+use Rattle.covering_laws.specs.FieldContents.{AreDispatched, AreUnfinished, DeclaresOwning, HaveContents, IsContent, IsDispatched, IsKept, LinksLead, has_obligation, is_made_in, promised_on}
 use Rattle.covering_laws.specs.PlaceFacts.{may_owe}
 use Rattle.covering_laws.specs.Ranges.{IsInRange, IsNumber, LocalsInRange}
 use Rattle.covering_laws.proofs.RangeValues.{operand_in_range}
@@ -60,6 +61,14 @@ unmet_then x y goes unmet = go x.finished refl (set.is_subset x.must x.called) r
     go true done true within =
         absurd (true≢false (sym unmet ∙ rw (within_trans y.must x.called y.called (ap (λ (s : Names). set.is_subset s x.called) goes.must ∙ within) goes.called, goes.finished, done) refl))
     go true done false within = rw (done, within) refl
+
+-- so it had an obligation, where it has one
+pub obligation_then : (p : Program) (x y : Object) → GoesOn x y → has_obligation p y ≡ true → has_obligation p x ≡ true
+obligation_then p x y goes has = go (is_unmet y) refl has
+  where
+    go : (b : Bool) → is_unmet y ≡ b → (b || is_heavy_class p y.class) ≡ true → has_obligation p x ≡ true
+    go true unmet is = or_left (is_unmet x) (is_heavy_class p x.class) (unmet_then x y goes unmet)
+    go false met heavy = or_right (is_unmet x) (is_heavy_class p x.class) (ap (is_heavy_class p) (sym goes.class) ∙ heavy)
 
 owning_by : (p : Program) (f : FieldId) (field : Field) → field_at p f ≡ Some field → field.owning ≡ true → is_owning p f ≡ true
 owning_by p f field at owning = ap is_owning_field at ∙ owning
@@ -124,6 +133,14 @@ unmet_is_heavy p x unmet own = go (is_empty (must_of p x.class)) refl
     go true none = absurd (true≢false (sym unmet
         ∙ ap (λ (c : Bool). x.finished && not c) (within_trans x.must set.empty x.called (within_trans x.must (must_of p x.class) set.empty own none) (empty_within x.called)) ∙ and_false x.finished))
     go false some = ap not some
+
+-- what has an obligation is of a class that has one, where this bounds what is unmet
+pub obligation_is_heavy : (p : Program) (x : Object) → has_obligation p x ≡ true → (is_unmet x ≡ true → set.is_subset x.must (must_of p x.class) ≡ true) → is_heavy_class p x.class ≡ true
+obligation_is_heavy p x has own = go (is_unmet x) refl has
+  where
+    go : (b : Bool) → is_unmet x ≡ b → (b || is_heavy_class p x.class) ≡ true → is_heavy_class p x.class ≡ true
+    go true unmet is = unmet_is_heavy p x unmet (own unmet)
+    go false met heavy = heavy
 
 -- ---- roots
 
@@ -194,7 +211,7 @@ module _ (p : Program) (own : PromisesItsOwn p) (h k : HeapContents) (noted : �
     owning = content.owning;
     held = held;
     bounded = ap (λ (c : ClassId). set.is_subset (must_of p c) (must_of_type p content.field.vtype)) on.class ∙ content.bounded;
-    own = ap (λ (s : Names). set.is_subset s (must_of p y.class)) on.must ∙ ap (λ (c : ClassId). set.is_subset x.must (must_of p c)) on.class ∙ content.own;
+    own = λ unmet. ap (λ (s : Names). set.is_subset s (must_of p y.class)) on.must ∙ ap (λ (c : ClassId). set.is_subset x.must (must_of p c)) on.class ∙ content.own (unmet_then x y on unmet);
     whole = λ is. next.2.must ∙ content.whole (done is) ∙ ap (must_of p) (sym next.2.class);
     unlinked = next.2.link ∙ content.unlinked;
     kept = kept;
@@ -206,20 +223,21 @@ module _ (p : Program) (h k : HeapContents) (noted : ℕ → ℕ → Type 0) (go
 
   -- each content goes on, where each noted name of a holder is kept
   pub contents_go_on : PromisesItsOwn p → LinksLead p h → (frs gs : List Frame) → HaveContents p frs h
-      → ((o : ℕ) (x y : Object) (w : ℕ) (f : FieldId) → object_at h o ≡ Some x → object_at k o ≡ Some y → is_unmet y ≡ true → GoesOn x y → x.owner ≡ owners.Field w f → (content : IsContent p frs h o x w f)
+      → ((o : ℕ) (x y : Object) (w : ℕ) (f : FieldId) → object_at h o ≡ Some x → object_at k o ≡ Some y → is_heavy_class p y.class ≡ true → GoesOn x y → x.owner ≡ owners.Field w f → (content : IsContent p frs h o x w f)
       → (m : MethodId) (d : Method) (n : NameId) → content.holder.finished ≡ true → method_at p m ≡ Some d → d.class ≡ content.holder.class → d.sig.interest ≡ Some n
       → set.contains (must_of p content.holder.class) n.0 ≡ true → noted w n.0 → set.is_subset (promised_on f d) y.called ≡ true)
       → ((o : ℕ) (x y : Object) (w : ℕ) (f : FieldId) (content : IsContent p frs h o x w f) → object_at k o ≡ Some y → y.owner ≡ owners.Field w f → content.holder.finished ≡ false
       → is_made_in p w content.field.class frs ≡ true → is_made_in p w content.field.class gs ≡ true)
       → HaveContents p gs k
-  contents_go_on own led frs gs have keeps made o y w f at unmet owner =
+  contents_go_on own led frs gs have keeps made o y w f at has owner =
       let was = goes.back o y w f at owner in
-      let unmet' = unmet_then was.0 y was.2 unmet in
-      let content = have o was.0 w f was.1 unmet' was.3 in
+      let had = obligation_then p was.0 y was.2 has in
+      let content = have o was.0 w f was.1 had was.3 in
+      let heavy = obligation_is_heavy p was.0 had content.own in
       content_goes_on p own h k noted frs gs o was.0 y w f content was.1 at was.2 (goes.forth w content.holder content.at)
       (ap (root_of k) (goes.fields w f (owning_by p f content.field content.declared content.owning)) ∙ root_stays h k goes.roots (field_value p h w f) o was.0 content.held was.1)
-      (led_there p h led (field_value p h w f) o was.0 content.held was.1 (unmet_is_heavy p was.0 unmet' content.own) (not_the_librarys_owes was.0 (ap is_library_owner was.3)))
-      (keeps o was.0 y w f was.1 at unmet was.2 was.3 content) (made o was.0 y w f content at owner)
+      (led_there p h led (field_value p h w f) o was.0 content.held was.1 heavy (not_the_librarys_owes was.0 (ap is_library_owner was.3)))
+      (keeps o was.0 y w f was.1 at (ap (is_heavy_class p) was.2.class ∙ heavy) was.2 was.3 content) (made o was.0 y w f content at owner)
 
 -- ---- frames
 

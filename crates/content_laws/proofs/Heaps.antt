@@ -25,8 +25,8 @@ use Rattle.ledger_steps.specs.LedgerCallsCalls.{alias_target, interest_in, is_al
 use Rattle.ledger_steps.specs.Conducts.{first_in, fresh_born, library_birth, library_notes, owning_in, positions, promises_by, result_owner}
 use Rattle.ledger_steps.specs.CallSteps.{began_heap, library_called, library_heap, library_made, library_reset}
 use Rattle.ledger_steps.specs.Ends.{frame_gone, returned_called, returned_reset}
-use Rattle.ledger_steps.specs.InnerSteps.{heap_stored, store_into, store_of, store_unless, thrown_heap}
-use Rattle.covering_laws.specs.PlainForms.{IsPlainAction}
+use Rattle.ledger_steps.specs.InnerSteps.{heap_stored, store_of, store_unless, thrown_heap}
+use Rattle.ledger_steps.specs.declared.store.Store.{Store}
 use Rattle.covering_laws.specs.Heaps.{HasEarlierLinks}
 use Rattle.covering_laws.proofs.HeapLaws.{links_stay-noted}
 use Rattle.covering_laws.proofs.ObjectLaws.{goes_on_self}
@@ -44,44 +44,23 @@ exception_goes p h e links =
     made_goes p h (append h e) NoName (finished (must_of p e) owners.Library) (next_number h) links refl (leaves_goes p h (append h e) NoName (leaves_roots h (append h e) links (append_leaves h e)) (append_leaves h e))
     (λ x w f is. absurd (let never : owners.Library ≡ owners.Field w f = is in cc)) (λ x born. born)
 
-put_goes : (p : Program) (h : HeapContents) (w : ℕ) (f : FieldId) (v : Value) → is_owning p f ≡ false → HasEarlierLinks h → Goes p h (put_field w f v h) NoName
-put_goes p h w f v plain links =
-    let same = self_goes p h NoName in
-    record {
-      forth = λ n x at. (x, at, goes_on_self x, λ i has. inl has);
-      back = same.back;
-      fields = λ u g owning. elim (plain_holds p h w u f g v) [
-        | inl held ↦ held
-        | inr it ↦ absurd (true≢false (sym owning ∙ ap (is_owning p) it.1 ∙ plain))
-      ];
-      roots = roots_by_links h (put_field w f v h) links (λ n x at. (x, at, goes_on_self x));
-      library = same.library;
-      born = λ n y at. inl (y, at);
-    }
+thrown_goes : (p : Program) (e : Option ClassId) (h : HeapContents) → HasEarlierLinks h → Goes p h (thrown_heap p e h) NoName
+thrown_goes p None h links = self_goes p h NoName
+thrown_goes p (Some e) h links = exception_goes p h e links
 
-stored_goes : (p : Program) (m : Option Method) (l : Locals) (w : Option ℕ) (f : FieldId) (v : Value) (h : HeapContents) → is_owning p f ≡ false → HasEarlierLinks h
-    → Goes p h (heap_stored p m l (store_into w f v) h) NoName
-stored_goes p m l None f v h plain links = self_goes p h NoName
-stored_goes p m l (Some w) f v h plain links =
-    subst (λ (k : HeapContents). Goes p h k NoName) (sym (rw plain refl)) (put_goes p h w f v plain links)
+-- a call stores nothing
+pub call_stores_nothing : (l : Locals) (a : Action) → IsCallRow a → store_of l a ≡ None
+call_stores_nothing l actions.Skip row = refl
+call_stores_nothing l (actions.Put f d through_this) row = absurd row
+call_stores_nothing l (actions.PutOwn f d) row = absurd row
+call_stores_nothing l a row = refl
 
-store_goes : (p : Program) (m : Option Method) (l : Locals) (a : Action) (h : HeapContents) → IsPlainAction p a → (IsPlainRow a ⊎ IsCallRow a) → HasEarlierLinks h
-    → Goes p h (heap_stored p m l (store_unless None (store_of l a)) h) NoName
-store_goes p m l actions.Skip h form row links = self_goes p h NoName
-store_goes p m l (actions.Put f d through_this) h form row links = stored_goes p m l _ f _ h form links
-store_goes p m l (actions.PutOwn f d) h form row links = absurd (elim row [ inl never ↦ never | inr never ↦ never ])
-store_goes p m l a h form row links = self_goes p h NoName
-
-stored_or_thrown : (p : Program) (m : Option Method) (l : Locals) (e : Option ClassId) (a : Action) (h : HeapContents) → IsPlainAction p a → (IsPlainRow a ⊎ IsCallRow a) → HasEarlierLinks h
-    → Goes p h (heap_stored p m l (store_unless e (store_of l a)) (thrown_heap p e h)) NoName
-stored_or_thrown p m l None a h form row links = store_goes p m l a h form row links
-stored_or_thrown p m l (Some e) a h form row links = exception_goes p h e links
-
-pub inner_goes : (p : Program) (m : Option Method) (l : Locals) (e : Option ClassId) (a : Action) (held : List (List Value)) (h : HeapContents) → IsPlainAction p a → (IsPlainRow a ⊎ IsCallRow a) → HasEarlierLinks h
+-- a step that stores nothing
+pub inner_goes : (p : Program) (m : Option Method) (l : Locals) (e : Option ClassId) (a : Action) (held : List (List Value)) (h : HeapContents) → store_unless e (store_of l a) ≡ None → HasEarlierLinks h
     → Goes p h (lose held (heap_stored p m l (store_unless e (store_of l a)) (thrown_heap p e h))) NoName
-inner_goes p m l e a held h form row links =
-    let k = heap_stored p m l (store_unless e (store_of l a)) (thrown_heap p e h) in
-    goes_further p h k (lose held k) NoName (stored_or_thrown p m l e a h form row links) (lose_goes p held k NoName)
+inner_goes p m l e a held h none links =
+    subst (λ (s : Option Store). Goes p h (lose held (heap_stored p m l s (thrown_heap p e h))) NoName) (sym none)
+    (goes_further p h (thrown_heap p e h) (lose held (thrown_heap p e h)) NoName (thrown_goes p e h links) (lose_goes p held (thrown_heap p e h) NoName))
 
 -- ---- calls that begin
 

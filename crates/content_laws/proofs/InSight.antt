@@ -1,10 +1,13 @@
--- What a call creates anew, and what is stored into an owning field, is of a class that the rule on owning fields sees: by the static types of operands,
--- and by the signatures that make aliases.
-use Rattle.std.proofs.Common.{◌≡◌, ℕ, zero, suc, ◌+◌, ◌<◌, ◌≤◌, Bool, true, false, true≢false, not, ◌&&◌, ◌||◌, Option, Some, None, Contains, IsSomeAnd, List, [], ◌∷◌, length, slice_get, refl, sym, ap, ◌∙◌, subst, arith, if◌then◌else◌}
+-- What a call creates anew, and what is stored into an owning field, is of a class that the rules on owning fields see: by the static types of operands,
+-- and by the signatures that make aliases. Where a text may stand in an owning field, no method creates the obligation of a text anew.
+use Rattle.std.proofs.Common.{◌≡◌, inl, inr, ℕ, zero, suc, ◌+◌, ◌<◌, ◌≤◌, Bool, true, false, true≢false, not, ◌&&◌, ◌||◌, Option, Some, None, Contains, IsSomeAnd, List, [], ◌∷◌, length, codes, slice_get, refl, sym, ap, ◌∙◌, subst, arith, if◌then◌else◌}
 use Rattle.std.specs.FinSet as set
-use Rattle.std.specs.List.{All, list_any}
-use Rattle.std.proofs.lemmas.Bool.{and_from, and_parts, or_left, or_parts, or_right}
+use Rattle.std.specs.List.{All, flat_map, list_any}
+use Rattle.std.proofs.lemmas.Bool.{and_from, and_parts, eq-eqb, or_left, or_parts, or_right}
 use Rattle.std.proofs.lemmas.List.Elements.{All-head, All-tail}
+use Rattle.rlc_base.proofs.SetLaws.{within_self}
+use Rattle.rlc_base.specs.declared.code.Code.TheVariants as refused
+use Rattle.refusal_order.specs.Refusals.{refused_at, where_true}
 use Rattle.program_model.specs.declared.kinds.ClassId.{ClassId}
 use Rattle.program_model.specs.declared.kinds.FieldId.{FieldId}
 use Rattle.program_model.specs.declared.kinds.MethodId.{MethodId}
@@ -15,17 +18,18 @@ use Rattle.program_model.specs.declared.program.Field.{Field}
 use Rattle.program_model.specs.declared.program.Method.{Method}
 use Rattle.program_model.specs.declared.program.ParamSig.{ParamSig}
 use Rattle.program_model.specs.declared.program.Program.{Program}
-use Rattle.program_model.specs.declared.program.Sig.{Sig}
 use Rattle.program_model.specs.Hierarchy.{itself}
 use Rattle.program_model.specs.Lookups.{class_at, field_at, method_at}
 use Rattle.program_model.specs.SuperTests.{classes_above, has_class, is_class, is_under}
 use Rattle.program_model.specs.Typing.{IsDeclarable}
 use Rattle.program_model.specs.Validity.{IsTypedProgram}
 use Rattle.program_model.proofs.HierarchyLaws.{is_under_law}
-use Rattle.must_call_sets.specs.MustCallSets.{no_names}
+use Rattle.must_call_sets.specs.MustCallSets.{is_empty, is_heavy_class, must_of, must_of_optional, no_names}
+use Rattle.must_call_sets.specs.Overridings.{overridings}
+use Rattle.must_call_sets.specs.ResetCases.{has_bad_target, is_class_type_in, is_some_finalizer, reset_cases_of_method, reset_cases_of_override}
 use Rattle.must_call_sets.specs.OwningCases.{gives_alias_of, gives_as_alias, has_alias, is_alias_of_type, is_assigned_from_outside, is_class_type, is_of_type, is_reset_alias, is_reset_somewhere, is_unseen_reset, may_be_held, may_be_reset, may_hold_unseen_reset, resets_objects, resets_some_alias, type_at_some}
 use Rattle.must_call_sets.specs.Bodies.{is_extended}
-use Rattle.must_call_sets.specs.Signatures.{type_at, type_in}
+use Rattle.must_call_sets.specs.Signatures.{is_present, type_at, type_in}
 use Rattle.java_control.specs.Calls.{called_method}
 use Rattle.java_control.specs.Control.{Step}
 use Rattle.java_control.specs.declared.action.Action.TheVariants as actions
@@ -41,22 +45,32 @@ use Rattle.ledger_state.specs.declared.value.Value.TheVariants as values
 use Rattle.ledger_steps.specs.LedgerCallsCalls.{object_by, operand_of}
 use Rattle.ledger_obligations.specs.Obligations.{finished_in}
 use Rattle.covering_laws.specs.Accept.{Accept}
+use Rattle.covering_laws.specs.AgreementConditions.{OwnsNoRenewedText, may_be_text, may_renew_text}
 use Rattle.covering_laws.specs.Choosing.{frame_steps}
 use Rattle.covering_laws.specs.Configuration.{Frame}
 use Rattle.covering_laws.specs.ClassOperands.{IsNotAboveString, IsOfClass, OfClass, type_of_field}
 use Rattle.covering_laws.specs.ClassValues.{FrameFitsClass, FramesFitClass, IsOnInstance}
 use Rattle.covering_laws.specs.HeapAnew.{finished_root, target_root}
 use Rattle.covering_laws.specs.Heaps.{HasEarlierLinks}
+use Rattle.covering_laws.specs.LibraryClasses.{HasLightTexts, is_receiver, renews_own_text}
 use Rattle.covering_laws.specs.Linking.{IsAliased, IsGivenAsAlias, LinkedAreAliases, LinksReachAliased}
 use Rattle.covering_laws.specs.Objects.{object_class}
-use Rattle.covering_laws.specs.Renewable.{IsFollowed, IsRenewable, KeepsTextsOut, is_textless, is_textless_at, keeps_texts_from_field, keeps_texts_from_positions}
+use Rattle.covering_laws.specs.Operands as operands
+use Rattle.covering_laws.specs.Operands.{NoObject, params_of}
+use Rattle.covering_laws.specs.Renewable.{IsFollowed, IsRenewable, renews_each, takes_each}
 use Rattle.covering_laws.specs.Sight.{ActsInSight, AllActInSight}
+use Rattle.covering_laws.specs.TextUpdates.{AllUpdateTexts, UpdatesTexts}
+use Rattle.covering_laws.specs.Types.{IsNoObjectButText, KeepAll, KeepsTypes, is_text}
 use Rattle.covering_laws.specs.Values.{FitsClass}
+use Rattle.covering_laws.proofs.AliasConducts.{argument_has_names}
 use Rattle.covering_laws.proofs.Cases.{same_class}
 use Rattle.covering_laws.proofs.ClassArguments.{IsUnderAt, class_of_fit, parameter_fits, receiver_under, stored_fits}
-use Rattle.covering_laws.proofs.GivenAliases.{every_passes, gives_as, some_passes}
+use Rattle.covering_laws.proofs.GivenAliases.{gives_as, seen_is_heavy, some_passes}
 use Rattle.covering_laws.proofs.HeapLaws.{roots_of_links-itself, roots_of_links-linked}
-use Rattle.content_laws.proofs.Finalizers.{well_shaped}
+use Rattle.covering_laws.proofs.Root.{each_under_object}
+use Rattle.covering_laws.proofs.Texts.{above_light, above_object, texts_lead_to_texts}
+use Rattle.covering_laws.proofs.ValueTypeLaws.{argument_is_no_object, stored_value_is_no_object}
+use Rattle.content_laws.proofs.Finalizers.{none_at, parts_empty, well_shaped}
 
 -- ---- lists
 
@@ -79,38 +93,14 @@ none_passes f [] i x none at = absurd (no_element i x at)
 none_passes f (y ∷ ys) zero x none at = ap f (sym (let both : Some y ≡ Some x = at in (let one : y ≡ x = cc in one))) ∙ (or_parts (f y) (list_any f ys) none).0
 none_passes f (y ∷ ys) (suc i) x none at = none_passes f ys i x (or_parts (f y) (list_any f ys) none).1 at
 
--- ---- types that take no text
-
-abbrev pub IsTextless : Program → Option VType → Type 0
-IsTextless p t = is_textless p t ≡ true
-
-pub textless : (p : Program) (c : ClassId) → IsTextless p (Some (types.Obj c)) → IsNotAboveString p c
-textless p c is = go (is_under p p.core.string c) is
+-- some element passes the test
+any_passes : {X : Type 0} (f : X → Bool) (xs : List X) → list_any f xs ≡ true → (i : ℕ) × (x : X) × (slice_get xs i ≡ Some x) × (f x ≡ true)
+any_passes f [] is = absurd (true≢false (sym is))
+any_passes {X} f (y ∷ ys) is = go (f y) refl (λ later. any_passes f ys later) is
   where
-    go : (b : Bool) → not b ≡ true → b ≡ false
-    go true never = absurd (true≢false (sym never))
-    go false is' = refl
-
-textless_position : (p : Program) (s : Sig) (o : Option ℕ) (k : ℕ) → o ≡ Some k → is_textless_at p s o ≡ true → IsTextless p (type_at s k)
-textless_position p s None k is textless' = absurd (let never : None ≡ Some k = is in cc)
-textless_position p s (Some j) k is textless' = subst (λ (n : ℕ). IsTextless p (type_at s n)) (let both : Some j ≡ Some k = is in (let one : j ≡ k = cc in one)) textless'
-
-module _ (p : Program) (out : KeepsTextsOut p) where
-  pub textless_field : (f : FieldId) (x : Field) → field_at p f ≡ Some x → x.owning ≡ true → IsTextless p (Some x.vtype)
-  textless_field f x at owning = go x.owning owning (every_passes (keeps_texts_from_field p) p.fields.items f.0 x out.0 at)
-    where
-      go : (b : Bool) → b ≡ true → (not b || is_textless p (Some x.vtype)) ≡ true → IsTextless p (Some x.vtype)
-      go true is passes = passes
-      go false is passes = absurd (true≢false (sym is))
-
-  positions : (m : MethodId) (x : Method) → method_at p m ≡ Some x → (is_textless_at p x.sig x.sig.alias ≡ true) × (is_textless_at p x.sig x.sig.reset ≡ true)
-  positions m x at = and_parts (is_textless_at p x.sig x.sig.alias) (is_textless_at p x.sig x.sig.reset) (every_passes (keeps_texts_from_positions p) p.methods.items m.0 x out.1 at)
-
-  pub textless_alias : (m : MethodId) (x : Method) (k : ℕ) → method_at p m ≡ Some x → x.sig.alias ≡ Some k → IsTextless p (type_at x.sig k)
-  textless_alias m x k at is = textless_position p x.sig x.sig.alias k is (positions m x at).0
-
-  pub textless_reset : (m : MethodId) (x : Method) (k : ℕ) → method_at p m ≡ Some x → x.sig.reset ≡ Some k → IsTextless p (type_at x.sig k)
-  textless_reset m x k at is = textless_position p x.sig x.sig.reset k is (positions m x at).1
+    go : (b : Bool) → f y ≡ b → (list_any f ys ≡ true → (i : ℕ) × (x : X) × (slice_get ys i ≡ Some x) × (f x ≡ true)) → (b || list_any f ys) ≡ true → (i : ℕ) × (x : X) × (slice_get (y ∷ ys) i ≡ Some x) × (f x ≡ true)
+    go true passes later all = (0, y, refl, passes)
+    go false passes later all = let x = later all in (suc x.0, x.1, x.2, x.3)
 
 -- ---- classes
 
@@ -170,6 +160,152 @@ module _ (p : Program) (ac : Accept p) where
       go (Some q) here some =
           declared_class q.vtype c (all_at (λ (r : ParamSig). IsDeclarable p r.vtype) x.sig.params.items j q (typed.methods m x at).signature.params here)
           (let both : Some q.vtype ≡ Some (types.Obj c) = some in (let one : q.vtype ≡ types.Obj c = cc in one))
+
+  -- it is not `String`
+  position_no_string : (m : MethodId) (x : Method) (k : ℕ) (c : ClassId) → method_at p m ≡ Some x → type_at x.sig k ≡ Some (types.Obj c) → c ≡ p.core.string → ⊥
+  position_no_string m x zero c at is same = go (is_class x.class p.core.string) refl (sym (typed.methods m x at).receiver ∙ (let both : Some x.sig.receiver.vtype ≡ Some (types.Obj c) = is in (let one : x.sig.receiver.vtype ≡ types.Obj c = cc in one)))
+    where
+      go : (b : Bool) → is_class x.class p.core.string ≡ b → (if b then types.Str else types.Obj x.class) ≡ types.Obj c → ⊥
+      go true string never = let none : types.Str ≡ types.Obj c = never in cc
+      go false string obj =
+          let one : x.class ≡ c = (let both : types.Obj x.class ≡ types.Obj c = obj in cc) in
+          true≢false (sym (eq-eqb x.class.0 p.core.string.0 (ap (λ (d : ClassId). d.0) (one ∙ same))) ∙ string)
+  position_no_string m x (suc j) c at is same = go (slice_get x.sig.params.items j) refl is
+    where
+      go : (o : Option ParamSig) → slice_get x.sig.params.items j ≡ o → type_in o ≡ Some (types.Obj c) → ⊥
+      go None here none = let never : None ≡ Some (types.Obj c) = none in cc
+      go (Some q) here some =
+          let of_type : q.vtype ≡ types.Obj c = (let both : Some q.vtype ≡ Some (types.Obj c) = some in cc) in
+          (subst (IsDeclarable p) of_type (all_at (λ (r : ParamSig). IsDeclarable p r.vtype) x.sig.params.items j q (typed.methods m x at).signature.params here)).1 same
+
+  -- what a signature creates anew is of a class type
+  target_type : (m : MethodId) (x : Method) (k : ℕ) → method_at p m ≡ Some x → x.sig.reset ≡ Some k → is_class_type_in (type_at x.sig k) ≡ true
+  target_type m x k at reset =
+      not_bad (is_class_type_in (type_at x.sig k))
+      (sym (ap (has_bad_target x) reset) ∙ not_refused (has_bad_target x x.sig.reset) (parts_empty (where_true (has_bad_target x x.sig.reset) refused.BadReset x.pos) (where_true (is_present x.sig.reset && is_some_finalizer p x) refused.BadReset x.pos) cases).0)
+    where
+      cases : reset_cases_of_method p x ≡ []
+      cases = none_at (reset_cases_of_method p) p.methods.items m.0 x (parts_empty (flat_map (reset_cases_of_method p) p.methods.items) (flat_map reset_cases_of_override (overridings p)) ac.well_formed.resets).0 at
+
+      not_refused : (b : Bool) → where_true b refused.BadReset x.pos ≡ [] → b ≡ false
+      not_refused true is = absurd (let never : refused_at refused.BadReset x.pos ∷ [] ≡ [] = is in cc)
+      not_refused false is = refl
+
+      not_bad : (b : Bool) → not b ≡ false → b ≡ true
+      not_bad true is = refl
+      not_bad false is = absurd (true≢false is)
+
+  -- each class of the table is under `Object`
+  under_object : (e : ClassId) (k : Class) → class_at p e ≡ Some k → is_under p e p.core.object ≡ true
+  under_object e k at = (is_under_law p typed.hierarchy e p.core.object).1 (each_under_object p typed e k at)
+
+  string_listed : (k : Class) × (class_at p p.core.string ≡ Some k)
+  string_listed = go (class_at p p.core.string) refl typed.core.string
+    where
+      go : (z : Option Class) → class_at p p.core.string ≡ z → IsSomeAnd z (λ k. k.name ≡ codes "java.lang.String") → (k : Class) × (class_at p p.core.string ≡ Some k)
+      go None here named = absurd named
+      go (Some k) here named = (k, here)
+
+  -- ---- types that may be of texts
+
+  module _ (light : HasLightTexts p) where
+    -- what a signature gives an alias of is of a class that `String` is not under
+    alias_class : (m : MethodId) (x : Method) (j : ℕ) → method_at p m ≡ Some x → x.sig.alias ≡ Some j → (c : ClassId) × (type_at x.sig j ≡ Some (types.Obj c)) × IsNotAboveString p c
+    alias_class m x j at alias = go (type_at x.sig j) refl (argument_has_names p ac.well_formed m x at j alias)
+      where
+        none : is_empty no_names ≡ false → ⊥
+        none some = true≢false (sym (within_self no_names) ∙ some)
+
+        heavy : (c : ClassId) → is_empty (must_of p c) ≡ false → (b : Bool) → is_under p p.core.string c ≡ b → IsNotAboveString p c
+        heavy c some true under = absurd (true≢false (sym (ap not some) ∙ above_light p ac light c under))
+        heavy c some false other = other
+
+        go : (t : Option VType) → type_at x.sig j ≡ t → is_empty (must_of_optional p t) ≡ false → (c : ClassId) × (type_at x.sig j ≡ Some (types.Obj c)) × IsNotAboveString p c
+        go (Some (types.Obj c)) type some = (c, type, heavy c some (is_under p p.core.string c) refl)
+        go None type some = absurd (none some)
+        go (Some t) type some = absurd (none some)
+
+    -- a position that takes each object of a class as such may be of a text
+    each_may_be_text : (e : ClassId) (t : Option VType) → takes_each p e t ≡ true → may_be_text p t ≡ true
+    each_may_be_text e (Some (types.Obj c)) takes = subst (λ (d : ClassId). is_under p p.core.string d ≡ true) (sym (same_class c p.core.object takes)) (under_object p.core.string string_listed.0 string_listed.1)
+    each_may_be_text e (Some types.Str) takes = refl
+    each_may_be_text e None takes = absurd (true≢false (sym takes))
+    each_may_be_text e (Some t) takes = absurd (true≢false (sym takes))
+
+    -- where no method creates the obligation of a text anew, none creates that of what such a position takes
+    renews_none : list_any (may_renew_text p) p.methods.items ≡ false → (e : ClassId) → list_any (renews_each p e) p.methods.items ≡ true → ⊥
+    renews_none none e some =
+        let m = any_passes (renews_each p e) p.methods.items some in
+        true≢false (sym (each_may_be_text e (type_at_some m.1.sig m.1.sig.reset) m.3) ∙ none_passes (may_renew_text p) p.methods.items m.0 m.1 none m.2)
+
+    -- nor that of class `String`, in the words of the rule on the shape of owning fields
+    module _ (none : list_any (may_renew_text p) p.methods.items ≡ false) (k : Class) (at : class_at p p.core.string ≡ Some k) where
+      above_string : (c : ClassId) → has_class k.above.items c ≡ true → is_under p p.core.string c ≡ true
+      above_string c has = ap (λ (z : Option Class). has_class (classes_above p.core.string z) c) at ∙ has
+
+      of_text : (t : Option VType) → is_of_type k t ≡ true → may_be_text p t ≡ true
+      of_text (Some (types.Obj c)) has = above_string c has
+      of_text (Some types.Str) has = refl
+      of_text None has = absurd (true≢false (sym has))
+      of_text (Some t) has = absurd (true≢false (sym has))
+
+      no_alias_of : (i : ℕ) (x : Method) → slice_get p.methods.items i ≡ Some x → (o : Option ℕ) → x.sig.alias ≡ o → is_of_type k (type_at_some x.sig o) ≡ true → ⊥
+      no_alias_of i x at' None alias has = true≢false (sym has)
+      no_alias_of i x at' (Some j) alias has =
+          let c = alias_class (record { 0 = i }) x j at' alias in
+          true≢false (sym (above_string c.0 (sym (ap (is_of_type k) c.1) ∙ has)) ∙ c.2)
+
+      text_stays : may_be_reset p k ≡ true → ⊥
+      text_stays renewed = by (is_reset_somewhere p k) refl renewed
+        where
+          by : (b : Bool) → is_reset_somewhere p k ≡ b → (b || list_any (gives_alias_of k) p.methods.items && resets_some_alias p) ≡ true → ⊥
+          by true itself' is =
+              let m = any_passes (resets_objects k) p.methods.items itself' in
+              true≢false (sym (of_text (type_at_some m.1.sig m.1.sig.reset) m.3) ∙ none_passes (may_renew_text p) p.methods.items m.0 m.1 none m.2)
+          by false itself' is =
+              let m = any_passes (gives_alias_of k) p.methods.items (and_parts (list_any (gives_alias_of k) p.methods.items) (resets_some_alias p) is).0 in
+              no_alias_of m.0 m.1 m.2 m.1.sig.alias refl m.3
+
+    -- the rule on owning fields that may hold a text
+    none_renewed : OwnsNoRenewedText p → (f : FieldId) (x : Field) → field_at p f ≡ Some x → x.owning ≡ true → may_be_text p (Some x.vtype) ≡ true → list_any (may_renew_text p) p.methods.items ≡ false
+    none_renewed fields f x at owning text = go x.owning (may_be_text p (Some x.vtype)) owning text (fields f x at)
+      where
+        go : (a b : Bool) → a ≡ true → b ≡ true → (a && (b && list_any (may_renew_text p) p.methods.items)) ≡ false → list_any (may_renew_text p) p.methods.items ≡ false
+        go true true owns holds none = none
+        go true false owns holds none = absurd (true≢false (sym holds))
+        go false b owns holds none = absurd (true≢false (sym owns))
+
+  -- ---- what a field may hold
+
+  -- no class that asks for no call, and that the field may hold, is created anew
+  not_unseen : (f : FieldId) (field : Field) → field_at p f ≡ Some field → field.owning ≡ true → may_hold_unseen_reset p field.vtype ≡ false
+  not_unseen f field at owning =
+      (or_parts (field.is_static || not field.is_private || not (is_class_type field.vtype) || is_assigned_from_outside p f field || is_extended p field.class) (may_hold_unseen_reset p field.vtype) (well_shaped p ac f field at owning)).1
+
+  not_all : (a b c : Bool) → (a && b && c) ≡ false → b ≡ true → (a && c) ≡ false
+  not_all true b c none held = ap (λ (d : Bool). d && c) (sym held) ∙ none
+  not_all false b c none held = refl
+
+  -- what a field may hold is followed
+  followed_if_held : (f : FieldId) (field : Field) (e : ClassId) (k : Class) → field_at p f ≡ Some field → field.owning ≡ true → class_at p e ≡ Some k → may_be_held p field.vtype k ≡ true
+      → (set.is_subset k.must no_names && may_be_reset p k) ≡ false
+  followed_if_held f field e k at owning in' held =
+      let unseen : is_unseen_reset p field.vtype k ≡ false = none_passes (is_unseen_reset p field.vtype) p.classes.items e.0 k (not_unseen f field at owning) in' in
+      not_all (set.is_subset k.must no_names) (may_be_held p field.vtype k) (may_be_reset p k) unseen held
+
+  held_itself : (t : VType) (c e : ClassId) (k : Class) → t ≡ types.Obj c → class_at p e ≡ Some k → is_under p e c ≡ true → may_be_held p t k ≡ true
+  held_itself t c e k type in' under =
+      or_left (is_of_type k (Some t)) (list_any (gives_alias_of k) p.methods.items && has_alias p t)
+      (ap (λ (u : VType). is_of_type k (Some u)) type ∙ under_type p e c k in' under)
+
+  alias_of_type : (t : VType) (c e : ClassId) (k : Class) → t ≡ types.Obj c → class_at p e ≡ Some k → is_under p e c ≡ true → list_any (gives_as_alias k) p.methods.items ≡ true → has_alias p t ≡ true
+  alias_of_type t c e k type in' under gives =
+      some_passes (is_alias_of_type p t) p.classes.items e.0 k in'
+      (and_from (is_of_type k (Some t)) (list_any (gives_as_alias k) p.methods.items) (ap (λ (u : VType). is_of_type k (Some u)) type ∙ under_type p e c k in' under) gives)
+
+  held_through : (t : VType) (k : Class) → list_any (gives_alias_of k) p.methods.items ≡ true → has_alias p t ≡ true → may_be_held p t k ≡ true
+  held_through t k gives has =
+      or_right (is_of_type k (Some t)) (list_any (gives_alias_of k) p.methods.items && has_alias p t) (and_from (list_any (gives_alias_of k) p.methods.items) (has_alias p t) gives has)
 
   -- ---- what is linked
 
@@ -254,10 +390,10 @@ module _ (p : Program) (ac : Accept p) where
             let here : Some x ≡ Some z.0 = sym there ∙ ap (object_at h) (sym rooted ∙ roots_of_links-itself h w z.0 z.1 unlinked) ∙ z.1 in
             let one : x ≡ z.0 = cc in
             subst (IsRenewable p) (sym (ap (λ (o : Object). o.class) one ∙ z.2))
-            (its.0, its.1, or_left (is_reset_somewhere p its.0) (list_any (gives_alias_of its.0) p.methods.items && resets_some_alias p) resets)
+            (inl (its.0, its.1, or_left (is_reset_somewhere p its.0) (list_any (gives_alias_of its.0) p.methods.items && resets_some_alias p) resets))
         by (Some l) linked =
             let aliased = root_aliased w w (omega arith) z.0 l z.1 linked x (ap (object_at h) rooted ∙ there) in
-            let root_class = aliased_class x.class aliased in (
+            let root_class = aliased_class x.class aliased in inl (
               root_class.0,
               root_class.1,
               renewed_through root_class.0 class.0 its.0 (aliased_gives x.class root_class.0 root_class.1 aliased) its.1 (given_class class.0 its.0 its.1 (subst (IsGivenAsAlias p) z.2 (aliases w z.0 l z.1 linked))) resets,
@@ -266,36 +402,6 @@ module _ (p : Program) (ac : Accept p) where
     renewable named m k c v n x named_at reset type fits root' there = absurd (let never : None ≡ Some n = root' in cc)
 
     -- ---- what is stored
-
-    -- no class that asks for no call, and that the field may hold, is created anew
-    not_unseen : (f : FieldId) (field : Field) → field_at p f ≡ Some field → field.owning ≡ true → may_hold_unseen_reset p field.vtype ≡ false
-    not_unseen f field at owning =
-        (or_parts (field.is_static || not field.is_private || not (is_class_type field.vtype) || is_assigned_from_outside p f field || is_extended p field.class) (may_hold_unseen_reset p field.vtype) (well_shaped p ac f field at owning)).1
-
-    not_all : (a b c : Bool) → (a && b && c) ≡ false → b ≡ true → (a && c) ≡ false
-    not_all true b c none held = ap (λ (d : Bool). d && c) (sym held) ∙ none
-    not_all false b c none held = refl
-
-    -- what a field may hold is followed
-    followed_if_held : (f : FieldId) (field : Field) (e : ClassId) (k : Class) → field_at p f ≡ Some field → field.owning ≡ true → class_at p e ≡ Some k → may_be_held p field.vtype k ≡ true
-        → (set.is_subset k.must no_names && may_be_reset p k) ≡ false
-    followed_if_held f field e k at owning in' held =
-        let unseen : is_unseen_reset p field.vtype k ≡ false = none_passes (is_unseen_reset p field.vtype) p.classes.items e.0 k (not_unseen f field at owning) in' in
-        not_all (set.is_subset k.must no_names) (may_be_held p field.vtype k) (may_be_reset p k) unseen held
-
-    held_itself : (t : VType) (c e : ClassId) (k : Class) → t ≡ types.Obj c → class_at p e ≡ Some k → is_under p e c ≡ true → may_be_held p t k ≡ true
-    held_itself t c e k type in' under =
-        or_left (is_of_type k (Some t)) (list_any (gives_alias_of k) p.methods.items && has_alias p t)
-        (ap (λ (u : VType). is_of_type k (Some u)) type ∙ under_type p e c k in' under)
-
-    alias_of_type : (t : VType) (c e : ClassId) (k : Class) → t ≡ types.Obj c → class_at p e ≡ Some k → is_under p e c ≡ true → list_any (gives_as_alias k) p.methods.items ≡ true → has_alias p t ≡ true
-    alias_of_type t c e k type in' under gives =
-        some_passes (is_alias_of_type p t) p.classes.items e.0 k in'
-        (and_from (is_of_type k (Some t)) (list_any (gives_as_alias k) p.methods.items) (ap (λ (u : VType). is_of_type k (Some u)) type ∙ under_type p e c k in' under) gives)
-
-    held_through : (t : VType) (k : Class) → list_any (gives_alias_of k) p.methods.items ≡ true → has_alias p t ≡ true → may_be_held p t k ≡ true
-    held_through t k gives has =
-        or_right (is_of_type k (Some t)) (list_any (gives_alias_of k) p.methods.items && has_alias p t) (and_from (list_any (gives_alias_of k) p.methods.items) (has_alias p t) gives has)
 
     -- the object that a value of the field's type leads to is of a class that the field may hold
     module _ (t : VType) (declared : IsDeclarable p t) (c : ClassId) (type : t ≡ types.Obj c) (w n : ℕ) (fits : FitsClass p c h (values.Object w)) (rooted : root h w ≡ n) (x : Object) (there : object_at h n ≡ Some x) where
@@ -326,13 +432,88 @@ module _ (p : Program) (ac : Accept p) where
           by None none some is = none is
           by (Some l) none some is = some l is
 
-    followed : (f : FieldId) (field : Field) (c : ClassId) (v : Value) (n : ℕ) (x : Object) → field_at p f ≡ Some field → field.owning ≡ true → field.vtype ≡ types.Obj c → FitsClass p c h v
+      class_is : z.0.link ≡ None → x.class ≡ class.0
+      class_is unlinked =
+          let here : Some x ≡ Some z.0 = sym there ∙ ap (object_at h) (sym rooted ∙ roots_of_links-itself h w z.0 z.1 unlinked) ∙ z.1 in
+          let one : x ≡ z.0 = cc in
+          ap (λ (o : Object). o.class) one ∙ z.2
+
+      aliased : (l : Link) → z.0.link ≡ Some l → IsAliased p x.class
+      aliased l linked = root_aliased w w (omega arith) z.0 l z.1 linked x (ap (object_at h) rooted ∙ there)
+
+      -- its class is in the table
+      listed : (k : Class) × (class_at p x.class ≡ Some k)
+      listed = by z.0.link refl
+        where
+          by : (m : Option Link) → z.0.link ≡ m → (k : Class) × (class_at p x.class ≡ Some k)
+          by None unlinked = (its.0, ap (class_at p) (class_is unlinked) ∙ its.1)
+          by (Some l) linked = aliased_class x.class (aliased l linked)
+
+      -- and is not `String`
+      no_text : HasLightTexts p → IsNotAboveString p c → x.class ≡ p.core.string → ⊥
+      no_text light own same = by z.0.link refl
+        where
+          by : (m : Option Link) → z.0.link ≡ m → ⊥
+          by None unlinked = true≢false (sym (subst (λ (e : ClassId). is_under p e c ≡ true) (sym (class_is unlinked) ∙ same) class.2) ∙ own)
+          by (Some l) linked =
+              let g = aliased l linked in
+              let d = alias_class light g.number g.method g.position g.at g.alias in
+              let one : d.0 ≡ g.type = (let both : Some (types.Obj d.0) ≡ Some (types.Obj g.type) = sym d.1 ∙ g.takes in cc) in
+              true≢false (sym (subst (λ (e : ClassId). is_under p e g.type ≡ true) same g.under) ∙ subst (IsNotAboveString p) one d.2)
+
+    -- what a field of a class that `String` is not under holds is followed
+    followed : HasLightTexts p → (f : FieldId) (field : Field) (c : ClassId) (v : Value) (n : ℕ) (x : Object) → field_at p f ≡ Some field → field.owning ≡ true → field.vtype ≡ types.Obj c → IsNotAboveString p c → FitsClass p c h v
         → root_of h v ≡ Some n → object_at h n ≡ Some x → IsFollowed p x.class
-    followed f field c (values.Object w) n x at owning type fits root' there k in' =
-        followed_if_held f field x.class k at owning in'
-        (held field.vtype (typed.fields f field at).declarable c type w n fits (let both : Some (root h w) ≡ Some n = root' in (let one : root h w ≡ n = cc in one)) x there k in')
-    followed f field c values.Nothing n x at owning type fits root' there k in' = absurd (let never : None ≡ Some n = root' in cc)
-    followed f field c v n x at owning type fits root' there k in' = absurd (let never : None ≡ Some n = root' in cc)
+    followed light f field c (values.Object w) n x at owning type own fits root' there (inl renewed) =
+        let rooted : root h w ≡ n = (let both : Some (root h w) ≡ Some n = root' in (let one : root h w ≡ n = cc in one)) in
+        seen_is_heavy p x.class renewed.0 renewed.1
+        (followed_if_held f field x.class renewed.0 at owning renewed.1 (held field.vtype (typed.fields f field at).declarable c type w n fits rooted x there renewed.0 renewed.1)) renewed.2
+    followed light f field c (values.Object w) n x at owning type own fits root' there (inr each) = by_type (type_at_some m.1.sig m.1.sig.reset) refl m.3
+      where
+        rooted : root h w ≡ n
+        rooted = let both : Some (root h w) ≡ Some n = root' in (let one : root h w ≡ n = cc in one)
+
+        m : (i : ℕ) × (y : Method) × (slice_get p.methods.items i ≡ Some y) × (renews_each p x.class y ≡ true)
+        m = any_passes (renews_each p x.class) p.methods.items each
+
+        k : (y : Class) × (class_at p x.class ≡ Some y)
+        k = listed field.vtype (typed.fields f field at).declarable c type w n fits rooted x there
+
+        by_type : (t : Option VType) → type_at_some m.1.sig m.1.sig.reset ≡ t → takes_each p x.class t ≡ true → is_heavy_class p x.class ≡ true
+        by_type (Some (types.Obj d)) is takes =
+            let under : is_under p x.class d ≡ true = subst (λ (e : ClassId). is_under p x.class e ≡ true) (sym (same_class d p.core.object takes)) (under_object x.class k.0 k.1) in
+            let resets : is_reset_somewhere p k.0 ≡ true = some_passes (resets_objects k.0) p.methods.items m.0 m.1 m.2 (ap (is_of_type k.0) is ∙ under_type p x.class d k.0 k.1 under) in
+            seen_is_heavy p x.class k.0 k.1
+            (followed_if_held f field x.class k.0 at owning k.1 (held field.vtype (typed.fields f field at).declarable c type w n fits rooted x there k.0 k.1))
+            (or_left (is_reset_somewhere p k.0) (list_any (gives_alias_of k.0) p.methods.items && resets_some_alias p) resets)
+        by_type (Some types.Str) is takes = absurd (no_text field.vtype (typed.fields f field at).declarable c type w n fits rooted x there light own (same_class x.class p.core.string takes))
+        by_type None is takes = absurd (true≢false (sym takes))
+        by_type (Some t) is takes = absurd (true≢false (sym takes))
+    followed light f field c values.Nothing n x at owning type own fits root' there renewed = absurd (let never : None ≡ Some n = root' in cc)
+    followed light f field c v n x at owning type own fits root' there renewed = absurd (let never : None ≡ Some n = root' in cc)
+
+  -- so is what a field of type `Object` holds
+  followed_any : HasLightTexts p → OwnsNoRenewedText p → (f : FieldId) (field : Field) (c : ClassId) (x : Object) → field_at p f ≡ Some field → field.owning ≡ true → field.vtype ≡ types.Obj c → is_under p p.core.string c ≡ true → IsFollowed p x.class
+  followed_any light fields f field c x at owning type above (inl renewed) =
+      seen_is_heavy p x.class renewed.0 renewed.1
+      (followed_if_held f field x.class renewed.0 at owning renewed.1
+      (held_itself field.vtype c x.class renewed.0 type renewed.1 (subst (λ (d : ClassId). is_under p x.class d ≡ true) (sym is_object) (under_object x.class renewed.0 renewed.1)))) renewed.2
+    where
+      is_object : c ≡ p.core.object
+      is_object = above_object p ac light c (subst (IsDeclarable p) type (typed.fields f field at).declarable).1 above
+  followed_any light fields f field c x at owning type above (inr each) =
+      absurd (renews_none light (none_renewed light fields f field at owning (ap (λ (t : VType). may_be_text p (Some t)) type ∙ above)) x.class each)
+
+  -- and what one of type `String` holds
+  followed_text : HasLightTexts p → OwnsNoRenewedText p → (f : FieldId) (field : Field) (x : Object) → field_at p f ≡ Some field → field.owning ≡ true → field.vtype ≡ types.Str → x.class ≡ p.core.string → IsFollowed p x.class
+  followed_text light fields f field x at owning type same renewed = absurd (by renewed)
+    where
+      none : list_any (may_renew_text p) p.methods.items ≡ false
+      none = none_renewed light fields f field at owning (ap (λ (t : VType). may_be_text p (Some t)) type)
+
+      by : IsRenewable p x.class → ⊥
+      by (inl known) = text_stays light none known.0 (ap (class_at p) (sym same) ∙ known.1) known.2
+      by (inr each) = renews_none light none x.class each
 
   -- ---- frames
 
@@ -355,68 +536,134 @@ module _ (p : Program) (ac : Accept p) where
           (parameter_fits p c ac own h fr keeps i s here named m named_at called j q at (subst (λ (t : VType). IsOfClass p c t) (sym of_type) (under_itself c)))))
 
   -- the operand of which a signature gives an alias is of a class of which aliases are given
-  pub aliased_operand : KeepsTextsOut p → (h : HeapContents) (fr : Frame) → ((bound : ClassId) → IsNotAboveString p bound → FrameFitsClass p bound h fr) → (i : ℕ) (s : Step) (named : MethodId) (m : Method) (j w : ℕ)
+  pub aliased_operand : HasLightTexts p → (h : HeapContents) (fr : Frame) → ((bound : ClassId) → IsNotAboveString p bound → FrameFitsClass p bound h fr) → (i : ℕ) (s : Step) (named : MethodId) (m : Method) (j w : ℕ)
       → slice_get (frame_steps p fr) i ≡ Some s → called_method s.action ≡ Some named → method_at p named ≡ Some m → IsOnInstance p h fr.locals s.action (method_at p named)
       → m.sig.alias ≡ Some j → number_of (operand_of fr.locals s.action j) ≡ Some w → (e : ClassId) × (object_class h w ≡ Some e) × IsAliased p e
-  aliased_operand out h fr keeps i s named m j w here called named_at instance alias number = by_type (type_at m.sig j) refl (textless_alias p out named m j named_at alias)
+  aliased_operand light h fr keeps i s named m j w here called named_at instance alias number =
+      by_value (operand_of fr.locals s.action j) (operand_under h fr c.0 c.2 (keeps c.0 c.2) i s named m j here called named_at instance c.1) number
     where
-      by_value : (c : ClassId) → type_at m.sig j ≡ Some (types.Obj c) → (v : Value) → ((k : ℕ) → v ≡ values.Object k → IsUnderAt p c h k) → number_of v ≡ Some w → (e : ClassId) × (object_class h w ≡ Some e) × IsAliased p e
-      by_value c type values.Nothing under none = absurd (let never : None ≡ Some w = none in cc)
-      by_value c type (values.Object k) under some =
+      c : (d : ClassId) × (type_at m.sig j ≡ Some (types.Obj d)) × IsNotAboveString p d
+      c = alias_class light named m j named_at alias
+
+      by_value : (v : Value) → ((k : ℕ) → v ≡ values.Object k → IsUnderAt p c.0 h k) → number_of v ≡ Some w → (e : ClassId) × (object_class h w ≡ Some e) × IsAliased p e
+      by_value values.Nothing under none = absurd (let never : None ≡ Some w = none in cc)
+      by_value (values.Object k) under some =
           let same : k ≡ w = (let both : Some k ≡ Some w = some in cc) in
           let class = under w (ap values.Object same) in
-          (class.0, class.1, record { number = named; method = m; at = named_at; position = j; alias = alias; type = c; takes = type; under = class.2 })
-      by_value c type v under none = absurd (let never : None ≡ Some w = none in cc)
+          (class.0, class.1, record { number = named; method = m; at = named_at; position = j; alias = alias; type = c.0; takes = c.1; under = class.2 })
+      by_value v under none = absurd (let never : None ≡ Some w = none in cc)
 
-      by_type : (t : Option VType) → type_at m.sig j ≡ t → IsTextless p t → (e : ClassId) × (object_class h w ≡ Some e) × IsAliased p e
-      by_type (Some (types.Obj c)) type kind =
-          by_value c type (operand_of fr.locals s.action j)
-          (operand_under h fr c (textless p c kind) (keeps c (textless p c kind)) i s named m j here called named_at instance type) number
-      by_type None type kind = absurd (true≢false (sym kind))
-      by_type (Some t) type kind = absurd (true≢false (sym kind))
-
-  module _ (h : HeapContents) (links : HasEarlierLinks h) (aliases : LinkedAreAliases p h) (reached : KeepsTextsOut p → LinksReachAliased p h) (fr : Frame) (keeps : (bound : ClassId) → IsNotAboveString p bound → FrameFitsClass p bound h fr) where
-    renews : KeepsTextsOut p → (i : ℕ) (s : Step) (named : MethodId) (n : ℕ) (x : Object) → slice_get (frame_steps p fr) i ≡ Some s → called_method s.action ≡ Some named
-        → IsOnInstance p h fr.locals s.action (method_at p named) → target_root h fr.locals s.action (method_at p named) ≡ Some n → object_at h n ≡ Some x → IsRenewable p x.class
-    renews out i s named n x here called instance is there = by_method (method_at p named) refl is
+  module _ (light : HasLightTexts p) (fields : OwnsNoRenewedText p) (h : HeapContents) (links : HasEarlierLinks h) (aliases : LinkedAreAliases p h) (reached : LinksReachAliased p h) (fr : Frame)
+      (keeps : (bound : ClassId) → IsNotAboveString p bound → FrameFitsClass p bound h fr) (types' : KeepsTypes (is_text p h) p fr) where
+    -- the root of a finished target is that of its operand
+    root_of_target : (v : Value) (n : ℕ) → finished_root h (number_of v) ≡ Some n → root_of h v ≡ Some n
+    root_of_target (values.Object w) n is = go (finished_in (object_at h (root h w))) is
       where
+        go : (b : Bool) → (if b then Some (root h w) else None) ≡ Some n → Some (root h w) ≡ Some n
+        go true same = same
+        go false same = absurd (let never : None ≡ Some n = same in cc)
+    root_of_target values.Nothing n is = absurd (let never : None ≡ Some n = is in cc)
+    root_of_target v n is = absurd (let never : None ≡ Some n = is in cc)
+
+    renews : (i : ℕ) (s : Step) (named : MethodId) (n : ℕ) (x : Object) → slice_get (frame_steps p fr) i ≡ Some s → called_method s.action ≡ Some named
+        → IsOnInstance p h fr.locals s.action (method_at p named) → target_root h fr.locals s.action (method_at p named) ≡ Some n → object_at h n ≡ Some x → IsRenewable p x.class
+    renews i s named n x here called instance is there = by_method (method_at p named) refl is
+      where
+        -- the position takes each object of the class
+        each : (m : Method) (k : ℕ) (t : VType) → method_at p named ≡ Some m → m.sig.reset ≡ Some k → type_at m.sig k ≡ Some t → takes_each p x.class (Some t) ≡ true → IsRenewable p x.class
+        each m k t named_at reset type takes =
+            inr (some_passes (renews_each p x.class) p.methods.items named.0 m named_at
+            (ap (λ (r : Option ℕ). takes_each p x.class (type_at_some m.sig r)) reset ∙ ap (takes_each p x.class) type ∙ takes))
+
+        by_class : (m : Method) (k : ℕ) (c : ClassId) → method_at p named ≡ Some m → m.sig.reset ≡ Some k → finished_root h (number_of (operand_of fr.locals s.action k)) ≡ Some n
+            → type_at m.sig k ≡ Some (types.Obj c) → (b : Bool) → is_under p p.core.string c ≡ b → IsRenewable p x.class
+        by_class m k c named_at reset root' type true above =
+            let same = above_object p ac light c (position_no_string named m k c named_at type) above in
+            each m k (types.Obj c) named_at reset type (eq-eqb c.0 p.core.object.0 (ap (λ (d : ClassId). d.0) same))
+        by_class m k c named_at reset root' type false own =
+            renewable h links aliases reached named m k c (operand_of fr.locals s.action k) n x named_at reset type
+            (operand_under h fr c own (keeps c own) i s named m k here called named_at instance type) root' there
+
+        -- a text is a receiver of methods of `String` alone, and these create nothing anew
+        by_text : (m : Method) (k : ℕ) → method_at p named ≡ Some m → m.sig.reset ≡ Some k → finished_root h (number_of (operand_of fr.locals s.action k)) ≡ Some n
+            → type_at m.sig k ≡ Some types.Str → IsRenewable p x.class
+        by_text m zero named_at reset root' type = absurd (go (is_class m.class p.core.string) refl (sym (typed.methods named m named_at).receiver ∙ (let both : Some m.sig.receiver.vtype ≡ Some types.Str = type in (let one : m.sig.receiver.vtype ≡ types.Str = cc in one))))
+          where
+            go : (b : Bool) → is_class m.class p.core.string ≡ b → (if b then types.Str else types.Obj m.class) ≡ types.Str → ⊥
+            go true string same =
+                true≢false (sym (and_from (is_class m.class p.core.string) (is_receiver m.sig.reset) string (ap is_receiver reset))
+                ∙ none_passes (renews_own_text p) p.methods.items named.0 m light.resets named_at)
+            go false string same = let never : types.Obj m.class ≡ types.Str = same in cc
+        by_text m (suc j) named_at reset root' type = go (slice_get m.sig.params.items j) refl type
+          where
+            go : (o : Option ParamSig) → slice_get m.sig.params.items j ≡ o → type_in o ≡ Some types.Str → IsRenewable p x.class
+            go None at none = absurd (let never : None ≡ Some types.Str = none in cc)
+            go (Some q) at some =
+                let of_type : q.vtype ≡ types.Str = (let both : Some q.vtype ≡ Some types.Str = some in cc) in
+                let next : j + 1 ≡ suc j = omega arith in
+                let text : IsNoObjectButText p h (operand_of fr.locals s.action (suc j)) =
+                subst (λ (r : ℕ). IsNoObjectButText p h (operand_of fr.locals s.action r)) next
+                (argument_is_no_object (is_text p h) p ac fr types' i s named j q here called (ap (λ (y : Option Method). slice_get (params_of y) j) named_at ∙ at) (subst (λ (t : VType). NoObject (Some t)) (sym of_type) refl)) in
+                let same = texts_lead_to_texts p ac light h aliases (operand_of fr.locals s.action (suc j)) n x text (root_of_target (operand_of fr.locals s.action (suc j)) n root') there in
+                each m (suc j) types.Str named_at reset type (eq-eqb x.class.0 p.core.string.0 (ap (λ (d : ClassId). d.0) same))
+
         by_type : (m : Method) (k : ℕ) → method_at p named ≡ Some m → m.sig.reset ≡ Some k → finished_root h (number_of (operand_of fr.locals s.action k)) ≡ Some n
-            → (t : Option VType) → type_at m.sig k ≡ t → IsTextless p t → IsRenewable p x.class
-        by_type m k named_at reset root' (Some (types.Obj c)) type kind =
-            renewable h links aliases (reached out) named m k c (operand_of fr.locals s.action k) n x named_at reset type
-            (operand_under h fr c (textless p c kind) (keeps c (textless p c kind)) i s named m k here called named_at instance type) root' there
+            → (t : Option VType) → type_at m.sig k ≡ t → is_class_type_in t ≡ true → IsRenewable p x.class
+        by_type m k named_at reset root' (Some (types.Obj c)) type kind = by_class m k c named_at reset root' type (is_under p p.core.string c) refl
+        by_type m k named_at reset root' (Some types.Str) type kind = by_text m k named_at reset root' type
         by_type m k named_at reset root' None type kind = absurd (true≢false (sym kind))
         by_type m k named_at reset root' (Some t) type kind = absurd (true≢false (sym kind))
 
         by_position : (m : Method) (k : Option ℕ) → method_at p named ≡ Some m → m.sig.reset ≡ k → finished_root h (object_by (operand_of fr.locals s.action) k) ≡ Some n → IsRenewable p x.class
         by_position m None named_at reset root' = absurd (let never : None ≡ Some n = root' in cc)
-        by_position m (Some k) named_at reset root' = by_type m k named_at reset root' (type_at m.sig k) refl (textless_reset p out named m k named_at reset)
+        by_position m (Some k) named_at reset root' = by_type m k named_at reset root' (type_at m.sig k) refl (target_type named m k named_at reset)
 
         by_method : (m : Option Method) → method_at p named ≡ m → target_root h fr.locals s.action m ≡ Some n → IsRenewable p x.class
         by_method None named_at root' = absurd (let never : None ≡ Some n = root' in cc)
         by_method (Some m) named_at root' = by_position m m.sig.reset named_at refl root'
 
-    stores : KeepsTextsOut p → (i : ℕ) (s : Step) (f : FieldId) (field : Field) (d n : ℕ) (x : Object) → slice_get (frame_steps p fr) i ≡ Some s → s.action ≡ actions.PutOwn f d → field_at p f ≡ Some field → field.owning ≡ true
+    stores : (i : ℕ) (s : Step) (f : FieldId) (field : Field) (d n : ℕ) (x : Object) → slice_get (frame_steps p fr) i ≡ Some s → s.action ≡ actions.PutOwn f d → field_at p f ≡ Some field → field.owning ≡ true
         → root_of h (temp_value fr.locals d) ≡ Some n → object_at h n ≡ Some x → IsFollowed p x.class
-    stores out i s f field d n x here is at owning root' there = by_type field.vtype refl (textless_field p out f field at owning)
+    stores i s f field d n x here is at owning root' there = by_type field.vtype refl
       where
-        by_type : (t : VType) → field.vtype ≡ t → IsTextless p (Some t) → IsFollowed p x.class
-        by_type (types.Obj c) type kind =
-            followed h links aliases (reached out) f field c (temp_value fr.locals d) n x at owning type
-            (stored_fits p c ac (textless p c kind) h fr (keeps c (textless p c kind)) i s here f d is
+        -- the field is of a class type
+        class_type : is_class_type field.vtype ≡ true
+        class_type =
+            let shape = or_parts (field.is_static || not field.is_private || not (is_class_type field.vtype) || is_assigned_from_outside p f field || is_extended p field.class) (may_hold_unseen_reset p field.vtype) (well_shaped p ac f field at owning) in
+            let four = or_parts (field.is_static || not field.is_private || not (is_class_type field.vtype) || is_assigned_from_outside p f field) (is_extended p field.class) shape.0 in
+            let three = or_parts (field.is_static || not field.is_private || not (is_class_type field.vtype)) (is_assigned_from_outside p f field) four.0 in
+            is_true (is_class_type field.vtype) (or_parts (field.is_static || not field.is_private) (not (is_class_type field.vtype)) three.0).1
+          where
+            is_true : (b : Bool) → not b ≡ false → b ≡ true
+            is_true true none = refl
+            is_true false none = absurd (true≢false none)
+
+        by_class : (c : ClassId) → field.vtype ≡ types.Obj c → (b : Bool) → is_under p p.core.string c ≡ b → IsFollowed p x.class
+        by_class c type true above = followed_any light fields f field c x at owning type above
+        by_class c type false own =
+            followed h links aliases reached light f field c (temp_value fr.locals d) n x at owning type own
+            (stored_fits p c ac own h fr (keeps c own) i s here f d is
             (subst (λ (o : Option Field). OfClass p c (type_of_field o)) (sym at) (subst (λ (t : VType). IsOfClass p c t) (sym type) (under_itself c))))
             root' there
-        by_type (types.Primitive k) type kind = absurd (true≢false (sym kind))
-        by_type types.Str type kind = absurd (true≢false (sym kind))
-        by_type (types.Arr e) type kind = absurd (true≢false (sym kind))
-        by_type types.NullType type kind = absurd (true≢false (sym kind))
 
-    pub frame_in_sight : ActsInSight p h fr
-    frame_in_sight = record { renews = renews; stores = stores }
+        by_type : (t : VType) → field.vtype ≡ t → IsFollowed p x.class
+        by_type (types.Obj c) type = by_class c type (is_under p p.core.string c) refl
+        by_type types.Str type =
+            followed_text light fields f field x at owning type
+            (texts_lead_to_texts p ac light h aliases (temp_value fr.locals d) n x
+            (stored_value_is_no_object (is_text p h) p ac fr types' i s f d here is (subst (λ (o : Option Field). NoObject (operands.type_of_field o)) (sym at) (subst (λ (t : VType). NoObject (Some t)) (sym type) refl))) root' there)
+        by_type (types.Primitive k) type = absurd (true≢false (sym class_type ∙ ap is_class_type type))
+        by_type (types.Arr e) type = absurd (true≢false (sym class_type ∙ ap is_class_type type))
+        by_type types.NullType type = absurd (true≢false (sym class_type ∙ ap is_class_type type))
+
+    pub frame_in_sight : UpdatesTexts p h fr → ActsInSight p h fr
+    frame_in_sight updates = record { renews = renews; stores = stores; updates = updates }
 
 -- the next step of each frame is seen
-pub acts_in_sight : (p : Program) → Accept p → (h : HeapContents) (frs : List Frame) → HasEarlierLinks h → ((bound : ClassId) → IsNotAboveString p bound → FramesFitClass p bound h frs) → LinkedAreAliases p h
-    → (KeepsTextsOut p → LinksReachAliased p h) → AllActInSight p h frs
-acts_in_sight p ac h [] links keeps aliases reached = tt
-acts_in_sight p ac h (fr ∷ frs) links keeps aliases reached =
-    (frame_in_sight p ac h links aliases reached fr (λ bound own. (keeps bound own).0), acts_in_sight p ac h frs links (λ bound own. (keeps bound own).1) aliases reached)
+pub acts_in_sight : (p : Program) → Accept p → HasLightTexts p → OwnsNoRenewedText p → (h : HeapContents) (frs : List Frame) → HasEarlierLinks h → ((bound : ClassId) → IsNotAboveString p bound → FramesFitClass p bound h frs) → KeepAll (is_text p h) p frs
+    → LinkedAreAliases p h → LinksReachAliased p h → AllUpdateTexts p h frs → AllActInSight p h frs
+acts_in_sight p ac light fields h [] links keeps types' aliases reached updates = tt
+acts_in_sight p ac light fields h (fr ∷ frs) links keeps types' aliases reached updates = (
+  frame_in_sight p ac light fields h links aliases reached fr (λ bound own. (keeps bound own).0) types'.0 updates.0,
+  acts_in_sight p ac light fields h frs links (λ bound own. (keeps bound own).1) types'.1 aliases reached updates.1,
+)

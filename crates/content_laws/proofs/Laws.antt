@@ -30,10 +30,10 @@ use Rattle.covering_laws.specs.Frames.{HaveTargets}
 use Rattle.covering_laws.proofs.FrameMoved.{IsBack, back_is}
 use Rattle.covering_laws.specs.Nexts.{IsNext}
 use Rattle.covering_laws.proofs.Cases.{next_is}
-use Rattle.covering_laws.proofs.Ready.{plain_step}
 use Rattle.covering_laws.specs.FieldContents.{AreNew}
 use Rattle.covering_laws.specs.Ranges.{AreInRange, LocalsInRange}
 use Rattle.covering_laws.proofs.Growth.{began_grows, library_grows, returned_grows}
+use Rattle.covering_laws.specs.Sight.{ActsInSight, AllActInSight}
 use Rattle.content_laws.specs.Filled.{AreFilled}
 use Rattle.content_laws.proofs.FilledStores.{in_none, inner_owning}
 use Rattle.content_laws.proofs.FilledFrames.{KeepsOwning, begun_filled, keeps_stores, same_filled, went_filled}
@@ -50,7 +50,7 @@ module _ (p : Program) (ac : Accept p) (forms : HasPlainForms p) where
   carried c d is all = subst (λ (x : Config). AreFilled p x.heap x.frames) (same_went c d is) all
 
   module _ (c d : Config) (fr : Frame) (frs : List Frame) (st : Stands p fr) (ranges : AreInRange c) (in' : All (λ (x : Frame). LocalsInRange c.heap x.locals) (fr ∷ frs)) (new : AreNew p (fr ∷ frs))
-      (all : AreFilled p c.heap (fr ∷ frs)) (same_frames : AreFilled p c.heap c.frames) where
+      (all : AreFilled p c.heap (fr ∷ frs)) (same_frames : AreFilled p c.heap c.frames) (sight : ActsInSight p c.heap fr) where
     returned_all : (caller : Frame) (below : List Frame) (pos : Pos) (q : Completion) (r : Return) → Stands p caller → AreNew p (caller ∷ below) → AreFilled p c.heap (caller ∷ below)
         → IsBack (frame_steps p caller) r → returned_by p c fr caller below pos q r ≡ went d → AreFilled p d.heap d.frames
     returned_all caller below pos q (Back e named t) waits new' all' back same =
@@ -75,7 +75,7 @@ module _ (p : Program) (ac : Accept p) (forms : HasPlainForms p) where
         let v = thrown_value c.heap e (made_value p c.heap c.arrays c.statics (next_choice c.choices c.used) fr.locals s.action) in
         carried (within p c fr frs e s) d same
         (went_filled p forms c.heap (within p c fr frs e s).heap fr st next.0 s next.1
-        (inner_owning p c.heap fr.method fr.locals e s.action s.pos (held_by (frame_after p c.heap fr s v ∷ frs)) (plain_step p ac forms fr st next.0 s next.1)) v frs new all)
+        (inner_owning p c.heap fr.method fr.locals e s.action s.pos (held_by (frame_after p c.heap fr s v ∷ frs)) (λ f d w this is own held. (sight.updates next.0 s f d w this next.1 is own held).0)) v frs new all)
     moved_all standing (Start named runs a pos) next same =
         let k : HeapContents = (began p c fr frs named runs a pos).heap in
         let keeps : KeepsOwning p c.heap k = fields_keep p c.heap k (began_grows p fr.locals a (method_at p named) (suc (suc (length frs))) c.heap).fields in
@@ -92,18 +92,18 @@ module _ (p : Program) (ac : Accept p) (forms : HasPlainForms p) where
     moved_all standing Rest next same = carried c d same same_frames
 
   by_frames : (c d : Config) (frs : List Frame) → HasMadeClasses p c.heap → AreInRange c → AreFilled p c.heap c.frames → AllStand p frs → HaveTargets p frs → All (λ (x : Frame). LocalsInRange c.heap x.locals) frs → AreNew p frs
-      → AreFilled p c.heap frs → moved_by p c frs (top_move p c frs) ≡ went d → AreFilled p d.heap d.frames
-  by_frames c d [] made ranges have standing targets in' new all same = absurd (let never : ended c.ended ≡ went d = same in cc)
-  by_frames c d (fr ∷ frs) made ranges have standing targets in' new all same =
-      moved_all c d fr frs standing.0 ranges in' new all have standing.1 (top_move p c (fr ∷ frs))
+      → AreFilled p c.heap frs → AllActInSight p c.heap frs → moved_by p c frs (top_move p c frs) ≡ went d → AreFilled p d.heap d.frames
+  by_frames c d [] made ranges have standing targets in' new all sight same = absurd (let never : ended c.ended ≡ went d = same in cc)
+  by_frames c d (fr ∷ frs) made ranges have standing targets in' new all sight same =
+      moved_all c d fr frs standing.0 ranges in' new all have sight.0 standing.1 (top_move p c (fr ∷ frs))
       (next_is p ac forms c.heap c.arrays (next_choice c.choices c.used) fr standing.0 targets.0 made) same
 
 -- ---- the laws
 
 pub filled_step : (p : Program) → Accept p → HasPlainForms p → (c d : Config) → HasMadeClasses p c.heap → AllStand p c.frames → HaveTargets p c.frames → AreInRange c → AreNew p c.frames → AreFilled p c.heap c.frames
-    → step p c ≡ went d → AreFilled p d.heap d.frames
+    → AllActInSight p c.heap c.frames → step p c ≡ went d → AreFilled p d.heap d.frames
 unfolding step
-filled_step p ac forms c d made standing targets ranges new all same = by_frames p ac forms c d c.frames made ranges all standing targets ranges.frames new all same
+filled_step p ac forms c d made standing targets ranges new all sight same = by_frames p ac forms c d c.frames made ranges all standing targets ranges.frames new all sight same
 
 pub filled_at_start : (p : Program) (main : MethodId) (choices : Choices) → AreFilled p (start_config p main choices).heap (start_config p main choices).frames
 unfolding start_config

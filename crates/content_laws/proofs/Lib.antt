@@ -14,6 +14,7 @@ pub mod Ends
 pub mod AliasConstructors
 pub mod ContentFrames
 pub mod Steps
+pub mod TextContents
 pub mod Renewals
 pub mod ResetRenews
 pub mod LibraryResets
@@ -102,6 +103,7 @@ pub use Rattle.covering_laws.proofs.PlaceLaws
 pub use Rattle.covering_laws.proofs.PromisedFields
 pub use Rattle.covering_laws.proofs.RangeValues
 pub use Rattle.covering_laws.proofs.Ready
+pub use Rattle.covering_laws.proofs.ResetCovers
 pub use Rattle.covering_laws.proofs.ResetJoins
 pub use Rattle.covering_laws.proofs.Results
 pub use Rattle.covering_laws.proofs.Returned
@@ -111,6 +113,8 @@ pub use Rattle.covering_laws.proofs.SignedPromises
 pub use Rattle.covering_laws.proofs.Stacks
 pub use Rattle.covering_laws.proofs.StartReached
 pub use Rattle.covering_laws.proofs.StoredObjects
+pub use Rattle.covering_laws.proofs.TextStores
+pub use Rattle.covering_laws.proofs.UpdatedTexts
 pub use Rattle.covering_laws.proofs.Stores
 pub use Rattle.covering_laws.proofs.TargetBegun
 pub use Rattle.covering_laws.proofs.TargetTracks
@@ -118,4 +122,5 @@ pub use Rattle.covering_laws.proofs.Tests
 pub use Rattle.covering_laws.proofs.ThrownLaws
 pub use Rattle.covering_laws.proofs.Tracking
 pub use Rattle.covering_laws.proofs.TrackingGiven
+pub use Rattle.covering_laws.proofs.UnfinishedHolders
 pub use Rattle.covering_laws.proofs.Unmet

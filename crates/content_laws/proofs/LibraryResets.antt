@@ -1,7 +1,9 @@
 -- A call of the library that creates an obligation anew, beside the same call without its reset.
+use Rattle.covering_laws.proofs.Links.{library_evolves}
 use Rattle.std.specs.Prelude.{◌&&◌, nat_lt, not, if◌then◌else◌}
 use Rattle.std.proofs.Common.{◌≡◌, inl, inr, ℕ, zero, suc, Bool, true, false, true≢false, Option, Some, None, List, option_map, refl, sym, ap, ◌∙◌, subst}
 use Rattle.std.proofs.lemmas.Bool.{and_parts}
+use Rattle.program_model.specs.declared.kinds.FieldId.{FieldId}
 use Rattle.program_model.specs.declared.program.Method.{Method}
 use Rattle.program_model.specs.declared.program.Program.{Program}
 use Rattle.java_control.specs.declared.action.Action.{Action}
@@ -17,7 +19,7 @@ use Rattle.ledger_state.specs.declared.locals.Locals.{Locals}
 use Rattle.ledger_state.specs.declared.object.Object.{Object}
 use Rattle.ledger_state.specs.declared.value.Value.{Value}
 use Rattle.ledger_state.specs.declared.value.Value.TheVariants as values
-use Rattle.ledger_obligations.specs.Obligations.{is_library_owner, is_unmet, lose, lost_object, owner_holds, reset_in, with_owner}
+use Rattle.ledger_obligations.specs.Obligations.{finished_holder, finished_in, is_library_owner, is_unmet, lose, lost_object, owner_holds, reset_in, with_owner}
 use Rattle.ledger_steps.specs.LedgerCallsCalls.{interest_in, object_by, reset_position, reset_target}
 use Rattle.ledger_steps.specs.Conducts.{positions}
 use Rattle.covering_laws.specs.Nexts.{IsConstantRead}
@@ -25,7 +27,8 @@ use Rattle.must_call_sets.specs.Bodies as bodies
 use Rattle.ledger_steps.specs.CallSteps.{library_called, library_heap, library_roots}
 use Rattle.covering_laws.proofs.ObjectLaws.{changed_at}
 use Rattle.covering_laws.proofs.HeapLaws.{root_of_changed, roots_of_links-itself}
-use Rattle.covering_laws.specs.HeapAnew.{HasNoHolder, is_anew, is_field_owner, target_root}
+use Rattle.covering_laws.specs.Chains.{Ends, HaveEnds, IsLast, ends_here, of_field}
+use Rattle.covering_laws.specs.HeapAnew.{HasNoHolder, is_anew, target_root}
 use Rattle.covering_laws.specs.Heaps.{HasEarlierLinks, IsOlder}
 use Rattle.must_call_sets.specs.MustCallSets.{must_of}
 use Rattle.covering_laws.proofs.Emptied.{as_it_was, emptied_root, fresh_stays}
@@ -40,7 +43,20 @@ pub same_interest : (m : Option Method) → interest_in (without_reset m) ≡ in
 same_interest None = refl
 same_interest (Some m) = refl
 
-module _ (p : Program) (l : Locals) (a : Action) (m r : Option Method) (d : Conduct) (i : ℕ) (h : HeapContents) (held : List (List Value)) (links : HasEarlierLinks h) (free : HasNoHolder h (target_root h l a m)) where
+-- an object one of whose fields owns another one is there
+holder_there : (h : HeapContents) (o : Owner) → Ends h o → (w : ℕ) (f : FieldId) → o ≡ owners.Field w f → (y : Object) × (object_at h w ≡ Some y)
+holder_there h _ (ends_here o is) w f same = absurd (subst IsLast same is)
+holder_there h _ (of_field v g y at rest) w f same = let one : v ≡ w = cc in (y, subst (λ (z : ℕ). object_at h z ≡ Some y) one at)
+
+-- it is not finished, where it is no finished holder
+unready_holder : (h : HeapContents) (w : ℕ) (f : FieldId) → finished_holder h (owners.Field w f) ≡ None → finished_in (object_at h w) ≡ false
+unready_holder h w f none = go (finished_in (object_at h w)) refl none
+  where
+    go : (b : Bool) → finished_in (object_at h w) ≡ b → (if b then Some w else None) ≡ None → finished_in (object_at h w) ≡ false
+    go true done some = absurd (let never : Some w ≡ None = some in cc)
+    go false unready is = unready
+
+module _ (p : Program) (l : Locals) (a : Action) (m r : Option Method) (d : Conduct) (i : ℕ) (h : HeapContents) (held : List (List Value)) (links : HasEarlierLinks h) (free : HasNoHolder h (target_root h l a m)) (ends : HaveEnds h) where
   abbrev plain : HeapContents
   plain = library_heap p l a (without_reset m) r d i h
 
@@ -113,15 +129,19 @@ module _ (p : Program) (l : Locals) (a : Action) (m r : Option Method) (d : Cond
           );
     }
 
-    -- no field owns it
-    no_field : anew n ≡ true → (changed n x).link ≡ None → is_field_owner (changed n x).owner ≡ false
-    no_field is none =
+    -- a field of no finished object owns it
+    no_holder_of : anew n ≡ true → x.link ≡ None → (w : ℕ) (f : FieldId) → x.owner ≡ owners.Field w f → finished_in (object_at plain w) ≡ false
+    no_holder_of is none w f owner =
         let was = was_there is in
-        let root_is : target_root h l a m ≡ Some n = emptied_roots-root p l a m r d h n was.before links free was.at is ∙ ap Some (roots_of_links-itself h n was.before was.at (unlinked was none)) in
-        let before : is_field_owner was.before.owner ≡ false = free n was.before root_is was.at in
-        elim stays.owner [
-          | inl same ↦ ap is_field_owner same ∙ elim was.owner [ inl still ↦ ap is_field_owner still ∙ before | inr gave ↦ ap is_field_owner gave ]
-          | inr gone ↦ ap is_field_owner gone.0
+        let root_is : target_root h l a m ≡ Some n =
+        emptied_roots-root p l a m r d h n was.before links free was.at is ∙ ap Some (roots_of_links-itself h n was.before was.at (sym was.goes_on.link ∙ none)) in
+        elim was.owner [
+          | inr gave ↦ absurd (let never : owners.Field w f ≡ owners.Library = sym owner ∙ gave in cc)
+          | inl still ↦ (
+              let held : was.before.owner ≡ owners.Field w f = sym still ∙ owner in
+              let holder = holder_there h was.before.owner (ends.ends n was.before was.at) w f held in
+              let later = library_evolves p l a (without_reset m) r d i h (says_nothing m) w holder.0 holder.1 in
+              ap finished_in later.1 ∙ later.2.finished ∙ sym (ap finished_in holder.1) ∙ unready_holder h w f (sym (ap (finished_holder h) held) ∙ free n was.before root_is was.at))
         ]
 
   at_after : (n : ℕ) → object_at (lose held whole) n ≡ option_map (changed n) (object_at plain n)
@@ -145,9 +165,7 @@ module _ (p : Program) (l : Locals) (a : Action) (m r : Option Method) (d : Cond
     roots = λ n. root_of_changed (lost_object whole held) whole n (λ k x. (lost_stays k x (is_unmet x && not (owner_holds whole held x.owner k)) refl).link)
         ∙ (let both : Some (root whole n) ≡ Some (root plain n) = same_root p l a m r d i h (values.Object n) in (let one : root whole n ≡ root plain n = cc in one));
     fields = λ w f own. grown_fields p h whole (library_grows p l a m r d i h) w f own ∙ sym (grown_fields p h plain (library_grows p l a (without_reset m) r d i h) w f own);
-    free = λ n y at is none.
-        let x = back_at n y at in
-        ap (λ (u : Object). is_field_owner u.owner) (sym x.2) ∙ no_field n x.0 x.1 is (ap (λ (u : Object). u.link) x.2 ∙ none);
+    up = λ n x w f at is none owner. inl (no_holder_of n x at is none w f owner);
   }
 
 -- ---- no reset

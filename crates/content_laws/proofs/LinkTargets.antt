@@ -44,6 +44,7 @@ use Rattle.covering_laws.specs.LedgerFramesFrames.{frame_after}
 use Rattle.covering_laws.specs.LedgerRunsOutcomes.{ended, stray, went}
 use Rattle.covering_laws.specs.LedgerRunsSteps.{began, end, library_went, main_ended, moved, moved_by, returned, returned_by, step, top_move, within}
 use Rattle.covering_laws.specs.LibraryCalls.{IsAliasMadeAs, IsAliasOf, IsMadeAs}
+use Rattle.covering_laws.specs.LibraryClasses.{HasLightTexts}
 use Rattle.covering_laws.specs.Linking.{IsAliased, LinksReachAliased}
 use Rattle.covering_laws.specs.Moves.{Back, End, Inner, Library, Move, NoWay, Rest, Return, Start, Stray, StrayBack, fits_target, return_move}
 use Rattle.covering_laws.specs.Nexts.{IsBack, IsBackStep, IsConstantRead, IsInnerStep, IsLibraryMove, IsNext, IsNullCall, IsOwningStore, IsPlainStep}
@@ -52,7 +53,6 @@ use Rattle.covering_laws.specs.Operations.{made_value, next_choice}
 use Rattle.covering_laws.specs.PlainForms.{HasPlainForms}
 use Rattle.covering_laws.specs.ProgramCalls as program_calls
 use Rattle.covering_laws.specs.Ranges.{AreInRange, FieldsInRange}
-use Rattle.covering_laws.specs.Renewable.{KeepsTextsOut}
 use Rattle.covering_laws.specs.Starts.{start_config}
 use Rattle.covering_laws.proofs.Cases.{next_is}
 use Rattle.covering_laws.proofs.HeapLaws.{notes_add_names-object}
@@ -192,7 +192,7 @@ free_target p h m actions.Skip v new = absurd (true≢false (sym new))
 free_target p h m (actions.New k d n) v new = refl
 free_target p h m a v new = absurd (true≢false (sym new))
 
-module _ (p : Program) (ac : Accept p) (forms : HasPlainForms p) (out : KeepsTextsOut p) (c d : Config) (links : HasEarlierLinks c.heap) (ranges : FieldsInRange c.heap) (reached : LinksReachAliased p c.heap) where
+module _ (p : Program) (ac : Accept p) (forms : HasPlainForms p) (light : HasLightTexts p) (c d : Config) (links : HasEarlierLinks c.heap) (ranges : FieldsInRange c.heap) (reached : LinksReachAliased p c.heap) where
   abbrev h : HeapContents
   h = c.heap
 
@@ -279,7 +279,7 @@ module _ (p : Program) (ac : Accept p) (forms : HasPlainForms p) (out : KeepsTex
         where
           by_method : (o : Option Method) → method_at p named ≡ o → alias_position o ≡ Some j → called_method s.action ≡ Some named → (e : ClassId) × (object_class h w ≡ Some e) × IsAliased p e
           by_method None named_at none called = absurd (let never : None ≡ Some j = none in cc)
-          by_method (Some n) named_at is called = aliased_operand p ac out h fr keeps next.index s named n j w next.here called named_at (target_is_instance p h c.arrays fr.locals s.action (method_at p named) (next.ran called).1) is number
+          by_method (Some n) named_at is called = aliased_operand p ac light h fr keeps next.index s named n j w next.here called named_at (target_is_instance p h c.arrays fr.locals s.action (method_at p named) (next.ran called).1) is number
 
       made_link : (j : ℕ) → alias_position (method_at p m) ≡ Some j → (f : Conduct) (y : Object) (l : Link) → IsAliasMadeAs fr.locals s.action j f y → y.link ≡ Some l → (e : ClassId) × (object_class h l.to ≡ Some e) × IsAliased p e
       made_link j some (conducts.Throws e) y l is link = absurd (let never : None ≡ Some l = sym is.1 ∙ link in cc)
@@ -355,7 +355,7 @@ module _ (p : Program) (ac : Accept p) (forms : HasPlainForms p) (out : KeepsTex
         by_position : (m : Method) → method_at p named ≡ Some m → program_calls.is_new t.action ≡ true → (o : Option ℕ) → m.sig.alias ≡ o → object_by (operand_of caller.locals t.action) o ≡ Some l.to → (g : ClassId) × (object_class h l.to ≡ Some g) × IsAliased p g
         by_position m named_at new None alias none = absurd (let never : None ≡ Some l.to = none in cc)
         by_position m named_at new (Some j) alias number =
-            aliased_operand p ac out h caller keeps back.index t named m j l.to back.here back.calls named_at (target_is_instance p h [] caller.locals t.action (method_at p named) (free_target p h (method_at p named) t.action (operand_of caller.locals t.action 0) new)) alias number
+            aliased_operand p ac light h caller keeps back.index t named m j l.to back.here back.calls named_at (target_is_instance p h [] caller.locals t.action (method_at p named) (free_target p h (method_at p named) t.action (operand_of caller.locals t.action 0) new)) alias number
 
         by_method : (o : Option Method) → method_at p named ≡ o → program_calls.is_new t.action ≡ true → alias_target (operand_of caller.locals t.action) o ≡ Some l.to → (g : ClassId) × (object_class h l.to ≡ Some g) × IsAliased p g
         by_method None named_at new none = absurd (let never : None ≡ Some l.to = none in cc)
@@ -408,15 +408,15 @@ module _ (p : Program) (ac : Accept p) (forms : HasPlainForms p) (out : KeepsTex
 
 -- ---- the laws
 
-pub links_reach_aliased_step : (p : Program) → Accept p → HasPlainForms p → (c d : Config) → Agree p c → HaveTargets p c.frames → AreInRange c → FieldsHold p c.frames c.heap → AreBeingMade p c.heap c.frames → HaveClasses p c → (KeepsTextsOut p → LinksReachAliased p c.heap)
-    → step p c ≡ went d → KeepsTextsOut p → LinksReachAliased p d.heap
+pub links_reach_aliased_step : (p : Program) → Accept p → HasPlainForms p → HasLightTexts p → (c d : Config) → Agree p c → HaveTargets p c.frames → AreInRange c → FieldsHold p c.frames c.heap → AreBeingMade p c.heap c.frames → HaveClasses p c → LinksReachAliased p c.heap
+    → step p c ≡ went d → LinksReachAliased p d.heap
 unfolding step
-links_reach_aliased_step p ac forms c d agrees targets ranges fields making values reached same out =
-    by_frames p ac forms out c d agrees.links ranges.fields (reached out) c.frames agrees.standing agrees.stacked targets agrees.classes fields making (λ bound own. (values bound own).frames) same
+links_reach_aliased_step p ac forms light c d agrees targets ranges fields making values reached same =
+    by_frames p ac forms light c d agrees.links ranges.fields reached c.frames agrees.standing agrees.stacked targets agrees.classes fields making (λ bound own. (values bound own).frames) same
 
-pub links_reach_aliased_at_start : (p : Program) (main : MethodId) (choices : Choices) → KeepsTextsOut p → LinksReachAliased p (start_config p main choices).heap
+pub links_reach_aliased_at_start : (p : Program) (main : MethodId) (choices : Choices) → LinksReachAliased p (start_config p main choices).heap
 unfolding start_config
-links_reach_aliased_at_start p main choices out k x l at link = absurd (none k x at)
+links_reach_aliased_at_start p main choices k x l at link = absurd (none k x at)
   where
     none : (n : ℕ) (y : Object) → object_at (record { objects = []; fields = [] }) n ≡ Some y → ⊥
     none zero y is = let never : None ≡ Some y = is in cc

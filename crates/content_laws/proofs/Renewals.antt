@@ -1,4 +1,5 @@
--- Obligations that are created anew, of objects that no field owns: what owning fields hold and own stays.
+-- Obligations that are created anew, of objects that no field owns, or one of an object that is not finished, or whose obligation is created anew, too: what
+-- owning fields hold and own stays.
 use Rattle.std.proofs.Common.{◌≡◌, ◌⊎◌, inl, inr, ℕ, Bool, true, false, true≢false, Option, Some, None, List, [], ◌∷◌, refl, sym, ap, ◌∙◌, subst}
 use Rattle.program_model.specs.declared.kinds.ClassId.{ClassId}
 use Rattle.program_model.specs.declared.kinds.FieldId.{FieldId}
@@ -21,17 +22,18 @@ use Rattle.ledger_state.specs.declared.entry.Owner.{Owner}
 use Rattle.ledger_state.specs.declared.entry.Owner.TheVariants as owners
 use Rattle.ledger_state.specs.declared.object.Object.{Object}
 use Rattle.must_call_sets.specs.MustCallSets.{Names, is_heavy_class, must_of, must_of_type}
-use Rattle.covering_laws.specs.HeapAnew.{is_field_owner}
 use Rattle.covering_laws.specs.Configuration.{Frame}
 use Rattle.covering_laws.specs.Heaps.{HasEarlierLinks}
 use Rattle.covering_laws.specs.PlainForms.{run_by}
-use Rattle.covering_laws.specs.FieldContents.{AreDispatched, AreUnfinished, FieldsHold, HaveContents, IsContent, IsDispatched, IsKept, LinksLead, promised_on}
+use Rattle.covering_laws.specs.FieldContents.{AreDispatched, AreUnfinished, FieldsHold, HaveContents, IsContent, IsDispatched, IsKept, LinksLead, has_obligation, promised_on}
 use Rattle.covering_laws.specs.Renewable.{IsFollowed}
 use Rattle.covering_laws.specs.PlaceFacts.{may_owe}
-use Rattle.ledger_obligations.specs.Obligations.{is_library_owner, is_unmet}
-use Rattle.rlc_base.proofs.SetLaws.{member_of-empty}
-use Rattle.std.specs.Prelude.{not, ◌&&◌}
+use Rattle.ledger_obligations.specs.Obligations.{finished_in, is_library_owner, is_unmet}
+use Rattle.rlc_base.proofs.SetLaws.{member_of-empty, within_self}
+use Rattle.std.specs.Prelude.{not, ◌&&◌, ◌||◌}
+use Rattle.std.proofs.lemmas.Bool.{or_right}
 use Rattle.std.specs.FinSet as set
+use Rattle.content_laws.proofs.Goes.{obligation_is_heavy}
 use Rattle.content_laws.proofs.Leading.{KeepsLeading, leads_elsewhere, led_to}
 
 -- The object goes on as `y`: it may be lost, where it is not the library's, and all else stays, but that its obligation may be created anew: then no name was called
@@ -44,14 +46,14 @@ pub record StaysAside (p : Program) (anew : Bool) (x y : Object) : Type 0 where
   pub same : anew ≡ false → (y.must ≡ x.must) × (y.called ≡ x.called)
   pub emptied : anew ≡ true → (y.called ≡ set.empty) × (y.link ≡ None → y.must ≡ must_of p y.class)
 
--- So does each object of the heap `h` in the heap `k`, where the test tells of which the obligation is created anew. Of those that are linked to none, no field owns one.
--- Owning fields hold what they held.
+-- So does each object of the heap `h` in the heap `k`, where the test tells of which the obligation is created anew. Where a field owns one that is linked to none, the
+-- field's object is not finished, or its obligation is created anew, too. Owning fields hold what they held.
 pub record Renews (p : Program) (anew : ℕ → Bool) (h k : HeapContents) : Type 0 where
   pub forth : (n : ℕ) (x : Object) → object_at h n ≡ Some x → (y : Object) × (object_at k n ≡ Some y) × StaysAside p (anew n) x y
   pub back : (n : ℕ) (y : Object) → object_at k n ≡ Some y → (x : Object) × (object_at h n ≡ Some x) × StaysAside p (anew n) x y
   pub roots : (n : ℕ) → root k n ≡ root h n
   pub fields : (w : ℕ) (f : FieldId) → is_owning p f ≡ true → field_value p k w f ≡ field_value p h w f
-  pub free : (n : ℕ) (y : Object) → object_at k n ≡ Some y → anew n ≡ true → y.link ≡ None → is_field_owner y.owner ≡ false
+  pub up : (n : ℕ) (x : Object) (w : ℕ) (f : FieldId) → object_at h n ≡ Some x → anew n ≡ true → x.link ≡ None → x.owner ≡ owners.Field w f → (finished_in (object_at h w) ≡ false) ⊎ (anew w ≡ true)
 
 field_before : (p : Program) (b : Bool) (x y : Object) (w : ℕ) (f : FieldId) → StaysAside p b x y → y.owner ≡ owners.Field w f → x.owner ≡ owners.Field w f
 field_before p b x y w f stays owner = elim stays.owner [ inl same ↦ sym same ∙ owner | inr lost ↦ absurd (let never : owners.Lost ≡ owners.Field w f = sym lost.0 ∙ owner in cc) ]
@@ -115,12 +117,16 @@ module _ (p : Program) (anew : ℕ → Bool) (h k : HeapContents) (renews : Rene
   dispatched_renewed (fr ∷ []) all = tt
   dispatched_renewed (fr ∷ caller ∷ frs) all = (dispatched_one fr caller all.0, all.1, dispatched_renewed (caller ∷ frs) all.2)
 
-  -- what was called on a holder whose obligation is created anew is nothing
-  module _ (frs : List Frame) (o w : ℕ) (f : FieldId) (x y : Object) (stays : StaysAside p false x y) (content : IsContent p frs h o x w f) (now : Object) (at : object_at k w ≡ Some now) where
-    kept_renewed : (b : Bool) → StaysAside p b content.holder now → content.holder.finished ≡ true → IsKept p now f y
-    kept_renewed true goes done m d n at' class interest must has =
+  module _ (frs : List Frame) (o w : ℕ) (f : FieldId) (x y : Object) (content : IsContent p frs h o x w f) (now : Object) (at : object_at k w ≡ Some now) where
+    -- what was called on a holder whose obligation is created anew is nothing
+    kept_emptied : StaysAside p true content.holder now → IsKept p now f y
+    kept_emptied goes m d n at' class interest must has =
         absurd (true≢false (sym has ∙ ap (λ (s : Names). set.contains s n.0) (goes.emptied refl).0 ∙ member_of-empty n.0))
-    kept_renewed false goes done m d n at' class interest must has =
+
+    -- and what was called on another one was done to the content, where this stays
+    kept_renewed : StaysAside p false x y → (b : Bool) → StaysAside p b content.holder now → content.holder.finished ≡ true → IsKept p now f y
+    kept_renewed stays true goes done m d n at' class interest must has = kept_emptied goes m d n at' class interest must has
+    kept_renewed stays false goes done m d n at' class interest must has =
         ap (set.is_subset (promised_on f d)) (stays.same refl).1
         ∙ content.kept done m d n at' (class ∙ goes.class) interest (ap (λ (c : ClassId). set.contains (must_of p c) n.0) (sym goes.class) ∙ must) (ap (λ (s : Names). set.contains s n.0) (sym (goes.same refl).1) ∙ has)
 
@@ -128,8 +134,9 @@ module _ (p : Program) (anew : ℕ → Bool) (h k : HeapContents) (renews : Rene
     whole_renewed true goes done = (goes.emptied refl).1 (goes.link ∙ content.unlinked)
     whole_renewed false goes done = (goes.same refl).0 ∙ content.whole done ∙ ap (must_of p) (sym goes.class)
 
-    content_renewed : StaysAside p (anew w) content.holder now → IsContent p frs k o y w f
-    content_renewed goes = record {
+    content_renewed : y.class ≡ x.class → StaysAside p (anew w) content.holder now → (is_unmet y ≡ true → set.is_subset y.must (must_of p y.class) ≡ true) → (content.holder.finished ≡ true → IsKept p now f y)
+        → IsContent p frs k o y w f
+    content_renewed same goes own kept = record {
       holder = now;
       at = at;
       field = content.field;
@@ -138,41 +145,65 @@ module _ (p : Program) (anew : ℕ → Bool) (h k : HeapContents) (renews : Rene
       program = content.program;
       owning = content.owning;
       held = value_roots h k renews.roots (field_value p k w f) ∙ ap (root_of h) (renews.fields w f (ap is_owning_field content.declared ∙ content.owning)) ∙ content.held;
-      bounded = ap (λ (c : ClassId). set.is_subset (must_of p c) (must_of_type p content.field.vtype)) stays.class ∙ content.bounded;
-      own = ap (λ (s : Names). set.is_subset s (must_of p y.class)) (stays.same refl).0 ∙ ap (λ (c : ClassId). set.is_subset x.must (must_of p c)) stays.class ∙ content.own;
+      bounded = ap (λ (c : ClassId). set.is_subset (must_of p c) (must_of_type p content.field.vtype)) same ∙ content.bounded;
+      own = own;
       whole = λ done. whole_renewed (anew w) goes (sym goes.finished ∙ done);
       unlinked = goes.link ∙ content.unlinked;
-      kept = λ done. kept_renewed (anew w) goes (sym goes.finished ∙ done);
+      kept = λ done. kept (sym goes.finished ∙ done);
       made = λ none. content.made (sym goes.finished ∙ none);
     }
 
-  -- what a field owns is linked to none, so its obligation is not created anew
-  not_anew : HasEarlierLinks k → (o w : ℕ) (f : FieldId) (y : Object) → object_at k o ≡ Some y → y.owner ≡ owners.Field w f → anew o ≡ false
-  not_anew links o w f y at owner = by (anew o) refl
-    where
-      by_link : (l : Option Link) → y.link ≡ l → anew o ≡ true → ⊥
-      by_link None link is = true≢false (sym (ap is_field_owner owner) ∙ renews.free o y at is link)
-      by_link (Some l) link is = let never : owners.Field w f ≡ owners.Unowned = sym owner ∙ (links o y l at link).owner in cc
+  -- an object that stays is unmet if it was
+  same_unmet : (x y : Object) → StaysAside p false x y → is_unmet x ≡ is_unmet y
+  same_unmet x y stays =
+      ap (λ (b : Bool). b && not (set.is_subset x.must x.called)) (sym stays.finished) ∙ ap (λ (s : Names). y.finished && not (set.is_subset s x.called)) (sym (stays.same refl).0)
+      ∙ ap (λ (s : Names). y.finished && not (set.is_subset y.must s)) (sym (stays.same refl).1)
 
-      by : (b : Bool) → anew o ≡ b → anew o ≡ false
-      by true is = absurd (by_link y.link refl is)
-      by false is = is
+  module _ (links : HasEarlierLinks k) (frs : List Frame) (have : HaveContents p frs h) (o : ℕ) (y : Object) (w : ℕ) (f : FieldId) (at : object_at k o ≡ Some y) (has : has_obligation p y ≡ true) (owner : y.owner ≡ owners.Field w f) where
+    -- what a field owns is linked to none
+    unlinked : y.link ≡ None
+    unlinked = go y.link refl
+      where
+        go : (l : Option Link) → y.link ≡ l → y.link ≡ None
+        go None none = none
+        go (Some l) link = absurd (let never : owners.Field w f ≡ owners.Unowned = sym owner ∙ (links o y l at link).owner in cc)
 
-  contents_renewed : HasEarlierLinks k → (frs : List Frame) → HaveContents p frs h → HaveContents p frs k
-  contents_renewed links frs have o y w f at unmet owner =
-      let x = renews.back o y at in
-      let stays = subst (λ (b : Bool). StaysAside p b x.0 y) (not_anew links o w f y at owner) x.2 in
-      let was : is_unmet x.0 ≡ true =
-      ap (λ (b : Bool). b && not (set.is_subset x.0.must x.0.called)) (sym stays.finished) ∙ ap (λ (s : Names). y.finished && not (set.is_subset s x.0.called)) (sym (stays.same refl).0)
-      ∙ ap (λ (s : Names). y.finished && not (set.is_subset y.must s)) (sym (stays.same refl).1) ∙ unmet in
-      let content = have o x.0 w f x.1 was (field_before p (anew o) x.0 y w f x.2 owner) in
-      let now = renews.forth w content.holder content.at in
-      content_renewed frs o w f x.0 y stays content now.0 now.1 now.2
+    -- a content whose obligation is not created anew
+    content_stays : (x : Object) → object_at h o ≡ Some x → StaysAside p false x y → IsContent p frs k o y w f
+    content_stays x before stays =
+        let unmet_as = same_unmet x y stays in
+        let had : has_obligation p x ≡ true = ap (λ (b : Bool). b || is_heavy_class p x.class) unmet_as ∙ ap (λ (c : ClassId). is_unmet y || is_heavy_class p c) (sym stays.class) ∙ has in
+        let content = have o x w f before had (field_before p false x y w f stays owner) in
+        let now = renews.forth w content.holder content.at in
+        content_renewed frs o w f x y content now.0 now.1 stays.class now.2
+        (λ unmet. ap (λ (s : Names). set.is_subset s (must_of p y.class)) (stays.same refl).0 ∙ ap (λ (c : ClassId). set.is_subset x.must (must_of p c)) stays.class ∙ content.own (unmet_as ∙ unmet))
+        (kept_renewed frs o w f x y content now.0 now.1 stays (anew w) now.2)
+
+    -- a content whose obligation is
+    content_anew : anew o ≡ true → (x : Object) → object_at h o ≡ Some x → StaysAside p true x y → IsContent p frs k o y w f
+    content_anew is x before stays =
+        let own : set.is_subset y.must (must_of p y.class) ≡ true = ap (λ (s : Names). set.is_subset s (must_of p y.class)) ((stays.emptied refl).1 unlinked) ∙ within_self (must_of p y.class) in
+        let heavy = obligation_is_heavy p y has (λ unmet. own) in
+        let owned = field_before p true x y w f stays owner in
+        let content = have o x w f before (or_right (is_unmet x) (is_heavy_class p x.class) (ap (is_heavy_class p) (sym stays.class) ∙ heavy)) owned in
+        let now = renews.forth w content.holder content.at in
+        content_renewed frs o w f x y content now.0 now.1 stays.class now.2 (λ unmet. own)
+        (λ done. elim (renews.up o x w f before is (sym stays.link ∙ unlinked) owned) [
+          | inl unready ↦ absurd (true≢false (sym done ∙ sym (ap finished_in content.at) ∙ unready))
+          | inr up ↦ kept_emptied frs o w f x y content now.0 now.1 (subst (λ (b : Bool). StaysAside p b content.holder now.0) up now.2)
+        ])
+
+    content_then : IsContent p frs k o y w f
+    content_then = let x = renews.back o y at in by (anew o) refl x.0 x.1 x.2
+      where
+        by : (b : Bool) → anew o ≡ b → (x : Object) → object_at h o ≡ Some x → StaysAside p b x y → IsContent p frs k o y w f
+        by true is x before stays = content_anew is x before stays
+        by false is x before stays = content_stays x before stays
 
   pub renewed_hold : HasEarlierLinks k → (frs : List Frame) → FieldsHold p frs h → FieldsHold p frs k
   renewed_hold links frs hold = record {
-    contents = contents_renewed links frs hold.contents;
-    owning = λ o y w f at owner. (let x = renews.back o y at in (let was = hold.owning o x.0 w f x.1 (field_before p (anew o) x.0 y w f x.2 owner) in (was.0, λ out. subst (IsFollowed p) (sym x.2.class) (was.1 out))));
+    contents = content_then links frs hold.contents;
+    owning = λ o y w f at owner. (let x = renews.back o y at in (let was = hold.owning o x.0 w f x.1 (field_before p (anew o) x.0 y w f x.2 owner) in (was.0, subst (IsFollowed p) (sym x.2.class) was.1)));
     leads = leads_renewed hold.leads;
     new = hold.new;
     fresh = hold.fresh;
@@ -180,7 +211,7 @@ module _ (p : Program) (anew : ℕ → Bool) (h k : HeapContents) (renews : Rene
     dispatched = dispatched_renewed frs hold.dispatched;
   }
 
--- The call of the library, which names the method `m` and which it answers by the signature of `r`, leaves the heap `k`, in which obligations may be created anew, of objects that no field owns: but for what was called and must be, and what
+-- The call of the library, which names the method `m` and which it answers by the signature of `r`, leaves the heap `k`, in which obligations may be created anew: but for what was called and must be, and what
 -- is lost, the heap is that which the call leaves where its signature creates nothing anew.
 pub record CreatesAnew (p : Program) (l : Locals) (a : Action) (m r : Option Method) (d : Conduct) (i : ℕ) (h k : HeapContents) : Type 0 where
   pub plain : Option Method

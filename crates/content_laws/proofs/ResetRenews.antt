@@ -1,7 +1,7 @@
--- A heap whose objects are those of another, but that those which a reset reaches are emptied: what owning fields hold and own stays, where no field owns what is
--- reached, also over what is lost.
+-- A heap whose objects are those of another, but that those which a reset reaches are emptied: what owning fields hold and own stays, where the reset reaches the finished
+-- holder of what it reaches, also over what is lost.
 use Rattle.std.specs.Prelude.{◌&&◌, not, if◌then◌else◌}
-use Rattle.std.proofs.Common.{◌≡◌, inl, inr, ℕ, Bool, true, false, true≢false, Option, Some, None, List, nat_eq, option_map, refl, sym, ap, ◌∙◌, subst, eq-eqb}
+use Rattle.std.proofs.Common.{◌≡◌, ◌⊎◌, inl, inr, ℕ, Bool, true, false, true≢false, Option, Some, None, List, nat_eq, option_map, refl, sym, ap, ◌∙◌, subst, eq-eqb}
 use Rattle.std.specs.FinSet as set
 use Rattle.std.proofs.lemmas.Bool.{and_parts}
 use Rattle.program_model.specs.declared.kinds.FieldId.{FieldId}
@@ -14,9 +14,8 @@ use Rattle.ledger_state.specs.declared.entry.Owner.{Owner}
 use Rattle.ledger_state.specs.declared.entry.Owner.TheVariants as owners
 use Rattle.ledger_state.specs.declared.object.Object.{Object}
 use Rattle.ledger_state.specs.declared.value.Value.{Value}
-use Rattle.ledger_obligations.specs.Obligations.{emptied, is_library_owner, is_unmet, lose, lost_object, owner_holds, reset_in, with_owner}
+use Rattle.ledger_obligations.specs.Obligations.{emptied, finished_in, is_library_owner, is_unmet, lose, lost_object, owner_holds, reset_in, with_owner}
 use Rattle.must_call_sets.specs.MustCallSets.{must_of}
-use Rattle.covering_laws.specs.HeapAnew.{is_field_owner}
 use Rattle.covering_laws.proofs.HeapLaws.{root_of_changed}
 use Rattle.covering_laws.proofs.ObjectLaws.{changed_at}
 use Rattle.covering_laws.proofs.Renewed.{reset_keeps}
@@ -24,7 +23,8 @@ use Rattle.covering_laws.proofs.ResetHeaps.{IsResetOf, reset_number}
 use Rattle.content_laws.proofs.Renewals.{Renews, StaysAside}
 
 module _ (p : Program) (c : HeapContents) (roots : List ℕ) (plain whole : HeapContents) (it : IsResetOf p c roots plain whole) (held : List (List Value))
-    (itself : (n : ℕ) (x : Object) → object_at plain n ≡ Some x → is_reached c roots n ≡ true → x.link ≡ None → (root c n ≡ n) × (is_field_owner x.owner ≡ false))
+    (itself : (n : ℕ) (x : Object) → object_at plain n ≡ Some x → is_reached c roots n ≡ true → x.link ≡ None
+    → (root c n ≡ n) × ((w : ℕ) (f : FieldId) → x.owner ≡ owners.Field w f → (finished_in (object_at plain w) ≡ false) ⊎ (is_reached c roots w ≡ true)))
     (fields : (w : ℕ) (f : FieldId) → is_owning p f ≡ true → field_value p whole w f ≡ field_value p plain w f) where
   abbrev turned : ℕ → Object → Object
   turned n x = reset_in p c roots n x
@@ -89,12 +89,6 @@ module _ (p : Program) (c : HeapContents) (roots : List ℕ) (plain whole : Heap
           ((lost.same refl).1 ∙ names.0, λ none. (lost.same refl).0 ∙ names.1 (sym kept.1 ∙ sym lost.link ∙ none) ∙ ap (must_of p) (sym (lost.class ∙ kept.0)));
     }
 
-    -- no field owns it
-    no_field : anew n ≡ true → (changed n x).link ≡ None → is_field_owner (changed n x).owner ≡ false
-    no_field is none =
-        let free = (itself n x at is (sym kept.1 ∙ sym lost.link ∙ none)).1 in
-        elim stays.owner [ inl same ↦ ap is_field_owner same ∙ free | inr gone ↦ ap is_field_owner gone.0 ]
-
   at_after : (n : ℕ) → object_at (lose held whole) n ≡ option_map (changed n) (object_at plain n)
   at_after n = changed_at (lost_object whole held) whole n ∙ ap (option_map (lost_object whole held n)) (it.objects n) ∙ both (object_at plain n)
     where
@@ -115,7 +109,5 @@ module _ (p : Program) (c : HeapContents) (roots : List ℕ) (plain whole : Heap
     back = λ n y at. (let x = back_at n y at in (x.0, x.1, subst (StaysAside p (anew n) x.0) x.2 (stays n x.0 x.1)));
     roots = λ n. root_of_changed (lost_object whole held) whole n (λ k x. (lost_stays k x (is_unmet x && not (owner_holds whole held x.owner k)) refl).link) ∙ reset_number p c roots plain whole it n;
     fields = λ w f own. fields w f own;
-    free = λ n y at is none.
-        let x = back_at n y at in
-        ap (λ (u : Object). is_field_owner u.owner) (sym x.2) ∙ no_field n x.0 x.1 is (ap (λ (u : Object). u.link) x.2 ∙ none);
+    up = λ n x w f at is none owner. (itself n x at is none).1 w f owner;
   }

@@ -1,6 +1,10 @@
 -- The end of a frame and of its call keeps what owning fields hold and own.
+use Rattle.covering_laws.proofs.UnfinishedHolders.{held_unready, lent_unready}
+use Rattle.covering_laws.proofs.WaitingTargets.{owned_or_lent}
+use Rattle.covering_laws.proofs.Owners.{held_at, runs_on_none}
+use Rattle.covering_laws.proofs.NoteLaws.{noted_goes_on}
 pub use Rattle.covering_laws.proofs.Returns.{back_is}
-use Rattle.std.specs.Prelude.{◌<◌, ◌≤◌, ◌||◌, ◌&&◌, is_some, not}
+use Rattle.std.specs.Prelude.{◌<◌, ◌||◌, ◌&&◌, is_some, not}
 use Rattle.std.specs.FinSet as set
 use Rattle.std.proofs.Common.{◌≡◌, ◌⊎◌, ℕ, zero, suc, ◌+◌, Bool, true, false, true≢false, Option, Some, None, List, ◌∷◌, length, slice_get, refl, sym, ap, ◌∙◌, subst, if◌then◌else◌, inl, inr, eqb-true, eq-eqb, arith}
 use Rattle.std.proofs.lemmas.Bool.{and_parts}
@@ -30,7 +34,7 @@ use Rattle.covering_laws.specs.Paths.{move_of}
 use Rattle.covering_laws.specs.Outcomes.{IsCallRow}
 use Rattle.ledger_state.specs.Contents.{HeapContents}
 use Rattle.ledger_state.specs.Fields.{field_value}
-use Rattle.ledger_state.specs.Heaps.{change_one, is_reached, next_number, object_at, root, root_of}
+use Rattle.ledger_state.specs.Heaps.{change_one, is_reached, object_at, root, root_of}
 use Rattle.ledger_state.specs.Locals.{variable_value}
 use Rattle.ledger_state.specs.Values.{number_of}
 use Rattle.ledger_state.specs.declared.entry.Owner.TheVariants as owners
@@ -39,8 +43,8 @@ use Rattle.ledger_state.specs.declared.object.Link.{Link}
 use Rattle.ledger_state.specs.declared.object.Object.{Object}
 use Rattle.ledger_state.specs.declared.value.Value.{Value}
 use Rattle.ledger_state.specs.declared.value.Value.TheVariants as values
-use Rattle.ledger_obligations.specs.Obligations.{alias_born, end_holder, finished, is_unmet, lose}
-use Rattle.ledger_steps.specs.LedgerCallsCalls.{alias_position, alias_target, interest_in, is_alias, object_by, operand_of, reset_position}
+use Rattle.ledger_obligations.specs.Obligations.{alias_born, all_notes, end_holder, finished, finished_in, is_held_by, is_library_owner, lose, noted_object}
+use Rattle.ledger_steps.specs.LedgerCallsCalls.{alias_position, alias_target, interest_in, is_alias, object_by, operand_of, receiver_note, reset_position}
 use Rattle.covering_laws.specs.Configuration.{Config, Frame, held_by}
 use Rattle.covering_laws.specs.Choosing.{frame_steps, is_number}
 use Rattle.covering_laws.specs.Frames.{frame_after}
@@ -55,22 +59,21 @@ use Rattle.covering_laws.proofs.HeapLaws.{roots_of_links-there}
 use Rattle.covering_laws.proofs.ObjectLaws.{in_range}
 use Rattle.covering_laws.specs.ProgramCalls as program_calls
 use Rattle.covering_laws.proofs.EndLinks.{called_links, end_links, gone_links}
-use Rattle.covering_laws.proofs.Returned.{gone_unowned}
+use Rattle.covering_laws.proofs.Returned.{end_back, gone_unowned}
 use Rattle.covering_laws.specs.Arguments.{HasArguments}
 use Rattle.covering_laws.proofs.Constructors.{spoken}
 use Rattle.covering_laws.proofs.KeptArguments.{field_holds}
 use Rattle.covering_laws.specs.Agreement.{Agrees, AllStand, IsMade, IsMadeAfter, IsMadeBy, RunsItself, WaitsFor}
-use Rattle.covering_laws.specs.PlainForms.{HasPlainForms, IsPlainCall, calls_constructor, MayRun}
-use Rattle.ledger_steps.specs.LedgerCallsCalls.{body_of}
+use Rattle.covering_laws.specs.PlainForms.{HasPlainForms, IsPlainCall, calls_constructor}
 use Rattle.covering_laws.specs.Nexts.{IsBack, IsBackStep}
 use Rattle.covering_laws.proofs.Ready.{plain_call, plain_step, step_here, step_there}
-use Rattle.covering_laws.proofs.Unmet.{call_may, unmet_before}
+use Rattle.covering_laws.proofs.Unmet.{call_may}
 use Rattle.covering_laws.proofs.CallWays.{one_action}
 use Rattle.covering_laws.specs.Naming.{IsOfItsKind}
 use Rattle.covering_laws.proofs.NamedReached.{names_what_is_there}
 use Rattle.covering_laws.specs.FieldContents.{AreDispatched, AreFresh, AreNew, AreUnfinished, FieldsHold, HaveContents, IsBeingMade, IsContent, LinksLead, RunOnOthers, is_made_in, is_new, makes_holder, makes_object, promised_on, OwningFieldsOwn}
 use Rattle.covering_laws.specs.Renewable.{IsFollowed}
-use Rattle.covering_laws.specs.PlaceFacts.{IsCovered, gives_none, is_given, may_owe, renews_none}
+use Rattle.covering_laws.specs.PlaceFacts.{IsCovered, RunsOn, gives_none, is_given, may_owe, renews_none}
 use Rattle.covering_laws.specs.Renewing.{is_renewed}
 use Rattle.covering_laws.specs.Sight.{ActsInSight}
 use Rattle.covering_laws.proofs.EndResets.{plain_alias_position}
@@ -81,13 +84,10 @@ use Rattle.content_laws.proofs.LibraryResets.{same_interest}
 use Rattle.content_laws.proofs.Renewals.{Renews, renewed_hold}
 use Rattle.content_laws.proofs.ResetRenews.{reset_renews}
 use Rattle.covering_laws.specs.Ranges.{LocalsInRange}
-use Rattle.covering_laws.proofs.Configs.{frames_stay}
-use Rattle.covering_laws.proofs.Growth.{returned_grows}
-use Rattle.covering_laws.proofs.RangeValues.{value_stays}
 use Rattle.content_laws.proofs.AliasConstructors.{alias_class_is_heavy, calls_on_field}
 use Rattle.content_laws.proofs.Ends.{promise_is_kept, receiver_object}
 use Rattle.content_laws.proofs.Finished.{changed_dispatched, changed_unfinished, linked_contents, made, made_contents, one_back}
-use Rattle.content_laws.proofs.Goes.{contents_go_on, dispatched_on, goes_forth, led_there, owed_before, there, unfinished_on}
+use Rattle.content_laws.proofs.Goes.{contents_go_on, dispatched_on, goes_forth, led_there, not_the_librarys_owes, owed_before, there, unfinished_on}
 use Rattle.content_laws.proofs.Heaps.{after_goes, end_goes}
 use Rattle.content_laws.proofs.Leading.{goes_hold, leads_forth}
 use Rattle.content_laws.proofs.Leaves.{holder_owns_nothing}
@@ -95,7 +95,7 @@ use Rattle.content_laws.proofs.Linked.{finished_leads, finished_root, linked_lea
 use Rattle.content_laws.proofs.LinkSteps.{leads_go_on}
 use Rattle.content_laws.proofs.Steps.{IsSameFrame, LocalsIn, owning_on, same_dispatched, same_fresh, same_makes, same_new, same_unfinished, this_in}
 use Rattle.content_laws.specs.Going.{Goes, IsNotedBy, KeepsArgument, PromisesItsOwn, linked}
-use Rattle.content_laws.proofs.Steps.{lost, same_after}
+use Rattle.content_laws.proofs.Steps.{same_after}
 use Rattle.content_laws.proofs.Promised.{promises_its_own}
 use Rattle.content_laws.proofs.ContentStores.{alias_form, body_is_of_program}
 use Rattle.content_laws.proofs.TopSteps.{small_interest}
@@ -216,33 +216,64 @@ module _ (p : Program) (ac : Accept p) (forms' : HasPlainForms p) (c d : Config)
     goes : Goes p h reset (IsNotedBy caller.locals t.action plain)
     goes = end_goes p position fr.locals.this caller.locals t.action (method_at p fr.method) plain v e h no_reset small links
 
-    some_method : (n : Method) → method_at p named ≡ Some n → (o : ℕ) (x y : Object) (w : ℕ) (f : FieldId) → object_at h o ≡ Some x → object_at reset o ≡ Some y → is_unmet y ≡ true → GoesOn x y → x.owner ≡ owners.Field w f
+    -- what a field owns is finished
+    owned_is_finished : (o : ℕ) (x : Object) (w : ℕ) (f : FieldId) → object_at h o ≡ Some x → x.owner ≡ owners.Field w f → x.finished ≡ true
+    owned_is_finished o x w f at owner = go x.finished refl
+      where
+        go : (b : Bool) → x.finished ≡ b → x.finished ≡ true
+        go true done = done
+        go false unready = absurd (let never : owners.Field w f ≡ owners.Unowned = sym owner ∙ agrees.ends.unfinished o x at unready in cc)
+
+    -- the call does not create anew the obligation of what a field of a finished object owns
+    not_renewed : (o : ℕ) (x y : Object) (w : ℕ) (f : FieldId) → object_at h o ≡ Some x → is_heavy_class p y.class ≡ true → GoesOn x y → x.owner ≡ owners.Field w f → (content : IsContent p (fr ∷ caller ∷ rest) h o x w f) → content.holder.finished ≡ true
+        → is_renewed p h caller o ≡ false
+    not_renewed o x y w f at heavy on owner content done = go (is_renewed p h caller o) refl
+      where
+        held : is_held_by x.owner w ≡ true
+        held = held_at x.owner w f owner
+
+        ready : finished_in (object_at h w) ≡ false → ⊥
+        ready unready = true≢false (sym (ap finished_in content.at ∙ done) ∙ unready)
+
+        go : (b : Bool) → is_renewed p h caller o ≡ b → is_renewed p h caller o ≡ false
+        go false still = still
+        go true renewed =
+            absurd (elim (owned_or_lent p ac forms' h caller rest standing'.0 back.index t back.here back.row waiting o x at (ap (is_heavy_class p) (sym on.class) ∙ heavy)
+            (not_the_librarys_owes x (ap is_library_owner owner)) (owned_is_finished o x w f at owner) renewed) [
+              | inl owned ↦ (let never : owners.Field w f ≡ owners.Frame (length rest + 1) = sym owner ∙ owned.key.owner owned.kept owned.own in cc)
+              | inr other ↦ elim other [
+                | inl lent ↦ ready (lent_unready p h rest o x.owner w held hold.unfinished.1.1 lent).0
+                | inr held' ↦ ready (held_unready p h caller rest x.owner w held hold.unfinished.1 held').0
+              ]
+            ])
+
+    some_method : (n : Method) → method_at p named ≡ Some n → (o : ℕ) (x y : Object) (w : ℕ) (f : FieldId) → object_at h o ≡ Some x → object_at reset o ≡ Some y → is_heavy_class p y.class ≡ true → GoesOn x y → x.owner ≡ owners.Field w f
         → (content : IsContent p (fr ∷ caller ∷ rest) h o x w f) → (m : MethodId) (d' : Method) (name : NameId) → content.holder.finished ≡ true → method_at p m ≡ Some d' → d'.class ≡ content.holder.class
         → d'.sig.interest ≡ Some name → set.contains (must_of p content.holder.class) name.0 ≡ true → IsNotedBy caller.locals t.action (method_at p named) w name.0
         → set.is_subset (promised_on f d') y.called ≡ true
-    some_method n named_at o x y w f there' now unmet on owner content m d' name fin at' class interest must noted =
+    some_method n named_at o x y w f there' now heavy on owner content m d' name fin at' class interest must noted =
         promise_is_kept p ac forms' h fr caller rest agrees.standing.0 covered i s q here is back.index t back.here named n back.calls named_at hold.dispatched.0 agrees.classes o x y w f there'
-        (unmet_before x y on unmet) on owner content m d' name at' class interest must (subst (λ (z : Option Method). IsNotedBy caller.locals t.action z w name.0) named_at noted)
+        (ap (is_heavy_class p) (sym on.class) ∙ heavy) (owned_is_finished o x w f there' owner) (not_renewed o x y w f there' heavy on owner content fin) on owner content m d' name at' class interest must (subst (λ (z : Option Method). IsNotedBy caller.locals t.action z w name.0) named_at noted)
 
-    keeps : (o : ℕ) (x y : Object) (w : ℕ) (f : FieldId) → object_at h o ≡ Some x → object_at reset o ≡ Some y → is_unmet y ≡ true → GoesOn x y → x.owner ≡ owners.Field w f
+    keeps : (o : ℕ) (x y : Object) (w : ℕ) (f : FieldId) → object_at h o ≡ Some x → object_at reset o ≡ Some y → is_heavy_class p y.class ≡ true → GoesOn x y → x.owner ≡ owners.Field w f
         → (content : IsContent p (fr ∷ caller ∷ rest) h o x w f) → (m : MethodId) (d' : Method) (name : NameId) → content.holder.finished ≡ true → method_at p m ≡ Some d' → d'.class ≡ content.holder.class
         → d'.sig.interest ≡ Some name → set.contains (must_of p content.holder.class) name.0 ≡ true → IsNotedBy caller.locals t.action (method_at p named) w name.0
         → set.is_subset (promised_on f d') y.called ≡ true
     keeps = go (method_at p named) refl
       where
-        go : (z : Option Method) → method_at p named ≡ z → (o : ℕ) (x y : Object) (w : ℕ) (f : FieldId) → object_at h o ≡ Some x → object_at reset o ≡ Some y → is_unmet y ≡ true → GoesOn x y → x.owner ≡ owners.Field w f
+        go : (z : Option Method) → method_at p named ≡ z → (o : ℕ) (x y : Object) (w : ℕ) (f : FieldId) → object_at h o ≡ Some x → object_at reset o ≡ Some y → is_heavy_class p y.class ≡ true → GoesOn x y → x.owner ≡ owners.Field w f
             → (content : IsContent p (fr ∷ caller ∷ rest) h o x w f) → (m : MethodId) (d' : Method) (name : NameId) → content.holder.finished ≡ true → method_at p m ≡ Some d' → d'.class ≡ content.holder.class
             → d'.sig.interest ≡ Some name → set.contains (must_of p content.holder.class) name.0 ≡ true → IsNotedBy caller.locals t.action (method_at p named) w name.0
             → set.is_subset (promised_on f d') y.called ≡ true
-        go None none' o x y w f there' now unmet on owner content m d' name fin at' class interest must noted =
+        go None none' o x y w f there' now heavy on owner content m d' name fin at' class interest must noted =
             absurd (let never : None ≡ Some noted.name = sym (ap interest_in none') ∙ noted.interest in cc)
-        go (Some n) named_at o x y w f there' now unmet on owner content m d' name fin at' class interest must noted =
-            some_method n named_at o x y w f there' now unmet on owner content m d' name fin at' class interest must noted
+        go (Some n) named_at o x y w f there' now heavy on owner content m d' name fin at' class interest must noted =
+            some_method n named_at o x y w f there' now heavy on owner content m d' name fin at' class interest must noted
 
     -- the contents when the frame has gone, while its constructor still counts
     between : HaveContents p (fr ∷ after ∷ rest) reset
     between = contents_go_on p h reset _ goes own hold.leads (fr ∷ caller ∷ rest) (fr ∷ after ∷ rest) hold.contents
-        (λ o x y w f at now unmet on owner content m d' n fin there' class interest must noted. keeps o x y w f at now unmet on owner content m d' n fin there' class interest must (as_noted w n.0 noted))
+        (λ o x y w f at now heavy on owner content m d' n fin there' class interest must noted. keeps o x y w f at now heavy on owner content m d' n fin there' class interest must (as_noted w n.0 noted))
         (λ o x y w f content now owner un' made'. still_made w content.field.class made')
       where
         still_made : (w : ℕ) (c' : ClassId) → is_made_in p w c' (fr ∷ caller ∷ rest) ≡ true → is_made_in p w c' (fr ∷ after ∷ rest) ≡ true
@@ -288,8 +319,8 @@ module _ (p : Program) (ac : Accept p) (forms' : HasPlainForms p) (c d : Config)
             ∙ rw (new, this) refl
 
     no_maker : (is_new waits.step.action ≡ false) ⊎ ((x : ClassId) × (e ≡ Some x)) → (o : ℕ) (y : Object) (w : ℕ) (f : FieldId) (field : Field) → field_at p f ≡ Some field → field.owning ≡ true
-        → makes_holder p w field.class fr ≡ true → object_at reset o ≡ Some y → is_unmet y ≡ true → y.owner ≡ owners.Field w f → ⊥
-    no_maker how o y w f field declared owning makes now unmet owner = elim how [
+        → makes_holder p w field.class fr ≡ true → object_at reset o ≡ Some y → y.owner ≡ owners.Field w f → ⊥
+    no_maker how o y w f field declared owning makes now owner = elim how [
       | inr thrown ↦ (let z = after_gone o y w f now owner in none_held thrown.0 thrown.1 constructor w this z.0.0 z.0.1 f z.1 z.2)
       | inl other ↦ by_action waits.step.action refl other waits.itself
     ]
@@ -327,7 +358,7 @@ module _ (p : Program) (ac : Accept p) (forms' : HasPlainForms p) (c d : Config)
 
     -- the constructor that has ended is not that of a content whose holder is not finished, but where a `new` has ended normally
     gone_maker : (is_new waits.step.action ≡ false) ⊎ ((x : ClassId) × (e ≡ Some x)) → HaveContents p (after ∷ rest) reset
-    gone_maker how o y w f now unmet owner = with_maker (between o y w f now unmet owner)
+    gone_maker how o y w f now has owner = with_maker (between o y w f now has owner)
       where
         with_maker : IsContent p (fr ∷ after ∷ rest) reset o y w f → IsContent p (after ∷ rest) reset o y w f
         with_maker content = record {
@@ -349,7 +380,7 @@ module _ (p : Program) (ac : Accept p) (forms' : HasPlainForms p) (c d : Config)
           where
             by_maker : (b : Bool) → makes_holder p w content.field.class fr ≡ b → (b || is_made_in p w content.field.class (after ∷ rest)) ≡ true → is_made_in p w content.field.class (after ∷ rest) ≡ true
             by_maker false absent more = more
-            by_maker true makes more = absurd (no_maker how o y w f content.field content.declared content.owning makes now unmet owner)
+            by_maker true makes more = absurd (no_maker how o y w f content.field content.declared content.owning makes now owner)
 
     abbrev Then : HeapContents → Type 0
     Then k = FieldsHold p (after ∷ rest) k
@@ -364,7 +395,7 @@ module _ (p : Program) (ac : Accept p) (forms' : HasPlainForms p) (c d : Config)
         let x = one_back p reset w change o y at in
         elim x.2 [
           | inl here' ↦ absurd (none x.0 u f (ap (object_at reset) (sym here'.0) ∙ x.1) (ap (λ (z : Object). z.owner) (sym here'.1) ∙ owner))
-          | inr other ↦ (let was = owning_then o x.0 u f x.1 (ap (λ (z : Object). z.owner) (sym other.1) ∙ owner) in (was.0, λ out. subst (λ (z : Object). IsFollowed p z.class) (sym other.1) (was.1 out)))
+          | inr other ↦ (let was = owning_then o x.0 u f x.1 (ap (λ (z : Object). z.owner) (sym other.1) ∙ owner) in (was.0, subst (λ (z : Object). IsFollowed p z.class) (sym other.1) was.1))
         ]
 
     as_it_is : (is_new waits.step.action ≡ false) ⊎ ((x : ClassId) × (e ≡ Some x)) → Then reset
@@ -676,9 +707,35 @@ module _ (p : Program) (ac : Accept p) (forms' : HasPlainForms p) (c d : Config)
     abbrev gone_heap : HeapContents
     gone_heap = frame_gone p position fr.locals.this (method_at p fr.method) v e h
 
+    -- an object on which a frame below runs is not finished, where it was not when the frame had gone: it is none that a `new` has finished
+    still_unready : (w : ℕ) → finished_in (object_at gone_heap w) ≡ false → RunsOn w (caller ∷ rest) → finished_in (object_at heap w) ≡ false
+    still_unready w unready on = go (object_at heap w) refl
+      where
+        apart : program_calls.is_new t.action ≡ true → number_of fr.locals.this ≡ Some w → ⊥
+        apart new self = runs_on_none w (caller ∷ rest) (hold.fresh.0 waits.index waits.step w waits.here (made_new new) (receiver_object w fr.locals.this self)) on
+
+        noted_then : (z y : Object) → object_at gone_heap w ≡ Some z → noted_object (all_notes p gone_heap (receiver_note caller.locals t.action plain)) w z ≡ y → y.finished ≡ false
+        noted_then z y before same =
+            ap (λ (u : Object). u.finished) (sym same) ∙ (noted_goes_on (all_notes p gone_heap (receiver_note caller.locals t.action plain)) w z).finished ∙ sym (ap finished_in before) ∙ unready
+
+        go : (y : Option Object) → object_at heap w ≡ y → finished_in (object_at heap w) ≡ false
+        go None now = ap finished_in now
+        go (Some y) now = elim (end_back p position fr.locals.this caller.locals t.action plain gone_heap no_reset e w y now) [
+          | inl made' ↦ absurd (apart made'.2.new made'.2.self)
+          | inr other ↦ elim other [ inl alias ↦ absurd (apart alias.2.new alias.2.self) | inr noted ↦ ap finished_in now ∙ noted_then noted.0 y noted.1 noted.2 ]
+        ]
+
+    -- what the reset reaches is its own root, and a field of no finished object owns it
+    itself : (n : ℕ) (x : Object) → object_at heap n ≡ Some x → is_reached (returned_called p caller.locals t.action (method_at p named) gone_heap) (returned_roots p caller.locals t.action (method_at p named) gone_heap) n ≡ true → x.link ≡ None
+        → (root (returned_called p caller.locals t.action (method_at p named) gone_heap) n ≡ n) × ((w : ℕ) (f : FieldId) → x.owner ≡ owners.Field w f
+        → (finished_in (object_at heap w) ≡ false) ⊎ (is_reached (returned_called p caller.locals t.action (method_at p named) gone_heap) (returned_roots p caller.locals t.action (method_at p named) gone_heap) w ≡ true))
+    itself n x at anew none =
+        let it = reached_root p ac forms' h links fr caller rest standing'.0 sight hold.dispatched.0 making e v t named back agrees.ends made_after' caller_in hold.owning waiting hold.unfinished.1 n x at anew none in
+        (it.0, λ w f owner. (let holder = it.1 w f owner in inl (still_unready w holder.0 holder.1)))
+
     renews : Renews p (is_reached (returned_called p caller.locals t.action (method_at p named) gone_heap) (returned_roots p caller.locals t.action (method_at p named) gone_heap)) heap (lose (held_by (after ∷ rest)) whole)
     renews = reset_renews p (returned_called p caller.locals t.action (method_at p named) gone_heap) (returned_roots p caller.locals t.action (method_at p named) gone_heap) heap whole (reset_of p ac forms' h links fr caller rest standing'.0 sight hold.dispatched.0 making e v t named back agrees.ends made_after' caller_in hold.owning waiting) (held_by (after ∷ rest))
-        (λ n x at anew none. reached_root p ac forms' h links fr caller rest standing'.0 sight hold.dispatched.0 making e v t named back agrees.ends made_after' caller_in hold.owning waiting n x at anew none) (λ w f owning. same_fields p ac forms' h links fr caller rest standing'.0 sight hold.dispatched.0 making e v t named back agrees.ends made_after' caller_in hold.owning waiting w f owning)
+        itself (λ w f owning. same_fields p ac forms' h links fr caller rest standing'.0 sight hold.dispatched.0 making e v t named back agrees.ends made_after' caller_in hold.owning waiting w f owning)
 
     returned_hold : (pos : Pos) → Done (returned p c fr caller rest pos q e named t)
     returned_hold pos =

@@ -11,14 +11,14 @@ use Rattle.program_model.specs.declared.program.Method.{Method}
 use Rattle.program_model.specs.declared.program.Program.{Program}
 use Rattle.program_model.specs.Lookups.{method_at}
 use Rattle.must_call_sets.specs.Bodies.{constructs}
-use Rattle.must_call_sets.specs.MustCallSets.{must_of}
+use Rattle.must_call_sets.specs.MustCallSets.{is_heavy_class, must_of}
 use Rattle.java_control.specs.Control.{Step}
 use Rattle.ledger_state.specs.Contents.{HeapContents}
 use Rattle.ledger_state.specs.Heaps.{object_at}
 use Rattle.ledger_state.specs.declared.entry.Owner.TheVariants as owners
 use Rattle.ledger_state.specs.declared.object.Object.{Object}
 use Rattle.ledger_state.specs.declared.value.Value.{Value}
-use Rattle.ledger_obligations.specs.Obligations.{is_unmet, lose}
+use Rattle.ledger_obligations.specs.Obligations.{lose}
 use Rattle.covering_laws.specs.Configuration.{Frame}
 use Rattle.covering_laws.specs.Frames.{frame_after}
 use Rattle.covering_laws.specs.Heaps.{GoesOn, HasEarlierLinks}
@@ -78,11 +78,11 @@ pub owning_on : (p : Program) (h k : HeapContents) (noted : ℕ → ℕ → Type
 owning_on p h k noted goes own o y w f at owner =
     let x = goes.back o y w f at owner in
     let was = own o x.0 w f x.1 x.3 in
-    (was.0, λ out. subst (IsFollowed p) (sym x.2.class) (was.1 out))
+    (was.0, subst (IsFollowed p) (sym x.2.class) was.1)
 
 -- a step that notes nothing on a holder, or of which each note is kept
 pub stepped : (p : Program) → PromisesItsOwn p → (h k : HeapContents) (noted : ℕ → ℕ → Type 0) → HasEarlierLinks h → HasEarlierLinks k → (goes : Goes p h k noted) (fr after : Frame) (frs : List Frame) → IsSameFrame fr after → LocalsIn h (fr ∷ frs)
-    → ((o : ℕ) (x y : Object) (w : ℕ) (f : FieldId) → object_at h o ≡ Some x → object_at k o ≡ Some y → is_unmet y ≡ true → GoesOn x y → x.owner ≡ owners.Field w f → (content : IsContent p (fr ∷ frs) h o x w f)
+    → ((o : ℕ) (x y : Object) (w : ℕ) (f : FieldId) → object_at h o ≡ Some x → object_at k o ≡ Some y → is_heavy_class p y.class ≡ true → GoesOn x y → x.owner ≡ owners.Field w f → (content : IsContent p (fr ∷ frs) h o x w f)
     → (m : MethodId) (d : Method) (n : NameId) → content.holder.finished ≡ true → method_at p m ≡ Some d → d.class ≡ content.holder.class → d.sig.interest ≡ Some n
     → set.contains (must_of p content.holder.class) n.0 ≡ true → noted w n.0 → set.is_subset (promised_on f d) y.called ≡ true)
     → FieldsHold p (fr ∷ frs) h → FieldsHold p (after ∷ frs) k

@@ -1,4 +1,5 @@
 -- A step of the top frame keeps what owning fields hold and own: within the frame, at the start of a call, and over a call of the library.
+use Rattle.std.proofs.lemmas.Bool.{or_left}
 use Rattle.std.specs.Prelude.{◌<◌, ◌≤◌, ◌||◌, ◌&&◌, not}
 use Rattle.std.specs.FinSet as set
 use Rattle.std.proofs.Common.{◌≡◌, ◌⊎◌, ℕ, ◌+◌, Bool, true, false, true≢false, Option, Some, None, List, ◌∷◌, length, slice_get, refl, sym, ap, ◌∙◌, subst, if◌then◌else◌, inl, inr, arith}
@@ -14,14 +15,14 @@ use Rattle.program_model.specs.declared.program.Method.{Method}
 use Rattle.program_model.specs.declared.program.Program.{Program}
 use Rattle.program_model.specs.Lookups.{field_at, method_at}
 use Rattle.must_call_sets.specs.Bodies.{is_field_in, reset_in}
-use Rattle.must_call_sets.specs.MustCallSets.{must_of, must_of_type}
+use Rattle.must_call_sets.specs.MustCallSets.{is_heavy_class, must_of, must_of_type}
 use Rattle.java_control.specs.Control.{Step}
 use Rattle.java_control.specs.Owned.{is_owning, is_owning_field}
 use Rattle.java_control.specs.declared.action.Action.{Action}
 use Rattle.java_control.specs.declared.action.Action.TheVariants as actions
 use Rattle.covering_laws.specs.Accept.{Accept}
 use Rattle.covering_laws.specs.Paths.{move_of}
-use Rattle.covering_laws.specs.Outcomes.{IsCallRow, IsPlainRow}
+use Rattle.covering_laws.specs.Outcomes.{IsPlainRow}
 use Rattle.stub_conduct.specs.declared.choice.Conduct.{Conduct}
 use Rattle.ledger_state.specs.Contents.{HeapContents}
 use Rattle.ledger_state.specs.Heaps.{next_number, object_at, put_field}
@@ -43,15 +44,15 @@ use Rattle.ledger_steps.specs.CallSteps.{began_heap, library_heap, self_begun}
 use Rattle.ledger_steps.specs.InnerSteps.{heap_stored, is_bound, store_into, store_of, store_unless, thrown_heap, thrown_value}
 use Rattle.ledger_steps.specs.declared.store.Store.{Store}
 use Rattle.covering_laws.specs.LedgerRunsSteps.{began, library_went, within}
-use Rattle.covering_laws.specs.Heaps.{Evolves, GoesOn, HasEarlierLinks}
+use Rattle.covering_laws.specs.Heaps.{Evolves, HasEarlierLinks}
 use Rattle.covering_laws.specs.Agreement.{Agrees, Stands, is_answering}
 use Rattle.covering_laws.specs.PlainForms.{HasPlainForms}
 use Rattle.covering_laws.proofs.StoredObjects.{stored_links}
 use Rattle.covering_laws.specs.Nexts.{IsInnerStep, IsLibraryMove, IsStartMove}
 use Rattle.covering_laws.proofs.NameCounts.{accepted_names}
-use Rattle.covering_laws.proofs.Ready.{plain_step, step_there}
+use Rattle.covering_laws.proofs.Ready.{step_there}
 use Rattle.covering_laws.proofs.Stacks.{tracked_bounded}
-use Rattle.covering_laws.specs.FieldContents.{FieldsHold, IsContent, is_made_in, makes_holder, promised_on}
+use Rattle.covering_laws.specs.FieldContents.{FieldsHold, is_made_in, makes_holder}
 use Rattle.covering_laws.specs.PlaceFacts.{IsCovered, gives_none, renews_none}
 use Rattle.covering_laws.specs.Ranges.{FieldsInRange, LocalsInRange}
 use Rattle.covering_laws.proofs.Configs.{frames_stay}
@@ -59,13 +60,16 @@ use Rattle.covering_laws.proofs.Steps.{IsFuller, owning_fuller}
 use Rattle.covering_laws.proofs.RangeValues.{value_stays}
 use Rattle.content_laws.proofs.ContentFrames.{callee_dispatched, callee_fresh, callee_new, callee_unfinished}
 use Rattle.content_laws.proofs.Goes.{contents_go_on, dispatched_on, goes_forth, goes_further, lose_goes, self_goes, there, unfinished_on}
-use Rattle.content_laws.proofs.Heaps.{inner_goes, library_goes_by, start_goes}
+use Rattle.content_laws.proofs.Heaps.{call_stores_nothing, inner_goes, library_goes_by, start_goes}
+use Rattle.content_laws.proofs.TextContents.{text_holds}
 use Rattle.content_laws.proofs.Renewals.{CreatesAnew, linked_before, renewed_hold}
 use Rattle.content_laws.proofs.LibraryResets.{library_renews, position_none, read_resets_nothing, same_interest}
 use Rattle.covering_laws.proofs.Renewed.{says_nothing, without_reset}
 use Rattle.covering_laws.proofs.ResetJoins.{no_holder}
 use Rattle.covering_laws.specs.HeapAnew.{is_anew}
 use Rattle.covering_laws.specs.Sight.{ActsInSight}
+use Rattle.covering_laws.specs.TextUpdates.{IsLeftByText, IsLightStore, UpdatesTexts}
+use Rattle.covering_laws.proofs.TextStores.{light_back, light_fields, light_forward, light_links, row_light, store_count}
 use Rattle.covering_laws.specs.Callees.{callee_in}
 use Rattle.content_laws.proofs.Leaves.{lost_from}
 use Rattle.content_laws.proofs.LinkSteps.{leads_go_on}
@@ -123,13 +127,51 @@ module _ (p : Program) (ac : Accept p) (forms' : HasPlainForms p) (c : Config) (
   abbrev stepped_frame : Option ClassId → Step → Frame
   stepped_frame e s = frame_after p h fr s (thrown_value h e (made_value p h c.arrays c.statics (next_choice c.choices c.used) fr.locals s.action))
 
-  inner_hold : (e : Option ClassId) (i : ℕ) (s : Step) → slice_get (frame_steps p fr) i ≡ Some s → (IsPlainRow s.action ⊎ IsCallRow s.action) → HasEarlierLinks (within p c fr frs e s).heap
+  inner_hold : (e : Option ClassId) (i : ℕ) (s : Step) → slice_get (frame_steps p fr) i ≡ Some s → store_unless e (store_of fr.locals s.action) ≡ None → HasEarlierLinks (within p c fr frs e s).heap
       → Done (within p c fr frs e s)
-  inner_hold e i s here row now =
+  inner_hold e i s here none now =
       stepped p own h (lose (held_by (stepped_frame e s ∷ frs)) (heap_stored p (method_at p fr.method) fr.locals (store_unless e (store_of fr.locals s.action)) (thrown_heap p e h))) NoName links now
-      (inner_goes p (method_at p fr.method) fr.locals e s.action (held_by (stepped_frame e s ∷ frs)) h (plain_step p ac forms' fr st i s here) row links) fr (stepped_frame e s) frs
+      (inner_goes p (method_at p fr.method) fr.locals e s.action (held_by (stepped_frame e s ∷ frs)) h none links) fr (stepped_frame e s) frs
       (same_after p h fr s (thrown_value h e (made_value p h c.arrays c.statics (next_choice c.choices c.used) fr.locals s.action))) in'
-      (λ o x y w f at now' unmet on owner content m d' n fin there' class interest must never. absurd never) hold
+      (λ o x y w f at now' heavy on owner content m d' n fin there' class interest must never. absurd never) hold
+
+  -- the step stores into no owning field, or a text
+  module _ (updates : UpdatesTexts p h fr) (i : ℕ) (s : Step) (here : slice_get (frame_steps p fr) i ≡ Some s) (row : IsPlainRow s.action) where
+    abbrev after_text : Frame
+    after_text = stepped_frame None s
+
+    abbrev text_heap : HeapContents
+    text_heap = heap_stored p (method_at p fr.method) fr.locals (store_of fr.locals s.action) h
+
+    light_store : IsLightStore p h (store_of fr.locals s.action)
+    light_store = row_light p h fr.locals s.action row (λ f d w this is own held. updates i s f d w this here is own held)
+
+    forward : (n : ℕ) (x : Object) → object_at h n ≡ Some x → (y : Object) × (object_at text_heap n ≡ Some y) × IsLeftByText p x y
+    forward n x at = light_forward p (method_at p fr.method) fr.locals h (store_of fr.locals s.action) light_store n x at
+
+    back : (n : ℕ) (y : Object) → object_at text_heap n ≡ Some y → (x : Object) × (object_at h n ≡ Some x) × IsLeftByText p x y
+    back n y at = light_back p (method_at p fr.method) fr.locals h (store_of fr.locals s.action) light_store n y at
+
+    text_links : HasEarlierLinks text_heap
+    text_links = light_links p (method_at p fr.method) fr.locals h (store_of fr.locals s.action) light_store links
+
+    more : next_number h ≤ next_number text_heap
+    more = let same = store_count p (method_at p fr.method) fr.locals h (store_of fr.locals s.action) in omega (arith, same)
+
+    text_hold : Done (within p c fr frs None s)
+    text_hold =
+        lost p own text_heap text_links (held_by (after_text ∷ frs)) after_text frs (frames_stay h text_heap more frs below) (value_stays h text_heap more fr.locals.this top.this)
+        (text_holds p h text_heap links forward back (light_fields p (method_at p fr.method) fr.locals h (store_of fr.locals s.action) light_store) fr after_text frs
+        (same_after p h fr s (thrown_value h None (made_value p h c.arrays c.statics (next_choice c.choices c.used) fr.locals s.action))) in' hold)
+
+  nothing_stored : (e : Option ClassId) {r : Option Store} → r ≡ None → store_unless e r ≡ None
+  nothing_stored None none = none
+  nothing_stored (Some e) none = refl
+
+  -- the step stores into no owning field, or a text into one
+  row_hold : UpdatesTexts p h fr → (e : Option ClassId) (i : ℕ) (s : Step) → slice_get (frame_steps p fr) i ≡ Some s → IsPlainRow s.action → HasEarlierLinks (within p c fr frs e s).heap → Done (within p c fr frs e s)
+  row_hold updates None i s here row now = text_hold updates i s here row
+  row_hold updates (Some e) i s here row now = inner_hold (Some e) i s here refl now
 
   -- an unmet object that may move has an obligation by its class
   bounded : (o : ℕ) (x : Object) → object_at h o ≡ Some x → x.link ≡ None → is_unmet x ≡ true → (t : VType) → may_move p t x ≡ true → set.is_subset x.must (must_of p x.class) ≡ true
@@ -137,7 +179,7 @@ module _ (p : Program) (ac : Accept p) (forms' : HasPlainForms p) (c : Config) (
     where
       go : (w : Owner) → x.owner ≡ w → is_answering x.owner ≡ true → set.is_subset x.must (must_of p x.class) ≡ true
       go (owners.Frame j) is answers = tracked_bounded p h (fr ∷ frs) o x j (agrees.tracked o x j at unmet is)
-      go (owners.Field w f) is answers = (hold.contents o x w f at unmet is).own
+      go (owners.Field w f) is answers = (hold.contents o x w f at (or_left (is_unmet x) (is_heavy_class p x.class) unmet) is).own unmet
       go owners.Library is answers = absurd (library_stays p t x may is)
       go owners.Released is answers = absurd (true≢false (sym answers ∙ ap is_answering is))
       go owners.Lost is answers = absurd (true≢false (sym answers ∙ ap is_answering is))
@@ -224,9 +266,9 @@ module _ (p : Program) (ac : Accept p) (forms' : HasPlainForms p) (c : Config) (
   pub inner_step : ActsInSight p h fr → (e : Option ClassId) (s : Step) (i : ℕ) → slice_get (frame_steps p fr) i ≡ Some s → IsInnerStep p h c.arrays fr.method fr.locals e s → HasEarlierLinks (within p c fr frs e s).heap
       → Done (within p c fr frs e s)
   inner_step sight e s i here next now = elim next [
-    | inl plain ↦ inner_hold e i s here (inl plain.row) now
+    | inl plain ↦ row_hold sight.updates e i s here plain.row now
     | inr more ↦ elim more [
-      | inl null ↦ inner_hold e i s here (inr null.row) now
+      | inl null ↦ inner_hold e i s here (nothing_stored e (call_stores_nothing fr.locals s.action null.row)) now
       | inr store ↦ subst (λ (x : Option ClassId). Done (within p c fr frs x s)) (sym store.normal) (store_hold sight i s here store.field store.temp store.action)
     ]
   ]
@@ -236,7 +278,7 @@ module _ (p : Program) (ac : Accept p) (forms' : HasPlainForms p) (c : Config) (
   pub began_hold : (named runs : MethodId) (a : Action) (at : Pos) → IsStartMove p h c.arrays fr.locals (frame_steps p fr) named runs a
       → HasEarlierLinks (began p c fr frs named runs a at).heap → Done (began p c fr frs named runs a at)
   began_hold named runs a at next now = record {
-    contents = contents_go_on p h k NoName goes own hold.leads (fr ∷ frs) (callee ∷ fr ∷ frs) hold.contents (λ o x y w f at' now' unmet on owner content m e n fin there' class interest must never. absurd never)
+    contents = contents_go_on p h k NoName goes own hold.leads (fr ∷ frs) (callee ∷ fr ∷ frs) hold.contents (λ o x y w f at' now' heavy on owner content m e n fin there' class interest must never. absurd never)
         (λ o x y w f content at' owner un' made'. or_right (makes_holder p w content.field.class callee) (is_made_in p w content.field.class (fr ∷ frs)) made');
     owning = owning_on p h k NoName goes hold.owning;
     leads = leads_go_on p h k NoName goes links hold.leads now;
@@ -286,7 +328,7 @@ module _ (p : Program) (ac : Accept p) (forms' : HasPlainForms p) (c : Config) (
         interest = same_interest (method_at p named);
         anew = is_anew p fr.locals s.action (method_at p named) (method_at p m) x h;
         renews = library_renews p fr.locals s.action (method_at p named) (method_at p m) x (length frs + 1) h (held_by (called_frame named m x s ∷ frs)) links
-            (no_holder p ac forms' h links fr frs st top named m x next.index s next.here call.1 call.0 anew covered hold.owning sight c.arrays (next.ran call.1).1);
+            (no_holder p ac forms' h links fr frs st top named m x next.index s next.here call.1 call.0 anew covered hold.unfinished hold.owning sight c.arrays (next.ran call.1).1) agrees.ends;
       })
     ]
     | inr read ↦ inl (read_resets_nothing fr.locals s.action read (next_number h) x (method_at p named))
@@ -301,7 +343,7 @@ module _ (p : Program) (ac : Accept p) (forms' : HasPlainForms p) (c : Config) (
       (library_goes_by p fr.locals s.action (method_at p named) (method_at p m) x (length frs + 1) h none (small_interest p ac named) links)
       (lose_goes p (held_by (called_frame named m x s ∷ frs)) made (IsNotedBy fr.locals s.action (method_at p named)))) fr (called_frame named m x s) frs
       (same_after p h fr s (conduct_value (length (arguments_shared c.arrays fr.locals s.action (method_at p named))) (method_at p m) (positions fr.locals s.action (next_number h) x) (next_number h) x)) in'
-      (λ o y z w f at there' unmet on owner content e d' n fin at' class interest must noted. absurd (no_library_note p forms' h c.arrays fr named m x s next (fr ∷ frs) o y w f content e d' n at' class interest must noted)) hold
+      (λ o y z w f at there' heavy on owner content e d' n fin at' class interest must noted. absurd (no_library_note p forms' h c.arrays fr named m x s next (fr ∷ frs) o y w f content e d' n at' class interest must noted)) hold
     where
       made : HeapContents
       made = library_heap p fr.locals s.action (method_at p named) (method_at p m) x (length frs + 1) h
@@ -315,7 +357,7 @@ module _ (p : Program) (ac : Accept p) (forms' : HasPlainForms p) (c : Config) (
       (library_goes_by p fr.locals s.action anew.plain (method_at p m) x (length frs + 1) h (ap (object_by (positions fr.locals s.action (next_number h) x)) anew.nothing)
       (λ n is. small_interest p ac named n (sym anew.interest ∙ is)) links) fr (called_frame named m x s) frs
       (same_after p h fr s (conduct_value (length (arguments_shared c.arrays fr.locals s.action (method_at p named))) (method_at p m) (positions fr.locals s.action (next_number h) x) (next_number h) x)) in'
-      (λ o y z w f at there' unmet on owner content e d' n fin at' class interest must noted. absurd (no_library_note p forms' h c.arrays fr named m x s next (fr ∷ frs) o y w f content e d' n at' class interest must
+      (λ o y z w f at there' heavy on owner content e d' n fin at' class interest must noted. absurd (no_library_note p forms' h c.arrays fr named m x s next (fr ∷ frs) o y w f content e d' n at' class interest must
       (record { chosen = noted.chosen; receiver = noted.receiver; name = noted.name; interest = sym anew.interest ∙ noted.interest; number = noted.number }))) hold)
     where
       made : HeapContents

@@ -52,6 +52,7 @@ pub use Rattle.covering_laws.specs.Places
 pub use Rattle.covering_laws.specs.PlainForms
 pub use Rattle.covering_laws.specs.Renewable
 pub use Rattle.covering_laws.specs.Sight
+pub use Rattle.covering_laws.specs.TextUpdates
 pub use Rattle.covering_laws.specs.Preconditions
 pub use Rattle.covering_laws.specs.ProgramCalls
 pub use Rattle.covering_laws.specs.Ranges

@@ -1,6 +1,6 @@
 //! How the heap goes on over each kind of step. Each law is the contract of a function that does nothing.
 
-ghost use Rattle.std.specs.Prelude.{◌≡◌, ◌⊎◌, ℕ, ◌<◌, true, false, Option, Some, None, List};
+ghost use Rattle.std.specs.Prelude.{◌≡◌, ℕ, ◌<◌, true, false, Option, Some, None, List};
 ghost use Rattle.std.specs.FinSet as set;
 ghost use Rattle.rlc_base.specs.declared.name_id.NameId.{NameId};
 ghost use Rattle.program_model.specs.declared.kinds.ClassId.{ClassId};
@@ -12,28 +12,26 @@ ghost use Rattle.program_model.specs.Lookups.{method_at};
 ghost use Rattle.must_call_sets.specs.MustCallSets.{is_heavy_class, must_of};
 ghost use Rattle.java_control.specs.declared.action.Action.{Action};
 ghost use Rattle.stub_conduct.specs.declared.choice.Conduct.{Conduct};
-ghost use Rattle.covering_laws.specs.Outcomes.{IsCallRow, IsPlainRow};
 ghost use Rattle.ledger_state.specs.Contents.{HeapContents};
 ghost use Rattle.ledger_state.specs.Heaps.{change_one, object_at, root};
 ghost use Rattle.ledger_state.specs.declared.entry.Owner.TheVariants as owners;
 ghost use Rattle.ledger_state.specs.declared.locals.Locals.{Locals};
 ghost use Rattle.ledger_state.specs.declared.object.Object.{Object};
 ghost use Rattle.ledger_state.specs.declared.value.Value.{Value};
-ghost use Rattle.ledger_obligations.specs.Obligations.{is_unmet, lose};
+ghost use Rattle.ledger_obligations.specs.Obligations.{lose};
 ghost use Rattle.ledger_steps.specs.LedgerCallsCalls.{interest_in, reset_position};
 ghost use Rattle.covering_laws.specs.Configuration.{Frame};
 ghost use Rattle.ledger_steps.specs.CallSteps.{began_heap, library_heap};
 ghost use Rattle.ledger_steps.specs.Ends.{frame_gone, returned_reset};
 ghost use Rattle.ledger_steps.specs.InnerSteps.{heap_stored, store_of, store_unless, thrown_heap};
-ghost use Rattle.covering_laws.specs.PlainForms.{IsPlainAction};
 ghost use Rattle.covering_laws.specs.Heaps.{GoesOn, HasEarlierLinks};
 ghost use Rattle.covering_laws.specs.FieldContents.{HaveContents, IsContent, LinksLead, is_made_in, promised_on};
 ghost use Rattle.covering_laws.specs.PlaceFacts.{may_owe};
 ghost use Rattle.content_laws.specs.Going.{Goes, IsNotedBy, KeepsArgument, NoName, PromisesItsOwn, linked};
 
-/// The heap goes on over a step within a frame that stores into no owning field.
+/// The heap goes on over a step within a frame that stores nothing.
 pub fn inner_step_goes_on()
-    ensures { (p : Program) (m : Option Method) (l : Locals) (e : Option ClassId) (a : Action) (held : List (List Value)) (h : HeapContents) → IsPlainAction p a → (IsPlainRow a ⊎ IsCallRow a) → HasEarlierLinks h
+    ensures { (p : Program) (m : Option Method) (l : Locals) (e : Option ClassId) (a : Action) (held : List (List Value)) (h : HeapContents) → store_unless e (store_of l a) ≡ None → HasEarlierLinks h
         → Goes p h (lose held (heap_stored p m l (store_unless e (store_of l a)) (thrown_heap p e h))) NoName }
 {}
 
@@ -61,7 +59,7 @@ pub fn call_end_goes_on()
 /// the library promises it, the machine itself does what the holder's own method promises.)
 pub fn contents_go_on()
     ensures { (p : Program) (h k : HeapContents) (l : Locals) (a : Action) (named : Option Method) → Goes p h k (IsNotedBy l a named) → PromisesItsOwn p → LinksLead p h → (frs gs : List Frame) → HaveContents p frs h
-        → ((o : ℕ) (x y : Object) (w : ℕ) (f : FieldId) → object_at h o ≡ Some x → object_at k o ≡ Some y → is_unmet y ≡ true → GoesOn x y → x.owner ≡ owners.Field w f → (content : IsContent p frs h o x w f)
+        → ((o : ℕ) (x y : Object) (w : ℕ) (f : FieldId) → object_at h o ≡ Some x → object_at k o ≡ Some y → is_heavy_class p y.class ≡ true → GoesOn x y → x.owner ≡ owners.Field w f → (content : IsContent p frs h o x w f)
         → (m : MethodId) (d : Method) (n : NameId) → content.holder.finished ≡ true → method_at p m ≡ Some d → d.class ≡ content.holder.class → d.sig.interest ≡ Some n
         → set.contains (must_of p content.holder.class) n.0 ≡ true → IsNotedBy l a named w n.0 → set.is_subset (promised_on f d) y.called ≡ true)
         → ((o : ℕ) (x y : Object) (w : ℕ) (f : FieldId) (content : IsContent p frs h o x w f) → object_at k o ≡ Some y → y.owner ≡ owners.Field w f → content.holder.finished ≡ false

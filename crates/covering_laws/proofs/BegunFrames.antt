@@ -31,14 +31,14 @@ use Rattle.value_laws.specs.Configuration.{Frame}
 use Rattle.value_laws.proofs.PlaceLaws.{single_place-alone}
 use Rattle.value_laws.specs.Agreement.{Stands}
 use Rattle.value_laws.specs.PlainForms.{is_lent_parameter}
-use Rattle.value_laws.specs.PlaceFacts.{Covers, IsTrueOf, asked_of, claims, fits_field, is_apart, is_frame_from, is_heavy_field, is_lent, is_owning_fact, makes_alone}
-use Rattle.covering_laws.proofs.HeavyFields.{claims_alone, held_mode, tells_by}
+use Rattle.value_laws.specs.PlaceFacts.{Covers, IsTrueOf, asked_of, claims, fits_field, is_apart, is_frame_from, is_heavy_field, is_lent, is_owning_fact, HasOlderHolder}
+use Rattle.covering_laws.proofs.HeavyFields.{tells_by}
 use Rattle.covering_laws.proofs.Births.{at_itself, at_one}
 use Rattle.rlc_base.proofs.SetLaws.{empty_within, within_trans, within_union_left}
 use Rattle.ownership_rules.specs.Facts.{has, is_held, is_own, is_this_origin}
 use Rattle.std.specs.Prelude.{◌||◌, if◌then◌else◌}
 use Rattle.ledger_obligations.specs.Bodies.{constructs}
-use Rattle.value_laws.specs.Renewing.{IsLentFrom}
+use Rattle.value_laws.specs.Renewing.{IsLentFrom, makes_alone}
 
 pub not_own : (a b : Bool) → (a || b) ≡ false → a ≡ false
 not_own true b is = is
@@ -76,7 +76,7 @@ lent_unowned p s k x c type lent = by x.owning refl
 
 module _ (p : Program) (k : HeapContents) (fr : Frame) (st : Stands p fr) (starts : fr.control ≡ start_of p st.number) (frs : List Frame) where
   -- A place is covered by its birth at the entry. What is born as lent is so from a frame below. What is lent to the frame, or a field of `this` holds,
-  -- neither it nor a frame above owns, where it was not given to it, and the names that its fact knows are asked for. The place of an owning field is born as
+  -- neither it nor a frame above owns, where it was not given to it, and the names that its fact knows are asked for; where a field owns it, the field's object is finished, or a frame below runs on it. The place of an owning field is born as
   -- held, and its class has an obligation where the field's type has one.
   pub entered_covers : (q : Place) (o : ℕ) (y : Object) (g : Origin) (mode : Mode) (names : Names) (full : Bool) (n : ℕ) → IsSmall q
       → slice_get (births_at_entry p st.number) n ≡ Some (g, fact_at q mode names full) → root_of k (place_value p k fr.method fr.locals q) ≡ Some o
@@ -89,8 +89,9 @@ module _ (p : Program) (k : HeapContents) (fr : Frame) (st : Stands p fr) (start
       → ((j : ℕ) → q ≡ places.Field j → is_heavy_class p g.class ≡ true → fits_field p fr.method j g.class ≡ true)
       → ((j : ℕ) → q ≡ places.Field j → is_heavy_field p fr.method q ≡ true → (mode ≡ modes.Held) × (is_heavy_class p g.class ≡ true))
       → ((j : ℕ) → q ≡ places.Field j → mode ≡ modes.Held)
+      → (y.finished ≡ true → HasOlderHolder k frs y.owner)
       → (c : Covers p k false false frs fr o y) × (has c.fact.places q ≡ true) × (c.origin ≡ g) × (c.fact ≡ fact_at q mode names full)
-  entered_covers q o y g mode names full n small birth root truth lent' none below unmade lends makes wide held field =
+  entered_covers q o y g mode names full n small birth root truth lent' none below unmade lends makes wide held field older =
       let covers : Covers p k false false frs fr o y = record {
         body = st.number;
         id = st.id;
@@ -112,6 +113,7 @@ module _ (p : Program) (k : HeapContents) (fr : Frame) (st : Stands p fr) (start
             | inl lent ↦ within_trans names (asked_of p (method_at p fr.method) g.kind) (set.union (asked_of p (method_at p fr.method) g.kind) y.called) (lent' lent).2 (within_union_left (asked_of p (method_at p fr.method) g.kind) y.called)
             | inr held' ↦ within_trans names no_names (set.union (asked_of p (method_at p fr.method) g.kind) y.called) (none held') (empty_within (set.union (asked_of p (method_at p fr.method) g.kind) y.called))
           ],
+          older done,
         );
         fields = λ j inside heavy is. wide j (at_one q small mode names full (places.Field j) inside is) heavy;
         held = λ j inside is heavy.

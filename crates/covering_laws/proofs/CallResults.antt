@@ -32,7 +32,7 @@ use Rattle.value_laws.specs.Configuration.{Frame}
 use Rattle.value_laws.specs.Choosing.{frame_steps}
 use Rattle.value_laws.specs.Frames.{frame_after}
 use Rattle.value_laws.specs.Agreement.{Stands}
-use Rattle.value_laws.specs.PlaceFacts.{Covers, IsTrueOf, IsUnowned, claims, is_owning_fact}
+use Rattle.value_laws.specs.PlaceFacts.{Covers, IsTrueOf, IsUnowned, claims}
 use Rattle.covering_laws.proofs.Births.{born_covers}
 use Rattle.covering_laws.proofs.BornTruths.{new_is_other, new_unlent, result_is_other, result_unlent}
 
@@ -71,8 +71,8 @@ IsBornSo p k anew frs fr q o y A = ((c : Covers p k false anew frs fr o y) × (h
 
 -- what is born is in a fact that does not say so
 pub born_unowned : (p : Program) (k : HeapContents) (anew : Bool) (frs : List Frame) (fr : Frame) (q : Place) (o : ℕ) (y : Object) (g : Origin) (f : Fact)
-    → (c : Covers p k false anew frs fr o y) × (has c.fact.places q ≡ true) × (c.origin ≡ g) × (c.fact ≡ f) → is_owning_fact p g f ≡ false → IsUnowned p k false anew frs fr q o y
-born_unowned p k anew frs fr q o y g f (c, there, origin, fact) none = record { covers = c; here = there; unowned = ap (λ (u : Origin). is_owning_fact p u c.fact) origin ∙ ap (is_owning_fact p g) fact ∙ none }
+    → (c : Covers p k false anew frs fr o y) × (has c.fact.places q ≡ true) × (c.origin ≡ g) × (c.fact ≡ f) → claims p (method_at p fr.method) g f ≡ false → IsUnowned p k false anew frs fr q o y
+born_unowned p k anew frs fr q o y g f (c, there, origin, fact) none = record { covers = c; here = there; unowned = ap (λ (u : Origin). claims p (method_at p fr.method) u c.fact) origin ∙ ap (claims p (method_at p fr.method) g) fact ∙ none }
 
 module _ (p : Program) (h k : HeapContents) (fr : Frame) (st : Stands p fr) (i : ℕ) (s : Step) (here : slice_get (frame_steps p fr) i ≡ Some s) (v : Value) (frs : List Frame) (anew : Bool) (d o : ℕ) (y : Object) (small : IsSmall (places.Temp d))
     (root : root_of k (place_value p k fr.method (frame_after p h fr s v).locals (places.Temp d)) ≡ Some o) (m : MethodId) (x : Method) (edge : s.edge ≡ edges.Go) (named : method_at p m ≡ Some x) (alias : x.sig.alias ≡ None) where

@@ -35,11 +35,11 @@ use Rattle.value_laws.proofs.Resetting.{call_goes_so}
 use Rattle.value_laws.specs.PlaceFacts.{Covers, IsCovered, IsOwned, gives_away, gives_none, is_lent, may_owe, owned, unowned}
 use Rattle.ownership_rules.specs.Facts.{has, is_held, is_own}
 use Rattle.covering_laws.proofs.GivenArguments.{away_moves}
-use Rattle.covering_laws.proofs.Owners.{KeepsGiven, StaysApart}
+use Rattle.covering_laws.proofs.Owners.{KeepsGiven, StaysApart, KeepsHeld}
 use Rattle.rlc_base.proofs.SetLaws.{within_at}
 use Rattle.covering_laws.proofs.KnownNames.{AreKept, known_after_call, operand_holds, receiver_is_operand}
 use Rattle.covering_laws.proofs.TopSteps.{IsKeyedFrom, IsLocalStep, IsMadeSo, after_as, after_both, top_from}
-use Rattle.covering_laws.proofs.Waiting.{Carries, HoldsThere, KeepsFields, KeepsReady, KeepsRootsOf}
+use Rattle.covering_laws.proofs.Waiting.{Carries, HoldsThere, KeepsFieldsButTexts, KeepsReady, KeepsRootsOf}
 use Rattle.value_laws.specs.FactGoing.{GoesAs, is_owned_in}
 use Rattle.program_model.specs.Lookups.{method_at}
 use Rattle.java_control.specs.declared.fact.Fact.{Fact}
@@ -49,7 +49,7 @@ use Rattle.value_laws.specs.Flow.{flow}
 use Rattle.value_laws.specs.PlaceRows.{places_after}
 use Rattle.ownership_rules.specs.declared.moved.Moved.TheVariants as moves
 
-module _ (p : Program) (ac : Accept p) (h k : HeapContents) (links : HasEarlierLinks h) (carries : Carries h k) (fields : KeepsFields p h k)
+module _ (p : Program) (ac : Accept p) (h k : HeapContents) (links : HasEarlierLinks h) (carries : Carries h k) (fields : KeepsFieldsButTexts p h k)
     (fr : Frame) (st : Stands p fr) (i : ℕ) (s : Step) (here : slice_get (frame_steps p fr) i ≡ Some s) (r : IsLocalStep p fr st s) (inside : HoldsThere p h fr) (roots : KeepsRootsOf p h k fr) (v : Value)
     (row : IsCallRow s.action) where
   abbrev after : Frame
@@ -83,6 +83,7 @@ module _ (p : Program) (ac : Accept p) (h k : HeapContents) (links : HasEarlierL
       (ready : KeepsReady p h k fr)
       (gifts : KeepsGiven p h k frs)
       (others : StaysApart p h k frs fr)
+      (lasting : KeepsHeld p h k fr)
       (owner : (o : ℕ) (x y : Object) → object_at h o ≡ Some x → object_at k o ≡ Some y → x.finished ≡ true → is_heavy_class p x.class ≡ true → gives_away p h fr.locals s.action o x.class ≡ false → x.owner ≡ owners.Frame (length frs + 1) → y.owner ≡ owners.Frame (length frs + 1))
       (noted : (o : ℕ) (x y : Object) (n : NameId) → object_at h o ≡ Some x → object_at k o ≡ Some y → root_of h (operand_of fr.locals s.action 0) ≡ Some o → is_super_target s.action ≡ false → interest_in (callee p s.action) ≡ Some n → gives o x.class ≡ false → renewed o ≡ false → x.finished ≡ true → GoesOn x y → is_heavy_class p x.class ≡ true → may_owe x ≡ true → set.contains y.called n.0 ≡ true)
       (kept : (o : ℕ) (x y : Object) (c : Covers p h (gives o x.class) (renewed o) frs fr o x) → object_at h o ≡ Some x → object_at k o ≡ Some y → (g : Fact) → IsGivenOr c.origin c.fact g → IsTrustedIn c.origin g → gives o x.class ≡ false → renewed o ≡ false → x.finished ≡ true → GoesOn x y → is_heavy_class p x.class ≡ true → may_owe x ≡ true → (names : Names) → set.is_subset y.called names ≡ true → set.is_subset c.fact.called names ≡ true → AreKept p st.number s.action c.fact.places names (promises_at p s.action s.edge))
@@ -111,7 +112,7 @@ module _ (p : Program) (ac : Accept p) (h k : HeapContents) (links : HasEarlierL
     -- each place after the call is in a fact that comes from one before it, or was born
     pub call_from : (q : Place) (o : ℕ) (y : Object) → IsSmall q → root_of k (place_value p k fr.method after.locals q) ≡ Some o → object_at k o ≡ Some y → is_heavy_class p y.class ≡ true → may_owe y ≡ true
         → IsKeyedFrom p ac h k links carries fields fr st i s here r inside roots v frs gives renewed IsGivenOr q o y
-    call_from = top_from p ac h k links carries fields fr st i s here r inside roots v frs gives renewed covered ready gifts others
+    call_from = top_from p ac h k links carries fields fr st i s here r inside roots v frs gives renewed covered ready gifts others lasting
         IsGivenOr
         call_row
         (λ o x y c before at g more trusted stays old done goes some owes names less was.

@@ -1,16 +1,12 @@
 -- A frame that calls a method of the program waits: its facts are read anew where the call creates the obligation of their object anew.
-use Rattle.std.specs.Prelude.{◌-◌, ◌<◌, ◌||◌, ◌&&◌, not, if◌then◌else◌}
-use Rattle.std.proofs.Common.{◌≡◌, ◌⊎◌, inl, inr, ℕ, ◌+◌, ◌≤◌, Bool, true, false, not, Some, List, [], ◌∷◌, ◌++◌, length, slice_get, refl, sym, ap, ◌∙◌, true≢false}
+use Rattle.std.specs.Prelude.{◌||◌, not}
+use Rattle.std.proofs.Common.{◌≡◌, inl, inr, ℕ, ◌+◌, Bool, true, false, not, Some, List, ◌∷◌, length, slice_get, refl, sym, ap, ◌∙◌, true≢false}
 use Rattle.std.proofs.lemmas.Bool.{and_parts}
 use Rattle.program_model.specs.declared.program.Field.{Field}
 use Rattle.program_model.specs.declared.program.Program.{Program}
-use Rattle.program_model.specs.Lookups.{method_at}
-use Rattle.ledger_obligations.specs.Bodies.{alias_in, constructs}
 use Rattle.ledger_obligations.specs.MustCallSets.{is_heavy_class}
-use Rattle.ownership_rules.specs.Signatures.{is_present}
 use Rattle.java_control.specs.Control.{Step}
 use Rattle.java_control.specs.declared.place.Place.{Place}
-use Rattle.ownership_rules.specs.Facts.{is_held}
 use Rattle.value_laws.specs.Accept.{Accept}
 use Rattle.ledger_state.specs.Contents.{HeapContents}
 use Rattle.ledger_state.specs.Heaps.{object_at}
@@ -24,16 +20,17 @@ use Rattle.value_laws.specs.Choosing.{frame_steps}
 use Rattle.value_laws.specs.Outcomes.{IsCallRow}
 use Rattle.value_laws.specs.Agreement.{Stands}
 use Rattle.value_laws.specs.PlainForms.{HasPlainForms}
-use Rattle.value_laws.specs.PlaceFacts.{Covers, IsCovered, IsKeyed, IsUnowned, gives_none, is_apart, is_content, is_field_of, is_frame_below, is_frame_from, is_given, makes_alone, may_owe, owned, renews_none, unowned, tells_calls, was_given}
-use Rattle.covering_laws.proofs.HeavyFields.{held_mode}
+use Rattle.value_laws.specs.PlaceFacts.{Covers, IsCovered, IsKeyed, IsUnowned, gives_none, is_apart, is_content, is_field_of, is_frame_below, is_frame_from, is_given, may_owe, owned, renews_none, unowned, tells_calls, was_given}
 use Rattle.covering_laws.proofs.GivenArguments.{away_owner}
 use Rattle.covering_laws.proofs.GivenAway.{given_at_step}
-use Rattle.covering_laws.proofs.Owners.{lent_renewed, lent_frame, lent_below}
-use Rattle.covering_laws.proofs.OwnerSteps.{below_not_from, own_frame}
-use Rattle.value_laws.specs.Renewing.{is_renewed, was_renewed, renews, IsLentFrom}
-use Rattle.covering_laws.proofs.RenewedOperands.{renewing_unheld, renewed_answered}
+use Rattle.covering_laws.proofs.Owners.{lent_renewed, held_at, lent_not_from, runs_on_none}
+use Rattle.covering_laws.proofs.OwnerSteps.{own_frame}
+use Rattle.value_laws.specs.Renewing.{is_renewed, was_renewed}
+use Rattle.covering_laws.proofs.RenewedOperands.{renewed_answered}
 use Rattle.covering_laws.proofs.RenewedFacts.{true_as}
 use Rattle.value_laws.proofs.Needs.{origin_needs_all}
+use Rattle.covering_laws.proofs.InFields.{held_heavy, held_in_field, held_unowned}
+use Rattle.covering_laws.proofs.ResetCovers.{AreMaking}
 use Rattle.covering_laws.proofs.WaitingTargets.{renewed_at_step}
 
 -- what a field of the object owns no frame owns
@@ -47,7 +44,7 @@ field_below (values.Object k) n owners.Unowned is = refl
 field_below v n w is = absurd (true≢false (sym is))
 
 module _ (p : Program) (ac : Accept p) (forms : HasPlainForms p) (h : HeapContents) (fr : Frame) (st : Stands p fr) (frs : List Frame) (i : ℕ) (s : Step) (here : slice_get (frame_steps p fr) i ≡ Some s) (row : IsCallRow s.action)
-    (covered : IsCovered p h gives_none renews_none frs fr) where
+    (covered : IsCovered p h gives_none renews_none frs fr) (making : AreMaking p h (fr ∷ frs)) where
   -- what is known of an object is not given away
   known_kept : (o : ℕ) (x : Object) → object_at h o ≡ Some x → is_heavy_class p x.class ≡ true → may_owe x ≡ true → is_frame_from (length frs + 1) x.owner ≡ false → is_given p h fr o x.class ≡ false
   known_kept o x there heavy owes apart = go (is_given p h fr o x.class) refl
@@ -73,34 +70,19 @@ module _ (p : Program) (ac : Accept p) (forms : HasPlainForms p) (h : HeapConten
         not_from : is_frame_from (length frs + 1) x.owner ≡ false
         not_from = (c.known done tells apart).1
 
-        either : (a b d : Bool) → (a || b && d) ≡ true → (a ≡ true) ⊎ (b ≡ true)
-        either true b d is = inl refl
-        either false true d is = inr refl
-        either false false d is = absurd (true≢false (sym is))
-
         go : (b : Bool) → is_renewed p h fr o ≡ b → is_renewed p h fr o ≡ false
         go false none = none
-        go true some = absurd (elim (renewed_answered p ac forms h fr st frs i s here row covered o x there heavy owes does done) [
+        go true some = absurd (elim (renewed_answered p ac forms h fr st frs i s here row covered o x there heavy owes (renewed_at_step p h fr st i s o here row some) done) [
           | inl own ↦ true≢false (sym (own_frame (length frs + 1) x.owner own) ∙ not_from)
-          | inr lent ↦ elim (either (is_content p fr x.owner c.fact) (not (was_renewed p h frs o)) (not (was_given p h frs o x.class) || is_frame_below (length frs + 1) x.owner) apart) [
-            | inl content ↦ of_content lent content
-            | inr old ↦ true≢false (sym old ∙ ap not (lent_renewed p h frs o x.owner lent))
+          | inr other ↦ elim other [
+            | inl lent ↦ true≢false (sym (and_parts (not (was_renewed p h frs o)) (is_content p fr x.owner c.fact || (not (was_given p h frs o x.class) || is_frame_below (length frs + 1) x.owner)) apart).0
+                ∙ ap not (lent_renewed p h frs o x.owner lent))
+            | inr held ↦ (let its = making.0 x.owner held in elim ((c.known done tells apart).3 held.1.holder (held_at x.owner held.1.holder held.1.field held.1.owns)) [
+              | inl made ↦ true≢false (sym made ∙ its.0)
+              | inr runs ↦ runs_on_none held.1.holder frs its.1 runs
+            ])
           ]
         ])
-          where
-            does : renews p h fr.locals s.action o ≡ true
-            does = renewed_at_step p h fr st i s o here row some
-
-            -- a field of `this` owns it, or a constructor has stored it
-            of_content : IsLentFrom p h frs o x.owner → is_content p fr x.owner c.fact ≡ true → ⊥
-            of_content lent content = by (constructs (method_at p fr.method)) refl parts.1
-              where
-                parts : (is_held c.fact.mode ≡ true) × ((makes_alone (method_at p fr.method) || not (constructs (method_at p fr.method)) && is_field_of fr.locals.this x.owner) ≡ true)
-                parts = and_parts (is_held c.fact.mode) (makes_alone (method_at p fr.method) || not (constructs (method_at p fr.method)) && is_field_of fr.locals.this x.owner) content
-
-                by : (b : Bool) → constructs (method_at p fr.method) ≡ b → ((b && not (is_present (alias_in (method_at p fr.method)))) || not b && is_field_of fr.locals.this x.owner) ≡ true → ⊥
-                by true makes one = renewing_unheld p ac forms h fr st frs i s here o does makes false false x c (held_mode c.fact.mode parts.0)
-                by false other one = true≢false (sym (lent_frame p h frs o x.owner lent) ∙ field_below fr.locals.this 0 x.owner one)
 
     waiting : Covers p h false false frs fr o x → Covers p h away anew frs fr o x
     waiting c = record {
@@ -112,12 +94,16 @@ module _ (p : Program) (ac : Accept p) (forms : HasPlainForms p) (h : HeapConten
       alone = c.alone;
       places = c.places;
       true' = λ claimed spared. true_as p anew x c.origin c.fact (origin_needs_all p c.body c.origin fr.control c.fact c.reached) (c.true' claimed refl);
-      lends = λ mode done. (let lent = (c.lends mode done).1 in (known_kept o x there heavy owes (below_not_from (length frs + 1) x.owner (lent_below p h frs o x.owner lent)), lent));
+      lends = λ mode done. (let lent = (c.lends mode done).1 in (known_kept o x there heavy owes (lent_not_from p h frs o x.owner lent), lent));
       makes = c.makes;
       unrenewed = λ done tells apart. not_renewed c done tells apart;
-      free = c.free;
+      free = λ done held alone. (
+        known_kept o x there heavy owes (held_unowned p h false false frs fr o x c done held alone (length frs + 1)),
+        held_heavy p h false false frs fr o x c done held alone,
+        held_in_field p h false false frs fr o x c done held alone,
+      );
       lent = c.lent;
-      known = λ done tells apart. (let known = c.known done tells apart in (known_kept o x there heavy owes known.1, known.1, known.2));
+      known = λ done tells apart. (let known = c.known done tells apart in (known_kept o x there heavy owes known.1, known.1, known.2, known.3));
       fields = c.fields;
       held = c.held;
       outside = c.outside;
@@ -132,7 +118,7 @@ module _ (p : Program) (ac : Accept p) (forms : HasPlainForms p) (h : HeapConten
     keyed_waits q (unowned u) = unowned (unowned_waits q u)
     keyed_waits q (owned c there' own) = owned (waiting c) there' (record {
       owning = own.owning;
-      owner = λ spared. own.owner refl;
+      owner = λ spared mine. own.owner refl mine;
       others = λ r small' root'. elim (own.others r small' root') [ inl in'' ↦ inl in'' | inr u ↦ inr (unowned_waits r u) ];
     })
 

@@ -1,5 +1,5 @@
 -- A frame ends, and with it the call at which the frame below waits.
-use Rattle.std.proofs.Common.{Bool, List, None, Option, Some, ap, arith, false, inl, length, not, refl, slice_get, subst, sym, true, true≢false, ℕ, ◌+◌, ◌<◌, ◌∙◌, ◌∷◌, ◌≡◌, ◌⊎◌, inr}
+use Rattle.std.proofs.Common.{Bool, List, None, Option, Some, ap, arith, false, inl, length, not, refl, slice_get, subst, sym, true, true≢false, ℕ, ◌+◌, ◌<◌, ◌∙◌, ◌∷◌, ◌≡◌, ◌⊎◌, inr, eqb-true}
 use Rattle.std.proofs.lemmas.Bool.{and_from}
 use Rattle.rlc_base.proofs.SetLaws.{within_at}
 use Rattle.std.specs.Prelude.{is_some}
@@ -31,7 +31,7 @@ use Rattle.ledger_state.specs.declared.object.Object.{Object}
 use Rattle.ledger_state.specs.declared.value.Value.{Value}
 use Rattle.ledger_state.specs.declared.value.Value.TheVariants as values
 use Rattle.ledger_obligations.specs.declared.note.Note.{Note}
-use Rattle.ledger_obligations.specs.Obligations.{has_note, is_library_owner, note}
+use Rattle.ledger_obligations.specs.Obligations.{has_note, is_library_owner, note, is_held_by}
 use Rattle.ledger_steps.specs.LedgerCallsCalls.{alias_position, alias_target, body_of, object_by, operand_of, reset_position}
 use Rattle.ledger_steps.specs.LedgerCallsCalls as calls
 use Rattle.value_laws.specs.Configuration.{Frame}
@@ -52,7 +52,7 @@ use Rattle.value_laws.proofs.CallNames.{IsReceiver, object_with_root, operand_ha
 use Rattle.value_laws.proofs.Ready.{call_sets, plain_call, plain_step, step_there}
 use Rattle.value_laws.proofs.Unmet.{way_of_call}
 use Rattle.value_laws.specs.Types.{GivesAsNamed, KeepsTypes, is_text}
-use Rattle.value_laws.specs.FieldContents.{IsBeingMade, IsDispatched, LinksLead, is_new}
+use Rattle.value_laws.specs.FieldContents.{IsBeingMade, IsDispatched, LinksLead, is_new, RunOnOthers, TopRunsAlone}
 use Rattle.value_laws.specs.PlaceFacts.{AreWaiting, Covers, IsCovered, OwnersBelow, gives_none, is_given, may_owe, renews_none}
 use Rattle.value_laws.specs.Renewing.{IsLentFrom, is_renewed}
 use Rattle.value_laws.proofs.Emptied.{plain_note}
@@ -74,7 +74,7 @@ use Rattle.covering_laws.proofs.CallResults.{IsBornSo}
 use Rattle.covering_laws.proofs.Gifts.{small_gifts}
 use Rattle.covering_laws.proofs.GivenArguments.{away_moves}
 use Rattle.covering_laws.proofs.GivenAway.{given_at_step}
-use Rattle.covering_laws.proofs.Owners.{AllKeepGifts, OwnersGo, given_kept, owners_kept, stays_apart}
+use Rattle.covering_laws.proofs.Owners.{AllKeepGifts, OwnersGo, given_kept, owners_kept, stays_apart, KeepsFinished, held_here}
 use Rattle.covering_laws.proofs.ResultOwners.{returned_owner}
 use Rattle.covering_laws.proofs.Bodies.{running_method}
 use Rattle.covering_laws.proofs.OwnNames.{chosen_by_note, own_name_called}
@@ -82,7 +82,7 @@ use Rattle.covering_laws.proofs.EndNames.{promises_kept}
 use Rattle.covering_laws.proofs.EndResults.{given, thrown_light}
 use Rattle.covering_laws.proofs.LocalSteps.{LocalsIn, all_there, holds_there, local_step}
 use Rattle.covering_laws.proofs.TopSteps.{IsKeyedFrom, IsLocalStep, IsMadeSo, StopsOwning}
-use Rattle.covering_laws.proofs.Waiting.{AllHeldBefore, AllKeepRoots, AllReady, AllThere, Carries, HoldsThere, IsCarried, KeepsFields, KeepsOtherRoots, KeepsRoots, KeepsUnfinished, all_held_before_on, all_keep, all_keep_other_roots, all_keep_roots, all_wait_on, frames_ready_but, owed_before, value_root}
+use Rattle.covering_laws.proofs.Waiting.{AllHeldBefore, AllKeepRoots, AllReady, AllThere, Carries, HoldsThere, IsCarried, KeepsFieldsButTexts, KeepsOtherRoots, KeepsRoots, KeepsUnfinished, all_held_before_on, all_keep, all_keep_but_texts, but_texts, all_keep_other_roots, all_keep_roots, all_wait_on, frames_ready_but, owed_before, value_root, carries_finish}
 use Rattle.value_laws.proofs.Chains.{object_there}
 use Rattle.value_laws.proofs.Steps.{result_in_range}
 use Rattle.value_laws.proofs.RangeValues.{operand_in_range}
@@ -106,6 +106,10 @@ use Rattle.value_laws.specs.Places.{class_of_method, place_value}
 use Rattle.value_laws.specs.Naming.{IsOfItsKind}
 use Rattle.value_laws.proofs.NamedReached.{names_what_is_there}
 use Rattle.value_laws.specs.PlacePlaces.{is_local}
+use Rattle.covering_laws.proofs.InFields.{held_finished, held_unowned}
+use Rattle.covering_laws.proofs.HeavyFields.{claims_by}
+use Rattle.covering_laws.proofs.OwnerSteps.{own_frame}
+use Rattle.value_laws.proofs.Growth.{returned_grows}
 use Rattle.covering_laws.specs.Texts.{TextsAreLight}
 
 -- a signature without its reset has the same name of interest
@@ -123,7 +127,7 @@ module _ (p : Program) (ac : Accept p) (forms : HasPlainForms p) (runs' : HasPla
     (fr caller : Frame) (rest : List Frame) (st : Stands p fr) (below : Stands p caller) (targets : KeepsTargets p caller) (keeps : KeepsTypes (is_text p h) p fr) (gives : GivesAsNamed p caller fr) (dispatched : IsDispatched p h fr caller)
     (making : IsBeingMade p h fr caller) (mine' : LocalsInRange h fr.locals) (covered : IsCovered p h gives_none renews_none (caller ∷ rest) fr) (i : ℕ) (s : Step) (q : Completion) (here : slice_get (frame_steps p fr) i ≡ Some s) (is : s.action ≡ actions.End q)
     (t : Step) (named : MethodId) (back : IsBackStep p (frame_steps p caller) (exception_class p h (thrown_in fr.locals q)) named t) (may : MayRun p named fr.method) (makes : IsMadeBy p h t.action fr.locals.this) (itself : RunsItself t.action named fr.method) (args : HasArguments p caller fr) (exits : EndsAsDeclared p h fr)
-    (leads : LinksLead p h) (ends : HaveEnds h) (made_after : IsMadeAfter p caller.locals t.action fr.locals.this) (classes : HasMadeClasses p h) (unheld : IsUnheld p h fr caller rest) (in' : LocalsIn h (caller ∷ rest)) where
+    (leads : LinksLead p h) (ends : HaveEnds h) (made_after : IsMadeAfter p caller.locals t.action fr.locals.this) (classes : HasMadeClasses p h) (unheld : IsUnheld p h fr caller rest) (in' : LocalsIn h (caller ∷ rest)) (alone : TopRunsAlone p h (fr ∷ caller ∷ rest)) where
   -- the position of the caller
   abbrev pub at : ℕ
   at = length rest + 1
@@ -345,7 +349,7 @@ module _ (p : Program) (ac : Accept p) (forms : HasPlainForms p) (runs' : HasPla
           (λ n is'. small_name p t.action n names (interest ∙ sym (named_interest (Some k) interest) ∙ is')) object.1 goes_through way now
       by false stopped = within_at x.called y.called goes.called k.0
           (own_name_called p ac forms h links fr caller rest st covered i s q here is back.index t back.here named named_there.0 back.calls named_there.1 dispatched k
-          (ap interest_in (sym same_callee) ∙ interest) (chosen_by_note caller.locals t.action m (note false r.object k) r.noted) o x before heavy owes done classes (inl (old, inl spared)) r.object object.0 r.value object.1 way stopped)
+          (ap interest_in (sym same_callee) ∙ interest) (chosen_by_note caller.locals t.action m (note false r.object k) r.noted) o x before heavy owes done classes (old, inl spared) r.object object.0 r.value object.1 way stopped)
 
   -- what is linked is an alias: so is the object of a `new`
   pub ended_apart : LinkedAreAliases p K
@@ -503,8 +507,19 @@ module _ (p : Program) (ac : Accept p) (forms : HasPlainForms p) (runs' : HasPla
   result_owner n x u before heavy owes r =
       returned_owner p ac h fr (caller ∷ rest) st mine' covered i s q here is at n x u before heavy owes r ∙ ap owners.Frame (let number : length (caller ∷ rest) + 1 ≡ length rest + 1 + 1 = omega arith in number)
 
-  pub goes_on : OwnersGo p None at h K
-  goes_on = end_owners_go p at fr.locals.this caller.locals t.action (method_at p fr.method) plain v e h no_reset unmade result_owner None
+  pub goes_on : OwnersGo p None (caller ∷ rest) at h K
+  goes_on = end_owners_go p at fr.locals.this caller.locals t.action (method_at p fr.method) plain v e h no_reset unmade (caller ∷ rest) gives_up_alone result_owner None
+    where
+      gives_up_alone : (n : ℕ) (x : Object) → object_at h n ≡ Some x → is_heavy_class p x.class ≡ true → (w : ℕ) → constructs (method_at p fr.method) ≡ true → fr.locals.this ≡ values.Object w → is_held_by x.owner w ≡ true → RunOnOthers w (caller ∷ rest)
+      gives_up_alone n x before heavy w makes this held' = by x.owner refl held'
+        where
+          by : (a : Owner) → x.owner ≡ a → is_held_by a w ≡ true → RunOnOthers w (caller ∷ rest)
+          by (owners.Field u g) own is' = subst (λ (z : ℕ). RunOnOthers z (caller ∷ rest)) (eqb-true u w is') (alone n x u g makes (this ∙ ap values.Object (sym (eqb-true u w is'))) before heavy own)
+          by (owners.Frame j) own is' = absurd (true≢false (sym is'))
+          by owners.Library own is' = absurd (true≢false (sym is'))
+          by owners.Released own is' = absurd (true≢false (sym is'))
+          by owners.Lost own is' = absurd (true≢false (sym is'))
+          by owners.Unowned own is' = absurd (true≢false (sym is'))
 
   -- the caller goes on owning what it owned
   pub caller_owns : (o : ℕ) (x y : Object) → object_at h o ≡ Some x → object_at K o ≡ Some y → x.finished ≡ true → is_heavy_class p x.class ≡ true → x.owner ≡ owners.Frame at → y.owner ≡ owners.Frame at
@@ -518,8 +533,11 @@ module _ (p : Program) (ac : Accept p) (forms : HasPlainForms p) (runs' : HasPla
   pub carries : Carries h K
   carries = end_carries p at fr.locals.this caller.locals t.action (method_at p fr.method) plain v e h links no_reset unmade
 
-  pub fields : KeepsFields p h K
-  fields = end_keeps p at fr.locals.this caller.locals t.action (method_at p fr.method) plain v e h links no_reset unmade
+  pub finishes : KeepsFinished h K
+  finishes = carries_finish h K (returned_grows p at fr.locals.this caller.locals t.action (method_at p fr.method) plain v e h).count carries
+
+  pub fields : KeepsFieldsButTexts p h K
+  fields = but_texts p h K (end_keeps p at fr.locals.this caller.locals t.action (method_at p fr.method) plain v e h links no_reset unmade)
 
   pub was : (n : ℕ) (x : Object) → object_at K n ≡ Some x → IsCarried h n x
   was = end_was p at fr.locals.this caller.locals t.action (method_at p fr.method) plain v e h links no_reset unmade
@@ -546,7 +564,11 @@ module _ (p : Program) (ac : Accept p) (forms : HasPlainForms p) (runs' : HasPla
           ap (λ (u : Object). is_heavy_class p u.class) (let both : Some x ≡ Some old.0 = sym before ∙ old.1 in (let one : x ≡ old.0 = cc in one)) ∙ ap (is_heavy_class p) (sym old.2) ∙ heavy
 
       by : (b : Bool) → is_given p h caller o x.class ≡ b → is_own g.mode ≡ false
-      by false spared = absurd (no_two at (sym (key.owner spared) ∙ owner x before))
+      by false spared = absurd (elim (claims_by p (method_at p caller.method) d.origin d.fact key.owning) [
+        | inl own ↦ no_two at (sym (key.owner spared own) ∙ owner x before)
+        | inr held' ↦ true≢false (sym (own_frame (at + 1) x.owner (owner x before))
+            ∙ held_unowned p h (is_given p h caller o x.class) (is_renewed p h caller o) rest caller o x d (held_finished p h (is_given p h caller o x.class) (is_renewed p h caller o) rest caller o x d key.owning held'.0) held'.0 held'.1 (at + 1))
+      ])
       by true gives' = not_own (is_own g.mode) (is_held g.mode)
           (more.0 (away_moves p ac h caller below rest back.index t back.here back.row (is_given p h caller o x.class) (is_renewed p h caller o) o x d key heavy' (given_at_step p h caller below back.index t o x.class back.here back.row gives')))
 
@@ -589,7 +611,8 @@ module _ (p : Program) (ac : Accept p) (forms : HasPlainForms p) (runs' : HasPla
     caller_from =
         call_from p ac h K links carries fields caller below back.index t back.here local inside all_roots.0 V back.row rest (is_given p h caller) (is_renewed p h caller)
         (λ o c gives'. given_at_step p h caller below back.index t o c back.here back.row gives') waits.0 ready.0 (given_kept p h K rest gifts)
-        (stays_apart p None at h K goes_on rest caller (omega arith) (λ w to this. absurd (let never : None ≡ Some w = to in cc)))
+        (stays_apart p None (caller ∷ rest) at h K finishes goes_on rest caller (omega arith) (λ w to this. absurd (let never : None ≡ Some w = to in cc)) (λ w none. none.1))
+        (held_here p None (caller ∷ rest) at h K finishes goes_on rest caller (omega arith) (λ w none. none.0))
         (λ o x y before now done heavy spared mine. caller_owns o x y before now done heavy mine)
         noted
         (λ o x y c before now g more trusted spared old done goes heavy owes names less knows.
@@ -601,8 +624,8 @@ module _ (p : Program) (ac : Accept p) (forms : HasPlainForms p) (runs' : HasPla
     -- the frames below it go on waiting
     pub rest_waiting : AreWaiting p K rest
     rest_waiting =
-        all_wait_on p h K links carries rest all_roots.1 (all_keep p h K fields rest) (all_there p h ranges rest (All-tail (λ (x : Frame). LocalsInRange h x.locals) caller rest in')) ready.1 gifts
-        (owners_kept p None at h K goes_on rest (omega arith) tt) waits.1
+        all_wait_on p h K links carries rest all_roots.1 (all_keep_but_texts p h K fields rest) (all_there p h ranges rest (All-tail (λ (x : Frame). LocalsInRange h x.locals) caller rest in')) ready.1 gifts
+        (owners_kept p None (caller ∷ rest) at h K finishes goes_on rest (omega arith) tt (λ w none. none.1)) waits.1
 
     -- what is lent to them stays so
     pub lent_on : (o : ℕ) (w : Owner) → IsLentFrom p h rest o w → IsLentFrom p K rest o w

@@ -61,7 +61,7 @@ use Rattle.value_laws.proofs.Chains.{object_there}
 use Rattle.value_laws.proofs.Entries.{same_count}
 use Rattle.value_laws.specs.Typed.{IsDeclaredElsewhere, NamesMembers}
 use Rattle.value_laws.specs.FieldContents.{IsDispatched, is_chosen_by_class}
-use Rattle.value_laws.specs.PlaceFacts.{Covers, IsCovered, asked_by, asked_of, gives_none, is_given, is_lent, may_owe, is_heavy_in, renews_none}
+use Rattle.value_laws.specs.PlaceFacts.{Covers, IsCovered, asked_by, asked_of, gives_none, is_given, is_lent, may_owe, renews_none}
 use Rattle.value_laws.specs.Renewing.{is_renewed}
 use Rattle.value_laws.specs.Ranges.{LocalsInRange}
 use Rattle.value_laws.proofs.FrameOperations.{all_at}
@@ -71,7 +71,7 @@ use Rattle.value_laws.proofs.NamedReached.{names_what_is_there}
 use Rattle.value_laws.specs.Flow.{flow}
 use Rattle.value_laws.specs.Paths.{move_of, Reach, relation_of}
 use Rattle.covering_laws.proofs.Following.{small_step, step_there, breaks_nothing, same_body}
-use Rattle.covering_laws.proofs.HeavyFields.{HasPlace, apart_held, apart_where, asked_here, covered_at, has_place_here, held_tells, held_unlent, known_alone, lent_tells, value_here}
+use Rattle.covering_laws.proofs.HeavyFields.{HasPlace, apart_held, apart_where, asked_here, covered_at, has_place_here, held_tells, held_unlent, known_alone, lent_tells, value_here, plain_not_alone, lent_not_alone}
 use Rattle.covering_laws.proofs.Bodies.{running_method}
 use Rattle.covering_laws.proofs.EntryBirths.{alike_parameter, same_mark}
 use Rattle.covering_laws.proofs.KnownNames.{AreKept, all_kept, operand_holds}
@@ -319,7 +319,7 @@ module _ (p : Program) (ac : Accept p) (forms' : HasPlainForms p) (h : HeapConte
 
       known_here : set.is_subset cover.fact.called x.called ≡ true
       known_here = known_alone p (method_at p fr.method) cover.origin.kind cover.fact.called x.called (held_unlent p h false false (caller ∷ rest) fr o x cover held_here no_constructor)
-          (cover.known done (held_tells p fr.method cover.origin cover.fact held_here) (apart_held p h (caller ∷ rest) fr o x cover.fact held_here (inl (old, inl spared)))).2
+          (cover.known done (held_tells p fr.method cover.origin cover.fact (plain_not_alone (method_at p fr.method) no_constructor) held_here) (apart_held p h (caller ∷ rest) fr o x cover.fact held_here (old, inl spared))).2
 
       by_end : (xs : List Promise) → AsksFor p st.number q xs → (k : ℕ) (u : Promise) → slice_get xs k ≡ Some u → u.target ≡ promised.OfField f → set.is_subset u.names names ≡ true
       by_end xs asks k u at target =
@@ -351,7 +351,7 @@ module _ (p : Program) (ac : Accept p) (forms' : HasPlainForms p) (h : HeapConte
           let asks' : asked_of p (method_at p fr.method) cover.origin.kind ≡ asked_of p (Some r) e = ap (asked_of p (method_at p fr.method)) origin.1 ∙ ap (λ (m : Option Method). asked_of p m e) own_method in
           within_trans u.names (set.union (asked_of p (method_at p fr.method) cover.origin.kind) x.called) names
           (shown_on_position p ac h fr st i s q here is (caller ∷ rest) o x cover (unowned_moves p st.number cover.origin cover.fact (cover.lent lent').0 q) (set.union (asked_of p (method_at p fr.method) cover.origin.kind) x.called)
-          (cover.known done (lent_tells p fr.method cover.origin cover.fact lent') (apart_where p h (caller ∷ rest) fr o x cover.fact old spared)).2 xs asks v k u at target origin.0)
+          (cover.known done (lent_tells p fr.method cover.origin cover.fact (lent_not_alone p h false false (caller ∷ rest) fr o x cover lent') lent') (apart_where p h (caller ∷ rest) fr o x cover.fact old spared)).2 xs asks v k u at target origin.0)
           (union_within (asked_of p (method_at p fr.method) cover.origin.kind) x.called names (ap (λ (a : Names). set.is_subset a names) asks' ∙ asked) called_before)
 
       reached_here : (cover : Covers p h false false (caller ∷ rest) fr o x) → Reach p st.number (relation_of p st.number) cover.origin fr.control cover.fact

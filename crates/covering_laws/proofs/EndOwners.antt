@@ -1,6 +1,6 @@
 -- The owners of objects as a frame ends, and its call: its result is the caller's, what else the frame owned is given up, as is what a constructor's
 -- object owned that throws, and all others stay. The object of a `new` that ends is the caller's.
-use Rattle.std.proofs.Common.{◌≡◌, ◌⊎◌, inl, inr, ℕ, ◌+◌, Bool, true, false, true≢false, Option, None, Some, nat_eq, refl, sym, ap, ◌∙◌, subst, arith, eqb-true, if◌then◌else◌}
+use Rattle.std.proofs.Common.{◌≡◌, ◌⊎◌, inl, inr, ℕ, ◌+◌, Bool, true, false, true≢false, Option, None, Some, nat_eq, refl, sym, ap, ◌∙◌, subst, arith, eqb-true, if◌then◌else◌, List}
 use Rattle.std.specs.Prelude.{is_some}
 use Rattle.program_model.specs.declared.kinds.ClassId.{ClassId}
 use Rattle.program_model.specs.declared.kinds.VType.{VType}
@@ -28,9 +28,10 @@ use Rattle.value_laws.specs.ProgramCalls as program_calls
 use Rattle.value_laws.specs.ProgramCalls.{IsLinkedTo, IsReturned}
 use Rattle.value_laws.proofs.EndLaws.{changed_back, frame_back, holder_back, is_held}
 use Rattle.value_laws.proofs.Returned.{end_back, gone_back, result_back, result_takes}
-use Rattle.value_laws.specs.FieldContents.{is_new}
+use Rattle.value_laws.specs.FieldContents.{is_new, RunOnOthers}
 use Rattle.value_laws.specs.PlaceFacts.{OwnersBelow, is_frame_from, may_owe}
 use Rattle.covering_laws.proofs.Owners.{OwnerGoes, OwnersGo, frame_from_lower, from_frame, passed, stays}
+use Rattle.value_laws.specs.Configuration.{Frame}
 use Rattle.covering_laws.proofs.OwnerSteps.{IsFree, KeepsLibrary, below_next, frame_is, free_below, gave_up, given_up_free, held_is, is_field_owner, movable, movable_owes, never_moved, own_frame, still_below, under}
 
 pub same_new : (a : Action) → program_calls.is_new a ≡ true → is_new a ≡ true
@@ -43,22 +44,35 @@ number_value (values.Object k) n is = ap values.Object (let both : Some k ≡ So
 number_value values.Nothing n is = absurd (let never : None ≡ Some n = is in cc)
 number_value v n is = absurd (let never : None ≡ Some n = is in cc)
 
+-- an object is of one holder
+one_holder : (a : Owner) (m n : ℕ) → is_held_by a m ≡ true → is_held_by a n ≡ true → m ≡ n
+one_holder (owners.Field v f) m n is also = sym (eqb-true v m is) ∙ eqb-true v n also
+one_holder (owners.Frame j) m n is also = absurd (true≢false (sym is))
+one_holder owners.Library m n is also = absurd (true≢false (sym is))
+one_holder owners.Released m n is also = absurd (true≢false (sym is))
+one_holder owners.Lost m n is also = absurd (true≢false (sym is))
+one_holder owners.Unowned m n is also = absurd (true≢false (sym is))
+
 -- an object of the heap when the constructor has ended
 constructor_back : (self : Value) (runs : Option Method) (e : Option ClassId) (h : HeapContents) (n : ℕ) (y : Object) → object_at (constructor_ended self runs e h) n ≡ Some y
-    → (x : Object) × (object_at h n ≡ Some x) × ((y ≡ x) ⊎ ((e ≡ None → ⊥) × (is_held (number_of self) x ≡ true) × IsKeptOr (is_held (number_of self) x) x y))
+    → (x : Object) × (object_at h n ≡ Some x) × ((y ≡ x) ⊎ ((e ≡ None → ⊥) × (constructs runs ≡ true) × (is_held (number_of self) x ≡ true) × IsKeptOr (is_held (number_of self) x) x y))
 constructor_back self runs None h n y at = (y, at, inl refl)
-constructor_back self runs (Some c) h n y at = go (constructs runs) at
+constructor_back self runs (Some c) h n y at = go (constructs runs) refl at
   where
-    go : (b : Bool) → object_at (if b then end_holder (number_of self) h else h) n ≡ Some y
-        → (x : Object) × (object_at h n ≡ Some x) × ((y ≡ x) ⊎ ((Some c ≡ None → ⊥) × (is_held (number_of self) x ≡ true) × IsKeptOr (is_held (number_of self) x) x y))
-    go true at' =
+    go : (b : Bool) → constructs runs ≡ b → object_at (if b then end_holder (number_of self) h else h) n ≡ Some y
+        → (x : Object) × (object_at h n ≡ Some x) × ((y ≡ x) ⊎ ((Some c ≡ None → ⊥) × (constructs runs ≡ true) × (is_held (number_of self) x ≡ true) × IsKeptOr (is_held (number_of self) x) x y))
+    go true makes at' =
         let x = holder_back (number_of self) h n y at' in
-        (x.0, x.1, elim x.2 [ inl same ↦ inl same | inr given ↦ inr ((λ is. let never : Some c ≡ None = is in cc), given.0, inr given) ])
-    go false at' = (y, at', inl refl)
+        (x.0, x.1, elim x.2 [ inl same ↦ inl same | inr given ↦ inr ((λ is. let never : Some c ≡ None = is in cc), makes, given.0, inr given) ])
+    go false plain at' = (y, at', inl refl)
 
-holder_is : (w : Option ℕ) (x : Object) → is_held w x ≡ true → is_field_owner x.owner ≡ true
+-- a field of the constructor's object owns it
+abbrev pub IsHeldBySelf : Value → Option Method → Owner → Type 0
+IsHeldBySelf self runs a = (constructs runs ≡ true) × ((w : ℕ) × (number_of self ≡ Some w) × (is_held_by a w ≡ true))
+
+holder_is : (v : Option ℕ) (x : Object) → is_held v x ≡ true → (w : ℕ) × (v ≡ Some w) × (is_held_by x.owner w ≡ true)
 holder_is None x is = absurd (true≢false (sym is))
-holder_is (Some w) x is = held_is x.owner w is
+holder_is (Some w) x is = (w, refl, is)
 
 -- ---- the frame
 
@@ -72,7 +86,7 @@ module _ (p : Program) (i : ℕ) (self : Value) (runs : Option Method) (v : Valu
   IsResult n x z = (u : Object) × IsReturned p i runs v e h n x u × (z.owner ≡ u.owner)
 
   abbrev IsEnded : Object → Object → Type 0
-  IsEnded x z = (z.owner ≡ x.owner) ⊎ (((is_frame x.owner (i + 1) ≡ true) × IsFree z.owner) ⊎ ((is_field_owner x.owner ≡ true) × IsFree z.owner))
+  IsEnded x z = (z.owner ≡ x.owner) ⊎ (((is_frame x.owner (i + 1) ≡ true) × IsFree z.owner) ⊎ (IsHeldBySelf self runs x.owner × IsFree z.owner))
 
   next_frame : (u : Object) → u.owner ≡ owners.Frame i → is_frame u.owner (i + 1) ≡ false
   next_frame u is = ap (λ (o : Owner). is_frame o (i + 1)) is ∙ other (nat_eq i (i + 1)) refl
@@ -92,14 +106,15 @@ module _ (p : Program) (i : ℕ) (self : Value) (runs : Option Method) (v : Valu
       let old = result_back p i runs v h e n u.0 u.1 in
       let same : old.before ≡ x = (let both : Some old.before ≡ Some x = sym old.at ∙ before in (let one : old.before ≡ x = cc in one)) in
       go u.0 w.0 (subst (λ (b : Object). (u.0.owner ≡ b.owner) ⊎ IsReturned p i runs v e h n b u.0) same old.owner) (released (is_frame u.0.owner (i + 1)) u.0 w.0 u.2)
-      (elim w.2 [ inl kept ↦ inl kept | inr held ↦ inr (held.0, held.1, elim (released (is_held (number_of self) w.0) w.0 z held.2) [ inl kept ↦ inl kept | inr given ↦ inr given.1 ]) ])
+      (elim w.2 [ inl kept ↦ inl kept | inr held ↦ inr (held.0, (held.1, held.2), elim (released (is_held (number_of self) w.0) w.0 z held.3) [ inl kept ↦ inl kept | inr given ↦ inr given.1 ]) ])
     where
       go : (u w : Object) → (u.owner ≡ x.owner) ⊎ IsReturned p i runs v e h n x u → (w ≡ u) ⊎ ((is_frame u.owner (i + 1) ≡ true) × IsFree w.owner)
-          → (z ≡ w) ⊎ ((e ≡ None → ⊥) × (is_held (number_of self) w ≡ true) × ((z ≡ w) ⊎ IsFree z.owner)) → IsResult n x z ⊎ IsEnded x z
+          → (z ≡ w) ⊎ ((e ≡ None → ⊥) × ((constructs runs ≡ true) × (is_held (number_of self) w ≡ true)) × ((z ≡ w) ⊎ IsFree z.owner)) → IsResult n x z ⊎ IsEnded x z
       go u w (inl kept) (inl stood) (inl stayed) = inr (inl (ap (λ (b : Object). b.owner) (stayed ∙ stood) ∙ kept))
       go u w (inl kept) (inl stood) (inr (thrown, held, inl stayed)) = inr (inl (ap (λ (b : Object). b.owner) (stayed ∙ stood) ∙ kept))
       go u w (inl kept) (inl stood) (inr (thrown, held, inr free)) =
-          inr (inr (inr (sym (ap is_field_owner (ap (λ (b : Object). b.owner) stood ∙ kept)) ∙ holder_is (number_of self) w held, free)))
+          let by' = holder_is (number_of self) w held.1 in
+          inr (inr (inr ((held.0, (by'.0, by'.1, ap (λ (o : Owner). is_held_by o by'.0) (sym (ap (λ (b : Object). b.owner) stood ∙ kept)) ∙ by'.2)), free)))
       go u w (inl kept) (inr ended) (inl stayed) = inr (inr (inl (sym (ap (λ (o : Owner). is_frame o (i + 1)) kept) ∙ ended.0, subst (λ (b : Object). IsFree b.owner) (sym stayed) ended.1)))
       go u w (inl kept) (inr ended) (inr (thrown, held, inl stayed)) =
           inr (inr (inl (sym (ap (λ (o : Owner). is_frame o (i + 1)) kept) ∙ ended.0, subst (λ (b : Object). IsFree b.owner) (sym stayed) ended.1)))
@@ -141,7 +156,7 @@ module _ (p : Program) (i : ℕ) (self : Value) (runs : Option Method) (v : Valu
       let was = ended_below below n w.0 w.1 in
       elim w.2 [
         | inl same ↦ ap (λ (b : Object). is_frame_from (i + 1) b.owner) same ∙ was
-        | inr held ↦ elim (released (is_held (number_of self) w.0) w.0 z held.2) [
+        | inr held ↦ elim (released (is_held (number_of self) w.0) w.0 z held.3) [
           | inl same ↦ ap (λ (b : Object). is_frame_from (i + 1) b.owner) same ∙ was
           | inr free ↦ free_below (i + 1) z.owner free.1.0
         ]
@@ -176,21 +191,22 @@ module _ (p : Program) (at : ℕ) (self : Value) (l : Locals) (a : Action) (runs
       go z (inl result) = absurd (never_moved p result.1.type x result.1.may is)
       go z (inr (inl same)) = ap is_library_owner same ∙ is
       go z (inr (inr (inl frame))) = absurd (true≢false (sym is ∙ ap is_library_owner (frame_is x.owner (at + 1) frame.0)))
-      go z (inr (inr (inr field))) = absurd (not_field x.owner is field.0)
+      go z (inr (inr (inr field))) = absurd (not_field x.owner is (held_is x.owner field.0.1.0 field.0.1.2))
         where
           not_field : (o : Owner) → is_library_owner o ≡ true → is_field_owner o ≡ true → ⊥
           not_field owners.Library lib field' = true≢false (sym field')
           not_field (owners.Field w f) lib field' = true≢false (sym lib)
           not_field o lib field' = true≢false (sym field')
 
-  -- where the frame owned its result, which moves
-  pub end_owners_go : ((n : ℕ) (x u : Object) → object_at h n ≡ Some x → is_heavy_class p x.class ≡ true → may_owe x ≡ true → IsReturned p at runs v e h n x u → x.owner ≡ owners.Frame (at + 1))
-      → (into : Option ℕ) → OwnersGo p into at h ended
-  end_owners_go mine into n x y before now done heavy =
+  -- where the frame owned its result, which moves, and no frame below runs on a constructor's object of which a field owns something
+  pub end_owners_go : (below : List Frame) → ((n : ℕ) (x : Object) → object_at h n ≡ Some x → is_heavy_class p x.class ≡ true → (w : ℕ) → constructs runs ≡ true → self ≡ values.Object w → is_held_by x.owner w ≡ true → RunOnOthers w below)
+      → ((n : ℕ) (x u : Object) → object_at h n ≡ Some x → is_heavy_class p x.class ≡ true → may_owe x ≡ true → IsReturned p at runs v e h n x u → x.owner ≡ owners.Frame (at + 1))
+      → (into : Option ℕ) → OwnersGo p into below at h ended
+  end_owners_go below alone mine into n x y before now done heavy =
       let z = call_keeps_owner n x y before done now in
-      subst (OwnerGoes into at x.owner) (sym z.2) (go z.0 (gone_owner p at self runs v e h n x z.0 before z.1))
+      subst (OwnerGoes into below at x.owner) (sym z.2) (go z.0 (gone_owner p at self runs v e h n x z.0 before z.1))
     where
-      go : (z : Object) → IsResult p at self runs v e h n x z ⊎ IsEnded p at self runs v e h x z → OwnerGoes into at x.owner z.owner
+      go : (z : Object) → IsResult p at self runs v e h n x z ⊎ IsEnded p at self runs v e h x z → OwnerGoes into below at x.owner z.owner
       go z (inl result) =
           passed (frame_from_lower at (at + 1) x.owner (omega arith) (own_frame (at + 1) x.owner (mine n x result.0 before heavy (movable_owes p result.1.type x result.1.may) result.1)))
           (λ w held. absurd (true≢false (sym held ∙ ap (λ (o : Owner). is_held_by o w) (result.2 ∙ result.1.owner))))
@@ -199,7 +215,8 @@ module _ (p : Program) (at : ℕ) (self : Value) (l : Locals) (a : Action) (runs
       go z (inr (inr (inl frame))) =
           passed (frame_from_lower at (at + 1) x.owner (omega arith) (own_frame (at + 1) x.owner (frame_is x.owner (at + 1) frame.0))) (λ w held. absurd (true≢false (sym held ∙ frame.1.1 w)))
           (λ k same. absurd (true≢false (sym (ap (is_frame_from 0) same ∙ from_frame 0 k (omega arith)) ∙ frame.1.0)))
-      go z (inr (inr (inr field))) = gave_up into at x.owner z.owner field.0 field.1
+      go z (inr (inr (inr field))) =
+          gave_up into below at x.owner z.owner (held_is x.owner field.0.1.0 field.0.1.2) field.1 (λ w held. alone n x before heavy w field.0.0 (number_value self w (field.0.1.1 ∙ ap Some (one_holder x.owner field.0.1.0 w field.0.1.2 held))) held)
 
   -- the caller goes on owning what it owned
   pub end_keeps_own : ((n : ℕ) (x u : Object) → object_at h n ≡ Some x → is_heavy_class p x.class ≡ true → may_owe x ≡ true → IsReturned p at runs v e h n x u → x.owner ≡ owners.Frame (at + 1))
@@ -215,7 +232,7 @@ module _ (p : Program) (at : ℕ) (self : Value) (l : Locals) (a : Action) (runs
       go z (inl result) = absurd (two (sym own ∙ mine n x result.0 before heavy (movable_owes p result.1.type x result.1.may) result.1))
       go z (inr (inl same)) = same ∙ own
       go z (inr (inr (inl frame))) = absurd (two (sym own ∙ frame_is x.owner (at + 1) frame.0))
-      go z (inr (inr (inr field))) = absurd (true≢false (sym field.0 ∙ ap is_field_owner own))
+      go z (inr (inr (inr field))) = absurd (true≢false (sym (held_is x.owner field.0.1.0 field.0.1.2) ∙ ap is_field_owner own))
 
   -- the result is the caller's when the call has ended
   pub end_result_owner : (t : VType) (n : ℕ) (x y : Object) → e ≡ None → owning_in runs ≡ true → alias_position runs ≡ None → result_in runs ≡ Some t → root_of h v ≡ Some n → object_at h n ≡ Some x

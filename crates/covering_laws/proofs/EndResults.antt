@@ -311,7 +311,7 @@ module _ (p : Program) (ac : Accept p) (forms' : HasPlainForms p) (runs' : HasPl
               by : IsKeyed p h false false (caller ∷ rest) fr (places.Temp d) o old.0 → (c : Covers p h false false (caller ∷ rest) fr o old.0) × (has c.fact.places (places.Temp d) ≡ true) × IsOwned p h false false (caller ∷ rest) fr o old.0 c
               by (owned c in' key) = (c, in', key)
               by (unowned u) = let it = mine u.covers u.here in
-                  absurd (true≢false (sym (and_from (is_heavy_class p u.covers.origin.class) (is_own u.covers.fact.mode) it.1 (ap is_own it.0)) ∙ u.unowned))
+                  absurd (true≢false (sym (own_claims p (method_at p fr.method) u.covers.origin u.covers.fact it.0 it.1) ∙ u.unowned))
 
           truth : IsTrueOf p old.0 owned_cover.0.origin owned_cover.0.fact
           truth = let it = mine owned_cover.0 owned_cover.1 in owned_cover.0.true' (own_claims p (method_at p fr.method) owned_cover.0.origin owned_cover.0.fact it.0 it.1) refl
@@ -339,7 +339,7 @@ module _ (p : Program) (ac : Accept p) (forms' : HasPlainForms p) (runs' : HasPl
                 (and_from (old.0.finished && not (is_library_owner old.0.owner)) (set.is_subset (must_of p old.0.class) (must_of_type p result_there.0))
                 (and_from old.0.finished (not (is_library_owner old.0.owner)) truth.finished (ap (λ (b : Bool). not (b && is_library_owner old.0.owner)) (sym truth.finished) ∙ owed_before old.0 y old.3 owes))
                 (within_trans (must_of p old.0.class) (must_of p owned_cover.0.origin.class) (must_of_type p result_there.0) truth.class (mine owned_cover.0 owned_cover.1).2)) now,
-            inr (λ x there'. ap (λ (z : Object). z.owner) (let both : Some x ≡ Some old.0 = sym there' ∙ old.1 in (let one : x ≡ old.0 = cc in one)) ∙ owned_cover.2.owner refl
+            inr (λ x there'. ap (λ (z : Object). z.owner) (let both : Some x ≡ Some old.0 = sym there' ∙ old.1 in (let one : x ≡ old.0 = cc in one)) ∙ owned_cover.2.owner refl (ap is_own (mine owned_cover.0 owned_cover.1).0)
                 ∙ ap owners.Frame (let number : length (caller ∷ rest) + 1 ≡ length rest + 1 + 1 = omega arith in number)),
           )
 

@@ -1,6 +1,7 @@
--- Whose obligation the end of a call of the program's method creates anew: the root of an operand of the call, which no field owns. All other objects are as they
--- would be without the reset.
-use Rattle.std.proofs.Common.{◌≡◌, ◌⊎◌, inl, inr, ℕ, ◌+◌, ◌<◌, Bool, true, false, true≢false, not, ◌&&◌, Option, Some, None, List, length, refl, sym, ap, ◌∙◌, arith, eq-eqb}
+-- Whose obligation the end of a call of the program's method creates anew: the root of an operand of the call, which no field of a finished object owns. All other objects are
+-- as they would be without the reset.
+use Rattle.covering_laws.proofs.UnfinishedHolders.{held_unready, lent_unready}
+use Rattle.std.proofs.Common.{Bool, List, None, Option, Some, ap, eq-eqb, false, inl, inr, length, not, refl, sym, true, true≢false, ℕ, ◌&&◌, ◌+◌, ◌<◌, ◌∙◌, ◌∷◌, ◌≡◌, ◌⊎◌}
 use Rattle.program_model.specs.declared.kinds.ClassId.{ClassId}
 use Rattle.program_model.specs.declared.kinds.FieldId.{FieldId}
 use Rattle.program_model.specs.declared.kinds.MethodId.{MethodId}
@@ -24,7 +25,7 @@ use Rattle.ledger_state.specs.declared.object.Link.{Link}
 use Rattle.ledger_state.specs.declared.object.Object.{Object}
 use Rattle.ledger_state.specs.declared.value.Value.{Value}
 use Rattle.ledger_state.specs.declared.value.Value.TheVariants as values
-use Rattle.ledger_obligations.specs.Obligations.{finished_in, is_frame, is_library_owner}
+use Rattle.ledger_obligations.specs.Obligations.{finished_holder, finished_in, is_frame, is_held_by, is_library_owner, reset_in as reset_object}
 use Rattle.ledger_steps.specs.Ends.{frame_gone, returned_called, returned_heap, returned_roots}
 use Rattle.ledger_steps.specs.LedgerCallsCalls.{alias_target, object_by, operand_of, receiver_note, reset_position}
 use Rattle.value_laws.specs.Accept.{Accept}
@@ -32,12 +33,12 @@ use Rattle.value_laws.specs.Agreement.{IsMadeAfter, Stands}
 use Rattle.value_laws.specs.Chains.{HaveEnds}
 use Rattle.value_laws.specs.Choosing.{frame_steps}
 use Rattle.value_laws.specs.Configuration.{Frame}
-use Rattle.value_laws.specs.FieldContents.{IsBeingMade, IsDispatched, OwningFieldsOwn, is_new}
-use Rattle.value_laws.specs.HeapAnew.{HasNoHolder, IsEmptied, finished_root, is_anew_at_end, is_field_owner, target_root}
+use Rattle.value_laws.specs.FieldContents.{AreUnfinished, IsBeingMade, IsDispatched, OwningFieldsOwn, is_new}
+use Rattle.value_laws.specs.HeapAnew.{HasNoHolder, IsEmptied, finished_root, is_anew_at_end, target_root}
 use Rattle.value_laws.specs.Heaps.{GoesOn, HasEarlierLinks, KeepsLinks}
 use Rattle.value_laws.specs.Nexts.{IsBackStep}
-use Rattle.value_laws.specs.PlaceFacts.{IsCovered, is_frame_from, is_given, may_owe}
-use Rattle.value_laws.specs.PlainForms.{HasPlainForms, IsPlainReset}
+use Rattle.value_laws.specs.PlaceFacts.{IsCovered, RunsOn, is_given, may_owe}
+use Rattle.value_laws.specs.PlainForms.{HasPlainForms}
 use Rattle.value_laws.specs.ClassValues.{IsOnInstance}
 use Rattle.covering_laws.specs.Sight.{ActsInSight}
 use Rattle.value_laws.specs.ProgramCalls as program_calls
@@ -51,19 +52,17 @@ use Rattle.value_laws.proofs.Growth.{returned_grows}
 use Rattle.value_laws.proofs.HeapLaws.{evolving_heaps-links, notes_add_names-heap, roots_go_on-number, roots_go_on-root, roots_of_links-itself}
 use Rattle.value_laws.proofs.ObjectLaws.{goes_on_further}
 use Rattle.value_laws.proofs.RangeValues.{operand_in_range}
-use Rattle.value_laws.proofs.Ready.{resets_plainly}
-use Rattle.value_laws.proofs.Renewed.{says_nothing, without_reset}
-use Rattle.value_laws.proofs.ResetHeaps.{IsResetOf, reset_empties, reset_root, reset_stays, reset_was}
+use Rattle.value_laws.proofs.Renewed.{says_nothing, without_reset, reset_keeps}
+use Rattle.value_laws.proofs.ResetHeaps.{IsResetOf, reset_empties, reset_root, reset_stays, reset_was, reset_forth}
 use Rattle.value_laws.proofs.Returned.{IsFrom, end_back, gone_back, gone_unowned, result_back}
-use Rattle.covering_laws.proofs.EndOwners.{IsResult, gone_owner, number_value, same_new}
-use Rattle.covering_laws.proofs.GivenAliases.{followed_is_heavy}
+use Rattle.covering_laws.proofs.EndOwners.{IsResult, gone_owner, number_value, same_new, IsHeldBySelf}
 use Rattle.covering_laws.proofs.MadeObjects.{grown_fields}
 use Rattle.covering_laws.proofs.OwnerSteps.{IsFree}
 use Rattle.covering_laws.proofs.RenewedOperands.{step_renews}
 use Rattle.value_laws.proofs.Readings.{operand_renews}
-use Rattle.covering_laws.proofs.ResetCovers.{a_frame_owns}
-use Rattle.covering_laws.proofs.ResetJoins.{same_position, target_value, unowned_by_fields}
+use Rattle.covering_laws.proofs.ResetJoins.{same_position, target_value}
 use Rattle.covering_laws.proofs.Waiting.{KeepsFields}
+use Rattle.covering_laws.proofs.Owners.{KeepsFinished, keeps_finished}
 use Rattle.covering_laws.proofs.WaitingTargets.{owned_or_lent}
 
 module _ (p : Program) (ac : Accept p) (forms : HasPlainForms p) (h : HeapContents) (links : HasEarlierLinks h) (fr caller : Frame) (rest : List Frame) (below : Stands p caller) (sight : ActsInSight p h caller) (dispatched : IsDispatched p h fr caller)
@@ -138,6 +137,13 @@ module _ (p : Program) (ac : Accept p) (forms : HasPlainForms p) (h : HeapConten
       grown_fields p h left (returned_grows p position fr.locals.this caller.locals t.action (method_at p fr.method) method v e h) w f owning
       ∙ sym (grown_fields p h kept (returned_grows p position fr.locals.this caller.locals t.action (method_at p fr.method) (without_reset method) v e h) w f owning)
 
+  pub reset_finishes : KeepsFinished kept left
+  reset_finishes = keeps_finished kept left (λ n x at' done. (
+    reset_object p (returned_called p caller.locals t.action method g) (returned_roots p caller.locals t.action method g) n x,
+    reset_forth p (returned_called p caller.locals t.action method g) (returned_roots p caller.locals t.action method g) kept left reset_of n x at',
+    (reset_keeps p (returned_called p caller.locals t.action method g) (returned_roots p caller.locals t.action method g) n x).2 ∙ done,
+  ))
+
   -- links lead to earlier objects
   pub kept_links : HasEarlierLinks kept
   kept_links = end_links p position fr.locals.this caller.locals t.action (without_reset method) g (says_nothing method) links_gone
@@ -201,25 +207,29 @@ module _ (p : Program) (ac : Accept p) (forms : HasPlainForms p) (h : HeapConten
               let one : x ≡ z.0 = (let both : Some x ≡ Some z.0 = sym at' ∙ z.1 in cc) in
               ap (λ (u : Object). u.finished) one ∙ sym z.2.finished ∙ sym (ap finished_in now) ∙ found'.1
 
-  -- ---- no field owns it
+  -- ---- who owns it
 
-  not_free_field : (w : Owner) → IsFree w → is_field_owner w ≡ false
-  not_free_field (owners.Field v f) free = absurd (true≢false (sym (eq-eqb v v refl) ∙ free.1 v))
-  not_free_field (owners.Frame n) free = refl
-  not_free_field owners.Library free = refl
-  not_free_field owners.Released free = refl
-  not_free_field owners.Lost free = refl
-  not_free_field owners.Unowned free = refl
-
-  no_owner_now : (n : ℕ) (x z : Object) → object_at h n ≡ Some z → object_at g n ≡ Some x → is_field_owner z.owner ≡ false → is_field_owner x.owner ≡ false
-  no_owner_now n x z before now none = go (gone_owner p position fr.locals.this (method_at p fr.method) v e h n z x before now)
+  -- where a field owns an object when the frame has gone, it did before
+  owner_before : (n : ℕ) (x z : Object) → object_at h n ≡ Some z → object_at g n ≡ Some x → (w : ℕ) (f : FieldId) → x.owner ≡ owners.Field w f → z.owner ≡ owners.Field w f
+  owner_before n x z before now w f owner = go (gone_owner p position fr.locals.this (method_at p fr.method) v e h n z x before now)
     where
-      go : IsResult p position fr.locals.this (method_at p fr.method) v e h n z x ⊎ ((x.owner ≡ z.owner) ⊎ (((is_frame z.owner (position + 1) ≡ true) × IsFree x.owner) ⊎ ((is_field_owner z.owner ≡ true) × IsFree x.owner)))
-          → is_field_owner x.owner ≡ false
-      go (inl (u, returned, same')) = ap is_field_owner (same' ∙ returned.owner)
-      go (inr (inl same')) = ap is_field_owner same' ∙ none
-      go (inr (inr (inl frame))) = not_free_field x.owner frame.1
-      go (inr (inr (inr field))) = not_free_field x.owner field.1
+      not_free : IsFree x.owner → ⊥
+      not_free free = true≢false (sym (ap (λ (o : Owner). is_held_by o w) owner ∙ eq-eqb w w refl) ∙ free.1 w)
+
+      go : IsResult p position fr.locals.this (method_at p fr.method) v e h n z x ⊎ ((x.owner ≡ z.owner) ⊎ (((is_frame z.owner (position + 1) ≡ true) × IsFree x.owner) ⊎ (IsHeldBySelf fr.locals.this (method_at p fr.method) z.owner × IsFree x.owner)))
+          → z.owner ≡ owners.Field w f
+      go (inl (u, returned, same')) = absurd (let never : owners.Field w f ≡ owners.Frame position = sym owner ∙ same' ∙ returned.owner in cc)
+      go (inr (inl same')) = sym same' ∙ owner
+      go (inr (inr (inl frame))) = absurd (not_free frame.1)
+      go (inr (inr (inr field))) = absurd (not_free field.1)
+
+  -- what was not finished is not, when the frame has gone
+  unready_gone : (w : ℕ) → finished_in (object_at h w) ≡ false → finished_in (object_at g w) ≡ false
+  unready_gone w open' = go (object_at g w) refl
+    where
+      go : (y : Option Object) → object_at g w ≡ y → finished_in (object_at g w) ≡ false
+      go None now = ap finished_in now
+      go (Some y) now = let z = was_gone w y now in ap finished_in now ∙ z.2.finished ∙ sym (ap finished_in z.1) ∙ open'
 
   -- what the caller has called is called on an object of the method's class, where the receiver chooses what runs
   on_instance : IsOnInstance p h caller.locals t.action method
@@ -242,86 +252,95 @@ module _ (p : Program) (ac : Accept p) (forms : HasPlainForms p) (h : HeapConten
       by values.Nothing same root' = absurd (let never : None ≡ Some n = root' in cc)
       by v same root' = absurd (let never : None ≡ Some n = root' in cc)
 
-  no_field : IsPlainReset p below.number caller.control t.action → (n : ℕ) (z : Object) → object_at h n ≡ Some z → IsTargetHere n → is_field_owner z.owner ≡ false
-  no_field plain n z before target = elim plain.seen [
-    | inl none ↦ unowned_by_fields p z.owner none (λ w f mine. (own n z w f before mine).0)
-    | inr out ↦ by_owner z.owner refl
-        (λ w f mine. followed_is_heavy p z.class ((own n z w f before mine).1 out) (sight.renews out back.index t named n z back.here back.calls on_instance (target_root_here n z before target) before))
-        (λ heavy stays. frame_owns heavy (ap (λ (b : Bool). not (z.finished && b)) stays ∙ none_left z.finished))
-  ]
-    where
-      none_left : (b : Bool) → not (b && false) ≡ true
-      none_left true = refl
-      none_left false = refl
+  module _ (unready : AreUnfinished p h (caller ∷ rest)) where
+    -- where a field owns it, the field's object is not finished, and the caller or a frame below it runs on it
+    holder_here : (n : ℕ) (z : Object) → object_at h n ≡ Some z → IsTargetHere n → (w : ℕ) (f : FieldId) → z.owner ≡ owners.Field w f → (finished_in (object_at h w) ≡ false) × RunsOn w (caller ∷ rest)
+    holder_here n z before target w f owner =
+        elim (owned_or_lent p ac forms h caller rest below back.index t back.here back.row waiting n z before heavy owes (target.1 z before) target.0) [
+          | inl owned ↦ absurd (let never : owners.Field w f ≡ owners.Frame (length rest + 1) = sym owner ∙ owned.key.owner owned.kept owned.own in cc)
+          | inr other ↦ elim other [
+            | inl lent ↦ (let it = lent_unready p h rest n z.owner w held unready.1 lent in (it.0, inr it.1))
+            | inr held' ↦ (let it = held_unready p h caller rest z.owner w held unready held' in (it.0, inl it.1))
+          ]
+        ]
+      where
+        held : is_held_by z.owner w ≡ true
+        held = ap (λ (o : Owner). is_held_by o w) owner ∙ eq-eqb w w refl
 
-      frame_owns : is_heavy_class p z.class ≡ true → may_owe z ≡ true → is_frame_from 0 z.owner ≡ true
-      frame_owns heavy owes = elim (owned_or_lent p ac forms h caller rest below back.index t back.here back.row waiting n z before heavy owes (target.1 z before) target.0) [
-        | inl owned ↦ a_frame_owns p h rest n z.owner (inl (length rest + 1, owned.key.owner owned.kept, omega arith))
-        | inr lent ↦ a_frame_owns p h rest n z.owner (inr lent)
-      ]
+        heavy : is_heavy_class p z.class ≡ true
+        heavy = (own n z w f before owner).1 (sight.renews back.index t named n z back.here back.calls on_instance (target_root_here n z before target) before)
 
-      by_owner : (w : Owner) → z.owner ≡ w → ((u : ℕ) (f : FieldId) → z.owner ≡ owners.Field u f → is_heavy_class p z.class ≡ true) → (is_heavy_class p z.class ≡ true → is_library_owner z.owner ≡ false → is_frame_from 0 z.owner ≡ true)
-          → is_field_owner z.owner ≡ false
-      by_owner owners.Library same' heavy frame = ap is_field_owner same'
-      by_owner (owners.Frame k) same' heavy frame = ap is_field_owner same'
-      by_owner (owners.Field w f) same' heavy frame = absurd (true≢false (sym (frame (heavy w f same') (ap is_library_owner same')) ∙ ap (is_frame_from 0) same'))
-      by_owner owners.Released same' heavy frame = ap is_field_owner same'
-      by_owner owners.Lost same' heavy frame = ap is_field_owner same'
-      by_owner owners.Unowned same' heavy frame = ap is_field_owner same'
+        none_left : (b : Bool) → not (b && false) ≡ true
+        none_left true = refl
+        none_left false = refl
 
-  -- where the signature says nothing of a reset, there is no target
-  pub free : HasNoHolder g (target_root g caller.locals t.action method)
-  free n x is' now = elim (resets_plainly p ac forms caller below back.index t back.here) [
-    | inl none ↦ absurd (let never : None ≡ Some n = ap (λ (k : Option ℕ). finished_root g (object_by (operand_of caller.locals t.action) k)) (sym (sym (same_position method) ∙ ap reset_in (sym same_callee') ∙ none)) ∙ is' in cc)
-    | inr plain ↦ (let z = was_gone n x now in no_owner_now n x z.0 z.1 now (no_field plain n z.0 z.1 (target_here n is')))
-  ]
+        owes : may_owe z ≡ true
+        owes = ap (λ (b : Bool). not (z.finished && b)) (ap is_library_owner owner) ∙ none_left z.finished
 
-  -- ---- the objects
+    holder_gone : (n : ℕ) (x : Object) → target_root g caller.locals t.action method ≡ Some n → object_at g n ≡ Some x → (w : ℕ) (f : FieldId) → x.owner ≡ owners.Field w f → (finished_in (object_at g w) ≡ false) × RunsOn w (caller ∷ rest)
+    holder_gone n x is' now w f owner =
+        let z = was_gone n x now in
+        let it = holder_here n z.0 z.1 (target_here n is') w f (owner_before n x z.0 z.1 now w f owner) in
+        (unready_gone w it.0, it.1)
 
-  pub as_turned : (o : ℕ) (y : Object) (v : Value) → root_of left v ≡ Some o → object_at left o ≡ Some y → (b : Bool) → is_anew_at_end p caller.locals t.action method g o ≡ b → (z : Object) → object_at kept o ≡ Some z
-      → (y ≡ z) ⊎ (IsEmptied p z y × (is_renewed p h caller o ≡ true) × ((x : Object) → object_at h o ≡ Some x → x.finished ≡ true))
-  unfolding is_anew_at_end
-  as_turned o y v root' now false out z there =
-      let stayed = reset_stays p (returned_called p caller.locals t.action method g) (returned_roots p caller.locals t.action method g) kept left reset_of o y out now in
-      inl (let both : Some y ≡ Some z = sym stayed ∙ there in cc)
-  as_turned o y v root' now true anew z there = by (end_back p position fr.locals.this caller.locals t.action (without_reset method) g (says_nothing method) e o z there)
-    where
-      link_none : z.link ≡ None
-      link_none =
-          let was = was_kept o y now in
-          let one : was.0 ≡ z = (let both : Some was.0 ≡ Some z = sym was.1 ∙ there in cc) in
-          ap (λ (u : Object). u.link) (sym one) ∙ sym was.3 ∙ roots_go_on-root left v o y left_links root' now
+    pub free : HasNoHolder g (target_root g caller.locals t.action method)
+    free n x is' now = by x.owner (holder_gone n x is' now)
+      where
+        by : (o : Owner) → ((w : ℕ) (f : FieldId) → o ≡ owners.Field w f → (finished_in (object_at g w) ≡ false) × RunsOn w (caller ∷ rest)) → finished_holder g o ≡ None
+        by (owners.Field w f) holder = rw (holder w f refl).0 refl
+        by (owners.Frame k) holder = refl
+        by owners.Library holder = refl
+        by owners.Released holder = refl
+        by owners.Lost holder = refl
+        by owners.Unowned holder = refl
 
-      made : program_calls.is_new t.action ≡ true → number_of fr.locals.this ≡ Some o → ⊥
-      made new self = true≢false (sym anew ∙ made_apart p position fr.locals.this caller.locals t.action method e g made_free o new self)
+    -- ---- the objects
 
-      target : (w : Object) → object_at g o ≡ Some w → w.link ≡ None → IsTargetHere o
-      target w at' none =
-          target_here o (end_of_target p caller.locals t.action method g links_gone free o w at' anew ∙ ap Some (roots_of_links-itself g o w at' none))
+    pub as_turned : (o : ℕ) (y : Object) (v : Value) → root_of left v ≡ Some o → object_at left o ≡ Some y → (b : Bool) → is_anew_at_end p caller.locals t.action method g o ≡ b → (z : Object) → object_at kept o ≡ Some z
+        → (y ≡ z) ⊎ (IsEmptied p z y × (is_renewed p h caller o ≡ true) × ((x : Object) → object_at h o ≡ Some x → x.finished ≡ true))
+    unfolding is_anew_at_end
+    as_turned o y v root' now false out z there =
+        let stayed = reset_stays p (returned_called p caller.locals t.action method g) (returned_roots p caller.locals t.action method g) kept left reset_of o y out now in
+        inl (let both : Some y ≡ Some z = sym stayed ∙ there in cc)
+    as_turned o y v root' now true anew z there = by (end_back p position fr.locals.this caller.locals t.action (without_reset method) g (says_nothing method) e o z there)
+      where
+        link_none : z.link ≡ None
+        link_none =
+            let was = was_kept o y now in
+            let one : was.0 ≡ z = (let both : Some was.0 ≡ Some z = sym was.1 ∙ there in cc) in
+            ap (λ (u : Object). u.link) (sym one) ∙ sym was.3 ∙ roots_go_on-root left v o y left_links root' now
 
-      by : IsFrom p position fr.locals.this caller.locals t.action (without_reset method) g (says_nothing method) e o z
-          → (y ≡ z) ⊎ (IsEmptied p z y × (is_renewed p h caller o ≡ true) × ((x : Object) → object_at h o ≡ Some x → x.finished ≡ true))
-      by (inl made') = absurd (made made'.2.new made'.2.self)
-      by (inr (inl alias)) = absurd (made alias.2.new alias.2.self)
-      by (inr (inr noted)) =
-          let it = target noted.0 noted.1 (ap (λ (u : Object). u.link) noted.2 ∙ link_none) in
-          inr (reset_empties p (returned_called p caller.locals t.action method g) (returned_roots p caller.locals t.action method g) kept left reset_of o z y anew there now, it.0, it.1)
+        made : program_calls.is_new t.action ≡ true → number_of fr.locals.this ≡ Some o → ⊥
+        made new self = true≢false (sym anew ∙ made_apart p position fr.locals.this caller.locals t.action method e g made_free o new self)
 
-  -- what is linked to none, and created anew, is its own root, and no field owns it
-  pub reached_root : (n : ℕ) (x : Object) → object_at kept n ≡ Some x → is_reached (returned_called p caller.locals t.action method g) (returned_roots p caller.locals t.action method g) n ≡ true → x.link ≡ None
-      → (root (returned_called p caller.locals t.action method g) n ≡ n) × (is_field_owner x.owner ≡ false)
-  reached_root n x now anew none = by (end_back p position fr.locals.this caller.locals t.action (without_reset method) g (says_nothing method) e n x now)
-    where
-      made : program_calls.is_new t.action ≡ true → number_of fr.locals.this ≡ Some n → ⊥
-      made new self = true≢false (sym anew ∙ made_apart p position fr.locals.this caller.locals t.action method e g made_free n new self)
+        target : (w : Object) → object_at g o ≡ Some w → w.link ≡ None → IsTargetHere o
+        target w at' none =
+            target_here o (end_of_target p caller.locals t.action method g links_gone free o w at' anew ∙ ap Some (roots_of_links-itself g o w at' none))
 
-      by : IsFrom p position fr.locals.this caller.locals t.action (without_reset method) g (says_nothing method) e n x → (root (returned_called p caller.locals t.action method g) n ≡ n) × (is_field_owner x.owner ≡ false)
-      by (inl made') = absurd (made made'.2.new made'.2.self)
-      by (inr (inl alias)) = absurd (made alias.2.new alias.2.self)
-      by (inr (inr noted)) =
-          let unlinked' : noted.0.link ≡ None = ap (λ (u : Object). u.link) noted.2 ∙ none in
-          let again = notes_add_names-heap p (receiver_note caller.locals t.action method) g n noted.0 noted.1 in
-          let found = reached_target p caller.locals t.action method g links_gone free n noted.0 noted.1 anew ∙ ap Some (roots_of_links-itself g n noted.0 noted.1 unlinked') in (
-            roots_of_links-itself (returned_called p caller.locals t.action method g) n again.0 again.1 (again.2.link ∙ unlinked'),
-            ap (λ (u : Object). is_field_owner u.owner) (sym noted.2) ∙ free n noted.0 found noted.1,
-          )
+        by : IsFrom p position fr.locals.this caller.locals t.action (without_reset method) g (says_nothing method) e o z
+            → (y ≡ z) ⊎ (IsEmptied p z y × (is_renewed p h caller o ≡ true) × ((x : Object) → object_at h o ≡ Some x → x.finished ≡ true))
+        by (inl made') = absurd (made made'.2.new made'.2.self)
+        by (inr (inl alias)) = absurd (made alias.2.new alias.2.self)
+        by (inr (inr noted)) =
+            let it = target noted.0 noted.1 (ap (λ (u : Object). u.link) noted.2 ∙ link_none) in
+            inr (reset_empties p (returned_called p caller.locals t.action method g) (returned_roots p caller.locals t.action method g) kept left reset_of o z y anew there now, it.0, it.1)
+
+    -- what is linked to none, and created anew, is its own root, and where a field owns it, the field's object is not finished
+    pub reached_root : (n : ℕ) (x : Object) → object_at kept n ≡ Some x → is_reached (returned_called p caller.locals t.action method g) (returned_roots p caller.locals t.action method g) n ≡ true → x.link ≡ None
+        → (root (returned_called p caller.locals t.action method g) n ≡ n) × ((w : ℕ) (f : FieldId) → x.owner ≡ owners.Field w f → (finished_in (object_at g w) ≡ false) × RunsOn w (caller ∷ rest))
+    reached_root n x now anew none = by (end_back p position fr.locals.this caller.locals t.action (without_reset method) g (says_nothing method) e n x now)
+      where
+        made : program_calls.is_new t.action ≡ true → number_of fr.locals.this ≡ Some n → ⊥
+        made new self = true≢false (sym anew ∙ made_apart p position fr.locals.this caller.locals t.action method e g made_free n new self)
+
+        by : IsFrom p position fr.locals.this caller.locals t.action (without_reset method) g (says_nothing method) e n x
+            → (root (returned_called p caller.locals t.action method g) n ≡ n) × ((w : ℕ) (f : FieldId) → x.owner ≡ owners.Field w f → (finished_in (object_at g w) ≡ false) × RunsOn w (caller ∷ rest))
+        by (inl made') = absurd (made made'.2.new made'.2.self)
+        by (inr (inl alias)) = absurd (made alias.2.new alias.2.self)
+        by (inr (inr noted)) =
+            let unlinked' : noted.0.link ≡ None = ap (λ (u : Object). u.link) noted.2 ∙ none in
+            let again = notes_add_names-heap p (receiver_note caller.locals t.action method) g n noted.0 noted.1 in
+            let found = reached_target p caller.locals t.action method g links_gone free n noted.0 noted.1 anew ∙ ap Some (roots_of_links-itself g n noted.0 noted.1 unlinked') in (
+              roots_of_links-itself (returned_called p caller.locals t.action method g) n again.0 again.1 (again.2.link ∙ unlinked'),
+              λ w f owner. holder_gone n noted.0 found noted.1 w f (ap (λ (u : Object). u.owner) noted.2 ∙ owner),
+            )

@@ -2,7 +2,7 @@
 use Rattle.std.specs.Prelude.{◌||◌, ◌+◌, if◌then◌else◌, replicate}
 use Rattle.std.specs.List.{All}
 use Rattle.std.proofs.lemmas.List.Elements.{All-head, All-replicate, All-tail}
-use Rattle.std.proofs.Common.{◌≡◌, ◌⊎◌, inl, inr, ℕ, zero, suc, Bool, true, false, Option, Some, None, List, [], ◌∷◌, ◌++◌, filter_map, slice_get, refl, sym, ap, ◌∙◌, subst, true≢false, eqb-true, arith, nat_eq}
+use Rattle.std.proofs.Common.{◌<◌, length, ◌≡◌, ◌⊎◌, inl, inr, ℕ, zero, suc, Bool, true, false, Option, Some, None, List, [], ◌∷◌, ◌++◌, filter_map, slice_get, refl, sym, ap, ◌∙◌, subst, true≢false, eqb-true, arith, nat_eq}
 use Rattle.std.proofs.lemmas.Bool.{and_parts}
 use Rattle.program_model.specs.declared.kinds.BodyId.{BodyId}
 use Rattle.program_model.specs.declared.kinds.FieldId.{FieldId}
@@ -36,6 +36,21 @@ use Rattle.program_model.specs.declared.kinds.ClassId.{ClassId}
 use Rattle.program_model.specs.declared.kinds.VType.{VType}
 use Rattle.program_model.specs.declared.kinds.VType.TheVariants as types
 use Rattle.program_model.specs.SuperTests.{is_class}
+
+-- ---- words
+
+-- what makes objects is a constructor
+pub constructor_kind : (k : MethodKind) → is_constructor_kind k ≡ true → k ≡ methods.Ctor
+constructor_kind methods.Ctor is = refl
+constructor_kind methods.Instance is = absurd (true≢false (sym is))
+constructor_kind methods.Static is = absurd (true≢false (sym is))
+constructor_kind methods.Constant is = absurd (true≢false (sym is))
+
+-- what a list has at a number below its length
+pub element_there : {X : Type 0} (xs : List X) (i : ℕ) → i < length xs → (x : X) × (slice_get xs i ≡ Some x)
+element_there [] i inside = absurd (omega (arith, inside))
+element_there (x ∷ xs) zero inside = (x, refl)
+element_there (x ∷ xs) (suc i) inside = element_there xs i (omega (arith, inside))
 
 -- ---- lists
 

@@ -36,11 +36,12 @@ use Rattle.value_laws.specs.Choosing.{body_id, frame_steps}
 use Rattle.value_laws.specs.Agreement.{Stands}
 use Rattle.value_laws.specs.Outcomes.{IsFault}
 use Rattle.value_laws.specs.FieldContents.{promised_on}
-use Rattle.value_laws.specs.PlaceFacts.{Covers, IsCovered, IsTrueOf, gives_none, makes_alone, renews_none}
+use Rattle.value_laws.specs.Renewing.{makes_alone}
+use Rattle.value_laws.specs.PlaceFacts.{Covers, IsCovered, IsTrueOf, gives_none, renews_none}
 use Rattle.value_laws.proofs.Ending.{ends, held_stays_here}
 use Rattle.covering_laws.specs.Covering.{HoldsHeavy, IsNotGiven}
 use Rattle.covering_laws.proofs.Following.{breaks_nothing, method_here, same_body, step_there}
-use Rattle.covering_laws.proofs.HeavyFields.{HasPlace, apart_held, covers_field, has_place_here, heavy_here, held_claims, held_tells, held_unlent, known_alone, makes_alone_by}
+use Rattle.covering_laws.proofs.HeavyFields.{HasPlace, apart_held, covers_field, has_place_here, heavy_here, held_claims, held_tells, held_unlent, known_alone, makes_alone_by, plain_not_alone}
 
 -- ---- the promises on a field
 
@@ -135,7 +136,7 @@ module _ (p : Program) (ac : Accept p) (h : HeapContents) (frs : List Frame) (fr
       (by_end p st.number cover.origin.kind cover.fact.places f m place found.1 (method_here p fr st ∙ named) q way)
       (within_trans (promised_by_end p st.number cover.origin.kind cover.fact.places q) cover.fact.called x.called kept.2
       (known_alone p (method_at p fr.method) cover.origin.kind cover.fact.called x.called (held_unlent p h false false frs fr o x cover owned.0 plain)
-      (cover.known done (held_tells p fr.method cover.origin cover.fact owned.0) (apart_held p h frs fr o x cover.fact owned.0 apart)).2))
+      (cover.known done (held_tells p fr.method cover.origin cover.fact (plain_not_alone (method_at p fr.method) plain) owned.0) (apart_held p h frs fr o x cover.fact owned.0 apart)).2))
 
   met_of : (t c l m a : Bool) → t ≡ true → c ≡ true → l ≡ true → a ≡ false → (t && c && l && not m && not a) ≡ false → m ≡ true
   met_of t c l true a throws makes held plain good = refl

@@ -16,7 +16,6 @@ use Rattle.must_call_sets.specs.OwningCases.{given_type, gives_as_alias, is_of_t
 use Rattle.ledger_obligations.specs.Bodies.{is_constructor_kind}
 use Rattle.ledger_obligations.specs.MustCallSets.{is_empty, is_heavy_class, must_in, no_names}
 use Rattle.ownership_rules.specs.Signatures.{is_present}
-use Rattle.value_laws.specs.Renewable.{IsFollowed, IsRenewable}
 use Rattle.value_laws.specs.Accept.{Accept}
 use Rattle.covering_laws.specs.Linking.{GivesClass, IsGivenAsAlias}
 use Rattle.covering_laws.proofs.LightExceptions.{under_itself}
@@ -37,11 +36,11 @@ every_passes f (y ∷ ys) (suc i) x all at = every_passes f ys i x (and_parts (f
 
 -- ---- classes
 
--- what is followed and may be created anew has an obligation
-pub followed_is_heavy : (p : Program) (e : ClassId) → IsFollowed p e → IsRenewable p e → is_heavy_class p e ≡ true
-followed_is_heavy p e follows renewable =
-    ap (λ (z : Option Class). not (is_empty (must_in z))) renewable.1
-    ∙ ap not (not_both (set.is_subset renewable.0.must no_names) (may_be_reset p renewable.0) (follows renewable.0 renewable.1) renewable.2)
+-- what may be created anew, and is not left unseen, has an obligation
+pub seen_is_heavy : (p : Program) (e : ClassId) (k : Class) → class_at p e ≡ Some k → (set.is_subset k.must no_names && may_be_reset p k) ≡ false → may_be_reset p k ≡ true → is_heavy_class p e ≡ true
+seen_is_heavy p e k at seen renewed =
+    ap (λ (z : Option Class). not (is_empty (must_in z))) at
+    ∙ ap not (not_both (set.is_subset k.must no_names) (may_be_reset p k) seen renewed)
   where
     not_both : (a b : Bool) → (a && b) ≡ false → b ≡ true → a ≡ false
     not_both false b none also = refl

@@ -48,7 +48,7 @@ use Rattle.covering_laws.proofs.GivenAway.{IsTaken, given_taken}
 use Rattle.ownership_rules.specs.MovesAtCalls.{moved_at_call}
 use Rattle.ownership_rules.specs.declared.moved.Moved.TheVariants as moves
 use Rattle.covering_laws.proofs.Following.{breaks_nothing, same_body, small_step, step_there}
-use Rattle.covering_laws.proofs.HeavyFields.{own_claims}
+use Rattle.covering_laws.proofs.HeavyFields.{own_claims, unclaimed_not_owning}
 use Rattle.covering_laws.proofs.KnownNames.{operand_temp}
 use Rattle.covering_laws.proofs.Waiting.{still_true}
 
@@ -144,11 +144,11 @@ module _ (p : Program) (ac : Accept p) (h : HeapContents) (fr : Frame) (st : Sta
       where
         by : IsKeyed p h false false frs fr (places.Temp temp.0) o x → (c : Covers p h false false frs fr o x) × (has c.fact.places (places.Temp temp.0) ≡ true) × IsOwned p h false false frs fr o x c
         by (owned c has' own) = (c, has', own)
-        by (unowned u) = absurd (true≢false (sym (given_owned false false o x u.covers m j q named at owning (holds u.covers u.here) (heavy_of heavy u.covers)) ∙ u.unowned))
+        by (unowned u) = absurd (true≢false (sym (given_owned false false o x u.covers m j q named at owning (holds u.covers u.here) (heavy_of heavy u.covers)) ∙ unclaimed_not_owning p (method_at p fr.method) u.covers.origin u.covers.fact u.unowned))
 
     -- so the frame owns it
     pub operand_owner : IsHeavyType → x.owner ≡ owners.Frame (length frs + 1)
-    operand_owner heavy = let c = operand_owned heavy in c.2.owner refl
+    operand_owner heavy = let c = operand_owned heavy in c.2.owner refl (and_parts (is_heavy_class p c.0.origin.class) (is_own c.0.fact.mode) (given_owned false false o x c.0 m j q named at owning (holds c.0 c.1) (heavy_of heavy c.0))).1
 
     -- what an owning parameter asks for before was called on its argument
     pub asked_of_operand : (c : ClassId) → q.vtype ≡ types.Obj c → is_heavy_class p c ≡ true → set.is_subset q.before x.called ≡ true
@@ -191,7 +191,7 @@ module _ (p : Program) (ac : Accept p) (h : HeapContents) (fr : Frame) (st : Sta
       by (inl in') = no_two_arguments p st.number cover.0.origin s.edge cover.0.fact s.action row (breaks_nothing p ac st.number cover.0.origin i (move_of s) cover.0.fact reached' (step_there p fr st i s here)) m j k q r less named at at'
           owning owning' held (ap (has_temp cover.0.fact.places) temp'.1 ∙ in') (or_right (is_heavy_class p cover.0.origin.class) (not (is_empty (must_of_optional p (Some q.vtype)))) heavy)
       by (inr u) = true≢false (sym (given_owned false false o x u.covers m k r named at' owning' (ap (has_temp u.covers.fact.places) temp'.1 ∙ u.here)
-          (or_right (is_heavy_class p u.covers.origin.class) (not (is_empty (must_of_optional p (Some r.vtype)))) heavy')) ∙ u.unowned)
+          (or_right (is_heavy_class p u.covers.origin.class) (not (is_empty (must_of_optional p (Some r.vtype)))) heavy')) ∙ unclaimed_not_owning p (method_at p fr.method) u.covers.origin u.covers.fact u.unowned)
 
 -- ---- what a call gives away
 
@@ -230,7 +230,7 @@ module _ (p : Program) (ac : Accept p) (h : HeapContents) (fr : Frame) (st : Sta
   away_moves away anew o x d own heavy gives = elim (own.others (places.Temp temp.0) small (ap (root_of h) (sym temp.2) ∙ root)) [
     | inl in' ↦ (argument_is_given p st.number d.origin s.edge d.fact s.action row (breaks_nothing p ac st.number d.origin i (move_of s) d.fact (reached d) (step_there p fr st i s here)) t.0 t.2.index t.2.param t.1 t.2.at t.2.owning
         (holds d in') (heavy_as d)).1
-    | inr u ↦ absurd (true≢false (sym (given_owned p ac h fr st frs i s here row away anew o x u.covers t.0 t.2.index t.2.param t.1 t.2.at t.2.owning (holds u.covers u.here) (heavy_as u.covers)) ∙ u.unowned))
+    | inr u ↦ absurd (true≢false (sym (given_owned p ac h fr st frs i s here row away anew o x u.covers t.0 t.2.index t.2.param t.1 t.2.at t.2.owning (holds u.covers u.here) (heavy_as u.covers)) ∙ unclaimed_not_owning p (method_at p fr.method) u.covers.origin u.covers.fact u.unowned))
   ]
     where
       t : (m : Method) × (callee p s.action ≡ Some m) × IsTaken p h fr.locals s.action o x.class m.sig.params.items 0

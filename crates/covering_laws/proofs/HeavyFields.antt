@@ -35,9 +35,9 @@ use Rattle.ledger_state.specs.declared.value.Value.TheVariants as values
 use Rattle.value_laws.specs.Places.{field_place_value, owning_field_beside, place_value}
 use Rattle.value_laws.specs.Configuration.{Frame}
 use Rattle.value_laws.specs.Agreement.{Stands}
-use Rattle.value_laws.specs.PlaceFacts.{Covers, IsCovered, IsKeyed, asked_by, asked_of, claims, fits_field, fits_in, gives_none, is_apart, is_content, is_field_of, is_frame_below, is_heavy_field, is_heavy_in, is_lent, is_owning_fact, makes_alone, owned, tells_calls, unowned, was_given, renews_none}
+use Rattle.value_laws.specs.PlaceFacts.{Covers, IsCovered, IsKeyed, asked_by, asked_of, claims, fits_field, fits_in, gives_none, is_apart, is_content, is_frame_below, is_heavy_field, is_heavy_in, is_lent, is_owning_fact, owned, tells_calls, unowned, was_given, renews_none}
 use Rattle.value_laws.specs.PlainForms.{is_lent_parameter}
-use Rattle.value_laws.specs.Renewing.{was_renewed}
+use Rattle.value_laws.specs.Renewing.{was_renewed, makes_alone}
 use Rattle.value_laws.proofs.FieldPlaces.{beside_of_place}
 use Rattle.covering_laws.specs.Covering.{HoldsHeavy, IsNotGiven}
 use Rattle.covering_laws.proofs.Following.{method_here}
@@ -98,9 +98,13 @@ held_claims p m o g alone held heavy = rw (heavy, held, alone) refl
 pub own_claims : (p : Program) (m : Option Method) (o : Origin) (g : Fact) → g.mode ≡ modes.Own → is_heavy_class p o.class ≡ true → claims p m o g ≡ true
 own_claims p m o g own heavy = rw (heavy, own) refl
 
--- what such a fact knows was called
-pub held_tells : (p : Program) (m : MethodId) (o : Origin) (g : Fact) → g.mode ≡ modes.Held → tells_calls p m o g ≡ true
-held_tells p m o g held = or_right (is_lent p (method_at p m) o.kind) (is_held g.mode) (ap is_held held)
+-- elsewhere it tells what was called
+pub held_tells : (p : Program) (m : MethodId) (o : Origin) (g : Fact) → makes_alone (method_at p m) ≡ false → g.mode ≡ modes.Held → tells_calls p m o g ≡ true
+held_tells p m o g other held = and_from (is_lent p (method_at p m) o.kind || is_held g.mode) (not (is_held g.mode && makes_alone (method_at p m))) (or_right (is_lent p (method_at p m) o.kind) (is_held g.mode) (ap is_held held)) (rw (held, other) refl)
+
+-- a constructor makes alone or not
+pub plain_not_alone : (m : Option Method) → constructs m ≡ false → makes_alone m ≡ false
+plain_not_alone m plain = rw plain refl
 
 -- a constructor without an aliased argument
 pub makes_alone_by : (m : Option Method) → constructs m ≡ true → alias_in m ≡ None → makes_alone m ≡ true
@@ -129,10 +133,15 @@ either false b is = inr is
 
 -- it is that of what is lent, or it says that a field holds the object
 pub tells_by : (p : Program) (m : MethodId) (o : Origin) (f : Fact) → tells_calls p m o f ≡ true → (is_lent p (method_at p m) o.kind ≡ true) ⊎ (is_held f.mode ≡ true)
-tells_by p m o f tells = either (is_lent p (method_at p m) o.kind) (is_held f.mode) tells
+tells_by p m o f tells = either (is_lent p (method_at p m) o.kind) (is_held f.mode) (and_parts (is_lent p (method_at p m) o.kind || is_held f.mode) (not (is_held f.mode && makes_alone (method_at p m))) tells).0
 
-pub lent_tells : (p : Program) (m : MethodId) (o : Origin) (f : Fact) → is_lent p (method_at p m) o.kind ≡ true → tells_calls p m o f ≡ true
-lent_tells p m o f lent = or_left (is_lent p (method_at p m) o.kind) (is_held f.mode) lent
+-- and this in no constructor without an aliased argument
+pub tells_apart : (p : Program) (m : MethodId) (o : Origin) (f : Fact) → tells_calls p m o f ≡ true → (is_held f.mode && makes_alone (method_at p m)) ≡ false
+tells_apart p m o f tells = not-true (is_held f.mode && makes_alone (method_at p m)) (and_parts (is_lent p (method_at p m) o.kind || is_held f.mode) (not (is_held f.mode && makes_alone (method_at p m))) tells).1
+
+pub lent_tells : (p : Program) (m : MethodId) (o : Origin) (f : Fact) → (is_held f.mode && makes_alone (method_at p m)) ≡ false → is_lent p (method_at p m) o.kind ≡ true → tells_calls p m o f ≡ true
+lent_tells p m o f other lent =
+    and_from (is_lent p (method_at p m) o.kind || is_held f.mode) (not (is_held f.mode && makes_alone (method_at p m))) (or_left (is_lent p (method_at p m) o.kind) (is_held f.mode) lent) (ap not other)
 
 -- ---- what a fact knows beside what is asked for before
 
@@ -164,7 +173,16 @@ held_unlent p h away anew frs fr o x c held plain = by (is_lent p (method_at p f
   where
     by : (b : Bool) → is_lent p (method_at p fr.method) c.origin.kind ≡ b → is_lent p (method_at p fr.method) c.origin.kind ≡ false
     by false none = none
-    by true lent = absurd (true≢false (sym ((c.lent lent).1 (ap is_held held)) ∙ plain))
+    by true lent = absurd (true≢false (sym ((c.lent lent).1 (ap is_held held)).0 ∙ plain))
+
+-- nor in constructors without an aliased argument
+pub lent_not_alone : (p : Program) (h : HeapContents) (away anew : Bool) (frs : List Frame) (fr : Frame) (o : ℕ) (x : Object) (c : Covers p h away anew frs fr o x) → is_lent p (method_at p fr.method) c.origin.kind ≡ true
+    → (is_held c.fact.mode && makes_alone (method_at p fr.method)) ≡ false
+lent_not_alone p h away anew frs fr o x c lent = go (is_held c.fact.mode) refl
+  where
+    go : (b : Bool) → is_held c.fact.mode ≡ b → (b && makes_alone (method_at p fr.method)) ≡ false
+    go true held = ((c.lent lent).1 held).1
+    go false other = refl
 
 -- what it knows grows with what was called
 pub known_on : (called asked names more : Names) → set.is_subset called (set.union asked names) ≡ true → set.is_subset names more ≡ true → set.is_subset called (set.union asked more) ≡ true
@@ -197,10 +215,28 @@ held_mode modes.Held is = refl
 held_mode modes.Lent is = absurd (true≢false (sym is))
 held_mode modes.Alias is = absurd (true≢false (sym is))
 
+-- what it claims is the frame's, or a field's in a constructor without an aliased argument
+pub claims_by : (p : Program) (m : Option Method) (o : Origin) (f : Fact) → claims p m o f ≡ true → (is_own f.mode ≡ true) ⊎ ((is_held f.mode ≡ true) × (makes_alone m ≡ true))
+claims_by p m o f claimed = go (is_own f.mode) (is_held f.mode) (makes_alone m) (and_parts (is_heavy_class p o.class) (is_own f.mode || is_held f.mode && makes_alone m) claimed).1
+  where
+    go : (a b c : Bool) → (a || b && c) ≡ true → (a ≡ true) ⊎ ((b ≡ true) × (c ≡ true))
+    go true b c is = inl refl
+    go false true true is = inr (refl, refl)
+    go false true false is = absurd (true≢false (sym is))
+    go false false c is = absurd (true≢false (sym is))
+
 -- ---- the frame owns the object
 
 pub owning_claims : (p : Program) (m : Option Method) (o : Origin) (f : Fact) → is_owning_fact p o f ≡ true → claims p m o f ≡ true
 owning_claims p m o f owning = let parts = and_parts (is_heavy_class p o.class) (is_own f.mode) owning in rw (parts.0, parts.1) refl
+
+-- a fact that claims nothing does not say that the frame owns an object with an obligation
+pub unclaimed_not_owning : (p : Program) (m : Option Method) (o : Origin) (f : Fact) → claims p m o f ≡ false → is_owning_fact p o f ≡ false
+unclaimed_not_owning p m o f none = go (is_owning_fact p o f) refl
+  where
+    go : (b : Bool) → is_owning_fact p o f ≡ b → is_owning_fact p o f ≡ false
+    go false is = is
+    go true owning = absurd (true≢false (sym (owning_claims p m o f owning) ∙ none))
 
 -- such a fact has no place of an owning field
 pub owning_in_no_field : (p : Program) (h : HeapContents) (away anew : Bool) (frs : List Frame) (fr : Frame) (o : ℕ) (x : Object) (c : Covers p h away anew frs fr o x) → is_owning_fact p c.origin c.fact ≡ true
@@ -212,27 +248,22 @@ owning_in_no_field p h away anew frs fr o x c owning k inside there =
 
 -- ---- what the frame was not given
 
-either_apart : (p : Program) (h : HeapContents) (frs : List Frame) (fr : Frame) (o : ℕ) (x : Object) (f : Fact) → was_renewed p h frs o ≡ false → (not (was_given p h frs o x.class) || is_frame_below (length frs + 1) x.owner) ≡ true
-    → is_apart p h frs fr o x f ≡ true
+either_apart : (p : Program) (h : HeapContents) (frs : List Frame) (fr : Frame) (o : ℕ) (x : Object) (f : Fact) → was_renewed p h frs o ≡ false
+    → (is_content p fr x.owner f || (not (was_given p h frs o x.class) || is_frame_below (length frs + 1) x.owner)) ≡ true → is_apart p h frs fr o x f ≡ true
 either_apart p h frs fr o x f old apart =
-    or_right (is_content p fr x.owner f) (not (was_renewed p h frs o) && (not (was_given p h frs o x.class) || is_frame_below (length frs + 1) x.owner))
-    (and_from (not (was_renewed p h frs o)) (not (was_given p h frs o x.class) || is_frame_below (length frs + 1) x.owner) (ap not old) apart)
+    and_from (not (was_renewed p h frs o)) (is_content p fr x.owner f || (not (was_given p h frs o x.class) || is_frame_below (length frs + 1) x.owner)) (ap not old) apart
 
 pub apart_where : (p : Program) (h : HeapContents) (frs : List Frame) (fr : Frame) (o : ℕ) (x : Object) (f : Fact) → was_renewed p h frs o ≡ false → was_given p h frs o x.class ≡ false → is_apart p h frs fr o x f ≡ true
-apart_where p h frs fr o x f old none = either_apart p h frs fr o x f old (rw none refl)
-
--- what a constructor without an aliased argument has stored in a field of `this`
-pub apart_alone : (p : Program) (h : HeapContents) (frs : List Frame) (fr : Frame) (o : ℕ) (x : Object) (f : Fact) → f.mode ≡ modes.Held → makes_alone (method_at p fr.method) ≡ true → is_apart p h frs fr o x f ≡ true
-apart_alone p h frs fr o x f held alone =
-    or_left (is_content p fr x.owner f) (not (was_renewed p h frs o) && (not (was_given p h frs o x.class) || is_frame_below (length frs + 1) x.owner)) (rw (held, alone) refl)
+apart_where p h frs fr o x f old none = either_apart p h frs fr o x f old
+    (or_right (is_content p fr x.owner f) (not (was_given p h frs o x.class) || is_frame_below (length frs + 1) x.owner) (rw none refl))
 
 -- what a frame below owns
 pub apart_low : (p : Program) (h : HeapContents) (frs : List Frame) (fr : Frame) (o : ℕ) (x : Object) (f : Fact) → was_renewed p h frs o ≡ false → is_frame_below (length frs + 1) x.owner ≡ true → is_apart p h frs fr o x f ≡ true
-apart_low p h frs fr o x f old low = either_apart p h frs fr o x f old (or_right (not (was_given p h frs o x.class)) (is_frame_below (length frs + 1) x.owner) low)
+apart_low p h frs fr o x f old low = either_apart p h frs fr o x f old
+    (or_right (is_content p fr x.owner f) (not (was_given p h frs o x.class) || is_frame_below (length frs + 1) x.owner) (or_right (not (was_given p h frs o x.class)) (is_frame_below (length frs + 1) x.owner) low))
 
 pub apart_held : (p : Program) (h : HeapContents) (frs : List Frame) (fr : Frame) (o : ℕ) (x : Object) (f : Fact) → f.mode ≡ modes.Held → IsNotGiven p h frs fr o x → is_apart p h frs fr o x f ≡ true
-apart_held p h frs fr o x f held (inl (old, inl none)) = apart_where p h frs fr o x f old none
-apart_held p h frs fr o x f held (inl (old, inr low)) = apart_low p h frs fr o x f old low
-apart_held p h frs fr o x f held (inr (no_constructor, own)) =
-    or_left (is_content p fr x.owner f) (not (was_renewed p h frs o) && (not (was_given p h frs o x.class) || is_frame_below (length frs + 1) x.owner))
-    (rw held (or_right (makes_alone (method_at p fr.method)) (not (constructs (method_at p fr.method)) && is_field_of fr.locals.this x.owner) (rw (no_constructor, own) refl)))
+apart_held p h frs fr o x f held (old, inl none) = apart_where p h frs fr o x f old none
+apart_held p h frs fr o x f held (old, inr (inl low)) = apart_low p h frs fr o x f old low
+apart_held p h frs fr o x f held (old, inr (inr (no_constructor, own))) =
+    either_apart p h frs fr o x f old (or_left (is_content p fr x.owner f) (not (was_given p h frs o x.class) || is_frame_below (length frs + 1) x.owner) (rw (held, no_constructor, own) refl))

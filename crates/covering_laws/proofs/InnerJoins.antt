@@ -64,14 +64,15 @@ use Rattle.value_laws.proofs.ValueTypeLaws.{made_value_is_no_object}
 use Rattle.value_laws.specs.PlaceFacts.{AreCovered}
 use Rattle.value_laws.specs.Ranges.{FieldsInRange, LocalsInRange}
 use Rattle.covering_laws.specs.Linking.{LinkedAreAliases}
+use Rattle.covering_laws.specs.TextUpdates.{UpdatesTexts}
 use Rattle.covering_laws.specs.Throws.{RaisesExceptions}
 use Rattle.covering_laws.proofs.Gifts.{all_keep_gifts}
-use Rattle.covering_laws.proofs.InnerSteps.{HoldsNoneHeavy, carries, classes, fields, heap, inner_covered, linked_were, none_heavy, owners_below, owners_go, roots, unfinished, value}
+use Rattle.covering_laws.proofs.InnerSteps.{HoldsNoneHeavy, carries, classes, fields, heap, inner_covered, linked_were, none_heavy, owners_below, owners_go, roots, unfinished, value, finishes}
 use Rattle.covering_laws.proofs.Owners.{AllKeepGifts, given_kept, owners_kept}
 use Rattle.covering_laws.proofs.LightExceptions.{exceptions_are_light, operation_is_light}
 use Rattle.covering_laws.proofs.LocalSteps.{LocalsIn, all_there, holds_there, local_step, names_members}
 use Rattle.covering_laws.proofs.TopSteps.{IsLocalStep}
-use Rattle.covering_laws.proofs.Waiting.{AllHeldBefore, KeepsRoots, KeepsUnfinished, all_held_before, all_keep, all_wait, frames_ready, no_other}
+use Rattle.covering_laws.proofs.Waiting.{AllHeldBefore, KeepsRoots, KeepsUnfinished, all_held_before, all_keep_but_texts, all_wait, frames_ready, no_other}
 use Rattle.covering_laws.proofs.LinkedExceptions.{exceptions_unlinked, still_aliases}
 use Rattle.value_laws.specs.LibraryClasses.{HasLightTexts}
 use Rattle.covering_laws.proofs.Texts.{texts_are_light}
@@ -102,7 +103,7 @@ goes_on (edges.Throws c) is = absurd (true≢false (sym is))
 
 module _ (p : Program) (ac : Accept p) (forms : HasPlainForms p) (c : Config) (texts : HasLightTexts p) (types' : HaveTypes p c) (links : HasEarlierLinks c.heap) (ranges : FieldsInRange c.heap) (linked : LinkedAreAliases p c.heap)
     (fr : Frame) (st : Stands p fr) (keeps : KeepsTypes (is_text p c.heap) p fr) (raises : RaisesExceptions p c.heap fr) (i : ℕ) (s : Step) (here : slice_get (frame_steps p fr) i ≡ Some s) (e : Option ClassId)
-    (step : IsPlainStep p c.heap c.arrays fr.method fr.locals e s) where
+    (step : IsPlainStep p c.heap c.arrays fr.method fr.locals e s) (updates : UpdatesTexts p c.heap fr) where
   abbrev h : HeapContents
   h = c.heap
 
@@ -130,7 +131,7 @@ module _ (p : Program) (ac : Accept p) (forms : HasPlainForms p) (c : Config) (t
     where
       go : (x : Option Object) → object_at h n ≡ x → class_in x ≡ Some d → object_class heap_then n ≡ Some d
       go None at is = absurd (let never : None ≡ Some d = is in cc)
-      go (Some x) at is = let y = classes p ac forms h links fr st i s here local step.row step.test e made n x at in ap class_in y.1 ∙ ap Some y.2 ∙ is
+      go (Some x) at is = let y = classes p ac forms h links fr st i s here local step.row step.test e made updates n x at in ap class_in y.1 ∙ ap Some y.2 ∙ is
 
   -- what is made is no object, or one of class `String`, which owes nothing
   light_made : (q : Place) → MakesNone p s.action → IsGiven q
@@ -193,7 +194,7 @@ module _ (p : Program) (ac : Accept p) (forms : HasPlainForms p) (c : Config) (t
       thrown = raises i s d x k here is same
 
       z : (w : Object) × (object_at heap_then k ≡ Some w) × (w.class ≡ thrown.0.class)
-      z = classes p ac forms h links fr st i s here local step.row step.test e made k thrown.0 thrown.1
+      z = classes p ac forms h links fr st i s here local step.row step.test e made updates k thrown.0 thrown.1
 
       under : is_under p z.0.class p.core.throwable ≡ true
       under = ap (λ (c : ClassId). is_under p c p.core.throwable) z.2 ∙ thrown.2
@@ -240,20 +241,21 @@ module _ (p : Program) (ac : Accept p) (forms : HasPlainForms p) (c : Config) (t
       ∙ operation_is_light p ac h c.arrays fr.locals s.action k (sym step.thrown ∙ same)
 
   plain_roots : KeepsRoots h heap_then
-  plain_roots = roots p ac forms h links fr st i s here local step.row step.test e made
+  plain_roots = roots p ac forms h links fr st i s here local step.row step.test e made updates
 
   pub plain_unfinished : KeepsUnfinished h heap_then no_other
-  plain_unfinished = unfinished p ac forms h links fr st i s here local step.row step.test e made
+  plain_unfinished = unfinished p ac forms h links fr st i s here local step.row step.test e made updates
 
   pub plain_covered : (frs : List Frame) → LocalsIn h (fr ∷ frs) → AreCovered p h (fr ∷ frs) → AreCovered p heap_then (after ∷ frs)
   plain_covered frs in' covered = (
-    inner_covered p ac forms h links fr st i s here local step.row step.test e made frs covered.0 (given_kept p h heap_then frs gifts)
+    inner_covered p ac forms h links fr st i s here local step.row step.test e made updates frs covered.0 (given_kept p h heap_then frs gifts)
         (holds_there p h ranges fr (All-head (λ (x : Frame). LocalsInRange h x.locals) fr frs in')) light given,
-    all_wait p h heap_then links plain_roots (carries p ac forms h links fr st i s here local step.row step.test e made) frs
-        (all_keep p h heap_then (fields p ac forms h links fr st i s here local step.row step.test e made) frs)
+    all_wait p h heap_then links plain_roots (carries p ac forms h links fr st i s here local step.row step.test e made updates) frs
+        (all_keep_but_texts p h heap_then (fields p ac forms h links fr st i s here local step.row step.test e made updates) frs)
         (all_there p h ranges frs (All-tail (λ (x : Frame). LocalsInRange h x.locals) fr frs in')) (frames_ready p h heap_then plain_unfinished frs) gifts
-        (owners_kept p None (length frs + 1) h heap_then (owners_go p ac forms h links fr st i s here local step.row step.test e made (length frs + 1)) frs (omega arith) tt) covered.1,
-    owners_below p ac forms h links fr st i s here local step.row step.test e made (length frs + 1) covered.2,
+        (owners_kept p None (fr ∷ frs) (length frs + 1) h heap_then (finishes p ac forms h links fr st i s here local step.row step.test e made updates) (owners_go p ac forms h links fr st i s here local step.row step.test e made updates (fr ∷ frs) (length frs + 1)) frs (omega arith) tt
+        (λ w none. none.1)) covered.1,
+    owners_below p ac forms h links fr st i s here local step.row step.test e made updates (length frs + 1) covered.2,
   )
     where
       gifts : AllKeepGifts p h heap_then frs
@@ -261,4 +263,4 @@ module _ (p : Program) (ac : Accept p) (forms : HasPlainForms p) (c : Config) (t
 
   pub plain_held_before : (frs : List Frame) → LocalsIn h frs → AllHeldBefore p h heap_then frs
   plain_held_before frs in' =
-      all_held_before p h heap_then plain_roots frs (all_keep p h heap_then (fields p ac forms h links fr st i s here local step.row step.test e made) frs) (all_there p h ranges frs in')
+      all_held_before p h heap_then plain_roots frs (all_keep_but_texts p h heap_then (fields p ac forms h links fr st i s here local step.row step.test e made updates) frs) (all_there p h ranges frs in')

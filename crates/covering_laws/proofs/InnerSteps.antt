@@ -1,5 +1,5 @@
--- A step within the top frame that stores into no owning field.
-use Rattle.std.proofs.Common.{◌≡◌, ◌⊎◌, inl, inr, ℕ, ◌+◌, Bool, true, false, ◌&&◌, Option, Some, None, List, length, slice_get, refl, sym, ap, ◌∙◌, true≢false, arith}
+-- A step within the top frame that stores into no owning field, or a text.
+use Rattle.std.proofs.Common.{◌≡◌, ◌⊎◌, inl, inr, ℕ, ◌+◌, Bool, true, false, ◌&&◌, Option, Some, None, List, length, slice_get, refl, sym, ap, ◌∙◌, subst, true≢false, arith, ◌∷◌}
 use Rattle.std.specs.FinSet as set
 use Rattle.rlc_base.proofs.SetLaws.{within_self}
 use Rattle.program_model.specs.declared.kinds.ClassId.{ClassId}
@@ -53,16 +53,21 @@ use Rattle.value_laws.specs.Outcomes.{IsNotNull, IsPlainRow}
 use Rattle.value_laws.proofs.Fields.{plain_holds}
 use Rattle.value_laws.proofs.Going.{other_steps}
 use Rattle.value_laws.specs.Steps.{IsTrueTest}
-use Rattle.value_laws.specs.PlaceFacts.{AllHold, IsCovered, IsUnowned, OwnersBelow, gives_none, is_lent, renews_none}
+use Rattle.value_laws.specs.PlaceFacts.{AllHold, IsCovered, IsUnowned, OwnersBelow, gives_none, is_frame_from, is_lent, renews_none}
 use Rattle.covering_laws.proofs.Births.{born_covers}
 use Rattle.covering_laws.proofs.CallResults.{born_unowned, not_lent_none}
-use Rattle.covering_laws.proofs.Owners.{KeepsGiven, OwnersGo, stays, stays_apart}
+use Rattle.covering_laws.proofs.Owners.{KeepsGiven, OwnersGo, stays, stays_apart, KeepsFinished, held_here, keeps_finished}
 use Rattle.covering_laws.proofs.StoreOwners.{thrown_below}
 use Rattle.covering_laws.proofs.Following.{plain_step}
 use Rattle.value_laws.proofs.Ready.{row_gives_none}
 use Rattle.covering_laws.proofs.TopSteps.{IsLocalStep, top_covered, after_as}
-use Rattle.covering_laws.proofs.Waiting.{Carries, HoldsThere, KeepsFields, KeepsRoots, KeepsUnfinished, all_ready, keeps_roots, linked_roots, new_root, no_other}
+use Rattle.covering_laws.proofs.Waiting.{Carries, HoldsThere, KeepsFieldsButTexts, KeepsRoots, KeepsUnfinished, all_ready, keeps_roots, linked_roots, new_root, no_other}
 use Rattle.covering_laws.proofs.LinkedExceptions.{LinkedWere}
+use Rattle.covering_laws.proofs.OwnerSteps.{free_below, given_up_free}
+use Rattle.covering_laws.proofs.TextStores.{left_goes_on, left_to_library, light_back, light_forward, light_unless, row_light, store_linked, unless_fields}
+use Rattle.covering_laws.specs.TextUpdates.{IsLeftByText, IsLightStore, UpdatesTexts}
+use Rattle.ledger_state.specs.declared.entry.Owner.TheVariants as owners
+use Rattle.value_laws.proofs.ObjectLaws.{goes_on_further}
 use Rattle.covering_laws.proofs.BornTruths.{read_unlent}
 use Rattle.value_laws.specs.FactGoing.{GoesAs}
 use Rattle.value_laws.specs.Flow.{flow}
@@ -71,43 +76,6 @@ use Rattle.value_laws.specs.PlaceRows.{places_after}
 -- an object as it is goes on
 pub same_goes_on : (x : Object) → GoesOn x x
 same_goes_on x = record { class = refl; link = refl; finished = refl; must = refl; called = within_self x.called }
-
--- ---- the heap
-
-abbrev pub IsPlainStore : Program → Option Store → Type 0
-IsPlainStore p None = Unit {0}
-IsPlainStore p (Some s) = is_owning p s.field ≡ false
-
-plain_stored : (p : Program) (m : Option Method) (l : Locals) (s : Option Store) (h : HeapContents) (n : ℕ) → IsPlainStore p s → object_at (heap_stored p m l s h) n ≡ object_at h n
-plain_stored p m l None h n plain = refl
-plain_stored p m l (Some s) h n plain = rw plain refl
-
-plain_into : (p : Program) (w : Option ℕ) (f : FieldId) (v : Value) → is_owning p f ≡ false → IsPlainStore p (store_into w f v)
-plain_into p None f v plain = tt
-plain_into p (Some w) f v plain = plain
-
-plain_store_of : (p : Program) (l : Locals) (a : Action) → IsPlainRow a → IsPlainAction p a → IsPlainStore p (store_of l a)
-plain_store_of p l actions.Skip row plain = tt
-plain_store_of p l (actions.Put f d this) row plain = plain_into p (number_of (temp_value l d)) f (temp_value l (d + 1)) plain
-plain_store_of p l (actions.PutOwn f d) row plain = absurd row
-plain_store_of p l a row plain = tt
-
-plain_unless : (p : Program) (e : Option ClassId) (s : Option Store) → IsPlainStore p s → IsPlainStore p (store_unless e s)
-plain_unless p None s plain = plain
-plain_unless p (Some e) s plain = tt
-
-same_thrown_fields : (p : Program) (e : Option ClassId) (h : HeapContents) (w : ℕ) (f : FieldId) → field_value p (thrown_heap p e h) w f ≡ field_value p h w f
-same_thrown_fields p None h w f = refl
-same_thrown_fields p (Some e) h w f = refl
-
--- the owning fields hold what they held
-stored_fields : (p : Program) (m : Option Method) (l : Locals) (s : Option Store) (h : HeapContents) (w : ℕ) (f : FieldId) → IsPlainStore p s → is_owning p f ≡ true
-    → field_value p (heap_stored p m l s h) w f ≡ field_value p h w f
-stored_fields p m l None h w f plain own = refl
-stored_fields p m l (Some s) h w f plain own = rw plain (elim (plain_holds p h s.holder w s.field f s.value) [
-  | inl same ↦ same
-  | inr other ↦ absurd (true≢false (sym own ∙ ap (is_owning p) other.1 ∙ plain))
-])
 
 -- ---- what the step lets go on
 
@@ -157,104 +125,135 @@ module _ (p : Program) (ac : Accept p) (forms : HasPlainForms p) (h : HeapConten
   abbrev pub value : Value
   value = thrown_value h e made
 
-  is_plain : IsPlainStore p store
-  is_plain = plain_unless p e (store_of fr.locals s.action) (plain_store_of p fr.locals s.action row (plain_step p ac fr st i s here forms))
-
-  was_there : (o : ℕ) (y : Object) → object_at heap o ≡ Some y → (object_at h o ≡ Some y) ⊎ ((o ≡ next_number h) × (object_at (thrown_heap p e h) o ≡ Some y) × (y.link ≡ None))
-  was_there o y at = elim (exceptions_are_the_librarys p e h o y now) [ inl old ↦ inl old | inr new ↦ inr (new.0, now, new.2) ]
-    where
-      now : object_at (thrown_heap p e h) o ≡ Some y
-      now = sym (plain_stored p (method_at p fr.method) fr.locals store (thrown_heap p e h) o is_plain) ∙ at
-
-  pub roots : KeepsRoots h heap
-  roots = linked_roots h heap links (λ n x at.
-      let y = exceptions_keep_links-evolves p e h n x at in
-      (y.0, plain_stored p (method_at p fr.method) fr.locals store (thrown_heap p e h) n is_plain ∙ y.1, y.2.link))
-
-  pub classes : (n : ℕ) (x : Object) → object_at h n ≡ Some x → (y : Object) × (object_at heap n ≡ Some y) × (y.class ≡ x.class)
-  classes n x at =
-      let y = exceptions_keep_links-evolves p e h n x at in
-      (y.0, plain_stored p (method_at p fr.method) fr.locals store (thrown_heap p e h) n is_plain ∙ y.1, y.2.class)
-
-  next_root : root heap (next_number h) ≡ next_number h
-  next_root = new_root h heap (λ y at. elim (was_there (next_number h) y at) [
-    | inl old ↦ absurd (let range = numbers_are_in_range h (next_number h) y old in let below = range.1 in omega (arith, below))
-    | inr new ↦ new.2
-  ])
-
   pub linked_were : LinkedWere h heap
-  linked_were n y l at some = elim (was_there n y at) [ inl old ↦ (y, old, some, refl) | inr new ↦ absurd (let never : None ≡ Some l = sym new.2 ∙ some in cc) ]
+  linked_were n y l at some =
+      let x = store_linked p (thrown_heap p e h) (method_at p fr.method) fr.locals store n y l at some in
+      elim (exceptions_are_the_librarys p e h n x.0 x.1) [
+        | inl old ↦ (x.0, old, x.2, x.3)
+        | inr new ↦ absurd (let never : None ≡ Some l = sym new.2 ∙ x.2 in cc)
+      ]
 
-  pub unfinished : KeepsUnfinished h heap no_other
-  unfinished o x y apart before now none = elim (was_there o y now) [
-    | inl old ↦ ap (λ (z : Object). z.finished) (let both : Some y ≡ Some x = sym old ∙ before in (let one : y ≡ x = cc in one)) ∙ none
-    | inr new ↦ absurd (let number = new.0 in let range = numbers_are_in_range h o x before in let below = range.1 in omega (arith, number, below))
-  ]
+  -- the step stores into no owning field, or it stores a text
+  module _ (updates : UpdatesTexts p h fr) where
+    light_store : IsLightStore p (thrown_heap p e h) store
+    light_store = light_unless p h e (store_of fr.locals s.action) (row_light p h fr.locals s.action row (λ f d w this is own held. updates i s f d w this here is own held))
 
-  pub carries : Carries h heap
-  carries o y at below = elim (was_there o y at) [
-    | inl old ↦ (y, old, refl, (λ is. (same_goes_on y, λ library. library)))
-    | inr new ↦ absurd (let number = new.0 in omega (arith, number, below))
-  ]
+    left : (o : ℕ) (y : Object) → object_at heap o ≡ Some y → (x : Object) × (object_at (thrown_heap p e h) o ≡ Some x) × IsLeftByText p x y
+    left o y at = light_back p (method_at p fr.method) fr.locals (thrown_heap p e h) store light_store o y at
 
-  -- owners stay
-  pub same_owner : (o : ℕ) (x y : Object) → object_at h o ≡ Some x → object_at heap o ≡ Some y → y.owner ≡ x.owner
-  same_owner o x y before at = elim (was_there o y at) [
-    | inl old ↦ ap (λ (z : Object). z.owner) (let both : Some y ≡ Some x = sym old ∙ before in (let one : y ≡ x = cc in one))
-    | inr new ↦ absurd (let number = new.0 in let range = numbers_are_in_range h o x before in let below = range.1 in omega (arith, number, below))
-  ]
-
-  pub owners_go : (j : ℕ) → OwnersGo p None j h heap
-  owners_go j o x y before at done heavy = stays (same_owner o x y before at)
-
-  pub owners_below : (n : ℕ) → OwnersBelow h n → OwnersBelow heap n
-  owners_below n below o y at = thrown_below p e h n below o y (sym (plain_stored p (method_at p fr.method) fr.locals store (thrown_heap p e h) o is_plain) ∙ at)
-
-  pub fields : KeepsFields p h heap
-  fields w f own = stored_fields p (method_at p fr.method) fr.locals store (thrown_heap p e h) w f is_plain own ∙ same_thrown_fields p e h w f
-
-  -- what is made is no object of a class with an obligation, or a fact that is not owned is born for it
-  abbrev pub IsGiven : Place → Type 0
-  IsGiven q = HoldsNoneHeavy p heap made ⊎ ((g : Origin) × (birth_on p s.action s.edge s.pos ≡ Some (g, fact_at q modes.None no_names true)) × (g.kind ≡ kinds.Read))
-
-  module _ (frs : List Frame) (covered : IsCovered p h gives_none renews_none frs fr) (gifts : KeepsGiven p h heap frs) (inside : HoldsThere p h fr)
-      (light : (c : ClassId) (y : Object) → e ≡ Some c → object_at heap (next_number h) ≡ Some y → is_heavy_class p y.class ≡ false)
-      (gives : (q : Place) → e ≡ None → source p st.body s.action s.edge q ≡ None → is_made (made_place s.action) q ≡ true → IsGiven q) where
-    given : (q : Place) (o : ℕ) (y : Object) → IsSmall q → is_local q ≡ true → source p st.body s.action s.edge q ≡ None → is_made (made_place s.action) q ≡ true
-        → place_value p heap fr.method (frame_after p h fr s value).locals q ≡ value → root_of heap value ≡ Some o → object_at heap o ≡ Some y → is_heavy_class p y.class ≡ true
-        → IsUnowned p heap false false frs (frame_after p h fr s value) q o y
-    given q o y small local none there is found' at heavy = by e refl found'
+    was_there : (o : ℕ) (y : Object) → object_at heap o ≡ Some y
+        → ((x : Object) × (object_at h o ≡ Some x) × IsLeftByText p x y) ⊎ ((o ≡ next_number h) × (object_at (thrown_heap p e h) o ≡ Some y) × (y.link ≡ None) × (is_frame_from 0 y.owner ≡ false))
+    was_there o y at = by (left o y at)
       where
-        by : (x : Option ClassId) → e ≡ x → root_of heap (thrown_value h x made) ≡ Some o → IsUnowned p heap false false frs (frame_after p h fr s value) q o y
-        by (Some c) same found =
-            let number : next_number h ≡ o = sym next_root ∙ (let both : root_of heap (values.Object (next_number h)) ≡ Some o = found in cc) in
-            absurd (true≢false (sym heavy ∙ light c y same (ap (object_at heap) number ∙ at)))
-        by None same found = elim (gives q same none there) [
-          | inl nothing ↦ absurd (true≢false (sym heavy ∙ nothing o y found at))
-          | inr birth ↦ born_unowned p heap false frs (frame_after p h fr s value) q o y birth.0 (fact_at q modes.None no_names true)
-              (born_covers p heap fr st i s here (frame_after p h fr s value) frs false q o y birth.0 modes.None true refl refl small local birth.1
-              (ap (root_of heap) is ∙ found') (λ m. ap (is_lent p m) birth.2 ∙ read_unlent p m) refl not_lent_none (ap is_this_origin birth.2) (λ claimed. absurd (true≢false (sym claimed ∙ unclaimed (is_heavy_class p birth.0.class)))))
-              (unclaimed (is_heavy_class p birth.0.class))
+        by : (x : Object) × (object_at (thrown_heap p e h) o ≡ Some x) × IsLeftByText p x y → ((x : Object) × (object_at h o ≡ Some x) × IsLeftByText p x y) ⊎ ((o ≡ next_number h) × (object_at (thrown_heap p e h) o ≡ Some y) × (y.link ≡ None) × (is_frame_from 0 y.owner ≡ false))
+        by (x, now, so) = elim (exceptions_are_the_librarys p e h o x now) [
+          | inl old ↦ inl (x, old, so)
+          | inr new ↦ elim so [
+            | inl same ↦ inr (new.0, subst (λ (z : Object). object_at (thrown_heap p e h) o ≡ Some z) (sym same) now, ap (λ (z : Object). z.link) same ∙ new.2, ap (λ (z : Object). is_frame_from 0 z.owner) same ∙ ap (is_frame_from 0) new.1)
+            | inr gone ↦ absurd (let never : owners.Library ≡ owners.Field gone.2.0 gone.2.1 = sym new.1 ∙ gone.2.2 in cc)
+          ]
         ]
-          where
-            unclaimed : (b : Bool) → (b && false) ≡ false
-            unclaimed true = refl
-            unclaimed false = refl
 
-    pub inner_covered : IsCovered p heap gives_none renews_none frs (frame_after p h fr s value)
-    inner_covered = top_covered p ac h heap links carries fields fr st i s here r inside (keeps_roots p h heap roots fr inside) value frs gives_none renews_none covered (all_ready p h heap unfinished fr) gifts
-        (stays_apart p None (length frs + 1) h heap (owners_go (length frs + 1)) frs fr (omega arith) (λ w none this. no_object_into w none))
-        (λ o f g. Unit {0})
-        (λ o x c q is. after_as (GoesAs c.fact (places_after p st.number s.action s.edge c.fact.places) (called_after p st.number s.action s.edge c.fact))
-        (λ (g : Fact). GoesAs c.fact (places_after p st.number s.action s.edge c.fact.places) (called_after p st.number s.action s.edge c.fact) g × Unit {0})
-        (flow p st.number c.origin s.action s.edge c.fact) (λ g goes. (goes, tt))
-        (other_steps p st.number c.origin s.action s.edge c.fact q row (not_null p h fr o c.fact s.action s.edge r.small c.places test) is))
-        (λ o x y c before at g more trusted stays old done goes some owes names less was.
-        ap (λ (t : Names). set.is_subset t names) (same_names p st.number s.action s.edge c.fact row (not_null p h fr o c.fact s.action s.edge r.small c.places test))
-        ∙ was)
-        (λ o x c before some owes gives. absurd (true≢false (sym gives ∙ row_gives_none p s.action s.edge c.fact.places row)))
-        (λ o x y c key before at heavy owes g more own. (refl, (λ done mine. same_owner o x y before at ∙ mine)))
-        (λ q o y small local none there is found' at heavy owes. inr (inl (given q o y small local none there is found' at heavy)))
+    forward : (n : ℕ) (x : Object) → object_at h n ≡ Some x → (y : Object) × (object_at heap n ≡ Some y) × GoesOn x y
+    forward n x at =
+        let y = exceptions_keep_links-evolves p e h n x at in
+        let z = light_forward p (method_at p fr.method) fr.locals (thrown_heap p e h) store light_store n y.0 y.1 in
+        (z.0, z.1, goes_on_further x y.0 z.0 y.2 (left_goes_on p y.0 z.0 z.2))
+
+    pub roots : KeepsRoots h heap
+    roots = linked_roots h heap links (λ n x at. let y = forward n x at in (y.0, y.1, y.2.link))
+
+    pub classes : (n : ℕ) (x : Object) → object_at h n ≡ Some x → (y : Object) × (object_at heap n ≡ Some y) × (y.class ≡ x.class)
+    classes n x at = let y = forward n x at in (y.0, y.1, y.2.class)
+
+    next_root : root heap (next_number h) ≡ next_number h
+    next_root = new_root h heap (λ y at. elim (was_there (next_number h) y at) [
+      | inl old ↦ absurd (let range = numbers_are_in_range h (next_number h) old.0 old.1 in let below = range.1 in omega (arith, below))
+      | inr new ↦ new.2
+    ])
+
+    -- an object that was there
+    was : (o : ℕ) (x y : Object) → object_at h o ≡ Some x → object_at heap o ≡ Some y → IsLeftByText p x y
+    was o x y before at = elim (was_there o y at) [
+      | inl old ↦ subst (λ (z : Object). IsLeftByText p z y) (let both : Some old.0 ≡ Some x = sym old.1 ∙ before in (let one : old.0 ≡ x = cc in one)) old.2
+      | inr new ↦ absurd (let number = new.0 in let range = numbers_are_in_range h o x before in let below = range.1 in omega (arith, number, below))
+    ]
+
+    pub unfinished : KeepsUnfinished h heap no_other
+    unfinished o x y apart before now none = (left_goes_on p x y (was o x y before now)).finished ∙ none
+
+    pub carries : Carries h heap
+    carries o y at below = elim (was_there o y at) [
+      | inl old ↦ (old.0, old.1, (left_goes_on p old.0 y old.2).class, (λ is. (left_goes_on p old.0 y old.2, left_to_library p old.0 y old.2)))
+      | inr new ↦ absurd (let number = new.0 in omega (arith, number, below))
+    ]
+
+    pub finishes : KeepsFinished h heap
+    finishes = keeps_finished h heap (λ n x at done. let y = forward n x at in (y.0, y.1, y.2.finished ∙ done))
+
+    -- owners of what has an obligation stay
+    pub same_owner : (o : ℕ) (x y : Object) → object_at h o ≡ Some x → object_at heap o ≡ Some y → is_heavy_class p x.class ≡ true → y.owner ≡ x.owner
+    same_owner o x y before at heavy = elim (was o x y before at) [
+      | inl same ↦ ap (λ (z : Object). z.owner) same
+      | inr gone ↦ absurd (true≢false (sym heavy ∙ gone.1))
+    ]
+
+    pub owners_go : (below : List Frame) (j : ℕ) → OwnersGo p None below j h heap
+    owners_go below j o x y before at done heavy = stays (same_owner o x y before at heavy)
+
+    pub owners_below : (n : ℕ) → OwnersBelow h n → OwnersBelow heap n
+    owners_below n below o y at = by (left o y at)
       where
-        no_object_into : (w : ℕ) → ◌≡◌ {A = Option ℕ} None (Some w) → ⊥
-        no_object_into w none = cc
+        by : (x : Object) × (object_at (thrown_heap p e h) o ≡ Some x) × IsLeftByText p x y → is_frame_from (n + 1) y.owner ≡ false
+        by (x, now, inl same) = ap (λ (z : Object). is_frame_from (n + 1) z.owner) same ∙ thrown_below p e h n below o x now
+        by (x, now, inr gone) = free_below (n + 1) y.owner (given_up_free x y gone.0).0
+
+    pub fields : KeepsFieldsButTexts p h heap
+    fields w f own = unless_fields p (method_at p fr.method) fr.locals h e (store_of fr.locals s.action) light_store w f own
+
+    -- what is made is no object of a class with an obligation, or a fact that is not owned is born for it
+    abbrev pub IsGiven : Place → Type 0
+    IsGiven q = HoldsNoneHeavy p heap made ⊎ ((g : Origin) × (birth_on p s.action s.edge s.pos ≡ Some (g, fact_at q modes.None no_names true)) × (g.kind ≡ kinds.Read))
+
+    module _ (frs : List Frame) (covered : IsCovered p h gives_none renews_none frs fr) (gifts : KeepsGiven p h heap frs) (inside : HoldsThere p h fr)
+        (light : (c : ClassId) (y : Object) → e ≡ Some c → object_at heap (next_number h) ≡ Some y → is_heavy_class p y.class ≡ false)
+        (gives : (q : Place) → e ≡ None → source p st.body s.action s.edge q ≡ None → is_made (made_place s.action) q ≡ true → IsGiven q) where
+      given : (q : Place) (o : ℕ) (y : Object) → IsSmall q → is_local q ≡ true → source p st.body s.action s.edge q ≡ None → is_made (made_place s.action) q ≡ true
+          → place_value p heap fr.method (frame_after p h fr s value).locals q ≡ value → root_of heap value ≡ Some o → object_at heap o ≡ Some y → is_heavy_class p y.class ≡ true
+          → IsUnowned p heap false false frs (frame_after p h fr s value) q o y
+      given q o y small local none there is found' at heavy = by e refl found'
+        where
+          by : (x : Option ClassId) → e ≡ x → root_of heap (thrown_value h x made) ≡ Some o → IsUnowned p heap false false frs (frame_after p h fr s value) q o y
+          by (Some c) same found =
+              let number : next_number h ≡ o = sym next_root ∙ (let both : root_of heap (values.Object (next_number h)) ≡ Some o = found in cc) in
+              absurd (true≢false (sym heavy ∙ light c y same (ap (object_at heap) number ∙ at)))
+          by None same found = elim (gives q same none there) [
+            | inl nothing ↦ absurd (true≢false (sym heavy ∙ nothing o y found at))
+            | inr birth ↦ born_unowned p heap false frs (frame_after p h fr s value) q o y birth.0 (fact_at q modes.None no_names true)
+                (born_covers p heap fr st i s here (frame_after p h fr s value) frs false q o y birth.0 modes.None true refl refl small local birth.1
+                (ap (root_of heap) is ∙ found') (λ m. ap (is_lent p m) birth.2 ∙ read_unlent p m) refl not_lent_none (ap is_this_origin birth.2) (λ claimed. absurd (true≢false (sym claimed ∙ unclaimed (is_heavy_class p birth.0.class)))))
+                (unclaimed (is_heavy_class p birth.0.class))
+          ]
+            where
+              unclaimed : (b : Bool) → (b && false) ≡ false
+              unclaimed true = refl
+              unclaimed false = refl
+
+      pub inner_covered : IsCovered p heap gives_none renews_none frs (frame_after p h fr s value)
+      inner_covered = top_covered p ac h heap links carries fields fr st i s here r inside (keeps_roots p h heap roots fr inside) value frs gives_none renews_none covered (all_ready p h heap unfinished fr) gifts
+          (stays_apart p None (fr ∷ frs) (length frs + 1) h heap finishes (owners_go (fr ∷ frs) (length frs + 1)) frs fr (omega arith) (λ w none this. no_object_into w none) (λ w none. none.1))
+          (held_here p None (fr ∷ frs) (length frs + 1) h heap finishes (owners_go (fr ∷ frs) (length frs + 1)) frs fr (omega arith) (λ w none. none.0))
+          (λ o f g. Unit {0})
+          (λ o x c q is. after_as (GoesAs c.fact (places_after p st.number s.action s.edge c.fact.places) (called_after p st.number s.action s.edge c.fact))
+          (λ (g : Fact). GoesAs c.fact (places_after p st.number s.action s.edge c.fact.places) (called_after p st.number s.action s.edge c.fact) g × Unit {0})
+          (flow p st.number c.origin s.action s.edge c.fact) (λ g goes. (goes, tt))
+          (other_steps p st.number c.origin s.action s.edge c.fact q row (not_null p h fr o c.fact s.action s.edge r.small c.places test) is))
+          (λ o x y c before at g more trusted stays old done goes some owes names less was.
+          ap (λ (t : Names). set.is_subset t names) (same_names p st.number s.action s.edge c.fact row (not_null p h fr o c.fact s.action s.edge r.small c.places test))
+          ∙ was)
+          (λ o x c before some owes gives. absurd (true≢false (sym gives ∙ row_gives_none p s.action s.edge c.fact.places row)))
+          (λ o x y c key before at heavy owes g more own. (refl, (λ done mine. same_owner o x y before at heavy ∙ mine)))
+          (λ q o y small local none there is found' at heavy owes. inr (inl (given q o y small local none there is found' at heavy)))
+        where
+          no_object_into : (w : ℕ) → ◌≡◌ {A = Option ℕ} None (Some w) → ⊥
+          no_object_into w none = cc

@@ -1,13 +1,17 @@
 pub mod Following
 pub mod HeavyFields
+pub mod InFields
 pub mod FrameEnds
 pub mod Storing
 pub mod CoveredFieldLaws
 pub mod Resets
 pub mod Constructors
 pub mod KeptArguments
+pub mod OlderHolders
 pub mod Owners
 pub mod RenewedFacts
+pub mod LinkedExceptions
+pub mod TextStores
 pub mod Waiting
 pub mod Gifts
 pub mod Lost
@@ -25,6 +29,7 @@ pub mod CoveredArguments
 pub mod GivenAway
 pub mod GivenArguments
 pub mod WaitingTargets
+pub mod UnfinishedHolders
 pub mod RenewedOperands
 pub mod CallSteps
 pub mod BegunFrames
@@ -34,9 +39,9 @@ pub mod Bodies
 pub mod PromisedFields
 pub mod OwnMethods
 pub mod ExistingResults
-pub mod LinkedExceptions
 pub mod GivenAliases
 pub mod Texts
+pub mod UpdatedTexts
 pub mod LocalSteps
 pub mod AliasPlaces
 pub mod InnerJoins
@@ -133,6 +138,7 @@ pub use Rattle.value_laws.proofs.Renewed
 pub use Rattle.value_laws.proofs.Results
 pub use Rattle.value_laws.proofs.Returned
 pub use Rattle.value_laws.proofs.Returns
+pub use Rattle.value_laws.proofs.Root
 pub use Rattle.value_laws.proofs.RootLaws
 pub use Rattle.value_laws.proofs.SetLaws
 pub use Rattle.value_laws.proofs.SignedPromises
@@ -147,3 +153,4 @@ pub use Rattle.value_laws.proofs.ThrownLaws
 pub use Rattle.value_laws.proofs.Tracking
 pub use Rattle.value_laws.proofs.TrackingGiven
 pub use Rattle.value_laws.proofs.Unmet
+pub use Rattle.value_laws.proofs.ValueTypeLaws

@@ -110,14 +110,15 @@ use Rattle.covering_laws.proofs.Gifts.{all_keep_gifts}
 use Rattle.covering_laws.proofs.GivenArguments.{given_owner}
 use Rattle.covering_laws.proofs.GivenAway.{moved_given}
 use Rattle.covering_laws.proofs.LibraryOwners.{library_below, library_owner, library_owners_go}
-use Rattle.covering_laws.proofs.Owners.{OwnersGo, given_kept, owners_kept, stays_apart}
+use Rattle.covering_laws.proofs.Owners.{OwnersGo, given_kept, owners_kept, stays_apart, KeepsFinished, held_here}
 use Rattle.covering_laws.proofs.TopSteps.{ComesFrom, IsKeyedFrom, IsLocalStep, IsMadeSo, StopsOwning, after_as, top_covered}
-use Rattle.covering_laws.proofs.Waiting.{Carries, HoldsThere, KeepsRoots, KeepsUnfinished, all_keep, all_ready, all_wait, frames_ready, keeps_roots, new_root, no_other, value_root}
+use Rattle.covering_laws.proofs.Waiting.{but_texts, Carries, HoldsThere, KeepsRoots, KeepsUnfinished, all_keep, all_ready, all_wait, frames_ready, keeps_roots, new_root, no_other, value_root, carries_finish}
 use Rattle.covering_laws.specs.Linking.{IsGivenAsAlias, LinkedAreAliases}
 use Rattle.value_laws.proofs.AliasConducts.{GivesAlias, gives_object, library_gives}
 use Rattle.value_laws.specs.FactGoing.{GoesAs}
 use Rattle.java_control.specs.declared.fact.Fact.{Fact}
 use Rattle.value_laws.specs.Flow.{flow}
+use Rattle.value_laws.proofs.Growth.{library_grows}
 use Rattle.value_laws.specs.PlaceRows.{places_after}
 
 -- ---- signatures
@@ -216,6 +217,9 @@ module _ (p : Program) (ac : Accept p) (forms : HasPlainForms p) (names : HasSma
 
   pub carries : Carries h K
   carries = library_carries p l s.action (without_reset m) ran at h no_reset links d
+
+  library_finishes : KeepsFinished h K
+  library_finishes = carries_finish h K (library_grows p l s.action (without_reset m) ran d at h).count carries
 
   pub inside : HoldsThere p h fr
   inside = holds_there p h ranges fr mine
@@ -386,15 +390,15 @@ module _ (p : Program) (ac : Accept p) (forms : HasPlainForms p) (names : HasSma
 
     -- a place that gives an alias its object
     abbrev Comes : Place → ℕ → Type 0
-    Comes q o = ComesFrom p ac h K links carries (library_keeps p l s.action (without_reset m) ran at h no_reset links d) fr st next.index s next.here local inside (keeps_roots p h K roots fr inside) v q o
+    Comes q o = ComesFrom p ac h K links carries (but_texts p h K (library_keeps p l s.action (without_reset m) ran at h no_reset links d)) fr st next.index s next.here local inside (keeps_roots p h K roots fr inside) v q o
 
     comes : (q : Place) (o : ℕ) → IsSmall q → is_local q ≡ true → is_made (made_place s.action) q ≡ true → s.edge ≡ edges.Go → (k : ℕ) → alias_position ran ≡ Some k → root_of h (operand_of l s.action k) ≡ Some o
         → Comes q o
     comes q o small local' there edge k some is = from_operand p h fr st s local q o small local' there edge k (ap alias_in same_callee ∙ sym (same_alias m) ∙ sym (one_alias p named runs next.answers) ∙ some) is
 
     abbrev IsMadeHere : Place → ℕ → Object → Type 0
-    IsMadeHere q o y = IsMadeSo p ac h K links carries (library_keeps p l s.action (without_reset m) ran at h no_reset links d) fr st next.index s next.here local inside (keeps_roots p h K roots fr inside) v frs gives_none renews_none
-        (IsGivenOr p ac h K links carries (library_keeps p l s.action (without_reset m) ran at h no_reset links d) fr st next.index s next.here local inside (keeps_roots p h K roots fr inside) v row) q o y
+    IsMadeHere q o y = IsMadeSo p ac h K links carries (but_texts p h K (library_keeps p l s.action (without_reset m) ran at h no_reset links d)) fr st next.index s next.here local inside (keeps_roots p h K roots fr inside) v frs gives_none renews_none
+        (IsGivenOr p ac h K links carries (but_texts p h K (library_keeps p l s.action (without_reset m) ran at h no_reset links d)) fr st next.index s next.here local inside (keeps_roots p h K roots fr inside) v row) q o y
 
     -- what the call makes no fact of the frame owned
     stops : (o : ℕ) (More : Origin → Fact → Fact → Type 0) → next_number h ≡ o → StopsOwning p h fr frs gives_none renews_none More o
@@ -557,19 +561,20 @@ module _ (p : Program) (ac : Accept p) (forms : HasPlainForms p) (names : HasSma
             go a is' = absurd (subst IsCallRow is' row)
 
     -- the frame owned what it gave to the library
-    call_goes : IsCovered p h gives_none renews_none frs fr → OwnersGo p None at h K
-    call_goes covered = library_owners_go p l s.action (without_reset m) ran d at h no_reset None at (λ o x before heavy owes g. given_owner p ac h fr st frs next.index s next.here row covered m same_callee o x before heavy owes (given_so o x g))
+    call_goes : IsCovered p h gives_none renews_none frs fr → OwnersGo p None (fr ∷ frs) at h K
+    call_goes covered = library_owners_go p l s.action (without_reset m) ran d at h no_reset None (fr ∷ frs) at (λ o x before heavy owes g. given_owner p ac h fr st frs next.index s next.here row covered m same_callee o x before heavy owes (given_so o x g))
 
     -- each place after the call is in a fact that comes from one before it, or was born
     pub call_top_from : IsCovered p h gives_none renews_none frs fr → LocalsIn h frs → (q : Place) (o : ℕ) (y : Object) → IsSmall q → root_of K (place_value p K after.method after.locals q) ≡ Some o → object_at K o ≡ Some y
         → is_heavy_class p y.class ≡ true → may_owe y ≡ true
-        → IsKeyedFrom p ac h K links carries (library_keeps p l s.action (without_reset m) ran at h no_reset links d) fr st next.index s next.here local inside (keeps_roots p h K roots fr inside) v frs gives_none renews_none
-        (IsGivenOr p ac h K links carries (library_keeps p l s.action (without_reset m) ran at h no_reset links d) fr st next.index s next.here local inside (keeps_roots p h K roots fr inside) v row) q o y
+        → IsKeyedFrom p ac h K links carries (but_texts p h K (library_keeps p l s.action (without_reset m) ran at h no_reset links d)) fr st next.index s next.here local inside (keeps_roots p h K roots fr inside) v frs gives_none renews_none
+        (IsGivenOr p ac h K links carries (but_texts p h K (library_keeps p l s.action (without_reset m) ran at h no_reset links d)) fr st next.index s next.here local inside (keeps_roots p h K roots fr inside) v row) q o y
     call_top_from covered others =
-        call_from p ac h K links carries (library_keeps p l s.action (without_reset m) ran at h no_reset links d) fr st next.index s next.here local inside (keeps_roots p h K roots fr inside) v row frs gives_none renews_none
+        call_from p ac h K links carries (but_texts p h K (library_keeps p l s.action (without_reset m) ran at h no_reset links d)) fr st next.index s next.here local inside (keeps_roots p h K roots fr inside) v row frs gives_none renews_none
         (λ o c never. absurd (true≢false (sym never))) covered
         (all_ready p h K (library_unfinished p l s.action (without_reset m) ran at h no_reset links d) fr) (given_kept p h K frs (all_keep_gifts p h K roots frs others))
-        (stays_apart p None at h K (call_goes covered) frs fr (omega arith) (λ w is this. absurd (let never : None ≡ Some w = is in cc)))
+        (stays_apart p None (fr ∷ frs) at h K library_finishes (call_goes covered) frs fr (omega arith) (λ w is this. absurd (let never : None ≡ Some w = is in cc)) (λ w none. none.1))
+        (held_here p None (fr ∷ frs) at h K library_finishes (call_goes covered) frs fr (omega arith) (λ w none. none.0))
         (λ o x y before now done heavy spared mine. elim (library_owner p l s.action (without_reset m) ran d at h no_reset o x y before now) [
           | inl same ↦ same ∙ mine
           | inr gave ↦ absurd (true≢false (sym (moved_given p h l s.action m o x same_callee (given_so o x gave.1)) ∙ spared))
@@ -645,14 +650,15 @@ module _ (p : Program) (ac : Accept p) (forms : HasPlainForms p) (names : HasSma
     same_owner : (o : ℕ) (x y : Object) → object_at h o ≡ Some x → object_at K o ≡ Some y → y.owner ≡ x.owner
     same_owner o x y before now = elim (library_owner p l s.action (without_reset m) ran d at h no_reset o x y before now) [ inl same ↦ same | inr gave ↦ absurd (nothing_given o x (given_so o x gave.1)) ]
 
-    read_goes : OwnersGo p None at h K
-    read_goes = library_owners_go p l s.action (without_reset m) ran d at h no_reset None at (λ n x before heavy owes g. absurd (nothing_given n x (given_so n x g)))
+    read_goes : OwnersGo p None (fr ∷ frs) at h K
+    read_goes = library_owners_go p l s.action (without_reset m) ran d at h no_reset None (fr ∷ frs) at (λ n x before heavy owes g. absurd (nothing_given n x (given_so n x g)))
 
     read_top : IsCovered p h gives_none renews_none frs fr → LocalsIn h frs → IsCovered p K gives_none renews_none frs after
     read_top covered others =
-        top_covered p ac h K links carries (library_keeps p l s.action (without_reset m) ran at h no_reset links d) fr st next.index s next.here local_read inside (keeps_roots p h K roots fr inside) v frs gives_none renews_none covered
+        top_covered p ac h K links carries (but_texts p h K (library_keeps p l s.action (without_reset m) ran at h no_reset links d)) fr st next.index s next.here local_read inside (keeps_roots p h K roots fr inside) v frs gives_none renews_none covered
         (all_ready p h K (library_unfinished p l s.action (without_reset m) ran at h no_reset links d) fr) (given_kept p h K frs (all_keep_gifts p h K roots frs others))
-        (stays_apart p None at h K read_goes frs fr (omega arith) (λ w is this. absurd (let never : None ≡ Some w = is in cc)))
+        (stays_apart p None (fr ∷ frs) at h K library_finishes read_goes frs fr (omega arith) (λ w is this. absurd (let never : None ≡ Some w = is in cc)) (λ w none. none.1))
+        (held_here p None (fr ∷ frs) at h K library_finishes read_goes frs fr (omega arith) (λ w none. none.0))
         (λ o f g. Unit {0})
         (λ o x c q is. after_as (GoesAs c.fact (places_after p st.number s.action s.edge c.fact.places) (called_after p st.number s.action s.edge c.fact))
         (λ (g : Fact). GoesAs c.fact (places_after p st.number s.action s.edge c.fact.places) (called_after p st.number s.action s.edge c.fact) g × Unit {0})
@@ -733,7 +739,7 @@ module _ (p : Program) (ac : Accept p) (forms : HasPlainForms p) (names : HasSma
     elim row [ inl called ↦ call_top called (row_of s.action called) covered.0 others | inr read ↦ read_top read covered.0 others ],
     all_wait p h K links roots carries frs (all_keep p h K (library_keeps p l s.action (without_reset m) ran at h no_reset links d) frs)
         (all_there p h ranges frs others) (frames_ready p h K (library_unfinished p l s.action (without_reset m) ran at h no_reset links d) frs) (all_keep_gifts p h K roots frs others)
-        (owners_kept p None at h K (elim row [ inl called ↦ call_goes called (row_of s.action called) covered.0 | inr read ↦ read_goes read ]) frs (omega arith) tt) covered.1,
+        (owners_kept p None (fr ∷ frs) at h K library_finishes (elim row [ inl called ↦ call_goes called (row_of s.action called) covered.0 | inr read ↦ read_goes read ]) frs (omega arith) tt (λ w none. none.1)) covered.1,
     library_below p l s.action (without_reset m) ran d at h no_reset covered.2,
   )
     where

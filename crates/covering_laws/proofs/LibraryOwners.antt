@@ -1,5 +1,5 @@
 -- The owners of objects over a call of the library: what an owning parameter takes is the library's, and all others stay.
-use Rattle.std.proofs.Common.{◌≡◌, ◌⊎◌, inl, inr, ℕ, ◌+◌, Bool, true, false, true≢false, Option, None, Some, refl, sym, ap, ◌∙◌, arith, if◌then◌else◌}
+use Rattle.std.proofs.Common.{◌≡◌, ◌⊎◌, inl, inr, ℕ, ◌+◌, Bool, true, false, true≢false, Option, None, Some, refl, sym, ap, ◌∙◌, arith, if◌then◌else◌, List}
 use Rattle.program_model.specs.declared.program.Method.{Method}
 use Rattle.program_model.specs.declared.program.Program.{Program}
 use Rattle.ledger_obligations.specs.MustCallSets.{is_heavy_class}
@@ -24,6 +24,7 @@ use Rattle.value_laws.specs.LibraryCalls.{IsAliasMadeAs, IsAliasOf, IsMadeAs}
 use Rattle.value_laws.proofs.Traces.{IsTraced, trace}
 use Rattle.value_laws.specs.PlaceFacts.{OwnersBelow, is_frame_from, may_owe}
 use Rattle.covering_laws.proofs.Owners.{OwnersGo, passed, stays}
+use Rattle.value_laws.specs.Configuration.{Frame}
 use Rattle.covering_laws.proofs.OwnerSteps.{KeepsLibrary, below_next, movable_owes, own_frame}
 
 module _ (p : Program) (l : Locals) (a : Action) (named m : Option Method) (d : Conduct) (i : ℕ) (h : HeapContents) (none : reset_position named ≡ None) where
@@ -51,9 +52,9 @@ module _ (p : Program) (l : Locals) (a : Action) (named m : Option Method) (d : 
   ]
 
   -- where the frame owned what it gives
-  pub library_owners_go : (into : Option ℕ) (j : ℕ)
-      → ((n : ℕ) (x : Object) → object_at h n ≡ Some x → is_heavy_class p x.class ≡ true → may_owe x ≡ true → IsGivenAway n x → x.owner ≡ owners.Frame j) → OwnersGo p into j h after
-  library_owners_go into j mine n x y before now done heavy = elim (library_owner n x y before now) [
+  pub library_owners_go : (into : Option ℕ) (below : List Frame) (j : ℕ)
+      → ((n : ℕ) (x : Object) → object_at h n ≡ Some x → is_heavy_class p x.class ≡ true → may_owe x ≡ true → IsGivenAway n x → x.owner ≡ owners.Frame j) → OwnersGo p into below j h after
+  library_owners_go into below j mine n x y before now done heavy = elim (library_owner n x y before now) [
     | inl same ↦ stays same
     | inr given ↦ passed (own_frame j x.owner (mine n x before heavy (movable_owes p given.1.param.vtype x given.1.may) given.1))
         (λ w held. absurd (true≢false (sym held ∙ ap (λ (o : Owner). is_held_by o w) given.0))) (λ k same. absurd (let never : owners.Library ≡ owners.Frame k = sym given.0 ∙ same in cc))

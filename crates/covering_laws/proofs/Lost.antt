@@ -1,5 +1,5 @@
 -- At the end of a step the heap loses what no place holds: only owners change, so what the places of frames hold stays covered.
-use Rattle.std.specs.Prelude.{not, ◌&&◌, if◌then◌else◌}
+use Rattle.std.specs.Prelude.{not, ◌&&◌, if◌then◌else◌, option_map}
 use Rattle.std.specs.List.{list_any}
 use Rattle.std.proofs.lemmas.Bool.{or_left, or_right}
 use Rattle.std.proofs.Common.{Bool, List, None, Option, Some, [], ap, arith, eq-eqb, eqb-true, false, inl, inr, length, nat_eq, refl, slice_get, subst, suc, sym, true, true≢false, zero, ℕ, ◌+◌, ◌++◌, ◌≤◌, ◌∙◌, ◌∷◌, ◌≡◌, ◌⊎◌}
@@ -20,22 +20,23 @@ use Rattle.ledger_state.specs.declared.object.Object.{Object}
 use Rattle.ledger_state.specs.declared.value.Value.{Value}
 use Rattle.ledger_state.specs.declared.value.Value.TheVariants as values
 use Rattle.value_laws.specs.Places.{place_value}
-use Rattle.ledger_obligations.specs.Obligations.{with_owner}
+use Rattle.ledger_obligations.specs.Obligations.{with_owner, is_held_by}
 use Rattle.ledger_obligations.specs.Obligations.{end_frame, held_at, holds, is_frame, is_library_owner, is_unmet, lose, lost_object, owner_holds}
 use Rattle.ledger_steps.specs.LedgerCallsCalls.{operand_of, depth_at}
 use Rattle.value_laws.specs.Configuration.{Frame, held_by}
 use Rattle.value_laws.specs.Heaps.{GoesOn}
 use Rattle.value_laws.proofs.EndLaws.{changed_back, frame_back, kept_goes_on}
-use Rattle.value_laws.proofs.HeapLaws.{root_of_changed}
-use Rattle.value_laws.specs.PlaceFacts.{AreCovered, AreWaiting, IsCovered, OwnersBelow, gives_none, is_field_of, is_frame_below, is_frame_from, is_given, renews_none}
+use Rattle.value_laws.proofs.HeapLaws.{root_of_changed, changed_object_at-object}
+use Rattle.value_laws.specs.PlaceFacts.{AreCovered, AreWaiting, IsCovered, OwnersBelow, gives_none, is_field_of, is_frame_below, is_frame_from, is_given, renews_none, HasOlderHolder}
 use Rattle.covering_laws.proofs.Gifts.{gifts_same}
-use Rattle.covering_laws.proofs.Owners.{AllKeepGifts, KeepsGifts, KeepsOwn, KeepsOwners, given_kept, is_field_place}
+use Rattle.covering_laws.proofs.Owners.{AllKeepGifts, KeepsGifts, KeepsOwn, KeepsOwners, given_kept, is_field_place, KeepsFinished, keeps_finished}
 use Rattle.covering_laws.proofs.Waiting.{AllHeldBefore, IsCarried, KeepsReady, KeepsUnfinished, given_alike, same_place, stays_covered}
 use Rattle.covering_laws.proofs.LinkedExceptions.{LinkedWere}
 use Rattle.covering_laws.proofs.GivenAway.{at_any}
 use Rattle.value_laws.specs.Renewing.{renews, is_renewed, IsLentFrom}
 use Rattle.value_laws.proofs.Readings.{renewed_operand}
 use Rattle.java_control.specs.Control.{Step}
+use Rattle.program_model.specs.declared.kinds.FieldId.{FieldId}
 use Rattle.value_laws.specs.Choosing.{frame_steps}
 
 -- ---- what a frame holds
@@ -196,6 +197,19 @@ module _ (p : Program) (k : HeapContents) (held : List (List Value)) where
       by_depth None is' = absurd (let never : ◌≡◌ {A = Option ℕ} None (Some o) = is' in cc)
       by_depth (Some d) is' = held_value k fr.locals o (temp_value fr.locals d) (inr (d, refl)) is'
 
+  -- nor what a field owns
+  field_kept : (o : ℕ) (x y : Object) → object_at k o ≡ Some x → object_at left o ≡ Some y → (w : ℕ) (f : FieldId) → x.owner ≡ owners.Field w f → y.owner ≡ x.owner
+  field_kept o x y before at w f own = elim (owner_after o x y before at) [ inl same ↦ same | inr lost ↦ absurd (true≢false (sym (ap (λ (a : Owner). owner_holds k held a o) own) ∙ lost.0)) ]
+
+  finishes : KeepsFinished k left
+  finishes = keeps_finished k left (λ n x at done. (lost_object k held n x, changed_object_at-object (lost_object k held) k n ∙ ap (option_map (lost_object k held n)) at, (still n x).finished ∙ done))
+
+  older_still : (frs : List Frame) (o : ℕ) (x y : Object) → object_at k o ≡ Some x → object_at left o ≡ Some y → HasOlderHolder k frs x.owner → HasOlderHolder left frs y.owner
+  older_still frs o x y before at older w held' = elim (owner_after o x y before at) [
+    | inl same ↦ elim (older w (ap (λ (a : Owner). is_held_by a w) (sym same) ∙ held')) [ inl made ↦ inl (finishes w made) | inr runs ↦ inr runs ]
+    | inr lost ↦ absurd (true≢false (sym held' ∙ ap (λ (a : Owner). is_held_by a w) lost.1))
+  ]
+
   -- so what is lent is not lost
   lent_kept : (frs : List Frame) → AreHeld frs → (o : ℕ) (x y : Object) → object_at k o ≡ Some x → object_at left o ≡ Some y → IsLentFrom p k frs o x.owner → y.owner ≡ x.owner
   lent_kept [] there o x y before at is = absurd is
@@ -204,7 +218,10 @@ module _ (p : Program) (k : HeapContents) (held : List (List Value)) where
       | inl same ↦ same
       | inr lost ↦ absurd (true≢false (sym (ap (λ (vs : List Value). holds k vs o) there.0 ∙ holds_renewed fr o is.0) ∙ sym (ap (λ (a : Owner). owner_holds k held a o) own) ∙ lost.0))
     ]
-    | inr further ↦ lent_kept frs there.1 o x y before at further
+    | inr further ↦ elim further [
+      | inl on ↦ lent_kept frs there.1 o x y before at on
+      | inr held' ↦ field_kept o x y before at held'.1.holder held'.1.field held'.1.owns
+    ]
   ]
 
   keeps : (gives : ℕ → ClassId → Bool) (frs : List Frame) (fr : Frame) → held_at held (length frs + 1) ≡ locals.held fr.locals → AreHeld frs → KeepsOwners p k left gives frs fr
@@ -216,7 +233,9 @@ module _ (p : Program) (k : HeapContents) (held : List (List Value)) where
       content = λ o x y before at done heavy plain own. content_still o x y fr.locals.this before at own;
       low = λ o x y before at done heavy low. low_still (length frs + 1) o x y before at low;
       keeps = λ o x y before at done heavy lent. lent_kept frs lower o x y before at lent;
+      older = λ o x y before at done heavy none older. older_still frs o x y before at older;
     };
+    held = λ o x y before at done heavy alone own. field_kept o x y before at own.holder own.field own.owns;
   }
 
   same_gifts : (fr : Frame) → KeepsGifts p k left fr
@@ -228,7 +247,7 @@ module _ (p : Program) (k : HeapContents) (held : List (List Value)) where
 
   frame_lost : (gives : ℕ → ClassId → Bool) (renewed : ℕ → Bool) (frs : List Frame) (fr : Frame) → held_at held (length frs + 1) ≡ locals.held fr.locals → AreHeld frs → IsCovered p k gives renewed frs fr → IsCovered p left gives renewed frs fr
   frame_lost gives renewed frs fr there lower covered =
-      stays_covered p k left gives renewed frs fr (λ q small. root_stays (place_value p k fr.method fr.locals q)) (λ q small. same_place p k left (λ w f own. refl) fr.method fr.locals q) (λ q o y small root at. carried o y at) (ready fr)
+      stays_covered p k left gives renewed frs fr (λ q small. root_stays (place_value p k fr.method fr.locals q)) (λ q small. inl (same_place p k left (λ w f own. refl) fr.method fr.locals q)) (λ q o y small root at. carried o y at) (ready fr)
       (given_kept p k left frs (all_same_gifts frs)) (keeps gives frs fr there lower) covered
 
   waiting_lost : (frs : List Frame) → AreHeld frs → AreWaiting p k frs → AreWaiting p left frs

@@ -1,5 +1,5 @@
 -- What the owners of objects say of their moves.
-use Rattle.std.proofs.Common.{◌≡◌, ℕ, ◌+◌, ◌<◌, ◌≤◌, Bool, true, false, not, ◌&&◌, true≢false, Option, Some, refl, sym, ap, ◌∙◌, nat_eq, nat_lt, arith, eq-eqb, eqb-true, lt-ltb, ltb-false, ltb-true, if◌then◌else◌}
+use Rattle.std.proofs.Common.{◌≡◌, ℕ, ◌+◌, ◌<◌, ◌≤◌, Bool, true, false, not, ◌&&◌, true≢false, List, Option, Some, refl, sym, ap, ◌∙◌, nat_eq, nat_lt, arith, eq-eqb, eqb-true, lt-ltb, ltb-false, ltb-true, if◌then◌else◌}
 use Rattle.std.proofs.lemmas.Bool.{and_parts, not-true}
 use Rattle.std.specs.FinSet as set
 use Rattle.program_model.specs.declared.kinds.VType.{VType}
@@ -11,6 +11,8 @@ use Rattle.ledger_state.specs.declared.entry.Owner.{Owner}
 use Rattle.ledger_state.specs.declared.entry.Owner.TheVariants as owners
 use Rattle.ledger_state.specs.declared.object.Object.{Object}
 use Rattle.ledger_obligations.specs.Obligations.{given_up, is_frame, is_held_by, is_library_owner, is_unmet, may_move}
+use Rattle.value_laws.specs.Configuration.{Frame}
+use Rattle.value_laws.specs.FieldContents.{RunOnOthers}
 use Rattle.value_laws.specs.PlaceFacts.{is_frame_below, is_frame_from, may_owe}
 use Rattle.covering_laws.proofs.Owners.{OwnerGoes, from_frame, left, passed}
 
@@ -104,12 +106,12 @@ field_free owners.Lost is = absurd (true≢false (sym is))
 field_free owners.Unowned is = absurd (true≢false (sym is))
 
 -- a frame gives up what it owned
-pub ended_goes : (into : Option ℕ) (j : ℕ) (a b : Owner) → is_frame a j ≡ true → IsFree b → OwnerGoes into j a b
-ended_goes into j a b is free = passed (own_frame j a (frame_is a j is)) (λ w held. absurd (true≢false (sym held ∙ free.1 w))) (λ n same. absurd (true≢false (sym (ap (is_frame_from 0) same ∙ from_frame 0 n (omega arith)) ∙ free.0)))
+pub ended_goes : (into : Option ℕ) (below : List Frame) (j : ℕ) (a b : Owner) → is_frame a j ≡ true → IsFree b → OwnerGoes into below j a b
+ended_goes into below j a b is free = passed (own_frame j a (frame_is a j is)) (λ w held. absurd (true≢false (sym held ∙ free.1 w))) (λ n same. absurd (true≢false (sym (ap (is_frame_from 0) same ∙ from_frame 0 n (omega arith)) ∙ free.0)))
 
--- and a field
-pub gave_up : (into : Option ℕ) (j : ℕ) (a b : Owner) → is_field_owner a ≡ true → IsFree b → OwnerGoes into j a b
-gave_up into j a b field free = left (field_free a field) free.0 free.1
+-- and a field of an object on which none of the frames below runs
+pub gave_up : (into : Option ℕ) (below : List Frame) (j : ℕ) (a b : Owner) → is_field_owner a ≡ true → IsFree b → ((w : ℕ) → is_held_by a w ≡ true → RunOnOthers w below) → OwnerGoes into below j a b
+gave_up into below j a b field free others = left (field_free a field) free.0 free.1 others
 
 -- ---- frames below a position
 

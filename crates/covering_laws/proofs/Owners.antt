@@ -1,9 +1,10 @@
 -- Who owns objects as a step goes, and what the frames were given.
 use Rattle.std.specs.Prelude.{nat_lt}
-use Rattle.std.proofs.Common.{◌≡◌, ℕ, ◌+◌, ◌<◌, ◌≤◌, Bool, true, false, not, ◌&&◌, ◌||◌, Option, Some, None, List, [], ◌∷◌, length, lt-ltb, ltb-true, refl, sym, ap, ◌∙◌, subst, inl, inr, true≢false, arith}
+use Rattle.std.proofs.Common.{◌≡◌, ◌⊎◌, eq-eqb, ℕ, ◌+◌, ◌<◌, ◌≤◌, Bool, true, false, not, ◌&&◌, ◌||◌, Option, Some, None, List, [], ◌∷◌, length, lt-ltb, ltb-true, refl, sym, ap, ◌∙◌, subst, inl, inr, true≢false, arith}
 use Rattle.std.proofs.lemmas.Bool.{and_from, and_parts, or_left, or_right}
 use Rattle.std.proofs.lemmas.Bool.Decides.{nat_tests}
 use Rattle.program_model.specs.declared.kinds.ClassId.{ClassId}
+use Rattle.program_model.specs.declared.kinds.FieldId.{FieldId}
 use Rattle.program_model.specs.declared.program.Program.{Program}
 use Rattle.program_model.specs.Lookups.{method_at}
 use Rattle.ledger_obligations.specs.Bodies.{constructs}
@@ -20,26 +21,36 @@ use Rattle.ledger_state.specs.declared.entry.Owner.TheVariants as owners
 use Rattle.ledger_state.specs.declared.object.Object.{Object}
 use Rattle.ledger_state.specs.declared.value.Value.{Value}
 use Rattle.ledger_state.specs.declared.value.Value.TheVariants as values
-use Rattle.ledger_obligations.specs.Obligations.{is_held_by}
+use Rattle.ledger_obligations.specs.Obligations.{finished_in, is_held_by}
 use Rattle.value_laws.specs.Places.{place_value}
 use Rattle.value_laws.specs.Configuration.{Frame}
 use Rattle.value_laws.specs.FieldContents.{RunOnOthers}
-use Rattle.value_laws.specs.PlaceFacts.{is_apart, is_content, is_field_of, is_frame_below, is_frame_from, is_given, makes_alone, was_given}
-use Rattle.value_laws.specs.Renewing.{IsLentFrom, is_renewed, was_renewed}
+use Rattle.value_laws.specs.PlaceFacts.{HasOlderHolder, RunsOn, is_apart, is_content, is_field_of, is_frame_below, is_frame_from, is_given, was_given}
+use Rattle.value_laws.specs.Renewing.{IsHeldBy, IsLentFrom, IsOwnedByThis, is_renewed, makes_alone, was_renewed}
 
 -- ---- the owner of an object, before a step and after it
 
 -- The owner stays. Or it was a frame at position `j` or above, and where a field owns the object then, it is one of object `into`. Or it was no frame,
--- and then neither a frame nor a field owns the object, or a field of `into` does.
-pub data OwnerGoes (into : Option ℕ) (j : ℕ) (a b : Owner) : Type 0 where
-  stays : b ≡ a → OwnerGoes into j a b
-  passed : is_frame_from j a ≡ true → ((w : ℕ) → is_held_by b w ≡ true → into ≡ Some w) → ((n : ℕ) → b ≡ owners.Frame n → j ≤ n) → OwnerGoes into j a b
-  left : is_frame_from 0 a ≡ false → is_frame_from 0 b ≡ false → ((w : ℕ) → is_held_by b w ≡ false) → OwnerGoes into j a b
-  taken : is_frame_from 0 a ≡ false → is_frame_from 0 b ≡ false → ((w : ℕ) → is_held_by b w ≡ true → into ≡ Some w) → OwnerGoes into j a b
+-- and then neither a frame nor a field owns the object; where it was a field, none of the frames `below` runs on the field's object.
+pub data OwnerGoes (into : Option ℕ) (below : List Frame) (j : ℕ) (a b : Owner) : Type 0 where
+  stays : b ≡ a → OwnerGoes into below j a b
+  passed : is_frame_from j a ≡ true → ((w : ℕ) → is_held_by b w ≡ true → into ≡ Some w) → ((n : ℕ) → b ≡ owners.Frame n → j ≤ n) → OwnerGoes into below j a b
+  left : is_frame_from 0 a ≡ false → is_frame_from 0 b ≡ false → ((w : ℕ) → is_held_by b w ≡ false) → ((w : ℕ) → is_held_by a w ≡ true → RunOnOthers w below) → OwnerGoes into below j a b
 
 -- so do the owners of all finished objects whose class has an obligation
-abbrev pub OwnersGo : Program → Option ℕ → ℕ → HeapContents → HeapContents → Type 0
-OwnersGo p into j h k = (o : ℕ) (x y : Object) → object_at h o ≡ Some x → object_at k o ≡ Some y → x.finished ≡ true → is_heavy_class p x.class ≡ true → OwnerGoes into j x.owner y.owner
+abbrev pub OwnersGo : Program → Option ℕ → List Frame → ℕ → HeapContents → HeapContents → Type 0
+OwnersGo p into below j h k = (o : ℕ) (x y : Object) → object_at h o ≡ Some x → object_at k o ≡ Some y → x.finished ≡ true → is_heavy_class p x.class ≡ true → OwnerGoes into below j x.owner y.owner
+
+-- what was finished is so
+abbrev pub KeepsFinished : HeapContents → HeapContents → Type 0
+KeepsFinished h k = (w : ℕ) → finished_in (object_at h w) ≡ true → finished_in (object_at k w) ≡ true
+
+pub keeps_finished : (h k : HeapContents) → ((n : ℕ) (x : Object) → object_at h n ≡ Some x → x.finished ≡ true → (y : Object) × (object_at k n ≡ Some y) × (y.finished ≡ true)) → KeepsFinished h k
+keeps_finished h k goes n done = by (object_at h n) refl done
+  where
+    by : (z : Option Object) → object_at h n ≡ z → finished_in z ≡ true → finished_in (object_at k n) ≡ true
+    by None none never = absurd (true≢false (sym never))
+    by (Some x) some is = (let y = goes n x some is in ap finished_in y.1 ∙ y.2)
 
 -- ---- what frames own
 
@@ -51,7 +62,8 @@ is_field_place (places.Temp d) = false
 is_field_place places.Super = false
 
 -- what is not owned by the frame above these or one above it does not come to be, nor does what no frame owns, nor does a field of `this`, in a frame
--- that runs no constructor, come to own anything; what is lent to the frame keeps its owner
+-- that runs no constructor, come to own anything; what is lent to the frame keeps its owner; and the holder of what no frame from here on owns is finished, or a frame below
+-- runs on it
 pub record StaysApart (p : Program) (h k : HeapContents) (frs : List Frame) (fr : Frame) : Type 0 where
   pub apart : (o : ℕ) (x y : Object) → object_at h o ≡ Some x → object_at k o ≡ Some y → x.finished ≡ true → is_heavy_class p x.class ≡ true → is_frame_from (length frs + 1) x.owner ≡ false → is_frame_from (length frs + 1) y.owner ≡ false
   pub free : (o : ℕ) (x y : Object) → object_at h o ≡ Some x → object_at k o ≡ Some y → x.finished ≡ true → is_heavy_class p x.class ≡ true → is_frame_from 0 x.owner ≡ false → is_frame_from 0 y.owner ≡ false
@@ -59,6 +71,13 @@ pub record StaysApart (p : Program) (h k : HeapContents) (frs : List Frame) (fr 
       → is_field_of fr.locals.this y.owner ≡ true → is_field_of fr.locals.this x.owner ≡ true
   pub low : (o : ℕ) (x y : Object) → object_at h o ≡ Some x → object_at k o ≡ Some y → x.finished ≡ true → is_heavy_class p x.class ≡ true → is_frame_below (length frs + 1) y.owner ≡ true → is_frame_below (length frs + 1) x.owner ≡ true
   pub keeps : (o : ℕ) (x y : Object) → object_at h o ≡ Some x → object_at k o ≡ Some y → x.finished ≡ true → is_heavy_class p x.class ≡ true → IsLentFrom p h frs o x.owner → y.owner ≡ x.owner
+  pub older : (o : ℕ) (x y : Object) → object_at h o ≡ Some x → object_at k o ≡ Some y → x.finished ≡ true → is_heavy_class p x.class ≡ true → is_frame_from (length frs + 1) x.owner ≡ false → HasOlderHolder h frs x.owner
+      → HasOlderHolder k frs y.owner
+
+-- what an owning field of `this` owns it goes on owning, where the frame runs a constructor without an aliased argument
+abbrev pub KeepsHeld : Program → HeapContents → HeapContents → Frame → Type 0
+KeepsHeld p h k fr = (o : ℕ) (x y : Object) → object_at h o ≡ Some x → object_at k o ≡ Some y → x.finished ≡ true → is_heavy_class p x.class ≡ true → makes_alone (method_at p fr.method) ≡ true → IsOwnedByThis p fr x.owner
+    → y.owner ≡ x.owner
 
 -- what the frame at this position owns, and a variable, a temp or `this` of it holds, it goes on owning, where it is not given away
 abbrev pub KeepsOwn : Program → HeapContents → HeapContents → (ℕ → ClassId → Bool) → ℕ → Frame → Type 0
@@ -68,12 +87,17 @@ KeepsOwn p h k gives i fr = (q : Place) (o : ℕ) (x y : Object) → IsSmall q �
 pub record KeepsOwners (p : Program) (h k : HeapContents) (gives : ℕ → ClassId → Bool) (frs : List Frame) (fr : Frame) : Type 0 where
   pub own : KeepsOwn p h k gives (length frs + 1) fr
   pub others : StaysApart p h k frs fr
+  pub held : KeepsHeld p h k fr
 
 abbrev pub AllKeepOwners : Program → HeapContents → HeapContents → List Frame → Type 0
 AllKeepOwners p h k [] = Unit {0}
 AllKeepOwners p h k (fr ∷ frs) = KeepsOwners p h k (is_given p h fr) frs fr × AllKeepOwners p h k frs
 
 -- ---- positions of frames
+
+-- a field of the object owns it
+pub held_at : (a : Owner) (w : ℕ) (f : FieldId) → a ≡ owners.Field w f → is_held_by a w ≡ true
+held_at a w f is = ap (λ (b : Owner). is_held_by b w) is ∙ eq-eqb w w refl
 
 frame_from : (j i : ℕ) → is_frame_from j (owners.Frame i) ≡ true → j ≤ i
 frame_from j i is = go (nat_lt i j) refl is
@@ -118,16 +142,61 @@ frame_below i owners.Released is = absurd (true≢false (sym is))
 frame_below i owners.Lost is = absurd (true≢false (sym is))
 frame_below i owners.Unowned is = absurd (true≢false (sym is))
 
--- what is lent is owned by a frame below
-pub lent_below : (p : Program) (h : HeapContents) (frs : List Frame) (o : ℕ) (owner : Owner) → IsLentFrom p h frs o owner → is_frame_below (length frs + 1) owner ≡ true
-lent_below p h [] o owner is = absurd is
-lent_below p h (fr ∷ frs) o owner is = ap (λ (n : ℕ). is_frame_below n owner) (let number : length (fr ∷ frs) + 1 ≡ length frs + 1 + 1 = omega arith in number) ∙ elim is.1 [
-  | inl own ↦ ap (is_frame_below (length frs + 1 + 1)) own ∙ lt-ltb (length frs + 1) (length frs + 1 + 1) (omega arith)
-  | inr further ↦ higher (length frs + 1) owner (lent_below p h frs o owner further)
+-- one of these frames is a constructor that has what it owns in a field of `this`
+abbrev pub IsHeldAmong : Program → List Frame → Owner → Type 0
+IsHeldAmong p [] owner = ⊥
+IsHeldAmong p (fr ∷ frs) owner = IsHeldBy p fr owner ⊎ IsHeldAmong p frs owner
+
+-- what is lent is owned by a frame below, or a constructor below has it in a field
+pub lent_owner : (p : Program) (h : HeapContents) (frs : List Frame) (o : ℕ) (owner : Owner) → IsLentFrom p h frs o owner → (is_frame_below (length frs + 1) owner ≡ true) ⊎ IsHeldAmong p frs owner
+lent_owner p h [] o owner is = absurd is
+lent_owner p h (fr ∷ frs) o owner is = elim is.1 [
+  | inl own ↦ inl (as_next (ap (is_frame_below (length frs + 1 + 1)) own ∙ lt-ltb (length frs + 1) (length frs + 1 + 1) (omega arith)))
+  | inr further ↦ elim further [
+    | inl on ↦ elim (lent_owner p h frs o owner on) [
+      | inl low ↦ inl (as_next (higher (length frs + 1) owner low))
+      | inr held ↦ inr (inr held)
+    ]
+    | inr held ↦ inr (inl held)
+  ]
 ]
   where
+    as_next : is_frame_below (length frs + 1 + 1) owner ≡ true → is_frame_below (length (fr ∷ frs) + 1) owner ≡ true
+    as_next is' = ap (λ (n : ℕ). is_frame_below n owner) (let number : length (fr ∷ frs) + 1 ≡ length frs + 1 + 1 = omega arith in number) ∙ is'
+
     higher : (n : ℕ) (a : Owner) → is_frame_below n a ≡ true → is_frame_below (n + 1) a ≡ true
     higher n a low = (let low' = frame_below n a low in ap (is_frame_below (n + 1)) low'.1 ∙ lt-ltb low'.0 (n + 1) (let less = low'.2 in omega (arith, less)))
+
+-- what a constructor among frames has in a field: the object of the field, on which one of them runs
+pub held_among : (p : Program) (frs : List Frame) (owner : Owner) → IsHeldAmong p frs owner → (w : ℕ) × (is_held_by owner w ≡ true) × RunsOn w frs
+held_among p [] owner held = absurd held
+held_among p (fr ∷ frs) owner (inl held) = (held.1.holder, held_at owner held.1.holder held.1.field held.1.owns, inl held.1.runs)
+held_among p (fr ∷ frs) owner (inr further) = let it = held_among p frs owner further in (it.0, it.1, inr it.2)
+
+-- a frame owns it no more than a field does
+pub held_no_frame : (i : ℕ) (owner : Owner) (w : ℕ) → is_held_by owner w ≡ true → is_frame_from i owner ≡ false
+held_no_frame i (owners.Field v f) w held = refl
+held_no_frame i (owners.Frame n) w held = absurd (true≢false (sym held))
+held_no_frame i owners.Library w held = refl
+held_no_frame i owners.Released w held = refl
+held_no_frame i owners.Lost w held = refl
+held_no_frame i owners.Unowned w held = refl
+
+-- so no frame from here on owns what is lent
+pub lent_not_from : (p : Program) (h : HeapContents) (frs : List Frame) (o : ℕ) (owner : Owner) → IsLentFrom p h frs o owner → is_frame_from (length frs + 1) owner ≡ false
+lent_not_from p h frs o owner lent = elim (lent_owner p h frs o owner lent) [
+  | inl low ↦ (let it = frame_below (length frs + 1) owner low in no_frame_at (length frs + 1) owner it.0 it.1 it.2)
+  | inr held ↦ (let it = held_among p frs owner held in held_no_frame (length frs + 1) owner it.0 it.1)
+]
+  where
+    no_frame_at : (i : ℕ) (a : Owner) (n : ℕ) → a ≡ owners.Frame n → n < i → is_frame_from i a ≡ false
+    no_frame_at i a n same less = ap (is_frame_from i) same ∙ ap not (lt-ltb n i less)
+
+-- none of the frames that run on no such object runs on it
+pub runs_on_none : (w : ℕ) (frs : List Frame) → RunOnOthers w frs → RunsOn w frs → ⊥
+runs_on_none w [] others is = is
+runs_on_none w (fr ∷ frs) others (inl here) = others.0 here
+runs_on_none w (fr ∷ frs) others (inr on) = runs_on_none w frs others.1 on
 
 -- ---- the frames below the position from which owners change
 
@@ -143,13 +212,12 @@ none_on : (into : Option ℕ) (fr : Frame) (frs : List Frame) → RunsNoneOn int
 none_on None fr frs others = ((λ w is this. (let never : None ≡ Some w = is in cc)), tt)
 none_on (Some u) fr frs others = ((λ w is this. others.0 (this ∙ ap values.Object (let both : Some u ≡ Some w = is in (let one : w ≡ u = cc in one)))), others.1)
 
-module _ (p : Program) (into : Option ℕ) (j : ℕ) (h k : HeapContents) (go_on : OwnersGo p into j h k) where
+module _ (p : Program) (into : Option ℕ) (leaving : List Frame) (j : ℕ) (h k : HeapContents) (finishes : KeepsFinished h k) (go_on : OwnersGo p into leaving j h k) where
   -- what no frame from a position on owns stays so
-  apart_by : (i : ℕ) (a b : Owner) → i ≤ j → OwnerGoes into j a b → is_frame_from i a ≡ false → is_frame_from i b ≡ false
+  apart_by : (i : ℕ) (a b : Owner) → i ≤ j → OwnerGoes into leaving j a b → is_frame_from i a ≡ false → is_frame_from i b ≡ false
   apart_by i a b below (stays same) none = ap (is_frame_from i) same ∙ none
   apart_by i a b below (passed from goes low) none = absurd (true≢false (sym (frame_from_lower i j a below from) ∙ none))
-  apart_by i a b below (left none' then' fields) none = no_frame_from 0 i b (omega arith) then'
-  apart_by i a b below (taken none' then' fields) none = no_frame_from 0 i b (omega arith) then'
+  apart_by i a b below (left none' then' fields others) none = no_frame_from 0 i b (omega arith) then'
 
   module _ (frs : List Frame) (fr : Frame) (below : length frs + 1 ≤ j) where
     abbrev i : ℕ
@@ -162,47 +230,72 @@ module _ (p : Program) (into : Option ℕ) (j : ℕ) (h k : HeapContents) (go_on
     low_here : (o : ℕ) (x y : Object) → object_at h o ≡ Some x → object_at k o ≡ Some y → x.finished ≡ true → is_heavy_class p x.class ≡ true → is_frame_below i y.owner ≡ true → is_frame_below i x.owner ≡ true
     low_here o x y before at done heavy low = by x.owner y.owner (go_on o x y before at done heavy) (frame_below i y.owner low)
       where
-        by : (a b : Owner) → OwnerGoes into j a b → (n : ℕ) × (b ≡ owners.Frame n) × (n < i) → is_frame_below i a ≡ true
+        by : (a b : Owner) → OwnerGoes into leaving j a b → (n : ℕ) × (b ≡ owners.Frame n) × (n < i) → is_frame_below i a ≡ true
         by a b (stays same) (n, is, less) = ap (is_frame_below i) (sym same ∙ is) ∙ lt-ltb n i less
         by a b (passed from goes low') (n, is, less) = absurd (let high = low' n is in omega (arith, below, high, less))
-        by a b (left none then' fields) (n, is, less) = absurd (true≢false (sym (ap (is_frame_from 0) is ∙ from_frame 0 n (omega arith)) ∙ then'))
-        by a b (taken none then' fields) (n, is, less) = absurd (true≢false (sym (ap (is_frame_from 0) is ∙ from_frame 0 n (omega arith)) ∙ then'))
+        by a b (left none then' fields others) (n, is, less) = absurd (true≢false (sym (ap (is_frame_from 0) is ∙ from_frame 0 n (omega arith)) ∙ then'))
 
-    -- what is lent to the frame keeps its owner
-    kept_here : (o : ℕ) (x y : Object) → object_at h o ≡ Some x → object_at k o ≡ Some y → x.finished ≡ true → is_heavy_class p x.class ≡ true → IsLentFrom p h frs o x.owner → y.owner ≡ x.owner
-    kept_here o x y before at done heavy lent = by x.owner y.owner (go_on o x y before at done heavy) (frame_below i x.owner (lent_below p h frs o x.owner lent))
+    -- what is lent to the frame keeps its owner, where what a field gives up is one of an object on which none of these runs
+    kept_here : ((w : ℕ) → RunOnOthers w leaving → RunOnOthers w frs) → (o : ℕ) (x y : Object) → object_at h o ≡ Some x → object_at k o ≡ Some y → x.finished ≡ true → is_heavy_class p x.class ≡ true → IsLentFrom p h frs o x.owner → y.owner ≡ x.owner
+    kept_here spared o x y before at done heavy lent = elim (lent_owner p h frs o x.owner lent) [
+      | inl low ↦ by x.owner y.owner (go_on o x y before at done heavy) (frame_below i x.owner low)
+      | inr held ↦ (let it = held_among p frs x.owner held in of_field x.owner y.owner (go_on o x y before at done heavy) it.0 it.1 it.2)
+    ]
       where
-        by : (a b : Owner) → OwnerGoes into j a b → (n : ℕ) × (a ≡ owners.Frame n) × (n < i) → b ≡ a
+        by : (a b : Owner) → OwnerGoes into leaving j a b → (n : ℕ) × (a ≡ owners.Frame n) × (n < i) → b ≡ a
         by a b (stays same) (n, is, less) = same
         by a b (passed from goes low') (n, is, less) = absurd (owned_below n j a is (omega (arith, below, less)) from)
-        by a b (left none then' fields) (n, is, less) = absurd (true≢false (sym (ap (is_frame_from 0) is ∙ from_frame 0 n (omega arith)) ∙ none))
-        by a b (taken none then' fields) (n, is, less) = absurd (true≢false (sym (ap (is_frame_from 0) is ∙ from_frame 0 n (omega arith)) ∙ none))
+        by a b (left none then' fields others) (n, is, less) = absurd (true≢false (sym (ap (is_frame_from 0) is ∙ from_frame 0 n (omega arith)) ∙ none))
+
+        of_field : (a b : Owner) → OwnerGoes into leaving j a b → (w : ℕ) → is_held_by a w ≡ true → RunsOn w frs → b ≡ a
+        of_field a b (stays same) w held runs = same
+        of_field a b (passed from goes low') w held runs = absurd (true≢false (sym from ∙ held_no_frame j a w held))
+        of_field a b (left none then' fields others) w held runs = absurd (runs_on_none w frs (spared w (others w held)) runs)
+
+    -- the holder of what no frame from here on owns
+    older_here : (o : ℕ) (x y : Object) → object_at h o ≡ Some x → object_at k o ≡ Some y → x.finished ≡ true → is_heavy_class p x.class ≡ true → is_frame_from i x.owner ≡ false → HasOlderHolder h frs x.owner → HasOlderHolder k frs y.owner
+    older_here o x y before at done heavy none older = by x.owner y.owner (go_on o x y before at done heavy) none older
+      where
+        by : (a b : Owner) → OwnerGoes into leaving j a b → is_frame_from i a ≡ false → HasOlderHolder h frs a → HasOlderHolder k frs b
+        by a b (stays same) none' older' w held = elim (older' w (ap (λ (u : Owner). is_held_by u w) (sym same) ∙ held)) [ inl made ↦ inl (finishes w made) | inr runs ↦ inr runs ]
+        by a b (passed from goes low) none' older' w held = absurd (true≢false (sym (frame_from_lower i j a below from) ∙ none'))
+        by a b (left none'' then' fields others) none' older' w held = absurd (true≢false (sym held ∙ fields w))
+
+    -- what a field of `this` owns stays so
+    pub held_here : ((w : ℕ) → RunOnOthers w leaving → fr.locals.this ≡ values.Object w → ⊥) → KeepsHeld p h k fr
+    held_here spared o x y before at done heavy alone own = by x.owner y.owner (go_on o x y before at done heavy) own.holder (held_at x.owner own.holder own.field own.owns) own.runs
+      where
+        by : (a b : Owner) → OwnerGoes into leaving j a b → (w : ℕ) → is_held_by a w ≡ true → fr.locals.this ≡ values.Object w → b ≡ a
+        by a b (stays same) w held runs = same
+        by a b (passed from goes low) w held runs = absurd (true≢false (sym from ∙ held_no_frame j a w held))
+        by a b (left none then' fields others) w held runs = absurd (spared w (others w held) runs)
 
     -- a frame at this position or below
-    pub stays_apart : IsNotInto into fr.locals.this → StaysApart p h k frs fr
-    stays_apart other = record {
+    pub stays_apart : IsNotInto into fr.locals.this → ((w : ℕ) → RunOnOthers w leaving → RunOnOthers w frs) → StaysApart p h k frs fr
+    stays_apart other spared = record {
       apart = apart_here i (omega arith);
       free = apart_here 0 (omega arith);
       low = low_here;
-      keeps = kept_here;
+      keeps = kept_here spared;
+      older = older_here;
       content = λ o x y before at done heavy plain own. content_by fr.locals.this refl x.owner y.owner (go_on o x y before at done heavy) own;
     }
       where
-        content_by : (v : Value) → fr.locals.this ≡ v → (a b : Owner) → OwnerGoes into j a b → is_field_of v b ≡ true → is_field_of v a ≡ true
+        content_by : (v : Value) → fr.locals.this ≡ v → (a b : Owner) → OwnerGoes into leaving j a b → is_field_of v b ≡ true → is_field_of v a ≡ true
         content_by (values.Object w) this a b (stays same) own = ap (λ (u : Owner). is_held_by u w) (sym same) ∙ own
         content_by (values.Object w) this a b (passed from goes low) own = absurd (other w (goes w own) this)
-        content_by (values.Object w) this a b (left none then' fields) own = absurd (true≢false (sym own ∙ fields w))
-        content_by (values.Object w) this a b (taken none then' goes) own = absurd (other w (goes w own) this)
+        content_by (values.Object w) this a b (left none then' fields others) own = absurd (true≢false (sym own ∙ fields w))
         content_by values.Nothing this a b goes own = absurd (true≢false (sym own))
         content_by v this a b goes own = absurd (true≢false (sym own))
 
     -- so does one that runs a constructor
-    pub constructor_apart : constructs (method_at p fr.method) ≡ true → StaysApart p h k frs fr
-    constructor_apart makes = record {
+    pub constructor_apart : constructs (method_at p fr.method) ≡ true → ((w : ℕ) → RunOnOthers w leaving → RunOnOthers w frs) → StaysApart p h k frs fr
+    constructor_apart makes spared = record {
       apart = apart_here i (omega arith);
       free = apart_here 0 (omega arith);
       low = low_here;
-      keeps = kept_here;
+      keeps = kept_here spared;
+      older = older_here;
       content = λ o x y before at done heavy plain own. absurd (true≢false (sym makes ∙ plain));
     }
 
@@ -210,18 +303,21 @@ module _ (p : Program) (into : Option ℕ) (j : ℕ) (h k : HeapContents) (go_on
   pub keeps_own : (gives : ℕ → ClassId → Bool) (i : ℕ) (fr : Frame) → i < j → KeepsOwn p h k gives i fr
   keeps_own gives i fr below q o x y small part root before at done heavy spared own = by x.owner y.owner (go_on o x y before at done heavy) own
     where
-      by : (a b : Owner) → OwnerGoes into j a b → a ≡ owners.Frame i → b ≡ owners.Frame i
+      by : (a b : Owner) → OwnerGoes into leaving j a b → a ≡ owners.Frame i → b ≡ owners.Frame i
       by a b (stays same) mine = same ∙ mine
       by a b (passed from goes low) mine = absurd (owned_below i j a mine below from)
-      by a b (left none then' fields) mine = absurd (true≢false (sym (ap (is_frame_from 0) mine ∙ from_frame 0 i (omega arith)) ∙ none))
-      by a b (taken none then' fields) mine = absurd (true≢false (sym (ap (is_frame_from 0) mine ∙ from_frame 0 i (omega arith)) ∙ none))
+      by a b (left none then' fields others) mine = absurd (true≢false (sym (ap (is_frame_from 0) mine ∙ from_frame 0 i (omega arith)) ∙ none))
 
-  pub owners_kept : (frs : List Frame) → length frs < j → RunsNoneOn into frs → AllKeepOwners p h k frs
-  owners_kept [] below others = tt
-  owners_kept (fr ∷ frs) below others =
+  pub owners_kept : (frs : List Frame) → length frs < j → RunsNoneOn into frs → ((w : ℕ) → RunOnOthers w leaving → RunOnOthers w frs) → AllKeepOwners p h k frs
+  owners_kept [] below others spared = tt
+  owners_kept (fr ∷ frs) below others spared =
       let rest = none_on into fr frs others in (
-        record { own = keeps_own (is_given p h fr) (length frs + 1) fr (omega (arith, below)); others = stays_apart frs fr (omega (arith, below)) rest.0 },
-        owners_kept frs (omega (arith, below)) rest.1,
+        record {
+          own = keeps_own (is_given p h fr) (length frs + 1) fr (omega (arith, below));
+          others = stays_apart frs fr (omega (arith, below)) rest.0 (λ w none. (spared w none).1);
+          held = held_here frs fr (omega (arith, below)) (λ w none. (spared w none).0);
+        },
+        owners_kept frs (omega (arith, below)) rest.1 (λ w none. (spared w none).1),
       )
 
 -- ---- what frames were given, and which obligations the calls that began them create anew
@@ -253,11 +349,8 @@ given_kept p h k frs gifts = record { given = given frs gifts; renewed = renewed
 
     lent : (rest : List Frame) → AllKeepGifts p h k rest → (o : ℕ) (owner : Owner) → IsLentFrom p h rest o owner → IsLentFrom p k rest o owner
     lent [] same o owner is = is
-    lent (fr ∷ rest) same o owner is = ((same.0 o).1 ∙ is.0, elim is.1 [ inl own ↦ inl own | inr further ↦ inr (lent rest same.1 o owner further) ])
-
--- so some frame owns it
-pub lent_frame : (p : Program) (h : HeapContents) (frs : List Frame) (o : ℕ) (owner : Owner) → IsLentFrom p h frs o owner → is_frame_from 0 owner ≡ true
-lent_frame p h frs o owner is = (let low = frame_below (length frs + 1) owner (lent_below p h frs o owner is) in ap (is_frame_from 0) low.1 ∙ from_frame 0 low.0 (omega arith))
+    lent (fr ∷ rest) same o owner is =
+        ((same.0 o).1 ∙ is.0, elim is.1 [ inl own ↦ inl own | inr further ↦ inr (elim further [ inl on ↦ inl (lent rest same.1 o owner on) | inr held ↦ inr held ]) ])
 
 -- a frame that was not begun so has nothing lent
 pub lent_renewed : (p : Program) (h : HeapContents) (frs : List Frame) (o : ℕ) (owner : Owner) → IsLentFrom p h frs o owner → was_renewed p h frs o ≡ true
@@ -272,36 +365,29 @@ lent_after p h k frs o a b gifts same is = subst (IsLentFrom p k frs o) (sym (sa
 pub apart_before : (p : Program) (h k : HeapContents) (frs : List Frame) (fr : Frame) (o : ℕ) (x y : Object) (f g : Fact) → KeepsGiven p h k frs → y.class ≡ x.class → (is_held g.mode ≡ true → is_held f.mode ≡ true)
     → (constructs (method_at p fr.method) ≡ false → is_field_of fr.locals.this y.owner ≡ true → is_field_of fr.locals.this x.owner ≡ true)
     → (is_frame_below (length frs + 1) y.owner ≡ true → is_frame_below (length frs + 1) x.owner ≡ true) → is_apart p k frs fr o y g ≡ true → is_apart p h frs fr o x f ≡ true
-apart_before p h k frs fr o x y f g gifts class held content low is = split (is_content p fr y.owner g) refl
+apart_before p h k frs fr o x y f g gifts class held content low is =
+    and_from (not (was_renewed p h frs o)) (is_content p fr x.owner f || (not (was_given p h frs o x.class) || is_frame_below (length frs + 1) x.owner)) (ap not (sym (gifts.renewed o)) ∙ parts.0)
+    (either (is_content p fr y.owner g) (not (was_given p k frs o y.class) || is_frame_below (length frs + 1) y.owner) (is_content p fr x.owner f) (not (was_given p h frs o x.class) || is_frame_below (length frs + 1) x.owner) before spared parts.1)
   where
+    parts : (not (was_renewed p k frs o) ≡ true) × ((is_content p fr y.owner g || (not (was_given p k frs o y.class) || is_frame_below (length frs + 1) y.owner)) ≡ true)
+    parts = and_parts (not (was_renewed p k frs o)) (is_content p fr y.owner g || (not (was_given p k frs o y.class) || is_frame_below (length frs + 1) y.owner)) is
+
     same : was_given p k frs o y.class ≡ was_given p h frs o x.class
     same = gifts.given o y.class ∙ ap (was_given p h frs o) class
+
+    either : (a b c d : Bool) → (a ≡ true → c ≡ true) → (b ≡ true → d ≡ true) → (a || b) ≡ true → (c || d) ≡ true
+    either true b c d one two is' = or_left c d (one refl)
+    either false b c d one two is' = or_right c d (two is')
 
     owned : (b : Bool) → constructs (method_at p fr.method) ≡ b → (not b && is_field_of fr.locals.this y.owner) ≡ true → (not b && is_field_of fr.locals.this x.owner) ≡ true
     owned true makes one = one
     owned false makes one = content makes one
 
-    either : (a b d : Bool) → (b ≡ true → d ≡ true) → (a || b) ≡ true → (a || d) ≡ true
-    either true b d more one = refl
-    either false b d more one = more one
-
     before : is_content p fr y.owner g ≡ true → is_content p fr x.owner f ≡ true
     before one =
-        let parts = and_parts (is_held g.mode) (makes_alone (method_at p fr.method) || not (constructs (method_at p fr.method)) && is_field_of fr.locals.this y.owner) one in
-        and_from (is_held f.mode) (makes_alone (method_at p fr.method) || not (constructs (method_at p fr.method)) && is_field_of fr.locals.this x.owner) (held parts.0)
-        (either (makes_alone (method_at p fr.method)) (not (constructs (method_at p fr.method)) && is_field_of fr.locals.this y.owner) (not (constructs (method_at p fr.method)) && is_field_of fr.locals.this x.owner)
-        (owned (constructs (method_at p fr.method)) refl) parts.1)
+        let both = and_parts (is_held g.mode) (not (constructs (method_at p fr.method)) && is_field_of fr.locals.this y.owner) one in
+        and_from (is_held f.mode) (not (constructs (method_at p fr.method)) && is_field_of fr.locals.this x.owner) (held both.0) (owned (constructs (method_at p fr.method)) refl both.1)
 
-    second : (a b : Bool) → a ≡ false → (a || b) ≡ true → b ≡ true
-    second true b off one = absurd (true≢false off)
-    second false b off one = one
-
-    split : (b : Bool) → is_content p fr y.owner g ≡ b → is_apart p h frs fr o x f ≡ true
-    split true one = or_left (is_content p fr x.owner f) _ (before one)
-    split false none =
-        let parts = and_parts (not (was_renewed p k frs o)) (not (was_given p k frs o y.class) || is_frame_below (length frs + 1) y.owner)
-        (second (is_content p fr y.owner g) (not (was_renewed p k frs o) && (not (was_given p k frs o y.class) || is_frame_below (length frs + 1) y.owner)) none is) in
-        or_right (is_content p fr x.owner f) (not (was_renewed p h frs o) && (not (was_given p h frs o x.class) || is_frame_below (length frs + 1) x.owner))
-        (and_from (not (was_renewed p h frs o)) (not (was_given p h frs o x.class) || is_frame_below (length frs + 1) x.owner) (ap not (sym (gifts.renewed o)) ∙ parts.0)
-        (either (not (was_given p h frs o x.class)) (is_frame_below (length frs + 1) y.owner) (is_frame_below (length frs + 1) x.owner) low
-        (ap (λ (b : Bool). not b || is_frame_below (length frs + 1) y.owner) (sym same) ∙ parts.1)))
+    spared : (not (was_given p k frs o y.class) || is_frame_below (length frs + 1) y.owner) ≡ true → (not (was_given p h frs o x.class) || is_frame_below (length frs + 1) x.owner) ≡ true
+    spared one = either (not (was_given p k frs o y.class)) (is_frame_below (length frs + 1) y.owner) (not (was_given p h frs o x.class)) (is_frame_below (length frs + 1) x.owner)
+        (λ none. ap not (sym same) ∙ none) low one

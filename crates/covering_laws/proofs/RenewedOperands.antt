@@ -1,10 +1,17 @@
--- The object whose obligation a call creates anew: the frame that calls owns it, or it is lent to the frame.
-use Rattle.std.proofs.Common.{◌≡◌, ◌⊎◌, inl, inr, ℕ, ◌+◌, Bool, true, false, ◌&&◌, Some, None, List, [], ◌∷◌, length, slice_get, refl, sym, ap, ◌∙◌, subst, true≢false}
+-- The object whose obligation a call creates anew: the frame that calls owns it, or it is lent to the frame, or a field of what the frame's constructor makes owns it.
+use Rattle.java_control.specs.declared.fact.Origin.{Origin}
+use Rattle.java_control.specs.declared.fact.Fact.{Fact}
+use Rattle.program_model.specs.declared.program.Method.{Method}
+use Rattle.ownership_rules.specs.Signatures.{is_present}
+use Rattle.covering_laws.proofs.HeavyFields.{claims_by, held_claims, own_claims}
+use Rattle.covering_laws.proofs.InFields.{held_by_this}
+use Rattle.covering_laws.proofs.Owners.{lent_not_from}
+use Rattle.std.proofs.Common.{Bool, List, None, Option, Some, ap, false, inl, inr, length, not, refl, slice_get, subst, sym, true, true≢false, ℕ, ◌&&◌, ◌+◌, ◌∙◌, ◌≡◌, ◌⊎◌}
 use Rattle.std.proofs.lemmas.Bool.{and_from}
 use Rattle.program_model.specs.declared.kinds.BodyId.{BodyId}
 use Rattle.program_model.specs.declared.program.Program.{Program}
 use Rattle.program_model.specs.Lookups.{method_at}
-use Rattle.ledger_obligations.specs.Bodies.{constructs, is_constructor, reset_in}
+use Rattle.ledger_obligations.specs.Bodies.{alias_in, constructs, reset_in}
 use Rattle.ledger_obligations.specs.MustCallSets.{is_heavy_class}
 use Rattle.java_control.specs.Calls.{operand_at}
 use Rattle.java_control.specs.Control.{Step}
@@ -12,7 +19,7 @@ use Rattle.java_control.specs.PlaceNumbers.{IsSmall}
 use Rattle.java_control.specs.declared.fact.Mode.TheVariants as modes
 use Rattle.java_control.specs.declared.place.Place.TheVariants as places
 use Rattle.ownership_rules.specs.Callees.{callee}
-use Rattle.ownership_rules.specs.Facts.{has, has_temp, is_own}
+use Rattle.ownership_rules.specs.Facts.{has, has_temp}
 use Rattle.ownership_rules.specs.MovesAtCalls.{moved_at_call}
 use Rattle.ownership_rules.specs.declared.moved.Moved.TheVariants as moves
 use Rattle.ownership_rules.specs.SmallActions.{IsSmallTemp}
@@ -27,21 +34,20 @@ use Rattle.value_laws.specs.Accept.{Accept}
 use Rattle.value_laws.specs.Agreement.{Stands}
 use Rattle.value_laws.specs.Choosing.{body_id, frame_steps}
 use Rattle.value_laws.specs.Configuration.{Frame}
-use Rattle.value_laws.specs.Anew.{MayBeAnew, holds_target, is_target}
+use Rattle.value_laws.specs.Anew.{IsInHands, MayBeAnew, holds_target, is_target}
 use Rattle.value_laws.specs.Outcomes.{IsCallRow}
 use Rattle.value_laws.specs.Paths.{Reach, move_of, relation_of}
 use Rattle.value_laws.specs.PlainForms.{HasPlainForms, ResetsPlainly}
-use Rattle.value_laws.specs.PlaceFacts.{Covers, IsCovered, IsKeyed, gives_away, gives_none, may_owe, owned, renews_none, unowned}
-use Rattle.value_laws.specs.Renewing.{IsLentFrom, is_renewed, renews}
-use Rattle.value_laws.proofs.ResetTargets.{answered_targets, held_facts}
+use Rattle.value_laws.specs.PlaceFacts.{Covers, IsCovered, IsKeyed, IsOwned, claims, gives_away, gives_none, may_owe, owned, renews_none, unowned}
+use Rattle.value_laws.specs.Renewing.{IsHeldBy, IsLentFrom, is_renewed, makes_alone, renews}
+use Rattle.value_laws.proofs.ResetTargets.{answered_targets}
 use Rattle.value_laws.proofs.Resetting.{answered_target}
 use Rattle.value_laws.proofs.Readings.{renewed_operand}
 use Rattle.covering_laws.proofs.Bodies.{running_method}
 use Rattle.covering_laws.proofs.Following.{breaks_nothing, method_here, same_body, small_step, step_there}
 use Rattle.covering_laws.proofs.GivenArguments.{away_moves, away_owner}
 use Rattle.covering_laws.proofs.GivenAway.{any_at}
-use Rattle.covering_laws.proofs.OwnerSteps.{below_not_from, own_frame}
-use Rattle.covering_laws.proofs.Owners.{lent_below}
+use Rattle.covering_laws.proofs.OwnerSteps.{own_frame}
 use Rattle.covering_laws.proofs.KnownNames.{operand_temp}
 use Rattle.covering_laws.proofs.Resets.{this_elsewhere}
 
@@ -52,6 +58,29 @@ pub step_renews : (p : Program) (h : HeapContents) (fr : Frame) (i : ℕ) (s : S
 step_renews p h fr i s o here does = any_at (λ (t : Step). renews p h fr.locals t.action o) (frame_steps p fr) i s here does
 
 -- ---- its fact
+
+-- a fact that may have the target claims the object, or says that it is lent
+pub claims_or_lends : (p : Program) (fr : Frame) (st : Stands p fr) (o : Origin) (f : Fact) → IsInHands p st.number f.mode (is_heavy_class p o.class) → (claims p (method_at p fr.method) o f ≡ true) ⊎ (f.mode ≡ modes.Lent)
+claims_or_lends p fr st o f (inl (own, heavy)) = inl (own_claims p (method_at p fr.method) o f own heavy)
+claims_or_lends p fr st o f (inr (inl lent)) = inr lent
+claims_or_lends p fr st o f (inr (inr (held, heavy, makes, single))) = inl (held_claims p (method_at p fr.method) o f alone held heavy)
+  where
+    new : constructs (method_at p fr.method) ≡ true
+    new = sym (ap constructs (method_here p fr st)) ∙ makes
+
+    no_alias : is_present (alias_in (method_at p fr.method)) ≡ false
+    no_alias = sym (ap (λ (m : Option Method). constructs m && is_present (alias_in m)) (method_here p fr st) ∙ ap (λ (b : Bool). b && is_present (alias_in (method_at p fr.method))) new) ∙ single
+
+    alone : makes_alone (method_at p fr.method) ≡ true
+    alone = and_from (constructs (method_at p fr.method)) (not (is_present (alias_in (method_at p fr.method)))) new (ap not no_alias)
+
+-- what a fact claims the frame owns, or a field of what its constructor makes
+pub claimed_owner : (p : Program) (h : HeapContents) (away anew : Bool) (frs : List Frame) (fr : Frame) (o : ℕ) (x : Object) (c : Covers p h away anew frs fr o x) → IsOwned p h away anew frs fr o x c → away ≡ false → x.finished ≡ true
+    → (x.owner ≡ owners.Frame (length frs + 1)) ⊎ IsHeldBy p fr x.owner
+claimed_owner p h away anew frs fr o x c key kept done = elim (claims_by p (method_at p fr.method) c.origin c.fact key.owning) [
+  | inl own ↦ inl (key.owner kept own)
+  | inr held ↦ inr (held.1, held_by_this p h away anew frs fr o x c done held.0 held.1)
+]
 
 module _ (p : Program) (ac : Accept p) (forms : HasPlainForms p) (h : HeapContents) (fr : Frame) (st : Stands p fr) (frs : List Frame) (i : ℕ) (s : Step) (here : slice_get (frame_steps p fr) i ≡ Some s) (row : IsCallRow s.action)
     (covered : IsCovered p h gives_none renews_none frs fr) (o : ℕ) (x : Object) (before : object_at h o ≡ Some x) (heavy : is_heavy_class p x.class ≡ true) (owes : may_owe x ≡ true) where
@@ -75,31 +104,31 @@ module _ (p : Program) (ac : Accept p) (forms : HasPlainForms p) (h : HeapConten
         | inr is ↦ is
       ]
 
-      its_mode : ((c.fact.mode ≡ modes.Own) × (is_heavy_class p c.origin.class ≡ true)) ⊎ (c.fact.mode ≡ modes.Lent)
+      its_mode : (claims p (method_at p fr.method) c.origin c.fact ≡ true) ⊎ (c.fact.mode ≡ modes.Lent)
       its_mode = by (forms.resets st.number i (move_of s) st.control (step_there p fr st i s here))
         where
-          by : ResetsPlainly p st.number fr.control s.action → ((c.fact.mode ≡ modes.Own) × (is_heavy_class p c.origin.class ≡ true)) ⊎ (c.fact.mode ≡ modes.Lent)
+          by : ResetsPlainly p st.number fr.control s.action → (claims p (method_at p fr.method) c.origin c.fact ≡ true) ⊎ (c.fact.mode ≡ modes.Lent)
           by (inl none) = absurd (let never : None ≡ Some k = sym none ∙ position in cc)
           by (inr plain) =
               let run = running_method p ac fr st in
               let of : method_at p st.body.method ≡ Some run.0 = ap (method_at p) st.method ∙ run.1 in
-              answered_targets p st.number st.body run.0 st.at of (λ u n t. this_elsewhere p forms st.number u n t) (forms.bodies st.number) (λ u n t g e d there is. (forms.stores st.number n t g e d there is).0)
-              c.origin fr.control c.fact reached plain.before s.action answer.0 answer.2
+              claims_or_lends p fr st c.origin c.fact (answered_targets p ac st.number st.body run.0 st.at of (λ u n t. this_elsewhere p forms st.number u n t) (forms.bodies st.number) (λ u n t g e d there is. (forms.stores st.number n t g e d there is).0)
+              c.origin fr.control c.fact reached s.action answer.0 answer.2)
 
       -- what moves is not the target
       moves_not : moved_at_call p c.origin s.action s.edge c.fact ≡ moves.Moves → ⊥
       moves_not = answer.3
 
     abbrev IsOwnedOrLent : Type 0
-    IsOwnedOrLent = (x.owner ≡ owners.Frame (length frs + 1)) ⊎ IsLentFrom p h frs o x.owner
+    IsOwnedOrLent = (x.owner ≡ owners.Frame (length frs + 1)) ⊎ (IsLentFrom p h frs o x.owner ⊎ IsHeldBy p fr x.owner)
 
     lent : (c : Covers p h false false frs fr o x) → c.fact.mode ≡ modes.Lent → x.finished ≡ true → IsOwnedOrLent
-    lent c mode done = inr (c.lends mode done).1
+    lent c mode done = inr (inl (c.lends mode done).1)
 
     by_place : x.finished ≡ true → IsKeyed p h false false frs fr (places.Temp temp.0) o x → IsOwnedOrLent
-    by_place done (owned c in' key) = inl (key.owner refl)
+    by_place done (owned c in' key) = elim (claimed_owner p h false false frs fr o x c key refl done) [ inl mine ↦ inl mine | inr held ↦ inr (inr held) ]
     by_place done (unowned u) = elim (its_mode u.covers u.here) [
-      | inl own ↦ absurd (true≢false (sym (and_from (is_heavy_class p u.covers.origin.class) (is_own u.covers.fact.mode) own.1 (ap is_own own.0)) ∙ u.unowned))
+      | inl claimed ↦ absurd (true≢false (sym claimed ∙ u.unowned))
       | inr mode ↦ lent u.covers mode done
     ]
 
@@ -113,15 +142,15 @@ module _ (p : Program) (ac : Accept p) (forms : HasPlainForms p) (h : HeapConten
         by : IsKeyed p h false false frs fr (places.Temp temp.0) o x → ⊥
         by (owned c in' key) = moves_not c in' (away_moves p ac h fr st frs i s here row false false o x c key heavy gives)
         by (unowned u) = elim (its_mode u.covers u.here) [
-          | inl own ↦ true≢false (sym (and_from (is_heavy_class p u.covers.origin.class) (is_own u.covers.fact.mode) own.1 (ap is_own own.0)) ∙ u.unowned)
-          | inr mode ↦ true≢false (sym (own_frame (length frs + 1) x.owner owner) ∙ below_not_from (length frs + 1) x.owner (lent_below p h frs o x.owner (u.covers.lends mode done).1))
+          | inl claimed ↦ true≢false (sym claimed ∙ u.unowned)
+          | inr mode ↦ true≢false (sym (own_frame (length frs + 1) x.owner owner) ∙ lent_not_from p h frs o x.owner (u.covers.lends mode done).1)
         ]
 
     pub operand_answered : x.finished ≡ true → IsOwnedOrLent
     operand_answered done = by_place done (covered (places.Temp temp.0) o x small (ap (root_of h) (sym temp.2) ∙ root) before heavy owes)
 
-  -- the frame owns it, or it is lent
-  pub renewed_answered : renews p h fr.locals s.action o ≡ true → x.finished ≡ true → (x.owner ≡ owners.Frame (length frs + 1)) ⊎ IsLentFrom p h frs o x.owner
+  -- the frame owns it, or it is lent, or a field of what the constructor makes owns it
+  pub renewed_answered : renews p h fr.locals s.action o ≡ true → x.finished ≡ true → (x.owner ≡ owners.Frame (length frs + 1)) ⊎ (IsLentFrom p h frs o x.owner ⊎ IsHeldBy p fr x.owner)
   renewed_answered is done = let k = renewed_operand p h fr.locals s.action o is in operand_answered k.0 k.1 k.2 done
 
   pub renewed_not_given : renews p h fr.locals s.action o ≡ true → x.finished ≡ true → gives_away p h fr.locals s.action o x.class ≡ false
@@ -130,19 +159,3 @@ module _ (p : Program) (ac : Accept p) (forms : HasPlainForms p) (h : HeapConten
       go : (b : Bool) → gives_away p h fr.locals s.action o x.class ≡ b → gives_away p h fr.locals s.action o x.class ≡ false
       go false none = none
       go true gives = absurd (let k = renewed_operand p h fr.locals s.action o is in operand_not_given k.0 k.1 k.2 done gives)
-
--- where a call that creates an obligation anew stands in a constructor, no field of `this` holds what a fact has
-pub renewing_unheld : (p : Program) (ac : Accept p) → HasPlainForms p → (h : HeapContents) (fr : Frame) → (st : Stands p fr) → (frs : List Frame) (i : ℕ) (s : Step) → slice_get (frame_steps p fr) i ≡ Some s → (o : ℕ) → renews p h fr.locals s.action o ≡ true
-    → constructs (method_at p fr.method) ≡ true → (away anew : Bool) (x : Object) (c : Covers p h away anew frs fr o x) → c.fact.mode ≡ modes.Held → ⊥
-renewing_unheld p ac forms h fr st frs i s here o does makes away anew x c held = by (forms.resets st.number i (move_of s) st.control (step_there p fr st i s here))
-  where
-    constructor : is_constructor p st.number ≡ true
-    constructor = ap constructs (method_here p fr st) ∙ makes
-
-    by : ResetsPlainly p st.number fr.control s.action → ⊥
-    by (inl none) = let k = renewed_operand p h fr.locals s.action o does in (let never : None ≡ Some k.0 = sym none ∙ k.1 in cc)
-    by (inr plain) =
-        let run = running_method p ac fr st in
-        plain.before constructor
-        (held_facts p st.number st.body run.0 st.at (ap (method_at p) st.method ∙ run.1) (λ u n t. this_elsewhere p forms st.number u n t) (inl constructor) c.origin fr.control c.fact
-        (subst (λ (b : BodyId). Reach p b (relation_of p b) c.origin fr.control c.fact) (same_body c.body st.number (body_id p fr.method) c.id st.id) c.reached) held)

@@ -1,11 +1,9 @@
 -- A heap whose objects are those of another, but that the obligation of one is created anew, which the top frame owns or has lent: what facts say of the others
 -- stays true, and of this one no fact says what a reset changes but that of the frame that owns it, and that is read anew while the frame waits.
-use Rattle.std.proofs.Common.{◌≡◌, ◌⊎◌, inl, inr, ℕ, ◌+◌, ◌<◌, ◌≤◌, Bool, true, false, true≢false, not, ◌&&◌, ◌||◌, Option, Some, None, List, [], ◌∷◌, length, refl, sym, ap, ◌∙◌, subst, arith, nat_lt}
-use Rattle.std.specs.Prelude.{nat_eq}
+use Rattle.std.proofs.Common.{◌≡◌, ◌⊎◌, inl, inr, ℕ, ◌+◌, ◌<◌, ◌≤◌, Bool, true, false, true≢false, not, ◌&&◌, ◌||◌, Option, Some, None, List, [], ◌∷◌, length, refl, sym, ap, ◌∙◌, subst, arith, nat_lt, eqb-true}
 use Rattle.std.specs.List.{list_any}
 use Rattle.std.specs.FinSet as set
 use Rattle.std.proofs.lemmas.Bool.{and_from, and_parts}
-use Rattle.std.proofs.lemmas.Grind.{common_steps}
 use Rattle.std.proofs.lemmas.Bool.Decides.{nat_tests}
 use Rattle.rlc_base.proofs.SetLaws.{empty_within, within_self}
 use Rattle.program_model.specs.declared.kinds.ClassId.{ClassId}
@@ -13,21 +11,19 @@ use Rattle.program_model.specs.declared.kinds.MethodId.{MethodId}
 use Rattle.program_model.specs.declared.program.Method.{Method}
 use Rattle.program_model.specs.declared.program.ParamSig.{ParamSig}
 use Rattle.program_model.specs.declared.program.Program.{Program}
-use Rattle.program_model.specs.Lookups.{method_at}
-use Rattle.ledger_obligations.specs.Bodies.{constructs}
+use Rattle.program_model.specs.Lookups.{method_at, field_at}
+use Rattle.ledger_obligations.specs.Bodies.{constructs, alias_in, is_class_of}
 use Rattle.ledger_obligations.specs.MustCallSets.{Names, fits, fits_type, is_heavy_class, must_of, no_names}
 use Rattle.java_control.specs.Control.{Step}
-use Rattle.java_control.specs.PlaceNumbers.{IsSmall}
 use Rattle.java_control.specs.declared.action.Action.{Action}
 use Rattle.java_control.specs.declared.fact.Fact.{Fact}
-use Rattle.java_control.specs.declared.fact.Mode.{Mode}
 use Rattle.java_control.specs.declared.fact.Origin.{Origin}
 use Rattle.java_control.specs.declared.place.Place.{Place}
 use Rattle.ownership_rules.specs.Bodies.{reset_in}
 use Rattle.ownership_rules.specs.Callees.{callee}
-use Rattle.ownership_rules.specs.Facts.{has, is_held, is_own, need}
+use Rattle.ownership_rules.specs.Facts.{has, is_own, need}
 use Rattle.ledger_state.specs.Contents.{HeapContents}
-use Rattle.ledger_state.specs.Heaps.{object_at, root_of, same_root}
+use Rattle.ledger_state.specs.Heaps.{object_at, root_of, same_root, unfinished}
 use Rattle.ledger_state.specs.declared.entry.Owner.{Owner}
 use Rattle.ledger_state.specs.declared.entry.Owner.TheVariants as owners
 use Rattle.ledger_state.specs.declared.locals.Locals.{Locals}
@@ -38,19 +34,40 @@ use Rattle.value_laws.specs.Places.{place_value}
 use Rattle.ledger_steps.specs.LedgerCallsCalls.{operand_of}
 use Rattle.value_laws.specs.Configuration.{Frame}
 use Rattle.value_laws.specs.Choosing.{frame_steps}
-use Rattle.ledger_obligations.specs.Obligations.{is_library_owner}
-use Rattle.value_laws.specs.PlaceFacts.{AreWaiting, Covers, IsCovered, IsKeyed, IsOwned, IsTrueOf, IsUnowned, OwnersBelow, asked_of, claims, gives_away, is_apart, is_content, is_frame_below, is_frame_from, is_given, is_owning_fact, is_taken_at, is_taken_by, is_taken_from, makes_alone, may_owe, owned, tells_calls, unowned, was_given, is_field_of, is_lent}
-use Rattle.value_laws.specs.Renewing.{IsLentFrom, fact_as, is_renewed, renews, renews_at, was_renewed}
+use Rattle.ledger_obligations.specs.Obligations.{is_library_owner, finished_in, is_held_by}
+use Rattle.value_laws.specs.PlaceFacts.{AreWaiting, Covers, IsCovered, IsKeyed, IsOwned, IsTrueOf, IsUnowned, asked_of, claims, gives_away, is_apart, is_content, is_frame_below, is_frame_from, is_given, is_taken_at, is_taken_by, is_taken_from, may_owe, owned, tells_calls, unowned, was_given, HasOlderHolder, IsInField, RunsOn}
+use Rattle.value_laws.specs.Renewing.{IsLentFrom, fact_as, is_renewed, renews, renews_at, was_renewed, IsHeldBy, is_declared_beside}
 use Rattle.value_laws.proofs.Needs.{origin_needs_all}
-use Rattle.covering_laws.proofs.Waiting.{KeepsFields, same_place}
+use Rattle.program_model.specs.declared.kinds.FieldId.{FieldId}
+use Rattle.program_model.specs.declared.program.Field.{Field}
+use Rattle.ownership_rules.specs.Signatures.{is_present}
+use Rattle.value_laws.specs.FieldContents.{AreNew, AreUnfinished, DeclaresOwning, RunOnOthers}
+use Rattle.covering_laws.proofs.HeavyFields.{claims_by}
+use Rattle.covering_laws.proofs.InFields.{held_by_this, held_heavy, held_in_field, held_kept}
+use Rattle.covering_laws.proofs.Owners.{KeepsFinished, held_among, held_at, lent_not_from, lent_owner, runs_on_none}
+use Rattle.covering_laws.proofs.LocalSteps.{LocalsIn}
+use Rattle.value_laws.specs.Ranges.{IsNumber, LocalsInRange}
+use Rattle.value_laws.proofs.Chains.{object_there}
+use Rattle.ledger_state.specs.Values.{number_of}
+use Rattle.std.proofs.lemmas.List.Elements.{All-head, All-tail}
+use Rattle.covering_laws.proofs.Waiting.{KeepsFields, same_place, KeepsUnfinished}
 
--- A frame, where `frs` are the frames below it, or one above it owns the object, or the frame began with a call that creates the object's obligation anew, and
--- so on down to the frame that owns it.
+-- a field of an object that is not finished owns it, and none of these frames runs on that object
+abbrev pub IsHeldAbove : HeapContents → List Frame → Owner → Type 0
+IsHeldAbove h frs owner = (w : ℕ) × (is_held_by owner w ≡ true) × (finished_in (object_at h w) ≡ false) × RunOnOthers w frs
+
+-- A frame, where `frs` are the frames below it, or one above it owns the object, or a constructor from it on has it in a field; or the frame began with a call that creates
+-- the object's obligation anew, and so on down to the frame that owns it, or to a constructor that has it in a field.
 abbrev pub OwnsOrIsLent : Program → HeapContents → List Frame → ℕ → Owner → Type 0
-OwnsOrIsLent p h frs o owner = ((j : ℕ) × (owner ≡ owners.Frame j) × (length frs < j)) ⊎ IsLentFrom p h frs o owner
+OwnsOrIsLent p h frs o owner = ((j : ℕ) × (owner ≡ owners.Frame j) × (length frs < j)) ⊎ (IsLentFrom p h frs o owner ⊎ IsHeldAbove h frs owner)
+
+-- the object in whose field a constructor has another one is not finished, and no frame below runs on it
+abbrev pub AreMaking : Program → HeapContents → List Frame → Type 0
+AreMaking p h [] = Unit {0}
+AreMaking p h (fr ∷ frs) = ((owner : Owner) (c : IsHeldBy p fr owner) → (finished_in (object_at h c.1.holder) ≡ false) × RunOnOthers c.1.holder frs) × AreMaking p h frs
 
 -- The object `x` is `y` where its obligation is created anew: no name was called, and all that its class asks for must be called, or what had to be. Where its class has
--- one, and it may owe a call, the frame with these below it owns it, or has it lent.
+-- one, and it may owe a call, the frame with these below it owns it, or has it lent, or it is in a field of what is being made.
 pub record IsRenewed (p : Program) (h : HeapContents) (frs : List Frame) (o : ℕ) (x y : Object) : Type 0 where
   pub class : y.class ≡ x.class
   pub finished : y.finished ≡ x.finished
@@ -71,15 +88,49 @@ at_or_above i n low = go (nat_lt n i) refl
     go true e = absurd (grind (arith, nat_tests, e, low))
     go false e = ap not e
 
--- what is lent is a frame's
-lent_is_owned : (p : Program) (h : HeapContents) (frs : List Frame) (o : ℕ) (w : Owner) → IsLentFrom p h frs o w → (j : ℕ) × (w ≡ owners.Frame j) × (j ≤ length frs)
-lent_is_owned p h [] o w lent = absurd lent
-lent_is_owned p h (fr ∷ frs) o w (is, inl here) = (length frs + 1, here, omega arith)
-lent_is_owned p h (fr ∷ frs) o w (is, inr on) = let it = lent_is_owned p h frs o w on in let low = it.2 in (it.0, it.1, omega (arith, low))
+-- an owning field that is declared beside the method
+declares_owning : (p : Program) (m : MethodId) (f : FieldId) → is_declared_beside p m (field_at p f) ≡ true → DeclaresOwning p m
+declares_owning p m f is = go (field_at p f) refl is
+  where
+    go : (x : Option Field) → field_at p f ≡ x → is_declared_beside p m x ≡ true → DeclaresOwning p m
+    go None at never = absurd (true≢false (sym never))
+    go (Some x) at both = (let parts = and_parts x.owning (is_class_of x.class (method_at p m)) both in (f, x, at, parts.0, parts.1))
 
-pub a_frame_owns : (p : Program) (h : HeapContents) (frs : List Frame) (o : ℕ) (w : Owner) → OwnsOrIsLent p h frs o w → is_frame_from 0 w ≡ true
-a_frame_owns p h frs o w (inl above) = ap (is_frame_from 0) above.1 ∙ at_or_above 0 above.0 (omega arith)
-a_frame_owns p h frs o w (inr lent) = let it = lent_is_owned p h frs o w lent in ap (is_frame_from 0) it.1 ∙ at_or_above 0 it.0 (omega arith)
+pub are_making : (p : Program) (h : HeapContents) (frs : List Frame) → AreNew p frs → AreUnfinished p h frs → AreMaking p h frs
+are_making p h [] new unfinished = tt
+are_making p h (fr ∷ frs) new unfinished = (here, are_making p h frs new.1 unfinished.1)
+  where
+    here : (owner : Owner) (c : IsHeldBy p fr owner) → (finished_in (object_at h c.1.holder) ≡ false) × RunOnOthers c.1.holder frs
+    here owner c = (go (object_at h c.1.holder) refl, new.0 c.1.holder declared makes c.1.runs)
+      where
+        declared : DeclaresOwning p fr.method
+        declared = declares_owning p fr.method c.1.field c.1.declared
+
+        makes : constructs (method_at p fr.method) ≡ true
+        makes = (and_parts (constructs (method_at p fr.method)) (not (is_present (alias_in (method_at p fr.method)))) c.0).0
+
+        go : (y : Option Object) → object_at h c.1.holder ≡ y → finished_in (object_at h c.1.holder) ≡ false
+        go None at = ap finished_in at
+        go (Some y) at = ap finished_in at ∙ unfinished.0 c.1.holder y declared makes c.1.runs at
+
+-- so it is of a later heap, where what was not finished is not, but for objects on which none of the frames runs
+pub making_kept : (p : Program) (h k : HeapContents) (apart : ℕ → Type 0) → KeepsUnfinished h k apart → (frs : List Frame) → LocalsIn h frs → ((w : ℕ) → RunsOn w frs → apart w → ⊥) → AreMaking p h frs → AreMaking p k frs
+making_kept p h k apart keeps [] in' other making = tt
+making_kept p h k apart keeps (fr ∷ frs) in' other making =
+    (λ owner c. (here owner c, (making.0 owner c).1), making_kept p h k apart keeps frs (All-tail (λ (u : Frame). LocalsInRange h u.locals) fr frs in') (λ w runs. other w (inr runs)) making.1)
+  where
+    here : (owner : Owner) (c : IsHeldBy p fr owner) → finished_in (object_at k c.1.holder) ≡ false
+    here owner c = go (object_at k c.1.holder) refl
+      where
+        number : IsNumber h c.1.holder
+        number = (All-head (λ (u : Frame). LocalsInRange h u.locals) fr frs in').this c.1.holder (ap number_of c.1.runs)
+
+        was : (x : Object) × (object_at h c.1.holder ≡ Some x)
+        was = let class : ClassId = record { 0 = 0 } in let x = object_there h c.1.holder (unfinished class) number.0 number.1 in (x.0, x.1)
+
+        go : (y : Option Object) → object_at k c.1.holder ≡ y → finished_in (object_at k c.1.holder) ≡ false
+        go None at = ap finished_in at
+        go (Some y) at = ap finished_in at ∙ keeps c.1.holder was.0 y (other c.1.holder (inl c.1.runs)) was.1 at (sym (ap finished_in was.1) ∙ (making.0 owner c).0)
 
 -- the frame that has it lent began with a call that creates the obligation anew
 pub lent_was_renewed : (p : Program) (h : HeapContents) (frs : List Frame) (o : ℕ) (w : Owner) → IsLentFrom p h frs o w → was_renewed p h frs o ≡ true
@@ -87,42 +138,63 @@ lent_was_renewed p h [] o w lent = absurd lent
 lent_was_renewed p h (fr ∷ frs) o w lent = lent.0
 
 -- so for the frame that waits
-pub as_waiting : (p : Program) (h : HeapContents) (fr : Frame) (frs : List Frame) (o : ℕ) (w : Owner) → OwnsOrIsLent p h (fr ∷ frs) o w → OwnsOrIsLent p h frs o w
-as_waiting p h fr frs o w (inl above) = let high = above.2 in inl (above.0, above.1, omega (arith, high))
-as_waiting p h fr frs o w (inr (is, inl here)) = inl (length frs + 1, here, omega arith)
-as_waiting p h fr frs o w (inr (is, inr on)) = inr on
+pub as_waiting : (p : Program) (h : HeapContents) (fr : Frame) (frs : List Frame) (o : ℕ) (w : Owner) → AreMaking p h (fr ∷ frs) → OwnsOrIsLent p h (fr ∷ frs) o w → OwnsOrIsLent p h frs o w
+as_waiting p h fr frs o w making (inl above) = let high = above.2 in inl (above.0, above.1, omega (arith, high))
+as_waiting p h fr frs o w making (inr (inl (is, inl here))) = inl (length frs + 1, here, omega arith)
+as_waiting p h fr frs o w making (inr (inl (is, inr (inl on)))) = inr (inl on)
+as_waiting p h fr frs o w making (inr (inl (is, inr (inr held)))) =
+    let its = making.0 w held in inr (inr (held.1.holder, held_at w held.1.holder held.1.field held.1.owns, its.0, its.1))
+as_waiting p h fr frs o w making (inr (inr held)) = inr (inr (held.0, held.1, held.2, held.3.1))
 
-waiting_renewed : (p : Program) (h : HeapContents) (fr : Frame) (frs : List Frame) (o : ℕ) (x y : Object) → IsRenewed p h (fr ∷ frs) o x y → IsRenewed p h frs o x y
-waiting_renewed p h fr frs o x y it = record {
+waiting_renewed : (p : Program) (h : HeapContents) (fr : Frame) (frs : List Frame) (o : ℕ) (x y : Object) → AreMaking p h (fr ∷ frs) → IsRenewed p h (fr ∷ frs) o x y → IsRenewed p h frs o x y
+waiting_renewed p h fr frs o x y making it = record {
   class = it.class;
   finished = it.finished;
   owner = it.owner;
   called = it.called;
   must = it.must;
-  mine = λ heavy owes. as_waiting p h fr frs o x.owner (it.mine heavy owes);
+  mine = λ heavy owes. as_waiting p h fr frs o x.owner making (it.mine heavy owes);
 }
 
--- what holds of one heap's lent objects holds of another's
-pub renewed_on : (p : Program) (h k : HeapContents) (frs : List Frame) (o : ℕ) (x y : Object) → ((w : Owner) → IsLentFrom p h frs o w → IsLentFrom p k frs o w) → IsRenewed p h frs o x y → IsRenewed p k frs o x y
-renewed_on p h k frs o x y on it = record {
+-- what holds of one heap's objects holds of another's
+pub hands_on : (p : Program) (h k : HeapContents) (frs : List Frame) (o : ℕ) (w : Owner) → (IsLentFrom p h frs o w → IsLentFrom p k frs o w) → (IsHeldAbove h frs w → IsHeldAbove k frs w) → OwnsOrIsLent p h frs o w → OwnsOrIsLent p k frs o w
+hands_on p h k frs o w on held (inl above) = inl above
+hands_on p h k frs o w on held (inr (inl lent)) = inr (inl (on lent))
+hands_on p h k frs o w on held (inr (inr in')) = inr (inr (held in'))
+
+pub renewed_on : (p : Program) (h k : HeapContents) (frs : List Frame) (o : ℕ) (x y : Object) → ((w : Owner) → IsLentFrom p h frs o w → IsLentFrom p k frs o w) → ((w : Owner) → IsHeldAbove h frs w → IsHeldAbove k frs w)
+    → IsRenewed p h frs o x y → IsRenewed p k frs o x y
+renewed_on p h k frs o x y on held it = record {
   class = it.class;
   finished = it.finished;
   owner = it.owner;
   called = it.called;
   must = it.must;
-  mine = λ heavy owes. by (it.mine heavy owes);
+  mine = λ heavy owes. hands_on p h k frs o x.owner (on x.owner) (held x.owner) (it.mine heavy owes);
 }
-  where
-    by : OwnsOrIsLent p h frs o x.owner → OwnsOrIsLent p k frs o x.owner
-    by (inl above) = inl above
-    by (inr lent) = inr (on x.owner lent)
 
 -- a frame has not lent what it owns
 pub not_lent : (p : Program) (h : HeapContents) (frs : List Frame) (o : ℕ) (w : Owner) → w ≡ owners.Frame (length frs + 1) → IsLentFrom p h frs o w → ⊥
-not_lent p h frs o w own lent =
-    let it = lent_is_owned p h frs o w lent in
-    let both : owners.Frame (length frs + 1) ≡ owners.Frame it.0 = sym own ∙ it.1 in
-    let one : length frs + 1 ≡ it.0 = cc in let low = it.2 in omega (arith, one, low)
+not_lent p h frs o w own lent = true≢false (sym (ap (is_frame_from (length frs + 1)) own ∙ at_or_above (length frs + 1) (length frs + 1) (omega arith)) ∙ lent_not_from p h frs o w lent)
+
+-- nor what it has in a field of what it makes
+pub held_not_lent : (p : Program) (h : HeapContents) (fr : Frame) (frs : List Frame) (o : ℕ) (w : Owner) → AreMaking p h (fr ∷ frs) → IsHeldBy p fr w → IsLentFrom p h frs o w → ⊥
+held_not_lent p h fr frs o w making held lent = elim (lent_owner p h frs o w lent) [
+  | inl low ↦ true≢false (sym low ∙ held_no_low (length frs + 1) w held.1.holder (held_at w held.1.holder held.1.field held.1.owns))
+  | inr among ↦ (let it = held_among p frs w among in
+      runs_on_none it.0 frs (subst (λ (n : ℕ). RunOnOthers n frs) (one_holder w held.1.holder it.0 held.1.field held.1.owns it.1) (making.0 w held).1) it.2)
+]
+  where
+    held_no_low : (i : ℕ) (a : Owner) (n : ℕ) → is_held_by a n ≡ true → is_frame_below i a ≡ false
+    held_no_low i (owners.Field v f) n is = refl
+    held_no_low i (owners.Frame m) n is = absurd (true≢false (sym is))
+    held_no_low i owners.Library n is = refl
+    held_no_low i owners.Released n is = refl
+    held_no_low i owners.Lost n is = refl
+    held_no_low i owners.Unowned n is = refl
+
+    one_holder : (a : Owner) (m n : ℕ) (f : FieldId) → a ≡ owners.Field m f → is_held_by a n ≡ true → m ≡ n
+    one_holder a m n f own is = eqb-true m n (ap (λ (b : Owner). is_held_by b n) (sym own) ∙ is)
 
 -- What a fact says of the object, read anew, is true of it when its obligation is created anew.
 pub true_anew : (p : Program) (g : Origin) (f : Fact) (x y : Object) → g.full ≡ must_of p g.class → (f.called ≡ no_names) × (f.full ≡ true) → y.class ≡ x.class → y.finished ≡ x.finished → y.called ≡ set.empty
@@ -144,7 +216,7 @@ true_anew p g f x y all none class finished called must was = record {
     full_need : (t : Names) → set.is_subset t (must_of p g.class) ≡ true → set.is_subset t (need g f) ≡ true
     full_need t inside = rw none.1 (ap (set.is_subset t) all ∙ inside)
 
-module _ (p : Program) (h k : HeapContents) (same : (v : Value) → root_of k v ≡ root_of h v) (fields : KeepsFields p h k) where
+module _ (p : Program) (h k : HeapContents) (same : (v : Value) → root_of k v ≡ root_of h v) (fields : KeepsFields p h k) (finishes : KeepsFinished h k) where
   -- ---- the places, and what is given
 
   pub same_held : (m : MethodId) (l : Locals) (q : Place) → root_of k (place_value p k m l q) ≡ root_of h (place_value p h m l q)
@@ -201,17 +273,18 @@ module _ (p : Program) (h k : HeapContents) (same : (v : Value) → root_of k v 
   pub same_lent : (frs : List Frame) (o : ℕ) (w : Owner) → IsLentFrom p h frs o w → IsLentFrom p k frs o w
   same_lent [] o w lent = lent
   same_lent (fr ∷ frs) o w (is, inl here) = (same_renewed fr o ∙ is, inl here)
-  same_lent (fr ∷ frs) o w (is, inr on) = (same_renewed fr o ∙ is, inr (same_lent frs o w on))
+  same_lent (fr ∷ frs) o w (is, inr (inl on)) = (same_renewed fr o ∙ is, inr (inl (same_lent frs o w on)))
+  same_lent (fr ∷ frs) o w (is, inr (inr held)) = (same_renewed fr o ∙ is, inr (inr held))
 
   -- ---- one object
 
   module _ (away anew later : Bool) (frs : List Frame) (fr : Frame) (o : ℕ) (x y : Object) (class : y.class ≡ x.class) (finished : y.finished ≡ x.finished) (owner : y.owner ≡ x.owner) where
     same_apart : (c : Covers p h away anew frs fr o x) → is_apart p k frs fr o y c.fact ≡ is_apart p h frs fr o x c.fact
     same_apart c =
-        ap (λ (b : Bool). is_content p fr y.owner c.fact || not b && (not (was_given p k frs o y.class) || is_frame_below (length frs + 1) y.owner)) (same_was_renewed frs o)
-        ∙ ap (λ (d : ClassId). is_content p fr y.owner c.fact || not (was_renewed p h frs o) && (not (was_given p k frs o d) || is_frame_below (length frs + 1) y.owner)) class
-        ∙ ap (λ (b : Bool). is_content p fr y.owner c.fact || not (was_renewed p h frs o) && (not b || is_frame_below (length frs + 1) y.owner)) (same_was frs o x.class)
-        ∙ ap (λ (w : Owner). is_content p fr w c.fact || not (was_renewed p h frs o) && (not (was_given p h frs o x.class) || is_frame_below (length frs + 1) w)) owner
+        ap (λ (b : Bool). not b && (is_content p fr y.owner c.fact || (not (was_given p k frs o y.class) || is_frame_below (length frs + 1) y.owner))) (same_was_renewed frs o)
+        ∙ ap (λ (d : ClassId). not (was_renewed p h frs o) && (is_content p fr y.owner c.fact || (not (was_given p k frs o d) || is_frame_below (length frs + 1) y.owner))) class
+        ∙ ap (λ (b : Bool). not (was_renewed p h frs o) && (is_content p fr y.owner c.fact || (not b || is_frame_below (length frs + 1) y.owner))) (same_was frs o x.class)
+        ∙ ap (λ (w : Owner). not (was_renewed p h frs o) && (is_content p fr w c.fact || (not (was_given p h frs o x.class) || is_frame_below (length frs + 1) w))) owner
 
     -- a fact stands for it as before, where what it claims is true and what it knows was called
     pub covers_so : (c : Covers p h away anew frs fr o x) → (claims p (method_at p fr.method) c.origin c.fact ≡ true → (away && is_own c.fact.mode) ≡ false → IsTrueOf p y c.origin (fact_as later c.fact))
@@ -228,16 +301,23 @@ module _ (p : Program) (h k : HeapContents) (same : (v : Value) → root_of k v 
       true' = truth;
       lent = c.lent;
       lends = λ mode done. let was = c.lends mode (sym finished ∙ done) in (was.0, subst (IsLentFrom p k frs o) (sym owner) (same_lent frs o x.owner was.1));
-      free = λ done held alone. ap (is_frame_from 0) owner ∙ c.free (sym finished ∙ done) held alone;
+      free = λ done held alone. (
+        held_kept p h away anew frs fr o x c (sym finished ∙ done) held alone,
+        held_heavy p h away anew frs fr o x c (sym finished ∙ done) held alone,
+        subst (IsInField p fr c.fact.places) (sym owner) (held_in_field p h away anew frs fr o x c (sym finished ∙ done) held alone),
+      );
       known = λ done tells apart.
           let was = c.known (sym finished ∙ done) tells (sym (same_apart c) ∙ apart) in
-          (was.0, ap (is_frame_from (length frs + 1)) owner ∙ was.1, known (sym finished ∙ done) tells (sym (same_apart c) ∙ apart));
+          (was.0, ap (is_frame_from (length frs + 1)) owner ∙ was.1, known (sym finished ∙ done) tells (sym (same_apart c) ∙ apart), older was.3);
       unrenewed = λ done tells apart. quiet (sym finished ∙ done) tells (sym (same_apart c) ∙ apart);
       makes = λ new this. finished ∙ c.makes new this;
       fields = c.fields;
       held = c.held;
       outside = c.outside;
     }
+      where
+        older : HasOlderHolder h frs x.owner → HasOlderHolder k frs y.owner
+        older was w held = elim (was w (ap (λ (a : Owner). is_held_by a w) (sym owner) ∙ held)) [ inl made ↦ inl (finishes w made) | inr runs ↦ inr runs ]
 
   -- an object that is as it was
   module _ (away anew : Bool) (frs : List Frame) (fr : Frame) (o : ℕ) (x : Object) where
@@ -257,61 +337,20 @@ module _ (p : Program) (h k : HeapContents) (same : (v : Value) → root_of k v 
       others = λ z small is. elim (key.others z small (sym (same_held fr.method fr.locals z) ∙ is)) [ inl has' ↦ inl has' | inr u ↦ inr (unowned_same z u) ];
     })
 
-  -- an object whose obligation is created anew, which this frame or one above it owns, or which it has lent
+  -- an object whose obligation is created anew, which this frame or one above it owns or has in a field, or which it has lent
   module _ (away anew later : Bool) (frs : List Frame) (fr : Frame) (o : ℕ) (x y : Object) (class : y.class ≡ x.class) (finished : y.finished ≡ x.finished) (owner : y.owner ≡ x.owner)
       (mine : OwnsOrIsLent p h frs o x.owner) where
-    -- what does not own it claims nothing of it
-    no_claim : (c : Covers p h away anew frs fr o x) → (is_owning_fact p c.origin c.fact ≡ true → away ≡ false → ⊥) → claims p (method_at p fr.method) c.origin c.fact ≡ true
-        → (away && is_own c.fact.mode) ≡ false → ⊥
-    no_claim c never claimed apart = go (is_own c.fact.mode) refl away refl
-      where
-        parts : (is_heavy_class p c.origin.class ≡ true) × ((is_own c.fact.mode || is_held c.fact.mode && makes_alone (method_at p fr.method)) ≡ true)
-        parts = and_parts (is_heavy_class p c.origin.class) (is_own c.fact.mode || is_held c.fact.mode && makes_alone (method_at p fr.method)) claimed
-
-        second : (a b : Bool) → (a || b) ≡ true → a ≡ false → b ≡ true
-        second true b is off = absurd (true≢false off)
-        second false b is off = is
-
-        go : (b : Bool) → is_own c.fact.mode ≡ b → (d : Bool) → away ≡ d → ⊥
-        go true own false stays = never (and_from (is_heavy_class p c.origin.class) (is_own c.fact.mode) parts.0 own) stays
-        go true own true gone = true≢false (sym (and_from away (is_own c.fact.mode) gone own) ∙ apart)
-        go false other d is =
-            let held = and_parts (is_held c.fact.mode) (makes_alone (method_at p fr.method)) (second (is_own c.fact.mode) (is_held c.fact.mode && makes_alone (method_at p fr.method)) parts.1 other) in
-            true≢false (sym (a_frame_owns p h frs o x.owner mine) ∙ c.free (c.true' claimed apart).finished held.0 held.1)
-
-    -- no field of `this` holds it
-    no_content : (c : Covers p h away anew frs fr o x) → is_content p fr x.owner c.fact ≡ true → x.finished ≡ true → ⊥
-    no_content c content done = go (makes_alone (method_at p fr.method)) refl (and_parts (is_held c.fact.mode) _ content).1
-      where
-        held : is_held c.fact.mode ≡ true
-        held = (and_parts (is_held c.fact.mode) (makes_alone (method_at p fr.method) || not (constructs (method_at p fr.method)) && is_field_of fr.locals.this x.owner) content).0
-
-        field_or : (v : Value) (w : Owner) → is_field_of v w ≡ true → is_frame_from 0 w ≡ true → ⊥
-        field_or (values.Object n) (owners.Field i f) field frame = true≢false (sym frame)
-        field_or (values.Object n) (owners.Frame i) field frame = true≢false (sym field)
-        field_or (values.Object n) w field frame = true≢false (sym frame)
-        field_or v w field frame = true≢false (sym field)
-
-        go : (b : Bool) → makes_alone (method_at p fr.method) ≡ b → (b || not (constructs (method_at p fr.method)) && is_field_of fr.locals.this x.owner) ≡ true → ⊥
-        go true alone is =
-            true≢false (sym (a_frame_owns p h frs o x.owner mine) ∙ c.free done held alone)
-        go false other is =
-            field_or fr.locals.this x.owner (and_parts (not (constructs (method_at p fr.method))) (is_field_of fr.locals.this x.owner) is).1 (a_frame_owns p h frs o x.owner mine)
-
-    -- nor does any fact know what was called on it
+    -- no fact knows what was called on it
     no_news : (c : Covers p h away anew frs fr o x) → x.finished ≡ true → tells_calls p fr.method c.origin c.fact ≡ true → is_apart p h frs fr o x c.fact ≡ true → ⊥
     no_news c done tells apart = elim mine [
       | inl above ↦ (let high = above.2 in
           true≢false (sym (at_or_above (length frs + 1) above.0 (omega (arith, high))) ∙ ap (is_frame_from (length frs + 1)) (sym above.1) ∙ (c.known done tells apart).1))
-      | inr lent ↦ by_content (is_content p fr x.owner c.fact) refl (lent_was_renewed p h frs o x.owner lent)
+      | inr other ↦ elim other [
+        | inl lent ↦ true≢false (sym (and_parts (not (was_renewed p h frs o)) (is_content p fr x.owner c.fact || (not (was_given p h frs o x.class) || is_frame_below (length frs + 1) x.owner)) apart).0
+            ∙ ap not (lent_was_renewed p h frs o x.owner lent))
+        | inr held ↦ elim ((c.known done tells apart).3 held.0 held.1) [ inl made ↦ true≢false (sym made ∙ held.2) | inr runs ↦ runs_on_none held.0 frs held.3 runs ]
+      ]
     ]
-      where
-        -- a field of `this` holds it, which no frame owns
-        by_content : (b : Bool) → is_content p fr x.owner c.fact ≡ b → was_renewed p h frs o ≡ true → ⊥
-        by_content true content renewed' = no_content c content done
-        by_content false none renewed' =
-            true≢false (sym apart ∙ ap (λ (b : Bool). b || not (was_renewed p h frs o) && (not (was_given p h frs o x.class) || is_frame_below (length frs + 1) x.owner)) none
-            ∙ ap (λ (b : Bool). not b && (not (was_given p h frs o x.class) || is_frame_below (length frs + 1) x.owner)) renewed')
 
     covers_anew : (c : Covers p h away anew frs fr o x) → (claims p (method_at p fr.method) c.origin c.fact ≡ true → (away && is_own c.fact.mode) ≡ false → IsTrueOf p y c.origin (fact_as later c.fact)) → Covers p k away later frs fr o y
     covers_anew c truth = covers_so away anew later frs fr o x y class finished owner c truth (λ done tells apart. absurd (no_news c done tells apart)) (λ done tells apart. absurd (no_news c done tells apart))
@@ -319,7 +358,7 @@ module _ (p : Program) (h k : HeapContents) (same : (v : Value) → root_of k v 
     pub unowned_anew : (q : Place) → IsUnowned p h away anew frs fr q o x → IsUnowned p k away later frs fr q o y
     unfolding covers_anew covers_so
     unowned_anew q u = record {
-      covers = covers_anew u.covers (λ claimed apart. absurd (no_claim u.covers (λ owning stays. true≢false (sym owning ∙ u.unowned)) claimed apart));
+      covers = covers_anew u.covers (λ claimed apart. absurd (true≢false (sym claimed ∙ u.unowned)));
       here = u.here;
       unowned = u.unowned;
     }
@@ -330,7 +369,7 @@ module _ (p : Program) (h k : HeapContents) (same : (v : Value) → root_of k v 
     unfolding covers_anew covers_so
     owned_anew q c in' key truth = owned (covers_anew c truth) in' (record {
       owning = key.owning;
-      owner = λ stays. owner ∙ key.owner stays;
+      owner = λ stays own. owner ∙ key.owner stays own;
       others = λ z small is. elim (key.others z small (sym (same_held fr.method fr.locals z) ∙ is)) [ inl has' ↦ inl has' | inr u ↦ inr (unowned_anew z u) ];
     })
 
@@ -350,14 +389,14 @@ module _ (p : Program) (h k : HeapContents) (same : (v : Value) → root_of k v 
     keyed_unmade (unowned u) = unowned (unowned_unmade q u)
     keyed_unmade (owned c in' key) = owned (covers_unmade c) in' (record {
       owning = key.owning;
-      owner = λ stays. owner ∙ key.owner stays;
+      owner = λ stays own. owner ∙ key.owner stays own;
       others = λ z small is. elim (key.others z small (sym (same_held fr.method fr.locals z) ∙ is)) [ inl has' ↦ inl has' | inr u ↦ inr (unowned_unmade z u) ];
     })
 
   -- a frame that waits: where a frame above owns the object, it claims nothing of it, and else it reads its facts anew
-  module _ (away : Bool) (frs : List Frame) (fr : Frame) (o : ℕ) (x y : Object) (it : IsRenewed p h (fr ∷ frs) o x y) (mine : OwnsOrIsLent p h (fr ∷ frs) o x.owner) where
+  module _ (away : Bool) (frs : List Frame) (fr : Frame) (o : ℕ) (x y : Object) (making : AreMaking p h (fr ∷ frs)) (it : IsRenewed p h (fr ∷ frs) o x y) (mine : OwnsOrIsLent p h (fr ∷ frs) o x.owner) where
     here : OwnsOrIsLent p h frs o x.owner
-    here = as_waiting p h fr frs o x.owner mine
+    here = as_waiting p h fr frs o x.owner making mine
 
     keyed_waiting : (anew : Bool) → is_renewed p h fr o ≡ anew → (q : Place) → IsKeyed p h away anew frs fr q o x → IsKeyed p k away anew frs fr q o y
     keyed_waiting anew same' q (unowned u) = unowned (unowned_anew away anew anew frs fr o x y it.class it.finished it.owner here q u)
@@ -372,13 +411,33 @@ module _ (p : Program) (h k : HeapContents) (same : (v : Value) → root_of k v 
         turned false is one claimed apart = absurd (true≢false (sym one))
 
         truth : OwnsOrIsLent p h (fr ∷ frs) o x.owner → claims p (method_at p fr.method) c.origin c.fact ≡ true → (away && is_own c.fact.mode) ≡ false → IsTrueOf p y c.origin (fact_as anew c.fact)
-        truth (inr lent) claimed apart = turned anew refl (sym same' ∙ lent.0) claimed apart
-        truth (inl above) claimed apart = absurd (no_claim away anew anew frs fr o x y it.class it.finished it.owner here c not_mine claimed apart)
+        truth (inr (inl lent)) claimed apart = turned anew refl (sym same' ∙ lent.0) claimed apart
+        truth (inl above) claimed apart = absurd (elim (claims_by p (method_at p fr.method) c.origin c.fact claimed) [
+          | inl own ↦ (
+              let both : owners.Frame above.0 ≡ owners.Frame (length frs + 1) = sym above.1 ∙ key.owner (stays own) own in
+              (let one : above.0 ≡ length frs + 1 = cc in let high = above.2 in omega (arith, one, high)))
+          | inr held ↦ (let by' = held_by_this p h away anew frs fr o x c (c.true' claimed apart).finished held.0 held.1 in
+              (let never : owners.Frame above.0 ≡ owners.Field by'.holder by'.field = sym above.1 ∙ by'.owns in cc))
+        ])
           where
-            not_mine : is_owning_fact p c.origin c.fact ≡ true → away ≡ false → ⊥
-            not_mine owning stays =
-                let both : owners.Frame above.0 ≡ owners.Frame (length frs + 1) = sym above.1 ∙ key.owner stays in
-                (let one : above.0 ≡ length frs + 1 = cc in let high = above.2 in omega (arith, one, high))
+            stays : is_own c.fact.mode ≡ true → away ≡ false
+            stays own = by away refl
+              where
+                by : (b : Bool) → away ≡ b → away ≡ false
+                by false none = none
+                by true gone = absurd (true≢false (sym (and_from away (is_own c.fact.mode) gone own) ∙ apart))
+        truth (inr (inr above)) claimed apart = absurd (elim (claims_by p (method_at p fr.method) c.origin c.fact claimed) [
+          | inl own ↦ true≢false (sym above.1 ∙ ap (λ (a : Owner). is_held_by a above.0) (key.owner (stays own) own))
+          | inr held ↦ (let by' = held_by_this p h away anew frs fr o x c (c.true' claimed apart).finished held.0 held.1 in
+              above.3.0 (by'.runs ∙ ap values.Object (eqb-true by'.holder above.0 (ap (λ (a : Owner). is_held_by a above.0) (sym by'.owns) ∙ above.1))))
+        ])
+          where
+            stays : is_own c.fact.mode ≡ true → away ≡ false
+            stays own = by away refl
+              where
+                by : (b : Bool) → away ≡ b → away ≡ false
+                by false none = none
+                by true gone = absurd (true≢false (sym (and_from away (is_own c.fact.mode) gone own) ∙ apart))
 
   -- ---- the frames that wait
 
@@ -386,13 +445,13 @@ module _ (p : Program) (h k : HeapContents) (same : (v : Value) → root_of k v 
   abbrev pub Turns : List Frame → Type 0
   Turns frs = (o : ℕ) (y : Object) (v : Value) → root_of k v ≡ Some o → object_at k o ≡ Some y → (x : Object) × (object_at h o ≡ Some x) × ((y ≡ x) ⊎ IsRenewed p h frs o x y)
 
-  turns_on : (fr : Frame) (frs : List Frame) → Turns (fr ∷ frs) → Turns frs
-  turns_on fr frs turns o y v root' now =
+  turns_on : (fr : Frame) (frs : List Frame) → AreMaking p h (fr ∷ frs) → Turns (fr ∷ frs) → Turns frs
+  turns_on fr frs making turns o y v root' now =
       let t = turns o y v root' now in
-      (t.0, t.1, elim t.2 [ inl it ↦ inl it | inr it ↦ inr (waiting_renewed p h fr frs o t.0 y it) ])
+      (t.0, t.1, elim t.2 [ inl it ↦ inl it | inr it ↦ inr (waiting_renewed p h fr frs o t.0 y making it) ])
 
-  covered_waiting : (fr : Frame) (frs : List Frame) → Turns (fr ∷ frs) → IsCovered p h (is_given p h fr) (is_renewed p h fr) frs fr → IsCovered p k (is_given p k fr) (is_renewed p k fr) frs fr
-  covered_waiting fr frs turns covered q o y small held at heavy owes =
+  covered_waiting : (fr : Frame) (frs : List Frame) → AreMaking p h (fr ∷ frs) → Turns (fr ∷ frs) → IsCovered p h (is_given p h fr) (is_renewed p h fr) frs fr → IsCovered p k (is_given p k fr) (is_renewed p k fr) frs fr
+  covered_waiting fr frs making turns covered q o y small held at heavy owes =
       subst (λ (b : Bool). IsKeyed p k (is_given p k fr o y.class) b frs fr q o y) (sym (same_renewed fr o))
       (subst (λ (b : Bool). IsKeyed p k b (is_renewed p h fr o) frs fr q o y) (sym (same_given fr o y.class)) (go (turns o y (place_value p k fr.method fr.locals q) held at)))
     where
@@ -406,9 +465,9 @@ module _ (p : Program) (h k : HeapContents) (same : (v : Value) → root_of k v 
           (covered q o x small was_held before (ap (λ (z : Object). is_heavy_class p z.class) (sym it) ∙ heavy) (ap may_owe (sym it) ∙ owes)))
       go (x, before, inr anew) =
           subst (λ (c : ClassId). IsKeyed p k (is_given p h fr o c) (is_renewed p h fr o) frs fr q o y) (sym anew.class)
-          (keyed_waiting (is_given p h fr o x.class) frs fr o x y anew (anew.mine heavy owes) (is_renewed p h fr o) refl q
+          (keyed_waiting (is_given p h fr o x.class) frs fr o x y making anew (anew.mine heavy owes) (is_renewed p h fr o) refl q
           (covered q o x small was_held before (ap (is_heavy_class p) (sym anew.class) ∙ heavy) (owes_before p h (fr ∷ frs) o x y anew owes)))
 
-  pub waiting_anew : (frs : List Frame) → Turns frs → AreWaiting p h frs → AreWaiting p k frs
-  waiting_anew [] turns waits = tt
-  waiting_anew (fr ∷ frs) turns (covered, waits) = (covered_waiting fr frs turns covered, waiting_anew frs (turns_on fr frs turns) waits)
+  pub waiting_anew : (frs : List Frame) → AreMaking p h frs → Turns frs → AreWaiting p h frs → AreWaiting p k frs
+  waiting_anew [] making turns waits = tt
+  waiting_anew (fr ∷ frs) making turns (covered, waits) = (covered_waiting fr frs making turns covered, waiting_anew frs making.1 (turns_on fr frs making turns) waits)

@@ -1,5 +1,9 @@
 -- A call of the library that creates an obligation anew: the object is in a fact of the top frame, which owns it, and the fact goes on anew.
-use Rattle.std.proofs.Common.{◌≡◌, ◌⊎◌, inl, inr, ℕ, ◌+◌, Bool, true, false, true≢false, not, ◌&&◌, Option, Some, None, List, ◌∷◌, length, slice_get, refl, sym, ap, ◌∙◌, subst, arith}
+use Rattle.covering_laws.proofs.HeavyFields.{claims_by, claims_owned}
+use Rattle.covering_laws.proofs.InFields.{held_by_this}
+use Rattle.covering_laws.proofs.UnfinishedHolders.{held_unready, lent_unready, unfinished_kept}
+use Rattle.covering_laws.proofs.RenewedOperands.{claimed_owner, claims_or_lends}
+use Rattle.std.proofs.Common.{Bool, List, None, Option, Some, ap, arith, false, inl, inr, length, not, option_map, refl, slice_get, subst, sym, true, true≢false, ℕ, ◌&&◌, ◌+◌, ◌∙◌, ◌∷◌, ◌≡◌, ◌⊎◌}
 use Rattle.std.specs.FinSet as set
 use Rattle.std.specs.Prelude.{if◌then◌else◌}
 use Rattle.std.proofs.lemmas.Bool.{and_from, and_parts}
@@ -40,7 +44,8 @@ use Rattle.ledger_state.specs.declared.locals.Locals.{Locals}
 use Rattle.ledger_state.specs.declared.object.Object.{Object}
 use Rattle.ledger_state.specs.declared.value.Value.{Value}
 use Rattle.ledger_state.specs.declared.value.Value.TheVariants as values
-use Rattle.ledger_obligations.specs.Obligations.{finished_in, is_library_owner}
+use Rattle.ledger_obligations.specs.Obligations as obligations
+use Rattle.ledger_obligations.specs.Obligations.{finished_holder, finished_in, is_library_owner}
 use Rattle.ledger_steps.specs.CallSteps.{library_called, library_heap, library_roots}
 use Rattle.value_laws.specs.Places.{place_value}
 use Rattle.ledger_steps.specs.LedgerCallsCalls.{form_of, object_by, operand_of, reset_position}
@@ -59,7 +64,7 @@ use Rattle.value_laws.proofs.Tracking.{same_body}
 use Rattle.value_laws.specs.HeapAnew.{HasNoHolder, IsEmptied, finished_root, is_anew, is_field_owner, target_root}
 use Rattle.value_laws.proofs.Emptied.{as_it_was, back, fresh_stays, turned}
 use Rattle.value_laws.proofs.LibraryCallLaws.{any_library_links_stay, emptied_objects, emptied_roots-root}
-use Rattle.value_laws.proofs.Renewed.{reset_keeps, same_root, says_nothing, without_reset}
+use Rattle.value_laws.proofs.Renewed.{renewed, reset_keeps, same_root, says_nothing, without_reset}
 use Rattle.value_laws.proofs.Growth.{library_grows}
 use Rattle.value_laws.specs.Anew.{GoesAnew, MayBeAnew, fact_anew, holds_target, is_target}
 use Rattle.value_laws.specs.FactGoing.{is_owned_in}
@@ -69,10 +74,10 @@ use Rattle.ledger_steps.specs.Conducts.{conduct_value, positions}
 use Rattle.value_laws.proofs.Resetting.{answered_target}
 use Rattle.value_laws.proofs.Needs.{origin_needs_all}
 use Rattle.value_laws.proofs.ResetTargets.{answered_targets}
-use Rattle.value_laws.specs.PlaceFacts.{AreCovered, AreWaiting, Covers, IsCovered, IsKeyed, IsOwned, IsUnowned, OwnersBelow, gives_none, is_frame_from, is_owning_fact, may_owe, owned, renews_none, unowned}
-use Rattle.value_laws.specs.Renewing.{IsLentFrom}
+use Rattle.value_laws.specs.PlaceFacts.{AreCovered, AreWaiting, Covers, IsCovered, IsKeyed, IsOwned, IsUnowned, OwnersBelow, claims, gives_none, is_frame_from, is_owning_fact, may_owe, owned, renews_none, unowned}
+use Rattle.value_laws.specs.Renewing.{IsHeldBy, IsLentFrom}
 use Rattle.value_laws.specs.Ranges.{FieldsInRange, LocalsInRange}
-use Rattle.value_laws.specs.FieldContents.{LinksLead, OwningFieldsOwn}
+use Rattle.value_laws.specs.FieldContents.{AreNew, AreUnfinished, LinksLead, OwningFieldsOwn}
 use Rattle.std.proofs.lemmas.List.Elements.{All-tail}
 use Rattle.java_control.specs.declared.action.PlainValue.TheVariants as plain_values
 use Rattle.value_laws.proofs.Moved.{IsConstantRead}
@@ -84,15 +89,14 @@ use Rattle.value_laws.proofs.FrameFollowing.{breaks_nothing}
 use Rattle.value_laws.proofs.Ready.{call_sets, plain_step, resets_plainly}
 use Rattle.value_laws.proofs.Unmet.{way_of_call}
 use Rattle.covering_laws.proofs.Bodies.{running_method}
-use Rattle.covering_laws.proofs.GivenAliases.{followed_is_heavy}
 use Rattle.covering_laws.proofs.KnownNames.{operand_temp}
 use Rattle.value_laws.proofs.ClassArguments.{target_is_instance}
 use Rattle.covering_laws.proofs.LibraryJoins.{call_top, call_top_from, library_after_unfinished, library_covered, library_keeps_roots, library_linked}
 use Rattle.covering_laws.proofs.LocalSteps.{LocalsIn, all_there, local_step}
 use Rattle.covering_laws.proofs.MadeObjects.{grown_fields, older_or_new}
 use Rattle.covering_laws.proofs.Resets.{this_elsewhere}
-use Rattle.covering_laws.proofs.ResetCovers.{IsRenewed, OwnsOrIsLent, Turns, a_frame_owns, keyed_same, not_lent, owes_before, owned_anew, renewed_on, same_held, true_anew, unowned_anew, waiting_anew}
-use Rattle.covering_laws.proofs.Owners.{given_kept}
+use Rattle.covering_laws.proofs.ResetCovers.{AreMaking, IsRenewed, OwnsOrIsLent, Turns, are_making, held_not_lent, keyed_same, not_lent, owes_before, owned_anew, same_held, true_anew, unowned_anew, waiting_anew}
+use Rattle.covering_laws.proofs.Owners.{KeepsFinished, given_kept, held_at, keeps_finished}
 use Rattle.covering_laws.proofs.Gifts.{all_keep_gifts}
 use Rattle.covering_laws.proofs.Waiting.{AllHeldBefore, KeepsFields, KeepsRoots, KeepsUnfinished, all_held_before, all_keep, no_other}
 
@@ -114,6 +118,17 @@ target_value h (values.Object w) o is = go (finished_in (object_at h (root h w))
     go true done same = (same, ap (λ (n : ℕ). finished_in (object_at h n)) (let one : o ≡ root h w = (let both : Some (root h w) ≡ Some o = same in cc) in one) ∙ done)
     go false undone same = absurd (let never : None ≡ Some o = same in cc)
 target_value h v o is = absurd (let never : None ≡ Some o = is in cc)
+
+-- the frame owns the object, or it is lent, or a field of what the frame's constructor makes owns it
+abbrev pub IsAnsweredBy : Program → HeapContents → List Frame → Frame → ℕ → Owner → Type 0
+IsAnsweredBy p h frs fr o w = (w ≡ owners.Frame (length frs + 1)) ⊎ (IsLentFrom p h frs o w ⊎ IsHeldBy p fr w)
+
+-- so it is in hands, in a heap in which what is lent stays so
+pub hands_of : (p : Program) (h k : HeapContents) (fr : Frame) (frs : List Frame) → AreMaking p k (fr ∷ frs) → ((o : ℕ) (w : Owner) → IsLentFrom p h frs o w → IsLentFrom p k frs o w) → (o : ℕ) (w : Owner)
+    → IsAnsweredBy p h frs fr o w → OwnsOrIsLent p k frs o w
+hands_of p h k fr frs making lent_on o w (inl own) = inl (length frs + 1, own, omega arith)
+hands_of p h k fr frs making lent_on o w (inr (inl lent)) = inr (inl (lent_on o w lent))
+hands_of p h k fr frs making lent_on o w (inr (inr held)) = let its = making.0 w held in inr (inr (held.1.holder, held_at w held.1.holder held.1.field held.1.owns, its.0, its.1))
 
 pub same_position : (m : Option Method) → reset_in m ≡ reset_position m
 same_position None = refl
@@ -189,17 +204,19 @@ module _ (p : Program) (ac : Accept p) (forms : HasPlainForms p) (h : HeapConten
       | inr is ↦ is
     ]
 
-    target_answered : ((c.fact.mode ≡ modes.Own) × (is_heavy_class p c.origin.class ≡ true)) ⊎ (c.fact.mode ≡ modes.Lent)
+    -- it claims the object, or says that it is lent
+    target_answered : (claims p (method_at p fr.method) c.origin c.fact ≡ true) ⊎ (c.fact.mode ≡ modes.Lent)
     target_answered =
         let run = running_method p ac fr st in
         let of : method_at p st.body.method ≡ Some run.0 = ap (method_at p) st.method ∙ run.1 in
-        answered_targets p st.number st.body run.0 st.at of (λ k n t. this_elsewhere p forms st.number k n t) (forms.bodies st.number) (λ k n t g e c there is. (forms.stores st.number n t g e c there is).0)
-        c.origin fr.control c.fact reached plain.before s.action answer.0 answer.2
+        claims_or_lends p fr st c.origin c.fact
+        (answered_targets p ac st.number st.body run.0 st.at of (λ k n t. this_elsewhere p forms st.number k n t) (forms.bodies st.number) (λ k n t g e c there is. (forms.stores st.number n t g e c there is).0)
+        c.origin fr.control c.fact reached s.action answer.0 answer.2)
 
-    -- where it does not say that the frame owns the object, it says that it is lent
-    target_lent : is_owning_fact p c.origin c.fact ≡ false → c.fact.mode ≡ modes.Lent
+    -- where it claims nothing, it says that it is lent
+    target_lent : claims p (method_at p fr.method) c.origin c.fact ≡ false → c.fact.mode ≡ modes.Lent
     target_lent other = elim target_answered [
-      | inl own ↦ absurd (true≢false (sym (and_from (is_heavy_class p c.origin.class) (is_own c.fact.mode) own.1 (ap is_own own.0)) ∙ other))
+      | inl claimed ↦ absurd (true≢false (sym claimed ∙ other))
       | inr lent ↦ lent
     ]
 
@@ -214,7 +231,7 @@ module _ (p : Program) (ac : Accept p) (forms : HasPlainForms p) (h : HeapConten
         go modes.Own own = refl
         go n own = absurd (true≢false (sym own))
 
-  -- the fact that has the target says that the frame owns it, or that it is lent
+  -- the fact that has the target claims it, or says that it is lent
   module _ (o : ℕ) (x : Object) (before : object_at h o ≡ Some x) (done : x.finished ≡ true) (heavy : is_heavy_class p x.class ≡ true) (owes : may_owe x ≡ true) (t : IsTargetAt o) where
     abbrev pub IsTargetOwned : Type 0
     IsTargetOwned = (c : Covers p h false false frs fr o x) × (has c.fact.places (places.Temp t.0) ≡ true) × IsOwned p h false false frs fr o x c
@@ -229,49 +246,62 @@ module _ (p : Program) (ac : Accept p) (forms : HasPlainForms p) (h : HeapConten
         by (owned c in' key) = inl (c, in', key)
         by (unowned u) = inr (lent_by u)
 
-    pub in_hands : OwnsOrIsLent p h frs o x.owner
-    in_hands = elim its_key [ inl key ↦ inl (at, key.2.owner refl, omega arith) | inr lent ↦ inr lent ]
-
-    -- each fact that says that the frame owns it has the target
-    pub has_target : (c : Covers p h false false frs fr o x) → IsOwned p h false false frs fr o x c → is_target p s.action c.fact.places ≡ true
-    has_target c key = elim (key.others (places.Temp t.0) t.1 t.2) [
-      | inl in' ↦ t.3 c.fact.places in'
-      | inr u ↦ absurd (not_lent p h frs o x.owner (key.owner refl) (lent_by u))
+    -- the frame owns it, or it is lent, or a field of what the frame's constructor makes owns it
+    pub answered_owner : IsAnsweredBy p h frs fr o x.owner
+    answered_owner = elim its_key [
+      | inl key ↦ elim (claimed_owner p h false false frs fr o x key.0 key.2 refl done) [ inl own ↦ inl own | inr held ↦ inr (inr held) ]
+      | inr lent ↦ inr (inl lent)
     ]
 
-  -- ---- where no field owns it
+    -- each fact that claims it has the target
+    pub has_target : AreMaking p h (fr ∷ frs) → (c : Covers p h false false frs fr o x) → IsOwned p h false false frs fr o x c → is_target p s.action c.fact.places ≡ true
+    has_target making c key = elim (key.others (places.Temp t.0) t.1 t.2) [
+      | inl in' ↦ t.3 c.fact.places in'
+      | inr u ↦ absurd (elim (claimed_owner p h false false frs fr o x c key refl done) [
+        | inl own ↦ not_lent p h frs o x.owner own (lent_by u)
+        | inr held ↦ held_not_lent p h fr frs o x.owner making held (lent_by u)
+      ])
+    ]
 
-  -- no field owns the target's root: it is in the hands of a frame, or its obligation is never created anew
-  pub no_holder : OwningFieldsOwn p h → ActsInSight p h fr → (arrays : List ArrayObject) → fits_target p h arrays m (form_of s.action) (operand_of l s.action 0) ≡ true → HasNoHolder h (target_root h l s.action m)
-  no_holder own sight arrays fits n x is before = elim plain.seen [
-    | inl none ↦ unowned_by_fields p x.owner none (λ w f mine'. (own n x w f before mine').0)
-    | inr out ↦ by_owner x.owner refl (λ w f mine'. followed_is_heavy p x.class ((own n x w f before mine').1 out) (sight.renews out i s named n x here called (target_is_instance p h arrays l s.action m fits) is before))
-        (λ heavy stays. a_frame_owns p h frs n x.owner (in_hands n x before (ap finished_in (sym before) ∙ (target_at n is).1) heavy
-        (ap (λ (b : Bool). not (x.finished && b)) stays ∙ none_left x.finished) (target_at n is).0))
-  ]
+  -- ---- where no field of a finished object owns it
+
+  -- the target's root is in the hands of a frame, or a field of an object that a constructor makes owns it, or its obligation is never created anew
+  pub no_holder : AreUnfinished p h (fr ∷ frs) → OwningFieldsOwn p h → ActsInSight p h fr → (arrays : List ArrayObject) → fits_target p h arrays m (form_of s.action) (operand_of l s.action 0) ≡ true → HasNoHolder h (target_root h l s.action m)
+  no_holder unready own sight arrays fits n x is before =
+      by_owner x.owner refl (λ w f mine'. (own n x w f before mine').1 (sight.renews i s named n x here called (target_is_instance p h arrays l s.action m fits) is before))
     where
       none_left : (b : Bool) → not (b && false) ≡ true
       none_left true = refl
       none_left false = refl
 
-      by_owner : (w : Owner) → x.owner ≡ w → ((u : ℕ) (f : FieldId) → x.owner ≡ owners.Field u f → is_heavy_class p x.class ≡ true) → (is_heavy_class p x.class ≡ true → is_library_owner x.owner ≡ false → is_frame_from 0 x.owner ≡ true)
-          → is_field_owner x.owner ≡ false
-      by_owner owners.Library same' heavy frame = ap is_field_owner same'
-      by_owner (owners.Frame j) same' heavy frame = ap is_field_owner same'
-      by_owner (owners.Field w f) same' heavy frame = absurd (true≢false (sym (frame (heavy w f same') (ap is_library_owner same')) ∙ ap (is_frame_from 0) same'))
-      by_owner owners.Released same' heavy frame = ap is_field_owner same'
-      by_owner owners.Lost same' heavy frame = ap is_field_owner same'
-      by_owner owners.Unowned same' heavy frame = ap is_field_owner same'
+      held_open : (w : ℕ) (f : FieldId) → x.owner ≡ owners.Field w f → is_heavy_class p x.class ≡ true → finished_in (object_at h w) ≡ false
+      held_open w f owner heavy =
+          elim (answered_owner n x before (ap finished_in (sym before) ∙ (target_at n is).1) heavy
+          (ap (λ (b : Bool). not (x.finished && b)) (ap is_library_owner owner) ∙ none_left x.finished) (target_at n is).0) [
+            | inl own' ↦ absurd (let never : owners.Field w f ≡ owners.Frame at = sym owner ∙ own' in cc)
+            | inr other ↦ elim other [
+              | inl lent ↦ (lent_unready p h frs n x.owner w (held_at x.owner w f owner) unready.1 lent).0
+              | inr held ↦ (held_unready p h fr frs x.owner w (held_at x.owner w f owner) unready held).0
+            ]
+          ]
+
+      by_owner : (w : Owner) → x.owner ≡ w → ((u : ℕ) (f : FieldId) → x.owner ≡ owners.Field u f → is_heavy_class p x.class ≡ true) → finished_holder h x.owner ≡ None
+      by_owner owners.Library same' heavy = ap (finished_holder h) same'
+      by_owner (owners.Frame j) same' heavy = ap (finished_holder h) same'
+      by_owner (owners.Field w f) same' heavy = ap (finished_holder h) same' ∙ rw (held_open w f same' (heavy w f same')) refl
+      by_owner owners.Released same' heavy = ap (finished_holder h) same'
+      by_owner owners.Lost same' heavy = ap (finished_holder h) same'
+      by_owner owners.Unowned same' heavy = ap (finished_holder h) same'
 
   -- ---- the objects
 
   later_links : HasEarlierLinks J
   later_links = any_library_links_stay p l s.action m r d at h links (λ k w alias number. operand_in_range h l mine s.action k w number)
 
-  module _ (free : HasNoHolder h (target_root h l s.action m)) where
+  module _ (k : HeapContents) (hands : (o : ℕ) (w : Owner) → IsAnsweredBy p h frs fr o w → OwnsOrIsLent p k frs o w) (free : HasNoHolder h (target_root h l s.action m)) where
     -- the object is as it would be, or its obligation is created anew
     abbrev pub IsTurned : ℕ → Object → Type 0
-    IsTurned o y = (z : Object) × (object_at K o ≡ Some z) × (((y ≡ z) × (is_anew p l s.action m r d h o ≡ false)) ⊎ (IsRenewed p h frs o z y × ((x : Object) × (object_at h o ≡ Some x) × (x.finished ≡ true) × (z.class ≡ x.class) × (may_owe z ≡ true → (may_owe x ≡ true) × (z.owner ≡ x.owner)) × IsTargetAt o)))
+    IsTurned o y = (z : Object) × (object_at K o ≡ Some z) × (((y ≡ z) × (is_anew p l s.action m r d h o ≡ false)) ⊎ (IsRenewed p k frs o z y × ((x : Object) × (object_at h o ≡ Some x) × (x.finished ≡ true) × (z.class ≡ x.class) × (may_owe z ≡ true → (may_owe x ≡ true) × (z.owner ≡ x.owner)) × IsTargetAt o)))
 
     pub turned_at : (o : ℕ) (y : Object) (u : Value) → root_of J u ≡ Some o → object_at J o ≡ Some y → IsTurned o y
     turned_at o y u root' now = (z.0, z.1, go (is_anew p l s.action m r d h o) refl)
@@ -279,7 +309,7 @@ module _ (p : Program) (ac : Accept p) (forms : HasPlainForms p) (h : HeapConten
         z : (w : Object) × (object_at K o ≡ Some w) × (turned p l s.action m r d at h o w ≡ y)
         z = back p l s.action m r d at h o y now
 
-        go : (b : Bool) → is_anew p l s.action m r d h o ≡ b → ((y ≡ z.0) × (is_anew p l s.action m r d h o ≡ false)) ⊎ (IsRenewed p h frs o z.0 y × ((x : Object) × (object_at h o ≡ Some x) × (x.finished ≡ true) × (z.0.class ≡ x.class) × (may_owe z.0 ≡ true → (may_owe x ≡ true) × (z.0.owner ≡ x.owner)) × IsTargetAt o))
+        go : (b : Bool) → is_anew p l s.action m r d h o ≡ b → ((y ≡ z.0) × (is_anew p l s.action m r d h o ≡ false)) ⊎ (IsRenewed p k frs o z.0 y × ((x : Object) × (object_at h o ≡ Some x) × (x.finished ≡ true) × (z.0.class ≡ x.class) × (may_owe z.0 ≡ true → (may_owe x ≡ true) × (z.0.owner ≡ x.owner)) × IsTargetAt o))
         go false out = inl (sym z.2 ∙ as_it_was p l s.action m r d at h o z.0 out, out)
         go true anew = by (older_or_new p l s.action (without_reset m) r at h (says_nothing m) links d o z.0 z.1)
           where
@@ -288,7 +318,7 @@ module _ (p : Program) (ac : Accept p) (forms : HasPlainForms p) (h : HeapConten
                 let it = reset_keeps p (library_called p l s.action m r d h) (library_roots p l s.action m r d h) o z.0 in
                 (ap (λ (w : Object). w.class) (sym z.2) ∙ it.0, ap (λ (w : Object). w.link) (sym z.2) ∙ it.1, ap (λ (w : Object). w.finished) (sym z.2) ∙ it.2, ap (λ (w : Object). w.owner) (sym z.2) ∙ it.3)
 
-            old : IsOlder h o z.0 owners.Library → IsRenewed p h frs o z.0 y × ((x : Object) × (object_at h o ≡ Some x) × (x.finished ≡ true) × (z.0.class ≡ x.class) × (may_owe z.0 ≡ true → (may_owe x ≡ true) × (z.0.owner ≡ x.owner)) × IsTargetAt o)
+            old : IsOlder h o z.0 owners.Library → IsRenewed p k frs o z.0 y × ((x : Object) × (object_at h o ≡ Some x) × (x.finished ≡ true) × (z.0.class ≡ x.class) × (may_owe z.0 ≡ true → (may_owe x ≡ true) × (z.0.owner ≡ x.owner)) × IsTargetAt o)
             old was = (
               record {
                 class = keeps.0;
@@ -297,8 +327,8 @@ module _ (p : Program) (ac : Accept p) (forms : HasPlainForms p) (h : HeapConten
                 called = emptied.called;
                 must = elim emptied.must [ inl all ↦ inl all | inr kept ↦ inr (kept ∙ sym was.goes_on.must) ];
                 mine = λ heavy owes. elim was.owner [
-                  | inl stays ↦ subst (OwnsOrIsLent p h frs o) (sym stays)
-                      (in_hands o x was.at done (ap (is_heavy_class p) (sym (keeps.0 ∙ was.goes_on.class)) ∙ heavy) (might y x (keeps.2 ∙ was.goes_on.finished) (keeps.3 ∙ stays) owes) target.0)
+                  | inl stays ↦ subst (OwnsOrIsLent p k frs o) (sym stays)
+                      (hands o x.owner (answered_owner o x was.at done (ap (is_heavy_class p) (sym (keeps.0 ∙ was.goes_on.class)) ∙ heavy) (might y x (keeps.2 ∙ was.goes_on.finished) (keeps.3 ∙ stays) owes) target.0))
                   | inr gone ↦ absurd (true≢false (sym owes ∙ ap not (and_from y.finished (is_library_owner y.owner) (keeps.2 ∙ was.goes_on.finished ∙ done) (ap is_library_owner (keeps.3 ∙ gone)))))
                 ];
               },
@@ -331,15 +361,16 @@ module _ (p : Program) (ac : Accept p) (forms : HasPlainForms p) (h : HeapConten
                 ]
 
             by : IsOlder h o z.0 owners.Library ⊎ (o ≡ next_number h)
-                → ((y ≡ z.0) × (is_anew p l s.action m r d h o ≡ false)) ⊎ (IsRenewed p h frs o z.0 y × ((x : Object) × (object_at h o ≡ Some x) × (x.finished ≡ true) × (z.0.class ≡ x.class) × (may_owe z.0 ≡ true → (may_owe x ≡ true) × (z.0.owner ≡ x.owner)) × IsTargetAt o))
+                → ((y ≡ z.0) × (is_anew p l s.action m r d h o ≡ false)) ⊎ (IsRenewed p k frs o z.0 y × ((x : Object) × (object_at h o ≡ Some x) × (x.finished ≡ true) × (z.0.class ≡ x.class) × (may_owe z.0 ≡ true → (may_owe x ≡ true) × (z.0.owner ≡ x.owner)) × IsTargetAt o))
             by (inl was) = inr (old was)
             by (inr new) = absurd (true≢false (sym anew ∙ ap (is_anew p l s.action m r d h) new ∙ fresh_stays p l s.action m r d at h))
 
-    -- an object whose obligation is created anew, and which may owe a call, is in a fact that says that the frame owns it, or it is lent
+    -- an object whose obligation is created anew, and which may owe a call, is in a fact that says that the frame owns it, or it is lent, or a field of what the frame's
+    -- constructor makes owns it
     abbrev pub IsInHands : ℕ → Object → Type 0
     IsInHands o x =
-        ((x.owner ≡ owners.Frame at) × ((c : Covers p h false false frs fr o x) × IsOwned p h false false frs fr o x c × (is_target p s.action c.fact.places ≡ true) × ((t : ℕ) × (has c.fact.places (places.Temp t) ≡ true))))
-        ⊎ IsLentFrom p h frs o x.owner
+        ((x.owner ≡ owners.Frame at) × ((c : Covers p h false false frs fr o x) × IsOwned p h false false frs fr o x c × (is_own c.fact.mode ≡ true) × (is_target p s.action c.fact.places ≡ true) × ((t : ℕ) × (has c.fact.places (places.Temp t) ≡ true))))
+        ⊎ (IsLentFrom p h frs o x.owner ⊎ IsHeldBy p fr x.owner)
 
     pub renewed_in_hands : (o : ℕ) (y : Object) → object_at J o ≡ Some y → y.link ≡ None → is_anew p l s.action m r d h o ≡ true → is_heavy_class p y.class ≡ true → may_owe y ≡ true
         → (x : Object) × (object_at h o ≡ Some x) × (x.finished ≡ true) × (y.class ≡ x.class) × (y.owner ≡ x.owner) × IsInHands o x
@@ -349,21 +380,25 @@ module _ (p : Program) (ac : Accept p) (forms : HasPlainForms p) (h : HeapConten
         by (z, there, inl (it, out)) = absurd (true≢false (sym is ∙ out))
         by (z, there, inr (anew, (x, before, done, class, owed, t))) =
             let wide : is_heavy_class p x.class ≡ true = ap (is_heavy_class p) (sym (anew.class ∙ class)) ∙ heavy in
-            let was = owed (owes_before p h frs o z y anew owes) in (
+            let was = owed (owes_before p k frs o z y anew owes) in (
               x,
               before,
               done,
               anew.class ∙ class,
               anew.owner ∙ was.1,
               elim (its_key o x before done wide was.0 t) [
-                | inl key ↦ inl (key.2.owner refl, (key.0, key.2, t.3 key.0.fact.places key.1, (t.0, key.1)))
-                | inr lent ↦ inr lent
+                | inl key ↦ elim (claims_by p (method_at p fr.method) key.0.origin key.0.fact key.2.owning) [
+                  | inl own ↦ inl (key.2.owner refl own, (key.0, key.2, own, t.3 key.0.fact.places key.1, (t.0, key.1)))
+                  | inr held ↦ inr (inr (held.1, held_by_this p h false false frs fr o x key.0 done held.0 held.1))
+                ]
+                | inr lent ↦ inr (inl lent)
               ],
             )
 
 module _ (p : Program) (ac : Accept p) (forms : HasPlainForms p) (names : HasSmallInterests p) (h : HeapContents) (links : HasEarlierLinks h) (ranges : FieldsInRange h) (fr : Frame) (frs : List Frame) (st : Stands p fr)
     (mine : LocalsInRange h fr.locals) (arrays : List ArrayObject) (named runs : MethodId) (d : Conduct) (s : Step) (next : IsLibraryMove p h arrays fr.locals (frame_steps p fr) named runs d s) (count : ℕ)
     (leads : LinksLead p h) (called : called_method s.action ≡ Some named) (row : IsCallRow s.action) (plain : IsPlainReset p st.number fr.control s.action)
+    (making : AreMaking p h (fr ∷ frs)) (later : AreMaking p (library_heap p fr.locals s.action (without_reset (method_at p named)) (method_at p runs) d (length frs + 1) h) (fr ∷ frs))
     (free : HasNoHolder h (target_root h fr.locals s.action (method_at p named))) (covered : IsCovered p h gives_none renews_none frs fr) (others : LocalsIn h frs)
     (lent_on : (o : ℕ) (w : Owner) → IsLentFrom p h frs o w → IsLentFrom p (library_heap p fr.locals s.action (without_reset (method_at p named)) (method_at p runs) d (length frs + 1) h) frs o w) where
   abbrev plain_heap : HeapContents
@@ -381,33 +416,40 @@ module _ (p : Program) (ac : Accept p) (forms : HasPlainForms p) (names : HasSma
   fields_here : KeepsFields p plain_heap left_heap
   fields_here w f own = fields p ac forms h links fr frs st mine named runs d next.index s next.here called row plain covered w f own
 
-  -- what is lent stays so
-  hands_on : (o : ℕ) (w : Owner) → OwnsOrIsLent p h frs o w → OwnsOrIsLent p plain_heap frs o w
-  hands_on o w (inl above) = inl above
-  hands_on o w (inr lent) = inr (lent_on o w lent)
+  hands_then : (o : ℕ) (w : Owner) → IsAnsweredBy p h frs fr o w → OwnsOrIsLent p plain_heap frs o w
+  hands_then = hands_of p h plain_heap fr frs later lent_on
+
+  finishes : KeepsFinished plain_heap left_heap
+  finishes = keeps_finished plain_heap left_heap (λ n x there' done.
+      let same' = renewed p fr.locals s.action (method_at p named) (method_at p runs) d (length frs + 1) h n in
+      let keeps = reset_keeps p (library_called p fr.locals s.action (method_at p named) (method_at p runs) d h) (library_roots p fr.locals s.action (method_at p named) (method_at p runs) d h) n x in (
+        obligations.reset_in p (library_called p fr.locals s.action (method_at p named) (method_at p runs) d h) (library_roots p fr.locals s.action (method_at p named) (method_at p runs) d h) n x,
+        same' ∙ ap (option_map (obligations.reset_in p (library_called p fr.locals s.action (method_at p named) (method_at p runs) d h) (library_roots p fr.locals s.action (method_at p named) (method_at p runs) d h) n)) there',
+        keeps.2 ∙ done,
+      ))
 
   -- ---- the top frame
 
   pub anew_top : IsCovered p left_heap gives_none renews_none frs after
-  anew_top q o y less held now heavy owes = by (turned_at p ac forms h links fr frs st mine named runs d next.index s next.here called row plain covered free o y (place_value p left_heap after.method after.locals q) held now)
+  anew_top q o y less held now heavy owes = by (turned_at p ac forms h links fr frs st mine named runs d next.index s next.here called row plain covered plain_heap hands_then free o y (place_value p left_heap after.method after.locals q) held now)
     where
       was_held : root_of plain_heap (place_value p plain_heap after.method after.locals q) ≡ Some o
-      was_held = sym (same_held p plain_heap left_heap same_here fields_here after.method after.locals q) ∙ held
+      was_held = sym (same_held p plain_heap left_heap same_here fields_here finishes after.method after.locals q) ∙ held
 
-      by : IsTurned p ac forms h links fr frs st mine named runs d next.index s next.here called row plain covered free o y → IsKeyed p left_heap false false frs after q o y
+      by : IsTurned p ac forms h links fr frs st mine named runs d next.index s next.here called row plain covered plain_heap hands_then free o y → IsKeyed p left_heap false false frs after q o y
       by (z, there, inl (it, out)) =
           subst (λ (w : Object). IsKeyed p left_heap false false frs after q o w) (sym it)
-          (keyed_same p plain_heap left_heap same_here fields_here false false frs after o z q
+          (keyed_same p plain_heap left_heap same_here fields_here finishes false false frs after o z q
           (call_top p ac forms names h links ranges fr frs st mine arrays named runs d s next count leads called row covered others q o z less was_held there
           (ap (λ (w : Object). is_heavy_class p w.class) (sym it) ∙ heavy) (ap may_owe (sym it) ∙ owes)))
       by (z, there, inr (anew, (x, before, done, class, owed, t))) =
           elim (call_top_from p ac forms names h links ranges fr frs st mine arrays named runs d s next count leads called row covered others q o z less was_held there heavy' owes') [
-            | inr u ↦ unowned (unowned_anew p plain_heap left_heap same_here fields_here false false false frs after o z y anew.class anew.finished anew.owner hands q u)
-            | inl key ↦ owned_anew p plain_heap left_heap same_here fields_here false false false frs after o z y anew.class anew.finished anew.owner hands q key.0 key.1 key.2
+            | inr u ↦ unowned (unowned_anew p plain_heap left_heap same_here fields_here finishes false false false frs after o z y anew.class anew.finished anew.owner hands q u)
+            | inl key ↦ owned_anew p plain_heap left_heap same_here fields_here finishes false false false frs after o z y anew.class anew.finished anew.owner hands q key.0 key.1 key.2
                 (λ claimed apart. true_anew p key.0.origin key.0.fact z y (origin_needs_all p key.0.body key.0.origin after.control key.0.fact key.0.reached)
                 (elim key.3 [
                   | inl from ↦ emptied key.0.fact from.0 from.1 from.2 from.3 (λ target. (from.5.1 target).anew)
-                  | inr stops ↦ absurd (ends (key.2.owner refl) stops)
+                  | inr stops ↦ absurd (ends (key.2.owner refl stops.1) stops.0)
                 ]) anew.class anew.finished anew.called anew.must (key.0.true' claimed apart))
           ]
         where
@@ -415,10 +457,10 @@ module _ (p : Program) (ac : Accept p) (forms : HasPlainForms p) (names : HasSma
           heavy' = ap (is_heavy_class p) (sym anew.class) ∙ heavy
 
           owes' : may_owe z ≡ true
-          owes' = owes_before p h frs o z y anew owes
+          owes' = owes_before p plain_heap frs o z y anew owes
 
           hands : OwnsOrIsLent p plain_heap frs o z.owner
-          hands = hands_on o z.owner (anew.mine heavy owes)
+          hands = anew.mine heavy owes
 
           wide : is_heavy_class p x.class ≡ true
           wide = ap (is_heavy_class p) (sym class) ∙ heavy'
@@ -429,8 +471,16 @@ module _ (p : Program) (ac : Accept p) (forms : HasPlainForms p) (names : HasSma
           emptied g w at' c key goes =
               let one : w ≡ x = (let both : Some w ≡ Some x = sym at' ∙ before in cc) in
               let is = goes (has_target p ac forms h links fr frs st mine named runs d next.index s next.here called row plain covered o w at' (ap (λ (u : Object). u.finished) one ∙ done)
-              (ap (λ (u : Object). is_heavy_class p u.class) one ∙ wide) (ap may_owe one ∙ (owed owes').0) t c key) in
+              (ap (λ (u : Object). is_heavy_class p u.class) one ∙ wide) (ap may_owe one ∙ (owed owes').0) t making c key) in
               (ap (λ (f : Fact). f.called) is, ap (λ (f : Fact). f.full) is)
+
+          -- where the frame owns it, a fact that claims it says so
+          owned_so : z.owner ≡ owners.Frame (length frs + 1) → (c : Covers p h false false frs fr o x) → IsOwned p h false false frs fr o x c → is_owning_fact p c.origin c.fact ≡ true
+          owned_so own c key = elim (claims_by p (method_at p fr.method) c.origin c.fact key.owning) [
+            | inl mode ↦ and_from (is_heavy_class p c.origin.class) (is_own c.fact.mode) (claims_owned p (method_at p fr.method) c.origin c.fact key.owning).0 mode
+            | inr held' ↦ (let by' = held_by_this p h false false frs fr o x c done held'.0 held'.1 in
+                absurd (let never : owners.Field by'.holder by'.field ≡ owners.Frame (length frs + 1) = sym by'.owns ∙ sym (owed owes').1 ∙ own in cc))
+          ]
 
           -- some fact goes on owning it
           ends : z.owner ≡ owners.Frame (length frs + 1) → ((w : Object) → object_at h o ≡ Some w → (u : Place) → IsSmall u → root_of h (place_value p h fr.method fr.locals u) ≡ Some o → (c : Covers p h false false frs fr o w)
@@ -438,7 +488,7 @@ module _ (p : Program) (ac : Accept p) (forms : HasPlainForms p) (names : HasSma
               × (is_target p s.action c.fact.places ≡ true → GoesAnew p st.number c.origin s.action c.fact (places_after p st.number s.action s.edge c.fact.places) g) → is_own g.mode ≡ false) → ⊥
           ends own stops = elim (its_key p ac forms h links fr frs st mine named runs d next.index s next.here called row plain covered o x before done wide (owed owes').0 t) [
             | inl key ↦ (let target = t.3 key.0.fact.places key.1 in
-                true≢false (sym (still_own p ac forms h links fr frs st mine named runs d next.index s next.here called row plain covered o x key.0 target key.2.owning)
+                true≢false (sym (still_own p ac forms h links fr frs st mine named runs d next.index s next.here called row plain covered o x key.0 target (owned_so own key.0 key.2))
                 ∙ stops x before (places.Temp t.0) t.1 t.2 key.0 key.2 (fact_anew key.0.fact (places_after p st.number s.action s.edge key.0.fact.places))
                 ((λ moved. absurd ((answer p ac forms h links fr frs st mine named runs d next.index s next.here called row plain covered o x key.0 target).3 moved)), (λ is. goes_anew p ac forms h links fr frs st mine named runs d next.index s next.here called row plain covered o x key.0 target))))
             | inr lent ↦ not_lent p h frs o x.owner (sym (owed owes').1 ∙ own) lent
@@ -447,14 +497,14 @@ module _ (p : Program) (ac : Accept p) (forms : HasPlainForms p) (names : HasSma
   -- ---- all frames
 
   pub anew_covered : AreWaiting p plain_heap frs → AreWaiting p left_heap frs
-  anew_covered waits = waiting_anew p plain_heap left_heap same_here fields_here frs turns waits
+  anew_covered waits = waiting_anew p plain_heap left_heap same_here fields_here finishes frs later.1 turns waits
     where
-      turns : Turns p plain_heap left_heap same_here fields_here frs
-      turns o y u root' now = by (turned_at p ac forms h links fr frs st mine named runs d next.index s next.here called row plain covered free o y u root' now)
+      turns : Turns p plain_heap left_heap same_here fields_here finishes frs
+      turns o y u root' now = by (turned_at p ac forms h links fr frs st mine named runs d next.index s next.here called row plain covered plain_heap hands_then free o y u root' now)
         where
-          by : IsTurned p ac forms h links fr frs st mine named runs d next.index s next.here called row plain covered free o y → (x : Object) × (object_at plain_heap o ≡ Some x) × ((y ≡ x) ⊎ IsRenewed p plain_heap frs o x y)
+          by : IsTurned p ac forms h links fr frs st mine named runs d next.index s next.here called row plain covered plain_heap hands_then free o y → (x : Object) × (object_at plain_heap o ≡ Some x) × ((y ≡ x) ⊎ IsRenewed p plain_heap frs o x y)
           by (z, there, inl it) = (z, there, inl it.0)
-          by (z, there, inr (anew, rest)) = (z, there, inr (renewed_on p h plain_heap frs o z y (lent_on o) anew))
+          by (z, there, inr (anew, rest)) = (z, there, inr anew)
 
 -- ---- any call of the library, and any read of a constant
 
@@ -514,10 +564,10 @@ module _ (p : Program) (ac : Accept p) (forms : HasPlainForms p) (names : HasSma
   left_held_before rest in' =
       all_held_before p h left left_roots rest (all_keep p h left (grown_fields p h left (library_grows p fr.locals s.action (method_at p named) (method_at p runs) d (length frs + 1) h)) rest) (all_there p h ranges rest in')
 
-  pub left_covered : OwningFieldsOwn p h → ActsInSight p h fr
+  pub left_covered : AreNew p (fr ∷ frs) → AreUnfinished p h (fr ∷ frs) → OwningFieldsOwn p h → ActsInSight p h fr
       → (called_method s.action ≡ Some named) ⊎ IsConstantRead s.action named → LocalsIn h (fr ∷ frs) → AreCovered p h (fr ∷ frs)
       → AreCovered p left (frame_after p h fr s (conduct_value count (method_at p runs) (positions fr.locals s.action (next_number h) d) (next_number h) d) ∷ frs)
-  left_covered own sight row in' covered = by row
+  left_covered news unready own sight row in' covered = by row
     where
       K_covered : AreCovered p would (frame_after p h fr s (conduct_value count (method_at p runs) (positions fr.locals s.action (next_number h) d) (next_number h) d) ∷ frs)
       K_covered = library_covered p ac forms names h links ranges fr frs st mine arrays named runs d s next count leads row in' covered
@@ -537,8 +587,8 @@ module _ (p : Program) (ac : Accept p) (forms : HasPlainForms p) (names : HasSma
       by (inl called) = elim (resets_plainly p ac forms fr st next.index s next.here) [
         | inl none ↦ plain (sym (same_position (method_at p named)) ∙ ap reset_in (sym (ap (callee_in p) called)) ∙ none)
         | inr anew ↦ (
-          anew_top p ac forms names h links ranges fr frs st mine arrays named runs d s next count leads called (row_by s.action named called) anew (free anew) covered.0 others lent_on,
-          anew_covered p ac forms names h links ranges fr frs st mine arrays named runs d s next count leads called (row_by s.action named called) anew (free anew) covered.0 others lent_on K_covered.1,
+          anew_top p ac forms names h links ranges fr frs st mine arrays named runs d s next count leads called (row_by s.action named called) anew making later (free anew) covered.0 others lent_on,
+          anew_covered p ac forms names h links ranges fr frs st mine arrays named runs d s next count leads called (row_by s.action named called) anew making later (free anew) covered.0 others lent_on K_covered.1,
           below,
         )
       ]
@@ -546,9 +596,15 @@ module _ (p : Program) (ac : Accept p) (forms : HasPlainForms p) (names : HasSma
           others : LocalsIn h frs
           others = All-tail (λ (u : Frame). LocalsInRange h u.locals) fr frs in'
 
+          making : AreMaking p h (fr ∷ frs)
+          making = are_making p h (fr ∷ frs) news unready
+
+          later : AreMaking p would (fr ∷ frs)
+          later = are_making p would (fr ∷ frs) news (unfinished_kept p h would (λ o x y before now open'. library_after_unfinished p ac forms names h links ranges fr frs st mine arrays named runs d s next count leads o x y (λ never. never) before now open') (fr ∷ frs) in' unready)
+
           -- what is lent stays so
           lent_on : (o : ℕ) (w : Owner) → IsLentFrom p h frs o w → IsLentFrom p would frs o w
           lent_on o w = (given_kept p h would frs (all_keep_gifts p h would (λ n number. library_keeps_roots p ac forms names h links ranges fr frs st mine arrays named runs d s next count leads n number) frs others)).lent o w
 
           free : IsPlainReset p st.number fr.control s.action → HasNoHolder h (target_root h fr.locals s.action (method_at p named))
-          free anew = no_holder p ac forms h links fr frs st mine named runs d next.index s next.here called (row_by s.action named called) anew covered.0 own sight arrays (next.ran called).1
+          free anew = no_holder p ac forms h links fr frs st mine named runs d next.index s next.here called (row_by s.action named called) anew covered.0 unready own sight arrays (next.ran called).1

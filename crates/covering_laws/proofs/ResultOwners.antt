@@ -61,6 +61,7 @@ use Rattle.value_laws.specs.Ranges.{LocalsInRange}
 use Rattle.covering_laws.proofs.Following.{breaks_nothing, same_body, step_there}
 use Rattle.covering_laws.proofs.AliasResults.{default_no_root}
 use Rattle.covering_laws.proofs.Bodies.{running_method}
+use Rattle.covering_laws.proofs.HeavyFields.{unclaimed_not_owning}
 use Rattle.covering_laws.proofs.GivenArguments.{heavy_by_fit}
 
 -- ---- a result that breaks no rule
@@ -132,8 +133,8 @@ module _ (p : Program) (ac : Accept p) (h : HeapContents) (fr : Frame) (frs : Li
       of_value = by (covered (places.Temp d) n x room root before heavy owes)
         where
           by : IsKeyed p h false false frs fr (places.Temp d) n x → x.owner ≡ owners.Frame (length frs + 1)
-          by (owned c has' own) = own.owner refl
-          by (unowned u) = absurd (true≢false (sym (is_owning u.covers u.here) ∙ u.unowned))
+          by (owned c has' own) = own.owner refl (and_parts (is_heavy_class p c.origin.class) (is_own c.fact.mode) (is_owning c has')).1
+          by (unowned u) = absurd (true≢false (sym (is_owning u.covers u.here) ∙ unclaimed_not_owning p (method_at p fr.method) u.covers.origin u.covers.fact u.unowned))
 
     -- an object that is thrown has a class
     of_throw : (d : ℕ) → runtime_class p h (temp_value fr.locals d) ≡ None → root_of h (temp_value fr.locals d) ≡ Some n → ⊥

@@ -49,7 +49,7 @@ use Rattle.value_laws.specs.Outcomes.{IsCallRow}
 use Rattle.value_laws.specs.Types.{AreCalled, HaveTypes, KeepAll, is_text}
 use Rattle.value_laws.proofs.Moved as typed_moves
 use Rattle.value_laws.proofs.Moved.{IsConstantRead}
-use Rattle.value_laws.specs.FieldContents.{FieldsHold, IsBeingMade, is_new}
+use Rattle.value_laws.specs.FieldContents.{FieldsHold, IsBeingMade, is_new, TopRunsAlone}
 use Rattle.value_laws.specs.PlaceFacts.{AreCovered}
 use Rattle.value_laws.specs.Ranges.{AreInRange, FieldsInRange, LocalsInRange}
 use Rattle.covering_laws.specs.Making.{AreBeingMade, HoldNone, IsUnheld}
@@ -72,6 +72,8 @@ use Rattle.covering_laws.proofs.LinkedExceptions.{still_aliases}
 use Rattle.value_laws.specs.Arguments.{HasArguments, HaveArguments}
 use Rattle.covering_laws.specs.Texts.{TextsAreLight}
 use Rattle.value_laws.specs.LibraryClasses.{HasLightTexts}
+use Rattle.covering_laws.proofs.ResetCovers.{are_making}
+use Rattle.covering_laws.proofs.OlderHolders.{holders_are_older}
 use Rattle.covering_laws.proofs.Texts.{texts_are_light}
 
 -- a `new` begins on the next object
@@ -120,8 +122,8 @@ module _ (p : Program) (ac : Accept p) (forms : HasPlainForms p) (runs : HasPlai
   plain_kept e s i here next =
       goes _
       (frame_after p h fr s (thrown_value h e (made_value p h c.arrays c.statics (next_choice c.choices c.used) fr.locals s.action))) refl
-      (plain_unfinished p ac forms c texts types links ranges linked fr st keeps.0 raises i s here e next) (plain_held_before p ac forms c texts types links ranges linked fr st keeps.0 raises i s here e next frs others_in)
-      (plain_linked p ac forms c texts types links ranges linked fr st keeps.0 raises i s here e next linked) (plain_covered p ac forms c texts types links ranges linked fr st keeps.0 raises i s here e next frs in' covered)
+      (plain_unfinished p ac forms c texts types links ranges linked fr st keeps.0 raises i s here e next sight.updates) (plain_held_before p ac forms c texts types links ranges linked fr st keeps.0 raises i s here e next sight.updates frs others_in)
+      (plain_linked p ac forms c texts types links ranges linked fr st keeps.0 raises i s here e next sight.updates linked) (plain_covered p ac forms c texts types links ranges linked fr st keeps.0 raises i s here e next sight.updates frs in' covered)
 
   null_kept : (e : Option ClassId) (s : Step) (i : ℕ) (here : slice_get (frame_steps p fr) i ≡ Some s) → IsNullCall p fr.locals e s → AreKept p (within p c fr frs e s)
   null_kept e s i here next = subst (λ (x : Option ClassId). AreKept p (within p c fr frs x s)) (sym next.thrown)
@@ -172,36 +174,36 @@ module _ (p : Program) (ac : Accept p) (forms : HasPlainForms p) (runs : HasPlai
     k = began_heap p fr.locals s.action (method_at p named) (length frames) h
 
     later : KeepsUnfinished h (lose held k) no_other
-    later = lost_unfinished p k held h no_other (started_unfinished p ac forms runs h light_here links ranges types.fields fr frs st keeps.0 targets.0 top others_in covered.0 covered.2 c.arrays named r a next (length frames) position)
+    later = lost_unfinished p k held h no_other (started_unfinished p ac forms runs h light_here links ranges types.fields fr frs st keeps.0 targets.0 top others_in covered.0 covered.2 (are_making p h (fr ∷ frs) hold.new hold.unfinished) (holders_are_older p (fr ∷ frs) h hold.contents) c.arrays named r a next (length frames) position)
 
     -- the object of a `new` that begins
     begins : IsBeingMade p (lose held k) callee fr
     begins j u w y at new this now =
         let one : u.action ≡ s.action = one_action p st.number fr.control next.index j s u (step_here p fr st next.index s next.here) (step_here p fr st j u at) (call_may s.action (subst IsCallRow (sym next.same) next.row)) in
-        let self : values.Object w ≡ values.Object (next_number h) = sym this ∙ callee_this p ac forms runs h light_here links ranges types.fields fr frs st keeps.0 targets.0 top others_in covered.0 covered.2 c.arrays named r a next (length frames) position
+        let self : values.Object w ≡ values.Object (next_number h) = sym this ∙ callee_this p ac forms runs h light_here links ranges types.fields fr frs st keeps.0 targets.0 top others_in covered.0 covered.2 (are_making p h (fr ∷ frs) hold.new hold.unfinished) (holders_are_older p (fr ∷ frs) h hold.contents) c.arrays named r a next (length frames) position
         ∙ new_self fr.locals s.action h (ap is_new (sym one) ∙ new) in
         let z = was_there p k held w y now in
         z.2.finished ∙ new_unfinished p fr.locals s.action (method_at p named) (length frames) h links z.0 (ap (object_at k) (let number : next_number h ≡ w = cc in number) ∙ z.1)
 
     held_before : AllHeldBefore p h (lose held k) (fr ∷ frs)
     held_before = held_before_further p h k (lose held k) (fr ∷ frs)
-        (start_held_before p ac forms runs h light_here links ranges types.fields fr frs st keeps.0 targets.0 top others_in covered.0 covered.2 c.arrays named r a next (length frames) position (fr ∷ frs) in') (lost_held_before p k held (fr ∷ frs))
+        (start_held_before p ac forms runs h light_here links ranges types.fields fr frs st keeps.0 targets.0 top others_in covered.0 covered.2 (are_making p h (fr ∷ frs) hold.new hold.unfinished) (holders_are_older p (fr ∷ frs) h hold.contents) c.arrays named r a next (length frames) position (fr ∷ frs) in') (lost_held_before p k held (fr ∷ frs))
 
     -- which no frame holds yet
     unheld : IsUnheld p (lose held k) callee fr frs
     unheld j u w at new this =
         let one : u.action ≡ s.action = one_action p st.number fr.control next.index j s u (step_here p fr st next.index s next.here) (step_here p fr st j u at) (call_may s.action (subst IsCallRow (sym next.same) next.row)) in
-        let self : values.Object w ≡ values.Object (next_number h) = sym this ∙ callee_this p ac forms runs h light_here links ranges types.fields fr frs st keeps.0 targets.0 top others_in covered.0 covered.2 c.arrays named r a next (length frames) position
+        let self : values.Object w ≡ values.Object (next_number h) = sym this ∙ callee_this p ac forms runs h light_here links ranges types.fields fr frs st keeps.0 targets.0 top others_in covered.0 covered.2 (are_making p h (fr ∷ frs) hold.new hold.unfinished) (holders_are_older p (fr ∷ frs) h hold.contents) c.arrays named r a next (length frames) position
         ∙ new_self fr.locals s.action h (ap is_new (sym one) ∙ new) in
         subst (λ (n : ℕ). HoldNone p (lose held k) n (fr ∷ frs)) (let number : next_number h ≡ w = cc in number)
         (none_held_on p h (lose held k) (next_number h) (fr ∷ frs) held_before (next_not_held p h links (fr ∷ frs) (all_there p h ranges (fr ∷ frs) in')))
 
     began_kept : AreKept p (began p c fr frs named r a pos)
     began_kept = subst (λ (b : Action). AreKept p (began p c fr frs named r b pos)) next.same (
-      all_lost p k held frames (are_held p k frames) (start_covered p ac forms runs h light_here links ranges types.fields fr frs st keeps.0 targets.0 top others_in covered.0 covered.2 c.arrays named r a next (length frames) position in' covered.1),
+      all_lost p k held frames (are_held p k frames) (start_covered p ac forms runs h light_here links ranges types.fields fr frs st keeps.0 targets.0 top others_in covered.0 covered.2 (are_making p h (fr ∷ frs) hold.new hold.unfinished) (holders_are_older p (fr ∷ frs) h hold.contents) c.arrays named r a next (length frames) position in' covered.1),
       (begins, unheld, making_on p h (lose held k) no_other later fr fr frs refl in' (all_apart (fr ∷ frs)) held_before.1 making),
       still_aliases p k (lose held k) (lost_linked p k held)
-          (still_aliases p h k (started_linked p ac forms runs h light_here links ranges types.fields fr frs st keeps.0 targets.0 top others_in covered.0 covered.2 c.arrays named r a next (length frames) position) linked),
+          (still_aliases p h k (started_linked p ac forms runs h light_here links ranges types.fields fr frs st keeps.0 targets.0 top others_in covered.0 covered.2 (are_making p h (fr ∷ frs) hold.new hold.unfinished) (holders_are_older p (fr ∷ frs) h hold.contents) c.arrays named r a next (length frames) position) linked),
     )
 
   -- ---- calls of the library
@@ -214,7 +216,7 @@ module _ (p : Program) (ac : Accept p) (forms : HasPlainForms p) (runs : HasPlai
       (left_unfinished p ac forms names h links ranges fr frs st mine c.arrays named m x s next count hold.leads)
       (left_held_before p ac forms names h links ranges fr frs st mine c.arrays named m x s next count hold.leads frs others_in)
       (left_linked p ac forms names h links ranges fr frs st mine c.arrays named m x s next count hold.leads linked)
-      (left_covered p ac forms names h links ranges fr frs st mine c.arrays named m x s next count hold.leads hold.owning sight row in' covered)
+      (left_covered p ac forms names h links ranges fr frs st mine c.arrays named m x s next count hold.leads hold.new hold.unfinished hold.owning sight row in' covered)
     where
       mine : LocalsInRange h fr.locals
       mine = All-head (λ (u : Frame). LocalsInRange h u.locals) fr frs in'
@@ -227,7 +229,7 @@ module _ (p : Program) (ac : Accept p) (forms : HasPlainForms p) (runs : HasPlai
 module _ (p : Program) (ac : Accept p) (forms : HasPlainForms p) (runs : HasPlainRuns p) (names : HasSmallInterests p) (texts : HasLightTexts p) (c d : Config) (fr caller : Frame) (rest : List Frame)
     (agrees : Agrees p (fr ∷ caller ∷ rest) c.heap c.entries) (targets : HaveTargets p (fr ∷ caller ∷ rest)) (keeps : KeepAll (is_text p c.heap) p (fr ∷ caller ∷ rest)) (called : AreCalled p (fr ∷ caller ∷ rest)) (in' : LocalsIn c.heap (fr ∷ caller ∷ rest))
     (ranges : FieldsInRange c.heap) (hold : FieldsHold p (fr ∷ caller ∷ rest) c.heap) (making : AreBeingMade p c.heap (fr ∷ caller ∷ rest)) (linked : LinkedAreAliases p c.heap) (covered : AreCovered p c.heap (fr ∷ caller ∷ rest))
-    (i : ℕ) (s : Step) (q : Completion) (here : slice_get (frame_steps p fr) i ≡ Some s) (is : s.action ≡ actions.End q) (args : HasArguments p caller fr) (exits : EndsAsDeclared p c.heap fr) (sight : ActsInSight p c.heap caller) where
+    (i : ℕ) (s : Step) (q : Completion) (here : slice_get (frame_steps p fr) i ≡ Some s) (is : s.action ≡ actions.End q) (args : HasArguments p caller fr) (exits : EndsAsDeclared p c.heap fr) (sight : ActsInSight p c.heap caller) (alone : TopRunsAlone p c.heap (fr ∷ caller ∷ rest)) where
   light_at_end : TextsAreLight p c.heap
   light_at_end = texts_are_light p ac texts c.heap linked
 
@@ -278,15 +280,19 @@ module _ (p : Program) (ac : Accept p) (forms : HasPlainForms p) (runs : HasPlai
     returned_kept : AreKept p (returned p c fr caller rest pos q e named t)
     returned_kept = (
       all_lost p ended_heap held_after (after ∷ rest) (are_held p ended_heap (after ∷ rest)) (returned_covered p ac forms runs names c.heap light_at_end agrees.links linked ranges fr caller rest agrees.standing.0 below targets.1.0 keeps.0 called.0 hold.dispatched.0 making.0 mine covered.0 i s q here is t named back
-          may makes itself args exits hold.leads agrees.ends made_after agrees.classes making.1 below_in hold.owning agrees.standing.1.1 covered.1 sight covered.2),
+          may makes itself args exits hold.leads agrees.ends made_after agrees.classes making.1 below_in alone hold.owning agrees.standing.1.1 covered.1 sight hold.new.1 hold.unfinished.1
+          (λ w new this. hold.fresh.0 back.index t w back.here new this) covered.2),
       making_on p c.heap (lose held_after ended_heap) apart (lost_unfinished p ended_heap held_after c.heap apart (returned_unfinished p ac forms runs names c.heap light_at_end agrees.links linked ranges fr caller rest agrees.standing.0 below targets.1.0 keeps.0 called.0 hold.dispatched.0 making.0
-          mine covered.0 i s q here is t named back may makes itself args exits hold.leads agrees.ends made_after agrees.classes making.1 below_in hold.owning agrees.standing.1.1 covered.1 sight)) caller after rest refl below_in
+          mine covered.0 i s q here is t named back may makes itself args exits hold.leads agrees.ends made_after agrees.classes making.1 below_in alone hold.owning agrees.standing.1.1 covered.1 sight hold.new.1 hold.unfinished.1
+          (λ w new this. hold.fresh.0 back.index t w back.here new this))) caller after rest refl below_in
           (apart_from apart (caller ∷ rest) (λ w other. hold.fresh.0 back.index t w back.here other.1 other.0))
           (held_before_further p c.heap ended_heap (lose held_after ended_heap) rest (returned_held_before p ac forms runs names c.heap light_at_end agrees.links linked ranges fr caller rest agrees.standing.0 below targets.1.0 keeps.0 called.0 hold.dispatched.0 making.0
-          mine covered.0 i s q here is t named back may makes itself args exits hold.leads agrees.ends made_after agrees.classes making.1 below_in hold.owning agrees.standing.1.1 covered.1 sight) (lost_held_before p ended_heap held_after rest)) making.2,
+          mine covered.0 i s q here is t named back may makes itself args exits hold.leads agrees.ends made_after agrees.classes making.1 below_in alone hold.owning agrees.standing.1.1 covered.1 sight hold.new.1 hold.unfinished.1
+          (λ w new this. hold.fresh.0 back.index t w back.here new this)) (lost_held_before p ended_heap held_after rest)) making.2,
       still_aliases p ended_heap (lose held_after ended_heap) (lost_linked p ended_heap held_after)
           (returned_apart p ac forms runs names c.heap light_at_end agrees.links linked ranges fr caller rest agrees.standing.0 below targets.1.0 keeps.0 called.0 hold.dispatched.0 making.0 mine covered.0 i s q here is t named back may makes itself args exits
-          hold.leads agrees.ends made_after agrees.classes making.1 below_in hold.owning agrees.standing.1.1 covered.1 sight),
+          hold.leads agrees.ends made_after agrees.classes making.1 below_in alone hold.owning agrees.standing.1.1 covered.1 sight hold.new.1 hold.unfinished.1
+          (λ w new this. hold.fresh.0 back.index t w back.here new this)),
     )
 
   back_kept : c.frames ≡ fr ∷ caller ∷ rest → (pos : Pos) (r : Return) → IsBack p (frame_steps p caller) e waits.named r → returned_by p c fr caller rest pos q r ≡ went d → AreKept p d
@@ -300,13 +306,13 @@ module _ (p : Program) (ac : Accept p) (forms : HasPlainForms p) (runs : HasPlai
 
 module _ (p : Program) (ac : Accept p) (forms : HasPlainForms p) (runs : HasPlainRuns p) (names : HasSmallInterests p) (texts : HasLightTexts p) (c d : Config) (types : HaveTypes p c)
     (given : (fr caller : Frame) (rest : List Frame) → c.frames ≡ fr ∷ caller ∷ rest → HasArguments p caller fr × EndsAsDeclared p c.heap fr)
-    (raised : (fr : Frame) (frs : List Frame) → c.frames ≡ fr ∷ frs → RaisesExceptions p c.heap fr) (sight : AllActInSight p c.heap c.frames) where
+    (raised : (fr : Frame) (frs : List Frame) → c.frames ≡ fr ∷ frs → RaisesExceptions p c.heap fr) (sight : AllActInSight p c.heap c.frames) (alone : TopRunsAlone p c.heap c.frames) where
   ended_kept : (fr : Frame) (frs : List Frame) → c.frames ≡ fr ∷ frs → Agrees p (fr ∷ frs) c.heap c.entries → HaveTargets p (fr ∷ frs) → KeepAll (is_text p c.heap) p (fr ∷ frs) → AreCalled p (fr ∷ frs) → LocalsIn c.heap (fr ∷ frs) → FieldsInRange c.heap
       → FieldsHold p (fr ∷ frs) c.heap → AreBeingMade p c.heap (fr ∷ frs) → LinkedAreAliases p c.heap → AreCovered p c.heap (fr ∷ frs) → (pos : Pos) (q : Completion) (i : ℕ) (s : Step) → slice_get (frame_steps p fr) i ≡ Some s → s.action ≡ actions.End q
       → end p c fr frs pos q ≡ went d → AreKept p d
   ended_kept fr [] frames agrees targets keeps called in' ranges hold making linked covered pos q i s here is same = subst (AreKept p) (let one : main_ended p c fr pos q ≡ d = cc in one) (tt, tt, still_aliases p c.heap (end_frame 1 c.heap) (frame_linked 1 c.heap) linked)
   ended_kept fr (caller ∷ rest) frames agrees targets keeps called in' ranges hold making linked covered pos q i s here is same =
-      back_kept p ac forms runs names texts c d fr caller rest agrees targets keeps called in' ranges hold making linked covered i s q here is (given fr caller rest frames).0 (given fr caller rest frames).1 (subst (λ (gs : List Frame). AllActInSight p c.heap gs) frames sight).1.0 frames pos
+      back_kept p ac forms runs names texts c d fr caller rest agrees targets keeps called in' ranges hold making linked covered i s q here is (given fr caller rest frames).0 (given fr caller rest frames).1 (subst (λ (gs : List Frame). AllActInSight p c.heap gs) frames sight).1.0 (subst (λ (gs : List Frame). TopRunsAlone p c.heap gs) frames alone) frames pos
       (return_move p (frame_steps p caller) (exception_class p c.heap (thrown_in fr.locals q)))
       (back_is p caller agrees.standing.1.0 agrees.stacked.0.named agrees.stacked.0.index agrees.stacked.0.step agrees.stacked.0.here agrees.stacked.0.calls (exception_class p c.heap (thrown_in fr.locals q)))
       same
@@ -348,9 +354,9 @@ module _ (p : Program) (ac : Accept p) (forms : HasPlainForms p) (runs : HasPlai
       (typed_next fr agrees.standing.0 agrees.classes) same
 
 pub kept_step : (p : Program) → Accept p → HasPlainForms p → HasPlainRuns p → HasSmallInterests p → HasLightTexts p → (c d : Config) → Agree p c → HaveTargets p c.frames → HaveTypes p c → AreInRange c
-    → FieldsHold p c.frames c.heap → AreBeingMade p c.heap c.frames → LinkedAreAliases p c.heap → AreCovered p c.heap c.frames → HaveArguments p c.frames → TopEndsAsDeclared p c.heap c.frames → TopRaisesExceptions p c.heap c.frames → AllActInSight p c.heap c.frames → step p c ≡ went d → AreKept p d
+    → FieldsHold p c.frames c.heap → AreBeingMade p c.heap c.frames → LinkedAreAliases p c.heap → AreCovered p c.heap c.frames → HaveArguments p c.frames → TopEndsAsDeclared p c.heap c.frames → TopRaisesExceptions p c.heap c.frames → AllActInSight p c.heap c.frames → TopRunsAlone p c.heap c.frames → step p c ≡ went d → AreKept p d
 unfolding step
-kept_step p ac forms runs names texts c d agrees targets types ranges fields making linked covered args exits raises sight same =
+kept_step p ac forms runs names texts c d agrees targets types ranges fields making linked covered args exits raises sight alone same =
     by_frames p ac forms runs names texts c d types
     (λ fr caller rest frames. ((subst (λ (gs : List Frame). HaveArguments p gs) frames args).0, subst (λ (gs : List Frame). TopEndsAsDeclared p c.heap gs) frames exits))
-    (λ fr frs frames. subst (λ (gs : List Frame). TopRaisesExceptions p c.heap gs) frames raises) sight c.frames refl agrees targets types.frames types.called ranges.frames ranges.fields fields making linked covered same
+    (λ fr frs frames. subst (λ (gs : List Frame). TopRaisesExceptions p c.heap gs) frames raises) sight alone c.frames refl agrees targets types.frames types.called ranges.frames ranges.fields fields making linked covered same

@@ -11,7 +11,6 @@ use Rattle.program_model.specs.declared.kinds.BodyId.{BodyId}
 use Rattle.program_model.specs.declared.kinds.ClassId.{ClassId}
 use Rattle.program_model.specs.declared.kinds.FieldId.{FieldId}
 use Rattle.program_model.specs.declared.kinds.MethodId.{MethodId}
-use Rattle.program_model.specs.declared.kinds.MethodKind.{MethodKind}
 use Rattle.program_model.specs.declared.kinds.MethodKind.TheVariants as methods
 use Rattle.program_model.specs.declared.kinds.VType.{VType}
 use Rattle.program_model.specs.declared.kinds.VType.TheVariants as types
@@ -58,7 +57,7 @@ use Rattle.ledger_state.specs.Values.{number_of, value_or_nothing}
 use Rattle.ledger_state.specs.declared.array.ArrayObject.{ArrayObject}
 use Rattle.ledger_state.specs.declared.entry.Owner.TheVariants as owners
 use Rattle.ledger_state.specs.declared.locals.Locals.{Locals}
-use Rattle.ledger_obligations.specs.Obligations.{may_move}
+use Rattle.ledger_obligations.specs.Obligations.{may_move, is_held_by}
 use Rattle.ledger_state.specs.declared.object.Object.{Object}
 use Rattle.ledger_state.specs.declared.value.Value.{Value}
 use Rattle.ledger_state.specs.declared.value.Value.TheVariants as values
@@ -84,25 +83,25 @@ use Rattle.value_laws.proofs.Unmet.{way_of_call}
 use Rattle.value_laws.specs.Types.{KeepsTypes, StoredHoldNone, is_text}
 use Rattle.value_laws.proofs.ValueTypeFields.{field_is_none}
 use Rattle.value_laws.proofs.ValueTypeLaws.{argument_is_no_object}
-use Rattle.value_laws.specs.PlaceFacts.{AreCovered, AreWaiting, Covers, IsCovered, IsKeyed, IsTrueOf, IsUnowned, OwnersBelow, asked_by, asked_of, claims, fits_field, fits_in, gives_none, is_apart, is_content, is_field_of, is_frame_below, is_frame_from, is_given, is_heavy_field, is_heavy_in, is_lent, is_owning_fact, makes_alone, may_owe, owned, unowned, renews_none}
-use Rattle.covering_laws.proofs.HeavyFields.{asked_here, claims_alone, claims_owned, owning_claims, covered_at}
+use Rattle.value_laws.specs.PlaceFacts.{AreCovered, AreWaiting, Covers, IsCovered, IsKeyed, IsTrueOf, IsUnowned, OwnersBelow, asked_by, asked_of, claims, fits_field, fits_in, gives_none, is_apart, is_content, is_field_of, is_frame_below, is_frame_from, is_given, is_heavy_field, is_heavy_in, is_lent, may_owe, owned, unowned, renews_none, HasOlderHolder, HoldersAreOlder}
+use Rattle.covering_laws.proofs.HeavyFields.{asked_here, claims_alone, claims_owned, covered_at}
 use Rattle.value_laws.proofs.KeptFacts.{parameter_unheld}
 use Rattle.value_laws.specs.Ranges.{FieldsInRange, IsInRange, IsNumber, LocalsInRange}
 use Rattle.value_laws.proofs.RangeValues.{field_in_range, operand_in_range}
 use Rattle.covering_laws.specs.Running.{HasPlainRuns, is_on_object}
 use Rattle.covering_laws.proofs.Bodies.{body_is_of_program}
 use Rattle.covering_laws.proofs.BegunFrames.{entered_covers, lent_or_none, lent_unowned, not_and, not_held, not_own, parameter_born}
-use Rattle.covering_laws.proofs.EntryBirths.{alike_parameter, argument_or_nothing, of_field, of_parameter, of_this, same_mark, lent_parameter, lent_this, no_parameter, this_unowned, this_born, parameter_at, class_type_is}
+use Rattle.covering_laws.proofs.EntryBirths.{alike_parameter, argument_or_nothing, of_field, of_parameter, of_this, same_mark, lent_parameter, lent_this, no_parameter, this_unowned, this_born, parameter_at, class_type_is, constructor_kind, element_there}
 use Rattle.covering_laws.proofs.GivenArguments.{given_is_true, given_owner, operand_may_move, operand_owned, two_operands}
 use Rattle.covering_laws.proofs.GivenAway.{given_taken, moved_given, step_gives, taken_given}
 use Rattle.covering_laws.proofs.CallResults.{born_unowned}
 use Rattle.covering_laws.proofs.Gifts.{all_keep_gifts}
-use Rattle.covering_laws.proofs.Owners.{KeepsOwners, OwnersGo, owners_kept, stays_apart, KeepsGiven, given_kept}
+use Rattle.covering_laws.proofs.Owners.{KeepsOwners, OwnersGo, owners_kept, stays_apart, KeepsGiven, given_kept, KeepsFinished, held_here}
 use Rattle.covering_laws.proofs.OwnerSteps.{below_not_from}
 use Rattle.covering_laws.proofs.StartOwners.{below_further, start_below, start_owner, start_owners_go}
 use Rattle.covering_laws.proofs.LocalSteps.{LocalsIn, all_there}
 use Rattle.covering_laws.proofs.StartHeaps.{new_holds_nothing, start_carries, start_keeps, start_linked, start_roots, start_unfinished, new_unfinished, new_unlinked}
-use Rattle.covering_laws.proofs.Waiting.{AllHeldBefore, IsCarried, KeepsRoots, KeepsUnfinished, all_held_before, all_keep, all_wait, frames_ready, no_other, numbered, owed_before, value_root, was_ready, new_root}
+use Rattle.covering_laws.proofs.Waiting.{AllHeldBefore, IsCarried, KeepsRoots, KeepsUnfinished, all_held_before, all_keep, all_wait, frames_ready, no_other, numbered, owed_before, value_root, was_ready, new_root, carries_finish}
 use Rattle.covering_laws.proofs.KnownNames.{operand_temp}
 use Rattle.covering_laws.proofs.LinkedExceptions.{LinkedWere}
 use Rattle.covering_laws.proofs.BornTruths.{field_unlent}
@@ -110,11 +109,14 @@ use Rattle.covering_laws.specs.Texts.{TextsAreLight}
 use Rattle.value_laws.proofs.TargetBegun.{finds}
 use Rattle.value_laws.specs.StepTargets.{FindsIt}
 use Rattle.value_laws.specs.Frames.{holds_this, KeepsTargets}
-use Rattle.value_laws.specs.Renewing.{IsLentFrom, is_renewed, renews}
+use Rattle.value_laws.specs.Renewing.{IsLentFrom, is_renewed, renews, makes_alone, IsHeldBy}
 use Rattle.covering_laws.proofs.RenewedOperands.{step_renews, renewed_answered, renewed_not_given}
 use Rattle.value_laws.proofs.Readings.{operand_renews}
 use Rattle.covering_laws.proofs.Following.{same_body, method_here}
 use Rattle.value_laws.proofs.FactOrigins.{this_own}
+use Rattle.covering_laws.proofs.ResetCovers.{AreMaking}
+use Rattle.value_laws.proofs.Growth.{began_grows}
+use Rattle.ledger_state.specs.declared.entry.Owner.{Owner}
 use Rattle.covering_laws.proofs.CallersWait.{caller_waits, field_below}
 
 -- ---- words
@@ -132,20 +134,9 @@ object_value k v o is = absurd (let never : None ≡ Some o = is in cc)
 unclaimed_mode : (p : Program) (k : Option Method) (g : Origin) (q : Place) (m : Mode) (names : Names) (full : Bool) → (is_own m || is_held m) ≡ false → claims p k g (fact_at q m names full) ≡ true → ⊥
 unclaimed_mode p k g q m names full none claimed = true≢false (sym (claims_owned p k g (fact_at q m names full) claimed).1 ∙ none)
 
-constructor_kind : (k : MethodKind) → is_constructor_kind k ≡ true → k ≡ methods.Ctor
-constructor_kind methods.Ctor is = refl
-constructor_kind methods.Instance is = absurd (true≢false (sym is))
-constructor_kind methods.Static is = absurd (true≢false (sym is))
-constructor_kind methods.Constant is = absurd (true≢false (sym is))
-
 locals_of : (p : Program) (x : Option BodyId) (fr : Frame) → (control_in p x fr).locals ≡ fr.locals
 locals_of p None fr = refl
 locals_of p (Some b) fr = refl
-
-element_there : {X : Type 0} (xs : List X) (i : ℕ) → i < length xs → (x : X) × (slice_get xs i ≡ Some x)
-element_there [] i inside = absurd (omega (arith, inside))
-element_there (x ∷ xs) zero inside = (x, refl)
-element_there (x ∷ xs) (suc i) inside = element_there xs i (omega (arith, inside))
 
 -- the first operand of a call with a target
 is_first : (d n : ℕ) → 0 < n → d < 64 → (nat_lt 0 n && nat_le (d + 0) 4294967295) ≡ true
@@ -158,7 +149,7 @@ first_value l d n some small =
 -- ---- the call
 
 module _ (p : Program) (ac : Accept p) (forms' : HasPlainForms p) (plain : HasPlainRuns p) (h : HeapContents) (texts : TextsAreLight p h) (links : HasEarlierLinks h) (ranges : FieldsInRange h) (stored : StoredHoldNone (is_text p h) p h)
-    (fr : Frame) (frs : List Frame) (st : Stands p fr) (keeps : KeepsTypes (is_text p h) p fr) (targets : KeepsTargets p fr) (in' : LocalsInRange h fr.locals) (lower : LocalsIn h frs) (covered : IsCovered p h gives_none renews_none frs fr) (low : OwnersBelow h (length frs + 1)) (arrays : List ArrayObject) (named runs : MethodId) (a : Action)
+    (fr : Frame) (frs : List Frame) (st : Stands p fr) (keeps : KeepsTypes (is_text p h) p fr) (targets : KeepsTargets p fr) (in' : LocalsInRange h fr.locals) (lower : LocalsIn h frs) (covered : IsCovered p h gives_none renews_none frs fr) (low : OwnersBelow h (length frs + 1)) (making : AreMaking p h (fr ∷ frs)) (older : HoldersAreOlder p h (fr ∷ frs)) (arrays : List ArrayObject) (named runs : MethodId) (a : Action)
     (next : IsStartMove p h arrays fr.locals (frame_steps p fr) named runs a) (j : ℕ) (position : j ≡ length (fr ∷ frs) + 1) where
   abbrev s : Step
   s = next.step
@@ -264,19 +255,12 @@ module _ (p : Program) (ac : Accept p) (forms' : HasPlainForms p) (plain : HasPl
   ]
 
   -- nor what a field of `this` holds
-  apart_below : (o : ℕ) (y : Object) (f : Fact) → object_at K o ≡ Some y → (is_held f.mode ≡ true → makes_alone (method_at p begun_frame.method) ≡ true → ⊥) → y.finished ≡ true → is_apart p K stack begun_frame o y f ≡ true
-      → is_frame_from (length stack + 1) y.owner ≡ false
-  apart_below o y f at alone done apart = go (is_content p begun_frame y.owner f) refl
+  apart_below : (o : ℕ) (y : Object) (f : Fact) → object_at K o ≡ Some y → y.finished ≡ true → is_apart p K stack begun_frame o y f ≡ true → is_frame_from (length stack + 1) y.owner ≡ false
+  apart_below o y f at done apart = go (is_content p begun_frame y.owner f) refl
     where
       content : is_content p begun_frame y.owner f ≡ true → is_frame_from (length stack + 1) y.owner ≡ false
-      content is' = by (makes_alone (method_at p begun_frame.method)) refl parts.1
-        where
-          parts : (is_held f.mode ≡ true) × ((makes_alone (method_at p begun_frame.method) || not (constructs (method_at p begun_frame.method)) && is_field_of begun_frame.locals.this y.owner) ≡ true)
-          parts = and_parts (is_held f.mode) (makes_alone (method_at p begun_frame.method) || not (constructs (method_at p begun_frame.method)) && is_field_of begun_frame.locals.this y.owner) is'
-
-          by : (b : Bool) → makes_alone (method_at p begun_frame.method) ≡ b → (b || not (constructs (method_at p begun_frame.method)) && is_field_of begun_frame.locals.this y.owner) ≡ true → is_frame_from (length stack + 1) y.owner ≡ false
-          by true made one = absurd (alone parts.0 made)
-          by false made one = field_below begun_frame.locals.this (length stack + 1) y.owner (and_parts (not (constructs (method_at p begun_frame.method))) (is_field_of begun_frame.locals.this y.owner) one).1
+      content is' = field_below begun_frame.locals.this (length stack + 1) y.owner (and_parts (not (constructs (method_at p begun_frame.method))) (is_field_of begun_frame.locals.this y.owner)
+          (and_parts (is_held f.mode) (not (constructs (method_at p begun_frame.method)) && is_field_of begun_frame.locals.this y.owner) is').1).1
 
       second : (a b : Bool) → a ≡ false → (a || b) ≡ true → b ≡ true
       second true b off one = absurd (true≢false off)
@@ -288,10 +272,22 @@ module _ (p : Program) (ac : Accept p) (forms' : HasPlainForms p) (plain : HasPl
 
       go : (b : Bool) → is_content p begun_frame y.owner f ≡ b → is_frame_from (length stack + 1) y.owner ≡ false
       go true is' = content is'
-      go false none =
-          let parts = and_parts (not (is_renewed p K fr o)) (not (is_given p K fr o y.class) || is_frame_below (length stack + 1) y.owner)
-          (second (is_content p begun_frame y.owner f) (not (is_renewed p K fr o) && (not (is_given p K fr o y.class) || is_frame_below (length stack + 1) y.owner)) none apart) in
-          low_or_free (is_given p K fr o y.class) refl parts.1
+      go false none = low_or_free (is_given p K fr o y.class) refl (second (is_content p begun_frame y.owner f) (not (is_given p K fr o y.class) || is_frame_below (length stack + 1) y.owner) none
+          (and_parts (not (is_renewed p K fr o)) (is_content p begun_frame y.owner f || (not (is_given p K fr o y.class) || is_frame_below (length stack + 1) y.owner)) apart).1)
+
+  -- what was finished is so
+  finishes : KeepsFinished h K
+  finishes = carries_finish h K (began_grows p l s.action (method_at p named) j h).count (start_carries p l s.action (method_at p named) j h links)
+
+  -- the holder of an object is finished, or a frame runs on it
+  older_here : (o : ℕ) (y : Object) → object_at K o ≡ Some y → is_heavy_class p y.class ≡ true → y.finished ≡ true → HasOlderHolder K stack y.owner
+  older_here o y at heavy done w held = elim (begun_from p l s.action (method_at p named) j h links o y at) [
+    | inl new ↦ absurd (true≢false (sym done ∙ new.unfinished))
+    | inr old ↦ elim (start_owner p l s.action (method_at p named) j h links o old.before y old.at at) [
+      | inl same ↦ elim (older o old.before old.at (ap (is_heavy_class p) (sym old.goes_on.class) ∙ heavy) w (ap (λ (a : Owner). is_held_by a w) (sym same) ∙ held)) [ inl made ↦ inl (finishes w made) | inr runs ↦ inr runs ]
+      | inr given ↦ absurd (true≢false (sym held ∙ ap (λ (a : Owner). is_held_by a w) given.0))
+    ]
+  ]
 
   -- ---- what is lent to the frame that begins
 
@@ -319,7 +315,7 @@ module _ (p : Program) (ac : Accept p) (forms' : HasPlainForms p) (plain : HasPl
         renewed,
         elim (renewed_answered p ac forms' h fr st frs next.index s next.here row covered o x before heavy' owes' does done') [
           | inl own ↦ inl (same ∙ own)
-          | inr lent ↦ inr (subst (IsLentFrom p K frs o) (sym same) (below_same.lent o x.owner lent))
+          | inr other ↦ inr (elim other [ inl lent ↦ inl (subst (IsLentFrom p K frs o) (sym same) (below_same.lent o x.owner lent)) | inr held ↦ inr (subst (IsHeldBy p fr) (sym same) held) ])
         ],
       )
         where
@@ -348,18 +344,19 @@ module _ (p : Program) (ac : Accept p) (forms' : HasPlainForms p) (plain : HasPl
   -- the place is in a fact that says that the frame owns the object, which was an argument, or in one that does not say so
   abbrev Covered : Place → ℕ → Object → Type 0
   Covered q o y =
-      ((c : Covers p K false false stack begun_frame o y) × (has c.fact.places q ≡ true) × (is_owning_fact p c.origin c.fact ≡ true) × TakesAt q o) ⊎ IsUnowned p K false false stack begun_frame q o y
+      ((c : Covers p K false false stack begun_frame o y) × (has c.fact.places q ≡ true) × (claims p (method_at p begun_frame.method) c.origin c.fact ≡ true) × TakesAt q o) ⊎ IsUnowned p K false false stack begun_frame q o y
 
-  unowned_born : (q : Place) (o : ℕ) (y : Object) (g : Origin) (f : Fact) → (c : Covers p K false false stack begun_frame o y) × (has c.fact.places q ≡ true) × (c.origin ≡ g) × (c.fact ≡ f) → (is_owning_fact p g f ≡ true → ⊥) → Covered q o y
-  unowned_born q o y g f c none = inr (born_unowned p K false stack begun_frame q o y g f c (go (is_owning_fact p g f) refl))
+  unowned_born : (q : Place) (o : ℕ) (y : Object) (g : Origin) (f : Fact) → (c : Covers p K false false stack begun_frame o y) × (has c.fact.places q ≡ true) × (c.origin ≡ g) × (c.fact ≡ f) → (claims p (method_at p begun_frame.method) g f ≡ true → ⊥)
+      → Covered q o y
+  unowned_born q o y g f c none = inr (born_unowned p K false stack begun_frame q o y g f c (go (claims p (method_at p begun_frame.method) g f) refl))
     where
-      go : (b : Bool) → is_owning_fact p g f ≡ b → is_owning_fact p g f ≡ false
+      go : (b : Bool) → claims p (method_at p begun_frame.method) g f ≡ b → claims p (method_at p begun_frame.method) g f ≡ false
       go true is' = absurd (none is')
       go false is' = is'
 
-  -- a fact in another mode does not say so
-  not_owning : (g : Origin) (f : Fact) → (is_own f.mode || is_held f.mode) ≡ false → is_owning_fact p g f ≡ true → ⊥
-  not_owning g f none is' = true≢false (sym (or_left (is_own f.mode) (is_held f.mode) (and_parts (is_heavy_class p g.class) (is_own f.mode) is').1) ∙ none)
+  -- a fact in another mode claims nothing
+  not_owning : (g : Origin) (f : Fact) → (is_own f.mode || is_held f.mode) ≡ false → claims p (method_at p begun_frame.method) g f ≡ true → ⊥
+  not_owning g f none is' = true≢false (sym (claims_owned p (method_at p begun_frame.method) g f is').1 ∙ none)
 
   -- ---- parameters
 
@@ -409,12 +406,12 @@ module _ (p : Program) (ac : Accept p) (forms' : HasPlainForms p) (plain : HasPl
             → (z : Covers p K false false stack begun_frame o y) × (has z.fact.places (places.Var i) ≡ true) × (z.origin ≡ (origin_of p (kinds.Param i) var.0.pos c None)) × (z.fact ≡ (fact_at (places.Var i) (parameter_mode run.sig (i + 1) like.0) like.0.before true))
         covers truth = entered_covers p K begun_frame begun'.stands begun'.starts stack (places.Var i) o y (origin_of p (kinds.Param i) var.0.pos c None) (parameter_mode run.sig (i + 1) like.0) like.0.before true birth.0 room birth.1 root truth lent'
             (λ held. absurd (true≢false (sym held ∙ parameter_unheld run.sig (i + 1) like.0)))
-            (apart_below o y (fact_at (places.Var i) (parameter_mode run.sig (i + 1) like.0) like.0.before true) at (λ held. absurd (true≢false (sym held ∙ parameter_unheld run.sig (i + 1) like.0))))
+            (apart_below o y (fact_at (places.Var i) (parameter_mode run.sig (i + 1) like.0) like.0.before true) at)
             (λ held. absurd (true≢false (sym held ∙ parameter_unheld run.sig (i + 1) like.0)))
             (λ mode done. renewed_lent (i + 1) o y (next.fit.reset (i + 1) (lent_parameter run.sig (i + 1) like.0 mode)) operand_root at heavy owes done)
             (λ constructor this. absurd (no_parameter i this))
             (λ k same claimed. absurd (let never : places.Var i ≡ places.Field k = same in cc)) (λ k same heavy'. absurd (let never : places.Var i ≡ places.Field k = same in cc))
-            (λ k same. absurd (let never : places.Var i ≡ places.Field k = same in cc))
+            (λ k same. absurd (let never : places.Var i ≡ places.Field k = same in cc)) (older_here o y at heavy)
           where
             is_lent_here : is_lent p (method_at p begun_frame.method) (kinds.Param i) ≡ is_lent_parameter p (Some like.0)
             is_lent_here = ap (λ (m : Option Method). is_lent p m (kinds.Param i)) (ap (method_at p) begun'.method ∙ begun'.named) ∙ ap (is_lent_parameter p) like.1
@@ -446,12 +443,14 @@ module _ (p : Program) (ac : Accept p) (forms' : HasPlainForms p) (plain : HasPl
             inl (
               z.0,
               z.1,
-              ap (λ (u : Origin). is_owning_fact p u z.0.fact) z.2 ∙ ap (is_owning_fact p (origin_of p (kinds.Param i) var.0.pos c None)) z.3 ∙ and_from (is_heavy_class p c) (is_own (parameter_mode run.sig (i + 1) like.0)) heavy' (rw owning refl),
+              ap (λ (u : Origin). claims p (method_at p begun_frame.method) u z.0.fact) z.2 ∙ ap (claims p (method_at p begun_frame.method) (origin_of p (kinds.Param i) var.0.pos c None)) z.3
+                  ∙ and_from (is_heavy_class p c) (is_own (parameter_mode run.sig (i + 1) like.0) || is_held (parameter_mode run.sig (i + 1) like.0) && makes_alone (method_at p begun_frame.method)) heavy'
+                  (or_left (is_own (parameter_mode run.sig (i + 1) like.0)) (is_held (parameter_mode run.sig (i + 1) like.0) && makes_alone (method_at p begun_frame.method)) (rw owning refl)),
               (i, refl, param.0, param_at, same_mark like.0.owning param.0.owning like.3 owning, subst (λ (t : VType). not (is_empty (must_of_optional p (Some t))) ≡ true) (sym type) heavy', operand_root),
             )
         owned_by false light owning = unowned_born (places.Var i) o y (origin_of p (kinds.Param i) var.0.pos c None) (fact_at (places.Var i) (parameter_mode run.sig (i + 1) like.0) like.0.before true)
             (covers (λ claimed. absurd (true≢false (sym (claims_owned p (method_at p begun_frame.method) (origin_of p (kinds.Param i) var.0.pos c None) (fact_at (places.Var i) (parameter_mode run.sig (i + 1) like.0) like.0.before true) claimed).0 ∙ light))))
-            (λ is'. true≢false (sym (and_parts (is_heavy_class p c) (is_own (parameter_mode run.sig (i + 1) like.0)) is').0 ∙ light))
+            (λ is'. true≢false (sym (claims_owned p (method_at p begun_frame.method) (origin_of p (kinds.Param i) var.0.pos c None) (fact_at (places.Var i) (parameter_mode run.sig (i + 1) like.0) like.0.before true) is').0 ∙ light))
 
         by : (b : Bool) → like.0.owning ≡ b → Covered (places.Var i) o y
         by true owning = owned_by (is_heavy_class p c) refl owning
@@ -573,12 +572,11 @@ module _ (p : Program) (ac : Accept p) (forms' : HasPlainForms p) (plain : HasPl
         not_held (is_own (this_mode run.sig run.kind)) (is_held (this_mode run.sig run.kind)) (this_unowned run.sig run.kind),
         empty_within (asked_of p (method_at p begun_frame.method) kinds.ThisRef),
       )) (λ held. within_self no_names)
-      (apart_below o y (fact_at places.This (this_mode run.sig run.kind) no_names true) at
-      (λ held. absurd (true≢false (sym (or_right (is_own (this_mode run.sig run.kind)) (is_held (this_mode run.sig run.kind)) held) ∙ this_unowned run.sig run.kind))))
+      (apart_below o y (fact_at places.This (this_mode run.sig run.kind) no_names true) at)
       (λ held. absurd (true≢false (sym (or_right (is_own (this_mode run.sig run.kind)) (is_held (this_mode run.sig run.kind)) held) ∙ this_unowned run.sig run.kind)))
       (this_lent o y root at heavy owes) (λ constructor this. this_unfinished o y root at heavy owes (sym (ap constructs (ap (method_at p) begun'.method ∙ begun'.named)) ∙ constructor))
       (λ k same claimed. absurd (let never : places.This ≡ places.Field k = same in cc)) (λ k same heavy'. absurd (let never : places.This ≡ places.Field k = same in cc))
-      (λ k same. absurd (let never : places.This ≡ places.Field k = same in cc)))
+      (λ k same. absurd (let never : places.This ≡ places.Field k = same in cc)) (older_here o y at heavy))
       (not_owning g (fact_at places.This (this_mode run.sig run.kind) no_names true) (this_unowned run.sig run.kind))
 
   -- ---- owning fields of `this`
@@ -645,9 +643,9 @@ module _ (p : Program) (ac : Accept p) (forms' : HasPlainForms p) (plain : HasPl
         (entered_covers p K begun_frame begun'.stands begun'.starts stack (places.Field n) o y (origin_of p (kinds.FieldAt f) field.field.pos c None) modes.Held no_names true birth.0 room birth.1
         (ap (λ (x : Option FieldId). root_of K (field_place_value p K begun_frame.locals.this x)) beside ∙ root) (λ claimed. absurd (unmade (claims_alone p (method_at p begun_frame.method) (origin_of p (kinds.FieldAt f) field.field.pos c None) (fact_at (places.Field n) modes.Held no_names true) refl claimed)))
         (λ lent. absurd (true≢false (sym lent ∙ field_unlent p f (method_at p begun_frame.method)))) (λ held. within_self no_names)
-        (apart_below o y (fact_at (places.Field n) modes.Held no_names true) at (λ held. unmade)) (λ held. unmade) (λ lent done. absurd (let never : modes.Held ≡ modes.Lent = lent in cc)) (λ constructor this. absurd (true≢false (sym this)))
-        (λ k same wide. subst (λ (j : ℕ). fits_field p begun_frame.method j c ≡ true) (let is : places.Field n ≡ places.Field k = same in (let one : n ≡ k = cc in one)) fits_here) (λ k same heavy'. (refl, sym heavy_here ∙ heavy')) (λ k same. refl))
-        (λ is'. true≢false (sym (and_parts (is_heavy_class p c) false is').1))
+        (apart_below o y (fact_at (places.Field n) modes.Held no_names true) at) (λ held. unmade) (λ lent done. absurd (let never : modes.Held ≡ modes.Lent = lent in cc)) (λ constructor this. absurd (true≢false (sym this)))
+        (λ k same wide. subst (λ (j : ℕ). fits_field p begun_frame.method j c ≡ true) (let is : places.Field n ≡ places.Field k = same in (let one : n ≡ k = cc in one)) fits_here) (λ k same heavy'. (refl, sym heavy_here ∙ heavy')) (λ k same. refl) (older_here o y at heavy))
+        (λ is'. unmade (claims_alone p (method_at p begun_frame.method) (origin_of p (kinds.FieldAt f) field.field.pos c None) (fact_at (places.Field n) modes.Held no_names true) refl is'))
       where
         born : field_birth p begun'.stands.number None f ≡ Some ((origin_of p (kinds.FieldAt f) field.field.pos c None), fact_at (places.Field n) modes.Held no_names true)
         born = ap (λ (b : Bool). if b then owning_field_birth p f None (field_at p f) else None) has_place ∙ ap (owning_field_birth p f None) field.at
@@ -756,7 +754,7 @@ module _ (p : Program) (ac : Accept p) (forms' : HasPlainForms p) (plain : HasPl
       by (inr u) = unowned u
       by (inl (c, here', owning, takes)) = owned c here' (record {
         owning = owning;
-        owner = λ mine. taken_owner q o y at heavy owes takes c.origin c.fact (c.true' (owning_claims p (method_at p begun_frame.method) c.origin c.fact owning) refl);
+        owner = λ mine own'. taken_owner q o y at heavy owes takes c.origin c.fact (c.true' owning refl);
         others = λ r small'' root'. elim (placed r o y small'' root' at heavy owes) [
           | inl d ↦ inl (subst (λ (u : Place). has c.fact.places u ≡ true) (not_twice q r o y at heavy owes takes d.3) here')
           | inr u ↦ inr u
@@ -771,8 +769,8 @@ module _ (p : Program) (ac : Accept p) (forms' : HasPlainForms p) (plain : HasPl
 
   -- ---- who owns what
 
-  goes : OwnersGo p None (length frs + 1) h K
-  goes = start_owners_go p l s.action (method_at p named) j h links None (length frs + 1) (omega (arith, position)) (given_owner p ac h fr st frs next.index s next.here row covered (method_at p named) same_callee)
+  goes : OwnersGo p None stack (length frs + 1) h K
+  goes = start_owners_go p l s.action (method_at p named) j h links None stack (length frs + 1) (omega (arith, position)) (given_owner p ac h fr st frs next.index s next.here row covered (method_at p named) same_callee)
 
   caller_keeps : KeepsOwners p h K (is_given p h fr) frs fr
   caller_keeps = record {
@@ -780,7 +778,8 @@ module _ (p : Program) (ac : Accept p) (forms' : HasPlainForms p) (plain : HasPl
       | inl same ↦ same ∙ mine
       | inr given ↦ absurd (true≢false (sym (step_gives p h fr next.index s o x.class next.here (moved_given p h l s.action (method_at p named) o x same_callee given.1)) ∙ spared))
     ];
-    others = stays_apart p None (length frs + 1) h K goes frs fr (omega arith) (λ w is this. absurd (let never : None ≡ Some w = is in cc));
+    others = stays_apart p None stack (length frs + 1) h K finishes goes frs fr (omega arith) (λ w is this. absurd (let never : None ≡ Some w = is in cc)) (λ w none. none.1);
+    held = held_here p None stack (length frs + 1) h K finishes goes frs fr (omega arith) (λ w none. none.0);
   }
 
   pub start_covered : LocalsIn h (fr ∷ frs) → AreWaiting p h frs → AreCovered p K (begun_frame ∷ fr ∷ frs)
@@ -788,7 +787,7 @@ module _ (p : Program) (ac : Accept p) (forms' : HasPlainForms p) (plain : HasPl
     callee_covered,
     all_wait p h K links roots (start_carries p l s.action (method_at p named) j h links) (fr ∷ frs) (all_keep p h K (start_keeps p l s.action (method_at p named) j h links) (fr ∷ frs))
         (all_there p h ranges (fr ∷ frs) all) (frames_ready p h K started_unfinished (fr ∷ frs)) (all_keep_gifts p h K roots (fr ∷ frs) all)
-        (caller_keeps, owners_kept p None (length frs + 1) h K goes frs (omega arith) tt) (caller_waits p ac forms' h fr st frs next.index s next.here row covered, waits),
+        (caller_keeps, owners_kept p None stack (length frs + 1) h K finishes goes frs (omega arith) tt (λ w none. none.1)) (caller_waits p ac forms' h fr st frs next.index s next.here row covered making, waits),
     subst (OwnersBelow K) position (start_below p l s.action (method_at p named) j h links (λ o x at. ap (λ (n : ℕ). is_frame_from n x.owner) (let number : j + 1 ≡ length frs + 1 + 1 + 1 = omega (arith, position) in number)
         ∙ below_further h (length frs + 1) low o x at)),
   )

@@ -1,5 +1,5 @@
 -- The owners of objects as a call of a method of the program begins: what an owning parameter takes is the callee's, and all others stay.
-use Rattle.std.proofs.Common.{◌≡◌, ◌⊎◌, inl, inr, ℕ, ◌+◌, ◌≤◌, Bool, true, false, true≢false, Option, None, Some, nat_eq, refl, sym, ap, ◌∙◌, subst, arith, if◌then◌else◌}
+use Rattle.std.proofs.Common.{◌≡◌, ◌⊎◌, inl, inr, ℕ, ◌+◌, ◌≤◌, Bool, true, false, true≢false, Option, None, Some, nat_eq, refl, sym, ap, ◌∙◌, subst, arith, if◌then◌else◌, List}
 use Rattle.program_model.specs.declared.program.Method.{Method}
 use Rattle.program_model.specs.declared.program.Program.{Program}
 use Rattle.ledger_obligations.specs.MustCallSets.{is_heavy_class}
@@ -19,6 +19,7 @@ use Rattle.value_laws.proofs.Begun.{begun_from}
 use Rattle.value_laws.proofs.HeapLaws.{appended_object_at-object, moved_arguments_are_older-older, numbers_are_in_range}
 use Rattle.value_laws.specs.PlaceFacts.{OwnersBelow, is_frame_from, may_owe}
 use Rattle.covering_laws.proofs.Owners.{OwnersGo, passed, stays}
+use Rattle.value_laws.specs.Configuration.{Frame}
 use Rattle.covering_laws.proofs.OwnerSteps.{KeepsLibrary, below_next, movable_owes, never_moved, own_frame, still_below}
 
 module _ (p : Program) (l : Locals) (a : Action) (named : Option Method) (j : ℕ) (h : HeapContents) (links : HasEarlierLinks h) where
@@ -42,9 +43,9 @@ module _ (p : Program) (l : Locals) (a : Action) (named : Option Method) (j : �
   ]
 
   -- where the caller, at position `i`, owned what it gives
-  pub start_owners_go : (into : Option ℕ) (i : ℕ) → i ≤ j
-      → ((n : ℕ) (x : Object) → object_at h n ≡ Some x → is_heavy_class p x.class ≡ true → may_owe x ≡ true → IsGivenAway n x → x.owner ≡ owners.Frame i) → OwnersGo p into i h after
-  start_owners_go into i above mine n x y before now done heavy = elim (start_owner n x y before now) [
+  pub start_owners_go : (into : Option ℕ) (below : List Frame) (i : ℕ) → i ≤ j
+      → ((n : ℕ) (x : Object) → object_at h n ≡ Some x → is_heavy_class p x.class ≡ true → may_owe x ≡ true → IsGivenAway n x → x.owner ≡ owners.Frame i) → OwnersGo p into below i h after
+  start_owners_go into below i above mine n x y before now done heavy = elim (start_owner n x y before now) [
     | inl same ↦ stays same
     | inr given ↦ passed (own_frame i x.owner (mine n x before heavy (movable_owes p given.1.param.vtype x given.1.may) given.1))
         (λ w held. absurd (true≢false (sym held ∙ ap (λ (o : Owner). is_held_by o w) given.0)))

@@ -54,19 +54,20 @@ use Rattle.value_laws.specs.Stores.{IsMovedIn, IsStored}
 use Rattle.value_laws.proofs.Chains.{object_there}
 use Rattle.value_laws.proofs.Ready.{step_there}
 use Rattle.value_laws.specs.FieldContents.{DeclaresOwning, FieldsHold}
-use Rattle.value_laws.specs.PlaceFacts.{AreCovered, IsCovered, IsKeyed, gives_none, is_frame_from, is_heavy_in, may_owe, owned, renews_none, unowned}
-use Rattle.covering_laws.proofs.HeavyFields.{heavy_by_fit}
+use Rattle.value_laws.specs.PlaceFacts.{AreCovered, Covers, IsCovered, IsKeyed, gives_none, is_frame_from, is_heavy_in, is_owning_fact, may_owe, owned, renews_none, unowned}
+use Rattle.covering_laws.proofs.HeavyFields.{heavy_by_fit, unclaimed_not_owning}
 use Rattle.covering_laws.proofs.KeptArguments.{argument_alone, this_alone}
 use Rattle.covering_laws.proofs.Storing.{small}
 use Rattle.value_laws.specs.Ranges.{FieldsInRange, LocalsInRange}
 use Rattle.covering_laws.specs.Linking.{LinkedAreAliases}
 use Rattle.covering_laws.proofs.LocalSteps.{LocalsIn, all_there, holds_there}
 use Rattle.covering_laws.proofs.Gifts.{all_keep_gifts}
-use Rattle.covering_laws.proofs.Owners.{AllKeepGifts, OwnersGo, StaysApart, constructor_apart, from_frame, given_kept, owners_kept}
+use Rattle.covering_laws.proofs.Owners.{AllKeepGifts, KeepsFinished, OwnersGo, StaysApart, constructor_apart, from_frame, given_kept, keeps_finished, owners_kept}
 use Rattle.covering_laws.proofs.StoreOwners.{store_below, store_keeps_library, store_owners_go}
-use Rattle.covering_laws.proofs.StoreSteps.{ArgumentIsLent, FieldTakes, OwnerStays, others_stay, store_covered, temp_is_taken}
+use Rattle.covering_laws.proofs.StoreSteps.{ArgumentIsLent, FieldTakes, FieldsStay, OwnerStays, others_stay, store_covered, temp_is_taken}
 use Rattle.covering_laws.proofs.Bodies.{argument_is_lent}
 use Rattle.covering_laws.proofs.Waiting.{AllHeldBefore, AllKeep, Carries, KeepsRoots, KeepsUnfinished, all_held_before, all_ready, all_wait, frames_ready, linked_roots, no_other}
+use Rattle.ownership_rules.specs.Facts.{has, is_own}
 use Rattle.covering_laws.proofs.LinkedExceptions.{LinkedWere, still_aliases}
 
 number_root : (h : HeapContents) (v : Value) → root_of_number h (number_of v) ≡ root_of h v
@@ -217,6 +218,9 @@ module _ (p : Program) (ac : Accept p) (forms : HasPlainForms p) (h : HeapConten
       let z = stored_back p h w f v bound o y still now in
       (stored_goes_on p h w f v o z.0 y z.2).finished ∙ ap (λ (u : Object). u.finished) (let both : Some z.0 ≡ Some x = sym z.1 ∙ before in (let one : z.0 ≡ x = cc in one)) ∙ none
 
+  stored_finishes : KeepsFinished h stored
+  stored_finishes = keeps_finished h stored (λ n x at done. let y = stored_forward p h w f v bound n x still at in (y.0, y.1, (stored_goes_on p h w f v n x y.0 y.2).finished ∙ done))
+
   stored_linked : LinkedWere h stored
   stored_linked n y l at some =
       let x = stored_back p h w f v bound n y still at in
@@ -283,27 +287,57 @@ module _ (p : Program) (ac : Accept p) (forms : HasPlainForms p) (h : HeapConten
         let same : z.0 ≡ x = (let both : Some z.0 ≡ Some x = sym z.1 ∙ before in (let one : z.0 ≡ x = cc in one)) in
         elim z.2 [ inl still' ↦ inl (still' ∙ same) | inr gone ↦ inr (ap (λ (u : Object). u.owner) (sym same) ∙ gone.0.owner) ]
 
-    -- what moves to the field the frame owns, or no frame does
+    -- what moves to the field the frame owns, or the field does
     moves_from : (o : ℕ) (x y : Object) → object_at h o ≡ Some x → object_at stored o ≡ Some y → is_heavy_class p x.class ≡ true → may_owe x ≡ true → IsMovedIn p h f v o x → y ≡ with_owner (owners.Field w f) x
-        → (x.owner ≡ owners.Frame (length frs + 1)) ⊎ (is_frame_from 0 x.owner ≡ false)
+        → (x.owner ≡ owners.Frame (length frs + 1)) ⊎ (x.owner ≡ owners.Field w f)
     moves_from o x y before at heavy owes moved now = elim (alias_form o x before heavy owes moved) [ inl none ↦ by none (covered (places.Temp d) o x room moved.root before heavy owes) | inr alias ↦ inr (in_field (stays_bound o x y before at heavy owes moved alias.0 alias.1)) ]
       where
         room : d < 64
         room = (small p ac forms h frs fr st covered i d s f here is).0
 
-        in_field : (y ≡ x) ⊎ (x.owner ≡ owners.Field w f) → is_frame_from 0 x.owner ≡ false
-        in_field (inl same) = ap (λ (z : Object). is_frame_from 0 z.owner) (sym same ∙ now)
-        in_field (inr field) = ap (is_frame_from 0) field
+        in_field : (y ≡ x) ⊎ (x.owner ≡ owners.Field w f) → x.owner ≡ owners.Field w f
+        in_field (inl same) = ap (λ (z : Object). z.owner) (sym same ∙ now)
+        in_field (inr field) = field
 
-        by : alias_position p st.number ≡ None → IsKeyed p h false false frs fr (places.Temp d) o x → (x.owner ≡ owners.Frame (length frs + 1)) ⊎ (is_frame_from 0 x.owner ≡ false)
-        by none (owned c in' key) = inl (key.owner refl)
-        by none (unowned u) = elim (temp_is_taken p ac forms h frs fr st covered i d s f here is o x u.covers u.here (heavy_field o x heavy moved) none) [
-          | inl own ↦ absurd (true≢false (sym own ∙ u.unowned))
-          | inr free ↦ inr free
+        of_temp : alias_position p st.number ≡ None → (c : Covers p h false false frs fr o x) → has c.fact.places (places.Temp d) ≡ true → (is_owning_fact p c.origin c.fact ≡ true) ⊎ (x.owner ≡ owners.Field w f)
+        of_temp none c in' = temp_is_taken p ac forms h frs fr st covered i d s f here is o x w new.this c in' (heavy_field o x heavy moved) none
+
+        by : alias_position p st.number ≡ None → IsKeyed p h false false frs fr (places.Temp d) o x → (x.owner ≡ owners.Frame (length frs + 1)) ⊎ (x.owner ≡ owners.Field w f)
+        by none (owned c in' key) = elim (of_temp none c in') [ inl own ↦ inl (key.owner refl (and_parts (is_heavy_class p c.origin.class) (is_own c.fact.mode) own).1) | inr field ↦ inr field ]
+        by none (unowned u) = elim (of_temp none u.covers u.here) [
+          | inl own ↦ absurd (true≢false (sym own ∙ unclaimed_not_owning p (method_at p fr.method) u.covers.origin u.covers.fact u.unowned))
+          | inr field ↦ inr field
         ]
 
-    owners_go : OwnersGo p (Some w) (length frs + 1) h stored
-    owners_go = store_owners_go p h stored w f v back (length frs + 1) moves_from
+    owners_go : OwnersGo p (Some w) frs (length frs + 1) h stored
+    owners_go = store_owners_go p h stored w f v back frs (hold.new.0 w declared constructor new.this) (length frs + 1) moves_from
+
+    -- what a field of the object owns it goes on owning, where another value is not stored into this field
+    two_owners : (o : ℕ) (x : Object) (g : FieldId) → x.owner ≡ owners.Field w g → (x.owner ≡ owners.Frame (length frs + 1)) ⊎ (x.owner ≡ owners.Field w f) → g ≡ f
+    two_owners o x g own (inl frame) = absurd (let never : owners.Field w g ≡ owners.Frame (length frs + 1) = sym own ∙ frame in cc)
+    two_owners o x g own (inr field) = let both : owners.Field w g ≡ owners.Field w f = sym own ∙ field in (let one : g ≡ f = cc in one)
+
+    owes_in_field : (x : Object) (g : FieldId) → x.owner ≡ owners.Field w g → may_owe x ≡ true
+    owes_in_field x g own = ap (λ (a : Owner). not (x.finished && is_library_owner a)) own ∙ none x.finished
+      where
+        none : (b : Bool) → not (b && false) ≡ true
+        none true = refl
+        none false = refl
+
+    fields_stay : FieldsStay p h stored fr w f d
+    fields_stay = record {
+      other = λ o x y g before at heavy own apart. elim (was o x y before at) [
+        | inl same ↦ ap (λ (z : Object). z.owner) same
+        | inr changed ↦ elim changed [
+          | inl gone ↦ absurd (apart (two_owners o x g own (inr gone.0.owner)))
+          | inr moved ↦ absurd (apart (two_owners o x g own (moves_from o x y before at heavy (owes_in_field x g own) moved.0 moved.1)))
+        ]
+      ];
+      same = λ o x y before at root own. elim (was o x y before at) [
+        | inl same ↦ ap (λ (z : Object). z.owner) same
+        | inr changed ↦ elim changed [ inl gone ↦ absurd (gone.0.other root) | inr moved ↦ ap (λ (z : Object). z.owner) moved.1 ∙ sym own ]
+      ];
+    }
 
     owner_stays : OwnerStays p h stored (length frs + 1) fr st f d
     owner_stays o x y before at heavy owes own = by (was o x y before at)
@@ -319,8 +353,8 @@ module _ (p : Program) (ac : Accept p) (forms : HasPlainForms p) (h : HeapConten
           | inr alias ↦ elim (stays_bound o x y before at heavy owes moved.0 alias.0 alias.1) [ inl same ↦ inl (ap (λ (z : Object). z.owner) same ∙ own) | inr field ↦ absurd (no_field field) ]
         ]
 
-  field_takes : FieldTakes p h stored (length frs + 1) fr st f d
-  field_takes o x y before at heavy root done fit plain own = ap (is_frame_from 0) (stored_takes p h w f v o x y unties root before may (subst (λ (b : Bool). object_at (stored_owning p h w f b v) o ≡ Some y) untied at))
+  field_takes : FieldTakes p h stored (length frs + 1) fr st w f d
+  field_takes o x y before at heavy root done fit plain own = (stored_takes p h w f v o x y unties root before may (subst (λ (b : Bool). object_at (stored_owning p h w f b v) o ≡ Some y) untied at))
     where
       makes_it : is_constructor p st.number ≡ true
       makes_it = ap constructs body_method ∙ constructor
@@ -361,11 +395,11 @@ module _ (p : Program) (ac : Accept p) (forms : HasPlainForms p) (h : HeapConten
   others : LocalsIn h (fr ∷ frs) → IsCovered p h gives_none renews_none frs fr → AllKeep p h stored frs
   others in' covered =
       others_stay p ac forms h stored links stored_roots carries frs fr st covered lent i d s f here is w new.this (holds_here p h w f bound v) (holds_other p h w f bound v)
-      (holds_there p h ranges fr (All-head (λ (x : Frame). LocalsInRange h x.locals) fr frs in')) (all_ready p h stored stored_unfinished fr) made (given_kept p h stored frs (gifts in')) (apart covered) field_takes (owner_stays covered) frs
+      (holds_there p h ranges fr (All-head (λ (x : Frame). LocalsInRange h x.locals) fr frs in')) (all_ready p h stored stored_unfinished fr) made (given_kept p h stored frs (gifts in')) (apart covered) field_takes (owner_stays covered) (fields_stay covered) frs
       (hold.new.0 w declared constructor new.this)
     where
       apart : IsCovered p h gives_none renews_none frs fr → StaysApart p h stored frs fr
-      apart cover = constructor_apart p (Some w) (length frs + 1) h stored (owners_go cover) frs fr (omega arith) constructor
+      apart cover = constructor_apart p (Some w) frs (length frs + 1) h stored stored_finishes (owners_go cover) frs fr (omega arith) constructor (λ n none. none)
 
   pub store_held_before : LocalsIn h (fr ∷ frs) → IsCovered p h gives_none renews_none frs fr → AllHeldBefore p h store_heap frs
   store_held_before in' covered = subst (λ (k : HeapContents). AllHeldBefore p h k frs) (sym heap_is)
@@ -375,9 +409,9 @@ module _ (p : Program) (ac : Accept p) (forms : HasPlainForms p) (h : HeapConten
   stores_covered in' covered = subst (λ (k : HeapContents). AreCovered p k (after ∷ frs)) (sym heap_is) (
     store_covered p ac forms h stored links stored_roots carries frs fr st covered.0 lent i d s f here is w new.this (holds_here p h w f bound v) (holds_other p h w f bound v)
         (holds_there p h ranges fr (All-head (λ (x : Frame). LocalsInRange h x.locals) fr frs in')) (all_ready p h stored stored_unfinished fr) made (given_kept p h stored frs (gifts in'))
-        (constructor_apart p (Some w) (length frs + 1) h stored (owners_go covered.0) frs fr (omega arith) constructor) field_takes (owner_stays covered.0),
+        (constructor_apart p (Some w) frs (length frs + 1) h stored stored_finishes (owners_go covered.0) frs fr (omega arith) constructor (λ n none. none)) field_takes (owner_stays covered.0) (fields_stay covered.0),
     all_wait p h stored links stored_roots carries frs
         (others in' covered.0) (all_there p h ranges frs (All-tail (λ (x : Frame). LocalsInRange h x.locals) fr frs in')) (frames_ready p h stored stored_unfinished frs) (gifts in')
-        (owners_kept p (Some w) (length frs + 1) h stored (owners_go covered.0) frs (omega arith) (hold.new.0 w declared constructor new.this)) covered.1,
+        (owners_kept p (Some w) frs (length frs + 1) h stored stored_finishes (owners_go covered.0) frs (omega arith) (hold.new.0 w declared constructor new.this) (λ n none. none)) covered.1,
     store_below p h stored w f v back (length frs + 1) covered.2,
   )

@@ -1,5 +1,5 @@
 -- The owners of objects over a step within a frame: what a field gives up no frame owns then, and what moves to a field was the frame's.
-use Rattle.std.proofs.Common.{◌≡◌, ◌⊎◌, inl, inr, ℕ, ◌+◌, true, false, true≢false, Option, Some, sym, ap, ◌∙◌, subst, arith, eqb-true}
+use Rattle.std.proofs.Common.{◌≡◌, ◌⊎◌, inl, inr, ℕ, ◌+◌, true, false, true≢false, List, Option, Some, sym, ap, ◌∙◌, subst, arith, eqb-true}
 use Rattle.program_model.specs.declared.kinds.ClassId.{ClassId}
 use Rattle.program_model.specs.declared.kinds.FieldId.{FieldId}
 use Rattle.program_model.specs.declared.program.Program.{Program}
@@ -7,6 +7,7 @@ use Rattle.program_model.specs.Lookups.{field_at}
 use Rattle.ledger_obligations.specs.MustCallSets.{is_heavy_class}
 use Rattle.ledger_state.specs.Contents.{HeapContents}
 use Rattle.ledger_state.specs.Heaps.{object_at}
+use Rattle.ledger_state.specs.declared.entry.Owner.{Owner}
 use Rattle.ledger_state.specs.declared.entry.Owner.TheVariants as owners
 use Rattle.ledger_state.specs.declared.object.Object.{Object}
 use Rattle.ledger_state.specs.declared.value.Value.{Value}
@@ -14,9 +15,11 @@ use Rattle.ledger_obligations.specs.Obligations.{is_held_by, is_library_owner, t
 use Rattle.ledger_steps.specs.InnerSteps.{thrown_heap}
 use Rattle.value_laws.proofs.HeapLaws.{numbers_are_in_range}
 use Rattle.value_laws.proofs.LibraryCallLaws.{exceptions_are_the_librarys}
+use Rattle.value_laws.specs.Configuration.{Frame}
+use Rattle.value_laws.specs.FieldContents.{RunOnOthers}
 use Rattle.value_laws.specs.Stores.{IsMovedIn, IsStored}
 use Rattle.value_laws.specs.PlaceFacts.{OwnersBelow, is_frame_from, may_owe}
-use Rattle.covering_laws.proofs.Owners.{OwnerGoes, OwnersGo, passed, stays, taken}
+use Rattle.covering_laws.proofs.Owners.{OwnerGoes, OwnersGo, passed, stays}
 use Rattle.covering_laws.proofs.OwnerSteps.{KeepsLibrary, free_below, gave_up, given_up_free, is_field_owner, movable_owes, never_moved, own_frame}
 
 -- ---- exceptions of operations
@@ -31,8 +34,8 @@ thrown_same p e h o x y before now = elim (exceptions_are_the_librarys p e h o y
 pub thrown_keeps_library : (p : Program) (e : Option ClassId) (h : HeapContents) → KeepsLibrary h (thrown_heap p e h)
 thrown_keeps_library p e h o x y before now done is = ap (λ (z : Object). is_library_owner z.owner) (thrown_same p e h o x y before now) ∙ is
 
-pub thrown_owners_go : (p : Program) (e : Option ClassId) (h : HeapContents) (into : Option ℕ) (j : ℕ) → OwnersGo p into j h (thrown_heap p e h)
-thrown_owners_go p e h into j o x y before now done heavy = stays (ap (λ (z : Object). z.owner) (thrown_same p e h o x y before now))
+pub thrown_owners_go : (p : Program) (e : Option ClassId) (h : HeapContents) (into : Option ℕ) (below : List Frame) (j : ℕ) → OwnersGo p into below j h (thrown_heap p e h)
+thrown_owners_go p e h into below j o x y before now done heavy = stays (ap (λ (z : Object). z.owner) (thrown_same p e h o x y before now))
 
 pub thrown_below : (p : Program) (e : Option ClassId) (h : HeapContents) (i : ℕ) → OwnersBelow h i → OwnersBelow (thrown_heap p e h) i
 thrown_below p e h i below o y now = elim (exceptions_are_the_librarys p e h o y now) [
@@ -56,19 +59,20 @@ module _ (p : Program) (h k : HeapContents) (w : ℕ) (f : FieldId) (v : Value) 
       go (inr (inl gone)) = absurd (true≢false (sym is ∙ ap is_library_owner gone.0.owner))
       go (inr (inr moved)) = absurd (never_moved p (type_of_field (field_at p f)) x moved.0.may is)
 
-  -- where the frame owns what moves to the field, or no frame does
-  pub store_owners_go : (j : ℕ)
+  -- where the frame owns what moves to the field, or the field does
+  pub store_owners_go : (below : List Frame) → RunOnOthers w below → (j : ℕ)
       → ((o : ℕ) (x y : Object) → object_at h o ≡ Some x → object_at k o ≡ Some y → is_heavy_class p x.class ≡ true → may_owe x ≡ true → IsMovedIn p h f v o x → y ≡ with_owner (owners.Field w f) x
-      → (x.owner ≡ owners.Frame j) ⊎ (is_frame_from 0 x.owner ≡ false))
-      → OwnersGo p (Some w) j h k
-  store_owners_go j mine o x y before now done heavy = go (was o x y before now)
+      → (x.owner ≡ owners.Frame j) ⊎ (x.owner ≡ owners.Field w f))
+      → OwnersGo p (Some w) below j h k
+  store_owners_go below none j mine o x y before now done heavy = go (was o x y before now)
     where
-      go : IsStored p h w f v o x y → OwnerGoes (Some w) j x.owner y.owner
+      go : IsStored p h w f v o x y → OwnerGoes (Some w) below j x.owner y.owner
       go (inl same) = stays (ap (λ (z : Object). z.owner) same)
-      go (inr (inl gone)) = gave_up (Some w) j x.owner y.owner (ap is_field_owner gone.0.owner) (given_up_free x y gone.1)
+      go (inr (inl gone)) = gave_up (Some w) below j x.owner y.owner (ap is_field_owner gone.0.owner) (given_up_free x y gone.1)
+          (λ n held. subst (λ (m : ℕ). RunOnOthers m below) (eqb-true w n (sym (ap (λ (u : Owner). is_held_by u n) gone.0.owner) ∙ held)) none)
       go (inr (inr moved)) = elim (mine o x y before now heavy (movable_owes p (type_of_field (field_at p f)) x moved.0.may) moved.0 moved.1) [
         | inl own ↦ passed (own_frame j x.owner own) into_field (λ n same. absurd (let never : owners.Field w f ≡ owners.Frame n = sym (ap (λ (z : Object). z.owner) moved.1) ∙ same in cc))
-        | inr free ↦ taken free (ap (λ (z : Object). is_frame_from 0 z.owner) moved.1) into_field
+        | inr field ↦ stays (ap (λ (z : Object). z.owner) moved.1 ∙ sym field)
       ]
         where
           into_field : (n : ℕ) → is_held_by y.owner n ≡ true → Some w ≡ Some n

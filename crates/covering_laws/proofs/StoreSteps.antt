@@ -1,8 +1,8 @@
 -- The top frame, a constructor, stores into an owning field of `this`: what the places of the frames hold stays covered.
-use Rattle.std.proofs.Common.{◌≡◌, ◌⊎◌, inl, inr, ℕ, ◌+◌, ◌<◌, arith, Bool, true, false, not, ◌&&◌, ◌||◌, cond, Option, Some, None, List, [], ◌∷◌, length, slice_get, nat_eq, eq-eqb, eqb-true, refl, sym, ap, ◌∙◌, subst, true≢false, if◌then◌else◌}
+use Rattle.std.proofs.Common.{◌≡◌, ◌⊎◌, inl, inr, ℕ, ◌+◌, ◌<◌, arith, Bool, true, false, not, ◌&&◌, ◌||◌, cond, Option, Some, None, List, [], ◌∷◌, length, slice_get, nat_eq, eqb, eq-eqb, eqb-true, refl, sym, ap, ◌∙◌, subst, true≢false, if◌then◌else◌}
 use Rattle.std.specs.FinSet as set
 use Rattle.std.proofs.lemmas.Bool.{and_from, and_parts, or_left, or_right, not-true}
-use Rattle.rlc_base.proofs.SetLaws.{within_trans, within_union_right}
+use Rattle.rlc_base.proofs.SetLaws.{within_trans}
 use Rattle.program_model.specs.declared.kinds.FieldId.{FieldId}
 use Rattle.program_model.specs.declared.program.Method.{Method}
 use Rattle.program_model.specs.declared.program.Program.{Program}
@@ -21,7 +21,7 @@ use Rattle.java_control.specs.declared.fact.Origin.{Origin}
 use Rattle.java_control.specs.declared.fact.OriginKind.{OriginKind}
 use Rattle.java_control.specs.declared.place.Place.{Place}
 use Rattle.java_control.specs.declared.place.Place.TheVariants as places
-use Rattle.ownership_rules.specs.Facts.{PlaceSet, has, is_held, is_origin_at, is_own}
+use Rattle.ownership_rules.specs.Facts.{PlaceSet, has, is_held, is_origin_at, is_own, without}
 use Rattle.ownership_rules.specs.SmallActions.{IsSmallAction}
 use Rattle.value_laws.specs.OwningFieldsStores.{is_heavy_store}
 use Rattle.value_laws.specs.Paths.{Reach, move_of, relation_of}
@@ -47,17 +47,18 @@ use Rattle.value_laws.specs.Agreement.{Stands}
 use Rattle.value_laws.specs.PlainForms.{HasPlainForms}
 use Rattle.value_laws.specs.FactGoing.{ArePlaces, IsLeft, IsTaken, StoresAs, left, taken}
 use Rattle.value_laws.specs.FieldContents.{RunOnOthers}
-use Rattle.value_laws.specs.PlaceFacts.{Covers, IsCovered, IsKeyed, IsOwned, IsTrueOf, IsUnowned, asked_of, claims, fits_field, fits_in, gives_none, is_apart, is_content, is_field_of, is_frame_below, is_frame_from, is_heavy_field, is_heavy_in, is_lent, is_owning_fact, makes_alone, may_owe, owned, tells_calls, unowned, was_given, renews_none}
+use Rattle.value_laws.specs.PlaceFacts.{Covers, HasOlderHolder, IsCovered, IsInField, IsKeyed, IsOwned, IsTrueOf, IsUnowned, asked_of, claims, fits_field, fits_in, gives_none, is_apart, is_content, is_field_of, is_frame_below, is_frame_from, is_heavy_field, is_heavy_in, is_lent, is_owning_fact, may_owe, owned, tells_calls, unowned, was_given, renews_none}
 use Rattle.value_laws.proofs.FieldPlaces.{place_of_beside}
 use Rattle.value_laws.proofs.ValuesAfter.{IsFrom, value_is_from}
-use Rattle.covering_laws.proofs.HeavyFields.{HasPlace, apart_low, apart_where, claims_alone, claims_as, claims_owned, heavy_here, held_claims, held_mode, held_tells, known_on, lent_tells, own_claims, owning_in_no_field, tells_by}
+use Rattle.covering_laws.proofs.HeavyFields.{HasPlace, apart_low, apart_where, claims_alone, claims_as, claims_owned, heavy_here, held_claims, held_mode, held_tells, known_on, lent_not_alone, lent_tells, own_claims, owning_in_no_field, tells_apart, tells_by, unclaimed_not_owning}
 use Rattle.covering_laws.proofs.Following.{method_here, step_there}
 use Rattle.covering_laws.proofs.Storing.{Goes, alone_here, goes, now, small, there}
-use Rattle.covering_laws.proofs.Owners.{KeepsGiven, StaysApart, apart_before, from_frame, no_frame_from, lent_after}
-use Rattle.covering_laws.proofs.TopSteps.{in_this}
+use Rattle.covering_laws.proofs.Owners.{KeepsGiven, StaysApart, apart_before, from_frame, lent_after}
+use Rattle.covering_laws.proofs.InFields.{declared_by_place, gone_without, held_heavy, held_in_field, in_field_on, in_this, kept_without, one_field, out_of_this, owned_at, owning_out_of_this, owning_place, place_by_number}
+use Rattle.covering_laws.proofs.TopSteps.{other_alone}
 use Rattle.covering_laws.proofs.Waiting.{AllKeep, Carries, Continues, HoldsThere, IsCarried, KeepsReady, KeepsRoots, numbered, owed_before, still_true, value_root, stays_unowned, still_unfinished}
 use Rattle.program_model.specs.Lookups.{method_at}
-use Rattle.value_laws.specs.Renewing.{was_renewed}
+use Rattle.value_laws.specs.Renewing.{was_renewed, makes_alone}
 
 not_and : (a b : Bool) → b ≡ false → (a && b) ≡ false
 not_and true b is = is
@@ -74,12 +75,12 @@ light_type p o f light heavy = true≢false (sym (or_right (is_heavy_class p o.c
 abbrev pub ArgumentIsLent : (p : Program) → (fr : Frame) → Stands p fr → Type 0
 ArgumentIsLent p fr st = is_alias_constructor p st.number ≡ true → (kind : OriginKind) → is_origin_at kind (alias_position p st.number) ≡ true → is_lent p (method_at p fr.method) kind ≡ true
 
--- where the frame, at this position, owns the object in t(d), and the field's type bounds it, no frame does after the store, unless the constructor has an aliased
+-- where the frame, at this position, owns the object in t(d), and the field's type bounds it, the field of object `w` owns it after the store, unless the constructor has an aliased
 -- argument
-abbrev pub FieldTakes : (p : Program) → HeapContents → HeapContents → ℕ → (fr : Frame) → Stands p fr → FieldId → ℕ → Type 0
-FieldTakes p h k j fr st f d =
+abbrev pub FieldTakes : (p : Program) → HeapContents → HeapContents → ℕ → (fr : Frame) → Stands p fr → ℕ → FieldId → ℕ → Type 0
+FieldTakes p h k j fr st w f d =
     (o : ℕ) (x y : Object) → object_at h o ≡ Some x → object_at k o ≡ Some y → is_heavy_class p x.class ≡ true → root_of h (temp_value fr.locals d) ≡ Some o → x.finished ≡ true → fits_type p x.class (field_type p f) ≡ true
-    → is_alias_constructor p st.number ≡ false → x.owner ≡ owners.Frame j → is_frame_from 0 y.owner ≡ false
+    → is_alias_constructor p st.number ≡ false → x.owner ≡ owners.Frame j → y.owner ≡ owners.Field w f
 
 -- what the frame owns it goes on owning, or t(d) holds it, the field's type has an obligation, and the constructor has no aliased argument
 abbrev pub OwnerStays : (p : Program) → HeapContents → HeapContents → ℕ → (fr : Frame) → Stands p fr → FieldId → ℕ → Type 0
@@ -87,11 +88,16 @@ OwnerStays p h k j fr st f d =
     (o : ℕ) (x y : Object) → object_at h o ≡ Some x → object_at k o ≡ Some y → is_heavy_class p x.class ≡ true → may_owe x ≡ true → x.owner ≡ owners.Frame j
     → (y.owner ≡ owners.Frame j) ⊎ ((root_of h (temp_value fr.locals d) ≡ Some o) × (alias_position p st.number ≡ None) × (is_heavy_in p (Some f) ≡ true))
 
--- What a fact with t(d) stands for the frame owns, or none does, where the field's type has an obligation and the constructor has no aliased argument
+-- What another field of `this` owns it goes on owning; and what the field owns and t(d) holds.
+pub record FieldsStay (p : Program) (h k : HeapContents) (fr : Frame) (w : ℕ) (f : FieldId) (d : ℕ) : Type 0 where
+  pub other : (o : ℕ) (x y : Object) (g : FieldId) → object_at h o ≡ Some x → object_at k o ≡ Some y → is_heavy_class p x.class ≡ true → x.owner ≡ owners.Field w g → (g ≡ f → ⊥) → y.owner ≡ x.owner
+  pub same : (o : ℕ) (x y : Object) → object_at h o ≡ Some x → object_at k o ≡ Some y → root_of h (temp_value fr.locals d) ≡ Some o → x.owner ≡ owners.Field w f → y.owner ≡ x.owner
+
+-- What a fact with t(d) stands for the frame owns, or the field does, where the field's type has an obligation and the constructor has no aliased argument
 pub temp_is_taken : (p : Program) (ac : Accept p) (forms : HasPlainForms p) (h : HeapContents) (frs : List Frame) (fr : Frame) (st : Stands p fr) (covered : IsCovered p h gives_none renews_none frs fr) (i d : ℕ) (s : Step) (f : FieldId)
-    (here : slice_get (frame_steps p fr) i ≡ Some s) (is : s.action ≡ actions.PutOwn f d) (o : ℕ) (x : Object) (c : Covers p h false false frs fr o x) → has c.fact.places (places.Temp d) ≡ true → is_heavy_in p (Some f) ≡ true
-    → alias_position p st.number ≡ None → (is_owning_fact p c.origin c.fact ≡ true) ⊎ (is_frame_from 0 x.owner ≡ false)
-temp_is_taken p ac forms h frs fr st covered i d s f here is o x c in' heavy plain =
+    (here : slice_get (frame_steps p fr) i ≡ Some s) (is : s.action ≡ actions.PutOwn f d) (o : ℕ) (x : Object) (w : ℕ) → fr.locals.this ≡ values.Object w → (c : Covers p h false false frs fr o x) → has c.fact.places (places.Temp d) ≡ true → is_heavy_in p (Some f) ≡ true
+    → alias_position p st.number ≡ None → (is_owning_fact p c.origin c.fact ≡ true) ⊎ (x.owner ≡ owners.Field w f)
+temp_is_taken p ac forms h frs fr st covered i d s f here is o x w this c in' heavy plain =
     by (goes p ac forms h frs fr st covered i d s f here is o x c (place_of_field p f)
     (has_copied c.fact.places (place_of_field p f) (places.Temp d) (place_of_field p f) room.1 room.1 ∙ rw (eq-eqb (field_number p f) (field_number p f) refl) in'))
   where
@@ -104,14 +110,15 @@ temp_is_taken p ac forms h frs fr st covered i d s f here is o x c in' heavy pla
     not_aliased : is_alias_constructor p st.number ≡ true → ⊥
     not_aliased aliased = true≢false (sym (and_parts (is_constructor p st.number) (is_present (alias_position p st.number)) aliased).1 ∙ ap (λ (a : Option ℕ). is_present a) plain)
 
-    in_field : (b : Bool) → has c.fact.places (place_of_field p f) ≡ b → (has c.fact.places (place_of_field p f) ≡ false → is_heavy_store p c.origin f ≡ false) → is_frame_from 0 x.owner ≡ false
+    in_field : (b : Bool) → has c.fact.places (place_of_field p f) ≡ b → (has c.fact.places (place_of_field p f) ≡ false → is_heavy_store p c.origin f ≡ false) → x.owner ≡ owners.Field w f
     in_field false out light = absurd (light_type p c.origin f (light out) heavy)
     in_field true there' light =
         let was = c.held (field_number p f) mine.small there' (heavy_here p h fr f mine heavy) in
         let alone = alone_here p ac forms h frs fr st covered i d s f here is plain in
-        c.free (c.true' (held_claims p (method_at p fr.method) c.origin c.fact alone was.0 was.1) refl).finished (ap is_held was.0) alone
+        let field = held_in_field p h false false frs fr o x c (c.true' (held_claims p (method_at p fr.method) c.origin c.fact alone was.0 was.1) refl).finished (ap is_held was.0) alone in
+        owned_at p fr x.owner w f this field.0 (one_field p fr st ac c.fact.places x.owner field f mine there')
 
-    by : (g : Fact) × Reach p st.number (relation_of p st.number) c.origin s.to g × Goes p ac forms h frs fr st covered i d s f here is o x c g → (is_owning_fact p c.origin c.fact ≡ true) ⊎ (is_frame_from 0 x.owner ≡ false)
+    by : (g : Fact) × Reach p st.number (relation_of p st.number) c.origin s.to g × Goes p ac forms h frs fr st covered i d s f here is o x c g → (is_owning_fact p c.origin c.fact ≡ true) ⊎ (x.owner ≡ owners.Field w f)
     by (g, reach, (same, taken reset called full t)) = elim t.may [ inl own ↦ inl (and_from (is_heavy_class p c.origin.class) (is_own c.fact.mode) t.heavy (ap is_own own)) | inr alias ↦ absurd (not_aliased alias.0) ]
     by (g, reach, (same, left reset called full l)) = inr (in_field (has c.fact.places (place_of_field p f)) refl (l.light in'))
 
@@ -120,8 +127,8 @@ module _ (p : Program) (ac : Accept p) (forms : HasPlainForms p) (h k : HeapCont
     (i d : ℕ) (s : Step) (f : FieldId) (here : slice_get (frame_steps p fr) i ≡ Some s) (is : s.action ≡ actions.PutOwn f d) (w : ℕ) (this : fr.locals.this ≡ values.Object w)
     (holds_here : field_value p k w f ≡ temp_value fr.locals d)
     (holds_other : (u : ℕ) (g : FieldId) → ((u ≡ w) × (g ≡ f) → ⊥) → field_value p k u g ≡ field_value p h u g)
-    (inside : HoldsThere p h fr) (ready : KeepsReady p h k fr) (v : Value) (gifts : KeepsGiven p h k frs) (others : StaysApart p h k frs fr) (takes : FieldTakes p h k (length frs + 1) fr st f d)
-    (stays : OwnerStays p h k (length frs + 1) fr st f d) where
+    (inside : HoldsThere p h fr) (ready : KeepsReady p h k fr) (v : Value) (gifts : KeepsGiven p h k frs) (others : StaysApart p h k frs fr) (takes : FieldTakes p h k (length frs + 1) fr st w f d)
+    (stays : OwnerStays p h k (length frs + 1) fr st f d) (lasting : FieldsStay p h k fr w f d) where
   abbrev after : Frame
   after = frame_after p h fr s v
 
@@ -206,31 +213,33 @@ module _ (p : Program) (ac : Accept p) (forms : HasPlainForms p) (h k : HeapCont
   makes : constructs (method_at p fr.method) ≡ true
   makes = ap constructs (sym (method_here p fr st)) ∙ (forms.stores st.number i (move_of s) f d st.control (step_there p fr st i s here) is).0
 
-  -- where it has one, what it has stored is apart only where the frame was not given it, or a frame below owns it
-  not_content : (y : Object) (g : Fact) → is_alias_constructor p st.number ≡ true → is_content p after y.owner g ≡ false
-  not_content y g aliased = silent (is_held g.mode) (makes_alone (method_at p fr.method)) (constructs (method_at p fr.method)) (none_alone (makes_alone (method_at p fr.method)) refl) makes
+  -- in an alias constructor, or one that has none, it is one or the other
+  alone_or_aliased : (makes_alone (method_at p fr.method) ≡ true) ⊎ (is_alias_constructor p st.number ≡ true)
+  alone_or_aliased = by (alias_position p st.number) refl
     where
-      silent : (b m n : Bool) → m ≡ false → n ≡ true → (b && (m || not n && is_field_of after.locals.this y.owner)) ≡ false
-      silent false m n none new = refl
-      silent true true n none new = absurd (true≢false none)
-      silent true false true none new = refl
-      silent true false false none new = absurd (true≢false (sym new))
+      by : (a : Option ℕ) → alias_position p st.number ≡ a → (makes_alone (method_at p fr.method) ≡ true) ⊎ (is_alias_constructor p st.number ≡ true)
+      by None none = inl (alone_here p ac forms h frs fr st covered i d s f here is none)
+      by (Some n) some = inr (and_from (is_constructor p st.number) (is_present (alias_position p st.number)) (ap constructs (method_here p fr st) ∙ makes) (ap (λ (a : Option ℕ). is_present a) some))
 
-      none_alone : (b : Bool) → makes_alone (method_at p fr.method) ≡ b → b ≡ false
-      none_alone true alone = absurd (not_alone aliased alone)
-      none_alone false other = refl
+  -- what it has stored is apart only where the frame was not given it, or a frame below owns it
+  not_content : (y : Object) (g : Fact) → is_content p after y.owner g ≡ false
+  not_content y g = silent (is_held g.mode) (constructs (method_at p fr.method)) makes
+    where
+      silent : (b n : Bool) → n ≡ true → (b && (not n && is_field_of after.locals.this y.owner)) ≡ false
+      silent false n new = refl
+      silent true true new = refl
+      silent true false new = absurd (true≢false (sym new))
 
-  other_apart : (o : ℕ) (y : Object) (g : Fact) → is_alias_constructor p st.number ≡ true → is_apart p k frs after o y g ≡ true
+  other_apart : (o : ℕ) (y : Object) (g : Fact) → is_apart p k frs after o y g ≡ true
       → (was_renewed p k frs o ≡ false) × ((not (was_given p k frs o y.class) || is_frame_below (length frs + 1) y.owner) ≡ true)
-  other_apart o y g aliased apart = (not-true (was_renewed p k frs o) parts.0, parts.1)
+  other_apart o y g apart = (not-true (was_renewed p k frs o) parts.0, second (is_content p after y.owner g) (not (was_given p k frs o y.class) || is_frame_below (length frs + 1) y.owner) (not_content y g) parts.1)
     where
       second : (a b : Bool) → a ≡ false → (a || b) ≡ true → b ≡ true
       second true b off one = absurd (true≢false off)
       second false b off one = one
 
-      parts : (not (was_renewed p k frs o) ≡ true) × ((not (was_given p k frs o y.class) || is_frame_below (length frs + 1) y.owner) ≡ true)
-      parts = and_parts (not (was_renewed p k frs o)) (not (was_given p k frs o y.class) || is_frame_below (length frs + 1) y.owner)
-          (second (is_content p after y.owner g) (not (was_renewed p k frs o) && (not (was_given p k frs o y.class) || is_frame_below (length frs + 1) y.owner)) (not_content y g aliased) apart)
+      parts : (not (was_renewed p k frs o) ≡ true) × ((is_content p after y.owner g || (not (was_given p k frs o y.class) || is_frame_below (length frs + 1) y.owner)) ≡ true)
+      parts = and_parts (not (was_renewed p k frs o)) (is_content p after y.owner g || (not (was_given p k frs o y.class) || is_frame_below (length frs + 1) y.owner)) apart
 
   -- ---- a fact over the store
 
@@ -305,12 +314,12 @@ module _ (p : Program) (ac : Accept p) (forms : HasPlainForms p) (h k : HeapCont
         alone = λ n one. places_stay_in_range p st.number (actions.PutOwn f d) s.edge c.fact.places room c.alone n (sym (same n) ∙ one);
         places = λ u less one. holds_later u less (sym (same (number_of u)) ∙ one);
         true' = λ claimed mine'. taken_truth t.may claimed;
-        lent = λ lent. (not_and (is_heavy_class p c.origin.class) (is_own g.mode) (ap is_own t.mode), (λ held. makes));
+        lent = λ lent. (not_and (is_heavy_class p c.origin.class) (is_own g.mode) (ap is_own t.mode), (λ held. (makes, taken_aliased t.may lent)));
         lends = λ lent done'. absurd (let never : modes.Held ≡ modes.Lent = sym t.mode ∙ lent in cc);
         makes = λ constructor this. still_unfinished x y done (c.makes constructor this);
         unrenewed = λ done' tells apart. refl;
         free = λ done' held alone. taken_free t.may alone;
-        known = λ finished' tells apart. taken_known t.may finished' apart;
+        known = λ finished' tells apart. taken_known t.may finished' tells apart;
         fields = λ n less wide one. elim (was_in (places.Field n) less (in_later n one)) [
           | inl field ↦ same_fit n field.0 ∙ t.fits
           | inr other ↦ c.fields n less t.heavy other.1
@@ -324,7 +333,7 @@ module _ (p : Program) (ac : Accept p) (forms : HasPlainForms p) (h k : HeapCont
           taken_truth (inr alias) claimed = absurd (not_alone alias.0 (claims_alone p (method_at p fr.method) c.origin g t.mode claimed))
 
           -- the field takes it from the frame
-          released : c.fact.mode ≡ modes.Own → is_frame_from 0 y.owner ≡ false
+          released : c.fact.mode ≡ modes.Own → y.owner ≡ owners.Field w f
           released own =
               let truth = c.true' (own_claims p (method_at p fr.method) c.origin c.fact own t.heavy) refl in
               takes o x y before at broad (c.places (places.Temp d) room.0 t.there) truth.finished
@@ -338,29 +347,56 @@ module _ (p : Program) (ac : Accept p) (forms : HasPlainForms p) (h k : HeapCont
                   by false none = none
                   by true aliased = absurd (true≢false (sym (and_from (is_heavy_class p c.origin.class) (is_own c.fact.mode) t.heavy (ap is_own own)) ∙ (c.lent (lent' aliased c.origin.kind (t.alias aliased))).0))
 
-          taken_free : (c.fact.mode ≡ modes.Own) ⊎ ((is_alias_constructor p st.number ≡ true) × (c.fact.mode ≡ modes.Alias)) → makes_alone (method_at p fr.method) ≡ true → is_frame_from 0 y.owner ≡ false
-          taken_free (inl own) alone = released own
+          taken_aliased : (c.fact.mode ≡ modes.Own) ⊎ ((is_alias_constructor p st.number ≡ true) × (c.fact.mode ≡ modes.Alias)) → is_lent p (method_at p fr.method) c.origin.kind ≡ true → makes_alone (method_at p fr.method) ≡ false
+          taken_aliased (inl own) lent = absurd (true≢false (sym (and_from (is_heavy_class p c.origin.class) (is_own c.fact.mode) t.heavy (ap is_own own)) ∙ (c.lent lent).0))
+          taken_aliased (inr alias) lent = go (makes_alone (method_at p fr.method)) refl
+            where
+              go : (b : Bool) → makes_alone (method_at p fr.method) ≡ b → makes_alone (method_at p fr.method) ≡ false
+              go false other = other
+              go true alone = absurd (not_alone alias.0 alone)
+
+          -- the field's place is in the fact, and no other place of `this`
+          taken_field : c.fact.mode ≡ modes.Own → IsInField p after g.places y.owner
+          taken_field own = (
+            record { field = f; declared = declared_by_place p fr st f (forms.stores st.number i (move_of s) f d st.control (step_there p fr st i s here) is).1; holder = w; runs = this; owns = released own },
+            same (number_of (place_of_field p f)) ∙ has_later (place_of_field p f) mine.small ∙ rw (eq-eqb (field_number p f) (field_number p f) refl) t.there,
+            out_of_this c.fact.places (without g.places (place_of_field p f)) from
+                (owning_out_of_this p ac h false false frs fr st o x c (and_from (is_heavy_class p c.origin.class) (is_own c.fact.mode) t.heavy (ap is_own own))),
+          )
+            where
+              from : (q : Place) → IsSmall q → is_local q ≡ false → has (without g.places (place_of_field p f)) q ≡ true → has c.fact.places q ≡ true
+              from q less out in' = go (eqb (number_of q) (number_of (place_of_field p f))) refl
+                where
+                  go : (b : Bool) → eqb (number_of q) (number_of (place_of_field p f)) ≡ b → has c.fact.places q ≡ true
+                  go true at' = absurd (true≢false (sym in' ∙ gone_without g.places (place_of_field p f) q at'))
+                  go false apart = elim (was_in q less (sym (same (number_of q)) ∙ (kept_without g.places (place_of_field p f) q apart ∙ in'))) [
+                    | inl field ↦ absurd (true≢false (sym (eq-eqb (number_of q) (number_of (place_of_field p f)) (ap number_of (sym (single_place-same (place_of_field p f) q field.0)))) ∙ apart))
+                    | inr other ↦ other.1
+                  ]
+
+          taken_free : (c.fact.mode ≡ modes.Own) ⊎ ((is_alias_constructor p st.number ≡ true) × (c.fact.mode ≡ modes.Alias)) → makes_alone (method_at p fr.method) ≡ true
+              → (false ≡ false) × (is_heavy_class p c.origin.class ≡ true) × IsInField p after g.places y.owner
+          taken_free (inl own) alone = (refl, t.heavy, taken_field own)
           taken_free (inr alias) alone = absurd (not_alone alias.0 alone)
 
-          taken_known : (c.fact.mode ≡ modes.Own) ⊎ ((is_alias_constructor p st.number ≡ true) × (c.fact.mode ≡ modes.Alias)) → y.finished ≡ true → is_apart p k frs after o y g ≡ true
-              → (false ≡ false) × (is_frame_from (length frs + 1) y.owner ≡ false) × (set.is_subset g.called (set.union asked y.called) ≡ true)
-          taken_known (inl own) finished' apart = (
-            refl,
-            no_frame_from 0 (length frs + 1) y.owner (omega arith) (released own),
-            names g called finished'
-                (λ was. within_trans c.fact.called x.called (set.union asked x.called) (c.true' (own_claims p (method_at p fr.method) c.origin c.fact own t.heavy) refl).called (within_union_right asked x.called)),
-          )
-          taken_known (inr alias) finished' apart =
-              let was = c.known (done finished') (lent_tells p fr.method c.origin c.fact (lent' alias.0 c.origin.kind (t.alias alias.0)))
+          taken_known : (c.fact.mode ≡ modes.Own) ⊎ ((is_alias_constructor p st.number ≡ true) × (c.fact.mode ≡ modes.Alias)) → y.finished ≡ true → tells_calls p fr.method c.origin g ≡ true → is_apart p k frs after o y g ≡ true
+              → (false ≡ false) × (is_frame_from (length frs + 1) y.owner ≡ false) × (set.is_subset g.called (set.union asked y.called) ≡ true) × HasOlderHolder k frs y.owner
+          taken_known (inl own) finished' tells apart = absurd (elim alone_or_aliased [
+            | inl alone ↦ true≢false (sym alone ∙ other_alone (is_held g.mode) (makes_alone (method_at p fr.method)) (ap is_held t.mode) (tells_apart p fr.method c.origin g tells))
+            | inr aliased ↦ true≢false (sym (and_from (is_heavy_class p c.origin.class) (is_own c.fact.mode) t.heavy (ap is_own own)) ∙ (c.lent (lent' aliased c.origin.kind (t.alias aliased))).0)
+          ])
+          taken_known (inr alias) finished' tells apart =
+              let is_lent' : is_lent p (method_at p fr.method) c.origin.kind ≡ true = lent' alias.0 c.origin.kind (t.alias alias.0) in
+              let was = c.known (done finished') (lent_tells p fr.method c.origin c.fact (lent_not_alone p h false false frs fr o x c is_lent') is_lent')
               (split (is_frame_below (length frs + 1) y.owner) refl) in
-              (refl, others.apart o x y before at (done finished') broad was.1, names g called finished' (λ was'. was.2))
+              (refl, others.apart o x y before at (done finished') broad was.1, names g called finished' (λ was'. was.2), others.older o x y before at (done finished') broad was.1 was.3)
             where
               first : (a b : Bool) → b ≡ false → (a || b) ≡ true → a ≡ true
               first true b off one = refl
               first false b off one = absurd (true≢false (sym one ∙ off))
 
               its : (was_renewed p k frs o ≡ false) × ((not (was_given p k frs o y.class) || is_frame_below (length frs + 1) y.owner) ≡ true)
-              its = other_apart o y g alias.0 apart
+              its = other_apart o y g apart
 
               old : was_renewed p h frs o ≡ false
               old = sym (gifts.renewed o) ∙ its.0
@@ -380,15 +416,19 @@ module _ (p : Program) (ac : Accept p) (forms : HasPlainForms p) (h k : HeapCont
         alone = λ n one. places_stay_in_range p st.number (actions.PutOwn f d) s.edge c.fact.places room c.alone n (sym (same n) ∙ one);
         places = λ u less one. holds_later u less (sym (same (number_of u)) ∙ one);
         true' = λ claimed mine'. truth g called full (claims_as p (method_at p fr.method) c.origin c.fact g (l.mode (claims_owned p (method_at p fr.method) c.origin g claimed).1) claimed);
-        lent = λ lent. (stays_unowned p c.origin c.fact g l.mode (c.lent lent).0, (λ held. makes));
+        lent = λ lent. (stays_unowned p c.origin c.fact g l.mode (c.lent lent).0, (λ held. (c.lent lent).1 (held_before held)));
         lends = λ lent done'. (refl, lent_after p h k frs o x.owner y.owner gifts (others.keeps o x y before at (done done') broad) (c.lends (l.lent lent) (done done')).1);
         makes = λ constructor this. still_unfinished x y done (c.makes constructor this);
         unrenewed = λ done' tells apart. refl;
-        free = λ done' held' alone. others.free o x y before at (done done') broad (c.free (done done') (held_before held') alone);
+        free = λ done' held' alone. (
+          refl,
+          held_heavy p h false false frs fr o x c (done done') (held_before held') alone,
+          left_field (held_mode g.mode held') (held_in_field p h false false frs fr o x c (done done') (held_before held') alone) (held_heavy p h false false frs fr o x c (done done') (held_before held') alone),
+        );
         known = λ finished' tells apart.
-            let was = c.known (done finished') (told (tells_by p fr.method c.origin g tells))
+            let was = c.known (done finished') (told tells)
             (apart_before p h k frs fr o x y c.fact g gifts class held_before (λ plain own. absurd (true≢false (sym makes ∙ plain))) (λ low. others.low o x y before at (done finished') broad low) apart) in
-            (refl, others.apart o x y before at (done finished') broad was.1, names g called finished' (λ was'. was.2));
+            (refl, others.apart o x y before at (done finished') broad was.1, names g called finished' (λ was'. was.2), others.older o x y before at (done finished') broad was.1 was.3);
         fields = λ n less wide one. elim (was_in (places.Field n) less (in_later n one)) [
           | inl field ↦ field_claimed n less wide field.0 field.1 (has c.fact.places (place_of_field p f)) refl
           | inr other ↦ c.fields n less wide other.1
@@ -403,11 +443,93 @@ module _ (p : Program) (ac : Accept p) (forms : HasPlainForms p) (h k : HeapCont
           held_before : is_held g.mode ≡ true → is_held c.fact.mode ≡ true
           held_before held' = ap is_held (sym (l.mode (or_right (is_own g.mode) (is_held g.mode) held'))) ∙ held'
 
-          told : (is_lent p (method_at p fr.method) c.origin.kind ≡ true) ⊎ (is_held g.mode ≡ true) → tells_calls p fr.method c.origin c.fact ≡ true
-          told (inl lent) = lent_tells p fr.method c.origin c.fact lent
-          told (inr held) =
-              let same : g.mode ≡ c.fact.mode = l.mode (or_right (is_own g.mode) (is_held g.mode) held) in
-              held_tells p fr.method c.origin c.fact (sym same ∙ held_mode g.mode held)
+          told : tells_calls p fr.method c.origin g ≡ true → tells_calls p fr.method c.origin c.fact ≡ true
+          told tells = elim (tells_by p fr.method c.origin g tells) [
+            | inl lent ↦ lent_tells p fr.method c.origin c.fact (lent_not_alone p h false false frs fr o x c lent) lent
+            | inr held ↦ held_tells p fr.method c.origin c.fact (other_alone (is_held g.mode) (makes_alone (method_at p fr.method)) held (tells_apart p fr.method c.origin g tells)) (held_mode c.fact.mode (held_before held))
+          ]
+
+          -- a field that owns it goes on so, and its place stays
+          left_field : g.mode ≡ modes.Held → IsInField p fr c.fact.places x.owner → is_heavy_class p c.origin.class ≡ true → IsInField p after g.places y.owner
+          left_field held' field heavy = by (eqb (number_of (place_of_field p f)) (number_of (place_of_field p field.0.field))) refl
+            where
+              its : HasPlace p fr field.0.field
+              its = owning_place p fr st ac x.owner field.0
+
+              -- it is an object of this frame's `this`
+              at_this : x.owner ≡ owners.Field w field.0.field
+              at_this = owned_at p fr x.owner w field.0.field this field.0 refl
+
+              -- another field's place is not in the fact
+              stay_apart : (field.0.field ≡ f → ⊥) → has c.fact.places (place_of_field p f) ≡ false
+              stay_apart other = go (has c.fact.places (place_of_field p f)) refl
+                where
+                  go : (b : Bool) → has c.fact.places (place_of_field p f) ≡ b → has c.fact.places (place_of_field p f) ≡ false
+                  go false out = out
+                  go true in' = absurd (other (one_field p fr st ac c.fact.places x.owner field f mine in'))
+
+              -- so t(d) is not
+              no_temp : (field.0.field ≡ f → ⊥) → has c.fact.places (places.Temp d) ≡ false
+              no_temp other = go (has c.fact.places (places.Temp d)) refl
+                where
+                  go : (b : Bool) → has c.fact.places (places.Temp d) ≡ b → has c.fact.places (places.Temp d) ≡ false
+                  go false out = out
+                  go true in' = absurd (light_class p c.origin f (l.light in' (stay_apart other)) heavy)
+
+              -- where the places of `this` stay
+              kept : y.owner ≡ x.owner → ((q : Place) → IsSmall q → is_local q ≡ false → has c.fact.places q ≡ has g.places q) → IsInField p after g.places y.owner
+              kept same' stay = in_field_on p fr st ac after refl refl c.fact.places g.places x.owner y.owner same' (λ q less out in'. sym (stay q less out) ∙ in') (λ q less out in'. stay q less out ∙ in') field
+
+              by : (b : Bool) → eqb (number_of (place_of_field p f)) (number_of (place_of_field p field.0.field)) ≡ b → IsInField p after g.places y.owner
+              by false apart = kept (lasting.other o x y field.0.field before at broad at_this other) stay
+                where
+                  other : field.0.field ≡ f → ⊥
+                  other same' = true≢false (sym (eq-eqb (number_of (place_of_field p f)) (number_of (place_of_field p field.0.field)) (ap (λ (e : FieldId). number_of (place_of_field p e)) (sym same'))) ∙ apart)
+
+                  stay : (q : Place) → IsSmall q → is_local q ≡ false → has c.fact.places q ≡ has g.places q
+                  stay q less out = sym (same (number_of q) ∙ has_later q less ∙ go (is_place (place_of_field p f) q) refl)
+                    where
+                      go : (b : Bool) → is_place (place_of_field p f) q ≡ b → (if b then has c.fact.places (places.Temp d) else has c.fact.places q) ≡ has c.fact.places q
+                      go true e = no_temp other ∙ sym (stay_apart other) ∙ ap (has c.fact.places) (single_place-same (place_of_field p f) q e)
+                      go false e = refl
+              by true e = split (has c.fact.places (places.Temp d)) refl
+                where
+                  same_field : field.0.field ≡ f
+                  same_field = number_field (eqb-true (number_of (place_of_field p f)) (number_of (place_of_field p field.0.field)) e)
+                    where
+                      number_field : 161 + field_number p f ≡ 161 + field_number p field.0.field → field.0.field ≡ f
+                      number_field all =
+                          let number : field_number p f ≡ field_number p field.0.field = omega (arith, all) in
+                          let both : Some field.0.field ≡ Some f = sym its.beside ∙ ap (owning_field_beside p fr.method) (sym number) ∙ mine.beside in (let one : field.0.field ≡ f = cc in one)
+
+                  has_field : has c.fact.places (place_of_field p f) ≡ true
+                  has_field = ap (λ (e : FieldId). has c.fact.places (place_of_field p e)) (sym same_field) ∙ field.1
+
+                  split : (b : Bool) → has c.fact.places (places.Temp d) ≡ b → IsInField p after g.places y.owner
+                  split true in' = kept (lasting.same o x y before at (c.places (places.Temp d) room.0 in') (at_this ∙ ap (owners.Field w) same_field)) stay
+                    where
+                      stay : (q : Place) → IsSmall q → is_local q ≡ false → has c.fact.places q ≡ has g.places q
+                      stay q less out = sym (same (number_of q) ∙ has_later q less ∙ go (is_place (place_of_field p f) q) refl)
+                        where
+                          go : (b : Bool) → is_place (place_of_field p f) q ≡ b → (if b then has c.fact.places (places.Temp d) else has c.fact.places q) ≡ has c.fact.places q
+                          go true e' = in' ∙ sym has_field ∙ ap (has c.fact.places) (single_place-same (place_of_field p f) q e')
+                          go false e' = refl
+                  split false out = absurd (true≢false (sym (l.within out has_field held') ∙ out_of_this (without c.fact.places (place_of_field p field.0.field)) g.places from field.2))
+                    where
+                      from : (q : Place) → IsSmall q → is_local q ≡ false → has g.places q ≡ true → has (without c.fact.places (place_of_field p field.0.field)) q ≡ true
+                      from q less apart in' = elim (was_in q less (sym (same (number_of q)) ∙ in')) [
+                        | inl at' ↦ absurd (true≢false (sym at'.1 ∙ out))
+                        | inr other ↦ go (eqb (number_of q) (number_of (place_of_field p field.0.field))) refl other.0 other.1
+                      ]
+                        where
+                          field_place : (u : Place) → IsSmall u → is_local u ≡ false → eqb (number_of u) (number_of (place_of_field p field.0.field)) ≡ true → is_place (place_of_field p f) u ≡ false → ⊥
+                          field_place u less' out' at' no' = true≢false (sym (place_by_number (field_number p f) u mine.small less' out' (eqb-true (number_of u) (number_of (place_of_field p field.0.field)) at'
+                              ∙ ap (λ (e' : FieldId). number_of (place_of_field p e')) same_field)) ∙ no')
+
+                          go : (b : Bool) → eqb (number_of q) (number_of (place_of_field p field.0.field)) ≡ b → is_place (place_of_field p f) q ≡ false → has c.fact.places q ≡ true
+                              → has (without c.fact.places (place_of_field p field.0.field)) q ≡ true
+                          go false apart' no' there' = sym (kept_without c.fact.places (place_of_field p field.0.field) q apart') ∙ there'
+                          go true at' no' there' = absurd (field_place q less apart at' no')
 
           field_claimed : (n : ℕ) → n < 16 → is_heavy_class p c.origin.class ≡ true → is_place (place_of_field p f) (places.Field n) ≡ true → has c.fact.places (places.Temp d) ≡ true
               → (b : Bool) → has c.fact.places (place_of_field p f) ≡ b → fits_field p fr.method n c.origin.class ≡ true
@@ -437,6 +559,14 @@ module _ (p : Program) (ac : Accept p) (forms : HasPlainForms p) (h k : HeapCont
         in_field : is_owning_fact p c.origin c.fact ≡ true → is_heavy_class p c.origin.class ≡ true → has c.fact.places (places.Temp d) ≡ true → (b : Bool) → has c.fact.places (place_of_field p f) ≡ b → ⊥
         in_field was heavy in' true there' = owning_in_no_field p h false false frs fr o x c was (field_number p f) mine.small there'
         in_field was heavy in' false out = light_class p c.origin f (l.light in' out) heavy
+
+    -- where the fact claims the object after the store, it did before
+    claimed_before : (g : Fact) → StoresAs p st.number c.origin f d c.fact g → claims p (method_at p fr.method) c.origin g ≡ true → claims p (method_at p fr.method) c.origin c.fact ≡ true
+    claimed_before g (taken reset called full t) claimed = elim t.may [
+      | inl own ↦ own_claims p (method_at p fr.method) c.origin c.fact own t.heavy
+      | inr alias ↦ absurd (not_alone alias.0 (claims_alone p (method_at p fr.method) c.origin g t.mode claimed))
+    ]
+    claimed_before g (left reset called full l) claimed = claims_as p (method_at p fr.method) c.origin c.fact g (l.mode (claims_owned p (method_at p fr.method) c.origin g claimed).1) claimed
 
     -- the fact at the places after the store
     abbrev After : Type 0
@@ -475,58 +605,68 @@ module _ (p : Program) (ac : Accept p) (forms : HasPlainForms p) (h k : HeapCont
     here_after : (c : Covers p h false false frs fr o x) (owned_by : IsTakenFrom o x c) (q : Place) → has (copied c.fact.places (place_of_field p f) (places.Temp d)) q ≡ true → (n : After o x y before at class broad goes_on done c owned_by) → has n.1.fact.places q ≡ true
     here_after c owned_by q in' n = ap (λ (u : Fact). has u.places q) n.3 ∙ n.4 (number_of q) ∙ in'
 
-    owning_after : (c : Covers p h false false frs fr o x) (owned_by : IsTakenFrom o x c) (n : After o x y before at class broad goes_on done c owned_by) → is_owning_fact p n.1.origin n.1.fact ≡ is_owning_fact p c.origin n.0
-    owning_after c owned_by n = ap (λ (u : Origin). is_owning_fact p u n.1.fact) n.2 ∙ ap (is_owning_fact p c.origin) n.3
+    owning_after : (c : Covers p h false false frs fr o x) (owned_by : IsTakenFrom o x c) (n : After o x y before at class broad goes_on done c owned_by)
+        → claims p (method_at p fr.method) n.1.origin n.1.fact ≡ claims p (method_at p fr.method) c.origin n.0
+    owning_after c owned_by n = ap (λ (u : Origin). claims p (method_at p fr.method) u n.1.fact) n.2 ∙ ap (claims p (method_at p fr.method) c.origin) n.3
 
     -- a fact that does not own it
     unowned_on : (z q : Place) → IsUnowned p h false false frs fr z o x → ((held : PlaceSet) → has held z ≡ true → has (copied held (place_of_field p f) (places.Temp d)) q ≡ true) → IsUnowned p k false false frs after q o y
     unowned_on z q u goes_to = by (store_covers o x y before at class broad goes_on done u.covers never q (goes_to u.covers.fact.places u.here))
       where
         never : IsTakenFrom o x u.covers
-        never owning = absurd (true≢false (sym owning ∙ u.unowned))
+        never owning = absurd (true≢false (sym owning ∙ unclaimed_not_owning p (method_at p fr.method) u.covers.origin u.covers.fact u.unowned))
 
         by : After o x y before at class broad goes_on done u.covers never → IsUnowned p k false false frs after q o y
         by n = record {
           covers = n.1;
           here = here_after u.covers never q (goes_to u.covers.fact.places u.here) n;
-          unowned = not_owning (is_owning_fact p u.covers.origin n.0) refl;
+          unowned = not_owning (claims p (method_at p fr.method) u.covers.origin n.0) refl;
         }
           where
-            not_owning : (b : Bool) → is_owning_fact p u.covers.origin n.0 ≡ b → is_owning_fact p n.1.origin n.1.fact ≡ false
+            not_owning : (b : Bool) → claims p (method_at p fr.method) u.covers.origin n.0 ≡ b → claims p (method_at p fr.method) n.1.origin n.1.fact ≡ false
             not_owning false none = owning_after u.covers never n ∙ none
-            not_owning true owning = absurd (true≢false (sym (left_owned o x y before at class broad goes_on done u.covers never n.0 n.5 owning).0 ∙ u.unowned))
+            not_owning true owning = absurd (true≢false (sym (claimed_before o x y before at class broad goes_on done u.covers never n.0 n.5 owning) ∙ u.unowned))
 
     -- the fact that owns it
     module _ (c : Covers p h false false frs fr o x) (key : IsOwned p h false false frs fr o x c) where
       owned_by : IsTakenFrom o x c
-      owned_by owning = key.owner refl
+      owned_by owning = key.owner refl (and_parts (is_heavy_class p c.origin.class) (is_own c.fact.mode) owning).1
 
       abbrev Now : Type 0
       Now = After o x y before at class broad goes_on done c owned_by
 
       -- the store takes it from a fact that has t(d), or not at all
       still_owner : (n : Now) → is_owning_fact p c.origin n.0 ≡ true → y.owner ≡ owners.Frame (length frs + 1)
-      still_owner n owning = elim (stays o x y before at broad owes (key.owner refl)) [
+      still_owner n owning = elim (stays o x y before at broad owes mine') [
         | inl same ↦ same
         | inr moved ↦ absurd (elim (key.others (places.Temp d) room.0 moved.0) [
-          | inl in' ↦ (left_owned o x y before at class broad goes_on done c owned_by n.0 n.5 owning).1 in'
-          | inr u ↦ elim (temp_is_taken p ac forms h frs fr st covered i d s f here is o x u.covers u.here moved.2 moved.1) [
-            | inl own ↦ true≢false (sym own ∙ u.unowned)
-            | inr free ↦ true≢false (sym (ap (is_frame_from 0) (key.owner refl) ∙ from_frame 0 (length frs + 1) (omega arith)) ∙ free)
+          | inl in' ↦ was.1 in'
+          | inr u ↦ elim (temp_is_taken p ac forms h frs fr st covered i d s f here is o x w this u.covers u.here moved.2 moved.1) [
+            | inl own ↦ true≢false (sym own ∙ unclaimed_not_owning p (method_at p fr.method) u.covers.origin u.covers.fact u.unowned)
+            | inr field ↦ true≢false (sym (ap (is_frame_from 0) mine' ∙ from_frame 0 (length frs + 1) (omega arith)) ∙ ap (is_frame_from 0) field)
           ]
         ])
       ]
+        where
+          was : (is_owning_fact p c.origin c.fact ≡ true) × (has c.fact.places (places.Temp d) ≡ true → ⊥)
+          was = left_owned o x y before at class broad goes_on done c owned_by n.0 n.5 owning
+
+          mine' : x.owner ≡ owners.Frame (length frs + 1)
+          mine' = owned_by was.0
 
       keyed_by : (n : Now) (q : Place) → has (copied c.fact.places (place_of_field p f) (places.Temp d)) q ≡ true → IsKeyed p k false false frs after q o y
-      keyed_by n q in' = go (is_owning_fact p c.origin n.0) refl
+      keyed_by n q in' = go (claims p (method_at p fr.method) c.origin n.0) refl
         where
           each : (u : Place) → IsSmall u → root_of k (place_value p k after.method after.locals u) ≡ Some o → (has n.1.fact.places u ≡ true) ⊎ IsUnowned p k false false frs after u o y
           each u less is' =
               let from = origin_of_place u o less is' in
               elim (key.others from.0 from.1 from.2) [ inl in'' ↦ inl (here_after c owned_by u (from.3 c.fact.places in'') n) | inr free ↦ inr (unowned_on from.0 u free from.3) ]
 
-          go : (b : Bool) → is_owning_fact p c.origin n.0 ≡ b → IsKeyed p k false false frs after q o y
-          go true owning = owned n.1 (here_after c owned_by q in' n) (record { owning = owning_after c owned_by n ∙ owning; owner = λ mine'. still_owner n owning; others = each })
+          heavy_now : claims p (method_at p fr.method) c.origin n.0 ≡ true → is_own n.1.fact.mode ≡ true → is_owning_fact p c.origin n.0 ≡ true
+          heavy_now claimed own = and_from (is_heavy_class p c.origin.class) (is_own n.0.mode) (claims_owned p (method_at p fr.method) c.origin n.0 claimed).0 (ap (λ (u : Fact). is_own u.mode) (sym n.3) ∙ own)
+
+          go : (b : Bool) → claims p (method_at p fr.method) c.origin n.0 ≡ b → IsKeyed p k false false frs after q o y
+          go true owning = owned n.1 (here_after c owned_by q in' n) (record { owning = owning_after c owned_by n ∙ owning; owner = λ mine' own. still_owner n (heavy_now owning own); others = each })
           go false none = unowned (record { covers = n.1; here = here_after c owned_by q in' n; unowned = owning_after c owned_by n ∙ none })
 
       keyed_on : (q : Place) → has (copied c.fact.places (place_of_field p f) (places.Temp d)) q ≡ true → IsKeyed p k false false frs after q o y
@@ -568,4 +708,4 @@ module _ (p : Program) (ac : Accept p) (forms : HasPlainForms p) (h k : HeapCont
 
   pub others_stay : (frs : List Frame) → RunOnOthers w frs → AllKeep p h k frs
   others_stay [] others = tt
-  others_stay (fr' ∷ frs) others = ((λ q less. stays_put fr' others.0 q), others_stay frs others.1)
+  others_stay (fr' ∷ frs) others = ((λ q less. inl (stays_put fr' others.0 q)), others_stay frs others.1)

@@ -38,7 +38,8 @@ use Rattle.value_laws.specs.Choosing.{body_id, frame_steps}
 use Rattle.value_laws.specs.Agreement.{Stands}
 use Rattle.value_laws.specs.PlainForms.{HasPlainForms}
 use Rattle.value_laws.specs.Outcomes.{After, IsFault}
-use Rattle.value_laws.specs.PlaceFacts.{Covers, IsCovered, IsTrueOf, gives_none, makes_alone, renews_none}
+use Rattle.value_laws.specs.Renewing.{makes_alone}
+use Rattle.value_laws.specs.PlaceFacts.{Covers, IsCovered, IsTrueOf, gives_none, renews_none}
 use Rattle.value_laws.specs.FactGoing.{ArePlaces, StoresAs}
 use Rattle.covering_laws.specs.Covering.{HoldsHeavy}
 use Rattle.covering_laws.proofs.Following.{breaks_nothing, followed, method_here, same_body, small_step, step_there}

@@ -1,8 +1,7 @@
 -- The top frame takes a step of its own that stores into no owning field, or a step of a call that has ended: what its places hold
 -- stays covered.
-use Rattle.std.proofs.Common.{◌≡◌, ◌⊎◌, inl, inr, ℕ, zero, suc, ◌+◌, ◌<◌, ◌≤◌, Bool, cond, true, false, ◌&&◌, ◌||◌, Option, Some, None, List, length, slice_get, nat_eq, eqb-true, refl, sym, ap, ◌∙◌, subst, true≢false, arith}
+use Rattle.std.proofs.Common.{◌≡◌, ◌⊎◌, inl, inr, ℕ, ◌+◌, ◌<◌, Bool, cond, true, false, ◌&&◌, ◌||◌, Option, Some, None, List, length, slice_get, refl, sym, ap, ◌∙◌, subst, true≢false}
 use Rattle.std.specs.FinSet as set
-use Rattle.std.proofs.lemmas.Bool.Decides.{nat_tests}
 use Rattle.std.proofs.lemmas.Bool.{and_from, and_parts, or_left, or_right}
 use Rattle.program_model.specs.declared.kinds.BodyId.{BodyId}
 use Rattle.program_model.specs.declared.kinds.ClassId.{ClassId}
@@ -21,7 +20,7 @@ use Rattle.java_control.specs.declared.fact.Mode.TheVariants as modes
 use Rattle.java_control.specs.declared.fact.Origin.{Origin}
 use Rattle.java_control.specs.declared.place.Place.{Place}
 use Rattle.java_control.specs.declared.place.Place.TheVariants as places
-use Rattle.ownership_rules.specs.Facts.{PlaceSet, has, has_field, has_field_from, has_part, is_held, is_own}
+use Rattle.ownership_rules.specs.Facts.{PlaceSet, has, is_held, is_own}
 use Rattle.ownership_rules.specs.SmallActions.{IsSmallAction}
 use Rattle.value_laws.specs.Aliases.{gives_alias}
 use Rattle.value_laws.specs.PlaceRows.{places_after}
@@ -43,39 +42,24 @@ use Rattle.value_laws.specs.PlacePlaces.{HasTarget, IsWay, SetsLocals, has_sourc
 use Rattle.value_laws.proofs.PlaceLaws.{alias_stands, places_come_from_sources, places_stay_in_range, single_place-same, source_is_small, value_comes_from_source}
 use Rattle.value_laws.specs.Agreement.{Stands}
 use Rattle.value_laws.specs.Outcomes.{After}
-use Rattle.value_laws.specs.FactGoing.{GoesAs, is_in_this, is_owned_in}
+use Rattle.value_laws.specs.FactGoing.{GoesAs, is_owned_in}
 use Rattle.value_laws.specs.PlaceFacts.{Covers, IsCovered, IsKeyed, IsOwned, IsTrueOf, IsUnowned, asked_of, claims, gives_none, is_lent, is_owning_fact, may_owe, owned, tells_calls, unowned, is_apart}
-use Rattle.covering_laws.proofs.HeavyFields.{apart_alone, claims_alone, claims_as, claims_owned, held_mode, held_tells, known_on, lent_tells, owning_claims, tells_by}
+use Rattle.covering_laws.proofs.HeavyFields.{claims_as, claims_by, claims_owned, held_mode, held_tells, known_on, lent_not_alone, lent_tells, tells_apart, tells_by, unclaimed_not_owning}
+use Rattle.covering_laws.proofs.InFields.{held_heavy, held_in_field, held_kept, held_unowned, in_field_on, in_this, held_finished}
+use Rattle.covering_laws.proofs.OwnerSteps.{own_frame}
 use Rattle.value_laws.proofs.OtherPlaces.{stays_aside, left_aside}
-use Rattle.value_laws.specs.Renewing.{fact_as}
+use Rattle.value_laws.specs.Renewing.{fact_as, makes_alone}
 use Rattle.covering_laws.proofs.Resets.{holds_no_part}
 use Rattle.value_laws.proofs.ValuesAfter.{IsFrom, value_is_from}
 use Rattle.covering_laws.proofs.Following.{followed, same_body, step_there}
-use Rattle.covering_laws.proofs.Owners.{KeepsGiven, StaysApart, apart_before, lent_after}
+use Rattle.covering_laws.proofs.Owners.{KeepsGiven, KeepsHeld, StaysApart, apart_before, lent_after}
 use Rattle.covering_laws.proofs.RenewedFacts.{true_alike}
 use Rattle.value_laws.proofs.Needs.{origin_needs_all}
-use Rattle.covering_laws.proofs.Waiting.{Carries, Continues, HoldsThere, IsCarried, KeepsFields, KeepsReady, KeepsRootsOf, numbered, owed_before, same_place, still_true, stays_unowned, still_unfinished}
+use Rattle.covering_laws.proofs.Waiting.{heavy_stays, kept_root, Carries, Continues, HoldsThere, IsCarried, KeepsFieldsButTexts, KeepsReady, KeepsRootsOf, numbered, owed_before, kept_place, still_true, stays_unowned, still_unfinished}
 use Rattle.rlc_base.proofs.SetLaws.{within_self, within_trans, within_union_right}
 use Rattle.program_model.specs.Lookups.{method_at}
 use Rattle.java_control.specs.declared.fact.Outcome.{Outcome}
 use Rattle.java_control.specs.declared.fact.Outcome.TheVariants.{Next, Gone, Fault}
-
--- the place of a field is one of `this`
-among_fields : (held : PlaceSet) (k from n : ℕ) → from ≤ k → k < from + n → has held (places.Field k) ≡ true → has_field_from held from n ≡ true
-unfolding has_field_from
-among_fields held k from zero low high is = absurd (omega (arith, low, high))
-among_fields held k from (suc n) low high is = go (nat_eq from k) refl (among_fields held k (from + 1) n)
-  where
-    go : (b : Bool) → nat_eq from k ≡ b → (from + 1 ≤ k → k < from + 1 + n → has held (places.Field k) ≡ true → has_field_from held (from + 1) n ≡ true)
-        → (has held (places.Field from) || has_field_from held (from + 1) n) ≡ true
-    go true e further = or_left (has held (places.Field from)) (has_field_from held (from + 1) n) (ap (λ (j : ℕ). has held (places.Field j)) (eqb-true from k e) ∙ is)
-    go false e further = or_right (has held (places.Field from)) (has_field_from held (from + 1) n) (further (below e) (omega (arith, high)) is)
-      where
-        below : nat_eq from k ≡ false → from + 1 ≤ k
-        below apart = first_of (omega (arith, low), grind (arith, nat_tests, low, apart))
-
-pub in_this : (held : PlaceSet) (k : ℕ) → k < 16 → has held (places.Field k) ≡ true → is_in_this held ≡ true
-in_this held k small is = or_right (has held places.This) (has_part held) (or_left (has_field held) (has held places.Super) (among_fields held k 0 16 (omega arith) small is))
 
 -- what a step makes of a fact, which is so in other words too
 pub after_as : (P Q : Fact → Type 0) (x : Outcome) → ((g : Fact) → P g → Q g) → After P x → After Q x
@@ -88,6 +72,10 @@ pub after_both : (P Q : Fact → Type 0) (x : Outcome) (A : Type 0) → After P 
 after_both P Q (Next g) A is more = (is, more)
 after_both P Q Gone A is more = is
 after_both P Q (Fault rule names) A is more = tt
+
+pub other_alone : (a b : Bool) → a ≡ true → (a && b) ≡ false → b ≡ false
+other_alone true b is none = none
+other_alone false b is none = absurd (true≢false (sym is))
 
 -- what the laws on places ask of a step that stores into no owning field
 pub record IsLocalStep (p : Program) (fr : Frame) (st : Stands p fr) (s : Step) : Type 0 where
@@ -105,7 +93,7 @@ StopsOwning p h fr frs gives renewed More o =
     (x : Object) → object_at h o ≡ Some x → (z : Place) → IsSmall z → root_of h (place_value p h fr.method fr.locals z) ≡ Some o → (c : Covers p h (gives o x.class) (renewed o) frs fr o x) → IsOwned p h (gives o x.class) (renewed o) frs fr o x c
     → (g : Fact) → More c.origin c.fact g → is_own g.mode ≡ false
 
-module _ (p : Program) (ac : Accept p) (h k : HeapContents) (links : HasEarlierLinks h) (carries : Carries h k) (fields : KeepsFields p h k)
+module _ (p : Program) (ac : Accept p) (h k : HeapContents) (links : HasEarlierLinks h) (carries : Carries h k) (fields : KeepsFieldsButTexts p h k)
     (fr : Frame) (st : Stands p fr) (i : ℕ) (s : Step) (here : slice_get (frame_steps p fr) i ≡ Some s) (r : IsLocalStep p fr st s) (inside : HoldsThere p h fr) (roots : KeepsRootsOf p h k fr) (v : Value) where
   abbrev after : Frame
   after = frame_after p h fr s v
@@ -136,9 +124,9 @@ module _ (p : Program) (ac : Accept p) (h k : HeapContents) (links : HasEarlierL
   GivesIt held o = gives_alias p s.action s.edge held ≡ true → root_of k v ≡ Some o
 
   -- where a place of a fact after the step held the object before it, or takes an alias of it, it holds it after it
-  still_holds : (held : PlaceSet) (o : ℕ) → ((z : Place) → IsSmall z → has held z ≡ true → root_of h (place_value p h fr.method fr.locals z) ≡ Some o) → GivesIt held o
+  still_holds : (held : PlaceSet) (o : ℕ) (x : Object) → object_at h o ≡ Some x → is_heavy_class p x.class ≡ true → ((z : Place) → IsSmall z → has held z ≡ true → root_of h (place_value p h fr.method fr.locals z) ≡ Some o) → GivesIt held o
       → (z : Place) → IsSmall z → has (later held) z ≡ true → root_of k (place_value p k fr.method after.locals z) ≡ Some o
-  still_holds held o before alias z small is = go (is_local z) refl
+  still_holds held o thing there heavy before alias z small is = go (is_local z) refl
     where
       from : is_local z ≡ true → (x : Option Place) → source p st.body s.action s.edge z ≡ x → has_source held x ≡ true → root_of k (place_value p k fr.method after.locals z) ≡ Some o
       from local None e one = absurd (true≢false (sym one))
@@ -158,7 +146,7 @@ module _ (p : Program) (ac : Accept p) (h k : HeapContents) (links : HasEarlierL
           (sym (places_come_from_sources p st.number st.body s.action s.edge held z st.at r.small small local r.way) ∙ is)
       go false out =
           let was = before z small (left_aside z small out p st.number s.edge held s.action r.small r.sets r.moves r.makes is) in
-          ap (root_of k) (other z out ∙ same_place p h k fields fr.method fr.locals z) ∙ root_later z o small was
+          ap (root_of k) (other z out ∙ heavy_stays p h k _ _ o thing (kept_place p h k fields fr.method fr.locals z) was there heavy) ∙ root_later z o small was
 
   -- what a fact of this origin knows is to be true: it says that the object is owned, or it is that of what is lent
   abbrev pub IsTrusted : Origin → Fact → Type 0
@@ -166,7 +154,7 @@ module _ (p : Program) (ac : Accept p) (h k : HeapContents) (links : HasEarlierL
 
   -- the step lets the fact go on, and what it knows to have been called was
   module _ (frs : List Frame) (away anew : Bool) (o : ℕ) (x y : Object) (before : object_at h o ≡ Some x) (at : object_at k o ≡ Some y) (class : y.class ≡ x.class) (wide : is_heavy_class p x.class ≡ true)
-      (goes : x.finished ≡ true → Continues x y) (ready : y.finished ≡ true → x.finished ≡ true) (gifts : KeepsGiven p h k frs) (others : StaysApart p h k frs fr) (c : Covers p h away anew frs fr o x)
+      (goes : x.finished ≡ true → Continues x y) (ready : y.finished ≡ true → x.finished ≡ true) (gifts : KeepsGiven p h k frs) (others : StaysApart p h k frs fr) (lasting : KeepsHeld p h k fr) (c : Covers p h away anew frs fr o x)
       (More : Fact → Type 0)
       (row : (q : Place) → has (later c.fact.places) q ≡ true
       → After (λ (g : Fact). GoesAs c.fact (later c.fact.places) (called_after p st.number s.action s.edge c.fact) g × More g) (flow p st.number c.origin s.action s.edge c.fact))
@@ -203,6 +191,10 @@ module _ (p : Program) (ac : Accept p) (h k : HeapContents) (links : HasEarlierL
           let parts = and_parts (is_heavy_class p c.origin.class) (is_own g.mode) owning in
           and_from (is_heavy_class p c.origin.class) (is_own c.fact.mode) parts.0 (ap is_own (sym (on.mode (or_left (is_own g.mode) (is_held g.mode) parts.1))) ∙ parts.1)
 
+      -- so it is with what it claims
+      pub claims_before : claims p (method_at p fr.method) c.origin g ≡ true → claims p (method_at p fr.method) c.origin c.fact ≡ true
+      claims_before claimed = claims_as p (method_at p fr.method) c.origin c.fact g (on.mode (claims_owned p (method_at p fr.method) c.origin g claimed).1) claimed
+
       held_before : is_held g.mode ≡ true → is_held c.fact.mode ≡ true
       held_before held = ap is_held (sym (on.mode (or_right (is_own g.mode) (is_held g.mode) held))) ∙ held
 
@@ -228,22 +220,14 @@ module _ (p : Program) (ac : Accept p) (h k : HeapContents) (links : HasEarlierL
       was_true claimed = c.true' (claims_as p (method_at p fr.method) c.origin c.fact g (on.mode (claims_owned p (method_at p fr.method) c.origin g claimed).1) claimed) (not_given claimed)
 
       not_away : claims p (method_at p fr.method) c.origin g ≡ true → away ≡ false
-      not_away claimed = by (is_own g.mode) refl
+      not_away claimed = by (claims_by p (method_at p fr.method) c.origin g claimed)
         where
           owned : (is_heavy_class p c.origin.class ≡ true) × (is_owned_in g.mode ≡ true)
           owned = claims_owned p (method_at p fr.method) c.origin g claimed
 
-          second : (a b : Bool) → (a || b) ≡ true → a ≡ false → b ≡ true
-          second true b is none = absurd (true≢false none)
-          second false b is none = is
-
-          by : (b : Bool) → is_own g.mode ≡ b → away ≡ false
-          by true own = stays_owned owned.0 own
-          by false other =
-              let held : is_held g.mode ≡ true = second (is_own g.mode) (is_held g.mode) owned.1 other in
-              let was : c.fact.mode ≡ modes.Held = held_mode c.fact.mode (held_before held) in
-              (c.known (was_true claimed).finished (held_tells p fr.method c.origin c.fact was)
-              (apart_alone p h frs fr o x c.fact was (claims_alone p (method_at p fr.method) c.origin g (held_mode g.mode held) claimed))).0
+          by : (is_own g.mode ≡ true) ⊎ ((is_held g.mode ≡ true) × (makes_alone (method_at p fr.method) ≡ true)) → away ≡ false
+          by (inl own) = stays_owned owned.0 own
+          by (inr held) = held_kept p h away anew frs fr o x c (was_true claimed).finished (held_before held.0) held.1
 
       truth : claims p (method_at p fr.method) c.origin g ≡ true → IsTrueOf p y c.origin (fact_as anew g)
       truth claimed = as_read anew refl (still_true p x y c.origin (fact_as anew c.fact) (goes (was_true claimed).finished).0 (was_true claimed))
@@ -269,9 +253,14 @@ module _ (p : Program) (ac : Accept p) (h k : HeapContents) (links : HasEarlierL
               }
 
       -- what it tells of the object
-      tells_before : (is_lent p (method_at p fr.method) c.origin.kind ≡ true) ⊎ (is_held g.mode ≡ true) → (tells_calls p fr.method c.origin c.fact ≡ true) × IsTrusted c.origin g
-      tells_before (inl lent) = (lent_tells p fr.method c.origin c.fact lent, inr lent)
-      tells_before (inr held) = (held_tells p fr.method c.origin c.fact (held_mode c.fact.mode (held_before held)), inl (or_right (is_own g.mode) (is_held g.mode) held))
+      tells_before : tells_calls p fr.method c.origin g ≡ true → (tells_calls p fr.method c.origin c.fact ≡ true) × IsTrusted c.origin g
+      tells_before tells = elim (tells_by p fr.method c.origin g tells) [
+        | inl lent ↦ (lent_tells p fr.method c.origin c.fact (lent_not_alone p h away anew frs fr o x c lent) lent, inr lent)
+        | inr held ↦ (
+          held_tells p fr.method c.origin c.fact (other_alone (is_held g.mode) (makes_alone (method_at p fr.method)) held (tells_apart p fr.method c.origin g tells)) (held_mode c.fact.mode (held_before held)),
+          inl (or_right (is_own g.mode) (is_held g.mode) held),
+        )
+      ]
 
       -- what its origin asks for
       abbrev asked : Names
@@ -288,21 +277,30 @@ module _ (p : Program) (ac : Accept p) (h k : HeapContents) (links : HasEarlierL
         fact = g;
         reached = goes_on.0;
         alone = λ n inside'. places_stay_in_range p st.number s.action s.edge c.fact.places r.small c.alone n (sym (on.places n) ∙ inside');
-        places = λ z' small' inside'. still_holds c.fact.places o c.places alias z' small' (sym (on.places (number_of z')) ∙ inside');
+        places = λ z' small' inside'. still_holds c.fact.places o x before wide c.places alias z' small' (sym (on.places (number_of z')) ∙ inside');
         true' = λ claimed spared'. truth claimed;
         lent = λ lent. (stays_unowned p c.origin c.fact g on.mode (c.lent lent).0, (λ held. (c.lent lent).1 (held_before held)));
-        free = λ done held alone. others.free o x y before at (ready done) wide (c.free (ready done) (held_before held) alone);
+        free = λ done held alone.
+            let was = held_in_field p h away anew frs fr o x c (ready done) (held_before held) alone in (
+              refl,
+              held_heavy p h away anew frs fr o x c (ready done) (held_before held) alone,
+              in_field_on p fr st ac after refl refl c.fact.places g.places x.owner y.owner (lasting o x y before at (ready done) wide alone was.0)
+                  (λ q small out is. on.places (number_of q)
+                  ∙ (stays_aside q small out p st.number s.edge c.fact.places s.action r.small r.sets r.moves r.makes (λ resets. holds_no_part p ac h fr st fr.locals (r.elsewhere resets) q o small (c.places q small is)) ∙ is))
+                  (λ q small out is. left_aside q small out p st.number s.edge c.fact.places s.action r.small r.sets r.moves r.makes (sym (on.places (number_of q)) ∙ is)) was,
+            );
         lends = λ lent done. (refl, lent_after p h k frs o x.owner y.owner gifts (others.keeps o x y before at (ready done) wide) (c.lends (on.lent lent) (ready done)).1);
         makes = λ constructor this. still_unfinished x y ready (c.makes constructor this);
-        unrenewed = λ done tells apart. c.unrenewed (ready done) (tells_before (tells_by p fr.method c.origin g tells)).0 (was_apart (ready done) apart);
+        unrenewed = λ done tells apart. c.unrenewed (ready done) (tells_before tells).0 (was_apart (ready done) apart);
         known = λ done tells apart.
             let was_done = ready done in
-            let told = tells_before (tells_by p fr.method c.origin g tells) in
+            let told = tells_before tells in
             let was = c.known was_done told.0 (was_apart was_done apart) in (
               refl,
               others.apart o x y before at was_done wide was.1,
               within_trans g.called (called_after p st.number s.action s.edge c.fact) (set.union asked y.called) on.known
                   (known g more told.1 was.0 (c.unrenewed was_done told.0 (was_apart was_done apart)) was_done (set.union asked y.called) (within_union_right asked y.called) (known_on c.fact.called asked x.called y.called was.2 (goes was_done).0.called)),
+              others.older o x y before at was_done wide was.1 was.3,
             );
         fields = λ n inside' wide' there. c.fields n inside' wide' (aside n inside' (sym (on.places (161 + n)) ∙ there));
         held = λ n inside' there heavy.
@@ -329,7 +327,7 @@ module _ (p : Program) (ac : Accept p) (h k : HeapContents) (links : HasEarlierL
   abbrev pub IsOwnedFrom : List Frame → (ℕ → ClassId → Bool) → (ℕ → Bool) → (Origin → Fact → Fact → Type 0) → ℕ → Origin → Fact → Type 0
   IsOwnedFrom frs gives renewed More o origin g =
       ((x : Object) × (object_at h o ≡ Some x) × (c : Covers p h (gives o x.class) (renewed o) frs fr o x) × IsOwned p h (gives o x.class) (renewed o) frs fr o x c × (origin ≡ c.origin) × More c.origin c.fact g)
-      ⊎ StopsOwning p h fr frs gives renewed More o
+      ⊎ (StopsOwning p h fr frs gives renewed More o × (is_own g.mode ≡ true))
 
   -- the place is in a fact that owns the object so, or in one that does not
   abbrev pub IsKeyedFrom : List Frame → (ℕ → ClassId → Bool) → (ℕ → Bool) → (Origin → Fact → Fact → Type 0) → Place → ℕ → Object → Type 0
@@ -337,7 +335,7 @@ module _ (p : Program) (ac : Accept p) (h k : HeapContents) (links : HasEarlierL
       ((c : Covers p k false (renewed o) frs after o y) × (has c.fact.places q ≡ true) × IsOwned p k false (renewed o) frs after o y c × IsOwnedFrom frs gives renewed More o c.origin c.fact) ⊎ IsUnowned p k false (renewed o) frs after q o y
 
   -- all that the frame's places hold after the step was held before it, or the step made it
-  module _ (frs : List Frame) (gives : ℕ → ClassId → Bool) (renewed : ℕ → Bool) (covered : IsCovered p h gives renewed frs fr) (ready : KeepsReady p h k fr) (gifts : KeepsGiven p h k frs) (others : StaysApart p h k frs fr)
+  module _ (frs : List Frame) (gives : ℕ → ClassId → Bool) (renewed : ℕ → Bool) (covered : IsCovered p h gives renewed frs fr) (ready : KeepsReady p h k fr) (gifts : KeepsGiven p h k frs) (others : StaysApart p h k frs fr) (lasting : KeepsHeld p h k fr)
       (More : Origin → Fact → Fact → Type 0)
       (row : (o : ℕ) (x : Object) (c : Covers p h (gives o x.class) (renewed o) frs fr o x) (q : Place) → has (later c.fact.places) q ≡ true
       → After (λ (g : Fact). GoesAs c.fact (later c.fact.places) (called_after p st.number s.action s.edge c.fact) g × More c.origin c.fact g) (flow p st.number c.origin s.action s.edge c.fact))
@@ -372,7 +370,7 @@ module _ (p : Program) (ac : Accept p) (h k : HeapContents) (links : HasEarlierL
         go false out = inl (
           q,
           small,
-          root_earlier q o small (ap (root_of k) (sym (other q out ∙ same_place p h k fields fr.method fr.locals q)) ∙ held),
+          root_earlier q o small (ap (root_of k) (sym (other q out ∙ kept_root p h k _ _ o (kept_place p h k fields fr.method fr.locals q) (ap (root_of k) (sym (other q out)) ∙ held))) ∙ held),
           (λ held' one. stays_aside q small out p st.number s.edge held' s.action r.small r.sets r.moves r.makes (λ resets. holds_no_part p ac k fr st after.locals (r.elsewhere resets) q o small held) ∙ one),
         )
 
@@ -388,26 +386,26 @@ module _ (p : Program) (ac : Accept p) (h k : HeapContents) (links : HasEarlierL
       -- a fact that does not own it
       unowned_on : (z q : Place) → IsUnowned p h away anew frs fr z o x → ((held : PlaceSet) → has held z ≡ true → has (later held) q ≡ true) → IsUnowned p k false (renewed o) frs after q o y
       unfolding covers_on
-      unowned_on z q u goes_to = by (gone_on frs away anew o x y before at class wide goes done gifts others u.covers (More u.covers.origin u.covers.fact) (row o x u.covers) spared trusted (alias o x u.covers before wide owes) q (goes_to u.covers.fact.places u.here))
+      unowned_on z q u goes_to = by (gone_on frs away anew o x y before at class wide goes done gifts others lasting u.covers (More u.covers.origin u.covers.fact) (row o x u.covers) spared trusted (alias o x u.covers before wide owes) q (goes_to u.covers.fact.places u.here))
         where
           spared : (g : Fact) → More u.covers.origin u.covers.fact g → is_own g.mode ≡ true → is_owning_fact p u.covers.origin u.covers.fact ≡ true → away ≡ false
-          spared g its mine owning = absurd (true≢false (sym owning ∙ u.unowned))
+          spared g its mine owning = absurd (true≢false (sym owning ∙ unclaimed_not_owning p (method_at p fr.method) u.covers.origin u.covers.fact u.unowned))
 
           trusted : (g : Fact) → More u.covers.origin u.covers.fact g → IsTrusted u.covers.origin g → away ≡ false → anew ≡ false → x.finished ≡ true → (names : Names) → set.is_subset y.called names ≡ true → set.is_subset u.covers.fact.called names ≡ true
               → set.is_subset (called_after p st.number s.action s.edge u.covers.fact) names ≡ true
           trusted g its trust stays old finished names less was = known o x y u.covers before at g its trust stays old finished (goes finished).0 wide owes names less was
 
-          by : (g : Fact) × Goes frs away anew o x y before at class wide goes done gifts others u.covers (More u.covers.origin u.covers.fact) (row o x u.covers) spared trusted (alias o x u.covers before wide owes) g → IsUnowned p k false (renewed o) frs after q o y
+          by : (g : Fact) × Goes frs away anew o x y before at class wide goes done gifts others lasting u.covers (More u.covers.origin u.covers.fact) (row o x u.covers) spared trusted (alias o x u.covers before wide owes) g → IsUnowned p k false (renewed o) frs after q o y
           by (g, on) = record {
-            covers = covers_on frs away anew o x y before at class wide goes done gifts others u.covers (More u.covers.origin u.covers.fact) (row o x u.covers) spared trusted (alias o x u.covers before wide owes) g on;
-            here = has_on frs away anew o x y before at class wide goes done gifts others u.covers (More u.covers.origin u.covers.fact) (row o x u.covers) spared trusted (alias o x u.covers before wide owes) g on q (goes_to u.covers.fact.places u.here);
-            unowned = not_owning (is_owning_fact p u.covers.origin g) refl;
+            covers = covers_on frs away anew o x y before at class wide goes done gifts others lasting u.covers (More u.covers.origin u.covers.fact) (row o x u.covers) spared trusted (alias o x u.covers before wide owes) g on;
+            here = has_on frs away anew o x y before at class wide goes done gifts others lasting u.covers (More u.covers.origin u.covers.fact) (row o x u.covers) spared trusted (alias o x u.covers before wide owes) g on q (goes_to u.covers.fact.places u.here);
+            unowned = not_owning (claims p (method_at p fr.method) u.covers.origin g) refl;
           }
             where
-              not_owning : (b : Bool) → is_owning_fact p u.covers.origin g ≡ b → is_owning_fact p u.covers.origin g ≡ false
+              not_owning : (b : Bool) → claims p (method_at p fr.method) u.covers.origin g ≡ b → claims p (method_at p fr.method) u.covers.origin g ≡ false
               not_owning false none = none
               not_owning true owning =
-                  absurd (true≢false (sym (owning_before frs away anew o x y before at class wide goes done gifts others u.covers (More u.covers.origin u.covers.fact) (row o x u.covers) spared trusted (alias o x u.covers before wide owes) g on owning) ∙ u.unowned))
+                  absurd (true≢false (sym (claims_before frs away anew o x y before at class wide goes done gifts others lasting u.covers (More u.covers.origin u.covers.fact) (row o x u.covers) spared trusted (alias o x u.covers before wide owes) g on owning) ∙ u.unowned))
 
       -- the fact that owns it
       module _ (c : Covers p h away anew frs fr o x) (key : IsOwned p h away anew frs fr o x c) (z : Place) (small : IsSmall z) (held : root_of h (place_value p h fr.method fr.locals z) ≡ Some o) where
@@ -419,36 +417,41 @@ module _ (p : Program) (ac : Accept p) (h k : HeapContents) (links : HasEarlierL
         trusted g its trust stays old finished names less was = known o x y c before at g its trust stays old finished (goes finished).0 wide owes names less was
 
         abbrev GoesSo : Fact → Type 0
-        GoesSo g = Goes frs away anew o x y before at class wide goes done gifts others c (More c.origin c.fact) (row o x c) spared trusted (alias o x c before wide owes) g
+        GoesSo g = Goes frs away anew o x y before at class wide goes done gifts others lasting c (More c.origin c.fact) (row o x c) spared trusted (alias o x c before wide owes) g
 
         goes_so : (q : Place) → has (later c.fact.places) q ≡ true → (g : Fact) × GoesSo g
-        goes_so q is = gone_on frs away anew o x y before at class wide goes done gifts others c (More c.origin c.fact) (row o x c) spared trusted (alias o x c before wide owes) q is
+        goes_so q is = gone_on frs away anew o x y before at class wide goes done gifts others lasting c (More c.origin c.fact) (row o x c) spared trusted (alias o x c before wide owes) q is
 
         module _ (g : Fact) (on : GoesSo g) where
           abbrev now : Covers p k false (renewed o) frs after o y
-          now = covers_on frs away anew o x y before at class wide goes done gifts others c (More c.origin c.fact) (row o x c) spared trusted (alias o x c before wide owes) g on
+          now = covers_on frs away anew o x y before at class wide goes done gifts others lasting c (More c.origin c.fact) (row o x c) spared trusted (alias o x c before wide owes) g on
 
           there : (q : Place) → has (later c.fact.places) q ≡ true → has g.places q ≡ true
-          there q is = has_on frs away anew o x y before at class wide goes done gifts others c (More c.origin c.fact) (row o x c) spared trusted (alias o x c before wide owes) g on q is
+          there q is = has_on frs away anew o x y before at class wide goes done gifts others lasting c (More c.origin c.fact) (row o x c) spared trusted (alias o x c before wide owes) g on q is
+
+          -- where no fact goes on owning it, and the frame owns it, this one claims nothing
+          stops_claiming : StopsOwning p h fr frs gives renewed More o → y.owner ≡ owners.Frame (length frs + 1) → claims p (method_at p fr.method) c.origin g ≡ true → ⊥
+          unfolding covers_on
+          stops_claiming ends mine claimed = elim (claims_by p (method_at p fr.method) c.origin g claimed) [
+            | inl mine' ↦ true≢false (sym mine' ∙ ends x before z small held c key g on.1.1)
+            | inr held' ↦ true≢false (sym (own_frame (length frs + 1) y.owner mine) ∙ held_unowned p k false (renewed o) frs after o y now (now.true' claimed refl).finished held'.0 held'.1 (length frs + 1))
+          ]
 
           -- where it goes on owning it, each other place is in it, or in one that does not
-          still_owned : is_owning_fact p c.origin g ≡ true → IsOwned p k false (renewed o) frs after o y now
+          still_owned : claims p (method_at p fr.method) c.origin g ≡ true → IsOwned p k false (renewed o) frs after o y now
           unfolding covers_on
           still_owned owning = record {
             owning = owning;
-            owner = λ stays. (let mine = own o x y c key before at wide owes g on.1.1 owned in
-                mine.1 (c.true' (owning_claims p (method_at p fr.method) c.origin c.fact key.owning) (ap (λ (b : Bool). b && is_own c.fact.mode) mine.0)).finished (key.owner mine.0));
+            owner = λ stays mine'. (let mine = own o x y c key before at wide owes g on.1.1 mine' in
+                mine.1 (c.true' key.owning (ap (λ (b : Bool). b && is_own c.fact.mode) mine.0)).finished (key.owner mine.0 (ap is_own (sym (on.1.0.mode (or_left (is_own g.mode) (is_held g.mode) mine'))) ∙ mine')));
             others = each;
           }
             where
-              owned : is_own g.mode ≡ true
-              owned = (and_parts (is_heavy_class p c.origin.class) (is_own g.mode) owning).1
-
               comes : (q : Place) → ComesFrom q o → (has g.places q ≡ true) ⊎ IsUnowned p k false (renewed o) frs after q o y
               comes q (u, less, was, goes_to) = elim (key.others u less was) [ inl in' ↦ inl (there q (goes_to c.fact.places in')) | inr free ↦ inr (unowned_on u q free goes_to) ]
 
               makes : (q : Place) → IsMadeSo frs gives renewed More q o y → (has g.places q ≡ true) ⊎ IsUnowned p k false (renewed o) frs after q o y
-              makes q (inl (d, has', mine, ends)) = absurd (true≢false (sym owned ∙ ends x before z small held c key g on.1.1))
+              makes q (inl (d, has', mine, ends)) = absurd (stops_claiming ends mine owning)
               makes q (inr (inl free)) = inr free
               makes q (inr (inr from)) = comes q from
 
@@ -460,30 +463,26 @@ module _ (p : Program) (ac : Accept p) (h k : HeapContents) (links : HasEarlierL
 
           keyed_by : (q : Place) → has (later c.fact.places) q ≡ true → IsKeyedFrom frs gives renewed More q o y
           unfolding covers_on
-          keyed_by q is = go (is_owning_fact p c.origin g) refl
+          keyed_by q is = go (claims p (method_at p fr.method) c.origin g) refl
             where
-              go : (b : Bool) → is_owning_fact p c.origin g ≡ b → IsKeyedFrom frs gives renewed More q o y
+              go : (b : Bool) → claims p (method_at p fr.method) c.origin g ≡ b → IsKeyedFrom frs gives renewed More q o y
               go true owning = inl (now, there q is, still_owned owning, inl (x, before, c, key, refl, on.1.1))
               go false none = inr (record { covers = now; here = there q is; unowned = none })
 
         keyed_on : (q : Place) → has (later c.fact.places) q ≡ true → IsKeyedFrom frs gives renewed More q o y
         keyed_on q is = let on = goes_so q is in keyed_by on.0 on.1 q is
 
-        -- where no fact goes on owning it
-        freed_on : StopsOwning p h fr frs gives renewed More o → (q : Place) → has (later c.fact.places) q ≡ true → IsUnowned p k false (renewed o) frs after q o y
+        -- where no fact goes on owning it, and the frame owns it
+        freed_on : StopsOwning p h fr frs gives renewed More o → y.owner ≡ owners.Frame (length frs + 1) → (q : Place) → has (later c.fact.places) q ≡ true → IsUnowned p k false (renewed o) frs after q o y
         unfolding covers_on
-        freed_on ends q is = by (goes_so q is)
+        freed_on ends mine q is = by (goes_so q is)
           where
             by : (g : Fact) × GoesSo g → IsUnowned p k false (renewed o) frs after q o y
-            by (g, on) = record {
-              covers = now g on;
-              here = there g on q is;
-              unowned = none (is_heavy_class p c.origin.class) (is_own g.mode) (ends x before z small held c key g on.1.1);
-            }
+            by (g, on) = record { covers = now g on; here = there g on q is; unowned = none (claims p (method_at p fr.method) c.origin g) refl }
               where
-                none : (a b : Bool) → b ≡ false → (a && b) ≡ false
-                none true b off = off
-                none false b off = refl
+                none : (b : Bool) → claims p (method_at p fr.method) c.origin g ≡ b → claims p (method_at p fr.method) c.origin g ≡ false
+                none false off = off
+                none true claimed = absurd (stops_claiming g on ends mine claimed)
 
       -- a place held it before
       was_keyed : (z : Place) → IsSmall z → root_of h (place_value p h fr.method fr.locals z) ≡ Some o → IsKeyed p h away anew frs fr z o x
@@ -496,11 +495,11 @@ module _ (p : Program) (ac : Accept p) (h k : HeapContents) (links : HasEarlierL
           by (owned c in' key) = keyed_on c key z small held q (goes_to c.fact.places in')
           by (unowned u) = inr (unowned_on z q u goes_to)
 
-      freed_from : StopsOwning p h fr frs gives renewed More o → (q : Place) → ComesFrom q o → IsUnowned p k false (renewed o) frs after q o y
-      freed_from ends q (z, small, held, goes_to) = by (was_keyed z small held)
+      freed_from : StopsOwning p h fr frs gives renewed More o → y.owner ≡ owners.Frame (length frs + 1) → (q : Place) → ComesFrom q o → IsUnowned p k false (renewed o) frs after q o y
+      freed_from ends mine q (z, small, held, goes_to) = by (was_keyed z small held)
         where
           by : IsKeyed p h away anew frs fr z o x → IsUnowned p k false (renewed o) frs after q o y
-          by (owned c in' key) = freed_on c key z small held ends q (goes_to c.fact.places in')
+          by (owned c in' key) = freed_on c key z small held ends mine q (goes_to c.fact.places in')
           by (unowned u) = unowned_on z q u goes_to
 
     -- the object was there where a place held it
@@ -515,12 +514,12 @@ module _ (p : Program) (ac : Accept p) (h k : HeapContents) (links : HasEarlierL
           by (x, before, class, goes) =
               keyed_from o x y before at class (ap (is_heavy_class p) (sym class) ∙ wide') (owed_before x y goes owes') wide' owes' goes (ready from.0 o x y from.1 from.2 before at) q from
 
-      freed : StopsOwning p h fr frs gives renewed More o → (q : Place) → ComesFrom q o → IsUnowned p k false (renewed o) frs after q o y
-      freed ends q from = by (carried_from q from)
+      freed : StopsOwning p h fr frs gives renewed More o → y.owner ≡ owners.Frame (length frs + 1) → (q : Place) → ComesFrom q o → IsUnowned p k false (renewed o) frs after q o y
+      freed ends mine q from = by (carried_from q from)
         where
           by : IsCarried h o y → IsUnowned p k false (renewed o) frs after q o y
           by (x, before, class, goes) =
-              freed_from o x y before at class (ap (is_heavy_class p) (sym class) ∙ wide') (owed_before x y goes owes') wide' owes' goes (ready from.0 o x y from.1 from.2 before at) ends q from
+              freed_from o x y before at class (ap (is_heavy_class p) (sym class) ∙ wide') (owed_before x y goes owes') wide' owes' goes (ready from.0 o x y from.1 from.2 before at) ends mine q from
 
       -- a step makes one place
       one_made : (m : Option Place) (q z : Place) → is_made m q ≡ true → is_made m z ≡ true → q ≡ z
@@ -530,16 +529,24 @@ module _ (p : Program) (ac : Accept p) (h k : HeapContents) (links : HasEarlierL
       makes : (q : Place) → IsSmall q → IsMadeAt q → IsMadeSo frs gives renewed More q o y → IsKeyedFrom frs gives renewed More q o y
       makes q less new (inr (inl free)) = inr free
       makes q less new (inr (inr from)) = came q from
-      makes q less new (inl (d, in', mine, ends)) = go (is_owning_fact p d.origin d.fact) refl
+      makes q less new (inl (d, in', mine, ends)) = go (claims p (method_at p fr.method) d.origin d.fact) refl
         where
           each : (z : Place) → IsSmall z → root_of k (place_value p k after.method after.locals z) ≡ Some o → (has d.fact.places z ≡ true) ⊎ IsUnowned p k false (renewed o) frs after z o y
           each z small is = elim (origin_of_place z o small is) [
-            | inl from ↦ inr (freed ends z from)
+            | inl from ↦ inr (freed ends mine z from)
             | inr also ↦ inl (ap (has d.fact.places) (one_made (made_place s.action) z q also.2 new.2) ∙ in')
           ]
 
-          go : (b : Bool) → is_owning_fact p d.origin d.fact ≡ b → IsKeyedFrom frs gives renewed More q o y
-          go true owning = inl (d, in', record { owning = owning; owner = λ stays. mine; others = each }, inr ends)
+          -- it says that the frame owns the object, which no field then owns
+          owned_so : claims p (method_at p fr.method) d.origin d.fact ≡ true → is_own d.fact.mode ≡ true
+          owned_so claimed = elim (claims_by p (method_at p fr.method) d.origin d.fact claimed) [
+            | inl own' ↦ own'
+            | inr held' ↦ absurd (true≢false (sym (own_frame (length frs + 1) y.owner mine)
+                ∙ held_unowned p k false (renewed o) frs after o y d (held_finished p k false (renewed o) frs after o y d claimed held'.0) held'.0 held'.1 (length frs + 1)))
+          ]
+
+          go : (b : Bool) → claims p (method_at p fr.method) d.origin d.fact ≡ b → IsKeyedFrom frs gives renewed More q o y
+          go true owning = inl (d, in', record { owning = owning; owner = λ stays own'. mine; others = each }, inr (ends, owned_so owning))
           go false none = inr (record { covers = d; here = in'; unowned = none })
 
     pub top_from : (q : Place) (o : ℕ) (y : Object) → IsSmall q → root_of k (place_value p k after.method after.locals q) ≡ Some o → object_at k o ≡ Some y → is_heavy_class p y.class ≡ true → may_owe y ≡ true

@@ -1,5 +1,5 @@
 -- A frame whose places stay as they are goes on to be covered, where the objects that they hold go on.
-use Rattle.std.proofs.Common.{◌≡◌, inl, inr, ℕ, ◌+◌, ◌<◌, ◌≤◌, Bool, true, false, not, ◌&&◌, true≢false, Option, Some, None, List, [], ◌∷◌, refl, sym, ap, ◌∙◌, subst, arith, ◌||◌}
+use Rattle.std.proofs.Common.{◌≡◌, ◌⊎◌, inl, inr, ℕ, ◌<◌, ◌≤◌, Bool, true, false, not, ◌&&◌, true≢false, Option, Some, None, List, [], ◌∷◌, refl, sym, ap, ◌∙◌, subst, arith, ◌||◌}
 use Rattle.std.proofs.lemmas.Bool.{and_from, and_parts, or_left}
 use Rattle.std.specs.FinSet as set
 use Rattle.rlc_base.proofs.SetLaws.{within_trans}
@@ -18,6 +18,7 @@ use Rattle.ownership_rules.specs.Facts.{has, need, is_held, is_own}
 use Rattle.ledger_state.specs.Contents.{HeapContents}
 use Rattle.ledger_state.specs.Fields.{field_of, field_value}
 use Rattle.ledger_state.specs.Heaps.{next_number, object_at, root, root_of, unfinished}
+use Rattle.ledger_state.specs.Values.{number_of}
 use Rattle.ledger_state.specs.declared.locals.Locals.{Locals}
 use Rattle.ledger_state.specs.declared.object.Object.{Object}
 use Rattle.ledger_state.specs.declared.value.Value.{Value}
@@ -29,12 +30,15 @@ use Rattle.java_control.specs.Owned.{fields_in}
 use Rattle.value_laws.specs.Heaps.{GoesOn, HasEarlierLinks, KeepsLinks}
 use Rattle.value_laws.proofs.HeapLaws.{numbers_are_in_range, roots_go_on-number, roots_of_links-absent, roots_of_links-itself, roots_of_links-there}
 use Rattle.ledger_obligations.specs.Obligations.{is_library_owner}
-use Rattle.value_laws.specs.PlaceFacts.{AreWaiting, Covers, IsCovered, IsKeyed, IsOwned, IsTrueOf, IsUnowned, asked_of, is_given, is_owning_fact, may_owe, owned, unowned}
-use Rattle.covering_laws.proofs.HeavyFields.{known_on, owning_claims, owning_in_no_field}
+use Rattle.value_laws.specs.PlaceFacts.{AreWaiting, Covers, IsCovered, IsInField, IsKeyed, IsOwned, IsTrueOf, IsUnowned, asked_of, is_given, is_owning_fact, may_owe, owned, unowned}
+use Rattle.covering_laws.proofs.HeavyFields.{claims_owned, known_on, owning_in_no_field}
+use Rattle.covering_laws.proofs.InFields.{held_heavy, held_in_field, held_kept}
 use Rattle.value_laws.specs.Renewing.{fact_as, is_renewed}
 use Rattle.value_laws.specs.Ranges.{IsInRange, IsNumber}
 use Rattle.covering_laws.specs.Making.{HoldNone}
-use Rattle.covering_laws.proofs.Owners.{AllKeepGifts, AllKeepOwners, KeepsGifts, KeepsGiven, KeepsOwners, apart_before, given_kept, is_field_place, lent_after}
+use Rattle.covering_laws.specs.TextUpdates.{HoldsOrTakesText, IsLight}
+use Rattle.covering_laws.proofs.TextStores.{light_root, no_root}
+use Rattle.covering_laws.proofs.Owners.{AllKeepGifts, AllKeepOwners, KeepsGifts, KeepsGiven, KeepsOwners, apart_before, given_kept, is_field_place, lent_after, KeepsFinished, keeps_finished}
 use Rattle.value_laws.proofs.Chains.{object_there}
 use Rattle.value_laws.proofs.FieldPlaces.{passes}
 use Rattle.java_control.specs.declared.fact.Mode.{Mode}
@@ -62,6 +66,21 @@ owed_before x y goes owes = go (x.finished && is_library_owner x.owner) refl
 -- so is each object of the heap `k` that the heap `h` had
 abbrev pub Carries : HeapContents → HeapContents → Type 0
 Carries h k = (o : ℕ) (y : Object) → object_at k o ≡ Some y → o < next_number h → IsCarried h o y
+
+-- so what was finished is so
+pub carries_finish : (h k : HeapContents) → next_number h ≤ next_number k → Carries h k → KeepsFinished h k
+carries_finish h k count carries = keeps_finished h k goes
+  where
+    goes : (n : ℕ) (x : Object) → object_at h n ≡ Some x → x.finished ≡ true → (y : Object) × (object_at k n ≡ Some y) × (y.finished ≡ true)
+    goes n x at done =
+        let range = numbers_are_in_range h n x at in
+        let some = range.0 in
+        let below = range.1 in
+        let y = object_there k n x some (omega (arith, below, count)) in
+        let c = carries n y.0 y.1 below in
+        let same : c.0 ≡ x = (let both : Some c.0 ≡ Some x = sym c.1 ∙ at in (let one : c.0 ≡ x = cc in one)) in
+        let was = ap (λ (z : Object). z.finished) same ∙ done in
+        (y.0, y.1, (c.3 was).0.finished ∙ was)
 
 -- an object that was not finished is not, but for these
 abbrev pub KeepsUnfinished : HeapContents → HeapContents → (ℕ → Type 0) → Type 0
@@ -174,6 +193,37 @@ other_value_root h k w roots v in' other = refl
 abbrev pub KeepsFields : Program → HeapContents → HeapContents → Type 0
 KeepsFields p h k = (w : ℕ) (f : FieldId) → is_owning p f ≡ true → field_value p k w f ≡ field_value p h w f
 
+-- or a text in the place of one
+abbrev pub KeepsFieldsButTexts : Program → HeapContents → HeapContents → Type 0
+KeepsFieldsButTexts p h k = (w : ℕ) (f : FieldId) → is_owning p f ≡ true → HoldsOrTakesText p h k w f
+
+pub but_texts : (p : Program) (h k : HeapContents) → KeepsFields p h k → KeepsFieldsButTexts p h k
+but_texts p h k fields w f own = inl (fields w f own)
+
+-- the place holds what it held, or no object in the place of none that has an obligation
+abbrev pub KeepsValue : Program → HeapContents → HeapContents → Value → Value → Type 0
+KeepsValue p h k before now = (now ≡ before) ⊎ (IsLight p h before × (number_of now ≡ None))
+
+module _ (p : Program) (h k : HeapContents) (fields : KeepsFieldsButTexts p h k) where
+  kept_field_of : (v : Value) (f : FieldId) → is_owning p f ≡ true → KeepsValue p h k (field_of p h v f) (field_of p k v f)
+  kept_field_of (values.Object w) f own = fields w f own
+  kept_field_of v f own = inl refl
+
+  kept_beside : (m : MethodId) (this : Value) (n : ℕ) → KeepsValue p h k (field_place_value p h this (owning_field_beside p m n)) (field_place_value p k this (owning_field_beside p m n))
+  kept_beside m this n = go (owning_field_beside p m n) refl
+    where
+      go : (x : Option FieldId) → owning_field_beside p m n ≡ x → KeepsValue p h k (field_place_value p h this x) (field_place_value p k this x)
+      go None is = inl refl
+      go (Some f) is = kept_field_of this f (passes (is_owning p) (fields_in (class_by p (class_of_method (method_at p m)))) n f is)
+
+  -- so do the places of a frame
+  pub kept_place : (m : MethodId) (l : Locals) (q : Place) → KeepsValue p h k (place_value p h m l q) (place_value p k m l q)
+  kept_place m l (places.Var i) = inl refl
+  kept_place m l places.This = inl refl
+  kept_place m l (places.Field n) = kept_beside m l.this n
+  kept_place m l (places.Temp d) = inl refl
+  kept_place m l places.Super = inl refl
+
 module _ (p : Program) (h k : HeapContents) (fields : KeepsFields p h k) where
   same_field_of : (v : Value) (f : FieldId) → is_owning p f ≡ true → field_of p k v f ≡ field_of p h v f
   same_field_of (values.Object w) f own = fields w f own
@@ -194,9 +244,18 @@ module _ (p : Program) (h k : HeapContents) (fields : KeepsFields p h k) where
   same_place m l (places.Temp d) = refl
   same_place m l places.Super = refl
 
--- the places of the frame hold what they held
+-- the places of the frame hold what they held, or a text in the place of one
 abbrev pub KeepsPlaces : Program → HeapContents → HeapContents → Frame → Type 0
-KeepsPlaces p h k fr = (q : Place) → IsSmall q → place_value p k fr.method fr.locals q ≡ place_value p h fr.method fr.locals q
+KeepsPlaces p h k fr = (q : Place) → IsSmall q → KeepsValue p h k (place_value p h fr.method fr.locals q) (place_value p k fr.method fr.locals q)
+
+-- a value that holds an object of a class with an obligation stays, and one that is there held it
+pub kept_root : (p : Program) (h k : HeapContents) (before now : Value) (o : ℕ) → KeepsValue p h k before now → root_of k now ≡ Some o → now ≡ before
+kept_root p h k before now o (inl same) is = same
+kept_root p h k before now o (inr text) is = absurd (let never : None ≡ Some o = sym (no_root k now text.1) ∙ is in cc)
+
+pub heavy_stays : (p : Program) (h k : HeapContents) (before now : Value) (o : ℕ) (x : Object) → KeepsValue p h k before now → root_of h before ≡ Some o → object_at h o ≡ Some x → is_heavy_class p x.class ≡ true → now ≡ before
+heavy_stays p h k before now o x (inl same) is at heavy = same
+heavy_stays p h k before now o x (inr text) is at heavy = absurd (true≢false (sym heavy ∙ light_root p h before o x text.0 is at))
 
 -- what a place of the frame held is finished only if it was
 abbrev pub KeepsReady : Program → HeapContents → HeapContents → Frame → Type 0
@@ -228,10 +287,11 @@ module _ (p : Program) (h k : HeapContents) (gives : ℕ → ClassId → Bool) (
     (was : (q : Place) (o : ℕ) (y : Object) → IsSmall q → root_of h (place_value p h fr.method fr.locals q) ≡ Some o → object_at k o ≡ Some y → IsCarried h o y) (ready : KeepsReady p h k fr)
     (gifts : KeepsGiven p h k frs) (keeps : KeepsOwners p h k gives frs fr) where
   root_before : (q : Place) (o : ℕ) → IsSmall q → root_of k (place_value p k fr.method fr.locals q) ≡ Some o → root_of h (place_value p h fr.method fr.locals q) ≡ Some o
-  root_before q o small is = sym (roots q small) ∙ ap (root_of k) (sym (same q small)) ∙ is
+  root_before q o small is = sym (roots q small) ∙ ap (root_of k) (sym (kept_root p h k _ _ o (same q small) is)) ∙ is
 
-  root_after : (q : Place) (o : ℕ) → IsSmall q → root_of h (place_value p h fr.method fr.locals q) ≡ Some o → root_of k (place_value p k fr.method fr.locals q) ≡ Some o
-  root_after q o small is = ap (root_of k) (same q small) ∙ roots q small ∙ is
+  root_after : (q : Place) (o : ℕ) (x : Object) → IsSmall q → root_of h (place_value p h fr.method fr.locals q) ≡ Some o → object_at h o ≡ Some x → is_heavy_class p x.class ≡ true
+      → root_of k (place_value p k fr.method fr.locals q) ≡ Some o
+  root_after q o x small is at heavy = ap (root_of k) (heavy_stays p h k _ _ o x (same q small) is at heavy) ∙ roots q small ∙ is
 
   -- a finished object goes on
   module _ (o : ℕ) (x y : Object) (before : object_at h o ≡ Some x) (at : object_at k o ≡ Some y) (class : y.class ≡ x.class) (heavy : is_heavy_class p x.class ≡ true) (goes : x.finished ≡ true → Continues x y)
@@ -244,10 +304,15 @@ module _ (p : Program) (h k : HeapContents) (gives : ℕ → ClassId → Bool) (
       fact = c.fact;
       reached = c.reached;
       alone = c.alone;
-      places = λ z small' is. root_after z o small' (c.places z small' is);
+      places = λ z small' is. root_after z o x small' (c.places z small' is) before heavy;
       true' = λ claimed spared. still_true p x y c.origin (fact_as anew c.fact) (goes (c.true' claimed spared).finished).0 (c.true' claimed spared);
       lent = c.lent;
-      free = λ finished held alone. keeps.others.free o x y before at (done finished) heavy (c.free (done finished) held alone);
+      free = λ finished held alone.
+          let was = held_in_field p h away anew frs fr o x c (done finished) held alone in (
+            held_kept p h away anew frs fr o x c (done finished) held alone,
+            held_heavy p h away anew frs fr o x c (done finished) held alone,
+            subst (IsInField p fr c.fact.places) (sym (keeps.held o x y before at (done finished) heavy alone was.0)) was,
+          );
       lends = λ is finished. (let was = c.lends is (done finished) in (was.0, lent_after p h k frs o x.owner y.owner gifts (keeps.others.keeps o x y before at (done finished) heavy) was.1));
       makes = λ constructor this. still_unfinished x y done (c.makes constructor this);
       unrenewed = λ finished tells is.
@@ -255,8 +320,12 @@ module _ (p : Program) (h k : HeapContents) (gives : ℕ → ClassId → Bool) (
           c.unrenewed was_done tells (apart_before p h k frs fr o x y c.fact c.fact gifts class (λ held. held) (λ plain own. keeps.others.content o x y before at was_done heavy plain own) (λ low. keeps.others.low o x y before at was_done heavy low) is);
       known = λ finished tells is.
           let was_done = done finished in
-          let known = c.known was_done tells (apart_before p h k frs fr o x y c.fact c.fact gifts class (λ held. held) (λ plain own. keeps.others.content o x y before at was_done heavy plain own) (λ low. keeps.others.low o x y before at was_done heavy low) is) in
-          (known.0, keeps.others.apart o x y before at was_done heavy known.1, known_on c.fact.called (asked_of p (method_at p fr.method) c.origin.kind) x.called y.called known.2 (goes was_done).0.called);
+          let known = c.known was_done tells (apart_before p h k frs fr o x y c.fact c.fact gifts class (λ held. held) (λ plain own. keeps.others.content o x y before at was_done heavy plain own) (λ low. keeps.others.low o x y before at was_done heavy low) is) in (
+            known.0,
+            keeps.others.apart o x y before at was_done heavy known.1,
+            known_on c.fact.called (asked_of p (method_at p fr.method) c.origin.kind) x.called y.called known.2 (goes was_done).0.called,
+            keeps.others.older o x y before at was_done heavy known.1 known.3,
+          );
       fields = c.fields;
       held = c.held;
       outside = c.outside;
@@ -271,17 +340,17 @@ module _ (p : Program) (h k : HeapContents) (gives : ℕ → ClassId → Bool) (
     unfolding covers_after
     owned_after q small held c here key = record {
       owning = key.owning;
-      owner = λ stays. keeps.own q o x y small (part q small here) held before at
-          (c.true' (owning_claims p (method_at p fr.method) c.origin c.fact key.owning) (ap (λ (b : Bool). b && is_own c.fact.mode) stays)).finished heavy (spared stays) (key.owner stays);
+      owner = λ stays own. keeps.own q o x y small (part own q small here) held before at
+          (c.true' key.owning (ap (λ (b : Bool). b && is_own c.fact.mode) stays)).finished heavy (spared stays) (key.owner stays own);
       others = λ z small' is. elim (key.others z small' (root_before z o small' is)) [ inl in' ↦ inl in' | inr u ↦ inr (unowned_after z u) ];
     }
       where
-        part : (z : Place) → IsSmall z → has c.fact.places z ≡ true → is_field_place z ≡ false
-        part (places.Field n) inside there = absurd (owning_in_no_field p h away anew frs fr o x c key.owning n inside there)
-        part (places.Var i) inside there = refl
-        part places.This inside there = refl
-        part (places.Temp d) inside there = refl
-        part places.Super inside there = refl
+        part : is_own c.fact.mode ≡ true → (z : Place) → IsSmall z → has c.fact.places z ≡ true → is_field_place z ≡ false
+        part own (places.Field n) inside there = absurd (owning_in_no_field p h away anew frs fr o x c (and_from (is_heavy_class p c.origin.class) (is_own c.fact.mode) (claims_owned p (method_at p fr.method) c.origin c.fact key.owning).0 own) n inside there)
+        part own (places.Var i) inside there = refl
+        part own places.This inside there = refl
+        part own (places.Temp d) inside there = refl
+        part own places.Super inside there = refl
 
     pub keyed_after : (q : Place) → IsSmall q → root_of h (place_value p h fr.method fr.locals q) ≡ Some o → IsKeyed p h away anew frs fr q o x → IsKeyed p k away anew frs fr q o y
     unfolding covers_after
@@ -359,9 +428,12 @@ module _ (p : Program) (h k : HeapContents) (links : HasEarlierLinks h) (roots :
   all_wait frs same inside = all_wait_on p h k links carries frs (all_keep_roots p h k roots frs inside) same inside
 
 -- all frames keep their places where owning fields hold what they held
+pub all_keep_but_texts : (p : Program) (h k : HeapContents) → KeepsFieldsButTexts p h k → (frs : List Frame) → AllKeep p h k frs
+all_keep_but_texts p h k fields [] = tt
+all_keep_but_texts p h k fields (fr ∷ frs) = ((λ q small. kept_place p h k fields fr.method fr.locals q), all_keep_but_texts p h k fields frs)
+
 pub all_keep : (p : Program) (h k : HeapContents) → KeepsFields p h k → (frs : List Frame) → AllKeep p h k frs
-all_keep p h k fields [] = tt
-all_keep p h k fields (fr ∷ frs) = ((λ q small. same_place p h k fields fr.method fr.locals q), all_keep p h k fields frs)
+all_keep p h k fields frs = all_keep_but_texts p h k (but_texts p h k fields) frs
 
 -- ---- lent facts
 
@@ -387,7 +459,7 @@ AllHeldBefore p h k (fr ∷ frs) = HeldBefore p h k fr × AllHeldBefore p h k fr
 
 pub all_held_before_on : (p : Program) (h k : HeapContents) → (frs : List Frame) → AllKeepRoots p h k frs → AllKeep p h k frs → AllHeldBefore p h k frs
 all_held_before_on p h k [] roots same = tt
-all_held_before_on p h k (fr ∷ frs) roots same = ((λ q w small is. sym (roots.0 q small) ∙ ap (root_of k) (sym (same.0 q small)) ∙ is), all_held_before_on p h k frs roots.1 same.1)
+all_held_before_on p h k (fr ∷ frs) roots same = ((λ q w small is. sym (roots.0 q small) ∙ ap (root_of k) (sym (kept_root p h k _ _ w (same.0 q small) is)) ∙ is), all_held_before_on p h k frs roots.1 same.1)
 
 pub all_held_before : (p : Program) (h k : HeapContents) → KeepsRoots h k → (frs : List Frame) → AllKeep p h k frs → AllThere p h frs → AllHeldBefore p h k frs
 all_held_before p h k roots frs same inside = all_held_before_on p h k frs (all_keep_roots p h k roots frs inside) same

@@ -1,5 +1,9 @@
 -- A frame waits for a call that creates the obligation of an object anew, or stands at one: which facts have the object, and that the frame tracks it if it owns it.
-use Rattle.std.proofs.Common.{◌≡◌, ◌⊎◌, inl, inr, ℕ, ◌+◌, ◌<◌, ◌≤◌, Bool, true, false, true≢false, ◌&&◌, eqb-true, Option, Some, None, List, [], ◌∷◌, length, slice_get, refl, sym, ap, ◌∙◌, subst, arith}
+use Rattle.covering_laws.proofs.OwnerSteps.{own_frame}
+use Rattle.covering_laws.proofs.Owners.{lent_not_from}
+use Rattle.covering_laws.proofs.InFields.{held_by_this}
+use Rattle.covering_laws.proofs.RenewedOperands.{claims_or_lends}
+use Rattle.std.proofs.Common.{Bool, List, None, Option, Some, ap, arith, eqb-true, false, inl, inr, length, refl, slice_get, subst, sym, true, true≢false, ℕ, ◌&&◌, ◌+◌, ◌<◌, ◌||◌, ◌∙◌, ◌≡◌, ◌⊎◌}
 use Rattle.std.specs.FinSet as set
 use Rattle.std.proofs.lemmas.Bool.{and_from, and_parts}
 use Rattle.rlc_base.proofs.SetLaws.{empty_within, within_trans}
@@ -19,14 +23,13 @@ use Rattle.java_control.specs.declared.fact.OriginKind.TheVariants as kinds
 use Rattle.java_control.specs.declared.place.Place.{Place}
 use Rattle.java_control.specs.declared.place.Place.TheVariants as places
 use Rattle.ownership_rules.specs.Callees.{callee}
-use Rattle.ownership_rules.specs.Facts.{PlaceSet, has, has_temp, is_nowhere, is_origin_at, is_own}
+use Rattle.ownership_rules.specs.Facts.{PlaceSet, has, has_temp, is_held, is_nowhere, is_origin_at, is_own}
 use Rattle.ownership_rules.specs.MovesAtCalls.{moved_at_call}
 use Rattle.ownership_rules.specs.SmallActions.{IsSmallTemp}
 use Rattle.ownership_rules.specs.declared.moved.Moved.TheVariants as moves
 use Rattle.ownership_rules.proofs.SmallOperands.{operand_has_room}
 use Rattle.ledger_state.specs.Contents.{HeapContents}
 use Rattle.ledger_state.specs.Heaps.{object_at, root_of}
-use Rattle.ledger_state.specs.declared.entry.Owner.{Owner}
 use Rattle.ledger_state.specs.declared.entry.Owner.TheVariants as owners
 use Rattle.ledger_state.specs.declared.object.Object.{Object}
 use Rattle.value_laws.specs.Accept.{Accept}
@@ -36,11 +39,11 @@ use Rattle.value_laws.specs.Choosing.{body_id, frame_steps}
 use Rattle.value_laws.specs.Configuration.{Frame}
 use Rattle.value_laws.specs.Outcomes.{IsCallRow}
 use Rattle.value_laws.specs.Paths.{Reach, move_of, relation_of}
-use Rattle.value_laws.specs.PlaceFacts.{Covers, IsCovered, IsKeyed, IsOwned, is_given, is_lent, is_owning_fact, may_owe, owned, unowned}
+use Rattle.value_laws.specs.PlaceFacts.{Covers, IsCovered, IsKeyed, IsOwned, claims, is_given, is_lent, is_owning_fact, may_owe, owned, unowned}
 use Rattle.value_laws.specs.PlacePlaces.{HasPlacesAlone, is_local}
 use Rattle.value_laws.specs.Places.{place_value}
-use Rattle.value_laws.specs.PlainForms.{HasPlainForms, IsPlainReset}
-use Rattle.value_laws.specs.Renewing.{IsLentFrom, fact_as, is_renewed, renews}
+use Rattle.value_laws.specs.PlainForms.{HasPlainForms}
+use Rattle.value_laws.specs.Renewing.{IsHeldBy, IsLentFrom, fact_as, is_renewed, makes_alone, renews}
 use Rattle.value_laws.specs.Steps.{RootsStay}
 use Rattle.value_laws.proofs.Carried.{local_value}
 use Rattle.value_laws.proofs.CallWays.{one_action}
@@ -49,7 +52,7 @@ use Rattle.value_laws.proofs.FrameFollowing.{breaks_nothing}
 use Rattle.value_laws.proofs.Going.{somewhere}
 use Rattle.value_laws.proofs.Needs.{origin_needs_all}
 use Rattle.value_laws.proofs.Readings.{mode_as, places_as, renewed_operand}
-use Rattle.value_laws.proofs.Ready.{resets_plainly, step_here, step_there}
+use Rattle.value_laws.proofs.Ready.{step_here, step_there}
 use Rattle.value_laws.proofs.ResetTargets.{answered_targets}
 use Rattle.value_laws.proofs.Resetting.{answered_target}
 use Rattle.value_laws.proofs.Tracking.{same_body}
@@ -58,15 +61,9 @@ use Rattle.covering_laws.proofs.Bodies.{running_method}
 use Rattle.covering_laws.proofs.Following.{small_step}
 use Rattle.covering_laws.proofs.GivenArguments.{away_moves}
 use Rattle.covering_laws.proofs.GivenAway.{at_any, given_at_step}
-use Rattle.covering_laws.proofs.HeavyFields.{owning_claims, owning_in_no_field}
+use Rattle.covering_laws.proofs.HeavyFields.{claims_by, owning_in_no_field}
 use Rattle.covering_laws.proofs.KnownNames.{operand_temp}
 use Rattle.covering_laws.proofs.Resets.{this_elsewhere}
-
--- what is lent is owned by a frame below
-pub lender_below : (p : Program) (h : HeapContents) (frs : List Frame) (o : ℕ) (w : Owner) → IsLentFrom p h frs o w → (j : ℕ) × (w ≡ owners.Frame j) × (j ≤ length frs)
-lender_below p h [] o w lent = absurd lent
-lender_below p h (fr ∷ frs) o w (is, inl here) = (length frs + 1, here, omega arith)
-lender_below p h (fr ∷ frs) o w (is, inr on) = let it = lender_below p h frs o w on in let low = it.2 in (it.0, it.1, omega (arith, low))
 
 own_mode : (m : Mode) → is_own m ≡ true → m ≡ modes.Own
 own_mode modes.Own is = refl
@@ -83,16 +80,17 @@ this_kind kind is = absurd (true≢false (sym is))
 -- ---- a fact that says that the frame owns the object
 
 module _ (p : Program) (ac : Accept p) (h : HeapContents) (fr : Frame) (frs : List Frame) (st : Stands p fr) (away anew : Bool) (o : ℕ) (x : Object)
-    (c : Covers p h away anew frs fr o x) (key : IsOwned p h away anew frs fr o x c) where
+    (c : Covers p h away anew frs fr o x) (key : IsOwned p h away anew frs fr o x c) (own : is_own c.fact.mode ≡ true) where
   reached : Reach p st.number (relation_of p st.number) c.origin fr.control c.fact
   reached = subst (λ (b : BodyId). Reach p b (relation_of p b) c.origin fr.control c.fact) (same_body c.body st.number (body_id p fr.method) c.id st.id) c.reached
 
-  parts : (is_heavy_class p c.origin.class ≡ true) × (is_own c.fact.mode ≡ true)
-  parts = and_parts (is_heavy_class p c.origin.class) (is_own c.fact.mode) key.owning
+  owning' : is_owning_fact p c.origin c.fact ≡ true
+  owning' = and_from (is_heavy_class p c.origin.class) (is_own c.fact.mode)
+      (and_parts (is_heavy_class p c.origin.class) (is_own c.fact.mode || is_held c.fact.mode && makes_alone (method_at p fr.method)) key.owning).0 own
 
   -- no owning field holds it
   no_field : (k : ℕ) → k < 16 → has c.fact.places (places.Field k) ≡ true → ⊥
-  no_field = owning_in_no_field p h away anew frs fr o x c key.owning
+  no_field = owning_in_no_field p h away anew frs fr o x c owning'
 
   -- nor is it `this`, which is lent
   no_this : has c.fact.places places.This ≡ true → ⊥
@@ -101,7 +99,7 @@ module _ (p : Program) (ac : Accept p) (h : HeapContents) (fr : Frame) (frs : Li
       let kind = this_kind c.origin.kind (this_own p ac st.number st.body st.at c.origin fr.control c.fact reached is) in
       let lent : is_lent p (method_at p fr.method) c.origin.kind ≡ true =
       ap (is_lent p (method_at p fr.method)) kind ∙ ap (λ (z : Option Method). is_lent p z kinds.ThisRef) run.1 in
-      true≢false (sym key.owning ∙ (c.lent lent).0)
+      true≢false (sym owning' ∙ (c.lent lent).0)
 
   local_places : (q : Place) → IsSmall q → has c.fact.places q ≡ true → is_local q ≡ true
   local_places (places.Var i) small is = refl
@@ -113,7 +111,7 @@ module _ (p : Program) (ac : Accept p) (h : HeapContents) (fr : Frame) (frs : Li
   -- tracks it, unless it is given away
   pub covered_tracks : away ≡ false → (t : ℕ) → has c.fact.places (places.Temp t) ≡ true → (it : TracksAs p h anew fr o x) × (it.fact ≡ c.fact) × (it.origin ≡ c.origin)
   covered_tracks kept t there =
-      let truth = c.true' (owning_claims p (method_at p fr.method) c.origin c.fact key.owning) (ap (λ (b : Bool). b && is_own c.fact.mode) kept) in
+      let truth = c.true' key.owning (ap (λ (b : Bool). b && is_own c.fact.mode) kept) in
       let same : c.fact.places ≡ (fact_as anew c.fact).places = sym (places_as anew c.fact) in (
         record {
           body = c.body;
@@ -122,7 +120,7 @@ module _ (p : Program) (ac : Accept p) (h : HeapContents) (fr : Frame) (frs : Li
           fact = c.fact;
           reached = c.reached;
           follows = record {
-            own = mode_as anew c.fact ∙ own_mode c.fact.mode parts.1;
+            own = mode_as anew c.fact ∙ own_mode c.fact.mode own;
             class = truth.class;
             bounded = truth.bounded;
             need = truth.need;
@@ -150,21 +148,13 @@ module _ (p : Program) (ac : Accept p) (forms : HasPlainForms p) (h : HeapConten
       | inr is ↦ is
     ]
 
-    plain : IsPlainReset p st.number fr.control s.action
-    plain = elim (resets_plainly p ac forms fr st i s here) [
-      | inl none ↦ absurd (let never : None ≡ Some answer.0 = sym none ∙ answer.1 in cc)
-      | inr is ↦ is
-    ]
-
-    -- it says that the frame owns the object, or that it is lent
-    pub target_mode : (is_owning_fact p c.origin c.fact ≡ true) ⊎ (c.fact.mode ≡ modes.Lent)
+    -- it claims the object, or says that it is lent
+    pub target_mode : (claims p (method_at p fr.method) c.origin c.fact ≡ true) ⊎ (c.fact.mode ≡ modes.Lent)
     target_mode =
         let run = running_method p ac fr st in
-        elim (answered_targets p st.number st.body run.0 st.at (ap (method_at p) st.method ∙ run.1) (λ k n t. this_elsewhere p forms st.number k n t) (forms.bodies st.number)
-        (λ k n t g d comes there is. (forms.stores st.number n t g d comes there is).0) c.origin fr.control c.fact target_reached plain.before s.action answer.0 answer.2) [
-          | inl own ↦ inl (and_from (is_heavy_class p c.origin.class) (is_own c.fact.mode) own.1 (ap is_own own.0))
-          | inr lent ↦ inr lent
-        ]
+        claims_or_lends p fr st c.origin c.fact
+        (answered_targets p ac st.number st.body run.0 st.at (ap (method_at p) st.method ∙ run.1) (λ k n t. this_elsewhere p forms st.number k n t) (forms.bodies st.number)
+        (λ k n t g d comes there is. (forms.stores st.number n t g d comes there is).0) c.origin fr.control c.fact target_reached s.action answer.0 answer.2)
 
     -- and it does not move
     pub target_stays : moved_at_call p c.origin s.action s.edge c.fact ≡ moves.Moves → ⊥
@@ -198,6 +188,7 @@ pub record OwnsTarget (p : Program) (h : HeapContents) (frs : List Frame) (fr : 
   pub key : IsOwned p h (is_given p h fr o x.class) (is_renewed p h fr o) frs fr o x covers
   pub temp : ℕ
   pub there : has covers.fact.places (places.Temp temp) ≡ true
+  pub own : is_own covers.fact.mode ≡ true
   pub kept : is_given p h fr o x.class ≡ false
   pub target : (i : ℕ) (s : Step) → slice_get (frame_steps p fr) i ≡ Some s → is_target p s.action covers.fact.places ≡ true
   pub stays : (i : ℕ) (s : Step) → slice_get (frame_steps p fr) i ≡ Some s → moved_at_call p covers.origin s.action s.edge covers.fact ≡ moves.Moves → ⊥
@@ -214,19 +205,20 @@ module _ (p : Program) (ac : Accept p) (forms : HasPlainForms p) (h : HeapConten
   temp : (t : ℕ) × IsSmall (places.Temp t) × (root_of h (place_value p h fr.method fr.locals (places.Temp t)) ≡ Some o) × ((held : PlaceSet) → has held (places.Temp t) ≡ true → is_target p s.action held ≡ true)
   temp = target_temp p ac forms h fr frs st i s here row o (renewed_at_step p h fr st i s o here row renewed)
 
-  -- the object is in a fact that says that the frame owns it, or one that says that it is lent
-  pub owned_or_lent : OwnsTarget p h frs fr o x ⊎ IsLentFrom p h frs o x.owner
+  -- the object is in a fact that says that the frame owns it, or one that says that it is lent, or a field of what the frame's constructor makes owns it
+  pub owned_or_lent : OwnsTarget p h frs fr o x ⊎ (IsLentFrom p h frs o x.owner ⊎ IsHeldBy p fr x.owner)
   owned_or_lent = by (covered (places.Temp temp.0) o x temp.1 temp.2 at heavy owes)
     where
       lent : (c : Covers p h away anew frs fr o x) → c.fact.mode ≡ modes.Lent → IsLentFrom p h frs o x.owner
       lent c mode = (c.lends mode done).1
 
-      owning : (c : Covers p h away anew frs fr o x) → has c.fact.places (places.Temp temp.0) ≡ true → IsOwned p h away anew frs fr o x c → OwnsTarget p h frs fr o x
-      owning c in' key = record {
+      owning : (c : Covers p h away anew frs fr o x) → has c.fact.places (places.Temp temp.0) ≡ true → IsOwned p h away anew frs fr o x c → is_own c.fact.mode ≡ true → OwnsTarget p h frs fr o x
+      owning c in' key own = record {
         covers = c;
         key = key;
         temp = temp.0;
         there = in';
+        own = own;
         kept = none_away away refl;
         target = λ n t there. ap (λ (a : Action). is_target p a c.fact.places) (one n t there) ∙ temp.3 c.fact.places in';
         stays = λ n t there. target_stays p ac forms h fr frs st n t there (subst IsCallRow (sym (one n t there)) row) away anew o x c (ap (λ (a : Action). is_target p a c.fact.places) (one n t there) ∙ temp.3 c.fact.places in');
@@ -240,28 +232,31 @@ module _ (p : Program) (ac : Accept p) (forms : HasPlainForms p) (h : HeapConten
           none_away true gives = absurd (target_stays p ac forms h fr frs st i s here row away anew o x c (temp.3 c.fact.places in')
               (away_moves p ac h fr st frs i s here row away anew o x c key heavy (given_at_step p h fr st i s o x.class here row gives)))
 
-      by : IsKeyed p h away anew frs fr (places.Temp temp.0) o x → OwnsTarget p h frs fr o x ⊎ IsLentFrom p h frs o x.owner
-      by (owned c in' key) = inl (owning c in' key)
+      by : IsKeyed p h away anew frs fr (places.Temp temp.0) o x → OwnsTarget p h frs fr o x ⊎ (IsLentFrom p h frs o x.owner ⊎ IsHeldBy p fr x.owner)
+      by (owned c in' key) = elim (claims_by p (method_at p fr.method) c.origin c.fact key.owning) [
+        | inl own ↦ inl (owning c in' key own)
+        | inr held ↦ inr (inr (held.1, held_by_this p h away anew frs fr o x c done held.0 held.1))
+      ]
       by (unowned u) = elim (target_mode p ac forms h fr frs st i s here row away anew o x u.covers (temp.3 u.covers.fact.places u.here)) [
-        | inl own ↦ absurd (true≢false (sym own ∙ u.unowned))
-        | inr mode ↦ inr (lent u.covers mode)
+        | inl claimed ↦ absurd (true≢false (sym claimed ∙ u.unowned))
+        | inr mode ↦ inr (inl (lent u.covers mode))
       ]
 
   -- where the frame owns it
   pub its_owner : x.owner ≡ owners.Frame (length frs + 1) → OwnsTarget p h frs fr o x
   its_owner mine = elim owned_or_lent [
     | inl is ↦ is
-    | inr lent ↦ (
-        let it = lender_below p h frs o x.owner lent in
-        let same : length frs + 1 ≡ it.0 = (let both : owners.Frame (length frs + 1) ≡ owners.Frame it.0 = sym mine ∙ it.1 in (let one : length frs + 1 ≡ it.0 = cc in one)) in
-        let low = it.2 in absurd (omega (arith, same, low)))
+    | inr other ↦ absurd (elim other [
+      | inl lent ↦ true≢false (sym (own_frame (length frs + 1) x.owner mine) ∙ lent_not_from p h frs o x.owner lent)
+      | inr held ↦ (let never : owners.Field held.1.holder held.1.field ≡ owners.Frame (length frs + 1) = sym held.1.owns ∙ mine in cc)
+    ])
   ]
 
   -- so it tracks it
   awaits : OwnsTarget p h frs fr o x → Awaits p h fr o x
   unfolding covered_tracks
   awaits it = record {
-    tracks = (covered_tracks p ac h fr frs st away anew o x it.covers it.key it.kept it.temp it.there).0;
+    tracks = (covered_tracks p ac h fr frs st away anew o x it.covers it.key it.own it.kept it.temp it.there).0;
     stays = λ n u there moved. it.stays n u there moved;
   }
 

@@ -26,9 +26,9 @@ pub record HoldsHeavy (p : Program) (h : HeapContents) (fr : Frame) (w : ℕ) (f
   pub class : is_heavy_class p x.class ≡ true
   pub owes : may_owe x ≡ true
 
--- the frame, above the frames `frs`, did not begin with a call that creates the obligation of object `o`, which is `x`, anew, and it was not given the object,
--- or one of these owns it; or the frame runs no constructor, and a field of `this` owns the object
+-- the frame, above the frames `frs`, did not begin with a call that creates the obligation of object `o`, which is `x`, anew; and it was not given the object,
+-- or one of these owns it, or the frame runs no constructor, and a field of `this` owns the object
 abbrev pub IsNotGiven : Program → HeapContents → List Frame → Frame → ℕ → Object → Type 0
 IsNotGiven p h frs fr o x =
-    ((was_renewed p h frs o ≡ false) × ((was_given p h frs o x.class ≡ false) ⊎ (is_frame_below (length frs + 1) x.owner ≡ true)))
-    ⊎ ((constructs (method_at p fr.method) ≡ false) × (is_field_of fr.locals.this x.owner ≡ true))
+    (was_renewed p h frs o ≡ false) × ((was_given p h frs o x.class ≡ false) ⊎ ((is_frame_below (length frs + 1) x.owner ≡ true)
+    ⊎ ((constructs (method_at p fr.method) ≡ false) × (is_field_of fr.locals.this x.owner ≡ true))))

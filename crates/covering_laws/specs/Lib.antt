@@ -2,6 +2,7 @@ pub mod Covering
 pub mod Throws
 pub mod Linking
 pub mod Sight
+pub mod TextUpdates
 pub mod Texts
 pub mod Making
 pub mod Running
@@ -44,6 +45,7 @@ pub use Rattle.value_laws.specs.NameTable
 pub use Rattle.value_laws.specs.Naming
 pub use Rattle.value_laws.specs.Nexts
 pub use Rattle.value_laws.specs.Operations
+pub use Rattle.value_laws.specs.Operands
 pub use Rattle.value_laws.specs.Outcomes
 pub use Rattle.value_laws.specs.OwningFieldsStores
 pub use Rattle.value_laws.specs.Paths

@@ -16,15 +16,18 @@ use Rattle.value_laws.specs.ClassValues.{IsOnInstance}
 use Rattle.value_laws.specs.Choosing.{frame_steps}
 use Rattle.value_laws.specs.Configuration.{Frame}
 use Rattle.value_laws.specs.HeapAnew.{target_root}
-use Rattle.value_laws.specs.Renewable.{IsFollowed, IsRenewable, KeepsTextsOut}
+use Rattle.value_laws.specs.Renewable.{IsFollowed, IsRenewable}
+use Rattle.covering_laws.specs.TextUpdates.{UpdatesTexts}
 
--- Where no text stands where the rule on owning fields looks: an object whose obligation a call creates anew is of a class whose obligation may be created
+-- An object whose obligation a call creates anew is of a class whose obligation may be created
 -- anew, and an object that is stored into an owning field is one that the rules of bodies follow, or its obligation is never created anew. (The object is the root of the operand, or of the value.)
+-- An operator other than `=` stores texts alone into owning fields.
 pub record ActsInSight (p : Program) (h : HeapContents) (fr : Frame) : Type 0 where
-  pub renews : KeepsTextsOut p → (i : ℕ) (s : Step) (named : MethodId) (n : ℕ) (x : Object) → slice_get (frame_steps p fr) i ≡ Some s → called_method s.action ≡ Some named
+  pub renews : (i : ℕ) (s : Step) (named : MethodId) (n : ℕ) (x : Object) → slice_get (frame_steps p fr) i ≡ Some s → called_method s.action ≡ Some named
       → IsOnInstance p h fr.locals s.action (method_at p named) → target_root h fr.locals s.action (method_at p named) ≡ Some n → object_at h n ≡ Some x → IsRenewable p x.class
-  pub stores : KeepsTextsOut p → (i : ℕ) (s : Step) (f : FieldId) (field : Field) (d n : ℕ) (x : Object) → slice_get (frame_steps p fr) i ≡ Some s → s.action ≡ actions.PutOwn f d → field_at p f ≡ Some field → field.owning ≡ true → root_of h (temp_value fr.locals d) ≡ Some n → object_at h n ≡ Some x
+  pub stores : (i : ℕ) (s : Step) (f : FieldId) (field : Field) (d n : ℕ) (x : Object) → slice_get (frame_steps p fr) i ≡ Some s → s.action ≡ actions.PutOwn f d → field_at p f ≡ Some field → field.owning ≡ true → root_of h (temp_value fr.locals d) ≡ Some n → object_at h n ≡ Some x
       → IsFollowed p x.class
+  pub updates : UpdatesTexts p h fr
 
 -- so it is of all of these frames
 abbrev pub AllActInSight : Program → HeapContents → List Frame → Type 0

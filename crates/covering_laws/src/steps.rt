@@ -18,7 +18,7 @@ ghost use Rattle.value_laws.specs.PlainForms.{HasPlainForms};
 ghost use Rattle.value_laws.specs.Frames.{HaveTargets};
 ghost use Rattle.value_laws.specs.Arguments.{HaveArguments};
 ghost use Rattle.value_laws.specs.Types.{HaveTypes};
-ghost use Rattle.value_laws.specs.FieldContents.{FieldsHold};
+ghost use Rattle.value_laws.specs.FieldContents.{FieldsHold, TopRunsAlone};
 ghost use Rattle.value_laws.specs.PlaceFacts.{AreCovered};
 ghost use Rattle.value_laws.specs.Ranges.{AreInRange};
 ghost use Rattle.covering_laws.specs.Making.{AreBeingMade};
@@ -38,7 +38,7 @@ pub fn covered_at_start()
 pub fn covered_step()
     ensures { (p : Program) → Accept p → HasPlainForms p → HasPlainRuns p → HasSmallInterests p → HasLightTexts p → (c d : Config) → Agree p c → HaveTargets p c.frames → HaveTypes p c
         → AreInRange c → FieldsHold p c.frames c.heap → AreBeingMade p c.heap c.frames → LinkedAreAliases p c.heap → AreCovered p c.heap c.frames
-        → HaveArguments p c.frames → TopEndsAsDeclared p c.heap c.frames → TopRaisesExceptions p c.heap c.frames → AllActInSight p c.heap c.frames → step p c ≡ went d → AreCovered p d.heap d.frames }
+        → HaveArguments p c.frames → TopEndsAsDeclared p c.heap c.frames → TopRaisesExceptions p c.heap c.frames → AllActInSight p c.heap c.frames → TopRunsAlone p c.heap c.frames → step p c ≡ went d → AreCovered p d.heap d.frames }
 {}
 
 /// A run begins with one frame, which waits for none.
@@ -50,7 +50,7 @@ pub fn being_made_at_start()
 pub fn being_made_step()
     ensures { (p : Program) → Accept p → HasPlainForms p → HasPlainRuns p → HasSmallInterests p → HasLightTexts p → (c d : Config) → Agree p c → HaveTargets p c.frames → HaveTypes p c
         → AreInRange c → FieldsHold p c.frames c.heap → AreBeingMade p c.heap c.frames → LinkedAreAliases p c.heap → AreCovered p c.heap c.frames
-        → HaveArguments p c.frames → TopEndsAsDeclared p c.heap c.frames → TopRaisesExceptions p c.heap c.frames → AllActInSight p c.heap c.frames → step p c ≡ went d → AreBeingMade p d.heap d.frames }
+        → HaveArguments p c.frames → TopEndsAsDeclared p c.heap c.frames → TopRaisesExceptions p c.heap c.frames → AllActInSight p c.heap c.frames → TopRunsAlone p c.heap c.frames → step p c ≡ went d → AreBeingMade p d.heap d.frames }
 {}
 
 /// A run begins without objects.
@@ -62,5 +62,5 @@ pub fn linked_are_aliases_at_start()
 pub fn linked_are_aliases_step()
     ensures { (p : Program) → Accept p → HasPlainForms p → HasPlainRuns p → HasSmallInterests p → HasLightTexts p → (c d : Config) → Agree p c → HaveTargets p c.frames → HaveTypes p c
         → AreInRange c → FieldsHold p c.frames c.heap → AreBeingMade p c.heap c.frames → LinkedAreAliases p c.heap → AreCovered p c.heap c.frames
-        → HaveArguments p c.frames → TopEndsAsDeclared p c.heap c.frames → TopRaisesExceptions p c.heap c.frames → AllActInSight p c.heap c.frames → step p c ≡ went d → LinkedAreAliases p d.heap }
+        → HaveArguments p c.frames → TopEndsAsDeclared p c.heap c.frames → TopRaisesExceptions p c.heap c.frames → AllActInSight p c.heap c.frames → TopRunsAlone p c.heap c.frames → step p c ≡ went d → LinkedAreAliases p d.heap }
 {}

@@ -25,6 +25,7 @@ pub use Rattle.agreement.proofs.EndLaws
 pub use Rattle.agreement.proofs.EndLinks
 pub use Rattle.agreement.proofs.ClassItems
 pub use Rattle.agreement.proofs.ClassTypes
+pub use Rattle.agreement.proofs.Root
 pub use Rattle.agreement.proofs.ClassWays
 pub use Rattle.agreement.proofs.EndResets
 pub use Rattle.agreement.proofs.ResetHeaps

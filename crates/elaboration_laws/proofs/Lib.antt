@@ -44,5 +44,6 @@ pub mod WrittenTypeLaws
 pub use Rattle.java_typing_laws.proofs.BodyLaws
 pub use Rattle.java_typing_laws.proofs.Goodness
 pub use Rattle.java_typing_laws.proofs.LeastClasses
+pub use Rattle.java_typing_laws.proofs.StatementHeadLaws
 pub use Rattle.java_typing_laws.proofs.StatementTyping
 pub use Rattle.java_typing_laws.proofs.Values

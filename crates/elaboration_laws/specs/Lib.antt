@@ -17,6 +17,8 @@ pub use Rattle.java_typing_laws.specs.Parameters
 pub use Rattle.class_table.specs.Passes
 pub use Rattle.java_typing_laws.specs.Scopes
 pub use Rattle.java_typing_laws.specs.StatementCases
+pub use Rattle.java_typing_laws.specs.StatementCompletions
+pub use Rattle.java_typing_laws.specs.StatementContexts
 pub use Rattle.java_typing_laws.specs.StatementTrees
 pub use Rattle.java_typing_laws.specs.SuperCalls
 pub use Rattle.java_expression_rules.specs.Surroundings

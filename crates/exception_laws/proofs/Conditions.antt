@@ -21,7 +21,7 @@ use Rattle.java_control.specs.declared.item.Condition.TheVariants as conditions
 use Rattle.java_control.specs.Conditions.{binary_condition, condition_front, equal_condition, kind_condition, literal_condition, node_condition, not_equal_condition, tests_value, unary_condition}
 use Rattle.java_control.specs.NullTests.{compared_with_null}
 use Rattle.java_control.specs.Remaining.{Todos, Ev, Cond, NullFork, todos, one, nowhere}
-use Rattle.exception_laws.specs.Completions.{is_true_kind}
+use Rattle.accepted_programs.specs.Completions.{is_true_kind}
 use Rattle.exception_laws.proofs.Outcomes.{Arrival, abruptly, after, after_all, after_in, after_listed, normally}
 
 -- behind a condition with these parts, whose test may fail or not

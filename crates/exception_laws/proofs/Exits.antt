@@ -21,12 +21,12 @@ use Rattle.java_control.specs.Exceptions.{action_ways, caught, clauses_in, enter
 use Rattle.java_control.specs.Exceptions as control
 use Rattle.java_control.specs.Statements.{close_front}
 use Rattle.java_control.specs.Remaining.{Todo, Do, Ev, Act, Cond, NullFork, BoolFork, LoopEnd, For, Leave, Catch, Fin, Close, Finish, Supp, Out, Ended, skip, way}
-use Rattle.exception_laws.specs.Completions.{completion}
-use Rattle.exception_laws.specs.Exceptions.{is_caught, statement_exceptions, throws_clause}
-use Rattle.exception_laws.specs.TreeOrder.{PartsComeFirst}
+use Rattle.accepted_programs.specs.Completions.{completion}
+use Rattle.accepted_programs.specs.Exceptions.{is_caught, statement_exceptions, throws_clause}
+use Rattle.accepted_programs.specs.TreeOrder.{PartsComeFirst}
 use Rattle.exception_laws.proofs.Finishes.{AtEnd, Finishes, finishes_front, finishes_weaker}
 use Rattle.exception_laws.proofs.Handlers.{IsSafe, class_out, gets_out, in_front, is_plain}
-use Rattle.exception_laws.proofs.Lists.{None', alone, left, or_first, or_neither, or_second, right}
+use Rattle.accepted_programs.proofs.Lists.{None', alone, left, or_first, or_neither, or_second, right}
 use Rattle.exception_laws.proofs.Outcomes.{Acts, Arrival, OneClause, Resumes, Via, abruptly, after, after_all, breaking, breaks, continues, continuing, goes, normally, once, plainly, throws as thrown_away}
 use Rattle.exception_laws.proofs.Steps.{EachWay, EndsWell, Keeps, KeepsWay, condition_step, done, each_joined, expression_step, for_step, fork_step, loop_step, skipped, statement_step}
 use Rattle.exception_laws.proofs.Unchecked.{FindsNoUnchecked, action_none}

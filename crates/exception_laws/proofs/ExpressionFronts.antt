@@ -40,11 +40,11 @@ use Rattle.java_control.specs.Expressions.{assignment_front, call_with, comparis
 use Rattle.java_control.specs.NullTests.{compared_with_null, is_null}
 use Rattle.java_control.specs.Owned.{has_place, place_of_field, is_this}
 use Rattle.java_control.specs.Remaining.{Todo, Todos, Ev, Act, Cond, NullFork, todos, one, nowhere}
-use Rattle.exception_laws.specs.Exceptions.{expression_exceptions, throws_clause, thrown_by_call}
-use Rattle.exception_laws.specs.TreeOrder.{PartsComeFirst}
-use Rattle.exception_laws.proofs.Depths.{value_law}
+use Rattle.accepted_programs.specs.Exceptions.{expression_exceptions, throws_clause, thrown_by_call}
+use Rattle.accepted_programs.specs.TreeOrder.{PartsComeFirst}
+use Rattle.accepted_programs.proofs.Depths.{value_law}
 use Rattle.exception_laws.proofs.Handlers.{all_fit, all_thrown, condition_exceptions, fit, fits, listed, thrown, thrown_in}
-use Rattle.exception_laws.proofs.Lists.{None', all_join, alone, and_both, join, left, right}
+use Rattle.accepted_programs.proofs.Lists.{None', all_join, alone, and_both, join, left, right}
 
 -- the items throw nothing that the test finds, and none of them ends the frame
 abbrev pub Quiet : Bool → Program → Body → (ClassId → Bool) → List Todo → Type 0

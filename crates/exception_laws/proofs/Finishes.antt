@@ -3,9 +3,9 @@ use Rattle.std.proofs.Common.{◌≡◌, ◌++◌, ◌∷◌, [], List, true, fa
 use Rattle.std.specs.List.{list_all}
 use Rattle.program_model.specs.declared.tree.Body.{Body}
 use Rattle.java_control.specs.Remaining.{Todo, Do, Ev, Act, Cond, NullFork, BoolFork, LoopEnd, For, Leave, Catch, Fin, Close, Finish, Supp, Out, Ended}
-use Rattle.exception_laws.specs.Completions.{completion}
+use Rattle.accepted_programs.specs.Completions.{completion}
 use Rattle.exception_laws.proofs.Handlers.{fits}
-use Rattle.exception_laws.proofs.Lists.{and_one, and_two}
+use Rattle.accepted_programs.proofs.Lists.{and_one, and_two}
 use Rattle.exception_laws.proofs.Outcomes.{Arrival, abruptly, after, after_all, breaking, continuing, normally}
 
 -- the end is reached normally, and no other way

@@ -15,9 +15,9 @@ use Rattle.java_control.specs.declared.item.Condition.{Condition}
 use Rattle.java_control.specs.declared.item.Condition.TheVariants as conditions
 use Rattle.java_control.specs.Exceptions.{clauses_in, declared_exceptions}
 use Rattle.java_control.specs.Remaining.{Todo, Todos, Do, Ev, Act, Cond, NullFork, BoolFork, LoopEnd, For, Leave, Catch, Fin, Close, Finish, Supp, Out, Ended, nil, cons, todos}
-use Rattle.exception_laws.specs.Completions.{completion}
-use Rattle.exception_laws.specs.Exceptions.{expression_exceptions, is_caught, statement_exceptions, throws_clause}
-use Rattle.exception_laws.proofs.Lists.{None', and_both, and_one, and_second_false, and_two, left, right, weaker}
+use Rattle.accepted_programs.specs.Completions.{completion}
+use Rattle.accepted_programs.specs.Exceptions.{expression_exceptions, is_caught, statement_exceptions, throws_clause}
+use Rattle.accepted_programs.proofs.Lists.{None', and_both, and_one, and_second_false, and_two, left, right, weaker}
 
 -- ---- exceptions on their way out
 

@@ -16,13 +16,13 @@ use Rattle.program_model.specs.SuperTests.{is_under}
 use Rattle.program_model.specs.Validity.{IsTypedProgram}
 use Rattle.program_model.proofs.HierarchyLaws.{is_under_law}
 use Rattle.java_control.specs.Exceptions.{unchecked}
-use Rattle.class_overrides.specs.Cases.{may_throw, throws_no_more}
-use Rattle.class_overrides.specs.Cases as overriding
-use Rattle.exception_laws.specs.Coverage.{CoversItsExceptions, is_checked, is_declared, is_undeclared}
-use Rattle.exception_laws.specs.Exceptions.{throws_in}
+use Rattle.accepted_programs.specs.Cases.{may_throw, throws_no_more}
+use Rattle.accepted_programs.specs.Cases as overriding
+use Rattle.accepted_programs.specs.Coverage.{CoversItsExceptions, is_checked, is_declared, is_undeclared}
+use Rattle.accepted_programs.specs.Exceptions.{throws_in}
 use Rattle.ledger_calls.specs.Calls.{leaves_by}
 use Rattle.exception_laws.specs.Ends.{EndsBy, LeavesCall}
-use Rattle.exception_laws.proofs.Lists.{and_one, and_two}
+use Rattle.accepted_programs.proofs.Lists.{and_one, and_two}
 use Rattle.exception_laws.proofs.Reached.{ends_by_exception, ends_covered, under_all}
 
 any_more : {X : Type 0} (f g : X → Bool) → ((x : X) → f x ≡ true → g x ≡ true) → (xs : List X) → list_any f xs ≡ true → list_any g xs ≡ true

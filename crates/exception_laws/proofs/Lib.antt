@@ -1,11 +1,10 @@
-pub mod Depths
+pub mod AcceptedCalls
 pub mod Conditions
 pub mod Exits
 pub mod ExpressionFronts
 pub mod Finishes
 pub mod Handlers
 pub mod LeavingCalls
-pub mod Lists
 pub mod Outcomes
 pub mod Reached
 pub mod Starts

@@ -17,9 +17,9 @@ use Rattle.java_control.specs.declared.item.Condition.{Condition}
 use Rattle.java_control.specs.declared.item.Condition.TheVariants as conditions
 use Rattle.java_control.specs.Exceptions.{clauses_in}
 use Rattle.java_control.specs.Remaining.{Todo, Todos, Do, Ev, Act, Cond, NullFork, BoolFork, LoopEnd, For, Leave, Catch, Fin, Close, Finish, Supp, Out, Ended, nil, cons, todos}
-use Rattle.exception_laws.specs.Completions.{Completion, completion, is_true_literal}
+use Rattle.accepted_programs.specs.Completions.{Completion, completion, is_true_literal}
 use Rattle.exception_laws.proofs.Handlers.{fit, fits, is_plain}
-use Rattle.exception_laws.proofs.Lists.{and_one, and_two}
+use Rattle.accepted_programs.proofs.Lists.{and_one, and_two}
 
 -- what arrives: the run itself, a `break`, a `continue`, or a `return` or an exception
 pub data Arrival : Type 0 where

@@ -18,14 +18,14 @@ use Rattle.java_control.specs.declared.action.Completion.TheVariants as completi
 use Rattle.java_control.specs.Control.{Step, control_place, next_of, start_in, start_of, step_at, steps_in, ways}
 use Rattle.java_control.specs.Remaining.{Todo, Way}
 use Rattle.java_control.specs.Statements.{body_front}
-use Rattle.flow_rules.specs.Paths.{Comes, Move, move_of, on, relation_of, start}
-use Rattle.exception_laws.specs.Coverage.{CoversItsExceptions, is_checked, is_declared, is_undeclared}
-use Rattle.exception_laws.specs.Exceptions.{body_exceptions, throws_clause}
-use Rattle.exception_laws.specs.TreeOrder.{PartsComeFirst}
+use Rattle.accepted_programs.specs.Paths.{Comes, Move, move_of, on, relation_of, start}
+use Rattle.accepted_programs.specs.Coverage.{CoversItsExceptions, is_checked, is_declared, is_undeclared}
+use Rattle.accepted_programs.specs.Exceptions.{body_exceptions, throws_clause}
+use Rattle.accepted_programs.specs.TreeOrder.{PartsComeFirst}
 use Rattle.exception_laws.specs.Ends.{EndsBy}
 use Rattle.exception_laws.proofs.Exits.{ways_keep}
 use Rattle.exception_laws.proofs.Handlers.{gets_out, not_found}
-use Rattle.exception_laws.proofs.Lists.{None', and_first_false, or_first, or_neither, or_second}
+use Rattle.accepted_programs.proofs.Lists.{None', and_first_false, or_first, or_neither, or_second}
 use Rattle.exception_laws.proofs.Starts.{start_keeps}
 use Rattle.exception_laws.proofs.Steps.{EachWay, EndsWell, Keeps, KeepsWay}
 use Rattle.exception_laws.proofs.ThrownClasses.{body_none, is_other}

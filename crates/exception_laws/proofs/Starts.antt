@@ -12,14 +12,14 @@ use Rattle.program_model.specs.Lookups.{statement_at}
 use Rattle.rlc_base.specs.declared.place.Pos.{Pos}
 use Rattle.java_control.specs.Statements.{body_front, first_items, first_items_at, listed_front}
 use Rattle.java_control.specs.Remaining.{Todo}
-use Rattle.exception_laws.specs.Completions.{completion}
-use Rattle.exception_laws.specs.Exceptions.{body_exceptions, exceptions_in, expression_exceptions, statement_exceptions, throws_clause}
-use Rattle.exception_laws.specs.TreeOrder.{PartsComeFirst}
-use Rattle.exception_laws.proofs.Depths.{thrown_law}
+use Rattle.accepted_programs.specs.Completions.{completion}
+use Rattle.accepted_programs.specs.Exceptions.{body_exceptions, exceptions_in, expression_exceptions, statement_exceptions, throws_clause}
+use Rattle.accepted_programs.specs.TreeOrder.{PartsComeFirst}
+use Rattle.accepted_programs.proofs.Depths.{thrown_law}
 use Rattle.exception_laws.proofs.ExpressionFronts.{Quiet, quiet_joined, values}
 use Rattle.exception_laws.proofs.Finishes.{finishes_front}
 use Rattle.exception_laws.proofs.Handlers.{in_front}
-use Rattle.exception_laws.proofs.Lists.{None', alone, left, right}
+use Rattle.accepted_programs.proofs.Lists.{None', alone, left, right}
 use Rattle.exception_laws.proofs.Outcomes.{normally}
 use Rattle.exception_laws.proofs.StatementFronts.{inner, quiet_expression, quiet_super}
 use Rattle.exception_laws.proofs.Steps.{Keeps}

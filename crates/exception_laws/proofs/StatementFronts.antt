@@ -32,12 +32,12 @@ use Rattle.java_control.specs.Expressions.{evaluations}
 use Rattle.java_control.specs.Statements.{class_of_type, clauses_front, closes, declaration_front, declarator_front, declarator_with, expression_statement, finally_front, head_front, initial_front, list_of_branch, opens, resources_front, return_front, statement_front, super_front, try_front, turn_front}
 use Rattle.java_control.specs.Exceptions.{clauses_in}
 use Rattle.java_control.specs.Remaining.{Todo, Todos, nil, Do, Ev, Act, Cond, LoopEnd, For, Leave, one, two, expression_place}
-use Rattle.exception_laws.specs.Completions.{Completion, completion, finally_completion}
-use Rattle.exception_laws.specs.Exceptions.{exceptions_before_finally, exceptions_in, expression_exceptions, is_caught, let_through, protected_exceptions, statement_exceptions, throws_clause, thrown_by_closing, thrown_by_statement, uncaught}
-use Rattle.exception_laws.specs.Exceptions as thrown_classes
+use Rattle.accepted_programs.specs.Completions.{Completion, completion, finally_completion}
+use Rattle.accepted_programs.specs.Exceptions.{exceptions_before_finally, exceptions_in, expression_exceptions, is_caught, let_through, protected_exceptions, statement_exceptions, throws_clause, thrown_by_closing, thrown_by_statement, uncaught}
+use Rattle.accepted_programs.specs.Exceptions as thrown_classes
 use Rattle.exception_laws.proofs.ExpressionFronts.{AreQuiet, Quiet, evaluates_all, quiet_first, quiet_joined, values}
 use Rattle.exception_laws.proofs.Handlers.{IsSafe, condition_exceptions, fit, gets_out, in_front, thrown_in}
-use Rattle.exception_laws.proofs.Lists.{None', alone, and_both, and_first_false, and_second_false, filtered, join, left, right, weaker}
+use Rattle.accepted_programs.proofs.Lists.{None', alone, and_both, and_first_false, and_second_false, filtered, join, left, right, weaker}
 
 abbrev pub inner : Program → Body → List StmtId → List ClassId
 inner p b ss = flat_map (statement_exceptions p b) ss

@@ -25,13 +25,13 @@ use Rattle.java_control.specs.declared.item.Condition.TheVariants as conditions
 use Rattle.java_control.specs.Exceptions.{clauses_in, clauses_of_kind}
 use Rattle.java_control.specs.Statements.{class_of_type, clauses_front, closes, declaration_front, expression_statement, finally_front, head_front, loop_turn, for_turn, return_front, super_front, for_condition, initial_front, list_of_branch, opens, resources_front, statement_front, try_front}
 use Rattle.java_control.specs.Remaining.{Todo, nil, Do, Ev, Act, Cond, LoopEnd, For, Leave, Catch, one, two}
-use Rattle.exception_laws.specs.Completions.{Completion, abrupt, and_then, completion, completion_in, do_completion, else_completion, finally_completion, goes_on, in_sequence, is_true_literal, loop_completion, normal, one_among, one_of, protected_completion}
-use Rattle.exception_laws.specs.Exceptions.{throws_clause}
-use Rattle.exception_laws.specs.TreeOrder.{PartsComeFirst}
-use Rattle.exception_laws.proofs.Depths.{completion_law}
+use Rattle.accepted_programs.specs.Completions.{Completion, abrupt, and_then, completion, completion_in, do_completion, else_completion, finally_completion, goes_on, in_sequence, is_true_literal, loop_completion, normal, one_among, one_of, protected_completion}
+use Rattle.accepted_programs.specs.Exceptions.{throws_clause}
+use Rattle.accepted_programs.specs.TreeOrder.{PartsComeFirst}
+use Rattle.accepted_programs.proofs.Depths.{completion_law}
 use Rattle.exception_laws.proofs.ExpressionFronts.{values}
 use Rattle.exception_laws.proofs.Handlers.{fits}
-use Rattle.exception_laws.proofs.Lists.{and_both}
+use Rattle.accepted_programs.proofs.Lists.{and_both}
 use Rattle.exception_laws.proofs.Outcomes.{Arrival, ForEnds, ForOf, OneClause, Plainly, Through, TurnEnds, TurnOf, Via, abruptly, after, after_all, after_in, after_joined, breaking, breaks, continues, continuing, goes, may_fail, normally, once, plainly, throws}
 use Rattle.exception_laws.proofs.StatementFronts.{nothing, quiet_declaration, quiet_head, quiet_initial, quiet_super}
 

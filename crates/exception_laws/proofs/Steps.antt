@@ -26,16 +26,16 @@ use Rattle.java_control.specs.Exceptions.{clauses_in, clauses_of_kind}
 use Rattle.java_control.specs.Expressions.{expression_front}
 use Rattle.java_control.specs.Statements.{clauses_front, finally_front, for_condition, for_turn, head_front, loop_turn, resources_front, statement_front, try_front}
 use Rattle.java_control.specs.Remaining.{Todo, Todos, Do, Ev, Cond, LoopEnd, For, Way, one, nil, skip, todos}
-use Rattle.exception_laws.specs.Completions.{completion}
-use Rattle.exception_laws.specs.Exceptions.{exceptions_in, expression_exceptions, protected_exceptions, statement_exceptions, thrown_by_call, thrown_by_statement}
-use Rattle.exception_laws.specs.TreeOrder.{PartsComeFirst}
-use Rattle.exception_laws.proofs.Depths.{thrown_law, value_law}
+use Rattle.accepted_programs.specs.Completions.{completion}
+use Rattle.accepted_programs.specs.Exceptions.{exceptions_in, expression_exceptions, protected_exceptions, statement_exceptions, thrown_by_call, thrown_by_statement}
+use Rattle.accepted_programs.specs.TreeOrder.{PartsComeFirst}
+use Rattle.accepted_programs.proofs.Depths.{thrown_law, value_law}
 use Rattle.exception_laws.proofs.Conditions.{condition_ends}
 use Rattle.exception_laws.proofs.ExpressionFronts.{Quiet, quiet_condition, values}
 use Rattle.exception_laws.proofs.ExpressionFronts as value_fronts
 use Rattle.exception_laws.proofs.Finishes.{Finishes, finishes_done, finishes_instead}
 use Rattle.exception_laws.proofs.Handlers.{IsSafe, all_fit, class_out, fit, fits, condition_exceptions, gets_out, in_front, in_front_of, thrown_in}
-use Rattle.exception_laws.proofs.Lists.{None', all_join, alone, and_one, and_two, left, right}
+use Rattle.accepted_programs.proofs.Lists.{None', all_join, alone, and_one, and_two, left, right}
 use Rattle.exception_laws.proofs.Outcomes.{Arrival, after, after_all, after_in, after_listed, normally, plainly}
 use Rattle.exception_laws.proofs.StatementFronts.{inner, nothing, quiet_head, quiet_protected, quiet_turn, safe_try}
 use Rattle.exception_laws.proofs.StatementFronts as statement_fronts

@@ -26,9 +26,9 @@ use Rattle.program_model.specs.Trees.{expressions_in, operands, statements_in}
 use Rattle.program_model.specs.Typing.{IsThrowable, IsTypedStatement, class_of}
 use Rattle.program_model.specs.Validity.{IsTypedProgram}
 use Rattle.program_model.proofs.HierarchyLaws.{is_under_law}
-use Rattle.exception_laws.specs.Completions.{Completion, completion, finally_completion}
-use Rattle.exception_laws.specs.Exceptions.{body_exceptions, class_of_type, exceptions_at, exceptions_before_finally, exceptions_in, exceptions_to, expression_exceptions, expression_exceptions_at, expression_exceptions_to, is_caught, let_through, protected_exceptions, statement_exceptions, throws_clause, throws_in, thrown_by_call, thrown_by_closing, thrown_by_statement, try_exceptions, uncaught}
-use Rattle.exception_laws.proofs.Lists.{None', join, or_first, or_neither, or_second}
+use Rattle.accepted_programs.specs.Completions.{Completion, completion, finally_completion}
+use Rattle.accepted_programs.specs.Exceptions.{body_exceptions, class_of_type, exceptions_at, exceptions_before_finally, exceptions_in, exceptions_to, expression_exceptions, expression_exceptions_at, expression_exceptions_to, is_caught, let_through, protected_exceptions, statement_exceptions, throws_clause, throws_in, thrown_by_call, thrown_by_closing, thrown_by_statement, try_exceptions, uncaught}
+use Rattle.accepted_programs.proofs.Lists.{None', join, or_first, or_neither, or_second}
 
 -- the class is no class of exceptions
 abbrev pub is_other : Program → ClassId → Bool

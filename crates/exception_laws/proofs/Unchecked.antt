@@ -12,7 +12,7 @@ use Rattle.java_control.specs.declared.action.Action.TheVariants as actions
 use Rattle.java_control.specs.declared.action.Operator.{Operator}
 use Rattle.java_control.specs.declared.action.Operator.TheVariants as operators
 use Rattle.java_control.specs.Exceptions.{binary_exceptions, declared_exceptions, exceptions_of, heeded, heeded_by_call, operator_exceptions, other_exceptions, own_exceptions, receiver_exceptions, throws_some_heeded, unchecked, with_class, with_classes}
-use Rattle.exception_laws.proofs.Lists.{None', join, or_first, or_neither, or_second}
+use Rattle.accepted_programs.proofs.Lists.{None', join, or_first, or_neither, or_second}
 
 -- the test finds none of the classes that the language throws by itself (JLS 11.1.1, 15.6)
 pub record FindsNoUnchecked (p : Program) (v : ClassId → Bool) : Type 0 where

@@ -11,7 +11,7 @@ use Rattle.java_control.specs.declared.action.Action.TheVariants as actions
 use Rattle.java_control.specs.declared.action.Completion.TheVariants as completions
 use Rattle.java_control.specs.Remaining.{Todo}
 use Rattle.ledger_calls.specs.Calls.{leaves_by}
-use Rattle.flow_rules.specs.Paths.{Comes, Move, relation_of}
+use Rattle.accepted_programs.specs.Paths.{Comes, Move, relation_of}
 
 -- some path through the body ends by an exception that is known by this class
 pub record EndsBy (p : Program) (n : BodyId) (c : ClassId) : Type 0 where

@@ -1,5 +1,5 @@
-pub mod Completions
-pub mod Coverage
-pub mod Exceptions
-pub mod TreeOrder
 pub mod Ends
+pub use Rattle.accepted_programs.specs.Completions
+pub use Rattle.accepted_programs.specs.Coverage
+pub use Rattle.accepted_programs.specs.Exceptions
+pub use Rattle.accepted_programs.specs.TreeOrder

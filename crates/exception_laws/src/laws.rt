@@ -3,6 +3,7 @@
 ghost use Rattle.std.specs.Prelude.{◌≡◌, true, false, Some};
 ghost use Rattle.program_model.specs.declared.kinds.BodyId.{BodyId};
 ghost use Rattle.program_model.specs.declared.kinds.ClassId.{ClassId};
+ghost use Rattle.program_model.specs.declared.kinds.MethodId.{MethodId};
 ghost use Rattle.program_model.specs.declared.program.Method.{Method};
 ghost use Rattle.program_model.specs.declared.program.Program.{Program};
 ghost use Rattle.program_model.specs.declared.tree.Body.{Body};
@@ -10,9 +11,12 @@ ghost use Rattle.program_model.specs.Hierarchy.{IsHierarchy, IsUnder};
 ghost use Rattle.program_model.specs.Lookups.{body_at, method_at};
 ghost use Rattle.program_model.specs.SuperTests.{is_under};
 ghost use Rattle.program_model.specs.Validity.{IsTypedProgram};
-ghost use Rattle.class_overrides.specs.Cases.{throws_no_more};
-ghost use Rattle.exception_laws.specs.Coverage.{CoversItsExceptions, is_undeclared};
-ghost use Rattle.exception_laws.specs.Exceptions.{throws_clause};
+ghost use Rattle.accepted_programs.specs.Accept.{Accept};
+ghost use Rattle.accepted_programs.specs.Cases.{throws_no_more};
+ghost use Rattle.accepted_programs.specs.Conditions.{HasWholeLibrary};
+ghost use Rattle.accepted_programs.specs.Coverage.{CoversItsExceptions, is_undeclared};
+ghost use Rattle.accepted_programs.specs.Exceptions.{throws_clause};
+ghost use Rattle.dispatch_laws.specs.PlainForms.{MayRun};
 ghost use Rattle.exception_laws.specs.Ends.{EndsBy, LeavesCall};
 
 /// Where the program covers its exceptions, each class by which an exception that ends a body is known is one of exceptions, and it is
@@ -38,4 +42,11 @@ pub fn overriding_method_covers()
 /// the exception is known at the body's end, `e` its own.
 pub fn program_exception_leaves_call()
     ensures { (p : Program) → IsTypedProgram p → CoversItsExceptions p → (n : BodyId) (b : Body) → body_at p n ≡ Some b → (x m : Method) → method_at p b.method ≡ Some x → throws_no_more p x m ≡ true → (c : ClassId) → EndsBy p n c → (e : ClassId) → IsUnder p e c → LeavesCall p m e }
+{}
+
+/// In an accepted program, whose library stands by itself, an exception that ends the body of a method leaves each call at which that
+/// method may run (JLS 15.12.4.4): by a class for which the call has an edge, and never as if the call had ended normally. `c` is the
+/// class by which the exception is known at the body's end, `e` its own.
+pub fn accepted_program_exception_leaves_call()
+    ensures { (p : Program) → Accept p → HasWholeLibrary p → (n : BodyId) (b : Body) → body_at p n ≡ Some b → (m : MethodId) (named : Method) → MayRun p m b.method → method_at p m ≡ Some named → (c : ClassId) → EndsBy p n c → (e : ClassId) → IsUnder p e c → LeavesCall p named e }
 {}

@@ -8,7 +8,6 @@ use Rattle.program_model.specs.declared.kinds.BodyId.{BodyId}
 use Rattle.program_model.specs.declared.kinds.ClassId.{ClassId}
 use Rattle.program_model.specs.declared.program.Program.{Program}
 use Rattle.program_model.specs.declared.kinds.VType.{VType}
-use Rattle.ownership_rules.specs.Bodies.{reset_in}
 use Rattle.ownership_rules.specs.MustCallSets.{fits_type, is_heavy_as, is_heavy_class, no_names}
 use Rattle.java_control.specs.PlaceNumbers.{number_of}
 use Rattle.java_control.specs.Sources.{is_null_pointer}
@@ -73,6 +72,18 @@ lent_before modes.Held held is = go (is_in_this held) is
 
 pub held_stays : (m : Mode) (held : PlaceSet) → m ≡ modes.Held → is_in_this held ≡ true → mode_at m held ≡ modes.Held
 held_stays m held is inside = rw (is, inside) refl
+
+-- what is held at such places is in `this`
+pub held_within : (m : Mode) (held : PlaceSet) → mode_at m held ≡ modes.Held → is_in_this held ≡ true
+held_within modes.Own held is = absurd (let never : modes.Own ≡ modes.Held = is in cc)
+held_within modes.None held is = absurd (let never : modes.None ≡ modes.Held = is in cc)
+held_within modes.Held held is = go (is_in_this held) refl is
+  where
+    go : (b : Bool) → is_in_this held ≡ b → (if b then modes.Held else modes.None) ≡ modes.Held → is_in_this held ≡ true
+    go true inside one = inside
+    go false out one = absurd (let never : modes.None ≡ modes.Held = one in cc)
+held_within modes.Lent held is = absurd (let never : modes.Lent ≡ modes.Held = is in cc)
+held_within modes.Alias held is = absurd (let never : modes.Alias ≡ modes.Held = is in cc)
 
 -- a fact at other places
 pub left_as : (P : Fact → Type 0) (o : Origin) (f : Fact) (held : PlaceSet) (q : Place) → has held q ≡ true → P (record f { places = held; mode = mode_at f.mode held }) → After P (leave o f held)

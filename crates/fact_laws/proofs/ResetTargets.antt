@@ -1,4 +1,4 @@
--- The fact of an object whose obligation a call creates anew is in mode Own, or in mode Lent.
+-- The fact of an object whose obligation a call creates anew is in mode Own, or in mode Lent, or in a constructor without an aliased argument in mode Held.
 use Rattle.std.specs.Prelude.{◌&&◌, ◌||◌}
 use Rattle.std.proofs.Common.{◌≡◌, ◌⊎◌, inl, inr, ap, refl, sym, ◌∙◌, ℕ, Bool, true, false, true≢false, not, Option, Some, List, slice_get}
 use Rattle.program_model.specs.declared.kinds.BodyId.{BodyId}
@@ -15,14 +15,16 @@ use Rattle.java_control.specs.declared.fact.Fact.{Fact}
 use Rattle.java_control.specs.declared.fact.Mode.{Mode}
 use Rattle.java_control.specs.declared.fact.Mode.TheVariants as modes
 use Rattle.java_control.specs.declared.fact.Origin.{Origin}
-use Rattle.ownership_rules.specs.Bodies.{constructs, has_field_place, is_constructor, is_constructor_kind, method_in, resets_this}
+use Rattle.ownership_rules.specs.Bodies.{constructs, has_field_place, is_alias_constructor, is_constructor, is_constructor_kind, method_in, resets_this}
 use Rattle.program_model.specs.declared.kinds.MethodKind.TheVariants as methods
 use Rattle.ownership_rules.specs.MustCallSets.{is_heavy_class}
 use Rattle.place_laws.specs.Paths.{Comes, Move, Reach, born, entered, flowed, on, relation_of, start}
 use Rattle.ownership_rules.specs.Facts.{is_held, is_lent}
-use Rattle.fact_laws.specs.Anew.{IsAnswered, MayBeAnew}
+use Rattle.place_laws.specs.Accept.{Accept}
+use Rattle.fact_laws.specs.Anew.{IsAnswered, IsInHands, MayBeAnew}
 use Rattle.fact_laws.specs.Lending.{may_be_lent}
 use Rattle.fact_laws.specs.Storing.{HasStored, onward, stored}
+use Rattle.fact_laws.proofs.KeptFacts.{held_is_argument}
 use Rattle.fact_laws.proofs.ResetBirths.{entry_born, step_born}
 use Rattle.fact_laws.proofs.Modes.{next_mode, stores_own}
 
@@ -82,21 +84,25 @@ module _ (p : Program) (b : BodyId) (x : Body) (m : Method) (at : body_at p b �
       stored_makes _ (stored i t g d reached here same) = stores _ i t g d reached here same
       stored_makes _ (onward i t before here) = stored_makes _ before
 
-      answered : (o : Origin) (k : List Todo) (f : Fact) → Reach p b (relation_of p b) o k f → (Makes → HasStored p b k → ⊥) → (a : Action) (j : ℕ) → MayBeAnew p b o a j f
-          → ((f.mode ≡ modes.Own) × (is_heavy_class p o.class ≡ true)) ⊎ (f.mode ≡ modes.Lent)
-      answered o k f reach before a j may = go may.answered
+      answered : Accept p → (o : Origin) (k : List Todo) (f : Fact) → Reach p b (relation_of p b) o k f → (a : Action) (j : ℕ) → MayBeAnew p b o a j f → IsInHands p b f.mode (is_heavy_class p o.class)
+      answered ac o k f reach a j may = go may.answered
         where
           -- what a field holds is created anew in a constructor, or in a method that says so
-          unheld : f.mode ≡ modes.Held → (y z : Bool) → is_constructor p b ≡ y → resets_this p b ≡ z → ⊥
-          unheld held true z makes says = before makes (held_behind (inl makes) o k f reach (ap is_held held))
-          unheld held false true makes says = true≢false (sym (stored_makes k (held_behind (inr (silent says)) o k f reach (ap is_held held))) ∙ makes)
-          unheld held false false makes says =
-              true≢false (sym (ap (λ (n : Mode). is_held n && not (is_constructor p b || resets_this p b)) held ∙ ap (λ (y : Bool). not (y || resets_this p b)) makes ∙ ap not says) ∙ may.announced)
+          held_in : f.mode ≡ modes.Held → (y z : Bool) → is_constructor p b ≡ y → resets_this p b ≡ z → is_constructor p b ≡ true
+          held_in held true z makes says = makes
+          held_in held false true makes says = stored_makes k (held_behind (inr (silent says)) o k f reach (ap is_held held))
+          held_in held false false makes says =
+              absurd (true≢false (sym (ap (λ (n : Mode). is_held n && not (is_constructor p b || resets_this p b)) held ∙ ap (λ (y : Bool). not (y || resets_this p b)) makes ∙ ap not says) ∙ may.announced))
 
-          go : IsAnswered f.mode (is_heavy_class p o.class) → ((f.mode ≡ modes.Own) × (is_heavy_class p o.class ≡ true)) ⊎ (f.mode ≡ modes.Lent)
-          go (inl lent) = inr lent
+          -- what a constructor with an aliased argument holds is this argument
+          alone : f.mode ≡ modes.Held → (z : Bool) → is_alias_constructor p b ≡ z → is_alias_constructor p b ≡ false
+          alone held true aliased = absurd (true≢false (sym (held_is_argument p ac b x m at of aliased this o k f reach held) ∙ may.alias))
+          alone held false none = none
+
+          go : IsAnswered f.mode (is_heavy_class p o.class) → IsInHands p b f.mode (is_heavy_class p o.class)
+          go (inl lent) = inr (inl lent)
           go (inr (heavy, inl own)) = inl (own, heavy)
-          go (inr (heavy, inr held)) = absurd (unheld held (is_constructor p b) (resets_this p b) refl refl)
+          go (inr (heavy, inr held)) = inr (inr (held, heavy, held_in held (is_constructor p b) (resets_this p b) refl refl, alone held (is_alias_constructor p b) refl))
 
 -- ---- the laws
 
@@ -104,16 +110,9 @@ pub lent_facts : (p : Program) (b : BodyId) (x : Body) (m : Method) → body_at 
     → (o : Origin) (k : List Todo) (f : Fact) → Reach p b (relation_of p b) o k f → f.mode ≡ modes.Lent → may_be_lent m o.kind ≡ true
 lent_facts p b x m at of o k f reach mode = lent_to p b x m at of o k f reach (ap is_lent mode)
 
-pub held_facts : (p : Program) (b : BodyId) (x : Body) (m : Method) → body_at p b ≡ Some x → method_at p x.method ≡ Some m
-    → ((c : List Todo) (i : ℕ) (t : Move (List Todo)) → Comes (relation_of p b) c → slice_get ((relation_of p b).next c) i ≡ Some t → is_reset_of_this p t.action ≡ true → (g : FieldId) → has_field_place p b g ≡ false)
-    → (is_constructor p b ≡ true) ⊎ ((g : FieldId) → has_field_place p b g ≡ false)
-    → (o : Origin) (k : List Todo) (f : Fact) → Reach p b (relation_of p b) o k f → f.mode ≡ modes.Held → HasStored p b k
-held_facts p b x m at of this free o k f reach mode = held_behind p b x m at of this free o k f reach (ap is_held mode)
-
-pub answered_targets : (p : Program) (b : BodyId) (x : Body) (m : Method) → body_at p b ≡ Some x → method_at p x.method ≡ Some m
+pub answered_targets : (p : Program) → Accept p → (b : BodyId) (x : Body) (m : Method) → body_at p b ≡ Some x → method_at p x.method ≡ Some m
     → ((c : List Todo) (i : ℕ) (t : Move (List Todo)) → Comes (relation_of p b) c → slice_get ((relation_of p b).next c) i ≡ Some t → is_reset_of_this p t.action ≡ true → (g : FieldId) → has_field_place p b g ≡ false)
     → (resets_this p b ≡ true → (g : FieldId) → has_field_place p b g ≡ false)
     → ((c : List Todo) (i : ℕ) (t : Move (List Todo)) (g : FieldId) (d : ℕ) → Comes (relation_of p b) c → slice_get ((relation_of p b).next c) i ≡ Some t → t.action ≡ actions.PutOwn g d → is_constructor p b ≡ true)
-    → (o : Origin) (k : List Todo) (f : Fact) → Reach p b (relation_of p b) o k f → (is_constructor p b ≡ true → HasStored p b k → ⊥)
-    → (a : Action) (j : ℕ) → MayBeAnew p b o a j f → ((f.mode ≡ modes.Own) × (is_heavy_class p o.class ≡ true)) ⊎ (f.mode ≡ modes.Lent)
-answered_targets p b x m at of this silent stores o k f reach before a j may = answered p b x m at of this silent stores o k f reach before a j may
+    → (o : Origin) (k : List Todo) (f : Fact) → Reach p b (relation_of p b) o k f → (a : Action) (j : ℕ) → MayBeAnew p b o a j f → IsInHands p b f.mode (is_heavy_class p o.class)
+answered_targets p ac b x m at of this silent stores o k f reach a j may = answered p b x m at of this silent stores ac o k f reach a j may

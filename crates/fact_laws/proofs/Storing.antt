@@ -28,7 +28,7 @@ use Rattle.place_laws.specs.OwningFieldsStores.{heavy_stored, is_heavy_store, ke
 use Rattle.place_laws.specs.Flow.{flow}
 use Rattle.fact_laws.specs.Outcomes.{After}
 use Rattle.fact_laws.specs.Going.{ArePlaces, StoresAs, left, taken}
-use Rattle.fact_laws.proofs.Going.{held_stays, left_as, lent_before, mode_stays}
+use Rattle.fact_laws.proofs.Going.{held_stays, held_within, left_as, lent_before, mode_stays}
 
 -- a place more that was there
 there_already : (held : PlaceSet) (x : Place) → has held x ≡ true → ArePlaces held (with_place held x)
@@ -93,6 +93,7 @@ module _ (p : Program) (b : BodyId) (o : Origin) (x : FieldId) (d : ℕ) (e : Ed
         lent = λ lent. lent;
         held = λ one within. one;
         met = λ out one held. absurd (true≢false (sym there ∙ out));
+        within = λ out one held. absurd (true≢false (sym there ∙ out));
         light = λ one out. absurd (true≢false (sym is ∙ out));
       }),
     )
@@ -105,6 +106,7 @@ module _ (p : Program) (b : BodyId) (o : Origin) (x : FieldId) (d : ℕ) (e : Ed
         lent = λ lent. lent;
         held = λ one within. one;
         met = λ out one held. absurd (true≢false (sym there ∙ out));
+        within = λ out one held. absurd (true≢false (sym there ∙ out));
         light = λ one out. light;
       }),
     )
@@ -166,6 +168,7 @@ module _ (p : Program) (b : BodyId) (o : Origin) (x : FieldId) (d : ℕ) (e : Ed
         lent = λ lent. lent;
         held = λ one within. one;
         met = λ none one held. absurd (true≢false (sym one ∙ absent));
+        within = λ none one held. absurd (true≢false (sym one ∙ absent));
         light = λ one none. absurd (true≢false (sym one ∙ out));
       }),
     )
@@ -179,6 +182,7 @@ module _ (p : Program) (b : BodyId) (o : Origin) (x : FieldId) (d : ℕ) (e : Ed
         lent = λ lent. lent_before f.mode (without f.places (place_of_field p x)) lent;
         held = λ one within. held_stays f.mode (without f.places (place_of_field p x)) one within;
         met = λ none one held. met held;
+        within = λ none one held. held_within f.mode (without f.places (place_of_field p x)) held;
         light = λ one none. absurd (true≢false (sym one ∙ out));
       }),
     )

@@ -50,13 +50,14 @@ pub record IsTaken (p : Program) (b : BodyId) (o : Origin) (x : FieldId) (d : �
   pub fits : fits_type p o.class (field_type p x) ≡ true
   pub mode : g.mode ≡ modes.Held
 
--- The fact stays in its mode. Where the field held the object and t(d) does not, it is no longer held there; where t(d) does, the field
--- held it already, or neither the object's class nor the field's type has an obligation.
+-- The fact stays in its mode. Where the field held the object and t(d) does not, it is no longer held there, and in `this` only where another place of it holds the object;
+-- where t(d) does, the field held it already, or neither the object's class nor the field's type has an obligation.
 pub record IsLeft (p : Program) (o : Origin) (x : FieldId) (d : ℕ) (f g : Fact) : Type 0 where
   pub mode : is_owned_in g.mode ≡ true → g.mode ≡ f.mode
   pub lent : g.mode ≡ modes.Lent → f.mode ≡ modes.Lent
   pub held : f.mode ≡ modes.Held → is_in_this g.places ≡ true → g.mode ≡ modes.Held
   pub met : has f.places (places.Temp d) ≡ false → has f.places (place_of_field p x) ≡ true → f.mode ≡ modes.Held → is_met o f ≡ true
+  pub within : has f.places (places.Temp d) ≡ false → has f.places (place_of_field p x) ≡ true → g.mode ≡ modes.Held → is_in_this g.places ≡ true
   pub light : has f.places (places.Temp d) ≡ true → has f.places (place_of_field p x) ≡ false → is_heavy_store p o x ≡ false
 
 -- what the store of t(d) into the field makes of a fact

@@ -26,7 +26,4 @@ pub use owned_fact::{
     fact_is_owed, owed_fact_at_calls, owed_fact_at_ends, owed_fact_at_other_steps,
     result_of_no_type_stays,
 };
-pub use reset_target::{
-    facts_keep_out_of_fields, lent_facts_are_those_of_targets, origins_need_all,
-    targets_are_owned_or_lent,
-};
+pub use reset_target::{lent_facts_are_those_of_targets, origins_need_all, targets_are_in_hands};

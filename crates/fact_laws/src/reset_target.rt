@@ -1,6 +1,6 @@
 //! The modes of facts. Each law is the contract of a function that does nothing.
 
-ghost use Rattle.std.specs.Prelude.{◌≡◌, ◌⊎◌, ℕ, true, false, Some, List, slice_get};
+ghost use Rattle.std.specs.Prelude.{◌≡◌, ℕ, true, false, Some, List, slice_get};
 ghost use Rattle.program_model.specs.declared.kinds.BodyId.{BodyId};
 ghost use Rattle.program_model.specs.declared.kinds.FieldId.{FieldId};
 ghost use Rattle.program_model.specs.declared.program.Method.{Method};
@@ -16,10 +16,10 @@ ghost use Rattle.java_control.specs.declared.fact.Mode.TheVariants as modes;
 ghost use Rattle.java_control.specs.declared.fact.Origin.{Origin};
 ghost use Rattle.ownership_rules.specs.Bodies.{has_field_place, is_constructor, resets_this};
 ghost use Rattle.ownership_rules.specs.MustCallSets.{is_heavy_class, must_of};
+ghost use Rattle.place_laws.specs.Accept.{Accept};
 ghost use Rattle.place_laws.specs.Paths.{Comes, Move, Reach, relation_of};
-ghost use Rattle.fact_laws.specs.Anew.{MayBeAnew};
+ghost use Rattle.fact_laws.specs.Anew.{IsInHands, MayBeAnew};
 ghost use Rattle.fact_laws.specs.Lending.{may_be_lent};
-ghost use Rattle.fact_laws.specs.Storing.{HasStored};
 
 /// A fact that says that its object is lent is that of the argument, or of `this`, whose obligation the body's method creates anew, or of `this` of a
 /// constructor.
@@ -28,28 +28,18 @@ pub fn lent_facts_are_those_of_targets()
         → (o : Origin) (k : List Todo) (f : Fact) → Reach p b (relation_of p b) o k f → f.mode ≡ modes.Lent → may_be_lent m o.kind ≡ true }
 {}
 
-/// In the body of a constructor, or one in which no owning field has a place, a fact says only behind a store into an owning field that a field of `this` holds its
-/// object, if calls of the body create the obligation of `this` anew only where no owning field has a place.
-pub fn facts_keep_out_of_fields()
-    ensures { (p : Program) (b : BodyId) (x : Body) (m : Method) → body_at p b ≡ Some x → method_at p x.method ≡ Some m
-        → ((c : List Todo) (i : ℕ) (t : Move (List Todo)) → Comes (relation_of p b) c → slice_get ((relation_of p b).next c) i ≡ Some t → is_reset_of_this p t.action ≡ true
-        → (g : FieldId) → has_field_place p b g ≡ false)
-        → (is_constructor p b ≡ true) ⊎ ((g : FieldId) → has_field_place p b g ≡ false)
-        → (o : Origin) (k : List Todo) (f : Fact) → Reach p b (relation_of p b) o k f → f.mode ≡ modes.Held → HasStored p b k }
-{}
-
 /// The object whose obligation a call creates anew is in a fact that says that the frame owns it, and its class has an obligation, or in one that says that it is
-/// lent: where neither calls of the body nor its method create the obligation of `this` anew, or no owning field has a place in it; owning fields are stored in
-/// constructors alone; and in a constructor the call stands behind no such store.
-pub fn targets_are_owned_or_lent()
-    ensures { (p : Program) (b : BodyId) (x : Body) (m : Method) → body_at p b ≡ Some x → method_at p x.method ≡ Some m
+/// lent, or, in a constructor without an aliased argument, in one that says that a field of `this` holds it, and its class has an obligation: where neither calls of the
+/// body nor its method create the obligation of `this` anew, or no owning field has a place in it, and owning fields are stored in constructors alone.
+pub fn targets_are_in_hands()
+    ensures { (p : Program) → Accept p → (b : BodyId) (x : Body) (m : Method) → body_at p b ≡ Some x → method_at p x.method ≡ Some m
         → ((c : List Todo) (i : ℕ) (t : Move (List Todo)) → Comes (relation_of p b) c → slice_get ((relation_of p b).next c) i ≡ Some t → is_reset_of_this p t.action ≡ true
         → (g : FieldId) → has_field_place p b g ≡ false)
         → (resets_this p b ≡ true → (g : FieldId) → has_field_place p b g ≡ false)
         → ((c : List Todo) (i : ℕ) (t : Move (List Todo)) (g : FieldId) (d : ℕ) → Comes (relation_of p b) c → slice_get ((relation_of p b).next c) i ≡ Some t
         → t.action ≡ actions.PutOwn g d → is_constructor p b ≡ true)
-        → (o : Origin) (k : List Todo) (f : Fact) → Reach p b (relation_of p b) o k f → (is_constructor p b ≡ true → HasStored p b k → ⊥)
-        → (a : Action) (j : ℕ) → MayBeAnew p b o a j f → ((f.mode ≡ modes.Own) × (is_heavy_class p o.class ≡ true)) ⊎ (f.mode ≡ modes.Lent) }
+        → (o : Origin) (k : List Todo) (f : Fact) → Reach p b (relation_of p b) o k f → (a : Action) (j : ℕ) → MayBeAnew p b o a j f
+        → IsInHands p b f.mode (is_heavy_class p o.class) }
 {}
 
 /// What the origin of a fact needs in full is all that its class asks for.

@@ -10,6 +10,7 @@ use Rattle.agreement.specs.LibraryClasses.{language_exceptions}
 use Rattle.agreement.specs.PlainForms.{may_be_made}
 use Rattle.file_condition_laws.proofs.Programs.{read_passes}
 use Rattle.file_condition_laws.proofs.Owners.{read_owners}
+use Rattle.file_condition_laws.proofs.TextFields.{read_text_fields}
 use Rattle.file_condition_laws.proofs.Results.{read_results}
 use Rattle.file_condition_laws.proofs.Read.{read_constants, read_exceptions, read_gives, read_light_texts, read_roots, read_texts, read_throws, read_whole}
 
@@ -22,5 +23,6 @@ read_conditions input p is = record {
   light_texts = read_light_texts input p is;
   results = read_results input p is;
   owners = read_owners input p is;
+  text_fields = read_text_fields input p is;
   passes = read_passes input p is;
 }

@@ -3,6 +3,7 @@ mod Library
 pub mod Read
 mod Results
 mod Owners
+mod TextFields
 mod Trees
 mod Laid
 mod Written

@@ -21,7 +21,7 @@ use Rattle.program_model.specs.Overrides.{is_library, is_library_in}
 use Rattle.program_model.specs.SuperTests.{classes_above, is_under}
 use Rattle.program_model.proofs.HierarchyLaws.{is_under_law}
 use Rattle.agreement.specs.AcceptedProgramsConditions.{HasWholeLibrary}
-use Rattle.agreement.specs.LibraryClasses.{HasLightTexts, language_exceptions, makes_alias_text}
+use Rattle.agreement.specs.LibraryClasses.{HasLightTexts, is_no_text_class, language_exceptions, makes_alias_text, renews_own_text}
 use Rattle.must_call_sets.specs.MustCallSets.{is_heavy_class}
 use Rattle.agreement.proofs.SignedTables.{at_equal, before}
 use Rattle.acceptance_laws.specs.ClassOrderDeclarations.{Declaration}
@@ -30,7 +30,7 @@ use Rattle.acceptance_laws.proofs.StringClass.{string_is_no_exception}
 use Rattle.acceptance_laws.specs.SameTables.{HasSameHead, HaveSameTables, IsSameClass}
 use Rattle.acceptance_laws.proofs.SignedTables.{signed_tables}
 use Rattle.acceptance_laws.specs.Programs.{Input, IsProgram}
-use Rattle.acceptance_laws.specs.TextCases.{has_heavy_texts, text_cases_in}
+use Rattle.acceptance_laws.specs.TextCases.{has_bad_classes, has_bad_methods, text_cases_in}
 use Rattle.acceptance_laws.specs.TypedPrograms.{IsTyped}
 use Rattle.file_condition_laws.proofs.Library.{constants_of_library, exceptions_of_library, object_of_library, results_of_library, string_of_library, table_whole, throws_of_library}
 
@@ -161,8 +161,12 @@ pub read_light_texts : (input : Input) (p : Program) → IsProgram input p → H
 read_light_texts input p is =
     let k = library_class (class_at p p.core.string) (read_roots input p is).1 in
     let cases : text_cases_in p (Some k.0) ≡ [] = sym (ap (text_cases_in p) k.1) ∙ is.right.texts in
-    let none = neither (list_any (is_heavy_class p) k.0.above.items) (list_any (makes_alias_text p) p.methods.items) (not_refused (has_heavy_texts p k.0) refused.BadAlias k.0.pos cases) in
+    let none = neither (has_bad_classes p k.0) (has_bad_methods p) (not_refused (has_bad_classes p k.0 || has_bad_methods p) refused.BadAlias k.0.pos cases) in
+    let classes = neither (list_any (is_heavy_class p) k.0.above.items) (list_any (is_no_text_class p) k.0.above.items) none.0 in
+    let methods' = neither (list_any (makes_alias_text p) p.methods.items) (list_any (renews_own_text p) p.methods.items) none.1 in
     record {
-      classes = ap (λ (o : Option Class). list_any (is_heavy_class p) (classes_above p.core.string o)) k.1 ∙ none.0;
-      constructors = none.1;
+      classes = ap (λ (o : Option Class). list_any (is_heavy_class p) (classes_above p.core.string o)) k.1 ∙ classes.0;
+      above = ap (λ (o : Option Class). list_any (is_no_text_class p) (classes_above p.core.string o)) k.1 ∙ classes.1;
+      constructors = methods'.0;
+      resets = methods'.1;
     }

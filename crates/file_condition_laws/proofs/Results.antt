@@ -56,7 +56,7 @@ gathered_none f [] none x among = absurd (contains-none x among)
 gathered_none f (y ∷ ys) none x among =
     elim (contains-cases y ys x among) [ inl one ↦ ap f (sym one) ∙ left_empty (f y) (flat_map f ys) none | inr later ↦ gathered_none f ys (right_empty (f y) (flat_map f ys) none) x later ]
 
-element : {X : Type 0} (xs : List X) (i : ℕ) (x : X) → slice_get xs i ≡ Some x → Contains xs x
+pub element : {X : Type 0} (xs : List X) (i : ℕ) (x : X) → slice_get xs i ≡ Some x → Contains xs x
 element [] zero x at = absurd (let never : None ≡ Some x = at in cc)
 element [] (suc i) x at = absurd (let never : None ≡ Some x = at in cc)
 element (y ∷ ys) zero x at = subst (Contains (y ∷ ys)) (let both : Some y ≡ Some x = at in (let one : y ≡ x = cc in one)) (contains-first y ys)

@@ -60,8 +60,8 @@ pub fn read_constants_are_library()
     ensures { (input : Input) (p : Program) → IsProgram input p → (m : MethodId) (x : Method) → method_at p m ≡ Some x → x.kind ≡ methods.Constant → is_library p x.class ≡ true }
 {}
 
-/// In the program of files the class of strings has no obligation, by itself or from above, and none of its constructors makes an alias of an
-/// argument: the rules on signatures refuse a library that says otherwise.
+/// In the program of files the class of strings has no obligation, by itself or from above, nothing but `Object` is above it, none of its constructors makes an
+/// alias of an argument, and none of its methods creates its obligation anew: the rules on signatures refuse a library that says otherwise.
 pub fn read_texts_are_light()
     ensures { (input : Input) (p : Program) → IsProgram input p → HasLightTexts p }
 {}

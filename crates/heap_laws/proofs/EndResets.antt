@@ -1,15 +1,14 @@
 -- The heap at the end of a program's call is the one that the end would leave if the signature said nothing of a reset, but that the objects of the reached
--- roots are emptied; and those are the root of the target alone, where no field owns it.
-use Rattle.std.proofs.Common.{◌≡◌, inl, inr, ℕ, Bool, true, false, Option, Some, None, List, option_map, nat_eq, refl, sym, ap, ◌∙◌, subst, true≢false, if◌then◌else◌}
+-- roots are emptied; and those are the root of the target alone, where no field of a finished object owns it.
+use Rattle.std.proofs.Common.{◌≡◌, ℕ, Bool, true, false, Option, Some, None, List, option_map, nat_eq, refl, sym, ap, ◌∙◌, true≢false, if◌then◌else◌}
 use Rattle.program_model.specs.declared.kinds.ClassId.{ClassId}
 use Rattle.program_model.specs.declared.program.Method.{Method}
 use Rattle.program_model.specs.declared.program.Program.{Program}
 use Rattle.java_control.specs.declared.action.Action.{Action}
 use Rattle.java_control.specs.declared.action.Action.TheVariants as actions
 use Rattle.ledger_state.specs.Contents.{HeapContents}
-use Rattle.ledger_state.specs.Heaps.{has_number, is_reached, next_number, object_at, only_at, root}
+use Rattle.ledger_state.specs.Heaps.{has_number, is_reached, object_at, only_at, root}
 use Rattle.ledger_state.specs.Values.{number_of}
-use Rattle.ledger_state.specs.declared.entry.Owner.{Owner}
 use Rattle.ledger_state.specs.declared.locals.Locals.{Locals}
 use Rattle.ledger_state.specs.declared.object.Object.{Object}
 use Rattle.ledger_state.specs.declared.value.Value.{Value}
@@ -17,12 +16,11 @@ use Rattle.ledger_obligations.specs.Obligations.{all_notes, finished_holder, fin
 use Rattle.ledger_steps.specs.LedgerCallsCalls.{alias_position, alias_target, operand_of, receiver_note, reset_target}
 use Rattle.ledger_steps.specs.Ends.{call_ended, finished_by_new, object_finished, program_birth, returned_called, returned_reset, returned_roots, self_finished}
 use Rattle.heap_laws.specs.Heaps.{GoesOn, HasEarlierLinks}
-use Rattle.heap_laws.specs.Anew.{HasNoHolder, finished_root, is_anew_at_end, is_field_owner, target_root}
+use Rattle.heap_laws.specs.Anew.{HasNoHolder, finished_root, is_anew_at_end, target_root}
 use Rattle.heap_laws.specs.ProgramCalls.{is_new}
 use Rattle.heap_laws.proofs.HeapLaws.{changed_object_at-object, evolving_heaps-links, notes_add_names-heap, notes_add_names-owner, roots_go_on-number}
 use Rattle.heap_laws.proofs.ObjectLaws.{changed_count}
-use Rattle.heap_laws.proofs.Emptied.{plain_note}
-use Rattle.heap_laws.proofs.Reached.{alone, ends_there, nothing_open}
+use Rattle.heap_laws.proofs.Reached.{StaysUnfinished, alone, holder_stays, nothing_open}
 use Rattle.heap_laws.proofs.Renewed.{commutes, roots_finished, says_nothing, without_reset}
 use Rattle.heap_laws.proofs.ResetHeaps.{IsResetOf}
 use Rattle.heap_laws.proofs.Returned.{birth_count, end_count, reset_nothing}
@@ -136,7 +134,7 @@ module _ (p : Program) (i : ℕ) (self : Value) (l : Locals) (a : Action) (named
         by_end None is n = by_action a refl n
         by_end (Some c) is n = changed_object_at-object (reset_in p called roots) called n
 
--- which objects the reset reaches, where no field owns the root of its target
+-- which objects the reset reaches, where no field of a finished object owns the root of its target
 module _ (p : Program) (l : Locals) (a : Action) (named : Option Method) (g : HeapContents) (links : HasEarlierLinks g) (free : HasNoHolder g (target_root g l a named)) (n : ℕ) (x : Object) (at : object_at g n ≡ Some x) where
   abbrev end_called : HeapContents
   end_called = returned_called p l a named g
@@ -147,6 +145,16 @@ module _ (p : Program) (l : Locals) (a : Action) (named : Option Method) (g : He
   -- an object that was there keeps its root
   same_root : (k : ℕ) (z : Object) → object_at g k ≡ Some z → root end_called k ≡ root g k
   same_root k z before = roots_go_on-number g end_called k z links (evolving_heaps-links g end_called (notes_add_names-heap p (receiver_note l a named) g)) before
+
+  unfinished_then : StaysUnfinished g end_called
+  unfinished_then w unmade = go (object_at end_called w) refl
+    where
+      old : (z : Object) → object_at g w ≡ Some z → finished_in (object_at end_called w) ≡ false
+      old z before = let y = notes_add_names-heap p (receiver_note l a named) g w z before in ap finished_in y.1 ∙ y.2.finished ∙ (sym (ap finished_in before) ∙ unmade)
+
+      go : (y : Option Object) → object_at end_called w ≡ y → finished_in (object_at end_called w) ≡ false
+      go None now = ap finished_in now
+      go (Some y) now = let was = mapped_back end_notes g w y now in old was.0 was.1
 
   there : (k : ℕ) (z : Object) → object_at g k ≡ Some z → reset_target (operand_of l a) named ≡ Some k → has_number (reached end_called (Some k)) (root end_called n) ≡ true
       → target_root g l a named ≡ Some (root g n)
@@ -168,15 +176,16 @@ module _ (p : Program) (l : Locals) (a : Action) (named : Option Method) (g : He
       go false unmade = absurd (nothing_open end_called k (root end_called n) (finishes ∙ unmade) is)
       go true done =
           is_root ∙ ap Some (sym (same_root k z before) ∙ sym (alone end_called k (root end_called n) (finishes ∙ done)
-          (ap (λ (o : Option Object). finished_holder end_called (owner_in o)) here ∙ ends_there end_called now.0.owner owned) is) ∙ same_root n x at)
+          (ap (λ (o : Option Object). finished_holder end_called (owner_in o)) here ∙ held) is) ∙ same_root n x at)
         where
           is_root : target_root g l a named ≡ Some (root g k)
           is_root = ap (finished_root g) target ∙ rw (ap finished_in end.1 ∙ done) refl
 
-          owned : is_field_owner now.0.owner ≡ false
-          owned =
+          held : finished_holder end_called now.0.owner ≡ None
+          held =
               let was = mapped_back end_notes g (root g k) now.0 now.1 in
-              ap is_field_owner (ap (λ (u : Object). u.owner) (sym was.2) ∙ notes_add_names-owner (all_notes p g (receiver_note l a named)) (root g k) was.0) ∙ free (root g k) was.0 is_root was.1
+              ap (finished_holder end_called) (ap (λ (u : Object). u.owner) (sym was.2) ∙ notes_add_names-owner (all_notes p g (receiver_note l a named)) (root g k) was.0)
+              ∙ holder_stays g end_called unfinished_then was.0.owner (free (root g k) was.0 is_root was.1)
 
   -- what was not there is not finished
   absent : (k : ℕ) → object_at g k ≡ None → finished_in (object_at end_called (root end_called k)) ≡ false

@@ -1,4 +1,4 @@
--- Which objects a reset at a call of the library reaches, where no field owns the root of its target.
+-- Which objects a reset at a call of the library reaches, where no field of a finished object owns the root of its target.
 use Rattle.std.proofs.Common.{◌≡◌, ◌⊎◌, inl, inr, ℕ, zero, suc, ◌+◌, Bool, true, false, not, ◌||◌, Option, Some, None, [], ◌∷◌, length, nat_eq, refl, sym, ap, ◌∙◌, subst, true≢false, if◌then◌else◌, arith, eqb-true}
 use Rattle.program_model.specs.declared.program.Method.{Method}
 use Rattle.program_model.specs.declared.program.Program.{Program}
@@ -20,18 +20,26 @@ use Rattle.ledger_steps.specs.CallSteps.{library_called}
 use Rattle.heap_laws.specs.Heaps.{GoesOn, HasEarlierLinks}
 use Rattle.heap_laws.proofs.HeapLaws.{evolving_heaps-links, numbers_are_in_range, roots_go_on-number}
 use Rattle.heap_laws.proofs.RootLaws.{root_absent, root_there}
-use Rattle.heap_laws.specs.Anew.{HasNoHolder, finished_root, is_anew, is_field_owner, target_root}
+use Rattle.heap_laws.specs.Anew.{HasNoHolder, finished_root, is_anew, target_root}
 use Rattle.heap_laws.proofs.Links.{called_evolves}
-use Rattle.heap_laws.proofs.Renewed.{called_back, fresh_unfinished}
+use Rattle.heap_laws.proofs.Renewed.{called_back, fresh, fresh_unfinished}
 
--- a root that no field owns leads no further
-pub ends_there : (h : HeapContents) (o : Owner) → is_field_owner o ≡ false → finished_holder h o ≡ None
-ends_there h (owners.Field w f) none = absurd (true≢false none)
-ends_there h (owners.Frame j) none = refl
-ends_there h owners.Library none = refl
-ends_there h owners.Released none = refl
-ends_there h owners.Lost none = refl
-ends_there h owners.Unowned none = refl
+-- what is not finished in the heap `h`, or not there, is not finished in the heap `k`
+abbrev pub StaysUnfinished : HeapContents → HeapContents → Type 0
+StaysUnfinished h k = (w : ℕ) → finished_in (object_at h w) ≡ false → finished_in (object_at k w) ≡ false
+
+-- so the owner is the field of no finished object there, where it was none
+pub holder_stays : (h k : HeapContents) → StaysUnfinished h k → (o : Owner) → finished_holder h o ≡ None → finished_holder k o ≡ None
+holder_stays h k stays (owners.Field w f) none = go (finished_in (object_at h w)) refl none
+  where
+    go : (b : Bool) → finished_in (object_at h w) ≡ b → (if b then Some w else None) ≡ None → finished_holder k (owners.Field w f) ≡ None
+    go true is some = absurd (let never : Some w ≡ None = some in cc)
+    go false is same = rw (stays w is) refl
+holder_stays h k stays (owners.Frame j) none = refl
+holder_stays h k stays owners.Library none = refl
+holder_stays h k stays owners.Released none = refl
+holder_stays h k stays owners.Lost none = refl
+holder_stays h k stays owners.Unowned none = refl
 
 -- a reset of object `k` begins at its root, and reaches nothing where that is not finished
 begins : (h : HeapContents) (k s : ℕ) → has_number (reached h (Some k)) s ≡ true
@@ -41,7 +49,7 @@ begins h k s is = subst (λ (n : ℕ). has_number (reached_within n h [] k) s �
 pub nothing_open : (h : HeapContents) (k s : ℕ) → finished_in (object_at h (root h k)) ≡ false → has_number (reached h (Some k)) s ≡ true → ⊥
 nothing_open h k s unmade is = let never : false ≡ true = rw unmade at (begins h k s is) in true≢false (sym never)
 
--- where it is finished and no field owns it, the reset reaches it alone
+-- where it is finished and no field of a finished object owns it, the reset reaches it alone
 pub alone : (h : HeapContents) (k s : ℕ) → finished_in (object_at h (root h k)) ≡ true → finished_holder h (owner_in (object_at h (root h k))) ≡ None
     → has_number (reached h (Some k)) s ≡ true → s ≡ root h k
 alone h k s done none is = by_test (nat_eq (root h k) s) refl (let one : (nat_eq (root h k) s || false) ≡ true = rw (done, none) at (begins h k s is) in one)
@@ -77,6 +85,20 @@ module _ (p : Program) (l : Locals) (a : Action) (named m : Option Method) (d : 
   same_root : (n : ℕ) (x : Object) → HasEarlierLinks h → object_at h n ≡ Some x → root called n ≡ root h n
   same_root n x links at = roots_go_on-number h called n x links (evolving_heaps-links h called (called_evolves p l a named m d 0 h)) at
 
+  -- what the call makes is not finished
+  unfinished_then : StaysUnfinished h called
+  unfinished_then w unmade = go (object_at called w) refl
+    where
+      old : (x : Object) → object_at h w ≡ Some x → finished_in (object_at called w) ≡ false
+      old x at = let y = called_evolves p l a named m d 0 h w x at in ap finished_in y.1 ∙ y.2.finished ∙ (sym (ap finished_in at) ∙ unmade)
+
+      go : (z : Option Object) → object_at called w ≡ z → finished_in (object_at called w) ≡ false
+      go None at = ap finished_in at
+      go (Some z) at = elim (called_back p l a named m d 0 h w z at) [
+        | inl was ↦ old was.0 was.1
+        | inr made ↦ ap finished_in at ∙ (fresh p l a named m d 0 h z (ap (object_at called) (sym made) ∙ at)).0
+      ]
+
   module _ (links : HasEarlierLinks h) (free : HasNoHolder h (target_root h l a named)) (n : ℕ) (x : Object) (at : object_at h n ≡ Some x) where
     -- the target was there
     there : (k : ℕ) (z : Object) → object_at h k ≡ Some z → reset_target (operand_of l a) named ≡ Some k → has_number (reached called (Some k)) (root called n) ≡ true
@@ -97,16 +119,16 @@ module _ (p : Program) (l : Locals) (a : Action) (named m : Option Method) (d : 
 
         go : (b : Bool) → end.0.finished ≡ b → target_root h l a named ≡ Some (root h n)
         go false unmade = absurd (nothing_open called k (root called n) (finishes ∙ unmade) is)
-        go true done = is_root ∙ ap Some (sym (same_root k z links before) ∙ sym (alone called k (root called n) (finishes ∙ done) (ap (λ (o : Option Object). finished_holder called (owner_in o)) here ∙ ends_there called now.0.owner owned) is) ∙ same_root n x links at)
+        go true done = is_root ∙ ap Some (sym (same_root k z links before) ∙ sym (alone called k (root called n) (finishes ∙ done) (ap (λ (o : Option Object). finished_holder called (owner_in o)) here ∙ held) is) ∙ same_root n x links at)
           where
             is_root : target_root h l a named ≡ Some (root h k)
             is_root = ap (finished_root h) target ∙ rw (ap finished_in end.1 ∙ done) refl
 
-            owned : is_field_owner now.0.owner ≡ false
-            owned = elim (called_back p l a named m d 0 h (root h k) now.0 now.1) [
+            held : finished_holder called now.0.owner ≡ None
+            held = elim (called_back p l a named m d 0 h (root h k) now.0 now.1) [
               | inl was ↦ elim was.2 [
-                | inl stays ↦ ap is_field_owner stays ∙ free (root h k) was.0 is_root was.1
-                | inr given ↦ ap is_field_owner given
+                | inl stays ↦ ap (finished_holder called) stays ∙ holder_stays h called unfinished_then was.0.owner (free (root h k) was.0 is_root was.1)
+                | inr given ↦ ap (finished_holder called) given
               ]
               | inr made ↦ absurd (let below = (numbers_are_in_range h (root h k) end.0 end.1).1 in omega (arith, below, made))
             ]

@@ -1,5 +1,5 @@
 -- A heap whose objects are those of another, but that those which a reset reaches are emptied: links and roots are the same.
-use Rattle.std.proofs.Common.{◌≡◌, inl, inr, ℕ, zero, suc, Bool, true, false, Option, Some, None, List, length, option_map, nat_eq, refl, sym, ap, ◌∙◌, subst, if◌then◌else◌, arith}
+use Rattle.std.proofs.Common.{◌≡◌, inl, inr, ℕ, zero, suc, Bool, true, false, Option, Some, None, List, length, option_map, nat_eq, refl, sym, ap, ◌∙◌, subst, arith}
 use Rattle.program_model.specs.declared.program.Program.{Program}
 use Rattle.ledger_state.specs.Contents.{HeapContents}
 use Rattle.ledger_state.specs.Heaps.{follow, is_reached, link_of, linked_by, next_number, object_at, root, root_of, root_within}

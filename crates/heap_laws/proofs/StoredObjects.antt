@@ -1,6 +1,6 @@
 -- Objects over a store into an owning field.
 use Rattle.std.proofs.Common.{◌≡◌, ◌⊎◌, inl, inr, ℕ, Bool, true, false, not, ◌&&◌, Option, Some, None, [], option_map, nat_eq, refl, sym, ap, ◌∙◌, subst, true≢false, if◌then◌else◌, eq-eqb, eqb-true}
-use Rattle.std.proofs.lemmas.Bool.{and_parts, not-true}
+use Rattle.std.proofs.lemmas.Bool.{and_from, and_parts, not-true}
 use Rattle.program_model.specs.declared.kinds.FieldId.{FieldId}
 use Rattle.program_model.specs.declared.program.Program.{Program}
 use Rattle.program_model.specs.Lookups.{field_at}
@@ -104,6 +104,39 @@ module _ (p : Program) (h : HeapContents) (w : ℕ) (f : FieldId) (v : Value) wh
           let x = some_back (root_of h old) given_up h n y at' in
           (x.0, x.1, elim x.2 [ inl same ↦ inl same | inr given ↦ inr (gone n x.0 x.1 is given.0, given.1) ])
 
+  -- what is displaced is given up
+  displaces_it : (n : ℕ) (x : Object) → object_at h n ≡ Some x → IsDisplaced p h w f v n x → displaces h w f old v ≡ true
+  displaces_it n x at is = and_from (is_field (owner_of_root h (root_of h old)) w f) (not (same_root (root_of h old) (root_of h v))) owned other
+    where
+      itself : is_field (owners.Field w f) w f ≡ true
+      itself = rw (eq-eqb w w refl, eq-eqb f.0 f.0 refl) refl
+
+      owned : is_field (owner_of_root h (root_of h old)) w f ≡ true
+      owned = ap (λ (r : Option ℕ). is_field (owner_of_root h r) w f) is.held ∙ ap (λ (z : Option Object). is_field (owner_in z) w f) at ∙ ap (λ (o : Owner). is_field o w f) is.owner ∙ itself
+
+      apart : (r : Option ℕ) → (r ≡ Some n → ⊥) → not (same_root (Some n) r) ≡ true
+      apart None none = refl
+      apart (Some k) none = go (nat_eq n k) refl
+        where
+          go : (b : Bool) → nat_eq n k ≡ b → not b ≡ true
+          go true same = absurd (none (ap Some (sym (eqb-true n k same))))
+          go false out = refl
+
+      other : not (same_root (root_of h old) (root_of h v)) ≡ true
+      other = ap (λ (r : Option ℕ). not (same_root r (root_of h v))) is.held ∙ apart (root_of h v) is.other
+
+  displaced_gives : (n : ℕ) (x z : Object) → object_at h n ≡ Some x → IsDisplaced p h w f v n x → object_at (displaced p h w f v) n ≡ Some z → z ≡ given_up x
+  displaced_gives n x z at is now = let both : Some (given_up x) ≡ Some z = sym given ∙ now in sym (let one : given_up x ≡ z = cc in one)
+    where
+      only_it : (y : Object) → only_at n given_up n y ≡ given_up y
+      only_it y = ap (λ (b : Bool). (let u : Object = if b then given_up y else y in u)) (eq-eqb n n refl)
+
+      given : object_at (displaced p h w f v) n ≡ Some (given_up x)
+      given =
+          ap (λ (b : Bool). object_at (released_where b (root_of h old) h) n) (displaces_it n x at is)
+          ∙ ap (λ (r : Option ℕ). object_at (change_some r given_up h) n) is.held
+          ∙ changed_at (only_at n given_up) h n ∙ ap (option_map (only_at n given_up n)) at ∙ ap Some (only_it x)
+
   displaced_count : next_number (displaced p h w f v) ≡ next_number h
   displaced_count = go (displaces h w f old v)
     where
@@ -155,7 +188,7 @@ module _ (p : Program) (h : HeapContents) (w : ℕ) (f : FieldId) (v : Value) wh
     after_displaced n x y z at (inr gave) moves (inl still) = inr (inl (gave.0, still ∙ gave.1))
     after_displaced n x y z at (inr gave) moves (inr moved) = absurd (gave.0.other moved.0)
 
-    moved_back : (n : ℕ) (y : Object) → object_at (moved_in p h w f bound v) n ≡ Some y → IsBefore n y
+    pub moved_back : (n : ℕ) (y : Object) → object_at (moved_in p h w f bound v) n ≡ Some y → IsBefore n y
     moved_back n y at = go (moves_in p h f bound v) refl at
       where
         go : (b : Bool) → moves_in p h f bound v ≡ b → object_at (moved_where b (root_of h v) (owners.Field w f) (displaced p h w f v)) n ≡ Some y → IsBefore n y
@@ -164,6 +197,15 @@ module _ (p : Program) (h : HeapContents) (w : ℕ) (f : FieldId) (v : Value) wh
             let z = some_back (root_of h v) (with_owner (owners.Field w f)) (displaced p h w f v) n y at' in
             let x = displaced_back n z.0 z.1 in
             (x.0, x.1, after_displaced n x.0 y z.0 x.1 x.2 is z.2)
+
+    moved_gives : (n : ℕ) (x y : Object) → object_at h n ≡ Some x → IsDisplaced p h w f v n x → object_at (moved_in p h w f bound v) n ≡ Some y → y ≡ given_up x
+    moved_gives n x y before gone' at = go (moves_in p h f bound v) refl at
+      where
+        go : (b : Bool) → moves_in p h f bound v ≡ b → object_at (moved_where b (root_of h v) (owners.Field w f) (displaced p h w f v)) n ≡ Some y → y ≡ given_up x
+        go false is at' = displaced_gives n x y before gone' at'
+        go true is at' =
+            let z = some_back (root_of h v) (with_owner (owners.Field w f)) (displaced p h w f v) n y at' in
+            elim z.2 [ inl same ↦ same ∙ displaced_gives n x z.0 before gone' z.1 | inr moved ↦ absurd (gone'.other moved.0) ]
 
     moved_count : next_number (moved_in p h w f bound v) ≡ next_number h
     moved_count = go (moves_in p h f bound v)
@@ -189,6 +231,10 @@ module _ (p : Program) (h : HeapContents) (w : ℕ) (f : FieldId) (v : Value) wh
 
     pub stored_back : (n : ℕ) (y : Object) → resets_holder p h w f bound old v ≡ false → object_at (stored_owning p h w f bound v) n ≡ Some y → IsBefore n y
     stored_back n y still at = moved_back n y (subst (λ (j : HeapContents). object_at j n ≡ Some y) (no_reset still) at)
+
+    -- what the field gives up is given up
+    pub stored_gives_up : (n : ℕ) (x y : Object) → resets_holder p h w f bound old v ≡ false → object_at h n ≡ Some x → IsDisplaced p h w f v n x → object_at (stored_owning p h w f bound v) n ≡ Some y → y ≡ given_up x
+    stored_gives_up n x y still before gone' at = moved_gives n x y before gone' (subst (λ (j : HeapContents). object_at j n ≡ Some y) (no_reset still) at)
 
     pub stored_forward : (n : ℕ) (x : Object) → resets_holder p h w f bound old v ≡ false → object_at h n ≡ Some x
         → (y : Object) × (object_at (stored_owning p h w f bound v) n ≡ Some y) × IsStored p h w f v n x y

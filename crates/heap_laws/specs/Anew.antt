@@ -15,7 +15,7 @@ use Rattle.ledger_state.specs.declared.object.Object.{Object}
 use Rattle.ledger_steps.specs.CallSteps.{library_called, library_roots}
 use Rattle.ledger_steps.specs.Ends.{returned_called, returned_roots}
 use Rattle.ledger_obligations.specs.MustCallSets.{must_of}
-use Rattle.ledger_obligations.specs.Obligations.{finished_in}
+use Rattle.ledger_obligations.specs.Obligations.{finished_holder, finished_in}
 use Rattle.ledger_steps.specs.LedgerCallsCalls.{operand_of, reset_target}
 
 -- the call creates the obligation of object `n` anew: the reset reaches its root
@@ -43,9 +43,9 @@ is_field_owner owners.Released = false
 is_field_owner owners.Lost = false
 is_field_owner owners.Unowned = false
 
--- no field owns the object with this number, where there is one
+-- no field of a finished object owns the object with this number, where there is one
 abbrev pub HasNoHolder : HeapContents → Option ℕ → Type 0
-HasNoHolder h r = (n : ℕ) (x : Object) → r ≡ Some n → object_at h n ≡ Some x → is_field_owner x.owner ≡ false
+HasNoHolder h r = (n : ℕ) (x : Object) → r ≡ Some n → object_at h n ≡ Some x → finished_holder h x.owner ≡ None
 
 -- The object `x` goes on as `y`: all stays but its owner, and more names may have been called on it. Where its obligation is created anew, what must be
 -- called on it and what was may be any names.

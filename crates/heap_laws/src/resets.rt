@@ -97,7 +97,7 @@ pub fn emptied_objects()
 {}
 
 /// Whose obligations a call creates anew: none where the signature says nothing of it, and else those objects alone whose root is that of the target, which is
-/// finished, where no field owns that root.
+/// finished, where no field of a finished object owns that root.
 pub fn emptied_roots()
     ensures none { (p : Program) (l : Locals) (a : Action) (named m : Option Method) (d : Conduct) (h : HeapContents) (n : ℕ) → reset_position named ≡ None → is_anew p l a named m d h n ≡ false }
     ensures root { (p : Program) (l : Locals) (a : Action) (named m : Option Method) (d : Conduct) (h : HeapContents) (n : ℕ) (x : Object) → HasEarlierLinks h

@@ -20,7 +20,7 @@ ghost use Rattle.heap_laws.specs.Heaps.{GoesOn, HasEarlierLinks};
 ghost use Rattle.heap_laws.specs.Stores.{IsDisplaced, IsStored};
 
 /// Where the store resets no holder, each object is as it was, or the field gave it up or owns it, which it does not where an alias is bound. It goes on,
-/// links lead to earlier objects still, and no object is made.
+/// links lead to earlier objects still, and no object is made. What the field gives up is given up.
 pub fn stored_objects()
     ensures before { (p : Program) (h : HeapContents) (w : ℕ) (f : FieldId) (bound : Bool) (v : Value) (n : ℕ) (y : Object)
         → resets_holder p h w f bound (field_of p h (values.Object w) f) v ≡ false → object_at (stored_owning p h w f bound v) n ≡ Some y
@@ -30,6 +30,9 @@ pub fn stored_objects()
     ensures after { (p : Program) (h : HeapContents) (w : ℕ) (f : FieldId) (bound : Bool) (v : Value) (n : ℕ) (x : Object)
         → resets_holder p h w f bound (field_of p h (values.Object w) f) v ≡ false → object_at h n ≡ Some x
         → (y : Object) × (object_at (stored_owning p h w f bound v) n ≡ Some y) × IsStored p h w f v n x y }
+    ensures given { (p : Program) (h : HeapContents) (w : ℕ) (f : FieldId) (bound : Bool) (v : Value) (n : ℕ) (x y : Object)
+        → resets_holder p h w f bound (field_of p h (values.Object w) f) v ≡ false → object_at h n ≡ Some x → IsDisplaced p h w f v n x
+        → object_at (stored_owning p h w f bound v) n ≡ Some y → y ≡ given_up x }
     ensures goes_on { (p : Program) (h : HeapContents) (w : ℕ) (f : FieldId) (v : Value) (n : ℕ) (x y : Object) → IsStored p h w f v n x y → GoesOn x y }
     ensures links { (p : Program) (h : HeapContents) (w : ℕ) (f : FieldId) (bound : Bool) (v : Value) → HasEarlierLinks h → resets_holder p h w f bound (field_of p h (values.Object w) f) v ≡ false
         → HasEarlierLinks (stored_owning p h w f bound v) }

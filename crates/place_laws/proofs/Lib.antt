@@ -22,6 +22,7 @@ pub use Rattle.step_laws.proofs.CallWays
 pub use Rattle.step_laws.proofs.ConstructorReached
 pub use Rattle.step_laws.proofs.ClassItems
 pub use Rattle.step_laws.proofs.ClassTypes
+pub use Rattle.step_laws.proofs.Root
 pub use Rattle.step_laws.proofs.ClassWays
 pub use Rattle.step_laws.proofs.NamedReached
 pub use Rattle.step_laws.proofs.Orders

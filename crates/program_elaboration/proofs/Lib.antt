@@ -8,6 +8,7 @@ pub use Rattle.elaboration_laws.proofs.Goodness
 pub use Rattle.elaboration_laws.proofs.ParameterTyping
 pub use Rattle.elaboration_laws.proofs.PlainStatements
 pub use Rattle.elaboration_laws.proofs.Stands
+pub use Rattle.elaboration_laws.proofs.StatementHeadLaws
 pub use Rattle.elaboration_laws.proofs.StatementTyping
 pub use Rattle.elaboration_laws.proofs.StringClass
 pub use Rattle.elaboration_laws.proofs.SuperCallTyping

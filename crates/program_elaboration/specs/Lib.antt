@@ -16,6 +16,8 @@ pub use Rattle.elaboration_laws.specs.Scopes
 pub use Rattle.java_elaboration.specs.SourceClasses
 pub use Rattle.java_elaboration.specs.SourceClassesMembers
 pub use Rattle.elaboration_laws.specs.StatementCases
+pub use Rattle.elaboration_laws.specs.StatementCompletions
+pub use Rattle.elaboration_laws.specs.StatementContexts
 pub use Rattle.elaboration_laws.specs.StatementTrees
 pub use Rattle.elaboration_laws.specs.StringTables
 pub use Rattle.elaboration_laws.specs.SuperCalls

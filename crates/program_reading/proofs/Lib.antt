@@ -14,6 +14,7 @@ pub use Rattle.program_elaboration.proofs.ParameterTyping
 pub use Rattle.program_elaboration.proofs.PlainStatements
 pub use Rattle.well_formed_programs.proofs.SignedTwice
 pub use Rattle.program_elaboration.proofs.Stands
+pub use Rattle.program_elaboration.proofs.StatementHeadLaws
 pub use Rattle.program_elaboration.proofs.StatementTyping
 pub use Rattle.program_elaboration.proofs.StringClass
 pub use Rattle.program_elaboration.proofs.SuperCallTyping

@@ -24,6 +24,8 @@ pub use Rattle.program_elaboration.specs.Scopes
 pub use Rattle.program_elaboration.specs.SourceClasses
 pub use Rattle.program_elaboration.specs.SourceClassesMembers
 pub use Rattle.program_elaboration.specs.StatementCases
+pub use Rattle.program_elaboration.specs.StatementCompletions
+pub use Rattle.program_elaboration.specs.StatementContexts
 pub use Rattle.program_elaboration.specs.StatementTrees
 pub use Rattle.program_elaboration.specs.StringTables
 pub use Rattle.program_elaboration.specs.SuperCalls
@@ -33,6 +35,7 @@ pub use Rattle.class_table.specs.SuperTypes
 pub use Rattle.program_elaboration.specs.Surroundings
 pub use Rattle.class_table.specs.Table
 pub use Rattle.signature_rules.specs.TextCases
+pub use Rattle.signature_rules.specs.TextFieldCases
 pub use Rattle.signature_rules.specs.ResultCases
 pub use Rattle.signature_rules.specs.OwnerCases
 pub use Rattle.program_elaboration.specs.TypedBodies

@@ -15,6 +15,7 @@ use Rattle.safety_examples.proofs.AliasDeclared.{declares_once}
 use Rattle.safety_examples.proofs.AliasFormed.{annotations_right, overriding, signed, well_formed}
 use Rattle.safety_examples.proofs.AliasMainPaths.{main_small}
 use Rattle.safety_examples.proofs.AliasReached.{HoldsOfSteps, aliasing_no_fault, reached}
+use Rattle.safety_examples.proofs.Covered.{covers_by}
 use Rattle.safety_examples.proofs.PassPaths.{pass_small}
 
 -- no class of the program has a field
@@ -39,6 +40,7 @@ accepted = record {
   overriding = overriding;
   annotations = annotations_right;
   signatures = signed;
+  covers = covers_by aliasing refl;
   fits = fits;
   no_fault = aliasing_no_fault;
 }

@@ -13,9 +13,8 @@ pub aliasing_plain : IsPlain aliasing
 aliasing_plain = record {
   stores = λ b {k} i t f d comes at is. absurd (true≢false (sym (mild_step b k i t comes at) ∙ ap is_mild is));
   creations = creates_plainly aliasing refl;
-  updates = refl;
 }
 
 -- it has what every program of files has
 pub aliasing_files : MeetsFileConditions aliasing
-aliasing_files = meets_by_tests aliasing valid_program.typed.hierarchy (record { classes = both_light; constructors = refl }) refl
+aliasing_files = meets_by_tests aliasing valid_program.typed.hierarchy (record { classes = both_light; above = refl; constructors = refl; resets = refl }) refl

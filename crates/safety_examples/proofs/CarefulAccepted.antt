@@ -1,5 +1,5 @@
 -- The program that closes its socket is accepted.
-use Rattle.std.proofs.Common.{◌≡◌, ℕ, zero, suc, true, Some, List, slice_get, All, sym, true≢false, lit<, lit≤}
+use Rattle.std.proofs.Common.{◌≡◌, ℕ, zero, suc, true, Some, List, refl, slice_get, All, sym, true≢false, lit<, lit≤}
 use Rattle.std.specs.List.{AllByRecursion}
 use Rattle.std.proofs.lemmas.List.Elements.{All-contains}
 use Rattle.program_model.specs.declared.kinds.BodyId.{BodyId}
@@ -20,6 +20,7 @@ use Rattle.safety_examples.proofs.Certified.{comes_listed}
 use Rattle.safety_examples.proofs.CarefulDeclared.{declares_once}
 use Rattle.safety_examples.proofs.CarefulFlows.{body}
 use Rattle.safety_examples.proofs.CarefulFormed.{annotations_right, overriding, signed, well_formed}
+use Rattle.safety_examples.proofs.Covered.{covers_by}
 use Rattle.safety_examples.proofs.Tests.{all_at, all_of}
 
 -- no class of the program has a field
@@ -54,6 +55,7 @@ accepted = record {
   overriding = overriding;
   annotations = annotations_right;
   signatures = signed;
+  covers = covers_by careful refl;
   fits = fits;
   no_fault = careful_no_fault;
 }

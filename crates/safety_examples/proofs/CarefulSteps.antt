@@ -53,9 +53,8 @@ pub careful_plain : IsPlain careful
 careful_plain = record {
   stores = λ b {k} i t f d comes at is. absurd (true≢false (sym (mild_step b.0 k i t comes at) ∙ ap is_mild is));
   creations = creates_plainly careful refl;
-  updates = refl;
 }
 
 -- it has what every program of files has
 pub careful_files : MeetsFileConditions careful
-careful_files = meets_by_tests careful accepted.well_formed.valid.typed.hierarchy (record { classes = both_light; constructors = refl }) refl
+careful_files = meets_by_tests careful accepted.well_formed.valid.typed.hierarchy (record { classes = both_light; above = refl; constructors = refl; resets = refl }) refl

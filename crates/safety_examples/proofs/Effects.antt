@@ -25,7 +25,7 @@ use Rattle.safety_examples.specs.Runs.{birth, close}
 use Rattle.safety_examples.proofs.Moments.{the_exception, the_socket}
 use Rattle.safety_examples.proofs.CarefulSets.{close_is_new, close_not_none, nothing_is_new, within_itself}
 
-abbrev effect : HeapContents → List Entry → Effect
+abbrev pub effect : HeapContents → List Entry → Effect
 effect h found = record { heap = h; lines = found }
 
 -- what `s` and the first temps hold

@@ -12,6 +12,7 @@ use Rattle.soundness_laws.specs.Paths.{FitsPlaces, relation_of}
 use Rattle.soundness_laws.specs.Safety.{IsMain}
 use Rattle.safety_examples.specs.ExtendingPrograms.{extending, main_method}
 use Rattle.safety_examples.proofs.BasePaths.{base_small}
+use Rattle.safety_examples.proofs.Covered.{covers_by}
 use Rattle.safety_examples.proofs.ExtendingClosePaths.{close_small}
 use Rattle.safety_examples.proofs.ExtendingConstructorPaths.{constructor_small}
 use Rattle.safety_examples.proofs.ExtendingDeclared.{declares_once}
@@ -44,6 +45,7 @@ accepted = record {
   overriding = overriding;
   annotations = annotations_right;
   signatures = signed;
+  covers = covers_by extending refl;
   fits = fits;
   no_fault = extending_no_fault;
 }

@@ -62,9 +62,8 @@ pub extending_plain : IsPlain extending
 extending_plain = record {
   stores = λ b {k} i t f d comes at is. sym (ap (is_mild b) is) ∙ mild_step b k i t comes at;
   creations = creates_plainly extending refl;
-  updates = refl;
 }
 
 -- it has what every program of files has
 pub extending_files : MeetsFileConditions extending
-extending_files = meets_by_tests extending valid_program.typed.hierarchy (record { classes = both_light; constructors = refl }) refl
+extending_files = meets_by_tests extending valid_program.typed.hierarchy (record { classes = both_light; above = refl; constructors = refl; resets = refl }) refl

@@ -51,9 +51,8 @@ pub lending_plain : IsPlain lending
 lending_plain = record {
   stores = λ b {k} i t f d comes at is. absurd (true≢false (sym (mild_step b k i t comes at) ∙ ap is_mild is));
   creations = creates_plainly lending refl;
-  updates = refl;
 }
 
 -- it has what every program of files has
 pub lending_files : MeetsFileConditions lending
-lending_files = meets_by_tests lending valid_program.typed.hierarchy (record { classes = both_light; constructors = refl }) refl
+lending_files = meets_by_tests lending valid_program.typed.hierarchy (record { classes = both_light; above = refl; constructors = refl; resets = refl }) refl

@@ -11,6 +11,7 @@ use Rattle.soundness_laws.specs.Accept.{Accept}
 use Rattle.soundness_laws.specs.Paths.{FitsPlaces, relation_of}
 use Rattle.soundness_laws.specs.Safety.{IsMain}
 use Rattle.safety_examples.specs.OwnerPrograms.{holding, main_method}
+use Rattle.safety_examples.proofs.Covered.{covers_by}
 use Rattle.safety_examples.proofs.OwnerClosePaths.{close_small}
 use Rattle.safety_examples.proofs.OwnerConstructorPaths.{constructor_small}
 use Rattle.safety_examples.proofs.OwnerDeclared.{declares_once}
@@ -42,6 +43,7 @@ accepted = record {
   overriding = overriding;
   annotations = annotations_right;
   signatures = signed;
+  covers = covers_by holding refl;
   fits = fits;
   no_fault = holding_no_fault;
 }

@@ -57,9 +57,8 @@ pub holding_plain : IsPlain holding
 holding_plain = record {
   stores = λ b {k} i t f d comes at is. sym (ap (is_mild b) is) ∙ mild_step b k i t comes at;
   creations = creates_plainly holding refl;
-  updates = refl;
 }
 
 -- it has what every program of files has
 pub holding_files : MeetsFileConditions holding
-holding_files = meets_by_tests holding valid_program.typed.hierarchy (record { classes = both_light; constructors = refl }) refl
+holding_files = meets_by_tests holding valid_program.typed.hierarchy (record { classes = both_light; above = refl; constructors = refl; resets = refl }) refl

@@ -11,6 +11,7 @@ use Rattle.soundness_laws.specs.Accept.{Accept}
 use Rattle.soundness_laws.specs.Paths.{FitsPlaces, relation_of}
 use Rattle.soundness_laws.specs.Safety.{IsMain}
 use Rattle.safety_examples.specs.ReopeningPrograms.{reopening, main_method}
+use Rattle.safety_examples.proofs.Covered.{covers_by}
 use Rattle.safety_examples.proofs.ReopeningDeclared.{declares_once}
 use Rattle.safety_examples.proofs.ReopeningFormed.{annotations_right, overriding, signed, well_formed}
 use Rattle.safety_examples.proofs.ReopeningMainPaths.{main_small}
@@ -39,6 +40,7 @@ accepted = record {
   overriding = overriding;
   annotations = annotations_right;
   signatures = signed;
+  covers = covers_by reopening refl;
   fits = fits;
   no_fault = reopening_no_fault;
 }

@@ -1,5 +1,5 @@
 -- The program is well formed, and its sets and signatures are what its annotations say.
-use Rattle.std.proofs.Common.{◌≡◌, ◌<◌, ◌≤◌, ℕ, zero, suc, false, not, cond, refl, sym, ap, Option, Some, None, List, [], ◌∷◌, ◌++◌, filter, flat_map, slice_index_or, lit≤, codes, arith}
+use Rattle.std.proofs.Common.{◌≡◌, ◌<◌, ◌≤◌, ℕ, zero, suc, false, not, cond, refl, sym, ap, Option, Some, None, List, [], ◌∷◌, ◌++◌, filter, flat_map, slice_index_or, lit≤, arith}
 use Rattle.std.proofs.lemmas.Bool.{eq-eqb}
 use Rattle.rlc_base.specs.declared.faults.Refusal.{Refusal}
 use Rattle.program_model.proofs.NameLaws.{union_none}
@@ -20,7 +20,7 @@ use Rattle.must_call_sets.specs.WellFormed.{IsWellFormed, interest_of}
 use Rattle.soundness_laws.specs.MustSets.{IsMustSet}
 use Rattle.soundness_laws.specs.NameTable.{IsNameTable, place_of_annotation}
 use Rattle.soundness_laws.specs.Signed.{IsSigned}
-use Rattle.safety_examples.specs.OwnerPrograms.{class_number, close_alone, in_source, in_stub, no_names}
+use Rattle.safety_examples.specs.OwnerPrograms.{class_number, close_alone, in_stub, no_names}
 use Rattle.safety_examples.proofs.CarefulSets.{none_within}
 use Rattle.safety_examples.specs.ResettingPrograms.{creates, must_close, must_nothing}
 use Rattle.safety_examples.specs.ReopeningPrograms.{creates_parameter, reopening}

@@ -1,7 +1,7 @@
 -- The program is plain.
 use Rattle.std.proofs.Common.{◌≡◌, ◌⊎◌, inl, inr, ℕ, zero, suc, Bool, true, false, true≢false, Some, None, List, slice_get, refl, sym, ap, ◌∙◌, All}
 use Rattle.program_model.specs.declared.kinds.BodyId.{BodyId}
-use Rattle.must_call_sets.specs.Bodies.{is_constructor, reset_in, resets_this}
+use Rattle.must_call_sets.specs.Bodies.{reset_in, resets_this}
 use Rattle.obligation_facts.specs.Callees.{callee}
 use Rattle.java_control.specs.Calls.{is_reset_of_this}
 use Rattle.java_control.specs.Control.{next_of}
@@ -60,15 +60,10 @@ silent zero = refl
 silent (suc zero) = refl
 silent (suc (suc n)) = refl
 
-no_constructor : (n : ℕ) → is_constructor reopening (record { 0 = n }) ≡ false
-no_constructor zero = refl
-no_constructor (suc zero) = refl
-no_constructor (suc (suc n)) = refl
-
--- the program declares no owning field, and no body is that of a constructor
+-- the program declares no owning field
 plainly : (b : BodyId) (k : List Todo) (a : Action) → ResetsOthers a → ResetsPlainly reopening b k a
 plainly b k a (inl none) = inl none
-plainly b k a (inr other) = inr (record { other = λ this f. absurd (true≢false (sym this ∙ other)); before = λ makes stored. true≢false (sym makes ∙ no_constructor b.0); seen = inl (λ f. refl) })
+plainly b k a (inr other) = inr (record { other = λ this f. absurd (true≢false (sym this ∙ other)) })
 
 created_plainly : CreatesPlainly reopening
 created_plainly = record {
@@ -80,9 +75,8 @@ pub reopening_plain : IsPlain reopening
 reopening_plain = record {
   stores = λ b {k} i t f d comes at is. absurd (true≢false (sym (mild_step b k i t comes at).0 ∙ ap is_mild is));
   creations = created_plainly;
-  updates = refl;
 }
 
 -- it has what every program of files has
 pub reopening_files : MeetsFileConditions reopening
-reopening_files = meets_by_tests reopening valid_program.typed.hierarchy (record { classes = both_light; constructors = refl }) refl
+reopening_files = meets_by_tests reopening valid_program.typed.hierarchy (record { classes = both_light; above = refl; constructors = refl; resets = refl }) refl

@@ -1,5 +1,5 @@
 -- The program that closes its stream is accepted.
-use Rattle.std.proofs.Common.{◌≡◌, ℕ, zero, suc, true, Some, List, slice_get, All, sym, true≢false, lit<, lit≤}
+use Rattle.std.proofs.Common.{◌≡◌, ℕ, zero, suc, true, Some, List, refl, slice_get, All, sym, true≢false, lit<, lit≤}
 use Rattle.std.specs.List.{AllByRecursion}
 use Rattle.std.proofs.lemmas.List.Elements.{All-contains}
 use Rattle.program_model.specs.declared.kinds.BodyId.{BodyId}
@@ -15,6 +15,7 @@ use Rattle.soundness_laws.specs.Accept.{Accept}
 use Rattle.soundness_laws.specs.Paths.{Comes, FitsPlaces, Move, relation_of}
 use Rattle.safety_examples.specs.StreamingControls.{controls}
 use Rattle.safety_examples.specs.StreamingPrograms.{streaming}
+use Rattle.safety_examples.proofs.Covered.{covers_by}
 use Rattle.safety_examples.proofs.StreamingFaults.{streaming_no_fault, certificate, control, facts, no_step, relation}
 use Rattle.safety_examples.proofs.Certified.{comes_listed}
 use Rattle.safety_examples.proofs.StreamingDeclared.{declares_once}
@@ -54,6 +55,7 @@ accepted = record {
   overriding = overriding;
   annotations = annotations_right;
   signatures = signed;
+  covers = covers_by streaming refl;
   fits = fits;
   no_fault = streaming_no_fault;
 }

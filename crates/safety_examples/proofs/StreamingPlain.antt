@@ -53,9 +53,8 @@ pub streaming_plain : IsPlain streaming
 streaming_plain = record {
   stores = λ b {k} i t f d comes at is. absurd (true≢false (sym (mild_step b.0 k i t comes at) ∙ ap is_mild is));
   creations = creates_plainly streaming refl;
-  updates = refl;
 }
 
 -- it has what every program of files has
 pub streaming_files : MeetsFileConditions streaming
-streaming_files = meets_by_tests streaming valid_program.typed.hierarchy (record { classes = both_light; constructors = refl }) refl
+streaming_files = meets_by_tests streaming valid_program.typed.hierarchy (record { classes = both_light; above = refl; constructors = refl; resets = refl }) refl

@@ -11,6 +11,7 @@ use Rattle.soundness_laws.specs.Accept.{Accept}
 use Rattle.soundness_laws.specs.Paths.{FitsPlaces, relation_of}
 use Rattle.soundness_laws.specs.Safety.{IsMain}
 use Rattle.safety_examples.specs.WrappingPrograms.{main_method, wrapping}
+use Rattle.safety_examples.proofs.Covered.{covers_by}
 use Rattle.safety_examples.proofs.WrappingClosePaths.{close_small}
 use Rattle.safety_examples.proofs.WrappingConstructorPaths.{constructor_small}
 use Rattle.safety_examples.proofs.WrappingDeclared.{declares_once}
@@ -42,6 +43,7 @@ accepted = record {
   overriding = overriding;
   annotations = annotations_right;
   signatures = signed;
+  covers = covers_by wrapping refl;
   fits = fits;
   no_fault = wrapping_no_fault;
 }

@@ -57,9 +57,8 @@ pub wrapping_plain : IsPlain wrapping
 wrapping_plain = record {
   stores = λ b {k} i t f d comes at is. sym (ap (is_mild b) is) ∙ mild_step b k i t comes at;
   creations = creates_plainly wrapping refl;
-  updates = refl;
 }
 
 -- it has what every program of files has
 pub wrapping_files : MeetsFileConditions wrapping
-wrapping_files = meets_by_tests wrapping valid_program.typed.hierarchy (record { classes = both_light; constructors = refl }) refl
+wrapping_files = meets_by_tests wrapping valid_program.typed.hierarchy (record { classes = both_light; above = refl; constructors = refl; resets = refl }) refl

@@ -18,3 +18,11 @@ pub mod ResettingPrograms
 pub mod ResettingControls
 pub mod ReopeningPrograms
 pub mod ReopeningControls
+pub mod ThrowingPrograms
+pub mod ThrowingControls
+pub mod ForgetfulPrograms
+pub mod ForgetfulControls
+pub mod ConnectingPrograms
+pub mod ConnectingControls
+pub mod ReconnectingPrograms
+pub mod ReconnectingControls

@@ -18,30 +18,47 @@
 //!   and which has it closed.
 //! - A program that shows that what is said of accepted plain programs speaks of methods of the program itself that create obligations anew: `main` makes a socket on
 //!   which nothing must be called, has it connected by `reopen`, which is lent it, and closes it.
+//! - A program that shows that what is said of safety speaks of obligations that methods of the program create anew as their calls end: `main` closes its socket,
+//!   lends it to such a method, whose body does nothing, and ends, by which the socket leaks.
+//! - A program that shows that what is said of accepted plain programs speaks of obligations that a constructor creates anew on what its owning field holds: it makes a
+//!   socket, on which nothing must be called, stores it, and connects it there.
+//! - A program that shows that the rules accept methods that create the obligation of an object with an owning field anew: `connect` of a holder connects what its field
+//!   holds, and `main` closes the holder, connects it, and closes it again.
+//! - A program that shows that what is said of accepted plain programs speaks of promises that hold where a method throws: `shut` closes its argument by a call
+//!   that may throw, as both its annotations say, and `main` makes a socket and has it closed so.
 #![tactic(auto)]
 
 mod aliasing;
 mod careful;
+mod connecting;
 mod extending;
+mod forgetful;
 mod holding;
 mod laws;
 mod lending;
+mod reconnecting;
 mod reopening;
 mod resetting;
 mod streaming;
+mod throwing;
 mod wrapping;
 
 pub use aliasing::{aliasing_has_main, aliasing_is_accepted, aliasing_is_plain, aliasing_is_safe};
 pub use careful::{careful_is_plain, careful_is_safe};
+pub use connecting::{
+    connecting_has_main, connecting_is_accepted, connecting_is_plain, connecting_is_safe,
+};
 pub use extending::{
     extending_has_main, extending_is_accepted, extending_is_plain, extending_is_safe,
 };
+pub use forgetful::{forgetful_is_not_safe, forgetful_run_leaks};
 pub use holding::{holding_has_main, holding_is_accepted, holding_is_plain, holding_is_safe};
 pub use laws::{
     careful_has_no_fault, careful_is_accepted, careful_is_valid, careful_is_well_formed,
     careful_run_ends, careless_is_not_safe,
 };
 pub use lending::{lending_has_main, lending_is_accepted, lending_is_plain, lending_is_safe};
+pub use reconnecting::{reconnecting_has_main, reconnecting_is_accepted};
 pub use reopening::{
     reopening_has_main, reopening_is_accepted, reopening_is_plain, reopening_is_safe,
 };
@@ -49,4 +66,5 @@ pub use resetting::{
     resetting_has_main, resetting_is_accepted, resetting_is_plain, resetting_is_safe,
 };
 pub use streaming::{streaming_is_accepted, streaming_is_plain, streaming_is_safe};
+pub use throwing::{throwing_has_main, throwing_is_accepted, throwing_is_plain, throwing_is_safe};
 pub use wrapping::{wrapping_has_main, wrapping_is_accepted, wrapping_is_plain, wrapping_is_safe};

@@ -17,8 +17,7 @@ pub fn resetting_has_main()
     ensures { IsMain resetting main_method }
 {}
 
-/// That program is plain: the constructor connects the socket before it stores into the field; and a call is asked of all that may be connected, which no method
-/// gives as an alias.
+/// That program is plain: what is connected is not called `this`.
 pub fn resetting_is_plain()
     ensures { IsPlain resetting }
 {}

@@ -10,6 +10,7 @@ use Rattle.must_call_reset.specs.ResetCases.{reset_cases}
 use Rattle.signature_rules.specs.OwnerCases.{owner_cases}
 use Rattle.signature_rules.specs.RulePasses.{HasNoRuleCase}
 use Rattle.signature_rules.specs.TextCases.{text_cases}
+use Rattle.signature_rules.specs.TextFieldCases.{text_field_cases}
 use Rattle.signature_rules.specs.ResultCases.{result_cases}
 
 no_least : (cases : List Refusal) → least cases ≡ None → cases ≡ []
@@ -24,8 +25,8 @@ pub no_cases : (cases : List Refusal) (u : Unit {0}) → Ok u ≡ verdict_of (le
 no_cases cases u is = no_least cases (ok_none (least cases) u is)
 
 pub all_passed : (p : Program) (last : Result (Unit {0}) Refusal) → alias_cases p ≡ [] → override_cases p ≡ [] → owning_cases p ≡ [] → reset_cases p ≡ [] → text_cases p ≡ [] → result_cases p ≡ []
-    → last ≡ verdict_of (least (owner_cases p))
+    → owner_cases p ≡ [] → last ≡ verdict_of (least (text_field_cases p))
     → OnOk last (HasNoRuleCase p)
-all_passed p (Ok u) aliases overrides owning resets texts results is =
-    record { aliases = aliases; overrides = overrides; owning = owning; resets = resets; texts = texts; results = results; owners = no_cases (owner_cases p) u is }
-all_passed p (Err r) aliases overrides owning resets texts results is = tt
+all_passed p (Ok u) aliases overrides owning resets texts results owners is =
+    record { aliases = aliases; overrides = overrides; owning = owning; resets = resets; texts = texts; results = results; owners = owners; text_fields = no_cases (text_field_cases p) u is }
+all_passed p (Err r) aliases overrides owning resets texts results owners is = tt

@@ -1,4 +1,5 @@
 pub mod OwnerCases
 pub mod RulePasses
 pub mod TextCases
+pub mod TextFieldCases
 pub mod ResultCases

@@ -1,5 +1,5 @@
 -- The passes over the effective signatures of a program: resource aliases, overriding methods, owning fields, methods that create
--- obligations anew, texts, results that lose an obligation, and classes under those that declare owning fields (Checker Framework manual, Resource Leak Checker). Each refuses by the least of its cases, and where it has none
+-- obligations anew, texts, results that lose an obligation, classes under those that declare owning fields, and owning fields that may hold a text (Checker Framework manual, Resource Leak Checker). Each refuses by the least of its cases, and where it has none
 -- the next one decides.
 use Rattle.std.specs.Prelude.{◌≡◌, Option, Some, None, []}
 use Rattle.rlc_base.specs.declared.faults.Refusal.{Refusal}
@@ -10,6 +10,7 @@ use Rattle.called_methods.specs.OverrideCases.{override_cases}
 use Rattle.must_call_reset.specs.OwningCases.{owning_cases}
 use Rattle.must_call_reset.specs.ResetCases.{reset_cases}
 use Rattle.signature_rules.specs.TextCases.{text_cases}
+use Rattle.signature_rules.specs.TextFieldCases.{text_field_cases}
 use Rattle.signature_rules.specs.OwnerCases.{owner_cases}
 use Rattle.signature_rules.specs.ResultCases.{result_cases}
 
@@ -22,7 +23,7 @@ or_later None later = later
 abbrev pub rule_refusal : Program → Option Refusal
 rule_refusal p =
     or_later (least (alias_cases p)) (or_later (least (override_cases p)) (or_later (least (owning_cases p))
-    (or_later (least (reset_cases p)) (or_later (least (text_cases p)) (or_later (least (result_cases p)) (least (owner_cases p)))))))
+    (or_later (least (reset_cases p)) (or_later (least (text_cases p)) (or_later (least (result_cases p)) (or_later (least (owner_cases p)) (least (text_field_cases p))))))))
 
 -- no pass has a case
 pub record HasNoRuleCase (p : Program) : Type 0 where
@@ -33,3 +34,4 @@ pub record HasNoRuleCase (p : Program) : Type 0 where
   pub texts : text_cases p ≡ []
   pub results : result_cases p ≡ []
   pub owners : owner_cases p ≡ []
+  pub text_fields : text_field_cases p ≡ []

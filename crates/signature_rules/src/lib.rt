@@ -4,6 +4,7 @@
 mod owners;
 mod passes;
 mod results;
+mod text_fields;
 mod texts;
 
 pub use passes::rule_refusal;

@@ -1,5 +1,8 @@
 -- A frame ends, and with it the call at which the frame below waits.
-use Rattle.std.proofs.Common.{◌≡◌, ◌⊎◌, inl, inr, ℕ, ◌+◌, ◌<◌, ◌≤◌, Bool, true, false, not, Option, Some, None, List, ◌∷◌, ◌++◌, length, option_map, slice_get, nat_eq, refl, sym, ap, ◌∙◌, subst, true≢false, arith, eq-eqb, eqb-true, lt-ltb}
+use Rattle.content_laws.proofs.Owners.{runs_on_none}
+use Rattle.program_model.specs.declared.kinds.FieldId.{FieldId}
+use Rattle.soundness_laws.proofs.HeldTargets.{gone_field, low_stays}
+use Rattle.std.proofs.Common.{Bool, List, None, Option, Some, [], ap, arith, eq-eqb, eqb-true, false, inl, inr, length, nat_eq, not, option_map, refl, slice_get, subst, sym, true, true≢false, ℕ, ◌++◌, ◌+◌, ◌<◌, ◌∙◌, ◌∷◌, ◌≡◌, ◌≤◌, ◌⊎◌}
 use Rattle.std.specs.FinSet as set
 use Rattle.std.specs.Prelude.{MatchBool}
 use Rattle.rlc_base.specs.declared.name_id.NameId.{NameId}
@@ -63,7 +66,7 @@ use Rattle.content_laws.specs.Leading.{LinksOne}
 use Rattle.content_laws.proofs.LibraryCallLaws.{changed_object_at-object, evolving_heaps-links, notes_add_names-object, roots_go_on-number, roots_go_on-root, roots_go_on-value, roots_of_links-itself, roots_over_a_link-linked, roots_over_a_link-value}
 use Rattle.content_laws.proofs.RootLaws.{has_object}
 use Rattle.content_laws.proofs.ObjectLaws.{goes_on_further}
-use Rattle.content_laws.specs.ProgramCalls.{IsFinished, IsLinkedTo, IsOlderAtResult, IsReturned, is_new}
+use Rattle.content_laws.specs.ProgramCalls.{IsLinkedTo, IsOlderAtResult, IsReturned, is_new}
 use Rattle.content_laws.proofs.EndLinks.{end_keeps, end_links, end_links_one, gone_evolves, gone_links}
 use Rattle.content_laws.proofs.Returned.{IsFrom, end_back, end_count, end_lines, finished_by, gone_back, gone_count, gone_unowned, result_back, result_takes}
 use Rattle.content_laws.proofs.HeapFrameEnds.{contents_end_met, nothing_unmet_goes}
@@ -78,8 +81,8 @@ use Rattle.content_laws.specs.Ranges.{LocalsInRange}
 use Rattle.content_laws.specs.Renewing.{IsLentFrom, is_renewed}
 use Rattle.content_laws.specs.PlainForms.{HasPlainForms, IsPlainAction}
 use Rattle.content_laws.specs.FieldContents as fields
-use Rattle.content_laws.specs.FieldContents.{IsBeingMade, LinksLead, OwningFieldsOwn}
-use Rattle.content_laws.specs.PlaceFacts.{AreWaiting, IsCovered, gives_none, is_frame_from, is_given, may_owe, renews_none}
+use Rattle.content_laws.specs.FieldContents.{AreUnfinished, IsBeingMade, LinksLead, OwningFieldsOwn, TopRunsAlone}
+use Rattle.content_laws.specs.PlaceFacts.{AreWaiting, IsCovered, RunsOn, gives_none, is_given, may_owe, renews_none}
 use Rattle.content_laws.specs.Outcomes.{IsFault}
 use Rattle.content_laws.proofs.FactEnds.{end_row}
 use Rattle.content_laws.proofs.OwedFacts.{owed}
@@ -94,12 +97,10 @@ use Rattle.content_laws.proofs.Emptied.{plain_note}
 use Rattle.content_laws.proofs.EndOwners.{end_keeps_library, end_keeps_own, end_owners_go, same_new}
 use Rattle.content_laws.proofs.EndResets.{plain_alias_position}
 use Rattle.content_laws.proofs.EndTargets.{as_turned, reset_of}
-use Rattle.content_laws.proofs.Owners.{OwnerGoes}
-use Rattle.content_laws.proofs.Owners as owner_goes
 use Rattle.content_laws.proofs.Renewed.{says_nothing, without_reset}
 use Rattle.content_laws.proofs.ResetHeaps.{IsResetOf, reset_back, reset_root, reset_stays, reset_was}
 use Rattle.content_laws.proofs.ResultOwners.{returned_owner}
-use Rattle.content_laws.proofs.WaitingTargets.{OwnsTarget, covered_tracks, its_owner, lender_below, owned_or_lent}
+use Rattle.content_laws.proofs.WaitingTargets.{OwnsTarget, covered_tracks, its_owner, owned_or_lent}
 use Rattle.content_laws.proofs.FrameFollowing.{breaks_nothing}
 use Rattle.content_laws.proofs.Chains.{IsLastOwned, IsSame, ends_on, object_there}
 use Rattle.content_laws.proofs.Landing.{landed}
@@ -110,19 +111,19 @@ use Rattle.content_laws.proofs.Stacks.{KeepsClasses, below_top, called_on, track
 use Rattle.content_laws.proofs.TargetTracks.{target_or_not, tracks_target}
 use Rattle.content_laws.proofs.Tracking.{same_body, tracks_call}
 use Rattle.content_laws.proofs.Unmet.{owner_of, may_go, unmet_before, way_of_call}
-use Rattle.soundness_laws.proofs.LentTargets.{lent_awaited}
+use Rattle.soundness_laws.proofs.LentTargets.{lent_awaited, lent_owner}
 use Rattle.soundness_laws.proofs.LibrarySteps.{same_alias}
 use Rattle.soundness_laws.proofs.Supporting.{object_of_number}
 use Rattle.soundness_laws.proofs.Answered.{IsAnswered, finished_tracks, returned_tracks}
 use Rattle.soundness_laws.proofs.EndedNames.{name_called}
-use Rattle.soundness_laws.proofs.EndedObjects.{IsKept, answers_library, from_first, gone_owner, last_as, none_present, not_next, owned_by_frame, owning_same, result_same, target_renews}
+use Rattle.soundness_laws.proofs.EndedObjects.{IsKept, answers_library, finished_as, gone_owner, last_as, none_present, not_next, owned_by_frame, owning_same, result_same, target_renews}
 
 module _ (p : Program) (ac : Accept p) (forms : HasPlainForms p) (names : HasSmallInterests p) (fr caller : Frame) (frs : List Frame) (h : HeapContents) (es : List Entry)
     (agrees : Agrees p (fr ∷ caller ∷ frs) h es) (i : ℕ) (s : Step) (here : slice_get (frame_steps p fr) i ≡ Some s) (q : Completion) (is : s.action ≡ actions.End q)
     (j : ℕ) (t : Step) (there : slice_get (frame_steps p caller) j ≡ Some t) (named : MethodId) (answer : IsAnswered p h fr caller q t named) (sup : Supports p h fr) (making : IsBeingMade p h fr caller)
     (shows : ShowsOperands p h fr caller (length frs + 1)) (led : LinksLead p h) (covered : IsCovered p h gives_none renews_none (caller ∷ frs) fr) (dispatched : fields.IsDispatched p h fr caller)
     (waiting : AreWaiting p h (caller ∷ frs)) (owning : OwningFieldsOwn p h) (sight : ActsInSight p h caller) (mine' : LocalsInRange h fr.locals) (ranges : LocalsInRange h caller.locals)
-    (back : IsBackStep p (frame_steps p caller) (exception_class p h (thrown_in fr.locals q)) named t) where
+    (back : IsBackStep p (frame_steps p caller) (exception_class p h (thrown_in fr.locals q)) named t) (alone : TopRunsAlone p h (fr ∷ caller ∷ frs)) (unready : AreUnfinished p h (caller ∷ frs)) where
   st : Stands p fr
   st = agrees.standing.0
 
@@ -469,7 +470,7 @@ module _ (p : Program) (ac : Accept p) (forms : HasPlainForms p) (names : HasSma
       it = its_owner p ac forms h caller frs below j t there answer.row waiting.0 n x before heavy owes done renewed mine
 
       tr : (w : TracksAs p h (is_renewed p h caller n) caller n x) × (w.fact ≡ it.covers.fact) × (w.origin ≡ it.covers.origin)
-      tr = covered_tracks p ac h caller frs below (is_given p h caller n x.class) (is_renewed p h caller n) n x it.covers it.key it.kept it.temp it.there
+      tr = covered_tracks p ac h caller frs below (is_given p h caller n x.class) (is_renewed p h caller n) n x it.covers it.key it.own it.kept it.temp it.there
 
       still : moved_at_call p tr.0.origin t.action t.edge tr.0.fact ≡ moves.Moves → ⊥
       still moved = it.stays j t there (ap (λ (f : Fact). moved_at_call p it.covers.origin t.action t.edge f) (sym tr.1) ∙ ap (λ (g : Origin). moved_at_call p g t.action t.edge tr.0.fact) (sym tr.2) ∙ moved)
@@ -607,7 +608,7 @@ module _ (p : Program) (ac : Accept p) (forms : HasPlainForms p) (names : HasSma
 
       go : (b : Bool) → is_anew_at_end p caller.locals t.action (method_at p named) gone n ≡ b → IsSettled n y
       go false out = inl (reset_stays p called roots kept_heap heap reset_is n y out now)
-      go true anew = elim (as_turned p ac forms h agrees.links fr caller frs below sight dispatched making e v t named back agrees.ends answer.later ranges owning waiting.0 n y (values.Object n)
+      go true anew = elim (as_turned p ac forms h agrees.links fr caller frs below sight dispatched making e v t named back agrees.ends answer.later ranges owning waiting.0 unready n y (values.Object n)
           (ap Some (roots_of_links-itself heap n y now free')) now true anew z.0 z.1) [
             | inl same ↦ inl (z.1 ∙ ap Some (sym same))
             | inr turned ↦ inr (turned.1, all_must anew, turned.2)
@@ -621,14 +622,7 @@ module _ (p : Program) (ac : Accept p) (forms : HasPlainForms p) (names : HasSma
   unmade : (w : ℕ) (x : Object) → fields.is_new t.action ≡ true → fr.locals.this ≡ values.Object w → object_at h w ≡ Some x → x.finished ≡ false
   unmade w x new this before = making j t w x there new this before
 
-  -- what a frame below the caller owns it goes on owning
-  low_stays : (a b : Owner) → OwnerGoes None at a b → (k : ℕ) → a ≡ owners.Frame k → k < at → b ≡ a
-  low_stays a b (owner_goes.stays same) k frame below' = same
-  low_stays a b (owner_goes.passed above held' frames) k frame below' = absurd (true≢false (sym above ∙ ap (is_frame_from at) frame ∙ ap not (lt-ltb k at below')))
-  low_stays a b (owner_goes.left none' gone' held') k frame below' = absurd (true≢false (sym (ap (is_frame_from 0) frame ∙ from_first k) ∙ none'))
-  low_stays a b (owner_goes.taken none' gone' held') k frame below' = absurd (true≢false (sym (ap (is_frame_from 0) frame ∙ from_first k) ∙ none'))
-
-  -- an object whose obligation is created anew is that of a frame, which tracks it
+  -- an object whose obligation is created anew is that of a frame, which tracks it, or that of a field
   module _ (n : ℕ) (y : Object) (now : object_at heap n ≡ Some y) (unmet : is_unmet y ≡ true) (stays' : is_library_owner y.owner ≡ false)
       (renewed : is_renewed p h caller n ≡ true) (must : y.must ≡ must_of p y.class) (made : (x : Object) → object_at h n ≡ Some x → x.finished ≡ true) where
     x : (x : Object) × (object_at h n ≡ Some x) × (y.class ≡ x.class)
@@ -654,26 +648,41 @@ module _ (p : Program) (ac : Accept p) (forms : HasPlainForms p) (names : HasSma
         by true library = absurd (true≢false (sym (ap is_library_owner z.5 ∙ end_keeps_library p at fr.locals.this caller.locals t.action runs plain v e h says_none unmade n x.0 z.0 x.1 z.1 finished library) ∙ stays'))
 
     abbrev IsSomeones : Type 0
-    IsSomeones = (k : ℕ) × (y.owner ≡ owners.Frame k) × IsTracked p heap (after ∷ frs) n y k
+    IsSomeones = ((k : ℕ) × (y.owner ≡ owners.Frame k) × IsTracked p heap (after ∷ frs) n y k) ⊎ ((w : ℕ) × (f : FieldId) × (y.owner ≡ owners.Field w f))
+
+    -- a field of what the caller makes, or a frame below, goes on owning it
+    still_field : (w : ℕ) (f : FieldId) → x.0.owner ≡ owners.Field w f → RunsOn w (caller ∷ frs) → y.owner ≡ owners.Field w f
+    still_field w f mine on = z.5 ∙ by (from n z.0 z.1)
+      where
+        not_made : is_new t.action ≡ true → number_of fr.locals.this ≡ Some n → ⊥
+        not_made new self = true≢false (sym finished ∙ being_made n x.0 new self x.1)
+
+        by : IsFrom p at fr.locals.this caller.locals t.action plain gone says_none e n z.0 → z.0.owner ≡ owners.Field w f
+        by (inl made') = absurd (not_made made'.2.new made'.2.self)
+        by (inr (inl alias)) = absurd (not_made alias.2.new alias.2.self)
+        by (inr (inr noted)) = sym (ap (λ (u : Object). u.owner) noted.2)
+            ∙ gone_field p at fr.locals.this runs v e h n w f x.0 x.1 mine (λ u r. (let never : owners.Field w f ≡ owners.Frame (at + 1) = sym mine ∙ result_owner n x.0 u x.1 heavy still_owes r in cc))
+            (λ new self. runs_on_none w (caller ∷ frs) (alone n x.0 w f new (object_of_number fr.locals.this w self) x.1 heavy mine) on) noted.0 noted.1
 
     callers : OwnsTarget p h frs caller n x.0 → IsSomeones
     callers it =
-        let mine = it.key.owner it.kept in (
+        let mine = it.key.owner it.kept it.own in inl (
           at,
           z.5 ∙ end_keeps_own p at fr.locals.this caller.locals t.action runs plain v e h says_none unmade result_owner n x.0 z.0 x.1 z.1 finished heavy mine,
           rw (eq-eqb (length frs + 1) at refl) (renewed_here n x.0 y x.1 finished heavy still_owes mine renewed x.2 bounded unmet),
         )
 
     lenders : IsLentFrom p h frs n x.0.owner → IsSomeones
-    lenders lent =
-        let it = lender_below p h frs n x.0.owner lent in
-        let low' = it.2 in
-        let kept_owner' : z.0.owner ≡ x.0.owner =
-        low_stays x.0.owner z.0.owner (end_owners_go p at fr.locals.this caller.locals t.action runs plain v e h says_none unmade result_owner None n x.0 z.0 x.1 z.1 finished heavy) it.0 it.1 (omega (arith, low')) in (
-          it.0,
-          z.5 ∙ kept_owner' ∙ it.1,
-          below_caller it.0 it.2 (lent_awaited p ac forms h heap n x.0 y x.1 heavy still_owes finished (stays n x.0 x.1 finished) x.2 bounded caller frs agrees.standing.1.1 agrees.stacked.1 waiting.1 it.0 it.1 lent),
-        )
+    lenders lent = elim (lent_owner p h frs n x.0.owner lent) [
+      | inl it ↦ (let low' = it.2 in
+          let kept_owner' : z.0.owner ≡ x.0.owner =
+          low_stays at x.0.owner z.0.owner (end_owners_go p at fr.locals.this caller.locals t.action runs plain v e h says_none unmade [] (λ k u there' wide w new this held. tt) result_owner None n x.0 z.0 x.1 z.1 finished heavy) it.0 it.1 (omega (arith, low')) in inl (
+            it.0,
+            z.5 ∙ kept_owner' ∙ it.1,
+            below_caller it.0 it.2 (lent_awaited p ac forms h heap n x.0 y x.1 heavy still_owes finished (stays n x.0 x.1 finished) x.2 bounded caller frs agrees.standing.1.1 agrees.stacked.1 waiting.1 it.0 it.1 lent),
+          ))
+      | inr field ↦ inr (field.0, field.1, still_field field.0 field.1 field.2 (inr field.3))
+    ]
       where
         below_caller : (k : ℕ) → k ≤ length frs → IsAwaited p heap frs n y k → IsTracked p heap (after ∷ frs) n y k
         below_caller k low w = go (nat_eq (length frs + 1) k) refl
@@ -683,7 +692,10 @@ module _ (p : Program) (ac : Accept p) (forms : HasPlainForms p) (names : HasSma
             go false other = w
 
     someones : IsSomeones
-    someones = elim (owned_or_lent p ac forms h caller frs below j t there answer.row waiting.0 n x.0 x.1 heavy still_owes finished renewed) [ inl it ↦ callers it | inr lent ↦ lenders lent ]
+    someones = elim (owned_or_lent p ac forms h caller frs below j t there answer.row waiting.0 n x.0 x.1 heavy still_owes finished renewed) [
+      | inl it ↦ callers it
+      | inr other ↦ elim other [ inl lent ↦ lenders lent | inr held ↦ inr (held.1.holder, held.1.field, still_field held.1.holder held.1.field held.1.owns (inl held.1.runs)) ]
+    ]
 
   -- a frame owns nothing that is linked
   owned_free : (n k : ℕ) (y : Object) → object_at heap n ≡ Some y → y.owner ≡ owners.Frame k → y.link ≡ None
@@ -696,8 +708,10 @@ module _ (p : Program) (ac : Accept p) (forms : HasPlainForms p) (names : HasSma
   tracked : (n : ℕ) (y : Object) (k : ℕ) → object_at heap n ≡ Some y → is_unmet y ≡ true → y.owner ≡ owners.Frame k → IsTracked p heap (after ∷ frs) n y k
   tracked n y k now unmet owner = elim (settled n y now (owned_free n k y now owner)) [
     | inl there' ↦ by there' (from n y there')
-    | inr anew ↦ (let it = someones n y now unmet (ap is_library_owner owner) anew.0 anew.1 anew.2 in
-        subst (λ (c : ℕ). IsTracked p heap (after ∷ frs) n y c) (let both : owners.Frame it.0 ≡ owners.Frame k = sym it.1 ∙ owner in (let one : it.0 ≡ k = cc in one)) it.2)
+    | inr anew ↦ elim (someones n y now unmet (ap is_library_owner owner) anew.0 anew.1 anew.2) [
+      | inl it ↦ subst (λ (c : ℕ). IsTracked p heap (after ∷ frs) n y c) (let both : owners.Frame it.0 ≡ owners.Frame k = sym it.1 ∙ owner in (let one : it.0 ≡ k = cc in one)) it.2
+      | inr field ↦ absurd (let never : owners.Field field.0 field.1 ≡ owners.Frame k = sym field.2 ∙ owner in cc)
+    ]
   ]
     where
       top : at ≡ k → Tracks p heap after n y → IsTracked p heap (after ∷ frs) n y k
@@ -707,22 +721,8 @@ module _ (p : Program) (ac : Accept p) (forms : HasPlainForms p) (names : HasSma
       by there' (inl made) =
           let z = was_there n made.0 made.1 in
           top (let same : owners.Frame at ≡ owners.Frame k = sym made.2.owner ∙ owner in cc)
-          (finished_tracks p ac forms h heap fr caller below j t there q named answer at n z.0 made.0 y z.1 z.2 unmet (finished_as (method_at p named) made.2)
+          (finished_tracks p ac forms h heap fr caller below j t there q named answer at n z.0 made.0 y z.1 z.2 unmet (finished_as p at fr.locals.this t.action e n made.0 y (method_at p named) made.2)
           (same_roots (values.Object n) ∙ ap Some (roots_of_links-itself kept_heap n y there' (made.2.link ∙ z.2.link ∙ made_free n z.0 made.2.new made.2.self z.1))))
-        where
-          finished_as : (m : Option Method) → IsFinished p at fr.locals.this t.action (without_reset m) e n made.0 y → IsFinished p at fr.locals.this t.action m e n made.0 y
-          finished_as None it = it
-          finished_as (Some m) it = record {
-            normal = it.normal;
-            new = it.new;
-            own = it.own;
-            self = it.self;
-            class = it.class;
-            finished = it.finished;
-            link = it.link;
-            must = it.must;
-            owner = it.owner;
-          }
       by there' (inr (inl alias)) = elim (alias_owner n alias.0 y aliased alias.2.new alias.2.self alias.1 alias.2.linked) [
         | inl library ↦ absurd (let never : owners.Library ≡ owners.Frame k = sym library.0 ∙ owner in cc)
         | inr none' ↦ absurd (let never : owners.Unowned ≡ owners.Frame k = sym none'.0 ∙ owner in cc)
@@ -734,7 +734,7 @@ module _ (p : Program) (ac : Accept p) (forms : HasPlainForms p) (names : HasSma
     where
       by_owner : (b : Bool) → is_library_owner y.owner ≡ b → (is_renewed p h caller n ≡ true) × (y.must ≡ must_of p y.class) × ((x : Object) → object_at h n ≡ Some x → x.finished ≡ true) → is_answering y.owner ≡ true
       by_owner true library anew = answers_library y.owner library
-      by_owner false other anew = ap is_answering (someones n y now unmet other anew.0 anew.1 anew.2).1
+      by_owner false other anew = elim (someones n y now unmet other anew.0 anew.1 anew.2) [ inl frame ↦ ap is_answering frame.1 | inr field ↦ ap is_answering field.2 ]
 
       by : IsOld n y → is_answering y.owner ≡ true
       by old = elim old.owner [

@@ -123,7 +123,7 @@ module _ (p : Program) (ac : Accept p) (forms : HasPlainForms p) (names : HasSma
         within_at old.before.called y.called old.goes_on.called name.0
         (own_name_called p ac forms h links fr caller frs st covered i s q here is j t there named answer.method answer.calls answer.named_at dispatched name
         (ap interest_in (sym (same_callee ∙ answer.named_at)) ∙ interest) (chosen_by_note caller.locals t.action plain its r.noted) n old.before old.there heavy owes
-        (and_parts old.before.finished (not (set.is_subset old.before.must old.before.called)) was_unmet).0 classes (inl (unrenewed, inr low)) r.object first.0 r.value first.1 way stopped)
+        (and_parts old.before.finished (not (set.is_subset old.before.must old.before.called)) was_unmet).0 classes (unrenewed, inr (inl low)) r.object first.0 r.value first.1 way stopped)
 
     pub name_called : set.contains y.called name.0 ≡ true
     name_called = go (is_passed_on p its first.0) refl

@@ -9,7 +9,6 @@ use Rattle.ledger_obligations.specs.Bodies.{constructs, reset_in}
 use Rattle.ownership_rules.specs.Signatures.{is_present}
 use Rattle.java_control.specs.Control.{Step}
 use Rattle.java_control.specs.declared.action.Action.{Action}
-use Rattle.java_control.specs.declared.action.Action.TheVariants as actions
 use Rattle.ownership_rules.specs.Callees as callees
 use Rattle.ownership_rules.specs.Facts.{PlaceSet}
 use Rattle.ownership_rules.specs.SmallActions.{IsSmallAction}
@@ -28,13 +27,12 @@ use Rattle.content_laws.specs.Configuration.{Frame}
 use Rattle.content_laws.specs.Choosing.{frame_steps}
 use Rattle.ledger_steps.specs.Ends.{constructor_ended, frame_ended, frame_gone, result_moved}
 use Rattle.content_laws.specs.Heaps.{GoesOn, IsKeptOr}
-use Rattle.content_laws.specs.ProgramCalls.{IsOlderAtResult, IsReturned, is_new}
+use Rattle.content_laws.specs.ProgramCalls.{IsFinished, IsOlderAtResult, IsReturned}
 use Rattle.content_laws.proofs.Returned.{finished_by, result_back}
 use Rattle.content_laws.specs.Chains.{HaveEnds, IsLast}
 use Rattle.content_laws.specs.Agreement.{is_answering}
 use Rattle.content_laws.specs.Anew.{holds_target, is_target}
 use Rattle.content_laws.specs.Renewing.{is_renewed}
-use Rattle.content_laws.specs.FieldContents as fields
 use Rattle.content_laws.specs.PlaceFacts.{is_frame_from}
 use Rattle.content_laws.proofs.CallNames.{operand_has_position, operand_of_fact}
 use Rattle.content_laws.proofs.Carried.{HoldIt}
@@ -95,6 +93,21 @@ target_renews p h fr i s o held here small hold is = go (reset_in (callees.calle
     go None none in' = absurd (true≢false (sym in'))
     go (Some k) some in' = step_renews p h fr i s o here
         (operand_renews p h fr.locals s.action o k some (operand_of_fact p h fr.method fr.locals s.action o k held small (operand_has_position p s.action held k small in') hold in'))
+
+-- what a `new` has finished by a signature without its reset it has finished by this
+pub finished_as : (p : Program) (i : ℕ) (self : Value) (a : Action) (e : Option ClassId) (n : ℕ) (x y : Object) (m : Option Method) → IsFinished p i self a (without_reset m) e n x y → IsFinished p i self a m e n x y
+finished_as p i self a e n x y None it = it
+finished_as p i self a e n x y (Some m) it = record {
+  normal = it.normal;
+  new = it.new;
+  own = it.own;
+  self = it.self;
+  class = it.class;
+  finished = it.finished;
+  link = it.link;
+  must = it.must;
+  owner = it.owner;
+}
 
 -- an unmet object that no `new` has just finished: it was there before, when the result had moved and when the frame had gone, and the call was
 -- noted on it

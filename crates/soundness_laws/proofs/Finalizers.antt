@@ -19,10 +19,10 @@ use Rattle.content_laws.specs.FieldContents.{IsContent, promised_on}
 use Rattle.content_laws.proofs.Finalizers.{is_promised, owned_names}
 
 module _ (p : Program) (ac : Accept p) (frs : List Frame) (h : HeapContents) (o : ℕ) (x : Object) (w : ℕ) (f : FieldId) (content : IsContent p frs h o x w f) (finished : content.holder.finished ≡ true) where
-  -- a name of the content, where the holder is met
-  called : set.is_subset content.holder.must content.holder.called ≡ true → (n : ℕ) → set.contains x.must n ≡ true → set.contains x.called n ≡ true
-  called met n one =
-      let of_class = within_at x.must (must_of p x.class) content.own n one in
+  -- a name of the content, where that is unmet and the holder is met
+  called : is_unmet x ≡ true → set.is_subset content.holder.must content.holder.called ≡ true → (n : ℕ) → set.contains x.must n ≡ true → set.contains x.called n ≡ true
+  called unmet met n one =
+      let of_class = within_at x.must (must_of p x.class) (content.own unmet) n one in
       let of_type = within_at (must_of p x.class) (must_of_type p content.field.vtype) content.bounded n of_class in
       let q = is_promised p ac content.field.class f n (within_at (must_of_type p content.field.vtype) (finalized p content.field.class f) (owned_names p ac f content.field content.declared content.owning) n of_type) in
       let needed : set.contains (must_of p content.holder.class) q.name.0 ≡ true = ap (λ (c : ClassId). set.contains (must_of p c) q.name.0) content.class ∙ q.needed in
@@ -36,5 +36,5 @@ module _ (p : Program) (ac : Accept p) (frs : List Frame) (h : HeapContents) (o 
     where
       go : (b : Bool) → set.is_subset content.holder.must content.holder.called ≡ b → is_unmet content.holder ≡ true
       go true met = absurd (true≢false (
-          sym (within_from x.must x.called (called met)) ∙ not-true (set.is_subset x.must x.called) (and_parts x.finished (not (set.is_subset x.must x.called)) unmet).1))
+          sym (within_from x.must x.called (called unmet met)) ∙ not-true (set.is_subset x.must x.called) (and_parts x.finished (not (set.is_subset x.must x.called)) unmet).1))
       go false unmade = and_from content.holder.finished (not (set.is_subset content.holder.must content.holder.called)) finished (ap not unmade)

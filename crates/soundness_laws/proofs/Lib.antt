@@ -15,6 +15,8 @@ pub mod InnerSteps
 pub mod StoreSteps
 pub mod OwnedFacts
 pub mod StoredFacts
+pub mod Holders
+pub mod HeldTargets
 pub mod LentTargets
 pub mod LibrarySteps
 pub mod CallStarts

@@ -1,4 +1,6 @@
 -- A call of the library begins and ends in one step.
+use Rattle.content_laws.proofs.ResetCovers.{are_making}
+use Rattle.program_model.specs.declared.kinds.FieldId.{FieldId}
 use Rattle.std.specs.Prelude.{MatchBool}
 use Rattle.std.proofs.Common.{◌≡◌, ◌⊎◌, inl, inr, ℕ, ◌+◌, ◌≤◌, nat_eq, eqb-true, Bool, true, false, true≢false, Option, Some, None, List, ◌∷◌, ◌++◌, length, slice_get, refl, sym, ap, ◌∙◌, subst, if◌then◌else◌, arith, eq-eqb}
 use Rattle.std.specs.FinSet as set
@@ -68,7 +70,7 @@ use Rattle.content_laws.proofs.LibraryRuns.{one_alias}
 use Rattle.content_laws.proofs.Births.{heavy_by_unmet, made_tracks}
 use Rattle.content_laws.proofs.LibraryNames.{library_name_goes_on}
 use Rattle.content_laws.proofs.Goes.{not_the_librarys_owes}
-use Rattle.content_laws.specs.FieldContents.{LinksLead, OwningFieldsOwn}
+use Rattle.content_laws.specs.FieldContents.{AreNew, AreUnfinished, LinksLead, OwningFieldsOwn}
 use Rattle.content_laws.specs.Sight.{ActsInSight}
 use Rattle.content_laws.specs.Nexts.{IsConstantRead}
 use Rattle.content_laws.specs.Ranges.{LocalsInRange}
@@ -92,14 +94,14 @@ use Rattle.ledger_obligations.specs.Bodies.{reset_in}
 use Rattle.ledger_obligations.specs.MustCallSets.{Names, must_of}
 use Rattle.java_control.specs.declared.fact.Fact.{Fact}
 use Rattle.java_control.specs.declared.place.Place.TheVariants as places
-use Rattle.ownership_rules.specs.Facts.{has}
+use Rattle.ownership_rules.specs.Facts.{has, is_own}
 use Rattle.content_laws.specs.Anew.{is_target}
 use Rattle.content_laws.specs.PlaceFacts.{AreWaiting, Covers, IsCovered, IsOwned, gives_none, renews_none}
-use Rattle.content_laws.specs.Renewing.{IsLentFrom}
-use Rattle.content_laws.proofs.ResetJoins.{no_holder, renewed_in_hands}
+use Rattle.content_laws.specs.Renewing.{IsHeldBy, IsLentFrom}
+use Rattle.content_laws.proofs.ResetJoins.{hands_of, no_holder, renewed_in_hands}
 use Rattle.content_laws.proofs.TargetTracks.{target_or_not, tracks_target}
-use Rattle.content_laws.proofs.WaitingTargets.{covered_tracks, lender_below}
-use Rattle.soundness_laws.proofs.LentTargets.{lent_awaited}
+use Rattle.content_laws.proofs.WaitingTargets.{covered_tracks}
+use Rattle.soundness_laws.proofs.LentTargets.{lent_awaited, lent_owner}
 use Rattle.content_laws.proofs.Ready.{plain_step, ready, resets_plainly}
 use Rattle.content_laws.proofs.Tracking.{stack_tracks, tracks_call, tracks_plain}
 
@@ -178,7 +180,8 @@ pub record IsLibraryStep (p : Program) (h : HeapContents) (arrays : List ArrayOb
 module _ (p : Program) (ac : Accept p) (forms : HasPlainForms p) (names : HasSmallInterests p) (fr : Frame) (frs : List Frame) (h : HeapContents)
     (es : List Entry) (agrees : Agrees p (fr ∷ frs) h es) (i : ℕ) (s : Step) (here : slice_get (frame_steps p fr) i ≡ Some s) (named m : MethodId) (d : Conduct) (v : Value)
     (arrays : List ArrayObject) (step : IsLibraryStep p h arrays fr.locals s named m d v) (ranges : LocalsInRange h fr.locals) (led : LinksLead p h)
-    (covered : IsCovered p h gives_none renews_none frs fr) (waiting : AreWaiting p h frs) (owning : OwningFieldsOwn p h) (sight : ActsInSight p h fr) where
+    (covered : IsCovered p h gives_none renews_none frs fr) (waiting : AreWaiting p h frs) (owning : OwningFieldsOwn p h) (sight : ActsInSight p h fr)
+    (news : AreNew p (fr ∷ frs)) (unready : AreUnfinished p h (fr ∷ frs)) where
   abbrev after : Frame
   after = frame_after p h fr s v
 
@@ -261,10 +264,10 @@ module _ (p : Program) (ac : Accept p) (forms : HasPlainForms p) (names : HasSma
     wide = heavy_by_unmet p y.class y unmet bounded
 
     abbrev IsSomeones : Type 0
-    IsSomeones = (j : ℕ) × (y.owner ≡ owners.Frame j) × IsTracked p heap (after ∷ frs) o y j
+    IsSomeones = ((j : ℕ) × (y.owner ≡ owners.Frame j) × IsTracked p heap (after ∷ frs) o y j) ⊎ ((w : ℕ) × (f : FieldId) × (y.owner ≡ owners.Field w f))
 
     top_owns : (y.owner ≡ owners.Frame (length frs + 1)) → Tracks p heap after o y → IsSomeones
-    top_owns mine t = (length frs + 1, mine, rw (eq-eqb (length frs + 1) (length frs + 1) refl) t)
+    top_owns mine t = inl (length frs + 1, mine, rw (eq-eqb (length frs + 1) (length frs + 1) refl) t)
 
     -- a frame below
     lent_tracked : (j : ℕ) → j ≤ length frs → IsAwaited p heap frs o y j → IsTracked p heap (after ∷ frs) o y j
@@ -285,8 +288,9 @@ module _ (p : Program) (ac : Accept p) (forms : HasPlainForms p) (names : HasSma
       where
         by : IsCallRow s.action → called_method s.action ≡ Some named → IsPlainReset p agrees.standing.0.number fr.control s.action → IsSomeones
         by row called plain =
-            let r = renewed_in_hands p ac forms h agrees.links fr frs agrees.standing.0 ranges named m d i s here called row plain covered
-            (no_holder p ac forms h agrees.links fr frs agrees.standing.0 ranges named m d i s here called row plain covered owning sight arrays (step.ran called).1)
+            let r = renewed_in_hands p ac forms h agrees.links fr frs agrees.standing.0 ranges named m d i s here called row plain covered h
+            (hands_of p h h fr frs (are_making p h (fr ∷ frs) news unready) (λ n w lent. lent))
+            (no_holder p ac forms h agrees.links fr frs agrees.standing.0 ranges named m d i s here called row plain covered unready owning sight arrays (step.ran called).1)
             o y at free is wide (not_the_librarys_owes y stays) in
             in_hands r
           where
@@ -294,23 +298,26 @@ module _ (p : Program) (ac : Accept p) (forms : HasPlainForms p) (names : HasSma
             small = (ready p ac forms fr agrees.standing.0 i s here (way_of_call s row)).small
 
             in_hands : (x : Object) × (object_at h o ≡ Some x) × (x.finished ≡ true) × (y.class ≡ x.class) × (y.owner ≡ x.owner)
-                × (((x.owner ≡ owners.Frame (length frs + 1)) × ((c : Covers p h false false frs fr o x) × IsOwned p h false false frs fr o x c × (is_target p s.action c.fact.places ≡ true) × ((t : ℕ) × (has c.fact.places (places.Temp t) ≡ true))))
-                ⊎ IsLentFrom p h frs o x.owner) → IsSomeones
-            in_hands (x, was, done, class, owner, inl (mine, (c, key, target, (t, there')))) =
-                let tr = covered_tracks p ac h fr frs agrees.standing.0 false false o x c key refl t there' in
+                × (((x.owner ≡ owners.Frame (length frs + 1)) × ((c : Covers p h false false frs fr o x) × IsOwned p h false false frs fr o x c × (is_own c.fact.mode ≡ true) × (is_target p s.action c.fact.places ≡ true) × ((t : ℕ) × (has c.fact.places (places.Temp t) ≡ true))))
+                ⊎ (IsLentFrom p h frs o x.owner ⊎ IsHeldBy p fr x.owner)) → IsSomeones
+            in_hands (x, was, done, class, owner, inl (mine, (c, key, own, target, (t, there')))) =
+                let tr = covered_tracks p ac h fr frs agrees.standing.0 false false o x c key own refl t there' in
                 top_owns (owner ∙ mine)
                 (tracks_target p ac forms h heap fr agrees.standing.0 i s here (way_of_call s row) v o x y (roots_stay o x was) class bounded unmet false tr.0 row
                 (ap (λ (f : Fact). is_target p s.action f.places) tr.1 ∙ target)
                 (λ gives. ap (root_of heap) step.value
                 ∙ library_alias p ac h agrees.links arrays fr.locals s.action s.edge tr.0.fact.places named m (method_at p named) d (length frs + 1) step.count o small (plain_step p ac forms fr agrees.standing.0 i s here)
                 (ap (callee_in p) called) step.answers there step.by step.thrown (λ k near held. operand_of_fact p h fr.method fr.locals s.action o k tr.0.fact.places small near tr.0.follows.places held) gives))
-            in_hands (x, was, done, class, owner, inr lent) =
-                let lender = lender_below p h frs o x.owner lent in (
-                  lender.0,
-                  owner ∙ lender.1,
-                  lent_tracked lender.0 lender.2 (lent_awaited p ac forms h heap o x y was (ap (is_heavy_class p) (sym class) ∙ wide) (not_the_librarys_owes x (ap is_library_owner (sym owner) ∙ stays)) done
-                      (roots_stay o x was) class bounded fr frs agrees.standing.1 agrees.stacked waiting lender.0 lender.1 lent),
-                )
+            in_hands (x, was, done, class, owner, inr (inr held)) = inr (held.1.holder, held.1.field, owner ∙ held.1.owns)
+            in_hands (x, was, done, class, owner, inr (inl lent)) = elim (lent_owner p h frs o x.owner lent) [
+              | inr field ↦ inr (field.0, field.1, owner ∙ field.2)
+              | inl lender ↦ inl (
+                lender.0,
+                owner ∙ lender.1,
+                lent_tracked lender.0 lender.2 (lent_awaited p ac forms h heap o x y was (ap (is_heavy_class p) (sym class) ∙ wide) (not_the_librarys_owes x (ap is_library_owner (sym owner) ∙ stays)) done
+                    (roots_stay o x was) class bounded fr frs agrees.standing.1 agrees.stacked waiting lender.0 lender.1 lent),
+              )
+            ]
 
   owner_answers : (a : Action) (j : ℕ) → is_answering (result_owner a (method_at p m) j) ≡ true
   owner_answers (actions.New m k n) j = refl
@@ -366,7 +373,7 @@ module _ (p : Program) (ac : Accept p) (forms : HasPlainForms p) (names : HasSma
 
       renewed : (b : Bool) → is_library_owner y.owner ≡ b → anew o ≡ true → is_answering y.owner ≡ true
       renewed true gone is = librarys y.owner gone
-      renewed false stays is = ap is_answering (someones o y at free is unmet stays).1
+      renewed false stays is = elim (someones o y at free is unmet stays) [ inl frame ↦ ap is_answering frame.1 | inr field ↦ ap is_answering field.2 ]
 
       older_answers : (old : IsOlderAside anew h o y owners.Library) → y.owner ≡ old.before.owner → (b : Bool) → anew o ≡ b → is_answering y.owner ≡ true
       older_answers old same true is = renewed (is_library_owner y.owner) refl is
@@ -507,10 +514,11 @@ module _ (p : Program) (ac : Accept p) (forms : HasPlainForms p) (names : HasSma
           stack_tracks p h heap fr after frs o old.before y j (roots_stay o old.before old.at) goes
           (top o j old.before y old.at at goes unmet mine owner out)
           (agrees.tracked o old.before j old.at (unmet_before old.before y goes unmet) mine)
-      go true is =
-          let it = someones o y at (owned_free o j y at owner) is unmet (ap is_library_owner owner) in
-          let same' : it.0 ≡ j = (let both : owners.Frame it.0 ≡ owners.Frame j = sym it.1 ∙ owner in (let one : it.0 ≡ j = cc in one)) in
-          subst (λ (n : ℕ). IsTracked p heap (after ∷ frs) o y n) same' it.2
+      go true is = elim (someones o y at (owned_free o j y at owner) is unmet (ap is_library_owner owner)) [
+        | inl it ↦ (let same' : it.0 ≡ j = (let both : owners.Frame it.0 ≡ owners.Frame j = sym it.1 ∙ owner in (let one : it.0 ≡ j = cc in one)) in
+            subst (λ (n : ℕ). IsTracked p heap (after ∷ frs) o y n) same' it.2)
+        | inr field ↦ absurd (let never : owners.Field field.0 field.1 ≡ owners.Frame j = sym field.2 ∙ owner in cc)
+      ]
 
   tracked : (o : ℕ) (y : Object) (j : ℕ) → object_at heap o ≡ Some y → is_unmet y ≡ true → y.owner ≡ owners.Frame j → IsTracked p heap (after ∷ frs) o y j
   tracked o y j at unmet owner = elim (was_there o y at) [

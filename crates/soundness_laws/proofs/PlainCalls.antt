@@ -1,7 +1,8 @@
 -- The calls of a plain program that is accepted, and what may run at them.
-use Rattle.std.proofs.Common.{◌≡◌, ℕ, true, false, Option, Some, None, IsSomeAnd, List, slice_get, refl, sym, ap, ◌∙◌, subst, true≢false}
+use Rattle.std.proofs.Common.{◌≡◌, ℕ, Bool, true, false, Option, Some, None, IsSomeAnd, List, slice_get, refl, sym, ap, ◌∙◌, subst, true≢false}
 use Rattle.program_model.specs.declared.kinds.BodyId.{BodyId}
 use Rattle.program_model.specs.declared.kinds.ClassId.{ClassId}
+use Rattle.program_model.specs.declared.kinds.FieldId.{FieldId}
 use Rattle.program_model.specs.declared.kinds.MethodId.{MethodId}
 use Rattle.program_model.specs.declared.kinds.MethodKind.TheVariants as methods
 use Rattle.program_model.specs.declared.program.Class.{Class}
@@ -12,6 +13,7 @@ use Rattle.program_model.specs.Lookups.{body_at, class_at, method_at}
 use Rattle.program_model.specs.Overrides.{is_library}
 use Rattle.ledger_obligations.specs.Bodies.{constructs, is_constructor_kind}
 use Rattle.java_control.specs.Calls.{called_method}
+use Rattle.java_control.specs.Owned.{is_owning}
 use Rattle.java_control.specs.Remaining.{Todo}
 use Rattle.java_control.specs.declared.action.Action.{Action}
 use Rattle.java_control.specs.declared.action.Action.TheVariants as actions
@@ -27,14 +29,14 @@ use Rattle.content_laws.specs.ClassOperands.{IsNotAboveString, OfClass}
 use Rattle.content_laws.proofs.Calls.{class_runs, instance_runs, light_runs, no_result_runs, plain_call}
 use Rattle.ledger_steps.specs.LedgerCallsCalls.{body_of}
 use Rattle.content_laws.specs.Choosing.{body_id}
-use Rattle.content_laws.specs.PlainForms.{IsPlainAction, MayRun}
+use Rattle.content_laws.specs.PlainForms.{IsPlainAction, IsTextUpdate, MayRun}
 use Rattle.content_laws.specs.Running.{HasPlainRuns, IsAlike, is_on_object}
 use Rattle.content_laws.specs.ClassValues.{HasClassResults, KeepsResultClasses}
 use Rattle.content_laws.specs.ClassOperands.{result_of}
 use Rattle.soundness_laws.specs.Plain.{IsPlain}
 use Rattle.content_laws.specs.AgreementConditions.{MeetsFileConditions}
 use Rattle.soundness_laws.proofs.ConstantReads.{plain_read}
-use Rattle.soundness_laws.proofs.FieldShapes.{assigned_is_unowned}
+use Rattle.soundness_laws.proofs.FieldShapes.{assigned_is_text}
 use Rattle.soundness_laws.proofs.FieldsAlone.{fields_promised_alone}
 use Rattle.soundness_laws.proofs.Programs.{is_programs}
 use Rattle.soundness_laws.proofs.SuperAliases.{super_gives_no_alias}
@@ -77,17 +79,16 @@ instance_named p a m n names calls on at = absurd (true≢false (sym on))
 -- ---- programs
 
 module _ (p : Program) (ac : Accept p) (files : MeetsFileConditions p) (plain : IsPlain p) where
-  plain_action : (b : BodyId) (x : Body) (a : Action) → body_at p b ≡ Some x → CallsSuperClass p x a → StandsInBody x a → MovesLocals a → NamesMembers p x a → StoresAssignedField p x a → IsPlainAction p a
-  plain_action b x actions.Skip at place stands moves names assigned = tt
-  plain_action b x (actions.Copy u v) at place stands moves names assigned = moves
-  plain_action b x (actions.Move u v) at place stands moves names assigned = moves.0
-  plain_action b x (actions.Plain u v) at place stands moves names assigned = plain_read p ac files x u v names
-  plain_action b x (actions.Put f d this) at place stands moves names assigned = assigned_is_unowned p ac plain.updates b x at f assigned
-  plain_action b x (actions.Call m d n form) at place stands moves names assigned = plain_call p ac files.library (fields_promised_alone p ac files) m
-  plain_action b x (actions.New m d n) at place stands moves names assigned = plain_call p ac files.library (fields_promised_alone p ac files) m
-  plain_action b x (actions.Super m d n) at place stands moves names assigned =
+  plain_action : (b : BodyId) (x : Body) (a : Action) → body_at p b ≡ Some x → CallsSuperClass p x a → StandsInBody x a → MovesLocals a → NamesMembers p x a → IsPlainAction p a
+  plain_action b x actions.Skip at place stands moves names = tt
+  plain_action b x (actions.Copy u v) at place stands moves names = moves
+  plain_action b x (actions.Move u v) at place stands moves names = moves.0
+  plain_action b x (actions.Plain u v) at place stands moves names = plain_read p ac files x u v names
+  plain_action b x (actions.Call m d n form) at place stands moves names = plain_call p ac files.library (fields_promised_alone p ac files) m
+  plain_action b x (actions.New m d n) at place stands moves names = plain_call p ac files.library (fields_promised_alone p ac files) m
+  plain_action b x (actions.Super m d n) at place stands moves names =
       (plain_call p ac files.library (fields_promised_alone p ac files) m, super_constructs p x m place, super_gives_no_alias p ac b x m stands.0 at stands.1 stands.2)
-  plain_action b x a at place stands moves names assigned = tt
+  plain_action b x a at place stands moves names = tt
 
   pub plain_steps : (b : BodyId) {k : List Todo} (i : ℕ) (t : Move (List Todo)) → Comes (relation_of p b) k → slice_get ((relation_of p b).next k) i ≡ Some t → IsPlainAction p t.action
   plain_steps b {k = k} i t comes there =
@@ -95,7 +96,13 @@ module _ (p : Program) (ac : Accept p) (files : MeetsFileConditions p) (plain : 
       let typed = ac.well_formed.valid.typed in
       let members = typed_step p typed b x.0 k i t x.1 comes there in
       plain_action b x.0 t.action x.1 (has_its_place p typed b x.0 k i t x.1 comes there).0 (super_stands p typed b x.0 k i t x.1 comes there)
-      members.0 members.1 (stores_assigned p typed b x.0 k i t x.1 comes there)
+      members.0 members.1
+
+  -- where another operator than `=` stores into an owning field, it is one of `this` of type `String`
+  pub text_updates : (b : BodyId) (x : Body) {k : List Todo} (i : ℕ) (t : Move (List Todo)) (f : FieldId) (d : ℕ) (through_this : Bool) → body_at p b ≡ Some x → Comes (relation_of p b) k
+      → slice_get ((relation_of p b).next k) i ≡ Some t → t.action ≡ actions.Put f d through_this → is_owning p f ≡ true → IsTextUpdate p x f through_this
+  text_updates b x {k = k} i t f d through_this at comes there is owning =
+      assigned_is_text p ac b x at f through_this (subst (StoresAssignedField p x) is (stores_assigned p ac.well_formed.valid.typed b x k i t at comes there)) owning
 
   module _ (b : BodyId) (k : List Todo) (i : ℕ) (t : Move (List Todo)) (named r : MethodId) (n x : Method) (comes : Comes (relation_of p b) k) (there : slice_get ((relation_of p b).next k) i ≡ Some t)
       (calls : called_method t.action ≡ Some named) (may : MayRun p named r) (at_n : method_at p named ≡ Some n) (at_x : method_at p r ≡ Some x) (own : is_library p x.class ≡ false) where

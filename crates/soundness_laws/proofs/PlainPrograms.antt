@@ -32,7 +32,7 @@ use Rattle.soundness_laws.proofs.MadeClasses.{concrete_by}
 use Rattle.content_laws.specs.PlainForms.{HasPlainForms, RunsOwnMethods, calls_constructor, run_by}
 use Rattle.soundness_laws.specs.Plain.{IsPlain}
 use Rattle.content_laws.specs.AgreementConditions.{MeetsFileConditions}
-use Rattle.soundness_laws.proofs.PlainCalls.{plain_steps}
+use Rattle.soundness_laws.proofs.PlainCalls.{plain_steps, text_updates}
 use Rattle.soundness_laws.proofs.SuperCalls.{supers_come_first}
 
 -- ---- dispatch
@@ -142,6 +142,7 @@ module _ (p : Program) (ac : Accept p) where
       supers = supers_come_first p ac.well_formed.valid.typed files.passes;
       super_calls = super_calls;
       stores = stores;
+      updates = text_updates p ac files plain;
       parents = parents;
       own = own_methods p ac;
       bodies = plain.creations.bodies;

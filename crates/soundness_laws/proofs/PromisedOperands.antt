@@ -87,7 +87,7 @@ use Rattle.content_laws.proofs.Ready.{named_gives_none, plain_call, plain_step, 
 use Rattle.content_laws.proofs.Unmet.{call_may, row_of}
 use Rattle.content_laws.proofs.Goes.{not_the_librarys_owes}
 use Rattle.content_laws.proofs.Following.{breaks_nothing, same_body}
-use Rattle.content_laws.proofs.HeavyFields.{apart_low, asked_here, covered_at, lent_tells}
+use Rattle.content_laws.proofs.HeavyFields.{apart_low, asked_here, covered_at, lent_not_alone, lent_tells}
 use Rattle.content_laws.specs.Naming.{IsOfItsKind}
 use Rattle.content_laws.proofs.NamedReached.{names_what_is_there}
 use Rattle.soundness_laws.proofs.KeptPromises.{GivesRoot, ReturnsAlias}
@@ -214,7 +214,7 @@ module _ (p : Program) (ac : Accept p) (forms : HasPlainForms p) (h : HeapConten
             within_trans u.names x.called y.called
             (within_trans u.names (set.union (asked_of p (method_at p fr.method) cover.origin.kind) x.called) x.called
             (shown_on_position p ac h fr st i s q here is (caller ∷ rest) o x cover (unowned_moves p st.number cover.origin cover.fact (cover.lent lent').0 q) (set.union (asked_of p (method_at p fr.method) cover.origin.kind) x.called)
-            (cover.known done (lent_tells p fr.method cover.origin cover.fact lent') (apart_low p h (caller ∷ rest) fr o x cover.fact old low)).2 xs asks v k u at target origin.0)
+            (cover.known done (lent_tells p fr.method cover.origin cover.fact (lent_not_alone p h false false (caller ∷ rest) fr o x cover lent') lent') (apart_low p h (caller ∷ rest) fr o x cover.fact old low)).2 xs asks v k u at target origin.0)
             (union_within (asked_of p (method_at p fr.method) cover.origin.kind) x.called x.called (ap (λ (z : Names). set.is_subset z x.called) asks' ∙ asked) (within_self x.called))) goes.called
 
         reached_here : (cover : Covers p h false false (caller ∷ rest) fr o x) → Reach p st.number (relation_of p st.number) cover.origin fr.control cover.fact

@@ -1,4 +1,5 @@
 -- What agrees with the facts, and whose fields own what they hold, is safe.
+use Rattle.ledger_obligations.specs.MustCallSets.{is_heavy_class}
 use Rattle.std.proofs.Common.{◌≡◌, ◌⊎◌, inl, inr, ℕ, Bool, true, false, not, ◌||◌, Option, Some, None, List, [], ◌∷◌, refl, sym, ap, ◌∙◌, subst, true≢false}
 use Rattle.std.proofs.lemmas.Bool.{and_parts, or_left, or_right}
 use Rattle.program_model.specs.declared.kinds.ClassId.{ClassId}
@@ -58,7 +59,7 @@ module _ (p : Program) (ac : Accept p) (c : Config) (agrees : Agree p c) (conten
   live r x (owners.Field w f) at free unmet owner = (k.held, go k.holder.finished refl)
     where
       k : IsContent p c.frames c.heap r x w f
-      k = contents r x w f at unmet owner
+      k = contents r x w f at (or_left (is_unmet x) (is_heavy_class p x.class) unmet) owner
 
       go : (b : Bool) → k.holder.finished ≡ b → IsUnmet c.heap w ⊎ (is_being_made p c.frames w ≡ true)
       go true finished = inl (unmet_root w k.holder k.at k.unlinked (holder_is_unmet p ac c.frames c.heap r x w f k finished unmet))
@@ -98,7 +99,7 @@ module _ (p : Program) (ac : Accept p) (c : Config) (agrees : Agree p c) (conten
     given_by : (o : Owner) → Ends c.heap o → (n : ℕ) (x : Object) → object_at c.heap (root c.heap n) ≡ Some x → is_unmet x ≡ true → x.owner ≡ o → IsGiven c.heap n
     given_by _ (ends_here o is) n x at unmet owner = last_given n x o at unmet owner is
     given_by _ (of_field w f z there rest) n x at unmet owner =
-        let k = contents (root c.heap n) x w f at unmet owner in
+        let k = contents (root c.heap n) x w f at (or_left (is_unmet x) (is_heavy_class p x.class) unmet) owner in
         let same : k.holder ≡ z = (let both : Some k.holder ≡ Some z = sym k.at ∙ there in cc) in
         let finished : k.holder.finished ≡ true = is_finished w k.field.class k.holder k.made in
         let unmade : is_unmet z ≡ true = sym (ap is_unmet same) ∙ holder_is_unmet p ac c.frames c.heap (root c.heap n) x w f k finished unmet in

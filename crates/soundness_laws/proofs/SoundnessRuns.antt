@@ -40,6 +40,7 @@ use Rattle.content_laws.specs.PlaceFacts.{AreCovered}
 use Rattle.content_laws.specs.Ranges.{AreInRange, LocalsInRange}
 use Rattle.content_laws.specs.Sight.{AllActInSight}
 use Rattle.content_laws.proofs.InSight.{acts_in_sight}
+use Rattle.content_laws.proofs.UpdatedTexts.{all_update_texts}
 use Rattle.content_laws.proofs.LinkTargets.{links_reach_aliased_at_start, links_reach_aliased_step}
 use Rattle.content_laws.specs.Making.{AreBeingMade}
 use Rattle.content_laws.specs.Throws.{TopEndsAsDeclared, TopEndsByException, TopRaisesExceptions}
@@ -78,6 +79,7 @@ use Rattle.content_laws.specs.Values.{FitsClass, HasClassUnder}
 use Rattle.content_laws.specs.Filled.{AreFilled}
 use Rattle.content_laws.proofs.Laws.{filled_at_start, filled_step}
 use Rattle.content_laws.proofs.ThrownLaws.{ends_by_exception, raised_values_are_exceptions, thrown_at_start, thrown_step}
+use Rattle.soundness_laws.proofs.Holders.{top_runs_alone}
 use Rattle.soundness_laws.proofs.KeptPromises.{TopShowsOperands}
 use Rattle.soundness_laws.proofs.PromisedOperands.{operands_shown}
 use Rattle.soundness_laws.proofs.Steps.{step_agrees}
@@ -88,8 +90,10 @@ agree_at_start p ac gives main choices is = start_agrees p ac main gives choices
 
 top_supported : (p : Program) (ac : Accept p) (forms : HasPlainForms p) (h : HeapContents) (es : List Entry) (frs : List Frame) → Agrees p frs h es → FieldsHold p frs h → AreCovered p h frs → AreFilled p h frs → IsSupported p h frs
 top_supported p ac forms h es [] agrees fields covered filled = tt
-top_supported p ac forms h es (fr ∷ frs) agrees fields covered filled =
-    supported p ac forms h fr frs agrees.standing.0 agrees.standing.1 agrees.stacked fields.contents covered.0 fields.unfinished fields.new filled.1
+top_supported p ac forms h es (fr ∷ frs) agrees fields covered filled = (
+  supported p ac forms h fr frs agrees.standing.0 agrees.standing.1 agrees.stacked fields.contents covered.0 fields.unfinished fields.new filled.1,
+  top_runs_alone p ac forms h (fr ∷ frs) agrees.standing agrees.stacked fields.contents fields.new filled,
+)
 
 -- what the end of the top frame shows of what the one below has lent
 top_shows : (p : Program) (ac : Accept p) (forms : HasPlainForms p) (h : HeapContents) (es : List Entry) (frs : List Frame) → Agrees p frs h es → AreCovered p h frs → HaveArguments p frs
@@ -170,22 +174,24 @@ holds_step p ac files plain c d holds is =
     let exits = top_exits p ac c.heap c.frames holds.agree.standing holds.ranges.frames holds.thrown in
     let declared = top_declared p ac c.heap c.frames exits (λ bound own. (holds.values bound own).frames) in
     let raises = top_raises p c.heap c.frames (raised_values_are_exceptions p ac files.texts c.heap c.frames (holds.values p.core.throwable files.texts).frames) in
-    let sight = acts_in_sight p ac c.heap c.frames holds.agree.links (λ bound own. (holds.values bound own).frames) holds.aliases holds.reached in
+    let sight = acts_in_sight p ac files.light_texts files.text_fields c.heap c.frames holds.agree.links (λ bound own. (holds.values bound own).frames) holds.types.frames holds.aliases holds.reached
+    (all_update_texts p ac forms files.texts files.light_texts c.heap c.frames (holds.values p.core.throwable files.texts).frames holds.types.frames holds.types.fields holds.aliases) in
+    let alone = top_runs_alone p ac forms c.heap c.frames holds.agree.standing holds.agree.stacked holds.fields.contents holds.fields.new holds.filled in
     let agree' = agree_step p ac forms files.given files.exceptions c d holds.agree holds.targets holds.fields sight holds.covered holds.ranges holds.making holds.arguments exits holds.filled is in record {
       agree = agree';
       targets = targets_step p ac c d holds.targets is;
       types = types_step p ac forms files.given.string c d holds.agree.classes (top_there c.heap c.frames holds.ranges.frames) holds.types is;
       ranges = ranges_step p ac forms c d holds.agree holds.targets holds.ranges is;
-      covered = covered_step p ac forms alike (accepted_names p ac) files.light_texts c d holds.agree holds.targets holds.types holds.ranges holds.fields holds.making holds.aliases holds.covered holds.arguments declared raises sight is;
-      making = being_made_step p ac forms alike (accepted_names p ac) files.light_texts c d holds.agree holds.targets holds.types holds.ranges holds.fields holds.making holds.aliases holds.covered holds.arguments declared raises sight is;
-      aliases = linked_are_aliases_step p ac forms alike (accepted_names p ac) files.light_texts c d holds.agree holds.targets holds.types holds.ranges holds.fields holds.making holds.aliases holds.covered holds.arguments declared raises sight is;
+      covered = covered_step p ac forms alike (accepted_names p ac) files.light_texts c d holds.agree holds.targets holds.types holds.ranges holds.fields holds.making holds.aliases holds.covered holds.arguments declared raises sight alone is;
+      making = being_made_step p ac forms alike (accepted_names p ac) files.light_texts c d holds.agree holds.targets holds.types holds.ranges holds.fields holds.making holds.aliases holds.covered holds.arguments declared raises sight alone is;
+      aliases = linked_are_aliases_step p ac forms alike (accepted_names p ac) files.light_texts c d holds.agree holds.targets holds.types holds.ranges holds.fields holds.making holds.aliases holds.covered holds.arguments declared raises sight alone is;
       fields = fields_hold_step p ac forms c d holds.agree holds.targets holds.ranges holds.covered holds.fields
           (λ fr caller rest frames. top_making p c.heap c.frames fr caller rest frames holds.making) sight agree'.links holds.arguments (top_ends_by_class p c.heap c.frames exits) is;
       arguments = arguments_step p ac forms c d holds.agree.classes holds.agree.standing holds.targets holds.arguments is;
-      reached = links_reach_aliased_step p ac forms c d holds.agree holds.targets holds.ranges holds.fields holds.making holds.values holds.reached is;
+      reached = links_reach_aliased_step p ac forms files.light_texts c d holds.agree holds.targets holds.ranges holds.fields holds.making holds.values holds.reached is;
       values = classes_step p ac forms (plain_results p ac files plain) c d holds.agree holds.targets exits holds.values is;
       thrown = thrown_step p ac forms files.texts c d holds.agree holds.targets holds.values holds.thrown is;
-      filled = filled_step p ac forms c d holds.agree.classes holds.agree.standing holds.targets holds.ranges holds.fields.new holds.filled is;
+      filled = filled_step p ac forms c d holds.agree.classes holds.agree.standing holds.targets holds.ranges holds.fields.new holds.filled sight is;
     }
 
 module _ (p : Program) (ac : Accept p) (gives : GivesLibraryClasses p) (main : MethodId) (choices : Choices) (is : IsMain p main) where

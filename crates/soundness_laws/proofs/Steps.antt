@@ -52,8 +52,9 @@ use Rattle.content_laws.proofs.Unmet.{call_may, row_of}
 use Rattle.soundness_laws.proofs.Answered.{IsAnswered}
 use Rattle.soundness_laws.proofs.CallEnds.{returned_agrees}
 use Rattle.soundness_laws.proofs.CallStarts.{IsStarted, began_agrees}
-use Rattle.content_laws.specs.FieldContents.{FieldsHold, IsBeingMade}
+use Rattle.content_laws.specs.FieldContents.{FieldsHold, HaveContents, IsBeingMade}
 use Rattle.content_laws.specs.Sight.{ActsInSight, AllActInSight}
+use Rattle.content_laws.specs.TextUpdates.{UpdatesTexts}
 use Rattle.content_laws.specs.PlaceFacts.{AreCovered, IsCovered, gives_none, renews_none}
 use Rattle.content_laws.specs.Ranges.{AreInRange, LocalsInRange}
 use Rattle.content_laws.specs.Making.{AreBeingMade}
@@ -126,7 +127,7 @@ module _ (p : Program) (ac : Accept p) (forms : HasPlainForms p) (names : HasSma
           }
 
   module _ (c d : Config) (fr caller : Frame) (frs : List Frame) (i : ℕ) (s : Step) (pos : Pos) (q : Completion) (agrees : Agrees p (fr ∷ caller ∷ frs) c.heap c.entries)
-      (here : slice_get (frame_steps p fr) i ≡ Some s) (is : s.action ≡ actions.End q) (before : Agree p c) (sup : Supports p c.heap fr) (making : IsBeingMade p c.heap fr caller) (keeps : ShowsOperands p c.heap fr caller (length frs + 1)) (fields : FieldsHold p (fr ∷ caller ∷ frs) c.heap)
+      (here : slice_get (frame_steps p fr) i ≡ Some s) (is : s.action ≡ actions.End q) (before : Agree p c) (sup : IsSupported p c.heap (fr ∷ caller ∷ frs)) (making : IsBeingMade p c.heap fr caller) (keeps : ShowsOperands p c.heap fr caller (length frs + 1)) (fields : FieldsHold p (fr ∷ caller ∷ frs) c.heap)
       (covered : AreCovered p c.heap (fr ∷ caller ∷ frs)) (sight : ActsInSight p c.heap caller) (ranges : All (λ (x : Frame). LocalsInRange c.heap x.locals) (fr ∷ caller ∷ frs)) where
     abbrev e : Option ClassId
     e = exception_class p c.heap (thrown_in fr.locals q)
@@ -152,9 +153,9 @@ module _ (p : Program) (ac : Accept p) (forms : HasPlainForms p) (names : HasSma
     back_step : (t : Step) → IsBackStep p steps e w.named t → Agree p (returned p c fr caller frs pos q e w.named t)
     back_step t back =
         returned_agrees p ac forms names fr caller frs c.heap c.entries agrees i s here q is back.index t back.here w.named
-        (answer c.heap fr caller q agrees.standing.0 below w t (one_call back.index t back.here) back.normal (λ x thrown. (let way = back.thrown x thrown in (way.0, way.2)))) sup making keeps fields.leads covered.0 fields.dispatched.0
+        (answer c.heap fr caller q agrees.standing.0 below w t (one_call back.index t back.here) back.normal (λ x thrown. (let way = back.thrown x thrown in (way.0, way.2)))) sup.0 making keeps fields.leads covered.0 fields.dispatched.0
         covered.1 fields.owning sight (All-head (λ (x : Frame). LocalsInRange c.heap x.locals) fr (caller ∷ frs) ranges)
-        (All-head (λ (x : Frame). LocalsInRange c.heap x.locals) caller frs (All-tail (λ (x : Frame). LocalsInRange c.heap x.locals) fr (caller ∷ frs) ranges)) back
+        (All-head (λ (x : Frame). LocalsInRange c.heap x.locals) caller frs (All-tail (λ (x : Frame). LocalsInRange c.heap x.locals) fr (caller ∷ frs) ranges)) back sup.1 fields.unfinished.1
         (stands_on p ac c.heap caller below back.index t (answered fr.locals.this t.action (result_value fr.locals (method_at p fr.method) q) e) back.here) pos
 
     back_agrees : (r : Return) → IsBack p steps e w.named r → returned_by p c fr caller frs pos q r ≡ went d → Agree p d
@@ -169,7 +170,7 @@ module _ (p : Program) (ac : Accept p) (forms : HasPlainForms p) (names : HasSma
     ends_below same = back_agrees (return_move p steps e) (back_is p caller below w.named w.index w.step w.here w.calls e) same
 
   end_agrees : (c d : Config) (fr : Frame) (frs : List Frame) (i : ℕ) (s : Step) (pos : Pos) (q : Completion) → Agrees p (fr ∷ frs) c.heap c.entries
-      → slice_get (frame_steps p fr) i ≡ Some s → s.action ≡ actions.End q → Agree p c → Supports p c.heap fr → AreBeingMade p c.heap (fr ∷ frs) → TopShowsOperands p c.heap (fr ∷ frs)
+      → slice_get (frame_steps p fr) i ≡ Some s → s.action ≡ actions.End q → Agree p c → IsSupported p c.heap (fr ∷ frs) → AreBeingMade p c.heap (fr ∷ frs) → TopShowsOperands p c.heap (fr ∷ frs)
       → FieldsHold p (fr ∷ frs) c.heap → AreCovered p c.heap (fr ∷ frs) → AllActInSight p c.heap (fr ∷ frs) → All (λ (x : Frame). LocalsInRange c.heap x.locals) (fr ∷ frs) → end p c fr frs pos q ≡ went d → Agree p d
   end_agrees c d fr [] i s pos q agrees here is before sup making keeps fields covered sight ranges same =
       subst (Agree p) (let one : main_ended p c fr pos q ≡ d = (let both : went (main_ended p c fr pos q) ≡ went d = same in cc) in one)
@@ -239,31 +240,31 @@ module _ (p : Program) (ac : Accept p) (forms : HasPlainForms p) (names : HasSma
 
   -- a step within the frame
   inner_step : (c : Config) (fr : Frame) (frs : List Frame) (e : Option ClassId) (s : Step) (v : Value) → Agrees p (fr ∷ frs) c.heap c.entries → (i : ℕ) → slice_get (frame_steps p fr) i ≡ Some s
-      → IsInnerStep p c.heap c.arrays fr.method fr.locals e s → Supports p c.heap fr
+      → IsInnerStep p c.heap c.arrays fr.method fr.locals e s → Supports p c.heap fr → UpdatesTexts p c.heap fr → HaveContents p (fr ∷ frs) c.heap
       → Agrees p (frame_after p c.heap fr s v ∷ frs) (inner p c.heap fr.method fr.locals e s.action s.pos (held_by (frame_after p c.heap fr s v ∷ frs))).heap
       (c.entries ++ (inner p c.heap fr.method fr.locals e s.action s.pos (held_by (frame_after p c.heap fr s v ∷ frs))).lines)
-  inner_step c fr frs e s v agrees i here (inl plain) sup =
-      inner_agrees p ac forms fr frs c.heap c.entries agrees i s here e v c.arrays (inl plain) throws (stands_on p ac c.heap fr agrees.standing.0 i s v here)
-  inner_step c fr frs e s v agrees i here (inr (inl null)) sup =
-      inner_agrees p ac forms fr frs c.heap c.entries agrees i s here e v c.arrays (inr null) throws (stands_on p ac c.heap fr agrees.standing.0 i s v here)
-  inner_step c fr frs e s v agrees i here (inr (inr store)) sup =
+  inner_step c fr frs e s v agrees i here (inl plain) sup updates contents =
+      inner_agrees p ac forms fr frs c.heap c.entries agrees i s here e v c.arrays (inl plain) updates contents throws (stands_on p ac c.heap fr agrees.standing.0 i s v here)
+  inner_step c fr frs e s v agrees i here (inr (inl null)) sup updates contents =
+      inner_agrees p ac forms fr frs c.heap c.entries agrees i s here e v c.arrays (inr null) updates contents throws (stands_on p ac c.heap fr agrees.standing.0 i s v here)
+  inner_step c fr frs e s v agrees i here (inr (inr store)) sup updates contents =
       store_agrees p ac fr frs c.heap c.entries agrees i s here store.field store.temp store.action v (sup.stores i s store.field store.temp here store.action) e store.normal
       (stands_on p ac c.heap fr agrees.standing.0 i s v here)
 
   moved_agrees : (c d : Config) (fr : Frame) (frs : List Frame) (mv : Move) → Agrees p (fr ∷ frs) c.heap c.entries → IsNext p c.heap c.arrays fr.method fr.locals (frame_steps p fr) mv → moved p c fr frs mv ≡ went d
-      → Agree p c → Supports p c.heap fr → KeepsTargets p fr → All (λ (x : Frame). LocalsInRange c.heap x.locals) (fr ∷ frs) → AreBeingMade p c.heap (fr ∷ frs) → TopShowsOperands p c.heap (fr ∷ frs) → FieldsHold p (fr ∷ frs) c.heap
+      → Agree p c → IsSupported p c.heap (fr ∷ frs) → KeepsTargets p fr → All (λ (x : Frame). LocalsInRange c.heap x.locals) (fr ∷ frs) → AreBeingMade p c.heap (fr ∷ frs) → TopShowsOperands p c.heap (fr ∷ frs) → FieldsHold p (fr ∷ frs) c.heap
       → AllActInSight p c.heap (fr ∷ frs) → AreCovered p c.heap (fr ∷ frs) → Agree p d
   moved_agrees c d fr frs (Inner e s) agrees next same before sup targets ranges making keeps fields sight covered =
       let made = made_value p c.heap c.arrays c.statics (next_choice c.choices c.used) fr.locals s.action in
       let v = thrown_value c.heap e made in
       subst (Agree p) (let one : within p c fr frs e s ≡ d = (let both : went (within p c fr frs e s) ≡ went d = same in cc) in one)
-      (inner_step c fr frs e s v agrees next.0 next.1 next.2 sup)
+      (inner_step c fr frs e s v agrees next.0 next.1 next.2 sup.0 sight.0.updates fields.contents)
   moved_agrees c d fr frs (Start named runs a pos) agrees next same before sup targets ranges making keeps fields sight covered =
       subst (Agree p) (let one : began p c fr frs named runs a pos ≡ d = (let both : went (began p c fr frs named runs a pos) ≡ went d = same in cc) in one)
-      (begin_agrees c fr frs named runs a pos agrees next sup targets (All-head (λ (x : Frame). LocalsInRange c.heap x.locals) fr frs ranges) covered.0)
+      (begin_agrees c fr frs named runs a pos agrees next sup.0 targets (All-head (λ (x : Frame). LocalsInRange c.heap x.locals) fr frs ranges) covered.0)
   moved_agrees c d fr frs (Library named m x s) agrees next same before sup targets ranges making keeps fields sight covered =
       subst (Agree p) (let one : library_went p c fr frs named m x s ≡ d = (let both : went (library_went p c fr frs named m x s) ≡ went d = same in cc) in one)
-      (library_agrees p ac forms names fr frs c.heap c.entries agrees next.index s next.here named m x (call_value p c fr named m x s) c.arrays (library_step c fr named m x s next) (All-head (λ (x : Frame). LocalsInRange c.heap x.locals) fr frs ranges) fields.leads covered.0 covered.1 fields.owning sight.0 gives throws
+      (library_agrees p ac forms names fr frs c.heap c.entries agrees next.index s next.here named m x (call_value p c fr named m x s) c.arrays (library_step c fr named m x s next) (All-head (λ (x : Frame). LocalsInRange c.heap x.locals) fr frs ranges) fields.leads covered.0 covered.1 fields.owning sight.0 fields.new fields.unfinished gives throws
       (stands_on p ac c.heap fr agrees.standing.0 next.index s (call_value p c fr named m x s) next.here))
   moved_agrees c d fr frs (End pos q) agrees next same before sup targets ranges making keeps fields sight covered = end_agrees c d fr frs next.0 next.1 pos q agrees next.2 next.3 before sup making keeps fields covered sight ranges same
   moved_agrees c d fr frs (Stray e pos) agrees next same before sup targets ranges making keeps fields sight covered = absurd (let never : stray e pos ≡ went d = same in cc)

@@ -1,6 +1,6 @@
 -- What the other invariants say of fields is what the agreement needs to know of them.
 use Rattle.std.proofs.Common.{◌≡◌, inl, inr, ℕ, Bool, true, false, not, ◌&&◌, ◌||◌, Option, Some, None, List, ◌∷◌, is_some, slice_get, refl, sym, ap, ◌∙◌, true≢false, eqb-true}
-use Rattle.std.proofs.lemmas.Bool.{and_parts}
+use Rattle.std.proofs.lemmas.Bool.{and_parts, or_left}
 use Rattle.rlc_base.proofs.SetLaws.{within_trans}
 use Rattle.program_model.specs.declared.kinds.ClassId.{ClassId}
 use Rattle.program_model.specs.declared.kinds.FieldId.{FieldId}
@@ -9,7 +9,7 @@ use Rattle.program_model.specs.declared.program.Method.{Method}
 use Rattle.program_model.specs.declared.program.Program.{Program}
 use Rattle.program_model.specs.Lookups.{field_at, method_at}
 use Rattle.ledger_obligations.specs.Bodies.{alias_in, alias_position, constructs, has_field_place, is_class_of, is_field_in, method_of}
-use Rattle.ledger_obligations.specs.MustCallSets.{is_empty, must_of, must_of_optional, must_of_type, no_names}
+use Rattle.ledger_obligations.specs.MustCallSets.{is_empty, is_heavy_class, must_of, must_of_optional, must_of_type, no_names}
 use Rattle.ownership_rules.specs.Signatures.{type_of_field}
 use Rattle.java_control.specs.Control.{Step}
 use Rattle.java_control.specs.Owned.{is_owning_field}
@@ -113,18 +113,22 @@ module _ (p : Program) (ac : Accept p) (forms : HasPlainForms p) (h : HeapConten
       (sym (ap (λ (b : Bool). b || is_made_in p w content.field.class frs) (alias_makes_none p w fr w content.field.class (ap is_some (same_alias (method_at p fr.method) ∙ alias))))
       ∙ content.made (unmade.0 w content.holder declares makes this content.at))
 
+  -- what a field owns and is unmet is its content
+  content_of : (o : ℕ) (x : Object) (w : ℕ) (f : FieldId) → object_at h o ≡ Some x → is_unmet x ≡ true → x.owner ≡ owners.Field w f → IsContent p (fr ∷ frs) h o x w f
+  content_of o x w f at unmet owner = contents o x w f at (or_left (is_unmet x) (is_heavy_class p x.class) unmet) owner
+
   -- what a field of `this` owns and is unmet has an obligation, and so has the field's type
   heavy_content : (o : ℕ) (x : Object) (w : ℕ) (f : FieldId) → object_at h o ≡ Some x → is_unmet x ≡ true → x.owner ≡ owners.Field w f → fr.locals.this ≡ values.Object w → HoldsHeavy p h fr w f o x
   heavy_content o x w f at unmet owner this =
-      let c = contents o x w f at unmet owner in
+      let c = content_of o x w f at unmet owner in
       record {
         this = this;
         owning = ap is_owning_field c.declared ∙ c.owning;
         heavy = ap (λ (t : Option Field). not (is_empty (must_of_optional p (type_of_field t)))) c.declared ∙ ap not (not_true (is_empty (must_of_type p c.field.vtype)) (λ light.
-            nothing_to_call x unmet (within_trans x.must (must_of_type p c.field.vtype) no_names (within_trans x.must (must_of p x.class) (must_of_type p c.field.vtype) c.own c.bounded) light)));
+            nothing_to_call x unmet (within_trans x.must (must_of_type p c.field.vtype) no_names (within_trans x.must (must_of p x.class) (must_of_type p c.field.vtype) (c.own unmet) c.bounded) light)));
         held = c.held;
         at = at;
-        class = heavy_by_unmet p x.class x unmet c.own;
+        class = heavy_by_unmet p x.class x unmet (c.own unmet);
         owes = not_the_librarys_owes x (ap is_library_owner owner);
       }
 
@@ -163,7 +167,7 @@ module _ (p : Program) (ac : Accept p) (forms : HasPlainForms p) (h : HeapConten
         displaced_met w n y this o there there' gone unmet = elim (alias_form (method_at p fr.method)) [
           | inl none ↦ true≢false (sym unmet ∙
               overwritten_is_met p ac forms h frs fr st (body_alias ∙ none) covered i d s f w n y here is (heavy_content n y w f there' unmet gone.owner this) gone.other)
-          | inr alias ↦ owns_nothing alias.0 w n y f new alias.1 this declares o there (contents n y w f there' unmet gone.owner)
+          | inr alias ↦ owns_nothing alias.0 w n y f new alias.1 this declares o there (content_of n y w f there' unmet gone.owner)
         ]
 
         well : IsMade p h fr.method fr.locals.this → StoresWell p h fr f d
@@ -191,7 +195,7 @@ module _ (p : Program) (ac : Accept p) (forms : HasPlainForms p) (h : HeapConten
   throws_well i s q c n w x here is thrown new number at unmet held =
       let owner = field_of_owner x.owner w held in
       let this = object_of_number fr.locals.this w number in
-      let k = contents n x w owner.0 at unmet owner.1 in
+      let k = content_of n x w owner.0 at unmet owner.1 in
       let value = object_with_root h (field_value p h w owner.0) n k.held in
       let class = class_of_maker p ac forms h fr frs st rest called new w value.0 k.holder owner.0 k.field this k.at k.declared k.owning k.class value.1 filled in
       let place : has_field_place p st.number owner.0 ≡ true =
@@ -204,7 +208,7 @@ module _ (p : Program) (ac : Accept p) (forms : HasPlainForms p) (h : HeapConten
 
   pub supported : Supports p h fr
   supported = record {
-    bounded = λ o x w f at unmet owner. (contents o x w f at unmet owner).own;
+    bounded = λ o x w f at unmet owner. (content_of o x w f at unmet owner).own unmet;
     stores = λ i s f d here is. stores_well i s here f d is;
     throws = throws_well;
   }

@@ -8,7 +8,6 @@ use Rattle.content_laws.specs.PlaceFacts.{AreCovered}
 use Rattle.content_laws.specs.Ranges.{AreInRange}
 use Rattle.content_laws.specs.Making.{AreBeingMade}
 use Rattle.content_laws.specs.Linking.{LinkedAreAliases, LinksReachAliased}
-use Rattle.content_laws.specs.Renewable.{KeepsTextsOut}
 use Rattle.content_laws.specs.Agreement.{Agree}
 use Rattle.content_laws.specs.Arguments.{HaveArguments}
 use Rattle.content_laws.specs.ClassValues.{HaveClasses}
@@ -17,7 +16,7 @@ use Rattle.content_laws.specs.Filled.{AreFilled}
 
 -- The frames and the heap agree with the facts of the flow rules, `this` stands where it is taken, no object stands where the static type is
 -- no class type, each object that is held is there, the places of frames are in facts that are true of what they hold, what is being made
--- is not finished, what is linked is an alias, of an argument that some method may take where no text stands there, fields hold what they own and calls on links lead to their ends, frames hold the arguments of their calls, an object of a class or null stands where the static
+-- is not finished, what is linked is an alias, of an argument that some method takes, fields hold what they own and calls on links lead to their ends, frames hold the arguments of their calls, an object of a class or null stands where the static
 -- type is under the class, exceptions on their way out stand in their temps, and constructors have stored what the owning fields of their objects hold.
 pub record Holds (p : Program) (c : Config) : Type 0 where
   pub agree : Agree p c
@@ -27,7 +26,7 @@ pub record Holds (p : Program) (c : Config) : Type 0 where
   pub covered : AreCovered p c.heap c.frames
   pub making : AreBeingMade p c.heap c.frames
   pub aliases : LinkedAreAliases p c.heap
-  pub reached : KeepsTextsOut p → LinksReachAliased p c.heap
+  pub reached : LinksReachAliased p c.heap
   pub fields : FieldsHold p c.frames c.heap
   pub arguments : HaveArguments p c.frames
   pub values : HaveClasses p c

@@ -18,30 +18,12 @@ use Rattle.java_control.specs.declared.action.Action.TheVariants as actions
 use Rattle.content_laws.specs.Paths.{Comes, Move, relation_of}
 use Rattle.content_laws.specs.PlainForms.{ResetsPlainly}
 
--- the expression reads an owning field
-abbrev pub is_owning_place : Program → Option ExpressionKind → Bool
-is_owning_place p (Some (expressions.Field e f)) = is_owning p f
-is_owning_place p k = false
-
--- the expression assigns an owning field by another operator than `=` (JLS 15.26.2, 15.14.2, 15.15.1); with an owning field, that is `+=` on one of type `String`
-abbrev pub updates_owning : Program → Body → ExpressionKind → Bool
-updates_owning p b (expressions.OperatorAssignment a) = is_owning_place p (kind_at b a.target)
-updates_owning p b (expressions.PostfixStep a) = is_owning_place p (kind_at b a.target)
-updates_owning p b k = false
-
-abbrev pub updates_owning_in : Program → Body → Bool
-updates_owning_in p b = list_any (λ (e : TExpr). updates_owning p b e.kind) b.expressions.items
-
--- some body does so
-abbrev pub updates_owning_fields : Program → Bool
-updates_owning_fields p = list_any (updates_owning_in p) p.bodies.items
-
 -- no method of the program or of the library creates an obligation anew
 abbrev pub creates_nothing : Program → Bool
 creates_nothing p = list_all (λ (m : Method). not (is_some m.sig.reset)) p.methods.items
 
 -- No method of a class with owning fields creates the obligation of `this` anew. Where a body calls a method that creates one anew, it does so plainly: for `this` only in a class without
--- owning fields, in a constructor behind no store into an owning field, and, in a program with owning fields, where these and the targets of such methods are of no type that a text may have.
+-- owning fields.
 pub record CreatesPlainly (p : Program) : Type 0 where
   pub bodies : (b : BodyId) → resets_this p b ≡ true → (f : FieldId) → has_field_place p b f ≡ false
   pub steps : (b : BodyId) {k : List Todo} (i : ℕ) (t : Move (List Todo)) → Comes (relation_of p b) k
@@ -54,5 +36,3 @@ pub record IsPlain (p : Program) : Type 0 where
       → slice_get ((relation_of p b).next k) i ≡ Some t → t.action ≡ actions.PutOwn f d → is_constructor p b ≡ true
   -- what creates obligations anew does so plainly
   pub creations : CreatesPlainly p
-  -- no owning field is assigned by another operator than `=`
-  pub updates : updates_owning_fields p ≡ false

@@ -21,6 +21,7 @@ use Rattle.ledger_state.specs.declared.object.Object.{Object}
 use Rattle.ledger_state.specs.declared.value.Value.TheVariants as values
 use Rattle.ledger_obligations.specs.Obligations.{is_held_by, is_unmet, resets_holder}
 use Rattle.content_laws.specs.Configuration.{Frame}
+use Rattle.content_laws.specs.FieldContents.{TopRunsAlone}
 use Rattle.content_laws.specs.Choosing.{frame_steps}
 use Rattle.ledger_steps.specs.Ends.{exception_class, thrown_in}
 use Rattle.ledger_steps.specs.InnerSteps.{is_bound}
@@ -53,7 +54,7 @@ pub record Supports (p : Program) (h : HeapContents) (fr : Frame) : Type 0 where
       → exception_class p h (thrown_in fr.locals q) ≡ Some c → constructs (method_at p fr.method) ≡ true → number_of fr.locals.this ≡ Some w
       → object_at h n ≡ Some x → is_unmet x ≡ true → is_held_by x.owner w ≡ true → ⊥
 
--- the top one of these frames
+-- the top one of these frames, which runs alone on what its constructor fills
 abbrev pub IsSupported : Program → HeapContents → List Frame → Type 0
 IsSupported p h [] = Unit {0}
-IsSupported p h (fr ∷ frs) = Supports p h fr
+IsSupported p h (fr ∷ frs) = Supports p h fr × TopRunsAlone p h (fr ∷ frs)

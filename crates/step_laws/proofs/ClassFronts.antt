@@ -1,5 +1,5 @@
 -- What an expression of a valid program becomes finds the values that it asks, where what follows the expression does.
-use Rattle.std.proofs.Common.{◌≡◌, ℕ, ◌+◌, ◌<◌, Bool, true, false, Option, Some, None, List, [], ◌∷◌, ◌++◌, IsSomeAnd, length, inl, inr, refl, sym, subst, arith, if◌then◌else◌}
+use Rattle.std.proofs.Common.{◌≡◌, ℕ, ◌+◌, ◌<◌, Bool, true, false, Option, Some, None, List, [], ◌∷◌, ◌++◌, IsSomeAnd, length, inl, inr, refl, sym, ◌∙◌, true≢false, subst, arith, if◌then◌else◌}
 use Rattle.program_model.specs.declared.kinds.BinaryOperator.{BinaryOperator}
 use Rattle.program_model.specs.declared.kinds.BinaryOperator.TheVariants as binary
 use Rattle.program_model.specs.declared.kinds.ExprId.{ExprId}
@@ -9,7 +9,9 @@ use Rattle.program_model.specs.declared.kinds.MethodId.{MethodId}
 use Rattle.program_model.specs.declared.kinds.MethodKind.TheVariants as methods
 use Rattle.program_model.specs.declared.kinds.UnaryOperator.{UnaryOperator}
 use Rattle.program_model.specs.declared.kinds.UnaryOperator.TheVariants as unary
+use Rattle.program_model.specs.declared.kinds.OperandType.TheVariants as operand_types
 use Rattle.program_model.specs.declared.kinds.VType.{VType}
+use Rattle.program_model.specs.declared.kinds.VType.TheVariants as types
 use Rattle.program_model.specs.declared.program.Method.{Method}
 use Rattle.program_model.specs.declared.program.ParamSig.{ParamSig}
 use Rattle.program_model.specs.declared.program.Program.{Program}
@@ -41,9 +43,10 @@ use Rattle.java_control.specs.declared.action.TargetForm.{TargetForm}
 use Rattle.java_control.specs.declared.action.TargetForm.TheVariants as forms
 use Rattle.java_control.specs.declared.place.Place.TheVariants as places
 use Rattle.step_laws.specs.Operands.{below, below_and_at, field_type, first_argument, params_of, put_at, result_of}
+use Rattle.step_laws.proofs.TextOperators.{text_operands}
 use Rattle.step_laws.proofs.TypeItems.{Within}
 use Rattle.step_laws.proofs.OperandTypes.{instance_type}
-use Rattle.step_laws.specs.ClassOperands.{FindsAside, FindsClass, HasFieldOfClass, IsNotAboveString, IsOfClass, IsNull, OfClass, TakesAll, TakesTarget, evaluated, own_type}
+use Rattle.step_laws.specs.ClassOperands.{FindsAside, FindsClass, GivesText, HasFieldOfClass, IsNotAboveString, IsOfClass, IsNull, OfClass, TakesAll, TakesTarget, UpdateFits, evaluated, own_type}
 use Rattle.step_laws.proofs.ClassItems.{all_evaluated, evaluations_find, evaluations_past, finds_more, in_three, past_more, past_three, under_all, under_next}
 use Rattle.step_laws.proofs.ClassTypes.{array_never, below_class, boolean_never, constant_class, element_never, fits_class, int_never, literal_null, new_class, numeric_never, operation_never, primitive_never, static_never, this_class, unary_never, update_never}
 
@@ -106,14 +109,19 @@ module _ (p : Program) (bound : ClassId) (typed : IsTypedProgram p) (own : IsNot
   operands_past : (es : List ExprId) (d : ℕ) (xs k : List Todo) (h : ℕ → Type 0) → FindsAside p bound b (xs ++ k) h → FindsAside p bound b ((evaluations es d ++ xs) ++ k) h
   operands_past es d xs k h past = past_three p bound b (evaluations es d) xs k h (evaluations_past p bound b es d (xs ++ k) h past)
 
-  computes_find : (o : Operator) (es : List ExprId) (d : ℕ) (pos : Pos) (k : List Todo) (h : ℕ → Type 0) → FindsClass p bound b k (below d h) → FindsAside p bound b k (below d h)
+  -- an operator that gives a text leaves it
+  gives_find : (o : Operator) (es : List ExprId) (d : ℕ) (pos : Pos) (k : List Todo) (h : ℕ → Type 0) → FindsClass p bound b k (below_and_at d (GivesText o) h) → FindsAside p bound b k (below d h)
       → FindsClass p bound b (computes o es d pos ++ k) h
-  computes_find o es d pos k h finds past =
+  gives_find o es d pos k h finds past =
       operands_find es d (Act (actions.Op o d (length es)) pos ∷ []) k h (
         tt,
-        finds_more p bound b k (below d h) (below d (all_evaluated p bound b es d h)) (below_more d h (all_evaluated p bound b es d h) (under_all p bound b es d h)) finds,
+        gives k d (GivesText o) (GivesText o) h (all_evaluated p bound b es d h) (λ text. text) (under_all p bound b es d h) finds,
         past_in k d h (all_evaluated p bound b es d h) (under_all p bound b es d h) past,
       ) past
+
+  computes_find : (o : Operator) (es : List ExprId) (d : ℕ) (pos : Pos) (k : List Todo) (h : ℕ → Type 0) → FindsClass p bound b k (below d h) → FindsAside p bound b k (below d h)
+      → FindsClass p bound b (computes o es d pos ++ k) h
+  computes_find o es d pos k h finds past = gives_find o es d pos k h (finds_more p bound b k (below d h) (below_and_at d (GivesText o) h) (λ x under. inl under) finds) past
 
   -- ---- fields
 
@@ -140,7 +148,7 @@ module _ (p : Program) (bound : ClassId) (typed : IsTypedProgram p) (own : IsNot
 
   store_finds : (e : ExprId) (f : FieldId) (value : ExprId) (t : VType) (d : ℕ) (pos : Pos) (k : List Todo) (h : ℕ → Type 0) → field_type p f ≡ Some t → typing.Fits p b value t
       → FindsClass p bound b k (below_and_at d (OfClass p bound (Some t)) h) → FindsAside p bound b k (below d h) → FindsClass p bound b (field_store p b e f value d pos ++ k) h
-  store_finds e f value t d pos k h is fits finds past = go (has_place p b e f)
+  store_finds e f value t d pos k h is fits finds past = go (is_this b e) (is_owning p f) (declares_field p b f) refl refl
     where
       value_none : OfClass p bound (Some t) → OfClass p bound (type_at b value)
       value_none none = fits_class p bound typed own b value t fits none
@@ -154,15 +162,26 @@ module _ (p : Program) (bound : ClassId) (typed : IsTypedProgram p) (own : IsNot
       under_both : Within (below d h) both
       under_both x under = inl (under_next p bound b e d h x under)
 
-      go : (x : Bool) → FindsClass p bound b ((if x then Ev value d ∷ Act (actions.PutOwn f d) pos ∷ [] else (Ev e d ∷ Ev value (d + 1) ∷ Act (actions.Put f d (is_this b e)) pos ∷ [])) ++ k) h
-      go true = ((λ none. inr (refl, takes_none none), gives k d (OfClass p bound (Some t)) (OfClass p bound (type_at b value)) h h value_none (λ x under. under.1) finds, tt), past)
-      go false = (
+      -- the store is into no owning field of `this` that the body's class declares
+      other_field : (this : Bool) → UpdateFits p b f this d both → FindsClass p bound b ((Ev e d ∷ Ev value (d + 1) ∷ Act (actions.Put f d this) pos ∷ []) ++ k) h
+      other_field this other = (
         (
-          (λ none. inr (refl, takes_none none), gives k d (OfClass p bound (Some t)) (both (d + 1)) h both (λ none. inr (refl, value_none none)) under_both finds, past_in k d h both under_both past),
+          (
+            (λ none. inr (refl, takes_none none), other),
+            gives k d (OfClass p bound (Some t)) (both (d + 1)) h both (λ none. inr (refl, value_none none)) under_both finds,
+            past_in k d h both under_both past,
+          ),
           past_next k e d h past,
         ),
         past,
       )
+
+      go : (x y z : Bool) → is_owning p f ≡ y → declares_field p b f ≡ z
+          → FindsClass p bound b ((if (if x then (if y then z else false) else false) then Ev value d ∷ Act (actions.PutOwn f d) pos ∷ [] else (Ev e d ∷ Ev value (d + 1) ∷ Act (actions.Put f d x) pos ∷ [])) ++ k) h
+      go true true true owning declared = ((λ none. inr (refl, takes_none none), gives k d (OfClass p bound (Some t)) (OfClass p bound (type_at b value)) h h value_none (λ x under. under.1) finds, tt), past)
+      go true true false owning declared = other_field true (λ own mine text. absurd (true≢false (sym mine ∙ declared)))
+      go true false z owning declared = other_field true (λ own mine text. absurd (true≢false (sym own ∙ owning)))
+      go false y z owning declared = other_field false tt
 
   -- ---- assignments
 
@@ -177,84 +196,115 @@ module _ (p : Program) (bound : ClassId) (typed : IsTypedProgram p) (own : IsNot
       computes_find operators.StoreElement (a ∷ i ∷ value ∷ []) d pos k h (plainly k d (IsOfClass p bound t) h h (element_never p bound b a i t is) (λ x under. under.1) finds) past
 
   -- what is stored stands in t(d), and goes to a place of another type
-  module _ (d : ℕ) (pos : Pos) (k : List Todo) (g : ℕ → Type 0) where
+  module _ (d : ℕ) (pos : Pos) (k : List Todo) (Made : Type 0) (h : ℕ → Type 0) where
+    abbrev g : ℕ → Type 0
+    g = below_and_at d Made h
+
     abbrev aside_copy : ℕ → Type 0
-    aside_copy = put_at (d + 1) (below d g d) (below d g)
+    aside_copy = put_at (d + 1) (g d) g
 
     abbrev both_copied : ℕ → Type 0
     both_copied = put_at d (OfClass p bound (own_type (method_at p b.method))) aside_copy
 
-    under_copies : Within (below d g) both_copied
-    under_copies x under =
-        inl (λ same. (let never : ⊥ = omega (arith, under.0, same) in never), inl (λ same. (let never : ⊥ = omega (arith, under.0, same) in never), under))
+    under_made : Within (below d h) g
+    under_made x under = inl under
 
-    beside : Within (below d g) (below_and_at d (both_copied (d + 1)) both_copied)
+    under_copies : Within (below d h) both_copied
+    under_copies x under =
+        inl (λ same. (let never : ⊥ = omega (arith, under.0, same) in never), inl (λ same. (let never : ⊥ = omega (arith, under.0, same) in never), inl under))
+
+    beside : Within (below d h) (below_and_at d (both_copied (d + 1)) both_copied)
     beside x under = inl (under.0, under_copies x under)
 
-    stored_finds : (j : ExpressionKind) (t : VType) → IsOwnPlace p b (Some j) t → (IsOfClass p bound t → ⊥) → FindsClass p bound b k (below d g) → FindsAside p bound b k (below d g) → FindsClass p bound b (stored_in j d pos ++ k) (below d g)
-    stored_finds (expressions.Local x) t is never finds past = (λ to. absurd (never (subst (OfClass p bound) is to)), finds, tt)
-    stored_finds (expressions.StaticField f) t is never finds past = (
-      tt,
-      finds_more p bound b k (below d g) (below d (below d g)) (twice d g) finds,
-      past_more p bound b k (below d g) (below d (below d g)) (twice d g) past,
-    )
-    stored_finds (expressions.Field e f) t is never finds past = (
+    past_copies : Within (below d h) (below d both_copied)
+    past_copies x under = (under.0, under_copies x under)
+
+    under_static : Within (below d h) (below_and_at d ⊥ g)
+    under_static x under = inl (under.0, inl under)
+
+    past_made : Within (below d h) (below d g)
+    past_made x under = (under.0, inl under)
+
+    stored_finds : (j : ExpressionKind) (t : VType) → IsOwnPlace p b (Some j) t → (IsOfClass p bound t → ⊥) → (t ≡ types.Str → Made) → FindsClass p bound b k (below d h) → FindsAside p bound b k (below d h) → FindsClass p bound b (stored_in j d pos ++ k) g
+    stored_finds (expressions.Local x) t is never made finds past = (λ to. absurd (never (subst (OfClass p bound) is to)), finds_more p bound b k (below d h) g under_made finds, tt)
+    stored_finds (expressions.StaticField f) t is never made finds past = (tt, finds_more p bound b k (below d h) (below_and_at d ⊥ g) under_static finds, past_more p bound b k (below d h) (below d g) past_made past)
+    stored_finds (expressions.Field e f) t is never made finds past = (
       tt,
       (
         tt,
         (
-          λ to. absurd (never (subst (OfClass p bound) (instance_type p b e f t is.1) to)),
-          finds_more p bound b k (below d g) (below_and_at d (both_copied (d + 1)) both_copied) beside finds,
-          past_in k d g both_copied under_copies past,
+          (λ to. absurd (never (subst (OfClass p bound) (instance_type p b e f t is.1) to)), text_goes),
+          finds_more p bound b k (below d h) (below_and_at d (both_copied (d + 1)) both_copied) beside finds,
+          past_more p bound b k (below d h) (below d both_copied) past_copies past,
         ),
         tt,
       ),
       tt,
     )
-    stored_finds (expressions.Literal l) t is never finds past = absurd is
-    stored_finds j t is never finds past = absurd is
-
-    stored_past : (j : ExpressionKind) (h : ℕ → Type 0) → FindsAside p bound b k h → FindsAside p bound b (stored_in j d pos ++ k) h
-    stored_past (expressions.Local x) h past = past
-    stored_past (expressions.StaticField f) h past = past
-    stored_past (expressions.Field e f) h past = past
-    stored_past (expressions.Literal l) h past = past
-    stored_past j h past = past
-
-    stored_find : (e : ExprId) (t : VType) → IsOwnPlace p b (kind_at b e) t → (IsOfClass p bound t → ⊥) → FindsClass p bound b k (below d g) → FindsAside p bound b k (below d g) → FindsClass p bound b (stored b e d pos ++ k) (below d g)
-    stored_find e t is never finds past = go (expression_at b e) is
       where
-        go : (x : Option TExpr) → IsOwnPlace p b (kind_in x) t → FindsClass p bound b (stored_at x d pos ++ k) (below d g)
+        -- the text that the operator has made stands in t(d), and is copied to t(d + 1)
+        text_goes : UpdateFits p b f true d both_copied
+        text_goes own mine text =
+            let same : Some t ≡ Some types.Str = sym (instance_type p b e f t is.1) ∙ text in
+            inl (other d, inr (refl, inr (refl, made (let one : t ≡ types.Str = cc in one))))
+    stored_finds (expressions.Literal l) t is never made finds past = absurd is
+    stored_finds j t is never made finds past = absurd is
+
+    stored_past : (j : ExpressionKind) (held : ℕ → Type 0) → FindsAside p bound b k held → FindsAside p bound b (stored_in j d pos ++ k) held
+    stored_past (expressions.Local x) held past = past
+    stored_past (expressions.StaticField f) held past = past
+    stored_past (expressions.Field e f) held past = past
+    stored_past (expressions.Literal l) held past = past
+    stored_past j held past = past
+
+    stored_find : (e : ExprId) (t : VType) → IsOwnPlace p b (kind_at b e) t → (IsOfClass p bound t → ⊥) → (t ≡ types.Str → Made) → FindsClass p bound b k (below d h) → FindsAside p bound b k (below d h) → FindsClass p bound b (stored b e d pos ++ k) g
+    stored_find e t is never made finds past = go (expression_at b e) is
+      where
+        go : (x : Option TExpr) → IsOwnPlace p b (kind_in x) t → FindsClass p bound b (stored_at x d pos ++ k) g
         go None is = absurd is
-        go (Some x) is = stored_finds x.kind t is never finds past
+        go (Some x) is = stored_finds x.kind t is never made finds past
 
-    stored_passed : (e : ExprId) (h : ℕ → Type 0) → FindsAside p bound b k h → FindsAside p bound b (stored b e d pos ++ k) h
-    stored_passed e h past = go (expression_at b e)
+    stored_passed : (e : ExprId) (held : ℕ → Type 0) → FindsAside p bound b k held → FindsAside p bound b (stored b e d pos ++ k) held
+    stored_passed e held past = go (expression_at b e)
       where
-        go : (x : Option TExpr) → FindsAside p bound b (stored_at x d pos ++ k) h
+        go : (x : Option TExpr) → FindsAside p bound b (stored_at x d pos ++ k) held
         go None = past
-        go (Some x) = stored_past x.kind h past
+        go (Some x) = stored_past x.kind held past
 
-  update_finds : (a : OperatorAssignment) (u : Option VType) (t : VType) (d : ℕ) (pos : Pos) (k : List Todo) (h : ℕ → Type 0) → IsOperatorAssignment p b a t → FindsClass p bound b k (below d h) → FindsAside p bound b k (below d h)
-      → FindsClass p bound b (update_front b a u d pos ++ k) h
-  update_finds a u t d pos k h is finds past =
+  -- what the operator gives is a text
+  abbrev Made : OperatorAssignment → Option VType → Type 0
+  Made a u = GivesText (operators.Binary a.operator a.operands (type_or_null u))
+
+  -- so it is where the place is of type `String`
+  abbrev UpdatesText : OperatorAssignment → VType → Option VType → Type 0
+  UpdatesText a t u = t ≡ types.Str → Made a u
+
+  update_text : (a : OperatorAssignment) (t : VType) → IsOperatorAssignment p b a t → UpdatesText a t (Some t)
+  update_text a t is text = go (text_operands p b a t is text) text
+    where
+      go : a.operands ≡ operand_types.Text → t ≡ types.Str → GivesText (operators.Binary a.operator a.operands t)
+      go operands same = rw (operands, same) tt
+
+  update_finds : (a : OperatorAssignment) (u : Option VType) (t : VType) (d : ℕ) (pos : Pos) (k : List Todo) (h : ℕ → Type 0) → IsOperatorAssignment p b a t → UpdatesText a t u → FindsClass p bound b k (below d h)
+      → FindsAside p bound b k (below d h) → FindsClass p bound b (update_front b a u d pos ++ k) h
+  update_finds a u t d pos k h is text finds past =
       in_three p bound b (computes (operators.Binary a.operator a.operands (type_or_null u)) (a.target ∷ a.value ∷ []) d pos) (stored b a.target d pos) k h
-      (computes_find (operators.Binary a.operator a.operands (type_or_null u)) (a.target ∷ a.value ∷ []) d pos (stored b a.target d pos ++ k) h
-      (stored_find d pos k h a.target t is.0 (update_never p bound b a t is) finds past) (stored_passed d pos k h a.target (below d h) past))
+      (gives_find (operators.Binary a.operator a.operands (type_or_null u)) (a.target ∷ a.value ∷ []) d pos (stored b a.target d pos ++ k) h
+      (stored_find d pos k (Made a u) h a.target t is.0 (update_never p bound b a t is) text finds past) (stored_passed d pos k (Made a u) h a.target (below d h) past))
 
-  postfix_finds : (a : OperatorAssignment) (u : Option VType) (t : VType) (d : ℕ) (pos : Pos) (k : List Todo) (h : ℕ → Type 0) → IsOperatorAssignment p b a t
+  postfix_finds : (a : OperatorAssignment) (u : Option VType) (t : VType) (d : ℕ) (pos : Pos) (k : List Todo) (h : ℕ → Type 0) → IsOperatorAssignment p b a t → UpdatesText a t u
       → FindsClass p bound b k (below d h) → FindsAside p bound b k (below d h) → FindsClass p bound b (postfix_front b a u d pos ++ k) h
-  postfix_finds a u t d pos k h is finds past =
+  postfix_finds a u t d pos k h is text finds past =
       in_three p bound b (Ev a.target d ∷ operation ++ store) drop k h
       (in_three p bound b (Ev a.target d ∷ operation) store (drop ++ k) h (
-        computes_find (operators.Binary a.operator a.operands (type_or_null u)) (a.target ∷ a.value ∷ []) (d + 1) pos (store ++ (drop ++ k)) value
-            (stored_find (d + 1) pos (drop ++ k) value a.target t is.0 (update_never p bound b a t is) (
+        gives_find (operators.Binary a.operator a.operands (type_or_null u)) (a.target ∷ a.value ∷ []) (d + 1) pos (store ++ (drop ++ k)) value
+            (stored_find (d + 1) pos (drop ++ k) (Made a u) value a.target t is.0 (update_never p bound b a t is) text (
               tt,
               finds_more p bound b k (below d h) (below (d + 1) (below (d + 1) value)) kept finds,
               tt,
             ) (past_next k a.target d h past))
-            (stored_passed (d + 1) pos (drop ++ k) value a.target (below (d + 1) value) (past_next k a.target d h past)),
-        operation_past (stored_passed (d + 1) pos (drop ++ k) value a.target (below d h) past),
+            (stored_passed (d + 1) pos (drop ++ k) (Made a u) value a.target (below (d + 1) value) (past_next k a.target d h past)),
+        operation_past (stored_passed (d + 1) pos (drop ++ k) (Made a u) value a.target (below d h) past),
       ))
     where
       operation : List Todo
@@ -414,8 +464,8 @@ module _ (p : Program) (bound : ClassId) (typed : IsTypedProgram p) (own : IsNot
   kind_finds (expressions.ReferenceCast x) e (Some t) d pos k h is finds past =
       ((tt, gives k d (IsOfClass p bound t) (IsOfClass p bound t) h (evaluated p bound b x d h) (λ to. to) (under_value p bound b x d h) finds, past_in k d h (evaluated p bound b x d h) (under_value p bound b x d h) past), past)
   kind_finds (expressions.Assignment x value) e (Some t) d pos k h is finds past = assignment_finds x value t d pos k h is.0 is.1 finds past
-  kind_finds (expressions.OperatorAssignment a) e (Some t) d pos k h is finds past = update_finds a (Some t) t d pos k h is (never_goes t d k h (update_never p bound b a t is) finds) past
-  kind_finds (expressions.PostfixStep a) e (Some t) d pos k h is finds past = postfix_finds a (Some t) t d pos k h is.2 (never_goes t d k h (numeric_never p bound t is.1) finds) past
+  kind_finds (expressions.OperatorAssignment a) e (Some t) d pos k h is finds past = update_finds a (Some t) t d pos k h is (update_text a t is) (never_goes t d k h (update_never p bound b a t is) finds) past
+  kind_finds (expressions.PostfixStep a) e (Some t) d pos k h is finds past = postfix_finds a (Some t) t d pos k h is.2 (update_text a t is.2) (never_goes t d k h (numeric_never p bound t is.1) finds) past
   kind_finds (expressions.NewObject n) e (Some t) d pos k h is finds past = new_finds n t d pos k h is finds past
   kind_finds (expressions.NewArray x) e (Some t) d pos k h is finds past = computes_find (operators.NewArray t) (x ∷ []) d pos k h (never_goes t d k h (array_never p bound t is.0) finds) past
   kind_finds (expressions.Element a i) e (Some t) d pos k h is finds past = computes_find operators.Element (a ∷ i ∷ []) d pos k h (never_goes t d k h (element_never p bound b a i t is) finds) past

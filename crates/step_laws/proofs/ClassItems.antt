@@ -1,8 +1,9 @@
 -- What is left of a body finds the values that it asks also where more temps are known to hold an object of the class or null.
-use Rattle.std.proofs.Common.{ℕ, ◌+◌, Option, List, [], ◌∷◌, ◌++◌, inl, inr, arith, sym, subst}
+use Rattle.std.proofs.Common.{ℕ, ◌+◌, Bool, true, false, Option, List, [], ◌∷◌, ◌++◌, inl, inr, arith, sym, subst}
 use Rattle.std.proofs.lemmas.List.{append_assoc}
 use Rattle.program_model.specs.declared.kinds.ClassId.{ClassId}
 use Rattle.program_model.specs.declared.kinds.ExprId.{ExprId}
+use Rattle.program_model.specs.declared.kinds.FieldId.{FieldId}
 use Rattle.program_model.specs.declared.kinds.VType.{VType}
 use Rattle.program_model.specs.declared.program.ParamSig.{ParamSig}
 use Rattle.program_model.specs.declared.program.Program.{Program}
@@ -22,7 +23,7 @@ use Rattle.java_control.specs.Expressions.{evaluations}
 use Rattle.java_control.specs.Remaining.{Todo, Todos, nil, cons, todos, Do, Ev, Act, Cond, NullFork, BoolFork, LoopEnd, For, Leave, Catch, Fin, Close, Finish, Supp, Out, Ended}
 use Rattle.step_laws.specs.Operands.{below, below_and_at, dropped, leaves_names, moved, passes, put_at, rests, throws_past}
 use Rattle.step_laws.proofs.TypeItems.{Within, more_below}
-use Rattle.step_laws.specs.ClassOperands.{CopyFits, FindsAside, FindsClass, Fits, GivesClass, GivesHeld, GivesOwnType, ItemFits, ItemsAside, ItemsFit, Returns, TakesAll, TakesTarget, after, copied, evaluated, made_at}
+use Rattle.step_laws.specs.ClassOperands.{CopyFits, FindsAside, FindsClass, Fits, GivesClass, GivesHeld, GivesOwnType, ItemFits, ItemsAside, ItemsFit, Returns, TakesAll, TakesTarget, UpdateFits, after, copied, evaluated, made_at}
 
 -- ---- more temps
 
@@ -79,7 +80,7 @@ module _ (p : Program) (bound : ClassId) (b : Body) where
   more_after (actions.Settle d c) g h more x held = more_at d _ _ g h (more_ended c g h more) more x held
   more_after (actions.Enter clause y d k) g h more x held = more_below d g h more x held
   more_after (actions.Test d) g h more x held = more_below d g h more x held
-  more_after (actions.Op k d n) g h more x held = more_below d g h more x held
+  more_after (actions.Op k d n) g h more x held = more_at d _ _ g h (λ none. none) more x held
   more_after (actions.Get f d this) g h more x held = more_at d _ _ g h (λ none. none) more x held
   more_after (actions.Put f d this) g h more x held = more_at d _ _ g h (more (d + 1)) more x held
   more_after (actions.Cast t d) g h more x held = more_at d _ _ g h (λ none. none) more x held
@@ -114,13 +115,17 @@ module _ (p : Program) (bound : ClassId) (b : Body) where
   more_target forms.Static t d g h more takes = tt
   more_target form t d g h more takes = tt
 
+  more_update : (f : FieldId) (this : Bool) (d : ℕ) (g h : ℕ → Type 0) → Within g h → UpdateFits p b f this d g → UpdateFits p b f this d h
+  more_update f true d g h more fits = λ own declared text. more (d + 1) (fits own declared text)
+  more_update f false d g h more fits = tt
+
   more_fits : (a : Action) (g h : ℕ → Type 0) → Within g h → Fits p bound b a g → Fits p bound b a h
   more_fits actions.Skip g h more fits = tt
   more_fits (actions.Copy x y) g h more fits = more_copy x y g h more fits
   more_fits (actions.Move x y) g h more fits = more_copy x y g h more fits
   more_fits (actions.Plain x v) g h more fits = fits
   more_fits (actions.Enter clause x d k) g h more fits = fits
-  more_fits (actions.Put f d this) g h more fits = λ none. more (d + 1) (fits none)
+  more_fits (actions.Put f d this) g h more fits = ((λ none. more (d + 1) (fits.0 none)), more_update f this d g h more fits.1)
   more_fits (actions.PutOwn f d) g h more fits = λ none. more d (fits none)
   more_fits (actions.Call m d n form) g h more fits = (more_all _ _ g h more fits.0, more_target form _ d g h more fits.1)
   more_fits (actions.New m d n) g h more fits = more_all _ _ g h more fits

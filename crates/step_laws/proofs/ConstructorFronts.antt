@@ -74,42 +74,42 @@ module _ (p : Program) (b : Body) where
       go true = ((tt, tt), tt)
       go false = (tt, ((tt, tt), tt))
 
-  good_field_store : (e : ExprId) (f : FieldId) (value : ExprId) (d : ℕ) (pos : Pos) → (has_place p b e f ≡ false → IsFieldAssigned p b f) → AllGood p b (field_store p b e f value d pos)
+  good_field_store : (e : ExprId) (f : FieldId) (value : ExprId) (d : ℕ) (pos : Pos) → (has_place p b e f ≡ false → IsFieldAssigned p b f (is_this b e)) → AllGood p b (field_store p b e f value d pos)
   good_field_store e f value d pos assigned = go (is_this b e) (is_owning p f) (declares_field p b f) refl refl assigned
     where
-      go : (x y z : Bool) → is_owning p f ≡ y → declares_field p b f ≡ z → ((if x then (if y then z else false) else false) ≡ false → IsFieldAssigned p b f)
+      go : (x y z : Bool) → is_owning p f ≡ y → declares_field p b f ≡ z → ((if x then (if y then z else false) else false) ≡ false → IsFieldAssigned p b f (is_this b e))
           → AllGood p b (if (if x then (if y then z else false) else false) then Ev value d ∷ Act (actions.PutOwn f d) pos ∷ [] else (Ev e d ∷ Ev value (d + 1) ∷ Act (actions.Put f d (is_this b e)) pos ∷ []))
       go true true true owning declared assigned' = (tt, ((tt, (owning, declared)), tt))
       go true true false owning declared assigned' = (tt, (tt, ((tt, assigned' refl), tt)))
       go true false z owning declared assigned' = (tt, (tt, ((tt, assigned' refl), tt)))
       go false y z owning declared assigned' = (tt, (tt, ((tt, assigned' refl), tt)))
 
-  good_assignment : (x : AssignmentTarget) (value : ExprId) (d : ℕ) (pos : Pos) → ((f : FieldId) → IsOtherField p b f x → IsFieldAssigned p b f) → AllGood p b (assignment_front p b x value d pos)
+  good_assignment : (x : AssignmentTarget) (value : ExprId) (d : ℕ) (pos : Pos) → ((f : FieldId) (this : Bool) → IsOtherField p b f x → IsFieldAssigned p b f this) → AllGood p b (assignment_front p b x value d pos)
   good_assignment (targets.Local x) value d pos assigned = (tt, ((tt, tt), tt))
-  good_assignment (targets.Field e f) value d pos assigned = good_field_store e f value d pos (λ other. assigned f (refl, other))
+  good_assignment (targets.Field e f) value d pos assigned = good_field_store e f value d pos (λ other. assigned f (is_this b e) (refl, other))
   good_assignment (targets.StaticField f) value d pos assigned = good_computes (operators.StoreStatic f) (value ∷ []) d pos
   good_assignment (targets.Element a i) value d pos assigned = good_computes operators.StoreElement (a ∷ i ∷ value ∷ []) d pos
 
-  good_stored_in : (k : ExpressionKind) (d : ℕ) (pos : Pos) → ((f : FieldId) → IsOfField f (Some k) → IsFieldAssigned p b f) → AllGood p b (stored_in k d pos)
+  good_stored_in : (k : ExpressionKind) (d : ℕ) (pos : Pos) → ((f : FieldId) → IsOfField f (Some k) → IsFieldAssigned p b f true) → AllGood p b (stored_in k d pos)
   good_stored_in (expressions.Literal l) d pos assigned = tt
   good_stored_in (expressions.Local x) d pos assigned = ((tt, tt), tt)
   good_stored_in (expressions.StaticField f) d pos assigned = ((tt, tt), tt)
   good_stored_in (expressions.Field e f) d pos assigned = ((tt, tt), ((tt, tt), ((tt, assigned f refl), tt)))
   good_stored_in k d pos assigned = tt
 
-  good_stored : (target : ExprId) (d : ℕ) (pos : Pos) → ((f : FieldId) → IsOfField f (kind_at b target) → IsFieldAssigned p b f) → AllGood p b (stored b target d pos)
+  good_stored : (target : ExprId) (d : ℕ) (pos : Pos) → ((f : FieldId) → IsOfField f (kind_at b target) → IsFieldAssigned p b f true) → AllGood p b (stored b target d pos)
   good_stored target d pos assigned = go (expression_at b target) assigned
     where
-      go : (x : Option TExpr) → ((f : FieldId) → IsOfField f (kind_in x) → IsFieldAssigned p b f) → AllGood p b (stored_at x d pos)
+      go : (x : Option TExpr) → ((f : FieldId) → IsOfField f (kind_in x) → IsFieldAssigned p b f true) → AllGood p b (stored_at x d pos)
       go None assigned' = tt
       go (Some x) assigned' = good_stored_in x.kind d pos assigned'
 
-  good_update : (a : OperatorAssignment) (u : Option VType) (d : ℕ) (pos : Pos) → ((f : FieldId) → IsOfField f (kind_at b a.target) → IsFieldAssigned p b f) → AllGood p b (update_front b a u d pos)
+  good_update : (a : OperatorAssignment) (u : Option VType) (d : ℕ) (pos : Pos) → ((f : FieldId) → IsOfField f (kind_at b a.target) → IsFieldAssigned p b f true) → AllGood p b (update_front b a u d pos)
   good_update a u d pos assigned =
       good_both p b (computes (operators.Binary a.operator a.operands (type_or_null u)) (a.target ∷ a.value ∷ []) d pos) (stored b a.target d pos)
       (good_computes (operators.Binary a.operator a.operands (type_or_null u)) (a.target ∷ a.value ∷ []) d pos) (good_stored a.target d pos assigned)
 
-  good_postfix : (a : OperatorAssignment) (u : Option VType) (d : ℕ) (pos : Pos) → ((f : FieldId) → IsOfField f (kind_at b a.target) → IsFieldAssigned p b f) → AllGood p b (postfix_front b a u d pos)
+  good_postfix : (a : OperatorAssignment) (u : Option VType) (d : ℕ) (pos : Pos) → ((f : FieldId) → IsOfField f (kind_at b a.target) → IsFieldAssigned p b f true) → AllGood p b (postfix_front b a u d pos)
   good_postfix a u d pos assigned =
       good_both p b (Ev a.target d ∷ computes (operators.Binary a.operator a.operands (type_or_null u)) (a.target ∷ a.value ∷ []) (d + 1) pos ++ stored b a.target (d + 1) pos)
       (Act (actions.Drop (scopes.Temp (d + 1))) pos ∷ [])
@@ -167,7 +167,7 @@ module _ (p : Program) (b : Body) where
   good_binary o x e t d pos = good_computes (operators.Binary x.operator x.operands (type_or_null t)) (x.left ∷ x.right ∷ []) d pos
 
   -- an expression of a type, or a call of none
-  pub good_expression : (k : ExpressionKind) (e : ExprId) (t : Option VType) (d : ℕ) (pos : Pos) → IsOfOptionalType p b k t → ((f : FieldId) → AssignsField p b f k → IsFieldAssigned p b f) → AllGood p b (expression_front k p b e t d pos)
+  pub good_expression : (k : ExpressionKind) (e : ExprId) (t : Option VType) (d : ℕ) (pos : Pos) → IsOfOptionalType p b k t → ((f : FieldId) (this : Bool) → AssignsField p b f this k → IsFieldAssigned p b f this) → AllGood p b (expression_front k p b e t d pos)
   good_expression (expressions.Call c) e None d pos is assigned = good_call_with c.method c.arguments.items c.target d pos (called c None is)
   good_expression (expressions.Literal l) e None d pos is assigned = absurd is
   good_expression k e None d pos is assigned = absurd is
@@ -184,8 +184,8 @@ module _ (p : Program) (b : Body) where
   good_expression (expressions.PrimitiveCast x) e (Some t) d pos is assigned = good_computes (operators.Convert t) (x ∷ []) d pos
   good_expression (expressions.ReferenceCast x) e (Some t) d pos is assigned = (tt, ((tt, tt), tt))
   good_expression (expressions.Assignment x value) e (Some t) d pos is assigned = good_assignment x value d pos assigned
-  good_expression (expressions.OperatorAssignment a) e (Some t) d pos is assigned = good_update a (Some t) d pos assigned
-  good_expression (expressions.PostfixStep a) e (Some t) d pos is assigned = good_postfix a (Some t) d pos assigned
+  good_expression (expressions.OperatorAssignment a) e (Some t) d pos is assigned = good_update a (Some t) d pos (λ f is'. assigned f true (is', refl))
+  good_expression (expressions.PostfixStep a) e (Some t) d pos is assigned = good_postfix a (Some t) d pos (λ f is'. assigned f true (is', refl))
   good_expression (expressions.Call c) e (Some t) d pos is assigned = good_call_with c.method c.arguments.items c.target d pos (called c (Some t) is)
   good_expression (expressions.NewObject n) e (Some t) d pos is assigned = good_new n t d pos is
   good_expression (expressions.NewArray x) e (Some t) d pos is assigned = good_computes (operators.NewArray t) (x ∷ []) d pos

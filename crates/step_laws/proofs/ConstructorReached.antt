@@ -77,7 +77,7 @@ module _ (p : Program) (b : Body) (n : BodyId) (valid : IsValidBody p n b) where
 
   in_expression : (e : ExprId) (d : ℕ) (x : Option TExpr) (k : List Todo) → expression_at b e ≡ x → AllGood p b k → AllLeaveGood p b (expression_ways p b e d x k)
   in_expression e d None k at good = tt
-  in_expression e d (Some x) k at good = (((tt, tt), good_both p b _ k (good_expression p b x.kind e x.vtype d x.pos (valid.expressions e x at).typed (λ f assigns. (e, known b e x (λ y. AssignsField p b f y.kind) at assigns))) good), tt)
+  in_expression e d (Some x) k at good = (((tt, tt), good_both p b _ k (good_expression p b x.kind e x.vtype d x.pos (valid.expressions e x at).typed (λ f this assigns. (e, known b e x (λ y. AssignsField p b f this y.kind) at assigns))) good), tt)
 
   in_loop : (w : StmtId) (d : ℕ) (x : Option TStmt) (k : List Todo) → AllGood p b k → AllLeaveGood p b (loop_ways b w d x k)
   in_loop w d None k good = tt

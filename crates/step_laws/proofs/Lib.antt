@@ -33,7 +33,8 @@ pub mod TypeConditions
 pub mod TypeFronts
 pub mod TypeStatements
 pub mod TypeWays
-mod Root
+pub mod Root
+mod TextOperators
 pub mod ClassItems
 pub mod ClassTypes
 pub mod ClassConditions

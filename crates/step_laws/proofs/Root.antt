@@ -161,6 +161,10 @@ module _ (p : Program) (typed : IsTypedProgram p) where
       absurd (let some = own.1 in omega (arith, some, few))
   all_under (suc m) c k at few = under_step m c k at (all_under m) few
 
+  -- each class of the table does so
+  pub each_under_object : (c : ClassId) (k : Class) → class_at p c ≡ Some k → IsUnder p c p.core.object
+  each_under_object c k at = all_under (length k.above.items) c k at (omega arith)
+
   -- `String` is there, so it does
   pub string_under_object : IsUnder p p.core.string p.core.object
   string_under_object = go (class_at p p.core.string) refl typed.core.string

@@ -1,12 +1,13 @@
 -- Where objects of a class `bound` stand while a body runs: an expression whose static type is under the class gives an object of the class or null,
 -- and a variable, a field and a result of such a type take nothing else (JLS 4.10.2, 5.2, 14.17, 14.18, 14.20, 15.8.3, 15.9.4, 15.12.2, 15.26).
 pub use Rattle.step_laws.specs.Operands.{below_and_at, dropped, field_type, moved, params_of, result_of, thrown_after, type_of_field}
-use Rattle.std.specs.Prelude.{◌≡◌, ℕ, ◌+◌, true, false, Option, Some, None, List, [], ◌∷◌, slice_get}
+use Rattle.std.specs.Prelude.{◌≡◌, ℕ, ◌+◌, Bool, true, false, Option, Some, None, List, [], ◌∷◌, slice_get}
 use Rattle.program_model.specs.declared.kinds.ClassId.{ClassId}
 use Rattle.program_model.specs.declared.kinds.ExprId.{ExprId}
 use Rattle.program_model.specs.declared.kinds.FieldId.{FieldId}
 use Rattle.program_model.specs.declared.kinds.Literal.{Literal}
 use Rattle.program_model.specs.declared.kinds.Literal.TheVariants as literals
+use Rattle.program_model.specs.declared.kinds.OperandType.TheVariants as operand_types
 use Rattle.program_model.specs.declared.kinds.VType.{VType}
 use Rattle.program_model.specs.declared.kinds.VType.TheVariants as types
 use Rattle.program_model.specs.declared.program.Method.{Method}
@@ -24,6 +25,8 @@ use Rattle.java_control.specs.declared.action.Completion.{Completion}
 use Rattle.java_control.specs.declared.action.Completion.TheVariants as completions
 use Rattle.java_control.specs.declared.action.Edge.{Edge}
 use Rattle.java_control.specs.declared.action.Edge.TheVariants as edges
+use Rattle.java_control.specs.declared.action.Operator.{Operator}
+use Rattle.java_control.specs.declared.action.Operator.TheVariants as operators
 use Rattle.java_control.specs.declared.action.PlainValue.{PlainValue}
 use Rattle.java_control.specs.declared.action.PlainValue.TheVariants as plain
 use Rattle.java_control.specs.declared.action.TargetForm.{TargetForm}
@@ -111,13 +114,24 @@ Returns p bound b c held = Unit {0}
 abbrev pub EntersClause : Body → ClauseId → ℕ → Type 0
 EntersClause b clause x = (z : CatchClause) → slice_get (clauses_in (statement_at b clause.statement)) clause.index ≡ Some z → z.variable ≡ x
 
+-- The operator is that of texts (JLS 15.18.1), so its result is a text.
+abbrev pub GivesText : Operator → Type 0
+GivesText (operators.Binary o operand_types.Text types.Str) = Unit {0}
+GivesText o = ⊥
+
+-- An owning field of `this` that the body's class declares is stored so by another operator than `=` alone: where it is of type `String`, it takes a text
+-- that the operator has made (JLS 15.26.2), which may stand for null as well as for an object of the class.
+abbrev pub UpdateFits : Program → Body → FieldId → Bool → ℕ → (ℕ → Type 0) → Type 0
+UpdateFits p b f true d held = is_owning p f ≡ true → declares_field p b f ≡ true → field_type p f ≡ Some types.Str → held (d + 1)
+UpdateFits p b f false d held = Unit {0}
+
 -- What is thrown is of a class under `Throwable`, or null (JLS 14.18): so it is an object of the class or null where `Throwable` is under that.
 abbrev pub Fits : Program → ClassId → Body → Action → (ℕ → Type 0) → Type 0
 Fits p bound b (actions.Copy x y) held = CopyFits p bound b x y held
 Fits p bound b (actions.Move x y) held = CopyFits p bound b x y held
 Fits p bound b (actions.Plain x v) held = PlainFits p bound b x v
 Fits p bound b (actions.Enter clause x d k) held = EntersClause b clause x
-Fits p bound b (actions.Put f d through_this) held = Takes p bound (field_type p f) (d + 1) held
+Fits p bound b (actions.Put f d through_this) held = Takes p bound (field_type p f) (d + 1) held × UpdateFits p b f through_this d held
 Fits p bound b (actions.PutOwn f d) held = Takes p bound (field_type p f) d held
 Fits p bound b (actions.Call m d n form) held = TakesAll p bound (params_of (method_at p m)) (first_argument form d) held × TakesTarget p bound form (own_type (method_at p m)) d held
 Fits p bound b (actions.New m d n) held = TakesAll p bound (params_of (method_at p m)) (d + 1) held
@@ -163,7 +177,7 @@ after p bound b (actions.Drop x) held = dropped x held
 after p bound b (actions.Settle d c) held = below_and_at d (GivesHeld c held) held
 after p bound b (actions.Enter clause x d k) held = below d held
 after p bound b (actions.Test d) held = below d held
-after p bound b (actions.Op k d n) held = below d held
+after p bound b (actions.Op k d n) held = below_and_at d (GivesText k) held
 after p bound b (actions.Get f d through_this) held = below_and_at d (OfClass p bound (field_type p f)) held
 after p bound b (actions.Put f d through_this) held = below_and_at d (held (d + 1)) held
 after p bound b (actions.Cast t d) held = below_and_at d (IsOfClass p bound t) held

@@ -1,5 +1,5 @@
 -- Steps that have their place: calls on objects and of super constructors, objects that are made, and stores into fields.
-use Rattle.std.specs.Prelude.{◌≡◌, true, false, Option, Some, IsSomeAnd, Contains}
+use Rattle.std.specs.Prelude.{◌≡◌, Bool, true, false, Option, Some, IsSomeAnd, Contains}
 use Rattle.program_model.specs.declared.kinds.ExprId.{ExprId}
 use Rattle.program_model.specs.declared.kinds.FieldId.{FieldId}
 use Rattle.program_model.specs.declared.kinds.MethodId.{MethodId}
@@ -68,19 +68,19 @@ abbrev pub IsOtherField : Program → Body → FieldId → AssignmentTarget → 
 IsOtherField p b f (targets.Field e g) = (g ≡ f) × (has_place p b e g ≡ false)
 IsOtherField p b f x = ⊥
 
--- The expression assigns the field: by `=`, where it is no owning field of `this` that the body's class declares, or by another operator
--- (JLS 15.26, 15.14.2, 15.15.1).
-abbrev pub AssignsField : Program → Body → FieldId → ExpressionKind → Type 0
-AssignsField p b f (expressions.Assignment x value) = IsOtherField p b f x
-AssignsField p b f (expressions.OperatorAssignment a) = IsOfField f (kind_at b a.target)
-AssignsField p b f (expressions.PostfixStep a) = IsOfField f (kind_at b a.target)
-AssignsField p b f k = ⊥
+-- The expression assigns the field, of `this` or of another object: by `=`, where it is no owning field of `this` that the body's class declares, or, of `this`
+-- alone, by another operator (JLS 15.26, 15.14.2, 15.15.1).
+abbrev pub AssignsField : Program → Body → FieldId → Bool → ExpressionKind → Type 0
+AssignsField p b f through_this (expressions.Assignment x value) = IsOtherField p b f x
+AssignsField p b f through_this (expressions.OperatorAssignment a) = IsOfField f (kind_at b a.target) × (through_this ≡ true)
+AssignsField p b f through_this (expressions.PostfixStep a) = IsOfField f (kind_at b a.target) × (through_this ≡ true)
+AssignsField p b f through_this k = ⊥
 
 -- an expression of the body assigns the field
-abbrev pub IsFieldAssigned : Program → Body → FieldId → Type 0
-IsFieldAssigned p b f = (e : ExprId) × IsSomeAnd (expression_at b e) (λ x. AssignsField p b f x.kind)
+abbrev pub IsFieldAssigned : Program → Body → FieldId → Bool → Type 0
+IsFieldAssigned p b f through_this = (e : ExprId) × IsSomeAnd (expression_at b e) (λ x. AssignsField p b f through_this x.kind)
 
--- a field that is stored, other than as an owning field of `this` in its class, is one that an expression of the body assigns
+-- a field that is stored, other than by `=` as an owning field of `this` in its class, is one that an expression of the body assigns
 abbrev pub StoresAssignedField : Program → Body → Action → Type 0
-StoresAssignedField p b (actions.Put f d this) = IsFieldAssigned p b f
+StoresAssignedField p b (actions.Put f d through_this) = IsFieldAssigned p b f through_this
 StoresAssignedField p b a = Unit {0}

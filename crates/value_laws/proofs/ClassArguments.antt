@@ -12,6 +12,7 @@ use Rattle.program_model.specs.Lookups.{method_at}
 use Rattle.program_model.specs.SuperTests.{is_under}
 use Rattle.java_control.specs.Calls.{called_method, temp_at}
 use Rattle.java_control.specs.Control.{Step}
+use Rattle.java_control.specs.Owned.{declares_field, is_owning}
 use Rattle.java_control.specs.declared.action.Action.{Action}
 use Rattle.java_control.specs.declared.action.Action.TheVariants as actions
 use Rattle.java_control.specs.declared.action.TargetForm.{TargetForm}
@@ -56,6 +57,10 @@ module _ (p : Program) (bound : ClassId) (ac : Accept p) (own : IsNotAboveString
   -- what is stored into an owning field
   pub stored_fits : (f : FieldId) (d : ℕ) → s.action ≡ actions.PutOwn f d → OfClass p bound (field_type p f) → FitsClass p bound h (temp_value fr.locals d)
   stored_fits f d is to = subst (λ (a : Action). Fits p bound keeps.body a (temp_fits_class p bound h fr.locals)) is asks to
+
+  -- what another operator than `=` stores into an owning field of type `String`
+  pub updated_fits : (f : FieldId) (d : ℕ) → s.action ≡ actions.Put f d true → is_owning p f ≡ true → declares_field p keeps.body f ≡ true → field_type p f ≡ Some types.Str → FitsClass p bound h (temp_value fr.locals (d + 1))
+  updated_fits f d is own declared text = (subst (λ (a : Action). Fits p bound keeps.body a (temp_fits_class p bound h fr.locals)) is asks).1 own declared text
 
   module _ (named : MethodId) (x : Method) (named_at : method_at p named ≡ Some x) (called : called_method s.action ≡ Some named) where
     -- the argument of a parameter

@@ -100,7 +100,7 @@ into_fits p bound K (Some w) f v none = none
 
 store_fits : (p : Program) (bound : ClassId) (K : HeapContents) (b : Body) (l : Locals) (a : Action) → Fits p bound b a (temp_fits_class p bound K l) → StoreFits p bound K (store_of l a)
 store_fits p bound K b l (actions.PutOwn f d) fits = into_fits p bound K (number_of l.this) f (temp_value l d) fits
-store_fits p bound K b l (actions.Put f d this) fits = into_fits p bound K (number_of (temp_value l d)) f (temp_value l (d + 1)) fits
+store_fits p bound K b l (actions.Put f d this) fits = into_fits p bound K (number_of (temp_value l d)) f (temp_value l (d + 1)) fits.0
 store_fits p bound K b l actions.Skip fits = tt
 store_fits p bound K b l a fits = tt
 

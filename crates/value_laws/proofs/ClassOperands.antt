@@ -2,6 +2,7 @@
 use Rattle.std.proofs.Common.{◌≡◌, sym, subst, arith, ℕ, zero, suc, ◌+◌, ◌<◌, Bool, true, false, ◌&&◌, Option, Some, None, List, [], ◌∷◌, if◌then◌else◌, inl, inr}
 use Rattle.std.specs.Prelude.{nat_le, nat_lt, slice_get}
 use Rattle.program_model.specs.declared.kinds.ClassId.{ClassId}
+use Rattle.program_model.specs.declared.kinds.FieldId.{FieldId}
 use Rattle.program_model.specs.declared.kinds.MethodId.{MethodId}
 use Rattle.program_model.specs.declared.kinds.VType.{VType}
 use Rattle.program_model.specs.declared.kinds.VType.TheVariants as types
@@ -34,7 +35,7 @@ use Rattle.ledger_steps.specs.LedgerCallsCalls.{operand_of}
 use Rattle.ledger_steps.specs.Conducts.{result_in}
 use Rattle.ledger_steps.specs.Ends.{default_result, result_value, thrown_in}
 use Rattle.dispatch_laws.specs.ClassOperands.{below_and_at, dropped, moved, params_of, result_of, thrown_after}
-use Rattle.dispatch_laws.specs.ClassOperands.{CopyFits, Fits, GivesClass, IsOfClass, OfClass, Returns, TakesAll, TakesTarget, after, copied, left_held, made_at}
+use Rattle.dispatch_laws.specs.ClassOperands.{CopyFits, Fits, GivesClass, IsOfClass, OfClass, Returns, TakesAll, TakesTarget, UpdateFits, after, copied, left_held, made_at}
 use Rattle.value_laws.specs.Values.{FitsClass, temp_fits_class}
 use Rattle.value_laws.specs.Origins.{ComesFromClass, MakesClass, TakesClass}
 use Rattle.value_laws.specs.ClassValues.{fits_class_at}
@@ -78,7 +79,7 @@ small_after p bound K b (actions.Drop s) l x small has = small_dropped p bound K
 small_after p bound K b (actions.Settle d c) l x small has = small_at p bound K d _ l x small.0 has
 small_after p bound K b (actions.Enter clause y d k) l x small has = has.1.0
 small_after p bound K b (actions.Test d) l x small has = has.1.0
-small_after p bound K b (actions.Op k d n) l x small has = has.1.0
+small_after p bound K b (actions.Op k d n) l x small has = small_at p bound K d _ l x small.0 has
 small_after p bound K b (actions.Get f d this) l x small has = small_at p bound K d _ l x small has
 small_after p bound K b (actions.Put f d this) l x small has = small_at p bound K d _ l x (let low : d < 64 = omega (arith, small) in low) has
 small_after p bound K b (actions.Cast t d) l x small has = small_at p bound K d _ l x small has
@@ -146,13 +147,17 @@ target_here p bound K l forms.Super t d takes = λ to. (takes to).1
 target_here p bound K l forms.Static t d takes = tt
 target_here p bound K l form t d takes = tt
 
+update_here : (p : Program) (bound : ClassId) (K : HeapContents) (b : Body) (l : Locals) (f : FieldId) (this : Bool) (d : ℕ) → UpdateFits p b f this d (fits_class_at p bound K l) → UpdateFits p b f this d (temp_fits_class p bound K l)
+update_here p bound K b l f true d fits = λ own declared text. (fits own declared text).1
+update_here p bound K b l f false d fits = tt
+
 pub fits_here : (p : Program) (bound : ClassId) (K : HeapContents) (b : Body) (l : Locals) (a : Action) → Fits p bound b a (fits_class_at p bound K l) → Fits p bound b a (temp_fits_class p bound K l)
 fits_here p bound K b l actions.Skip fits = tt
 fits_here p bound K b l (actions.Copy x y) fits = copy_here p bound K b l x y fits
 fits_here p bound K b l (actions.Move x y) fits = copy_here p bound K b l x y fits
 fits_here p bound K b l (actions.Plain x v) fits = fits
 fits_here p bound K b l (actions.Enter clause x d k) fits = fits
-fits_here p bound K b l (actions.Put f d this) fits = λ none. (fits none).1
+fits_here p bound K b l (actions.Put f d this) fits = ((λ none. (fits.0 none).1), update_here p bound K b l f this d fits.1)
 fits_here p bound K b l (actions.PutOwn f d) fits = λ none. (fits none).1
 fits_here p bound K b l (actions.Call m d n form) fits = (all_here p bound K l _ _ fits.0, target_here p bound K l form _ d fits.1)
 fits_here p bound K b l (actions.New m d n) fits = all_here p bound K l _ _ fits

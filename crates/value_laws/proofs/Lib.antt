@@ -20,6 +20,7 @@ mod ClassBegun
 mod Made
 pub mod ClassLaws
 pub mod ClassArguments
+pub mod TextValues
 pub mod GivenValues
 pub mod Fronts
 pub mod Statements
@@ -96,6 +97,7 @@ pub use Rattle.frame_laws.proofs.Resetting
 pub use Rattle.frame_laws.proofs.Results
 pub use Rattle.dispatch_laws.proofs.Returned
 pub use Rattle.frame_laws.proofs.Returns
+pub use Rattle.dispatch_laws.proofs.Root
 pub use Rattle.dispatch_laws.proofs.RootLaws
 pub use Rattle.dispatch_laws.proofs.SetLaws
 pub use Rattle.frame_laws.proofs.SignedPromises

@@ -6,6 +6,7 @@ use Rattle.program_model.specs.declared.kinds.ClassId.{ClassId}
 use Rattle.program_model.specs.declared.kinds.Literal.{Literal}
 use Rattle.program_model.specs.declared.kinds.Literal.TheVariants as literals
 use Rattle.program_model.specs.declared.kinds.MethodId.{MethodId}
+use Rattle.program_model.specs.declared.kinds.OperandType.TheVariants as operand_types
 use Rattle.program_model.specs.declared.kinds.VType.{VType}
 use Rattle.program_model.specs.declared.kinds.VType.TheVariants as types
 use Rattle.program_model.specs.declared.program.Method.{Method}
@@ -24,6 +25,8 @@ use Rattle.java_control.specs.declared.action.Action.TheVariants as actions
 use Rattle.java_control.specs.declared.action.ClauseId.{ClauseId}
 use Rattle.java_control.specs.declared.action.Edge.{Edge}
 use Rattle.java_control.specs.declared.action.Edge.TheVariants as edges
+use Rattle.java_control.specs.declared.action.Operator.{Operator}
+use Rattle.java_control.specs.declared.action.Operator.TheVariants as operators
 use Rattle.java_control.specs.declared.action.PlainValue.{PlainValue}
 use Rattle.java_control.specs.declared.action.PlainValue.TheVariants as plain
 use Rattle.java_control.specs.declared.action.TargetForm.TheVariants as forms
@@ -40,7 +43,7 @@ use Rattle.ledger_state.specs.declared.locals.Locals.{Locals}
 use Rattle.ledger_state.specs.declared.object.StoredStatic.{StoredStatic}
 use Rattle.ledger_state.specs.declared.value.Value.{Value}
 use Rattle.ledger_state.specs.declared.value.Value.TheVariants as values
-use Rattle.ledger_moves.specs.Operations.{is_cast_refused, made_value, plain_value, thrown_by_operation, thrown_where}
+use Rattle.ledger_moves.specs.Operations.{is_cast_refused, made_value, operator_value, plain_value, thrown_by_operation, thrown_where}
 use Rattle.ledger_steps.specs.LedgerCallsCalls.{form_of, operand_of, overriding, overriding_by, overriding_in, running}
 use Rattle.ledger_moves.specs.Choosing.{agrees_with, is_taken, method_body, operation_edge, same_edge}
 use Rattle.ledger_steps.specs.CallSteps.{self_begun}
@@ -50,7 +53,7 @@ use Rattle.frame_laws.specs.Naming.{IsOfItsKind}
 use Rattle.frame_laws.specs.Callees.{may_be_null_target}
 use Rattle.frame_laws.specs.Nexts.{IsInnerStep}
 use Rattle.frame_laws.specs.Outcomes.{IsCallRow}
-use Rattle.dispatch_laws.specs.ClassOperands.{EntersClause, Fits, GivesOwnType, IsNotAboveString, IsOfClass, IsNull, OfClass, own_type}
+use Rattle.dispatch_laws.specs.ClassOperands.{EntersClause, Fits, GivesOwnType, GivesText, IsNotAboveString, IsOfClass, IsNull, OfClass, own_type}
 use Rattle.value_laws.proofs.Moved.{IsConstantRead, throws_edge}
 use Rattle.value_laws.specs.Values.{FitsClass, HasClassUnder, temp_fits_class}
 use Rattle.value_laws.specs.Objects.{KeepsClasses, object_class}
@@ -78,9 +81,15 @@ plain_fits p bound K statics (plain.Default t) gives = default_fits p bound K t 
 plain_fits p bound K statics (plain.StaticField f) gives = absurd gives
 plain_fits p bound K statics (plain.LibraryConstant m) gives = tt
 
+text_fits : (p : Program) (bound : ClassId) (K h : HeapContents) (arrays : List ArrayObject) (choice : Choice) (l : Locals) (k : Operator) (d : ℕ) → GivesText k → FitsClass p bound K (operator_value p h arrays choice l k d)
+text_fits p bound K h arrays choice l (operators.Binary o operand_types.Text types.Str) d gives = tt
+text_fits p bound K h arrays choice l operators.Length d gives = absurd gives
+text_fits p bound K h arrays choice l k d gives = absurd gives
+
 pub made_fits : (p : Program) (bound : ClassId) (K h : HeapContents) (arrays : List ArrayObject) (statics : List StoredStatic) (choice : Choice) (l : Locals) (a : Action) → StoredFieldsFitClass p bound K h → MakesClass p bound a
     → FitsClass p bound K (made_value p h arrays statics choice l a)
 made_fits p bound K h arrays statics choice l (actions.Plain x v) stored makes = plain_fits p bound K statics v makes
+made_fits p bound K h arrays statics choice l (actions.Op k d n) stored makes = text_fits p bound K h arrays choice l k d makes
 made_fits p bound K h arrays statics choice l (actions.Get f d this) stored makes = field_of_fits p bound K h (temp_value l d) f stored makes
 made_fits p bound K h arrays statics choice l (actions.Call m d n form) stored makes = tt
 made_fits p bound K h arrays statics choice l (actions.New m d n) stored makes = tt
@@ -264,6 +273,8 @@ names_making p bound typed (actions.Plain x (plain.Default t)) named (inl called
 names_making p bound typed (actions.Plain x (plain.Default t)) named (inr reads) kind makes = absurd reads
 names_making p bound typed (actions.Plain x (plain.StaticField f)) named (inl called) kind makes = absurd makes
 names_making p bound typed (actions.Plain x (plain.StaticField f)) named (inr reads) kind makes = absurd makes
+names_making p bound typed (actions.Op k d n) named (inl called) kind makes = absurd (no_method named called)
+names_making p bound typed (actions.Op k d n) named (inr reads) kind makes = absurd reads
 names_making p bound typed (actions.Get f d this) named (inl called) kind makes = absurd (no_method named called)
 names_making p bound typed (actions.Get f d this) named (inr reads) kind makes = absurd reads
 names_making p bound typed actions.Skip named row kind makes = absurd makes

@@ -198,7 +198,9 @@ module _ (p : Program) (bound : ClassId) (b : Body) (held : ℕ → Type 0) (x :
   goes (actions.Settle d c) e none other (inr same) = settles_at c d e same.0 same.1
   goes (actions.Enter clause y d k) e none other has = kept (actions.Enter clause y d k) e (stays_unless (nat_le d x) (places.Temp x) (not_from d x has.0)) has.1
   goes (actions.Test d) e none other has = kept (actions.Test d) e (stays_unless (nat_eq d x) (places.Temp x) (above d x has.0)) has.1
-  goes (actions.Op k d n) e none other has = kept (actions.Op k d n) e (op_stays d (max n 1) has.0) has.1
+  goes (actions.Op k d n) e none other (inl under) = kept (actions.Op k d n) e (op_stays d (max n 1) under.0) under.1
+  goes (actions.Op k d n) e none other (inr same) =
+      made (actions.Op k d n) e (gone_where (is_temp_among d (max n 1) (places.Temp x)) (places.Temp x) (first_among d (max n 1) x same.0 (some_operand n))) none same.1
   goes (actions.Get f d this) e none other (inl under) = kept (actions.Get f d this) e (stays_unless (nat_eq d x) (places.Temp x) (above d x under.0)) under.1
   goes (actions.Get f d this) e none other (inr same) = made (actions.Get f d this) e (gone_where (nat_eq d x) (places.Temp x) (itself d x same.0)) none same.1
   goes (actions.Put f d this) e none other has = put_by f d this e other has

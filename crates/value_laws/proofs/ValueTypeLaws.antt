@@ -9,6 +9,7 @@ use Rattle.std.proofs.lemmas.Option.{slice_get-get_or, slice_get_past}
 use Rattle.program_model.specs.declared.kinds.ClassId.{ClassId}
 use Rattle.program_model.specs.declared.kinds.BodyId.{BodyId}
 use Rattle.program_model.specs.declared.kinds.ElementType.TheVariants as elements
+use Rattle.program_model.specs.declared.kinds.FieldId.{FieldId}
 use Rattle.program_model.specs.declared.kinds.MethodId.{MethodId}
 use Rattle.program_model.specs.declared.kinds.MethodKind.{MethodKind}
 use Rattle.program_model.specs.declared.kinds.MethodKind.TheVariants as methods
@@ -67,7 +68,7 @@ use Rattle.frame_laws.specs.LedgerRunsSteps.{began, end, if_thrown, library_went
 use Rattle.frame_laws.specs.Agreement.{HasMadeClasses}
 use Rattle.dispatch_laws.specs.PlainForms.{HasPlainForms, IsAnsweredBy, IsPlainAction, IsPlainCall, LibraryRunsFor, MayRun, RunsFor, by_class, by_name, run_by}
 use Rattle.frame_laws.proofs.CallWays.{one_action}
-use Rattle.dispatch_laws.specs.Operands.{Fits, MakesText, NoObject, Returns, params_of, result_of}
+use Rattle.dispatch_laws.specs.Operands.{Fits, MakesText, NoObject, Returns, field_type, params_of, result_of}
 use Rattle.dispatch_laws.specs.StepOrigins.{IsCastToNone, MakesNone}
 use Rattle.dispatch_laws.specs.Values.{ArraysHoldNone, ElementsHoldNone, IsNoObjectBut, StaticsHoldNone, temp_holds_none}
 use Rattle.dispatch_laws.proofs.OperationTypeLaws.{arrays_keep_none, operations_give_none, plain_gives_none, statics_keep_none}
@@ -707,6 +708,10 @@ module _ (texts : ℕ → Bool) (p : Program) (ac : Accept p) (fr : Frame) (keep
   argument_is_no_object i t named k x here called at none =
       subst (λ (n : ℕ). IsNoObjectBut texts (operand_of fr.locals t.action n)) (let same : suc k ≡ k + 1 = omega arith in same)
       (argument_none texts p keeps.body fr.locals named k x at none t.action (fits texts p ac fr keeps i t here) called)
+
+  pub stored_value_is_no_object : (i : ℕ) (t : Step) (f : FieldId) (d : ℕ) → slice_get (frame_steps p fr) i ≡ Some t → t.action ≡ actions.PutOwn f d → NoObject (field_type p f) → IsNoObjectBut texts (temp_value fr.locals d)
+  stored_value_is_no_object i t f d here is none =
+      (subst (λ (a : Action). Fits p keeps.body a (temp_holds_none texts fr.locals)) is (fits texts p ac fr keeps i t here)) none
 
   pub returned_value_is_no_object : (i : ℕ) (t : Step) (q : Completion) → slice_get (frame_steps p fr) i ≡ Some t → t.action ≡ actions.End q → thrown_in fr.locals q ≡ None
       → NoObject (result_of (method_at p fr.method)) → IsNoObjectBut texts (result_value fr.locals (method_at p fr.method) q)

@@ -11,11 +11,12 @@ use Rattle.java_control.specs.declared.place.Place.{Place}
 use Rattle.java_control.specs.declared.place.Place.TheVariants as places
 use Rattle.java_control.specs.Sources.{is_throws, source}
 use Rattle.dispatch_laws.specs.ClassOperands.{field_type, own_type, result_of}
-use Rattle.dispatch_laws.specs.ClassOperands.{GivesClass, GivesOwnType, IsOfClass, OfClass}
+use Rattle.dispatch_laws.specs.ClassOperands.{GivesClass, GivesOwnType, GivesText, IsOfClass, OfClass}
 
--- what the action makes, where it throws nothing, is an object of the class or null
+-- what the action makes, where it throws nothing, is an object of the class or null, or a text where its operator gives one
 abbrev pub MakesClass : Program → ClassId → Action → Type 0
 MakesClass p bound (actions.Plain y v) = GivesOwnType p bound v
+MakesClass p bound (actions.Op k d n) = GivesText k
 MakesClass p bound (actions.Get f d through_this) = OfClass p bound (field_type p f)
 MakesClass p bound (actions.Call m d n form) = OfClass p bound (result_of (method_at p m))
 MakesClass p bound (actions.New m d n) = OfClass p bound (own_type (method_at p m))

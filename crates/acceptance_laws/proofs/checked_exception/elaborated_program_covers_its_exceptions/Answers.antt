@@ -1,0 +1,6 @@
+-- The law is a lemma over the definitions alone.
+use Rattle.acceptance_laws.proofs.ProgramExceptions.{program_covers}
+use Rattle.acceptance_laws.proofs.checked_exception.elaborated_program_covers_its_exceptions.Goals as goal
+
+pub returns : goal.returns
+returns c = program_covers

@@ -1,0 +1,59 @@
+-- Where a field owns an object with an obligation, the field's object is finished, or its constructor runs.
+use Rattle.std.proofs.Common.{◌≡◌, ◌⊎◌, inl, inr, ℕ, Bool, true, false, true≢false, List, [], ◌∷◌, refl, sym, ap, ◌∙◌, eqb-true}
+use Rattle.std.proofs.lemmas.Bool.{and_parts, or_right}
+use Rattle.std.specs.Prelude.{◌||◌, not}
+use Rattle.program_model.specs.declared.kinds.ClassId.{ClassId}
+use Rattle.program_model.specs.declared.kinds.FieldId.{FieldId}
+use Rattle.program_model.specs.declared.program.Program.{Program}
+use Rattle.program_model.specs.Lookups.{method_at}
+use Rattle.must_call_sets.specs.Bodies.{constructs, is_class_of}
+use Rattle.must_call_sets.specs.MustCallSets.{is_heavy_class}
+use Rattle.ledger_obligations.specs.Obligations.{finished_in, is_held_by, is_unmet}
+use Rattle.ledger_state.specs.Contents.{HeapContents}
+use Rattle.ledger_state.specs.Heaps.{object_at}
+use Rattle.ledger_state.specs.Values.{number_of}
+use Rattle.ledger_state.specs.declared.entry.Owner.{Owner}
+use Rattle.ledger_state.specs.declared.entry.Owner.TheVariants as owners
+use Rattle.ledger_state.specs.declared.object.Object.{Object}
+use Rattle.ledger_state.specs.declared.value.Value.{Value}
+use Rattle.ledger_state.specs.declared.value.Value.TheVariants as values
+use Rattle.ledger_steps.specs.LedgerCallsCalls.{is_alias}
+use Rattle.value_laws.specs.Configuration.{Frame}
+use Rattle.value_laws.specs.Choosing.{is_number}
+use Rattle.value_laws.specs.FieldContents.{HaveContents, IsContent, is_made_in, makes_holder, makes_object}
+use Rattle.value_laws.specs.PlaceFacts.{HoldersAreOlder, RunsOn}
+use Rattle.value_laws.specs.Safety.{constructs_object}
+
+field_of_owner : (o : Owner) (w : ℕ) → is_held_by o w ≡ true → (f : FieldId) × (o ≡ owners.Field w f)
+field_of_owner (owners.Field v f) w is = (f, ap (λ (k : ℕ). owners.Field k f) (eqb-true v w is))
+field_of_owner (owners.Frame j) w is = absurd (true≢false (sym is))
+field_of_owner owners.Library w is = absurd (true≢false (sym is))
+field_of_owner owners.Released w is = absurd (true≢false (sym is))
+field_of_owner owners.Lost w is = absurd (true≢false (sym is))
+field_of_owner owners.Unowned w is = absurd (true≢false (sym is))
+
+is_object : (v : Value) (w : ℕ) → is_number w (number_of v) ≡ true → v ≡ values.Object w
+is_object values.Nothing w is = absurd (true≢false (sym is))
+is_object (values.Object k) w is = ap values.Object (sym (eqb-true w k is))
+is_object v w is = absurd (true≢false (sym is))
+
+-- a constructor among the frames that makes the object runs on it
+makes_on : (p : Program) (w : ℕ) (c : ClassId) (frs : List Frame) → is_made_in p w c frs ≡ true → RunsOn w frs
+makes_on p w c [] is = true≢false (sym is)
+makes_on p w c (fr ∷ frs) is = go (makes_holder p w c fr) refl is (makes_on p w c frs)
+  where
+    go : (b : Bool) → makes_holder p w c fr ≡ b → (b || is_made_in p w c frs) ≡ true → (is_made_in p w c frs ≡ true → RunsOn w frs) → RunsOn w (fr ∷ frs)
+    go true one is' rest = inl (is_object fr.locals.this w (and_parts (constructs (method_at p fr.method)) (is_number w (number_of fr.locals.this))
+        (and_parts (constructs_object p w fr) (is_class_of c (method_at p fr.method)) (and_parts (makes_object p w c fr) (not (is_alias (method_at p fr.method))) one).0).0).1)
+    go false none is' rest = inr (rest is')
+
+-- where a field owns an object with an obligation, the field's object is finished, or one of the frames runs on it
+pub holders_are_older : (p : Program) (frs : List Frame) (h : HeapContents) → HaveContents p frs h → HoldersAreOlder p h frs
+holders_are_older p frs h contents o x at heavy w held =
+    let owner = field_of_owner x.owner w held in
+    let k = contents o x w owner.0 at (or_right (is_unmet x) (is_heavy_class p x.class) heavy) owner.1 in
+    by owner.0 k k.holder.finished refl
+  where
+    by : (f : FieldId) (k : IsContent p frs h o x w f) (b : Bool) → k.holder.finished ≡ b → (finished_in (object_at h w) ≡ true) ⊎ RunsOn w frs
+    by f k true done = inl (ap finished_in k.at ∙ done)
+    by f k false unready = inr (makes_on p w k.field.class frs (k.made unready))

@@ -1,0 +1,49 @@
+-- The program is accepted, and has a `main` that runs.
+use Rattle.std.proofs.Common.{◌≡◌, ℕ, zero, suc, true, true≢false, refl, sym, lit≤}
+use Rattle.program_model.specs.declared.kinds.BodyId.{BodyId}
+use Rattle.program_model.specs.declared.kinds.FieldId.{FieldId}
+use Rattle.java_control.specs.Owned.{place_of_field}
+use Rattle.java_control.specs.PlaceNumbers.{IsSmall}
+use Rattle.must_call_sets.specs.Bodies.{has_field_place}
+use Rattle.obligation_facts.specs.SmallActions.{IsSmallAction}
+use Rattle.soundness_laws.specs.Room.{HasRoom}
+use Rattle.soundness_laws.specs.Accept.{Accept}
+use Rattle.soundness_laws.specs.Paths.{FitsPlaces, relation_of}
+use Rattle.soundness_laws.specs.Safety.{IsMain}
+use Rattle.safety_examples.specs.ThrowingPrograms.{throwing, main_method}
+use Rattle.safety_examples.proofs.Covered.{covers_by}
+use Rattle.safety_examples.proofs.ThrowingDeclared.{declares_once}
+use Rattle.safety_examples.proofs.ThrowingFormed.{annotations_right, overriding, signed, well_formed}
+use Rattle.safety_examples.proofs.ThrowingMainPaths.{main_small}
+use Rattle.safety_examples.proofs.ThrowingReached.{HoldsOfSteps, throwing_no_fault, reached}
+use Rattle.safety_examples.proofs.ThrowingShutPaths.{shut_small}
+
+-- no class of the program has a field
+no_field : (b : BodyId) (f : FieldId) → has_field_place throwing b f ≡ true → IsSmall (place_of_field throwing f)
+no_field b f has = absurd (true≢false (sym has))
+
+room : (n : ℕ) → HasRoom throwing (record { 0 = n })
+room zero = record { variables = lit≤ tt; fields = no_field (record { 0 = zero }) }
+room (suc zero) = record { variables = lit≤ tt; fields = no_field (record { 0 = suc zero }) }
+room (suc (suc n)) = record { variables = lit≤ tt; fields = no_field (record { 0 = suc (suc n) }) }
+
+small : HoldsOfSteps (IsSmallAction throwing)
+small = record { shut = shut_small; main = main_small }
+
+fits : (b : BodyId) → FitsPlaces throwing b (relation_of throwing b)
+fits b = record { room = room b.0; steps = λ {k} i t comes at. reached (IsSmallAction throwing) small b.0 k i t comes at }
+
+pub accepted : Accept throwing
+accepted = record {
+  well_formed = well_formed;
+  declares_once = declares_once;
+  overriding = overriding;
+  annotations = annotations_right;
+  signatures = signed;
+  covers = covers_by throwing refl;
+  fits = fits;
+  no_fault = throwing_no_fault;
+}
+
+pub has_main : IsMain throwing main_method
+has_main = (refl, refl)

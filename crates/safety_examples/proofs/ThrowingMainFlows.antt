@@ -1,0 +1,95 @@
+-- What the flow rules make of the fact of the socket in `main`.
+use Rattle.std.proofs.Common.{◌≡◌, true, false, refl, ap, ◌∙◌}
+use Rattle.std.specs.FinSet as set
+use Rattle.rlc_base.specs.NameSet.{inserted}
+use Rattle.program_model.proofs.NameLaws.{none_union, union_none}
+use Rattle.java_control.specs.declared.action.Action.TheVariants as actions
+use Rattle.java_control.specs.declared.action.Completion.TheVariants as completions
+use Rattle.java_control.specs.declared.action.Edge.TheVariants as edges
+use Rattle.java_control.specs.declared.action.Scope.TheVariants as scopes
+use Rattle.java_control.specs.declared.action.TargetForm.TheVariants as forms
+use Rattle.java_control.specs.declared.fact.Fact.{Fact}
+use Rattle.java_control.specs.declared.fact.Mode.TheVariants as modes
+use Rattle.java_control.specs.declared.fact.Origin.{Origin}
+use Rattle.java_control.specs.declared.fact.OriginKind.TheVariants as kinds
+use Rattle.java_control.specs.declared.fact.Outcome.TheVariants.{Next, Gone}
+use Rattle.java_control.specs.declared.place.Place.TheVariants as places
+use Rattle.obligation_facts.specs.Facts.{Names, PlaceSet, without_temps}
+use Rattle.soundness_laws.specs.Flow.{flow}
+use Rattle.safety_examples.specs.CarefulPrograms.{close_alone, in_source, io_exception, no_names, socket}
+use Rattle.safety_examples.specs.ThrowingControls.{thrown_by_shut}
+use Rattle.safety_examples.specs.ThrowingPrograms.{throwing, main_body, shut}
+use Rattle.safety_examples.proofs.OwnerSets.{within_itself}
+use Rattle.safety_examples.proofs.OwnerSets.{alone, nothing_promised, removed, somewhere}
+
+-- ---- the places of the socket: the temp; `r`; both; and `r` after the call
+
+abbrev pub in_temp : PlaceSet
+in_temp = set.insert set.empty 177
+
+abbrev pub in_variable : PlaceSet
+in_variable = set.remove (set.insert in_temp 1) 177
+
+abbrev pub in_both : PlaceSet
+in_both = set.insert in_variable 177
+
+abbrev pub after_call : PlaceSet
+after_call = set.remove (set.remove in_both 177) 177
+
+abbrev pub after_drop : PlaceSet
+after_drop = set.remove after_call 177
+
+variable_has : set.contains in_variable 1 ≡ true
+variable_has = removed (set.insert in_temp 1) 177 1 ∙ inserted in_temp 1 1
+
+both_have : set.contains in_both 1 ≡ true
+both_have = inserted in_variable 177 1 ∙ variable_has
+
+both_have_temp : set.contains in_both 177 ≡ true
+both_have_temp = inserted in_variable 177 177
+
+call_has : set.contains after_call 1 ≡ true
+call_has = removed (set.remove in_both 177) 177 1 ∙ removed in_both 177 1 ∙ both_have
+
+drop_has : set.contains after_drop 1 ≡ true
+drop_has = removed after_call 177 1 ∙ call_has
+
+-- ---- names
+
+-- what `shut` promises of its argument, where it ends and where it throws
+abbrev pub closed_names : Names
+closed_names = set.union no_names (set.union close_alone no_names)
+
+closed_met : set.is_subset close_alone closed_names ≡ true
+closed_met = ap (set.is_subset close_alone) (none_union (set.union close_alone no_names) ∙ union_none close_alone) ∙ within_itself close_alone
+
+-- ---- facts
+
+abbrev pub socket_origin : Origin
+socket_origin = record { kind = kinds.New; pos = in_source 6 20; class = socket; first = close_alone; full = close_alone }
+
+abbrev pub fact : PlaceSet → Names → Fact
+fact held called = record { origin = 0; places = held; mode = modes.Own; called = called; full = false }
+
+pub moves : flow throwing main_body socket_origin (actions.Move (places.Var 1) (places.Temp 0)) edges.Go (fact in_temp no_names) ≡ Next (fact in_variable no_names)
+moves = simp (alone 177 177, somewhere in_variable 1 variable_has) refl
+
+pub copies : flow throwing main_body socket_origin (actions.Copy (places.Temp 0) (places.Var 1)) edges.Go (fact in_variable no_names) ≡ Next (fact in_both no_names)
+copies = simp (variable_has, somewhere in_both 1 both_have) refl
+
+pub shuts : flow throwing main_body socket_origin (actions.Call shut 0 1 forms.Static) edges.Go (fact in_both no_names) ≡ Next (fact after_call closed_names)
+unfolding without_temps
+shuts = simp (both_have_temp, somewhere after_call 1 call_has, nothing_promised no_names) refl
+
+pub drops : flow throwing main_body socket_origin (actions.Drop (scopes.Temp 0)) edges.Go (fact after_call closed_names) ≡ Next (fact after_drop closed_names)
+drops = simp (somewhere after_drop 1 drop_has) refl
+
+pub returns : flow throwing main_body socket_origin (actions.End (completions.Return (in_source 8 5))) edges.Go (fact after_drop closed_names) ≡ Gone
+returns = simp (closed_met, nothing_promised closed_names) refl
+
+pub throws : flow throwing main_body socket_origin (actions.Call shut 0 1 forms.Static) (edges.Throws io_exception) (fact in_both no_names) ≡ Next (fact after_call closed_names)
+unfolding without_temps
+throws = simp (both_have_temp, somewhere after_call 1 call_has, nothing_promised no_names) refl
+
+pub leaves : flow throwing main_body socket_origin (actions.End thrown_by_shut) edges.Go (fact after_call closed_names) ≡ Gone
+leaves = simp (closed_met, union_none (set.union no_names no_names), nothing_promised closed_names) refl

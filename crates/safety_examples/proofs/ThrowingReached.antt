@@ -1,0 +1,50 @@
+-- What holds of the steps of the controls of each body holds of all steps that a body can reach; and no path breaks a rule.
+use Rattle.std.proofs.Common.{◌≡◌, ℕ, zero, suc, Some, None, List, slice_get, All}
+use Rattle.std.proofs.lemmas.List.Elements.{All-contains}
+use Rattle.rlc_base.specs.declared.place.Pos.{Pos}
+use Rattle.program_model.specs.declared.kinds.BodyId.{BodyId}
+use Rattle.java_control.specs.Control.{next_of}
+use Rattle.java_control.specs.Remaining.{Todo}
+use Rattle.java_control.specs.declared.action.Action.{Action}
+use Rattle.java_control.specs.declared.fact.Origin.{Origin}
+use Rattle.java_control.specs.declared.fact.Rule.{Rule}
+use Rattle.obligation_facts.specs.Facts.{Names}
+use Rattle.soundness_laws.specs.Paths.{Comes, Faulty, Move, relation_of}
+use Rattle.safety_examples.specs.Certificates.{IsCertificate, Placed}
+use Rattle.safety_examples.specs.ThrowingControls.{main_controls, shut_controls}
+use Rattle.safety_examples.specs.ThrowingPrograms.{throwing, main_body, shut_body}
+use Rattle.safety_examples.proofs.Certified.{comes_listed, no_fault}
+use Rattle.safety_examples.proofs.Tests.{all_at}
+use Rattle.safety_examples.proofs.ThrowingMainPaths.{main_certificate, main_facts}
+use Rattle.safety_examples.proofs.ThrowingShutPaths.{shut_certificate, shut_facts}
+use Rattle.safety_examples.proofs.ThrowingWalks.{AllActions, steps}
+
+-- a number of no body has no step
+no_step : (n i : ℕ) (k : List Todo) (t : Move (List Todo)) → slice_get ((steps (record { 0 = suc (suc n) })).next k) i ≡ Some t → ⊥
+unfolding next_of
+no_step n i k t at = absurd (let no : None ≡ Some t = at in cc)
+
+of_listed : (P : Action → Type 0) (b : BodyId) (controls : List (List Todo)) (facts : List (Placed (List Todo))) → IsCertificate throwing b (steps b) controls facts → All (AllActions b P) controls
+    → (k : List Todo) (i : ℕ) (t : Move (List Todo)) → Comes (steps b) k → slice_get ((steps b).next k) i ≡ Some t → P t.action
+of_listed P b controls facts certificate all k i t comes at =
+    all_at (λ (x : Move (List Todo)). P x.action) ((steps b).next k) i t
+    (All-contains (AllActions b P) controls k all (comes_listed throwing b (steps b) controls facts certificate k comes)) at
+
+-- what holds of the actions at the controls of both bodies
+pub record HoldsOfSteps (P : Action → Type 0) : Type 0 where
+  pub shut : All (AllActions shut_body P) shut_controls
+  pub main : All (AllActions main_body P) main_controls
+
+pub reached : (P : Action → Type 0) → HoldsOfSteps P → (n : ℕ) (k : List Todo) (i : ℕ) (t : Move (List Todo)) → Comes (steps (record { 0 = n })) k → slice_get ((steps (record { 0 = n })).next k) i ≡ Some t
+    → P t.action
+reached P holds zero k i t comes at = of_listed P shut_body shut_controls shut_facts shut_certificate holds.shut k i t comes at
+reached P holds (suc zero) k i t comes at = of_listed P main_body main_controls main_facts main_certificate holds.main k i t comes at
+reached P holds (suc (suc n)) k i t comes at = absurd (no_step n i k t at)
+
+faultless : (n : ℕ) (o : Origin) (rule : Rule) (at : Pos) (names : Names) → Faulty throwing (record { 0 = n }) (steps (record { 0 = n })) o rule at names → ⊥
+faultless zero o rule at names fault = no_fault throwing shut_body (steps shut_body) shut_controls shut_facts shut_certificate o rule at names fault
+faultless (suc zero) o rule at names fault = no_fault throwing main_body (steps main_body) main_controls main_facts main_certificate o rule at names fault
+faultless (suc (suc n)) o rule at names fault = no_step n fault.index fault.control fault.move fault.step
+
+pub throwing_no_fault : (b : BodyId) (o : Origin) (rule : Rule) (at : Pos) (names : Names) → Faulty throwing b (relation_of throwing b) o rule at names → ⊥
+throwing_no_fault b o rule at names fault = faultless b.0 o rule at names fault
