@@ -1,20 +1,19 @@
 -- The heap after each kind of step, as it goes on for what owning fields hold and own.
 use Rattle.std.specs.Prelude.{◌<◌}
-use Rattle.std.proofs.Common.{◌≡◌, ◌⊎◌, ℕ, Bool, true, false, true≢false, Option, Some, None, List, [], ◌∷◌, refl, sym, ap, ◌∙◌, subst, inl, inr, if◌then◌else◌}
+use Rattle.std.proofs.Common.{◌≡◌, ◌⊎◌, ℕ, Bool, true, false, true≢false, Option, Some, None, List, [], ◌∷◌, refl, sym, ap, ◌∙◌, subst, if◌then◌else◌}
 use Rattle.rlc_base.specs.declared.name_id.NameId.{NameId}
 use Rattle.program_model.specs.declared.kinds.ClassId.{ClassId}
 use Rattle.program_model.specs.declared.kinds.FieldId.{FieldId}
 use Rattle.program_model.specs.declared.program.Method.{Method}
 use Rattle.program_model.specs.declared.program.Program.{Program}
 use Rattle.must_call_sets.specs.MustCallSets.{must_of}
-use Rattle.java_control.specs.Owned.{is_owning}
 use Rattle.java_control.specs.declared.action.Action.{Action}
 use Rattle.java_control.specs.declared.action.Action.TheVariants as actions
-use Rattle.covering_laws.specs.Outcomes.{IsCallRow, IsPlainRow}
+use Rattle.covering_laws.specs.Outcomes.{IsCallRow}
 use Rattle.stub_conduct.specs.declared.choice.Conduct.{Conduct}
 use Rattle.stub_conduct.specs.declared.choice.Conduct.TheVariants as conducts
 use Rattle.ledger_state.specs.Contents.{HeapContents}
-use Rattle.ledger_state.specs.Heaps.{append, next_number, put_field}
+use Rattle.ledger_state.specs.Heaps.{append, next_number}
 use Rattle.ledger_state.specs.declared.entry.Owner.TheVariants as owners
 use Rattle.ledger_state.specs.declared.locals.Locals.{Locals}
 use Rattle.ledger_state.specs.declared.object.Link.{Link}
@@ -29,9 +28,7 @@ use Rattle.ledger_steps.specs.InnerSteps.{heap_stored, store_of, store_unless, t
 use Rattle.ledger_steps.specs.declared.store.Store.{Store}
 use Rattle.covering_laws.specs.Heaps.{HasEarlierLinks}
 use Rattle.covering_laws.proofs.HeapLaws.{links_stay-noted}
-use Rattle.covering_laws.proofs.ObjectLaws.{goes_on_self}
-use Rattle.covering_laws.proofs.Fields.{plain_holds}
-use Rattle.content_laws.proofs.Goes.{changed_roots, goes_further, leaves_goes, leaves_roots, lose_goes, made_goes, noted_goes, roots_by_links, self_goes}
+use Rattle.content_laws.proofs.Goes.{changed_roots, goes_further, leaves_goes, leaves_roots, lose_goes, made_goes, noted_goes, self_goes}
 use Rattle.content_laws.proofs.Leaves.{Leaves, append_leaves, began_leaves, each_leaves, gone_leaves, library_made_leaves, stays_self}
 use Rattle.content_laws.proofs.Noted.{kept_notes, receiver_notes}
 use Rattle.content_laws.specs.Going.{Goes, IsBorn, IsNotedBy, NoName}

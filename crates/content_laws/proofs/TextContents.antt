@@ -1,12 +1,10 @@
 -- What owning fields hold and own where an operator other than `=` stores a text into one of them.
-use Rattle.std.specs.FinSet as set
-use Rattle.std.proofs.Common.{◌≡◌, ◌⊎◌, inl, inr, ℕ, Bool, true, false, true≢false, Option, Some, None, List, ◌∷◌, refl, sym, ap, ◌∙◌, subst}
+use Rattle.std.proofs.Common.{◌≡◌, ◌⊎◌, inl, inr, ℕ, true, false, true≢false, Some, None, List, ◌∷◌, sym, ap, ◌∙◌, subst}
 use Rattle.std.proofs.lemmas.List.Elements.{All-tail}
 use Rattle.program_model.specs.declared.kinds.ClassId.{ClassId}
 use Rattle.program_model.specs.declared.kinds.FieldId.{FieldId}
 use Rattle.program_model.specs.declared.program.Field.{Field}
 use Rattle.program_model.specs.declared.program.Program.{Program}
-use Rattle.program_model.specs.Lookups.{field_at}
 use Rattle.must_call_sets.specs.MustCallSets.{is_heavy_class}
 use Rattle.java_control.specs.Owned.{is_owning, is_owning_field}
 use Rattle.ledger_state.specs.Contents.{HeapContents}
@@ -14,20 +12,17 @@ use Rattle.ledger_state.specs.Fields.{field_value}
 use Rattle.ledger_state.specs.Heaps.{object_at, root, root_of}
 use Rattle.ledger_state.specs.declared.entry.Owner.{Owner}
 use Rattle.ledger_state.specs.declared.entry.Owner.TheVariants as owners
-use Rattle.ledger_state.specs.declared.object.Link.{Link}
 use Rattle.ledger_state.specs.declared.object.Object.{Object}
-use Rattle.ledger_state.specs.declared.value.Value.{Value}
-use Rattle.ledger_state.specs.declared.value.Value.TheVariants as values
 use Rattle.ledger_obligations.specs.Obligations.{given_up}
 use Rattle.covering_laws.specs.Configuration.{Frame}
 use Rattle.covering_laws.specs.Chains.{IsLast}
 use Rattle.covering_laws.specs.FieldContents.{FieldsHold, HaveContents, IsContent, LinksLead, OwningFieldsOwn, has_obligation, is_made_in}
-use Rattle.covering_laws.specs.Heaps.{Evolves, GoesOn, HasEarlierLinks}
+use Rattle.covering_laws.specs.Heaps.{Evolves, HasEarlierLinks}
 use Rattle.covering_laws.specs.Leading.{CallsOnField, Leads, by_library, by_program, here}
 use Rattle.covering_laws.specs.PlaceFacts.{may_owe}
 use Rattle.covering_laws.specs.Ranges.{LocalsInRange}
 use Rattle.covering_laws.specs.Renewable.{IsFollowed}
-use Rattle.covering_laws.specs.TextUpdates.{HoldsOrTakesText, IsLeftByText, IsLight}
+use Rattle.covering_laws.specs.TextUpdates.{HoldsOrTakesText, IsLeftByText}
 use Rattle.covering_laws.proofs.Chains.{given_up_last}
 use Rattle.covering_laws.proofs.TextStores.{left_goes_on, light_root}
 use Rattle.content_laws.proofs.Goes.{dispatched_on, roots_by_links, root_stays, unfinished_on, obligation_is_heavy}

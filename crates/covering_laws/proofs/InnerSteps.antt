@@ -3,13 +3,10 @@ use Rattle.std.proofs.Common.{◌≡◌, ◌⊎◌, inl, inr, ℕ, ◌+◌, Bool
 use Rattle.std.specs.FinSet as set
 use Rattle.rlc_base.proofs.SetLaws.{within_self}
 use Rattle.program_model.specs.declared.kinds.ClassId.{ClassId}
-use Rattle.program_model.specs.declared.kinds.FieldId.{FieldId}
-use Rattle.program_model.specs.declared.program.Method.{Method}
 use Rattle.program_model.specs.declared.program.Program.{Program}
 use Rattle.program_model.specs.Lookups.{method_at}
 use Rattle.ledger_obligations.specs.MustCallSets.{Names, is_heavy_class, no_names}
 use Rattle.java_control.specs.Control.{Step}
-use Rattle.java_control.specs.Owned.{is_owning}
 use Rattle.java_control.specs.PlaceNumbers.{IsSmall}
 use Rattle.java_control.specs.Sources.{source}
 use Rattle.java_control.specs.declared.action.Action.{Action}
@@ -29,11 +26,9 @@ use Rattle.ownership_rules.specs.Births.{birth_on, fact_at}
 use Rattle.program_model.specs.declared.kinds.BodyId.{BodyId}
 use Rattle.value_laws.specs.Accept.{Accept}
 use Rattle.ledger_state.specs.Contents.{HeapContents}
-use Rattle.ledger_state.specs.Fields.{field_value}
 use Rattle.ledger_state.specs.Heaps.{next_number, object_at, root, root_of}
 use Rattle.ledger_state.specs.Locals.{temp_value}
 use Rattle.ledger_state.specs.Values.{is_null, number_of}
-use Rattle.ledger_state.specs.declared.locals.Locals.{Locals}
 use Rattle.ledger_state.specs.declared.object.Object.{Object}
 use Rattle.ledger_state.specs.declared.value.Value.{Value}
 use Rattle.ledger_state.specs.declared.value.Value.TheVariants as values
@@ -42,15 +37,14 @@ use Rattle.value_laws.specs.Configuration.{Frame}
 use Rattle.value_laws.specs.Choosing.{frame_steps}
 use Rattle.value_laws.specs.Frames.{frame_after, is_made, made_place}
 use Rattle.ledger_steps.specs.declared.store.Store.{Store}
-use Rattle.ledger_steps.specs.InnerSteps.{heap_stored, store_into, store_of, store_unless, thrown_heap, thrown_value}
+use Rattle.ledger_steps.specs.InnerSteps.{heap_stored, store_of, store_unless, thrown_heap, thrown_value}
 use Rattle.value_laws.specs.Heaps.{GoesOn, HasEarlierLinks}
 use Rattle.value_laws.proofs.HeapLaws.{numbers_are_in_range}
 use Rattle.value_laws.proofs.LibraryCallLaws.{exceptions_are_the_librarys, exceptions_keep_links-evolves}
 use Rattle.value_laws.specs.PlacePlaces.{is_local}
 use Rattle.value_laws.specs.Agreement.{Stands}
-use Rattle.value_laws.specs.PlainForms.{HasPlainForms, IsPlainAction}
+use Rattle.value_laws.specs.PlainForms.{HasPlainForms}
 use Rattle.value_laws.specs.Outcomes.{IsNotNull, IsPlainRow}
-use Rattle.value_laws.proofs.Fields.{plain_holds}
 use Rattle.value_laws.proofs.Going.{other_steps}
 use Rattle.value_laws.specs.Steps.{IsTrueTest}
 use Rattle.value_laws.specs.PlaceFacts.{AllHold, IsCovered, IsUnowned, OwnersBelow, gives_none, is_frame_from, is_lent, renews_none}
@@ -58,7 +52,6 @@ use Rattle.covering_laws.proofs.Births.{born_covers}
 use Rattle.covering_laws.proofs.CallResults.{born_unowned, not_lent_none}
 use Rattle.covering_laws.proofs.Owners.{KeepsGiven, OwnersGo, stays, stays_apart, KeepsFinished, held_here, keeps_finished}
 use Rattle.covering_laws.proofs.StoreOwners.{thrown_below}
-use Rattle.covering_laws.proofs.Following.{plain_step}
 use Rattle.value_laws.proofs.Ready.{row_gives_none}
 use Rattle.covering_laws.proofs.TopSteps.{IsLocalStep, top_covered, after_as}
 use Rattle.covering_laws.proofs.Waiting.{Carries, HoldsThere, KeepsFieldsButTexts, KeepsRoots, KeepsUnfinished, all_ready, keeps_roots, linked_roots, new_root, no_other}

@@ -1,6 +1,5 @@
 -- A frame ends, and with it the call at which the frame below waits, which may create an obligation anew.
 use Rattle.std.proofs.Common.{List, None, Option, Some, ap, arith, length, refl, slice_get, subst, sym, true, ℕ, ◌+◌, ◌∙◌, ◌∷◌, ◌≡◌, []}
-use Rattle.std.specs.FinSet as set
 use Rattle.std.proofs.lemmas.List.Elements.{All-head}
 use Rattle.program_model.specs.declared.kinds.ClassId.{ClassId}
 use Rattle.program_model.specs.declared.kinds.MethodId.{MethodId}
@@ -18,7 +17,6 @@ use Rattle.ledger_state.specs.declared.entry.Owner.TheVariants as owners
 use Rattle.ledger_state.specs.declared.object.Object.{Object}
 use Rattle.ledger_state.specs.declared.value.Value.{Value}
 use Rattle.ledger_state.specs.declared.value.Value.TheVariants as values
-use Rattle.ledger_steps.specs.LedgerCallsCalls as calls
 use Rattle.value_laws.specs.Configuration.{Frame}
 use Rattle.value_laws.specs.Choosing.{frame_steps}
 use Rattle.value_laws.specs.Frames.{frame_after, KeepsTargets}
@@ -42,8 +40,6 @@ use Rattle.covering_laws.proofs.LocalSteps.{LocalsIn}
 use Rattle.covering_laws.proofs.Waiting.{AllHeldBefore, IsCarried, KeepsFields, KeepsUnfinished, held_before_further}
 use Rattle.covering_laws.specs.Making.{IsUnheld}
 use Rattle.ledger_obligations.specs.MustCallSets.{is_heavy_class}
-use Rattle.java_control.specs.declared.action.Completion.TheVariants as completions
-use Rattle.java_control.specs.declared.action.Edge.TheVariants as edges
 use Rattle.value_laws.specs.Arguments.{HasArguments}
 use Rattle.covering_laws.specs.Texts.{TextsAreLight}
 use Rattle.value_laws.specs.HeapAnew.{is_anew_at_end}

@@ -21,12 +21,12 @@ use Rattle.ledger_state.specs.declared.object.Link.{Link}
 use Rattle.ledger_state.specs.declared.object.Object.{Object}
 use Rattle.ledger_state.specs.declared.value.Value.{Value}
 use Rattle.ledger_state.specs.declared.value.Value.TheVariants as values
-use Rattle.ledger_obligations.specs.Obligations.{given_up, holder_roots, is_library_owner, may_move_root, moved_in, reset_in, reset_roots, resets_holder, stored_owning, type_of_field}
+use Rattle.ledger_obligations.specs.Obligations.{holder_roots, is_library_owner, may_move_root, moved_in, reset_in, resets_holder, stored_owning, type_of_field}
 use Rattle.ledger_steps.specs.declared.store.Store.{Store}
 use Rattle.ledger_steps.specs.InnerSteps.{heap_stored, is_bound, store_into, store_of, store_unless, thrown_heap}
 use Rattle.value_laws.specs.Heaps.{GoesOn, HasEarlierLinks, IsEarlierLink}
 use Rattle.value_laws.specs.Outcomes.{IsCallRow, IsPlainRow}
-use Rattle.value_laws.specs.Stores.{IsDisplaced, IsStored}
+use Rattle.value_laws.specs.Stores.{IsStored}
 use Rattle.value_laws.proofs.Fields.{holds_here, holds_other, plain_holds, same_field}
 use Rattle.value_laws.proofs.HeapLaws.{changed_object_at-object, roots_of_links-absent, roots_of_links-itself}
 use Rattle.value_laws.proofs.EndLaws.{given_up_goes_on}

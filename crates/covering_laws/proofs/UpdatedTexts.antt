@@ -1,11 +1,9 @@
 -- Other operators than `=` store texts alone into owning fields, in the place of texts.
-use Rattle.std.proofs.Common.{◌≡◌, ℕ, true, Some, List, [], ◌∷◌, sym, ap, ◌∙◌, subst}
+use Rattle.std.proofs.Common.{◌≡◌, ℕ, List, [], ◌∷◌, ◌∙◌, subst}
 use Rattle.program_model.specs.declared.program.Program.{Program}
 use Rattle.ledger_state.specs.Contents.{HeapContents}
 use Rattle.ledger_state.specs.Fields.{field_value}
-use Rattle.ledger_state.specs.Values.{number_of}
 use Rattle.ledger_state.specs.declared.value.Value.{Value}
-use Rattle.ledger_state.specs.declared.value.Value.TheVariants as values
 use Rattle.value_laws.specs.Accept.{Accept}
 use Rattle.value_laws.specs.ClassOperands.{IsNotAboveString}
 use Rattle.value_laws.specs.ClassValues.{FramesFitClass}

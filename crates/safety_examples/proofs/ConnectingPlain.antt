@@ -1,16 +1,14 @@
 -- The program is plain.
-use Rattle.std.proofs.Common.{◌≡◌, ◌⊎◌, inl, inr, ℕ, zero, suc, Bool, true, false, true≢false, None, Some, List, slice_get, refl, sym, ap, ◌∙◌, All}
+use Rattle.std.proofs.Common.{◌≡◌, ℕ, zero, suc, Bool, true, false, true≢false, Some, List, slice_get, refl, sym, ap, ◌∙◌, All}
 use Rattle.program_model.specs.declared.kinds.BodyId.{BodyId}
-use Rattle.must_call_sets.specs.Bodies.{is_constructor, reset_in, resets_this}
-use Rattle.obligation_facts.specs.Callees.{callee}
+use Rattle.must_call_sets.specs.Bodies.{is_constructor, resets_this}
 use Rattle.java_control.specs.Calls.{is_reset_of_this}
 use Rattle.java_control.specs.Control.{next_of}
 use Rattle.java_control.specs.Remaining.{Todo}
 use Rattle.java_control.specs.declared.action.Action.{Action}
 use Rattle.java_control.specs.declared.action.Action.TheVariants as actions
 use Rattle.soundness_laws.specs.Paths.{Comes, Move, relation_of}
-use Rattle.soundness_laws.specs.PlainForms.{ResetsPlainly}
-use Rattle.soundness_laws.specs.Plain.{CreatesPlainly, IsPlain}
+use Rattle.soundness_laws.specs.Plain.{IsPlain}
 use Rattle.soundness_laws.specs.AgreementConditions.{MeetsFileConditions}
 use Rattle.soundness_laws.proofs.Tests.{meets_by_tests}
 use Rattle.safety_examples.proofs.ConnectingValid.{valid_program}
@@ -29,9 +27,9 @@ abbrev is_mild : BodyId → Action → Bool
 is_mild b (actions.PutOwn f d) = is_constructor connecting b
 is_mild b a = true
 
--- it creates nothing anew, or what is not called `this`
+-- it does not create the obligation of `this` anew
 abbrev ResetsOthers : Action → Type 0
-ResetsOthers a = (reset_in (callee connecting a) ≡ None) ⊎ (is_reset_of_this connecting a ≡ false)
+ResetsOthers a = is_reset_of_this connecting a ≡ false
 
 abbrev IsMild : BodyId → Action → Type 0
 IsMild b a = (is_mild b a ≡ true) × ResetsOthers a
@@ -39,17 +37,17 @@ IsMild b a = (is_mild b a ≡ true) × ResetsOthers a
 mild_constructor : All (AllActions constructor_body (IsMild constructor_body)) constructor_controls
 unfolding next_of
 mild_constructor = all_of (AllActions constructor_body (IsMild constructor_body)) constructor_controls
-    (acts constructor_body constructor_controls (IsMild constructor_body) 0 ((refl, inl refl), tt), (acts constructor_body constructor_controls (IsMild constructor_body) 1 ((refl, inl refl), tt), (acts constructor_body constructor_controls (IsMild constructor_body) 2 ((refl, inl refl), tt), (acts constructor_body constructor_controls (IsMild constructor_body) 3 ((refl, inl refl), tt), (acts constructor_body constructor_controls (IsMild constructor_body) 4 ((refl, inl refl), tt), (acts constructor_body constructor_controls (IsMild constructor_body) 5 ((refl, inl refl), tt), (acts constructor_body constructor_controls (IsMild constructor_body) 6 ((refl, inl refl), tt), (acts constructor_body constructor_controls (IsMild constructor_body) 7 ((refl, inl refl), tt), (acts constructor_body constructor_controls (IsMild constructor_body) 8 ((refl, inl refl), tt), (acts constructor_body constructor_controls (IsMild constructor_body) 9 ((refl, inl refl), tt), (acts constructor_body constructor_controls (IsMild constructor_body) 10 ((refl, inr refl), tt), (acts constructor_body constructor_controls (IsMild constructor_body) 11 ((refl, inl refl), tt), (acts constructor_body constructor_controls (IsMild constructor_body) 12 ((refl, inl refl), tt), (acts constructor_body constructor_controls (IsMild constructor_body) 13 tt, tt))))))))))))))
+    (acts constructor_body constructor_controls (IsMild constructor_body) 0 ((refl, refl), tt), (acts constructor_body constructor_controls (IsMild constructor_body) 1 ((refl, refl), tt), (acts constructor_body constructor_controls (IsMild constructor_body) 2 ((refl, refl), tt), (acts constructor_body constructor_controls (IsMild constructor_body) 3 ((refl, refl), tt), (acts constructor_body constructor_controls (IsMild constructor_body) 4 ((refl, refl), tt), (acts constructor_body constructor_controls (IsMild constructor_body) 5 ((refl, refl), tt), (acts constructor_body constructor_controls (IsMild constructor_body) 6 ((refl, refl), tt), (acts constructor_body constructor_controls (IsMild constructor_body) 7 ((refl, refl), tt), (acts constructor_body constructor_controls (IsMild constructor_body) 8 ((refl, refl), tt), (acts constructor_body constructor_controls (IsMild constructor_body) 9 ((refl, refl), tt), (acts constructor_body constructor_controls (IsMild constructor_body) 10 ((refl, refl), tt), (acts constructor_body constructor_controls (IsMild constructor_body) 11 ((refl, refl), tt), (acts constructor_body constructor_controls (IsMild constructor_body) 12 ((refl, refl), tt), (acts constructor_body constructor_controls (IsMild constructor_body) 13 tt, tt))))))))))))))
 
 mild_close : All (AllActions close_body (IsMild close_body)) close_controls
 unfolding next_of
 mild_close = all_of (AllActions close_body (IsMild close_body)) close_controls
-    (acts close_body close_controls (IsMild close_body) 0 ((refl, inl refl), tt), (acts close_body close_controls (IsMild close_body) 1 ((refl, inl refl), tt), (acts close_body close_controls (IsMild close_body) 2 ((refl, inl refl), tt), (acts close_body close_controls (IsMild close_body) 3 ((refl, inl refl), tt), (acts close_body close_controls (IsMild close_body) 4 ((refl, inl refl), tt), (acts close_body close_controls (IsMild close_body) 5 ((refl, inl refl), tt), (acts close_body close_controls (IsMild close_body) 6 ((refl, inl refl), tt), (acts close_body close_controls (IsMild close_body) 7 tt, tt))))))))
+    (acts close_body close_controls (IsMild close_body) 0 ((refl, refl), tt), (acts close_body close_controls (IsMild close_body) 1 ((refl, refl), tt), (acts close_body close_controls (IsMild close_body) 2 ((refl, refl), tt), (acts close_body close_controls (IsMild close_body) 3 ((refl, refl), tt), (acts close_body close_controls (IsMild close_body) 4 ((refl, refl), tt), (acts close_body close_controls (IsMild close_body) 5 ((refl, refl), tt), (acts close_body close_controls (IsMild close_body) 6 ((refl, refl), tt), (acts close_body close_controls (IsMild close_body) 7 tt, tt))))))))
 
 mild_main : All (AllActions main_body (IsMild main_body)) main_controls
 unfolding next_of
 mild_main = all_of (AllActions main_body (IsMild main_body)) main_controls
-    (acts main_body main_controls (IsMild main_body) 0 ((refl, inl refl), tt), (acts main_body main_controls (IsMild main_body) 1 ((refl, inl refl), tt), (acts main_body main_controls (IsMild main_body) 2 ((refl, inl refl), tt), (acts main_body main_controls (IsMild main_body) 3 ((refl, inl refl), tt), (acts main_body main_controls (IsMild main_body) 4 ((refl, inl refl), tt), (acts main_body main_controls (IsMild main_body) 5 ((refl, inl refl), tt), (acts main_body main_controls (IsMild main_body) 6 ((refl, inl refl), tt), (acts main_body main_controls (IsMild main_body) 7 ((refl, inl refl), tt), (acts main_body main_controls (IsMild main_body) 8 ((refl, inl refl), tt), (acts main_body main_controls (IsMild main_body) 9 ((refl, inl refl), tt), (acts main_body main_controls (IsMild main_body) 10 ((refl, inl refl), tt), (acts main_body main_controls (IsMild main_body) 11 tt, tt))))))))))))
+    (acts main_body main_controls (IsMild main_body) 0 ((refl, refl), tt), (acts main_body main_controls (IsMild main_body) 1 ((refl, refl), tt), (acts main_body main_controls (IsMild main_body) 2 ((refl, refl), tt), (acts main_body main_controls (IsMild main_body) 3 ((refl, refl), tt), (acts main_body main_controls (IsMild main_body) 4 ((refl, refl), tt), (acts main_body main_controls (IsMild main_body) 5 ((refl, refl), tt), (acts main_body main_controls (IsMild main_body) 6 ((refl, refl), tt), (acts main_body main_controls (IsMild main_body) 7 ((refl, refl), tt), (acts main_body main_controls (IsMild main_body) 8 ((refl, refl), tt), (acts main_body main_controls (IsMild main_body) 9 ((refl, refl), tt), (acts main_body main_controls (IsMild main_body) 10 ((refl, refl), tt), (acts main_body main_controls (IsMild main_body) 11 tt, tt))))))))))))
 
 all_mild : HoldsOfSteps IsMild
 all_mild = record { constructor = mild_constructor; close = mild_close; main = mild_main }
@@ -67,20 +65,11 @@ silent (suc zero) = refl
 silent (suc (suc zero)) = refl
 silent (suc (suc (suc n))) = refl
 
-plainly : (b : BodyId) (k : List Todo) (a : Action) → ResetsOthers a → ResetsPlainly connecting b k a
-plainly b k a (inl none) = inl none
-plainly b k a (inr other) = inr (record { other = λ this f. absurd (true≢false (sym this ∙ other)) })
-
-created_plainly : CreatesPlainly connecting
-created_plainly = record {
-  bodies = λ b says f. absurd (true≢false (sym says ∙ silent b.0));
-  steps = λ b {k} i t comes at. plainly b k t.action (mild_step b k i t comes at).1;
-}
-
 pub connecting_plain : IsPlain connecting
 connecting_plain = record {
   stores = λ b {k} i t f d comes at is. sym (ap (is_mild b) is) ∙ (mild_step b k i t comes at).0;
-  creations = created_plainly;
+  bodies = λ b says f. absurd (true≢false (sym says ∙ silent b.0));
+  calls = λ b {k} i t comes at this f. absurd (true≢false (sym this ∙ (mild_step b k i t comes at).1));
 }
 
 -- it has what every program of files has

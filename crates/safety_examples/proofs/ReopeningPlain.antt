@@ -1,16 +1,14 @@
 -- The program is plain.
-use Rattle.std.proofs.Common.{◌≡◌, ◌⊎◌, inl, inr, ℕ, zero, suc, Bool, true, false, true≢false, Some, None, List, slice_get, refl, sym, ap, ◌∙◌, All}
+use Rattle.std.proofs.Common.{◌≡◌, ℕ, zero, suc, Bool, true, false, true≢false, Some, List, slice_get, refl, sym, ap, ◌∙◌, All}
 use Rattle.program_model.specs.declared.kinds.BodyId.{BodyId}
-use Rattle.must_call_sets.specs.Bodies.{reset_in, resets_this}
-use Rattle.obligation_facts.specs.Callees.{callee}
+use Rattle.must_call_sets.specs.Bodies.{resets_this}
 use Rattle.java_control.specs.Calls.{is_reset_of_this}
 use Rattle.java_control.specs.Control.{next_of}
 use Rattle.java_control.specs.Remaining.{Todo}
 use Rattle.java_control.specs.declared.action.Action.{Action}
 use Rattle.java_control.specs.declared.action.Action.TheVariants as actions
 use Rattle.soundness_laws.specs.Paths.{Comes, Move, relation_of}
-use Rattle.soundness_laws.specs.PlainForms.{ResetsPlainly}
-use Rattle.soundness_laws.specs.Plain.{CreatesPlainly, IsPlain}
+use Rattle.soundness_laws.specs.Plain.{IsPlain}
 use Rattle.soundness_laws.specs.AgreementConditions.{MeetsFileConditions}
 use Rattle.soundness_laws.proofs.Tests.{meets_by_tests}
 use Rattle.safety_examples.proofs.ReopeningValid.{valid_program}
@@ -28,9 +26,9 @@ abbrev is_mild : Action → Bool
 is_mild (actions.PutOwn f d) = false
 is_mild a = true
 
--- it creates nothing anew, or what is not called `this`
+-- it does not create the obligation of `this` anew
 abbrev ResetsOthers : Action → Type 0
-ResetsOthers a = (reset_in (callee reopening a) ≡ None) ⊎ (is_reset_of_this reopening a ≡ false)
+ResetsOthers a = is_reset_of_this reopening a ≡ false
 
 abbrev IsMild : Action → Type 0
 IsMild a = (is_mild a ≡ true) × ResetsOthers a
@@ -38,12 +36,12 @@ IsMild a = (is_mild a ≡ true) × ResetsOthers a
 mild_reopen : All (AllActions reopen_body IsMild) reopen_controls
 unfolding next_of
 mild_reopen = all_of (AllActions reopen_body IsMild) reopen_controls
-    (acts reopen_body reopen_controls IsMild 0 ((refl, inl refl), tt), (acts reopen_body reopen_controls IsMild 1 ((refl, inl refl), tt), (acts reopen_body reopen_controls IsMild 2 ((refl, inl refl), tt), (acts reopen_body reopen_controls IsMild 3 ((refl, inl refl), tt), (acts reopen_body reopen_controls IsMild 4 ((refl, inr refl), tt), (acts reopen_body reopen_controls IsMild 5 ((refl, inl refl), tt), (acts reopen_body reopen_controls IsMild 6 ((refl, inl refl), tt), (acts reopen_body reopen_controls IsMild 7 tt, tt))))))))
+    (acts reopen_body reopen_controls IsMild 0 ((refl, refl), tt), (acts reopen_body reopen_controls IsMild 1 ((refl, refl), tt), (acts reopen_body reopen_controls IsMild 2 ((refl, refl), tt), (acts reopen_body reopen_controls IsMild 3 ((refl, refl), tt), (acts reopen_body reopen_controls IsMild 4 ((refl, refl), tt), (acts reopen_body reopen_controls IsMild 5 ((refl, refl), tt), (acts reopen_body reopen_controls IsMild 6 ((refl, refl), tt), (acts reopen_body reopen_controls IsMild 7 tt, tt))))))))
 
 mild_main : All (AllActions main_body IsMild) main_controls
 unfolding next_of
 mild_main = all_of (AllActions main_body IsMild) main_controls
-    (acts main_body main_controls IsMild 0 ((refl, inl refl), tt), (acts main_body main_controls IsMild 1 ((refl, inl refl), tt), (acts main_body main_controls IsMild 2 ((refl, inl refl), tt), (acts main_body main_controls IsMild 3 ((refl, inl refl), tt), (acts main_body main_controls IsMild 4 ((refl, inl refl), tt), (acts main_body main_controls IsMild 5 ((refl, inl refl), tt), (acts main_body main_controls IsMild 6 ((refl, inl refl), tt), (acts main_body main_controls IsMild 7 ((refl, inl refl), tt), (acts main_body main_controls IsMild 8 ((refl, inr refl), tt), (acts main_body main_controls IsMild 9 ((refl, inl refl), tt), (acts main_body main_controls IsMild 10 ((refl, inl refl), tt), (acts main_body main_controls IsMild 11 ((refl, inl refl), tt), (acts main_body main_controls IsMild 12 ((refl, inl refl), tt), (acts main_body main_controls IsMild 13 ((refl, inl refl), tt), (acts main_body main_controls IsMild 14 ((refl, inl refl), tt), (acts main_body main_controls IsMild 15 ((refl, inl refl), tt), (acts main_body main_controls IsMild 16 ((refl, inl refl), tt), (acts main_body main_controls IsMild 17 tt, tt))))))))))))))))))
+    (acts main_body main_controls IsMild 0 ((refl, refl), tt), (acts main_body main_controls IsMild 1 ((refl, refl), tt), (acts main_body main_controls IsMild 2 ((refl, refl), tt), (acts main_body main_controls IsMild 3 ((refl, refl), tt), (acts main_body main_controls IsMild 4 ((refl, refl), tt), (acts main_body main_controls IsMild 5 ((refl, refl), tt), (acts main_body main_controls IsMild 6 ((refl, refl), tt), (acts main_body main_controls IsMild 7 ((refl, refl), tt), (acts main_body main_controls IsMild 8 ((refl, refl), tt), (acts main_body main_controls IsMild 9 ((refl, refl), tt), (acts main_body main_controls IsMild 10 ((refl, refl), tt), (acts main_body main_controls IsMild 11 ((refl, refl), tt), (acts main_body main_controls IsMild 12 ((refl, refl), tt), (acts main_body main_controls IsMild 13 ((refl, refl), tt), (acts main_body main_controls IsMild 14 ((refl, refl), tt), (acts main_body main_controls IsMild 15 ((refl, refl), tt), (acts main_body main_controls IsMild 16 ((refl, refl), tt), (acts main_body main_controls IsMild 17 tt, tt))))))))))))))))))
 
 all_mild : HoldsOfSteps IsMild
 all_mild = record { reopen = mild_reopen; main = mild_main }
@@ -61,20 +59,11 @@ silent (suc zero) = refl
 silent (suc (suc n)) = refl
 
 -- the program declares no owning field
-plainly : (b : BodyId) (k : List Todo) (a : Action) → ResetsOthers a → ResetsPlainly reopening b k a
-plainly b k a (inl none) = inl none
-plainly b k a (inr other) = inr (record { other = λ this f. absurd (true≢false (sym this ∙ other)) })
-
-created_plainly : CreatesPlainly reopening
-created_plainly = record {
-  bodies = λ b says f. absurd (true≢false (sym says ∙ silent b.0));
-  steps = λ b {k} i t comes at. plainly b k t.action (mild_step b k i t comes at).1;
-}
-
 pub reopening_plain : IsPlain reopening
 reopening_plain = record {
   stores = λ b {k} i t f d comes at is. absurd (true≢false (sym (mild_step b k i t comes at).0 ∙ ap is_mild is));
-  creations = created_plainly;
+  bodies = λ b says f. absurd (true≢false (sym says ∙ silent b.0));
+  calls = λ b {k} i t comes at this f. absurd (true≢false (sym this ∙ (mild_step b k i t comes at).1));
 }
 
 -- it has what every program of files has

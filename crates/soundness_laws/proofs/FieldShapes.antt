@@ -1,5 +1,5 @@
 -- Owning fields of an accepted program have the shape that is asked: what is stored into them other than by `=` is a text.
-use Rattle.std.proofs.Common.{◌≡◌, ◌⊎◌, inl, inr, ℕ, zero, suc, Bool, true, false, not, ◌&&◌, ◌||◌, Option, Some, None, IsSomeAnd, List, [], ◌∷◌, slice_get, refl, sym, ap, ◌∙◌, true≢false, eqb-true, eq-eqb, if◌then◌else◌}
+use Rattle.std.proofs.Common.{◌≡◌, ◌⊎◌, ℕ, zero, suc, Bool, true, false, not, ◌&&◌, ◌||◌, Option, Some, None, IsSomeAnd, List, [], ◌∷◌, slice_get, refl, sym, ap, ◌∙◌, true≢false, eqb-true, eq-eqb, if◌then◌else◌}
 use Rattle.std.specs.Prelude.{nat_eq}
 use Rattle.std.specs.List.{list_any}
 use Rattle.std.proofs.lemmas.Bool.{and_from, and_parts, or_left, or_right}
@@ -25,7 +25,7 @@ use Rattle.program_model.specs.SuperTests.{is_class}
 use Rattle.program_model.specs.Typing.{IsCastable, IsNumeric, IsOfOptionalType, IsOperatorAssignment, IsOwnPlace, IsStored, IsTypeUnder, binary_result, kind_at, kind_in}
 use Rattle.program_model.specs.Typing as typing
 use Rattle.ledger_obligations.specs.Bodies.{is_class_of, is_extended}
-use Rattle.must_call_reset.specs.OwningCases.{assigns_from_outside, field_ids, has_no_finalizer, is_assigned_from_outside, is_assigned_in, is_class_type, is_foreign, is_foreign_place, is_foreign_target, is_misshapen, may_hold_unseen_reset, owning_cases_in, owning_cases_of}
+use Rattle.must_call_reset.specs.OwningCases.{assigns_from_outside, field_ids, has_no_finalizer, is_assigned_from_outside, is_assigned_in, is_class_type, is_foreign_place, is_foreign_target, is_misshapen, may_hold_unseen_reset, owning_cases_in, owning_cases_of}
 use Rattle.rlc_base.specs.declared.code.Code.TheVariants as refused
 use Rattle.rlc_base.specs.declared.faults.Refusal.{Refusal}
 use Rattle.refusal_order.specs.Refusals.{refused_at, where_true}

@@ -11,7 +11,6 @@ use Rattle.rlc_base.specs.declared.place.Pos.{Pos}
 use Rattle.java_control.specs.Control.{Step}
 use Rattle.java_control.specs.Owned.{is_owning}
 use Rattle.java_control.specs.declared.action.Action.{Action}
-use Rattle.java_control.specs.declared.action.Action.TheVariants as actions
 use Rattle.java_control.specs.declared.action.Edge.{Edge}
 use Rattle.java_control.specs.declared.action.Edge.TheVariants as edges
 use Rattle.ownership_rules.specs.Callees.{may_be_null_target}
@@ -20,8 +19,6 @@ use Rattle.content_laws.specs.Aliases.{gives_alias}
 use Rattle.content_laws.specs.Accept.{Accept}
 use Rattle.ledger_state.specs.Contents.{HeapContents}
 use Rattle.ledger_state.specs.Heaps.{next_number, object_at}
-use Rattle.ledger_state.specs.Values.{number_of}
-use Rattle.ledger_state.specs.Locals.{temp_value}
 use Rattle.ledger_state.specs.declared.array.ArrayObject.{ArrayObject}
 use Rattle.ledger_state.specs.declared.entry.Entry.{Entry}
 use Rattle.ledger_state.specs.declared.entry.Owner.TheVariants as owners

@@ -31,7 +31,7 @@ use Rattle.ledger_steps.specs.LedgerCallsCalls.{body_of}
 use Rattle.content_laws.specs.Choosing.{body_id}
 use Rattle.content_laws.specs.PlainForms.{IsPlainAction, IsTextUpdate, MayRun}
 use Rattle.content_laws.specs.Running.{HasPlainRuns, IsAlike, is_on_object}
-use Rattle.content_laws.specs.ClassValues.{HasClassResults, KeepsResultClasses}
+use Rattle.content_laws.specs.ClassValues.{KeepsResultClasses}
 use Rattle.content_laws.specs.ClassOperands.{result_of}
 use Rattle.soundness_laws.specs.Plain.{IsPlain}
 use Rattle.content_laws.specs.AgreementConditions.{MeetsFileConditions}

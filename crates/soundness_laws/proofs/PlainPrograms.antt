@@ -1,6 +1,5 @@
 -- A plain program that is accepted has the plain forms.
-use Rattle.std.proofs.Common.{◌≡◌, ℕ, zero, suc, Bool, true, false, not, ◌||◌, Option, Some, None, IsSomeAnd, List, [], ◌∷◌, map, slice_get, refl, sym, ap, ◌∙◌, subst, true≢false}
-use Rattle.std.specs.List.{list_any}
+use Rattle.std.proofs.Common.{◌≡◌, ℕ, zero, suc, true, false, not, ◌||◌, Option, Some, None, IsSomeAnd, List, [], ◌∷◌, inr, map, slice_get, refl, sym, ap, ◌∙◌, subst, true≢false}
 use Rattle.std.proofs.lemmas.Bool.{and_from, or_left, or_right}
 use Rattle.program_model.specs.declared.kinds.BodyId.{BodyId}
 use Rattle.program_model.specs.declared.kinds.ClassId.{ClassId}
@@ -145,6 +144,6 @@ module _ (p : Program) (ac : Accept p) where
       updates = text_updates p ac files plain;
       parents = parents;
       own = own_methods p ac;
-      bodies = plain.creations.bodies;
-      resets = plain.creations.steps;
+      bodies = plain.bodies;
+      resets = λ b {k} i t comes there. inr (record { other = plain.calls b i t comes there });
     }

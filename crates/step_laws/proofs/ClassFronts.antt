@@ -33,7 +33,7 @@ use Rattle.program_model.specs.Validity.{IsTypedProgram}
 use Rattle.rlc_base.specs.declared.place.Pos.{Pos}
 use Rattle.java_control.specs.Expressions.{assignment_front, binary_front, call_with, comparison_front, computes, evaluations, expression_front, field_read, field_store, new_front, postfix_front, stored, stored_at, stored_in, tested_front, type_or_null, unary_front, update_front}
 use Rattle.java_control.specs.NullTests.{compared_with_null}
-use Rattle.java_control.specs.Owned.{declares_field, field_number, has_place, is_owning, is_this, place_of_field}
+use Rattle.java_control.specs.Owned.{declares_field, field_number, is_owning, is_this, place_of_field}
 use Rattle.java_control.specs.Remaining.{Todo, Ev, Act}
 use Rattle.java_control.specs.declared.action.Action.TheVariants as actions
 use Rattle.java_control.specs.declared.action.Operator.{Operator}
@@ -196,9 +196,9 @@ module _ (p : Program) (bound : ClassId) (typed : IsTypedProgram p) (own : IsNot
       computes_find operators.StoreElement (a ∷ i ∷ value ∷ []) d pos k h (plainly k d (IsOfClass p bound t) h h (element_never p bound b a i t is) (λ x under. under.1) finds) past
 
   -- what is stored stands in t(d), and goes to a place of another type
-  module _ (d : ℕ) (pos : Pos) (k : List Todo) (Made : Type 0) (h : ℕ → Type 0) where
+  module _ (d : ℕ) (pos : Pos) (k : List Todo) (GivesIt : Type 0) (h : ℕ → Type 0) where
     abbrev g : ℕ → Type 0
-    g = below_and_at d Made h
+    g = below_and_at d GivesIt h
 
     abbrev aside_copy : ℕ → Type 0
     aside_copy = put_at (d + 1) (g d) g
@@ -225,7 +225,7 @@ module _ (p : Program) (bound : ClassId) (typed : IsTypedProgram p) (own : IsNot
     past_made : Within (below d h) (below d g)
     past_made x under = (under.0, inl under)
 
-    stored_finds : (j : ExpressionKind) (t : VType) → IsOwnPlace p b (Some j) t → (IsOfClass p bound t → ⊥) → (t ≡ types.Str → Made) → FindsClass p bound b k (below d h) → FindsAside p bound b k (below d h) → FindsClass p bound b (stored_in j d pos ++ k) g
+    stored_finds : (j : ExpressionKind) (t : VType) → IsOwnPlace p b (Some j) t → (IsOfClass p bound t → ⊥) → (t ≡ types.Str → GivesIt) → FindsClass p bound b k (below d h) → FindsAside p bound b k (below d h) → FindsClass p bound b (stored_in j d pos ++ k) g
     stored_finds (expressions.Local x) t is never made finds past = (λ to. absurd (never (subst (OfClass p bound) is to)), finds_more p bound b k (below d h) g under_made finds, tt)
     stored_finds (expressions.StaticField f) t is never made finds past = (tt, finds_more p bound b k (below d h) (below_and_at d ⊥ g) under_static finds, past_more p bound b k (below d h) (below d g) past_made past)
     stored_finds (expressions.Field e f) t is never made finds past = (
@@ -257,7 +257,7 @@ module _ (p : Program) (bound : ClassId) (typed : IsTypedProgram p) (own : IsNot
     stored_past (expressions.Literal l) held past = past
     stored_past j held past = past
 
-    stored_find : (e : ExprId) (t : VType) → IsOwnPlace p b (kind_at b e) t → (IsOfClass p bound t → ⊥) → (t ≡ types.Str → Made) → FindsClass p bound b k (below d h) → FindsAside p bound b k (below d h) → FindsClass p bound b (stored b e d pos ++ k) g
+    stored_find : (e : ExprId) (t : VType) → IsOwnPlace p b (kind_at b e) t → (IsOfClass p bound t → ⊥) → (t ≡ types.Str → GivesIt) → FindsClass p bound b k (below d h) → FindsAside p bound b k (below d h) → FindsClass p bound b (stored b e d pos ++ k) g
     stored_find e t is never made finds past = go (expression_at b e) is
       where
         go : (x : Option TExpr) → IsOwnPlace p b (kind_in x) t → FindsClass p bound b (stored_at x d pos ++ k) g
@@ -272,12 +272,12 @@ module _ (p : Program) (bound : ClassId) (typed : IsTypedProgram p) (own : IsNot
         go (Some x) = stored_past x.kind held past
 
   -- what the operator gives is a text
-  abbrev Made : OperatorAssignment → Option VType → Type 0
-  Made a u = GivesText (operators.Binary a.operator a.operands (type_or_null u))
+  abbrev GivesUpdate : OperatorAssignment → Option VType → Type 0
+  GivesUpdate a u = GivesText (operators.Binary a.operator a.operands (type_or_null u))
 
   -- so it is where the place is of type `String`
   abbrev UpdatesText : OperatorAssignment → VType → Option VType → Type 0
-  UpdatesText a t u = t ≡ types.Str → Made a u
+  UpdatesText a t u = t ≡ types.Str → GivesUpdate a u
 
   update_text : (a : OperatorAssignment) (t : VType) → IsOperatorAssignment p b a t → UpdatesText a t (Some t)
   update_text a t is text = go (text_operands p b a t is text) text
@@ -290,7 +290,7 @@ module _ (p : Program) (bound : ClassId) (typed : IsTypedProgram p) (own : IsNot
   update_finds a u t d pos k h is text finds past =
       in_three p bound b (computes (operators.Binary a.operator a.operands (type_or_null u)) (a.target ∷ a.value ∷ []) d pos) (stored b a.target d pos) k h
       (gives_find (operators.Binary a.operator a.operands (type_or_null u)) (a.target ∷ a.value ∷ []) d pos (stored b a.target d pos ++ k) h
-      (stored_find d pos k (Made a u) h a.target t is.0 (update_never p bound b a t is) text finds past) (stored_passed d pos k (Made a u) h a.target (below d h) past))
+      (stored_find d pos k (GivesUpdate a u) h a.target t is.0 (update_never p bound b a t is) text finds past) (stored_passed d pos k (GivesUpdate a u) h a.target (below d h) past))
 
   postfix_finds : (a : OperatorAssignment) (u : Option VType) (t : VType) (d : ℕ) (pos : Pos) (k : List Todo) (h : ℕ → Type 0) → IsOperatorAssignment p b a t → UpdatesText a t u
       → FindsClass p bound b k (below d h) → FindsAside p bound b k (below d h) → FindsClass p bound b (postfix_front b a u d pos ++ k) h
@@ -298,13 +298,13 @@ module _ (p : Program) (bound : ClassId) (typed : IsTypedProgram p) (own : IsNot
       in_three p bound b (Ev a.target d ∷ operation ++ store) drop k h
       (in_three p bound b (Ev a.target d ∷ operation) store (drop ++ k) h (
         gives_find (operators.Binary a.operator a.operands (type_or_null u)) (a.target ∷ a.value ∷ []) (d + 1) pos (store ++ (drop ++ k)) value
-            (stored_find (d + 1) pos (drop ++ k) (Made a u) value a.target t is.0 (update_never p bound b a t is) text (
+            (stored_find (d + 1) pos (drop ++ k) (GivesUpdate a u) value a.target t is.0 (update_never p bound b a t is) text (
               tt,
               finds_more p bound b k (below d h) (below (d + 1) (below (d + 1) value)) kept finds,
               tt,
             ) (past_next k a.target d h past))
-            (stored_passed (d + 1) pos (drop ++ k) (Made a u) value a.target (below (d + 1) value) (past_next k a.target d h past)),
-        operation_past (stored_passed (d + 1) pos (drop ++ k) (Made a u) value a.target (below d h) past),
+            (stored_passed (d + 1) pos (drop ++ k) (GivesUpdate a u) value a.target (below (d + 1) value) (past_next k a.target d h past)),
+        operation_past (stored_passed (d + 1) pos (drop ++ k) (GivesUpdate a u) value a.target (below d h) past),
       ))
     where
       operation : List Todo

@@ -11,7 +11,7 @@ use Rattle.program_model.specs.declared.kinds.VType.TheVariants as types
 use Rattle.program_model.specs.declared.program.Program.{Program}
 use Rattle.program_model.specs.declared.tree.Body.{Body}
 use Rattle.program_model.specs.declared.tree.OperatorAssignment.{OperatorAssignment}
-use Rattle.program_model.specs.Typing.{IsCastable, IsNumeric, IsOperatorAssignment, IsStored, binary_result, bitwise_result, boolean, equality_result, logical_result, number_result, order_result, sum_result}
+use Rattle.program_model.specs.Typing.{IsCastable, IsNumeric, IsOperatorAssignment, IsStored, binary_result, bitwise_result, equality_result, logical_result, number_result, order_result, sum_result}
 
 -- the type is a primitive one, so it is not that of texts
 no_text : (t : VType) → (t ≡ types.Str → ⊥) → ◌≡◌ {A = Option VType} (Some t) (Some types.Str) → ⊥

@@ -13,7 +13,8 @@ ghost use Rattle.step_laws.specs.Operands.{nowhere_held};
 ghost use Rattle.step_laws.specs.ClassOperands.{FindsClass, Fits, IsNotAboveString, left_held};
 
 /// When a body begins nothing is known of its temps, and each action that is to come finds the values that it asks: an object of the class
-/// `bound` or null where the static type is under the class.
+/// `bound` or null where the static type is under the class, and where another operator than `=` stores into an owning field of type `String` the text that
+/// it has made.
 pub fn start_finds_class()
     ensures { (p : Program) (bound : ClassId) → IsTypedProgram p → IsNotAboveString p bound → (n : BodyId) (b : Body) → body_at p n ≡ Some b → FindsClass p bound b (start_of p n) nowhere_held }
 {}

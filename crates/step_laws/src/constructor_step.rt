@@ -35,8 +35,8 @@ pub fn super_calls_stand_in_bodies()
         → slice_get ((relation_of p b).next k) i ≡ Some t → StandsInBody x t.action }
 {}
 
-/// Each step of a reached control that stores into a field, other than an owning field of `this` in the class that declares it, does so where an
-/// expression of the body assigns that field (JLS 15.26).
+/// Each step of a reached control that stores into a field, other than by `=` into an owning field of `this` in the class that declares it, does so
+/// where an expression of the body assigns that field: one of `this`, where it is by another operator than `=` (JLS 15.26, 15.14.2, 15.15.1).
 pub fn stored_fields_are_assigned()
     ensures { (p : Program) → IsTypedProgram p → (b : BodyId) (x : Body) (k : List Todo) (i : ℕ) (t : Move (List Todo)) → body_at p b ≡ Some x → Comes (relation_of p b) k
         → slice_get ((relation_of p b).next k) i ≡ Some t → StoresAssignedField p x t.action }

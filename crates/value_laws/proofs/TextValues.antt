@@ -2,11 +2,10 @@
 use Rattle.std.proofs.Common.{◌≡◌, ℕ, ◌+◌, Bool, true, false, true≢false, Option, Some, None, slice_get, refl, sym, ap, ◌∙◌, subst, eqb-true}
 use Rattle.program_model.specs.declared.kinds.ClassId.{ClassId}
 use Rattle.program_model.specs.declared.kinds.FieldId.{FieldId}
-use Rattle.program_model.specs.declared.kinds.VType.TheVariants as types
 use Rattle.program_model.specs.declared.program.Program.{Program}
-use Rattle.program_model.specs.SuperTests.{is_class, is_under}
+use Rattle.program_model.specs.SuperTests.{is_under}
 use Rattle.java_control.specs.Control.{Step}
-use Rattle.java_control.specs.Owned.{declares_field, is_owning}
+use Rattle.java_control.specs.Owned.{is_owning}
 use Rattle.java_control.specs.declared.action.Action.{Action}
 use Rattle.java_control.specs.declared.action.Action.TheVariants as actions
 use Rattle.ledger_state.specs.Contents.{HeapContents}
