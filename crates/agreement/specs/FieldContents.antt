@@ -36,7 +36,7 @@ use Rattle.ledger_runs.specs.Choosing.{frame_steps}
 use Rattle.heap_laws.specs.Leading.{Leads}
 use Rattle.agreement.specs.PlainForms.{run_by}
 use Rattle.agreement.specs.Renewable.{IsFollowed}
-use Rattle.agreement.specs.PlaceFacts.{may_owe}
+use Rattle.agreement.specs.PlaceFacts.{OwesOrHolds}
 use Rattle.agreement.specs.Safety.{constructs_object}
 
 -- the names that the method promises to call on what the field of `this` holds
@@ -92,9 +92,9 @@ HaveContents p frs h = (o : ℕ) (x : Object) (w : ℕ) (f : FieldId) → object
 abbrev pub OwningFieldsOwn : Program → HeapContents → Type 0
 OwningFieldsOwn p h = (o : ℕ) (x : Object) (w : ℕ) (f : FieldId) → object_at h o ≡ Some x → x.owner ≡ owners.Field w f → (is_owning p f ≡ true) × IsFollowed p x.class
 
--- calls on each object reach its root, where that is one whose class has an obligation, and that may owe a call
+-- calls on each object reach its root, where that is one whose class has an obligation, and that may owe a call, or of which a field owns something
 abbrev pub LinksLead : Program → HeapContents → Type 0
-LinksLead p h = (k o : ℕ) (x y : Object) → object_at h k ≡ Some x → root h k ≡ o → object_at h o ≡ Some y → is_heavy_class p y.class ≡ true → may_owe y ≡ true → Leads p h k o
+LinksLead p h = (k o : ℕ) (x y : Object) → object_at h k ≡ Some x → root h k ≡ o → object_at h o ≡ Some y → is_heavy_class p y.class ≡ true → OwesOrHolds p h o y → Leads p h k o
 
 -- ---- a constructor's object is new
 

@@ -1,5 +1,5 @@
 -- Which facts stand for what the places of a frame hold: each place that holds an object whose class has an obligation, and that may owe
--- a call, is in a fact that a path brings to the frame's control, and where such a fact says that the object is owned, what it says is
+-- a call, or of which a field owns something, is in a fact that a path brings to the frame's control, and where such a fact says that the object is owned, what it says is
 -- true. Of each object, one fact of a frame at most says that the frame owns it.
 use Rattle.std.specs.Prelude.{◌≡◌, ◌⊎◌, ℕ, ◌+◌, ◌<◌, Bool, true, false, not, ◌&&◌, ◌||◌, Option, Some, None, List, [], ◌∷◌, length, nat_lt, slice_get, if◌then◌else◌}
 use Rattle.std.specs.List.{list_any}
@@ -49,6 +49,14 @@ use Rattle.agreement.specs.Renewing.{IsLentFrom, IsOwnedByThis, fact_as, is_rene
 -- the object is not finished yet, or the library does not own it. (What the library owns it owns for ever. An alias of null is the library's.)
 abbrev pub may_owe : Object → Bool
 may_owe x = not (x.finished && is_library_owner x.owner)
+
+-- a field of the object owns a finished object whose class has an obligation
+abbrev pub IsHolder : Program → HeapContents → ℕ → Type 0
+IsHolder p h w = (c : ℕ) × (y : Object) × (object_at h c ≡ Some y) × (y.finished ≡ true) × (is_heavy_class p y.class ≡ true) × (is_held_by y.owner w ≡ true)
+
+-- the object may owe a call, or a field of it owns an object with an obligation
+abbrev pub OwesOrHolds : Program → HeapContents → ℕ → Object → Type 0
+OwesOrHolds p h o x = (may_owe x ≡ true) ⊎ IsHolder p h o
 
 -- The fact says that the object is owned, and that it has an obligation: the frame owns it, or, in a constructor without an aliased argument, a
 -- field of `this`. (Elsewhere a field may hold what it does not own, such as an aliased argument that a constructor has kept.) A fact whose class
@@ -265,11 +273,11 @@ pub data IsKeyed (p : Program) (h : HeapContents) (away anew : Bool) (frs : List
   owned : (c : Covers p h away anew frs fr o x) → has c.fact.places q ≡ true → IsOwned p h away anew frs fr o x c → IsKeyed p h away anew frs fr q o x
   unowned : IsUnowned p h away anew frs fr q o x → IsKeyed p h away anew frs fr q o x
 
--- each place of the frame that holds an object whose class has an obligation, and that may owe a call, is so. `gives` says which objects
+-- each place of the frame that holds an object whose class has an obligation, and that may owe a call, or of which a field owns something, is so. `gives` says which objects
 -- are given away, and `renewed` of which the obligation is created anew
 abbrev pub IsCovered : Program → HeapContents → (ℕ → ClassId → Bool) → (ℕ → Bool) → List Frame → Frame → Type 0
 IsCovered p h gives renewed frs fr = (q : Place) (o : ℕ) (x : Object) → IsSmall q → root_of h (place_value p h fr.method fr.locals q) ≡ Some o → object_at h o ≡ Some x
-    → is_heavy_class p x.class ≡ true → may_owe x ≡ true → IsKeyed p h (gives o x.class) (renewed o) frs fr q o x
+    → is_heavy_class p x.class ≡ true → OwesOrHolds p h o x → IsKeyed p h (gives o x.class) (renewed o) frs fr q o x
 
 -- the top frame gives nothing away
 abbrev pub gives_none : ℕ → ClassId → Bool

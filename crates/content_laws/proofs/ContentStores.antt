@@ -1,4 +1,6 @@
 -- The store into an owning field of `this`.
+use Rattle.covering_laws.proofs.OlderHolders.{field_of_owner}
+use Rattle.covering_laws.proofs.Owners.{HoldersWere}
 use Rattle.std.specs.Prelude.{is_some, not, ◌&&◌}
 use Rattle.std.proofs.lemmas.Bool.{and_parts, not-true}
 use Rattle.std.specs.FinSet as set
@@ -55,7 +57,7 @@ use Rattle.covering_laws.proofs.StoredObjects.{bound_back, stored_back, stored_f
 use Rattle.covering_laws.proofs.Ready.{step_there}
 use Rattle.covering_laws.proofs.Unmet.{may_lies}
 use Rattle.covering_laws.specs.FieldContents.{FieldsHold, HaveContents, IsContent, LinksLead, OwningFieldsOwn, has_obligation, is_made_in}
-use Rattle.covering_laws.specs.PlaceFacts.{IsCovered, gives_none, renews_none}
+use Rattle.covering_laws.specs.PlaceFacts.{IsCovered, gives_none, renews_none, IsHolder}
 use Rattle.covering_laws.specs.Renewable.{IsFollowed}
 use Rattle.covering_laws.specs.Sight.{ActsInSight}
 use Rattle.covering_laws.proofs.KeptArguments.{argument_alone, this_alone}
@@ -287,7 +289,7 @@ module _ (p : Program) (ac : Accept p) (forms' : HasPlainForms p) (h : HeapConte
       let root : root_of h fr.locals.this ≡ Some o =
       this_alone p ac forms' h frs fr st covered i d s f o x here is constructor (alias_is ∙ alias)
       (heavy_field_by p f field declared.1 x.class heavy (type_bound o x moved))
-      moved.root at heavy (not_the_librarys_owes x (may_library p (type_of_field (field_at p f)) x moved.may)) in
+      moved.root at heavy (inl (not_the_librarys_owes x (may_library p (type_of_field (field_at p f)) x moved.may))) in
       let same : w ≡ o = (let both : Some w ≡ Some o = sym (ap (root_of h) this ∙ unlinked_root h links w self self_at unfinished) ∙ root in (let one : w ≡ o = cc in one)) in
       let one : self ≡ x = (let both : Some self ≡ Some x = sym self_at ∙ ap (object_at h) same ∙ at in (let it : self ≡ x = cc in it)) in
       absurd (true≢false (sym (may_finished p (type_of_field (field_at p f)) x moved.may) ∙ ap (λ (z : Object). z.finished) (sym one) ∙ unfinished))
@@ -295,14 +297,14 @@ module _ (p : Program) (ac : Accept p) (forms' : HasPlainForms p) (h : HeapConte
       bound_when h (method_at p fr.method) fr.locals v a o constructor alias moved.root
       (argument_alone p ac forms' h frs fr st covered i d s f o x a here is constructor (alias_is ∙ alias)
       (heavy_field_by p f field declared.1 x.class heavy (type_bound o x moved))
-      moved.root at heavy (not_the_librarys_owes x (may_library p (type_of_field (field_at p f)) x moved.may)))
+      moved.root at heavy (inl (not_the_librarys_owes x (may_library p (type_of_field (field_at p f)) x moved.may))))
 
   -- the frame after the store makes what it made
   module _ (own' : PromisesItsOwn p) (after : Frame) (same_makes : (u : ℕ) (c : ClassId) → is_made_in p u c (after ∷ frs) ≡ is_made_in p u c (fr ∷ frs)) where
     old_content : (o : ℕ) (x : Object) (u : ℕ) (g : FieldId) → object_at h o ≡ Some x → object_at k o ≡ Some x → has_obligation p x ≡ true → x.owner ≡ owners.Field u g → IsContent p (after ∷ frs) k o x u g
     old_content o x u g at now has owner =
         content_goes_on p own' h k NoName (fr ∷ frs) (after ∷ frs) o x x u g content at now (record { class = refl; link = refl; finished = refl; must = refl; called = within_self x.called })
-        (named u content.holder content.at) held (led_there p h hold.leads (field_value p h u g) o x content.held at (obligation_is_heavy p x has content.own) (not_the_librarys_owes x (ap is_library_owner owner))) (λ m e n fin there class interest must never. absurd never) (λ un' made. same_makes u content.field.class ∙ made)
+        (named u content.holder content.at) held (led_there p h hold.leads (field_value p h u g) o x content.held at (obligation_is_heavy p x has content.own) (inl (not_the_librarys_owes x (ap is_library_owner owner)))) (λ m e n fin there class interest must never. absurd never) (λ un' made. same_makes u content.field.class ∙ made)
       where
         content : IsContent p (fr ∷ frs) h o x u g
         content = hold.contents o x u g at has owner
@@ -431,5 +433,20 @@ module _ (p : Program) (ac : Accept p) (forms' : HasPlainForms p) (h : HeapConte
             subst (IsFollowed p) (sym (ap (λ (z : Object). z.class) moved.1)) (sight.stores i s f declared.0 d o x here is declared.1 declared.2 moved.0.root before),
           )
 
+  -- what a field of another object owns it owned
+  stored_holders : HoldersWere p h k
+  stored_holders u ready (c, y, now, done, heavy, held) = by (stored_back p h w f v bound c y (still bound) now)
+    where
+      own : (g : FieldId) × (y.owner ≡ owners.Field u g)
+      own = field_of_owner y.owner u held
+
+      by : (x : Object) × (object_at h c ≡ Some x) × IsStored p h w f v c x y → IsHolder p h u
+      by (x, before, inl same) = (c, y, before ∙ ap Some (sym same), done, heavy, held)
+      by (x, before, inr (inl gone)) = absurd (given_no_field x u own.0 (ap (λ (z : Object). z.owner) (sym gone.1) ∙ own.1))
+      by (x, before, inr (inr moved)) =
+          let same : owners.Field w f ≡ owners.Field u own.0 = ap (λ (z : Object). z.owner) (sym moved.1) ∙ own.1 in
+          let one : w ≡ u = cc in
+          absurd (true≢false (sym (ready self (ap (object_at h) (sym one) ∙ self_at)) ∙ unfinished))
+
   pub stored_leads : LinksLead p k
-  stored_leads = leads_stay p h k store_forth stored_fields links store_library hold.leads (λ n y at. (let x = stored_back p h w f v bound n y (still bound) at in (x.0, x.1)))
+  stored_leads = leads_stay p h k store_forth stored_fields links store_library stored_holders hold.leads (λ n y at. (let x = stored_back p h w f v bound n y (still bound) at in (x.0, x.1)))

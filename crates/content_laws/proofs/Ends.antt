@@ -2,7 +2,7 @@
 use Rattle.covering_laws.specs.Renewing.{is_renewed}
 use Rattle.std.specs.Prelude.{not}
 use Rattle.std.specs.FinSet as set
-use Rattle.std.proofs.Common.{◌≡◌, ℕ, Bool, true, false, true≢false, Option, Some, None, List, ◌∷◌, slice_get, refl, sym, ap, ◌∙◌, inr, eq-eqb}
+use Rattle.std.proofs.Common.{inl, ◌≡◌, ℕ, Bool, true, false, true≢false, Option, Some, None, List, ◌∷◌, slice_get, refl, sym, ap, ◌∙◌, inr, eq-eqb}
 use Rattle.rlc_base.proofs.SetLaws.{within_trans}
 use Rattle.rlc_base.specs.declared.name_id.NameId.{NameId}
 use Rattle.program_model.specs.declared.kinds.ClassId.{ClassId}
@@ -66,7 +66,7 @@ module _ (p : Program) (h : HeapContents) (frs : List Frame) (fr : Frame) (o : �
     held = content.held;
     at = at;
     class = class';
-    owes = not_the_librarys_owes x (ap is_library_owner owner);
+    owes = inl (not_the_librarys_owes x (ap is_library_owner owner));
   }
 
 pub receiver_object : (w : ℕ) (v : Value) → number_of v ≡ Some w → v ≡ values.Object w

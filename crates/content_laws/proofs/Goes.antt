@@ -1,4 +1,6 @@
 -- What owning fields hold and own goes on over a step: the contents, what fits a field, and the frames.
+use Rattle.covering_laws.proofs.OlderHolders.{field_of_owner}
+use Rattle.covering_laws.proofs.Owners.{HoldersStay, held_at}
 use Rattle.std.specs.Prelude.{◌<◌, ◌&&◌, ◌||◌, not}
 use Rattle.std.specs.List.{All}
 use Rattle.std.specs.FinSet as set
@@ -46,7 +48,7 @@ use Rattle.covering_laws.proofs.ObjectLaws.{changed_at, goes_on_further, in_rang
 use Rattle.content_laws.proofs.Leaves.{Leaves, StaysBut, leaves_self, lose_leaves, loses}
 use Rattle.content_laws.proofs.Noted.{AreNotesOf, noted_called}
 use Rattle.covering_laws.specs.FieldContents.{AreDispatched, AreUnfinished, DeclaresOwning, HaveContents, IsContent, IsDispatched, IsKept, LinksLead, has_obligation, is_made_in, promised_on}
-use Rattle.covering_laws.specs.PlaceFacts.{may_owe}
+use Rattle.covering_laws.specs.PlaceFacts.{may_owe, OwesOrHolds}
 use Rattle.covering_laws.specs.Ranges.{IsInRange, IsNumber, LocalsInRange}
 use Rattle.covering_laws.proofs.RangeValues.{operand_in_range}
 use Rattle.content_laws.proofs.Leading.{goes_hold, leads_forth}
@@ -88,7 +90,7 @@ there h (suc o) number = go (slice_get h.objects o) refl
     go None is = absurd (none_there h.objects o is (let below = number.1 in omega (arith, below)))
 
 -- what a field holds leads to the object at the end of its links
-pub led_there : (p : Program) (h : HeapContents) → LinksLead p h → (v : Value) (o : ℕ) (x : Object) → root_of h v ≡ Some o → object_at h o ≡ Some x → is_heavy_class p x.class ≡ true → may_owe x ≡ true
+pub led_there : (p : Program) (h : HeapContents) → LinksLead p h → (v : Value) (o : ℕ) (x : Object) → root_of h v ≡ Some o → object_at h o ≡ Some x → is_heavy_class p x.class ≡ true → OwesOrHolds p h o x
     → (c : ℕ) × (v ≡ values.Object c) × Leads p h c o
 led_there p h led values.Nothing o x is at heavy owes = absurd (let never : None ≡ Some o = is in cc)
 led_there p h led (values.Object c) o x is at heavy owes = go (object_at h c) refl
@@ -101,17 +103,12 @@ led_there p h led (values.Object c) o x is at heavy owes = go (object_at h c) re
     go None absent = absurd (let never : None ≡ Some x = sym absent ∙ ap (object_at h) (sym (roots_of_links-absent h c absent) ∙ same) ∙ at in cc)
 led_there p h led v o x is at heavy owes = absurd (let never : None ≡ Some o = is in cc)
 
--- what may owe a call could before
-pub owed_before : (x y : Object) → GoesOn x y → (is_library_owner x.owner ≡ true → is_library_owner y.owner ≡ true) → may_owe y ≡ true → may_owe x ≡ true
-owed_before x y on keeps owes = go (is_library_owner x.owner) refl
-  where
-    none : (b : Bool) → not (b && false) ≡ true
-    none true = refl
-    none false = refl
-
-    go : (b : Bool) → is_library_owner x.owner ≡ b → not (x.finished && b) ≡ true
-    go false other = none x.finished
-    go true library = ap (λ (b : Bool). not (b && true)) (sym on.finished) ∙ ap (λ (b : Bool). not (y.finished && b)) (sym (keeps library)) ∙ owes
+-- what a field of an object owns it owned
+pub holders_go : (p : Program) (h k : HeapContents) (noted : ℕ → ℕ → Type 0) → Goes p h k noted → HoldersStay p h k
+holders_go p h k noted goes w (c, y, now, done, heavy, held) =
+    let f = field_of_owner y.owner w held in
+    let x = goes.back c y w f.0 now f.1 in
+    (c, x.0, x.1, sym x.2.finished ∙ done, ap (is_heavy_class p) (sym x.2.class) ∙ heavy, held_at x.0.owner w f.0 x.3)
 
 -- what the library does not own may owe a call
 pub not_the_librarys_owes : (x : Object) → is_library_owner x.owner ≡ false → may_owe x ≡ true
@@ -236,7 +233,7 @@ module _ (p : Program) (h k : HeapContents) (noted : ℕ → ℕ → Type 0) (go
       let heavy = obligation_is_heavy p was.0 had content.own in
       content_goes_on p own h k noted frs gs o was.0 y w f content was.1 at was.2 (goes.forth w content.holder content.at)
       (ap (root_of k) (goes.fields w f (owning_by p f content.field content.declared content.owning)) ∙ root_stays h k goes.roots (field_value p h w f) o was.0 content.held was.1)
-      (led_there p h led (field_value p h w f) o was.0 content.held was.1 heavy (not_the_librarys_owes was.0 (ap is_library_owner was.3)))
+      (led_there p h led (field_value p h w f) o was.0 content.held was.1 heavy (inl (not_the_librarys_owes was.0 (ap is_library_owner was.3))))
       (keeps o was.0 y w f was.1 at (ap (is_heavy_class p) was.2.class ∙ heavy) was.2 was.3 content) (made o was.0 y w f content at owner)
 
 -- ---- frames

@@ -1,5 +1,7 @@
 -- Obligations that are created anew, of objects that no field owns, or one of an object that is not finished, or whose obligation is created anew, too: what
 -- owning fields hold and own stays.
+use Rattle.covering_laws.proofs.OlderHolders.{field_of_owner}
+use Rattle.covering_laws.proofs.Owners.{held_at}
 use Rattle.std.proofs.Common.{◌≡◌, ◌⊎◌, inl, inr, ℕ, Bool, true, false, true≢false, Option, Some, None, List, [], ◌∷◌, refl, sym, ap, ◌∙◌, subst}
 use Rattle.program_model.specs.declared.kinds.ClassId.{ClassId}
 use Rattle.program_model.specs.declared.kinds.FieldId.{FieldId}
@@ -27,7 +29,7 @@ use Rattle.covering_laws.specs.Heaps.{HasEarlierLinks}
 use Rattle.covering_laws.specs.PlainForms.{run_by}
 use Rattle.covering_laws.specs.FieldContents.{AreDispatched, AreUnfinished, FieldsHold, HaveContents, IsContent, IsDispatched, IsKept, LinksLead, has_obligation, promised_on}
 use Rattle.covering_laws.specs.Renewable.{IsFollowed}
-use Rattle.covering_laws.specs.PlaceFacts.{may_owe}
+use Rattle.covering_laws.specs.PlaceFacts.{OwesOrHolds}
 use Rattle.ledger_obligations.specs.Obligations.{finished_in, is_library_owner, is_unmet}
 use Rattle.rlc_base.proofs.SetLaws.{member_of-empty, within_self}
 use Rattle.std.specs.Prelude.{not, ◌&&◌, ◌||◌}
@@ -61,15 +63,20 @@ field_before p b x y w f stays owner = elim stays.owner [ inl same ↦ sym same 
 unowned_before : (p : Program) (b : Bool) (x y : Object) → StaysAside p b x y → y.owner ≡ owners.Unowned → x.owner ≡ owners.Unowned
 unowned_before p b x y stays owner = elim stays.owner [ inl same ↦ sym same ∙ owner | inr lost ↦ absurd (let never : owners.Lost ≡ owners.Unowned = sym lost.0 ∙ owner in cc) ]
 
-owed_before : (p : Program) (b : Bool) (x y : Object) → StaysAside p b x y → may_owe y ≡ true → may_owe x ≡ true
-owed_before p b x y stays owes = elim stays.owner [
+-- what may owe a call, or holds something, did so before
+bore_aside : (p : Program) (anew : ℕ → Bool) (h k : HeapContents) → Renews p anew h k → (o : ℕ) (x y : Object) → StaysAside p (anew o) x y → OwesOrHolds p k o y → OwesOrHolds p h o x
+bore_aside p anew h k renews o x y stays (inl owes) = inl (elim stays.owner [
   | inl same ↦ ap (λ (c : Bool). not (c && is_library_owner x.owner)) (sym stays.finished) ∙ ap (λ (a : Owner). not (y.finished && is_library_owner a)) (sym same) ∙ owes
   | inr lost ↦ ap (λ (c : Bool). not (x.finished && c)) lost.1 ∙ none x.finished
-]
+])
   where
     none : (c : Bool) → not (c && false) ≡ true
     none true = refl
     none false = refl
+bore_aside p anew h k renews o x y stays (inr (c, z, now, done, heavy, held)) =
+    let f = field_of_owner z.owner o held in
+    let was = renews.back c z now in
+    inr (c, was.0, was.1, sym was.2.finished ∙ done, ap (is_heavy_class p) (sym was.2.class) ∙ heavy, held_at was.0.owner o f.0 (field_before p (anew c) was.0 z o f.0 was.2 f.1))
 
 -- what is linked was linked so
 pub linked_before : (p : Program) (anew : ℕ → Bool) (h k : HeapContents) → Renews p anew h k → HasEarlierLinks k → HasEarlierLinks h
@@ -98,7 +105,7 @@ module _ (p : Program) (anew : ℕ → Bool) (h k : HeapContents) (renews : Rene
   leads_renewed led n o x y at is there heavy owes =
       let x' = renews.back n x at in
       let y' = renews.back o y there in
-      let leads = led n o x'.0 y'.0 x'.1 (sym (renews.roots n) ∙ is) y'.1 (ap (is_heavy_class p) (sym y'.2.class) ∙ heavy) (owed_before p (anew o) y'.0 y y'.2 owes) in
+      let leads = led n o x'.0 y'.0 x'.1 (sym (renews.roots n) ∙ is) y'.1 (ap (is_heavy_class p) (sym y'.2.class) ∙ heavy) (bore_aside p anew h k renews o y'.0 y y'.2 owes) in
       leads_elsewhere p h k 0 keeps n o leads (λ zero. (let z = led_to p h n o leads in no_object z.0 (ap (object_at h) (sym zero) ∙ z.1)))
 
   unfinished_renewed : (frs : List Frame) → AreUnfinished p h frs → AreUnfinished p k frs

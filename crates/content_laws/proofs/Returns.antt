@@ -1,4 +1,5 @@
 -- The end of a frame and of its call keeps what owning fields hold and own.
+use Rattle.covering_laws.proofs.Waiting.{bore_before}
 use Rattle.covering_laws.proofs.UnfinishedHolders.{held_unready, lent_unready}
 use Rattle.covering_laws.proofs.WaitingTargets.{owned_or_lent}
 use Rattle.covering_laws.proofs.Owners.{held_at, runs_on_none}
@@ -73,7 +74,7 @@ use Rattle.covering_laws.specs.Naming.{IsOfItsKind}
 use Rattle.covering_laws.proofs.NamedReached.{names_what_is_there}
 use Rattle.covering_laws.specs.FieldContents.{AreDispatched, AreFresh, AreNew, AreUnfinished, FieldsHold, HaveContents, IsBeingMade, IsContent, LinksLead, RunOnOthers, is_made_in, is_new, makes_holder, makes_object, promised_on, OwningFieldsOwn}
 use Rattle.covering_laws.specs.Renewable.{IsFollowed}
-use Rattle.covering_laws.specs.PlaceFacts.{IsCovered, RunsOn, gives_none, is_given, may_owe, renews_none}
+use Rattle.covering_laws.specs.PlaceFacts.{IsCovered, RunsOn, gives_none, is_given, OwesOrHolds, renews_none}
 use Rattle.covering_laws.specs.Renewing.{is_renewed}
 use Rattle.covering_laws.specs.Sight.{ActsInSight}
 use Rattle.covering_laws.proofs.EndResets.{plain_alias_position}
@@ -87,11 +88,11 @@ use Rattle.covering_laws.specs.Ranges.{LocalsInRange}
 use Rattle.content_laws.proofs.AliasConstructors.{alias_class_is_heavy, calls_on_field}
 use Rattle.content_laws.proofs.Ends.{promise_is_kept, receiver_object}
 use Rattle.content_laws.proofs.Finished.{changed_dispatched, changed_unfinished, linked_contents, made, made_contents, one_back}
-use Rattle.content_laws.proofs.Goes.{contents_go_on, dispatched_on, goes_forth, led_there, not_the_librarys_owes, owed_before, there, unfinished_on}
+use Rattle.content_laws.proofs.Goes.{contents_go_on, dispatched_on, goes_forth, led_there, not_the_librarys_owes, holders_go, there, unfinished_on}
 use Rattle.content_laws.proofs.Heaps.{after_goes, end_goes}
 use Rattle.content_laws.proofs.Leading.{goes_hold, leads_forth}
 use Rattle.content_laws.proofs.Leaves.{holder_owns_nothing}
-use Rattle.content_laws.proofs.Linked.{finished_leads, finished_root, linked_leads, linked_root}
+use Rattle.content_laws.proofs.Linked.{finished_leads, finished_root, linked_leads, linked_root, holders_but_one}
 use Rattle.content_laws.proofs.LinkSteps.{leads_go_on}
 use Rattle.content_laws.proofs.Steps.{IsSameFrame, LocalsIn, owning_on, same_dispatched, same_fresh, same_makes, same_new, same_unfinished, this_in}
 use Rattle.content_laws.specs.Going.{Goes, IsNotedBy, KeepsArgument, PromisesItsOwn, linked}
@@ -239,7 +240,7 @@ module _ (p : Program) (ac : Accept p) (forms' : HasPlainForms p) (c d : Config)
         go false still = still
         go true renewed =
             absurd (elim (owned_or_lent p ac forms' h caller rest standing'.0 back.index t back.here back.row waiting o x at (ap (is_heavy_class p) (sym on.class) ∙ heavy)
-            (not_the_librarys_owes x (ap is_library_owner owner)) (owned_is_finished o x w f at owner) renewed) [
+            (inl (not_the_librarys_owes x (ap is_library_owner owner))) (owned_is_finished o x w f at owner) renewed) [
               | inl owned ↦ (let never : owners.Field w f ≡ owners.Frame (length rest + 1) = sym owner ∙ owned.key.owner owned.kept owned.own in cc)
               | inr other ↦ elim other [
                 | inl lent ↦ ready (lent_unready p h rest o x.owner w held hold.unfinished.1.1 lent).0
@@ -454,7 +455,8 @@ module _ (p : Program) (ac : Accept p) (forms' : HasPlainForms p) (c d : Config)
       finished_then = record {
         contents = made_contents p reset position w fr (after ∷ rest) this between;
         owning = owning_but w (made p position) (λ x u f at owner. (let never : owners.Frame position ≡ owners.Field u f = owner in cc));
-        leads = finished_leads p reset w (made p position) (not_linked w this is_made) (not_finished w this is_made) (λ x. refl) (λ x. refl) leads_then;
+        leads = finished_leads p reset w (made p position) (not_linked w this is_made) (not_finished w this is_made) (λ x. refl) (λ x. refl)
+            (holders_but_one p reset w (made p position) (λ x u f at owner. (let never : owners.Frame position ≡ owners.Field u f = owner in cc))) leads_then;
         new = new_then;
         fresh = fresh_then;
         unfinished = changed_unfinished p reset w (made p position) (after ∷ rest) others unfinished_then;
@@ -490,8 +492,10 @@ module _ (p : Program) (ac : Accept p) (forms' : HasPlainForms p) (c d : Config)
 
       null_then : is_alias (method_at p fr.method) ≡ true → Then (change_one w (linked p None) reset)
       null_then is = linked_then None is
-          (λ u o x apart root at. finished_root p reset w (linked p None) (not_linked w this is_made) (not_finished w this is_made) (λ x. refl) (λ x. refl) leads_then u ∙ root)
-          (finished_leads p reset w (linked p None) (not_linked w this is_made) (not_finished w this is_made) (λ x. refl) (λ x. refl) leads_then)
+          (λ u o x apart root at. finished_root p reset w (linked p None) (not_linked w this is_made) (not_finished w this is_made) (λ x. refl) (λ x. refl)
+          (holders_but_one p reset w (linked p None) (λ x u f at owner. (let never : owners.Library ≡ owners.Field u f = owner in cc))) leads_then u ∙ root)
+          (finished_leads p reset w (linked p None) (not_linked w this is_made) (not_finished w this is_made) (λ x. refl) (λ x. refl)
+          (holders_but_one p reset w (linked p None) (λ x u f at owner. (let never : owners.Library ≡ owners.Field u f = owner in cc))) leads_then)
 
       -- the argument, which the constructor has kept
       module _ (normal : is_throw q ≡ false) (a position' : ℕ) (alias : alias_in (method_at p fr.method) ≡ Some (suc position')) (argument : operand_of caller.locals waits.step.action (suc position') ≡ values.Object a)
@@ -542,9 +546,9 @@ module _ (p : Program) (ac : Accept p) (forms' : HasPlainForms p) (c d : Config)
 
         -- the root of the argument, before the frame ends
         abbrev IsRootBefore : ℕ → Object → Type 0
-        IsRootBefore o x = (object_at h o ≡ Some x) × (is_heavy_class p x.class ≡ true) × (may_owe x ≡ true) × (root_of h (variable_value fr.locals position') ≡ Some o)
+        IsRootBefore o x = (object_at h o ≡ Some x) × (is_heavy_class p x.class ≡ true) × OwesOrHolds p h o x × (root_of h (variable_value fr.locals position') ≡ Some o)
 
-        root_before : (o : ℕ) (y : Object) → root reset a ≡ o → object_at reset o ≡ Some y → is_heavy_class p y.class ≡ true → may_owe y ≡ true → (x : Object) × IsRootBefore o x
+        root_before : (o : ℕ) (y : Object) → root reset a ≡ o → object_at reset o ≡ Some y → is_heavy_class p y.class ≡ true → OwesOrHolds p reset o y → (x : Object) × IsRootBefore o x
         root_before o y root' at heavy owes = go argument_there
           where
             go : (x : Object) × (object_at h a ≡ Some x) → (x : Object) × IsRootBefore o x
@@ -559,7 +563,7 @@ module _ (p : Program) (ac : Accept p) (forms' : HasPlainForms p) (c d : Config)
                     on : (u : Object) × (object_at reset o ≡ Some u) × GoesOn z u → (x : Object) × IsRootBefore o x
                     on (u, now', next) =
                         let same' : GoesOn z y = subst (GoesOn z) (let both : Some u ≡ Some y = sym now' ∙ at in (let one : u ≡ y = cc in one)) next in
-                        (z, (ap (object_at h) (sym was) ∙ there', ap (is_heavy_class p) (sym same'.class) ∙ heavy, owed_before z y same' (goes.library o z y (ap (object_at h) (sym was) ∙ there') at) owes, ap (root_of h) held_by_parameter ∙ ap Some was))
+                        (z, (ap (object_at h) (sym was) ∙ there', ap (is_heavy_class p) (sym same'.class) ∙ heavy, bore_before p h reset (λ u ready holds. holders_go p h reset _ goes u holds) o z y (ap (object_at h) (sym was) ∙ there') (λ done. (same', goes.library o z y (ap (object_at h) (sym was) ∙ there') at)) owes, ap (root_of h) held_by_parameter ∙ ap Some was))
 
         -- the field that holds it
         abbrev IsKeptIn : ℕ → FieldId → Field → Type 0
@@ -586,7 +590,7 @@ module _ (p : Program) (ac : Accept p) (forms' : HasPlainForms p) (c d : Config)
               leads = leads_forth p h reset forth (goes_hold p h reset _ goes) c o led;
             }
 
-        keeps_argument : (o : ℕ) (y : Object) → root reset a ≡ o → object_at reset o ≡ Some y → is_heavy_class p y.class ≡ true → may_owe y ≡ true → KeepsArgument p reset w object.0 o
+        keeps_argument : (o : ℕ) (y : Object) → root reset a ≡ o → object_at reset o ≡ Some y → is_heavy_class p y.class ≡ true → OwesOrHolds p reset o y → KeepsArgument p reset w object.0 o
         keeps_argument o y root' at heavy owes = go (root_before o y root' at heavy owes)
           where
             go : (x : Object) × IsRootBefore o x → KeepsArgument p reset w object.0 o

@@ -25,7 +25,7 @@ use Rattle.covering_laws.specs.Heaps.{GoesOn, HasEarlierLinks}
 use Rattle.covering_laws.specs.FieldContents.{AreDispatched, AreFresh, AreNew, AreUnfinished, DeclaresOwning, FieldsHold, IsContent, OwningFieldsOwn, is_made_in, promised_on}
 use Rattle.covering_laws.specs.Renewable.{IsFollowed}
 use Rattle.covering_laws.specs.Ranges.{IsInRange, LocalsInRange}
-use Rattle.content_laws.proofs.Goes.{contents_go_on, dispatched_on, goes_forth, lose_goes, unfinished_on}
+use Rattle.content_laws.proofs.Goes.{contents_go_on, dispatched_on, goes_forth, lose_goes, unfinished_on, holders_go}
 use Rattle.content_laws.proofs.Leading.{goes_hold}
 use Rattle.content_laws.proofs.Leaves.{lost_from}
 use Rattle.content_laws.proofs.LinkSteps.{leads_go_on, leads_stay}
@@ -107,7 +107,7 @@ lost p own k links held fr frs in' this hold = record {
   contents = contents_go_on p k (lose held k) NoName goes own hold.leads (fr ∷ frs) (fr ∷ frs) hold.contents (λ o x y w f at now unmet on owner content m d n fin there' class interest must never. absurd never)
       (λ o x y w f content at owner un' made'. made');
   owning = owning_on p k (lose held k) NoName goes hold.owning;
-  leads = leads_stay p k (lose held k) (goes_forth p k (lose held k) NoName goes) (goes_hold p k (lose held k) NoName goes) links goes.library hold.leads (λ n y at. (let x = lost_from held k n y at in (x.0, x.1)));
+  leads = leads_stay p k (lose held k) (goes_forth p k (lose held k) NoName goes) (goes_hold p k (lose held k) NoName goes) links goes.library (λ w ready holds. holders_go p k (lose held k) NoName goes w holds) hold.leads (λ n y at. (let x = lost_from held k n y at in (x.0, x.1)));
   new = hold.new;
   fresh = hold.fresh;
   unfinished = unfinished_on p k (lose held k) (goes_forth p k (lose held k) NoName goes) (fr ∷ frs) (All-cons (λ (x : Frame). IsInRange k x.locals.this) fr frs this (this_in k frs in')) hold.unfinished;

@@ -1,4 +1,7 @@
 -- What owning fields hold and own where an operator other than `=` stores a text into one of them.
+use Rattle.covering_laws.proofs.OlderHolders.{field_of_owner}
+use Rattle.covering_laws.proofs.ResetCovers.{bears_before}
+use Rattle.covering_laws.proofs.Owners.{HoldersStay}
 use Rattle.std.proofs.Common.{◌≡◌, ◌⊎◌, inl, inr, ℕ, true, false, true≢false, Some, None, List, ◌∷◌, sym, ap, ◌∙◌, subst}
 use Rattle.std.proofs.lemmas.List.Elements.{All-tail}
 use Rattle.program_model.specs.declared.kinds.ClassId.{ClassId}
@@ -19,7 +22,7 @@ use Rattle.covering_laws.specs.Chains.{IsLast}
 use Rattle.covering_laws.specs.FieldContents.{FieldsHold, HaveContents, IsContent, LinksLead, OwningFieldsOwn, has_obligation, is_made_in}
 use Rattle.covering_laws.specs.Heaps.{Evolves, HasEarlierLinks}
 use Rattle.covering_laws.specs.Leading.{CallsOnField, Leads, by_library, by_program, here}
-use Rattle.covering_laws.specs.PlaceFacts.{may_owe}
+use Rattle.covering_laws.specs.PlaceFacts.{IsHolder, OwesOrHolds}
 use Rattle.covering_laws.specs.Ranges.{LocalsInRange}
 use Rattle.covering_laws.specs.Renewable.{IsFollowed}
 use Rattle.covering_laws.specs.TextUpdates.{HoldsOrTakesText, IsLeftByText}
@@ -65,6 +68,14 @@ module _ (p : Program) (h k : HeapContents) (links : HasEarlierLinks h) (forward
     | inr text ↦ absurd (light_leads c r x more (λ u at'. text.0 c u held at') there heavy)
   ]
 
+  -- what fields own they owned
+  text_holders : HoldersStay p h k
+  text_holders w (c, y, now, done, heavy, held) = by (back c y now)
+    where
+      by : (x : Object) × (object_at h c ≡ Some x) × IsLeftByText p x y → IsHolder p h w
+      by (x, before, inl same) = (c, y, before ∙ ap Some (sym same), done, heavy, held)
+      by (x, before, inr gone) = (let f = field_of_owner y.owner w held in absurd (not_a_fields x w f.0 (ap (λ (z : Object). z.owner) (sym gone.0) ∙ f.1)))
+
   text_leads : LinksLead p h → LinksLead p k
   text_leads led n o x y at root' at' heavy owes =
       let x' = back n x at in
@@ -73,8 +84,8 @@ module _ (p : Program) (h k : HeapContents) (links : HasEarlierLinks h) (forward
       let heavy' : is_heavy_class p y'.0.class ≡ true = ap (is_heavy_class p) (sym on.class) ∙ heavy in
       leads_on n o y'.0 (led n o x'.0 y'.0 x'.1 (sym (text_roots n x'.0 x'.1) ∙ root') y'.1 heavy' (might_owe y'.0 y y'.2 heavy' owes)) y'.1 heavy'
     where
-      might_owe : (u v : Object) → IsLeftByText p u v → is_heavy_class p u.class ≡ true → may_owe v ≡ true → may_owe u ≡ true
-      might_owe u v (inl same) heavy' owes' = ap may_owe (sym same) ∙ owes'
+      might_owe : (u v : Object) → IsLeftByText p u v → is_heavy_class p u.class ≡ true → OwesOrHolds p k o v → OwesOrHolds p h o u
+      might_owe u v (inl same) heavy' owes' = bears_before p h k text_holders o u v (ap (λ (z : Object). z.finished) same) (ap (λ (z : Object). z.owner) same) owes'
       might_owe u v (inr gone) heavy' owes' = absurd (true≢false (sym heavy' ∙ gone.1))
 
   -- ---- contents

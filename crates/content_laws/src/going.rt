@@ -26,7 +26,7 @@ ghost use Rattle.ledger_steps.specs.Ends.{frame_gone, returned_reset};
 ghost use Rattle.ledger_steps.specs.InnerSteps.{heap_stored, store_of, store_unless, thrown_heap};
 ghost use Rattle.covering_laws.specs.Heaps.{GoesOn, HasEarlierLinks};
 ghost use Rattle.covering_laws.specs.FieldContents.{HaveContents, IsContent, LinksLead, is_made_in, promised_on};
-ghost use Rattle.covering_laws.specs.PlaceFacts.{may_owe};
+ghost use Rattle.covering_laws.specs.PlaceFacts.{OwesOrHolds};
 ghost use Rattle.content_laws.specs.Going.{Goes, IsNotedBy, KeepsArgument, NoName, PromisesItsOwn, linked};
 
 /// The heap goes on over a step within a frame that stores nothing.
@@ -77,5 +77,5 @@ pub fn leads_go_on()
 pub fn linked_object_leads()
     ensures { (p : Program) (h : HeapContents) (w a : ℕ) → (0 < a) × (a < w) → (x : Object) → object_at h w ≡ Some x → x.link ≡ None → x.finished ≡ false → is_heavy_class p x.class ≡ true
         → HasEarlierLinks h → HasEarlierLinks (change_one w (linked p (Some a)) h) → LinksLead p h
-        → ((o : ℕ) (y : Object) → root h a ≡ o → object_at h o ≡ Some y → is_heavy_class p y.class ≡ true → may_owe y ≡ true → KeepsArgument p h w x o) → LinksLead p (change_one w (linked p (Some a)) h) }
+        → ((o : ℕ) (y : Object) → root h a ≡ o → object_at h o ≡ Some y → is_heavy_class p y.class ≡ true → OwesOrHolds p h o y → KeepsArgument p h w x o) → LinksLead p (change_one w (linked p (Some a)) h) }
 {}

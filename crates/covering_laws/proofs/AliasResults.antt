@@ -62,7 +62,7 @@ use Rattle.value_laws.proofs.AliasFacts.{aliased_is_spoken, parameter_class, par
 use Rattle.value_laws.proofs.FactOrigins.{parameters_own, this_own}
 use Rattle.value_laws.proofs.AliasConducts.{argument_has_names, gives_object}
 use Rattle.value_laws.proofs.CallNames.{object_with_root}
-use Rattle.value_laws.specs.PlaceFacts.{Covers, IsCovered, gives_none, may_owe, renews_none}
+use Rattle.value_laws.specs.PlaceFacts.{Covers, IsCovered, gives_none, OwesOrHolds, renews_none}
 use Rattle.covering_laws.proofs.HeavyFields.{covered_at}
 use Rattle.covering_laws.proofs.Following.{breaks_nothing, same_body, step_there}
 use Rattle.covering_laws.proofs.EndNames.{element_there, parameter_origin, parameters_fit, zero_origin}
@@ -126,7 +126,7 @@ left_breaks p b o c f never = go (alias_never_returned p b o c f) never
 module _ (p : Program) (ac : Accept p) (h : HeapContents) (fr caller : Frame) (rest : List Frame) (st : Stands p fr) (args : HasArguments p caller fr) (covered : IsCovered p h gives_none renews_none (caller ∷ rest) fr) (i : ℕ) (s : Step) (q : Completion)
     (here : slice_get (frame_steps p fr) i ≡ Some s) (is : s.action ≡ actions.End q) (normal : is_throw q ≡ false) (x : Method) (runs : method_at p fr.method ≡ Some x) (k : ℕ) (alias : x.sig.alias ≡ Some k)
     (plain : is_constructor_kind x.kind ≡ false) (j : ℕ) (t : Step) (there : slice_get (frame_steps p caller) j ≡ Some t) (o : ℕ) (y : Object) (at : object_at h o ≡ Some y) (heavy : is_heavy_class p y.class ≡ true)
-    (owes' : may_owe y ≡ true) where
+    (owes' : OwesOrHolds p h o y) where
   body_method : method_of p st.number ≡ Some x
   body_method = ap (method_in p) st.at ∙ ap (method_at p) st.method ∙ runs
 

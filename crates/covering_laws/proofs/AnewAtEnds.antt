@@ -1,6 +1,6 @@
 -- The end of a call that creates an obligation anew: the caller reads its facts anew until then, and those that have the object go on anew; so each says what is true
 -- when the obligation is created anew.
-use Rattle.std.proofs.Common.{◌≡◌, ◌⊎◌, inl, inr, ℕ, ◌+◌, Bool, true, false, true≢false, not, ◌&&◌, Some, List, ◌∷◌, length, slice_get, refl, sym, ap, ◌∙◌, subst, arith}
+use Rattle.std.proofs.Common.{◌≡◌, ◌⊎◌, inl, inr, ℕ, ◌+◌, Bool, true, false, true≢false, ◌&&◌, Some, List, ◌∷◌, length, slice_get, refl, sym, ap, ◌∙◌, subst, arith}
 use Rattle.std.specs.FinSet as set
 use Rattle.program_model.specs.declared.kinds.BodyId.{BodyId}
 use Rattle.program_model.specs.declared.program.Program.{Program}
@@ -23,7 +23,7 @@ use Rattle.ledger_state.specs.declared.entry.Owner.{Owner}
 use Rattle.ledger_state.specs.declared.entry.Owner.TheVariants as owners
 use Rattle.ledger_state.specs.declared.object.Object.{Object}
 use Rattle.ledger_state.specs.declared.value.Value.{Value}
-use Rattle.ledger_obligations.specs.Obligations.{is_library_owner, is_held_by}
+use Rattle.ledger_obligations.specs.Obligations.{is_held_by}
 use Rattle.value_laws.specs.Accept.{Accept}
 use Rattle.value_laws.specs.Agreement.{Stands}
 use Rattle.value_laws.specs.Anew.{GoesAnew, fact_anew, is_target}
@@ -33,7 +33,7 @@ use Rattle.value_laws.specs.FactGoing.{is_owned_in}
 use Rattle.value_laws.specs.HeapAnew.{IsEmptied}
 use Rattle.value_laws.specs.Outcomes.{IsCallRow}
 use Rattle.value_laws.specs.Paths.{Reach, move_of, relation_of}
-use Rattle.value_laws.specs.PlaceFacts.{AreWaiting, Covers, IsCovered, IsKeyed, IsOwned, IsTrueOf, IsUnowned, gives_none, is_given, may_owe, owned, renews_none, unowned}
+use Rattle.value_laws.specs.PlaceFacts.{AreWaiting, Covers, IsCovered, IsKeyed, IsOwned, IsTrueOf, IsUnowned, gives_none, is_given, OwesOrHolds, owned, renews_none, unowned}
 use Rattle.value_laws.specs.PlaceRows.{places_after}
 use Rattle.value_laws.specs.Places.{place_value}
 use Rattle.value_laws.specs.PlainForms.{HasPlainForms}
@@ -43,10 +43,10 @@ use Rattle.value_laws.proofs.Needs.{origin_needs_all}
 use Rattle.value_laws.proofs.Ready.{step_there}
 use Rattle.value_laws.proofs.Resetting.{answered_target}
 use Rattle.value_laws.proofs.Tracking.{same_body}
-use Rattle.covering_laws.proofs.Owners.{KeepsFinished, KeepsHeld, held_at}
-use Rattle.covering_laws.proofs.ResetCovers.{IsRenewed, OwnsOrIsLent, Turns, keyed_same, keyed_unmade, not_lent, owned_anew, same_held, true_anew, unowned_anew, waiting_anew, AreMaking, held_not_lent}
+use Rattle.covering_laws.proofs.Owners.{HoldersStay, HoldersWere, KeepsFinished, KeepsHeld, held_at}
+use Rattle.covering_laws.proofs.ResetCovers.{IsRenewed, OwnsOrIsLent, Turns, bears_before, keyed_same, keyed_unmade, not_lent, owned_anew, same_held, true_anew, unowned_anew, waiting_anew, AreMaking, held_not_lent}
 use Rattle.covering_laws.proofs.TopSteps.{StopsOwning}
-use Rattle.covering_laws.proofs.Waiting.{IsCarried, KeepsFields, KeepsReady, owed_before}
+use Rattle.covering_laws.proofs.Waiting.{IsCarried, KeepsFields, KeepsReady, bore_before}
 use Rattle.covering_laws.proofs.InFields.{held_by_this}
 use Rattle.covering_laws.proofs.HeavyFields.{claims_by}
 use Rattle.covering_laws.proofs.WaitingTargets.{OwnsTarget, owned_or_lent, renewed_at_step, target_mode, target_temp}
@@ -64,17 +64,13 @@ as_it_is p g f x none truth = record {
     need_of : Bool → Names
     need_of b = need g (record f { full = b })
 
--- what may owe a call may still, with the same owner
-might : (a b : Object) → a.finished ≡ b.finished → a.owner ≡ b.owner → may_owe a ≡ true → may_owe b ≡ true
-might a b finished owner is = ap (λ (f : Bool). not (f && is_library_owner b.owner)) (sym finished) ∙ ap (λ (w : Owner). not (a.finished && is_library_owner w)) (sym owner) ∙ is
-
 -- `h` is the heap before the end of the call, `k` the heap that the end would leave without the reset, and `j` the one that it leaves
 module _ (p : Program) (ac : Accept p) (forms : HasPlainForms p) (h k j : HeapContents) (caller after : Frame) (rest : List Frame) (below : Stands p caller) (index : ℕ) (t : Step) (here : slice_get (frame_steps p caller) index ≡ Some t)
     (row : IsCallRow t.action) (same : (v : Value) → root_of j v ≡ root_of k v) (fields : KeepsFields p k j) (finishes : KeepsFinished k j) (covered : IsCovered p h (is_given p h caller) (is_renewed p h caller) rest caller)
     (was : (n : ℕ) (x : Object) → object_at k n ≡ Some x → IsCarried h n x) (ready : KeepsReady p h k caller) (lent_on : (o : ℕ) (w : Owner) → IsLentFrom p h rest o w → IsLentFrom p k rest o w)
     (mine : (o : ℕ) (x y : Object) → object_at h o ≡ Some x → object_at k o ≡ Some y → x.finished ≡ true → is_heavy_class p x.class ≡ true → x.owner ≡ owners.Frame (length rest + 1) → y.owner ≡ owners.Frame (length rest + 1))
     (low : (o : ℕ) (x y : Object) → object_at h o ≡ Some x → object_at k o ≡ Some y → x.finished ≡ true → is_heavy_class p x.class ≡ true → IsLentFrom p h rest o x.owner → y.owner ≡ x.owner)
-    (lasting : KeepsHeld p h k caller) (making : AreMaking p h (caller ∷ rest)) (later : AreMaking p k (caller ∷ rest)) where
+    (lasting : KeepsHeld p h k caller) (making : AreMaking p h (caller ∷ rest)) (later : AreMaking p k (caller ∷ rest)) (holders : HoldersWere p h k) (stay : HoldersStay p k j) where
   -- the fact's place in the caller after the call
   abbrev held_after : PlaceSet → PlaceSet
   held_after held = places_after p below.number t.action t.edge held
@@ -104,7 +100,7 @@ module _ (p : Program) (ac : Accept p) (forms : HasPlainForms p) (h k j : HeapCo
 
   -- ---- an object whose obligation the call creates anew
 
-  module _ (o : ℕ) (x : Object) (before : object_at h o ≡ Some x) (done : x.finished ≡ true) (heavy : is_heavy_class p x.class ≡ true) (owes : may_owe x ≡ true) (renewed : is_renewed p h caller o ≡ true) where
+  module _ (o : ℕ) (x : Object) (before : object_at h o ≡ Some x) (done : x.finished ≡ true) (heavy : is_heavy_class p x.class ≡ true) (owes : OwesOrHolds p h o x) (renewed : is_renewed p h caller o ≡ true) where
     abbrev away : Bool
     away = is_given p h caller o x.class
 
@@ -212,15 +208,15 @@ module _ (p : Program) (ac : Accept p) (forms : HasPlainForms p) (h k j : HeapCo
   AllTurned = (o : ℕ) (y : Object) (v : Value) → root_of j v ≡ Some o → object_at j o ≡ Some y → (z : Object) × (object_at k o ≡ Some z) × IsTurned o z y
 
   module _ (turns : AllTurned) where
-    pub caller_anew : ((q : Place) (o : ℕ) (y : Object) → IsSmall q → root_of k (place_value p k after.method after.locals q) ≡ Some o → object_at k o ≡ Some y → is_heavy_class p y.class ≡ true → may_owe y ≡ true → IsKeyedAfter q o y)
+    pub caller_anew : ((q : Place) (o : ℕ) (y : Object) → IsSmall q → root_of k (place_value p k after.method after.locals q) ≡ Some o → object_at k o ≡ Some y → is_heavy_class p y.class ≡ true → OwesOrHolds p k o y → IsKeyedAfter q o y)
         → IsCovered p j gives_none renews_none rest after
     caller_anew from q o y small held now heavy owes = by (is_renewed p h caller o) refl
       where
         turned : (z : Object) × (object_at k o ≡ Some z) × IsTurned o z y
         turned = turns o y (place_value p j after.method after.locals q) held now
 
-        owes' : may_owe turned.0 ≡ true
-        owes' = might y turned.0 turned.2.finished turned.2.owner owes
+        owes' : OwesOrHolds p k o turned.0
+        owes' = bears_before p k j stay o turned.0 y turned.2.finished turned.2.owner owes
 
         heavy' : is_heavy_class p turned.0.class ≡ true
         heavy' = ap (is_heavy_class p) (sym turned.2.class) ∙ heavy
@@ -236,7 +232,7 @@ module _ (p : Program) (ac : Accept p) (forms : HasPlainForms p) (h k j : HeapCo
 
         by_done : (b : Bool) → old.0.finished ≡ b → is_renewed p h caller o ≡ true → IsKeyed p j false false rest after q o y
         by_done true done renewed =
-            keyed_anew o old.0 old.1 done (ap (is_heavy_class p) (sym old.2) ∙ heavy') (owed_before old.0 turned.0 old.3 owes') renewed q turned.0 y turned.1 turned.2 key
+            keyed_anew o old.0 old.1 done (ap (is_heavy_class p) (sym old.2) ∙ heavy') (bore_before p h k holders o old.0 turned.0 old.1 old.3 owes') renewed q turned.0 y turned.1 turned.2 key
         by_done false unmade renewed = by_made turned.0.finished refl
           where
             temp' : (d : ℕ) × IsSmall (places.Temp d) × (root_of h (place_value p h caller.method caller.locals (places.Temp d)) ≡ Some o) × ((held : PlaceSet) → has held (places.Temp d) ≡ true → is_target p t.action held ≡ true)
@@ -255,7 +251,7 @@ module _ (p : Program) (ac : Accept p) (forms : HasPlainForms p) (h k j : HeapCo
 
     -- the frames that wait below it
     pub rest_anew : AreWaiting p k rest → AreWaiting p j rest
-    rest_anew waits = waiting_anew p k j same fields finishes rest later.1 below_turns waits
+    rest_anew waits = waiting_anew p k j same fields finishes stay rest later.1 below_turns waits
       where
         below_turns : Turns p k j same fields finishes rest
         below_turns o y v root now = (turned.0, turned.1, elim turned.2.names [ inl it ↦ inl it | inr em ↦ inr (renewed em.0 em.1 em.2) ])
@@ -273,5 +269,5 @@ module _ (p : Program) (ac : Accept p) (forms : HasPlainForms p) (h k j : HeapCo
               mine = λ heavy owes.
                   let old = was o turned.0 turned.1 in
                   in_hands o old.0 old.1 (done old.0 old.1) (ap (is_heavy_class p) (sym old.2 ∙ sym turned.2.class) ∙ heavy)
-                  (owed_before old.0 turned.0 old.3 (might y turned.0 turned.2.finished turned.2.owner owes)) anew turned.0 turned.1;
+                  (bore_before p h k holders o old.0 turned.0 old.1 old.3 owes) anew turned.0 turned.1;
             }

@@ -32,7 +32,7 @@ use Rattle.value_laws.specs.Anew.{GoesAnew, is_target}
 use Rattle.value_laws.proofs.Going.{moves_away}
 use Rattle.ledger_obligations.specs.MustCallSets.{Names}
 use Rattle.value_laws.proofs.Resetting.{call_goes_so}
-use Rattle.value_laws.specs.PlaceFacts.{Covers, IsCovered, IsOwned, gives_away, gives_none, is_lent, may_owe, owned, unowned}
+use Rattle.value_laws.specs.PlaceFacts.{Covers, IsCovered, IsOwned, gives_away, gives_none, is_lent, OwesOrHolds, owned, unowned}
 use Rattle.ownership_rules.specs.Facts.{has, is_held, is_own}
 use Rattle.covering_laws.proofs.GivenArguments.{away_moves}
 use Rattle.covering_laws.proofs.Owners.{KeepsGiven, StaysApart, KeepsHeld}
@@ -85,10 +85,10 @@ module _ (p : Program) (ac : Accept p) (h k : HeapContents) (links : HasEarlierL
       (others : StaysApart p h k frs fr)
       (lasting : KeepsHeld p h k fr)
       (owner : (o : ℕ) (x y : Object) → object_at h o ≡ Some x → object_at k o ≡ Some y → x.finished ≡ true → is_heavy_class p x.class ≡ true → gives_away p h fr.locals s.action o x.class ≡ false → x.owner ≡ owners.Frame (length frs + 1) → y.owner ≡ owners.Frame (length frs + 1))
-      (noted : (o : ℕ) (x y : Object) (n : NameId) → object_at h o ≡ Some x → object_at k o ≡ Some y → root_of h (operand_of fr.locals s.action 0) ≡ Some o → is_super_target s.action ≡ false → interest_in (callee p s.action) ≡ Some n → gives o x.class ≡ false → renewed o ≡ false → x.finished ≡ true → GoesOn x y → is_heavy_class p x.class ≡ true → may_owe x ≡ true → set.contains y.called n.0 ≡ true)
-      (kept : (o : ℕ) (x y : Object) (c : Covers p h (gives o x.class) (renewed o) frs fr o x) → object_at h o ≡ Some x → object_at k o ≡ Some y → (g : Fact) → IsGivenOr c.origin c.fact g → IsTrustedIn c.origin g → gives o x.class ≡ false → renewed o ≡ false → x.finished ≡ true → GoesOn x y → is_heavy_class p x.class ≡ true → may_owe x ≡ true → (names : Names) → set.is_subset y.called names ≡ true → set.is_subset c.fact.called names ≡ true → AreKept p st.number s.action c.fact.places names (promises_at p s.action s.edge))
-      (alias : (o : ℕ) (x : Object) (c : Covers p h (gives o x.class) (renewed o) frs fr o x) → object_at h o ≡ Some x → is_heavy_class p x.class ≡ true → may_owe x ≡ true → gives_alias p s.action s.edge c.fact.places ≡ true → root_of k v ≡ Some o)
-      (made : (q : Place) (o : ℕ) (y : Object) → IsSmall q → is_local q ≡ true → source p st.body s.action s.edge q ≡ None → is_made (made_place s.action) q ≡ true → place_value p k fr.method after.locals q ≡ v → root_of k v ≡ Some o → object_at k o ≡ Some y → is_heavy_class p y.class ≡ true → may_owe y ≡ true → IsMadeSo p ac h k links carries fields fr st i s here r inside roots v frs gives renewed IsGivenOr q o y) where
+      (noted : (o : ℕ) (x y : Object) (n : NameId) → object_at h o ≡ Some x → object_at k o ≡ Some y → root_of h (operand_of fr.locals s.action 0) ≡ Some o → is_super_target s.action ≡ false → interest_in (callee p s.action) ≡ Some n → gives o x.class ≡ false → renewed o ≡ false → x.finished ≡ true → GoesOn x y → is_heavy_class p x.class ≡ true → OwesOrHolds p h o x → set.contains y.called n.0 ≡ true)
+      (kept : (o : ℕ) (x y : Object) (c : Covers p h (gives o x.class) (renewed o) frs fr o x) → object_at h o ≡ Some x → object_at k o ≡ Some y → (g : Fact) → IsGivenOr c.origin c.fact g → IsTrustedIn c.origin g → gives o x.class ≡ false → renewed o ≡ false → x.finished ≡ true → GoesOn x y → is_heavy_class p x.class ≡ true → OwesOrHolds p h o x → (names : Names) → set.is_subset y.called names ≡ true → set.is_subset c.fact.called names ≡ true → AreKept p st.number s.action c.fact.places names (promises_at p s.action s.edge))
+      (alias : (o : ℕ) (x : Object) (c : Covers p h (gives o x.class) (renewed o) frs fr o x) → object_at h o ≡ Some x → is_heavy_class p x.class ≡ true → OwesOrHolds p h o x → gives_alias p s.action s.edge c.fact.places ≡ true → root_of k v ≡ Some o)
+      (made : (q : Place) (o : ℕ) (y : Object) → IsSmall q → is_local q ≡ true → source p st.body s.action s.edge q ≡ None → is_made (made_place s.action) q ≡ true → place_value p k fr.method after.locals q ≡ v → root_of k v ≡ Some o → object_at k o ≡ Some y → is_heavy_class p y.class ≡ true → OwesOrHolds p k o y → IsMadeSo p ac h k links carries fields fr st i s here r inside roots v frs gives renewed IsGivenOr q o y) where
     not_given : (b : Bool) {d : Bool} → (b ≡ true → d ≡ true) → d ≡ false → b ≡ false
     not_given false goes none = refl
     not_given true goes none = absurd (true≢false (sym (goes refl) ∙ none))
@@ -110,7 +110,7 @@ module _ (p : Program) (ac : Accept p) (h k : HeapContents) (links : HasEarlierL
         (call_goes_so p st.number c.origin s.action s.edge c.fact q row is) (λ one. moves_away p st.number c.origin s.action s.edge c.fact q row is one))
 
     -- each place after the call is in a fact that comes from one before it, or was born
-    pub call_from : (q : Place) (o : ℕ) (y : Object) → IsSmall q → root_of k (place_value p k fr.method after.locals q) ≡ Some o → object_at k o ≡ Some y → is_heavy_class p y.class ≡ true → may_owe y ≡ true
+    pub call_from : (q : Place) (o : ℕ) (y : Object) → IsSmall q → root_of k (place_value p k fr.method after.locals q) ≡ Some o → object_at k o ≡ Some y → is_heavy_class p y.class ≡ true → OwesOrHolds p k o y
         → IsKeyedFrom p ac h k links carries fields fr st i s here r inside roots v frs gives renewed IsGivenOr q o y
     call_from = top_from p ac h k links carries fields fr st i s here r inside roots v frs gives renewed covered ready gifts others lasting
         IsGivenOr

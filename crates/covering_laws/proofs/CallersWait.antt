@@ -20,7 +20,7 @@ use Rattle.value_laws.specs.Choosing.{frame_steps}
 use Rattle.value_laws.specs.Outcomes.{IsCallRow}
 use Rattle.value_laws.specs.Agreement.{Stands}
 use Rattle.value_laws.specs.PlainForms.{HasPlainForms}
-use Rattle.value_laws.specs.PlaceFacts.{Covers, IsCovered, IsKeyed, IsUnowned, gives_none, is_apart, is_content, is_field_of, is_frame_below, is_frame_from, is_given, may_owe, owned, renews_none, unowned, tells_calls, was_given}
+use Rattle.value_laws.specs.PlaceFacts.{Covers, IsCovered, IsKeyed, IsUnowned, gives_none, is_apart, is_content, is_field_of, is_frame_below, is_frame_from, is_given, OwesOrHolds, owned, renews_none, unowned, tells_calls, was_given}
 use Rattle.covering_laws.proofs.GivenArguments.{away_owner}
 use Rattle.covering_laws.proofs.GivenAway.{given_at_step}
 use Rattle.covering_laws.proofs.Owners.{lent_renewed, held_at, lent_not_from, runs_on_none}
@@ -46,7 +46,7 @@ field_below v n w is = absurd (true≢false (sym is))
 module _ (p : Program) (ac : Accept p) (forms : HasPlainForms p) (h : HeapContents) (fr : Frame) (st : Stands p fr) (frs : List Frame) (i : ℕ) (s : Step) (here : slice_get (frame_steps p fr) i ≡ Some s) (row : IsCallRow s.action)
     (covered : IsCovered p h gives_none renews_none frs fr) (making : AreMaking p h (fr ∷ frs)) where
   -- what is known of an object is not given away
-  known_kept : (o : ℕ) (x : Object) → object_at h o ≡ Some x → is_heavy_class p x.class ≡ true → may_owe x ≡ true → is_frame_from (length frs + 1) x.owner ≡ false → is_given p h fr o x.class ≡ false
+  known_kept : (o : ℕ) (x : Object) → object_at h o ≡ Some x → is_heavy_class p x.class ≡ true → OwesOrHolds p h o x → is_frame_from (length frs + 1) x.owner ≡ false → is_given p h fr o x.class ≡ false
   known_kept o x there heavy owes apart = go (is_given p h fr o x.class) refl
     where
       go : (b : Bool) → is_given p h fr o x.class ≡ b → is_given p h fr o x.class ≡ false
@@ -56,7 +56,7 @@ module _ (p : Program) (ac : Accept p) (forms : HasPlainForms p) (h : HeapConten
           let owner = away_owner p ac h fr st frs i s here row covered o x there heavy owes gives in
           absurd (true≢false (sym (own_frame (length frs + 1) x.owner owner) ∙ apart))
 
-  module _ (o : ℕ) (x : Object) (there : object_at h o ≡ Some x) (heavy : is_heavy_class p x.class ≡ true) (owes : may_owe x ≡ true) where
+  module _ (o : ℕ) (x : Object) (there : object_at h o ≡ Some x) (heavy : is_heavy_class p x.class ≡ true) (owes : OwesOrHolds p h o x) where
     abbrev away : Bool
     away = is_given p h fr o x.class
 

@@ -52,8 +52,10 @@ use Rattle.value_laws.proofs.CallNames.{IsReceiver, object_with_root, operand_ha
 use Rattle.value_laws.proofs.Ready.{call_sets, plain_call, plain_step, step_there}
 use Rattle.value_laws.proofs.Unmet.{way_of_call}
 use Rattle.value_laws.specs.Types.{GivesAsNamed, KeepsTypes, is_text}
-use Rattle.value_laws.specs.FieldContents.{IsBeingMade, IsDispatched, LinksLead, is_new, RunOnOthers, TopRunsAlone}
-use Rattle.value_laws.specs.PlaceFacts.{AreWaiting, Covers, IsCovered, OwnersBelow, gives_none, is_given, may_owe, renews_none}
+use Rattle.value_laws.specs.FieldContents.{HaveContents, IsBeingMade, IsDispatched, LinksLead, is_new, RunOnOthers, TopRunsAlone}
+use Rattle.value_laws.specs.PlaceFacts.{AreWaiting, Covers, IsCovered, OwnersBelow, IsHolder, gives_none, is_given, may_owe, OwesOrHolds, renews_none}
+use Rattle.covering_laws.proofs.NewOwners.{end_births}
+use Rattle.covering_laws.proofs.OlderHolders.{alias_holds_nothing, field_of_owner}
 use Rattle.value_laws.specs.Renewing.{IsLentFrom, is_renewed}
 use Rattle.value_laws.proofs.Emptied.{plain_note}
 use Rattle.value_laws.proofs.EndResets.{plain_alias_position}
@@ -74,7 +76,7 @@ use Rattle.covering_laws.proofs.CallResults.{IsBornSo}
 use Rattle.covering_laws.proofs.Gifts.{small_gifts}
 use Rattle.covering_laws.proofs.GivenArguments.{away_moves}
 use Rattle.covering_laws.proofs.GivenAway.{given_at_step}
-use Rattle.covering_laws.proofs.Owners.{AllKeepGifts, OwnersGo, given_kept, owners_kept, stays_apart, KeepsFinished, held_here}
+use Rattle.covering_laws.proofs.Owners.{AllKeepGifts, HoldersWere, OwnerGoes, OwnersGo, given_kept, holders_were, left, none_unready, owners_kept, passed, stays, stays_apart, KeepsFinished, held_here}
 use Rattle.covering_laws.proofs.ResultOwners.{returned_owner}
 use Rattle.covering_laws.proofs.Bodies.{running_method}
 use Rattle.covering_laws.proofs.OwnNames.{chosen_by_note, own_name_called}
@@ -82,7 +84,7 @@ use Rattle.covering_laws.proofs.EndNames.{promises_kept}
 use Rattle.covering_laws.proofs.EndResults.{given, thrown_light}
 use Rattle.covering_laws.proofs.LocalSteps.{LocalsIn, all_there, holds_there, local_step}
 use Rattle.covering_laws.proofs.TopSteps.{IsKeyedFrom, IsLocalStep, IsMadeSo, StopsOwning}
-use Rattle.covering_laws.proofs.Waiting.{AllHeldBefore, AllKeepRoots, AllReady, AllThere, Carries, HoldsThere, IsCarried, KeepsFieldsButTexts, KeepsOtherRoots, KeepsRoots, KeepsUnfinished, all_held_before_on, all_keep, all_keep_but_texts, but_texts, all_keep_other_roots, all_keep_roots, all_wait_on, frames_ready_but, owed_before, value_root, carries_finish}
+use Rattle.covering_laws.proofs.Waiting.{AllHeldBefore, AllKeepRoots, AllReady, AllThere, Carries, HoldsThere, IsCarried, KeepsFieldsButTexts, KeepsOtherRoots, KeepsRoots, KeepsUnfinished, all_held_before_on, all_keep, all_keep_but_texts, but_texts, all_keep_other_roots, all_keep_roots, all_wait_on, frames_ready_but, bore_before, value_root, carries_finish}
 use Rattle.value_laws.proofs.Chains.{object_there}
 use Rattle.value_laws.proofs.Steps.{result_in_range}
 use Rattle.value_laws.proofs.RangeValues.{operand_in_range}
@@ -127,7 +129,7 @@ module _ (p : Program) (ac : Accept p) (forms : HasPlainForms p) (runs' : HasPla
     (fr caller : Frame) (rest : List Frame) (st : Stands p fr) (below : Stands p caller) (targets : KeepsTargets p caller) (keeps : KeepsTypes (is_text p h) p fr) (gives : GivesAsNamed p caller fr) (dispatched : IsDispatched p h fr caller)
     (making : IsBeingMade p h fr caller) (mine' : LocalsInRange h fr.locals) (covered : IsCovered p h gives_none renews_none (caller ∷ rest) fr) (i : ℕ) (s : Step) (q : Completion) (here : slice_get (frame_steps p fr) i ≡ Some s) (is : s.action ≡ actions.End q)
     (t : Step) (named : MethodId) (back : IsBackStep p (frame_steps p caller) (exception_class p h (thrown_in fr.locals q)) named t) (may : MayRun p named fr.method) (makes : IsMadeBy p h t.action fr.locals.this) (itself : RunsItself t.action named fr.method) (args : HasArguments p caller fr) (exits : EndsAsDeclared p h fr)
-    (leads : LinksLead p h) (ends : HaveEnds h) (made_after : IsMadeAfter p caller.locals t.action fr.locals.this) (classes : HasMadeClasses p h) (unheld : IsUnheld p h fr caller rest) (in' : LocalsIn h (caller ∷ rest)) (alone : TopRunsAlone p h (fr ∷ caller ∷ rest)) where
+    (leads : LinksLead p h) (ends : HaveEnds h) (made_after : IsMadeAfter p caller.locals t.action fr.locals.this) (classes : HasMadeClasses p h) (unheld : IsUnheld p h fr caller rest) (in' : LocalsIn h (caller ∷ rest)) (alone : TopRunsAlone p h (fr ∷ caller ∷ rest)) (contents : HaveContents p (fr ∷ caller ∷ rest) h) where
   -- the position of the caller
   abbrev pub at : ℕ
   at = length rest + 1
@@ -323,7 +325,7 @@ module _ (p : Program) (ac : Accept p) (forms : HasPlainForms p) (runs' : HasPla
 
   noted : (o : ℕ) (x y : Object) (k : NameId) → object_at h o ≡ Some x → object_at K o ≡ Some y → root_of h (operand_of caller.locals t.action 0) ≡ Some o → is_super_target t.action ≡ false
       → interest_in (callee p t.action) ≡ Some k → is_given p h caller o x.class ≡ false → is_renewed p h caller o ≡ false → x.finished ≡ true → GoesOn x y
-      → is_heavy_class p x.class ≡ true → may_owe x ≡ true → set.contains y.called k.0 ≡ true
+      → is_heavy_class p x.class ≡ true → OwesOrHolds p h o x → set.contains y.called k.0 ≡ true
   noted o x y k before now root' other interest spared old done goes heavy owes = by (is_passed_on p (note false r.object k) object.0) refl
     where
       r : IsReceiver h caller.locals t.action m o k
@@ -389,6 +391,35 @@ module _ (p : Program) (ac : Accept p) (forms : HasPlainForms p) (runs' : HasPla
   ended_held_before =
       all_held_before_on p h K rest all_roots.1 (all_keep p h K (end_keeps p at fr.locals.this caller.locals t.action (method_at p fr.method) plain v e h links no_reset unmade) rest)
 
+  -- ---- who owns what
+
+  -- the frame owned its result, which the caller owns when the call has ended
+  result_owner : (n : ℕ) (x u : Object) → object_at h n ≡ Some x → is_heavy_class p x.class ≡ true → may_owe x ≡ true → IsReturned p at (method_at p fr.method) v e h n x u → x.owner ≡ owners.Frame (at + 1)
+  result_owner n x u before heavy owes r =
+      returned_owner p ac h fr (caller ∷ rest) st mine' covered i s q here is at n x u before heavy owes r ∙ ap owners.Frame (let number : length (caller ∷ rest) + 1 ≡ length rest + 1 + 1 = omega arith in number)
+
+  pub goes_on : OwnersGo p None (caller ∷ rest) at h K
+  goes_on = end_owners_go p at fr.locals.this caller.locals t.action (method_at p fr.method) plain v e h no_reset unmade (caller ∷ rest) gives_up_alone result_owner None
+    where
+      gives_up_alone : (n : ℕ) (x : Object) → object_at h n ≡ Some x → is_heavy_class p x.class ≡ true → (w : ℕ) → constructs (method_at p fr.method) ≡ true → fr.locals.this ≡ values.Object w → is_held_by x.owner w ≡ true → RunOnOthers w (caller ∷ rest)
+      gives_up_alone n x before heavy w makes this held' = by x.owner refl held'
+        where
+          by : (a : Owner) → x.owner ≡ a → is_held_by a w ≡ true → RunOnOthers w (caller ∷ rest)
+          by (owners.Field u g) own is' = subst (λ (z : ℕ). RunOnOthers z (caller ∷ rest)) (eqb-true u w is') (alone n x u g makes (this ∙ ap values.Object (sym (eqb-true u w is'))) before heavy own)
+          by (owners.Frame j) own is' = absurd (true≢false (sym is'))
+          by owners.Library own is' = absurd (true≢false (sym is'))
+          by owners.Released own is' = absurd (true≢false (sym is'))
+          by owners.Lost own is' = absurd (true≢false (sym is'))
+          by owners.Unowned own is' = absurd (true≢false (sym is'))
+
+  -- what fields own
+  pub holders : HoldersWere p h K
+  holders = holders_were p None (caller ∷ rest) at h K goes_on (end_births p at fr.locals.this caller.locals t.action (method_at p fr.method) plain v e h no_reset ends unmade) (none_unready h)
+
+  -- the caller goes on owning what it owned
+  pub caller_owns : (o : ℕ) (x y : Object) → object_at h o ≡ Some x → object_at K o ≡ Some y → x.finished ≡ true → is_heavy_class p x.class ≡ true → x.owner ≡ owners.Frame at → y.owner ≡ owners.Frame at
+  caller_owns = end_keeps_own p at fr.locals.this caller.locals t.action (method_at p fr.method) plain v e h no_reset unmade result_owner
+
   -- ---- a result that is an alias
 
   value_root_is : KeepsRoots h K → root_of K v ≡ root_of h v
@@ -415,8 +446,20 @@ module _ (p : Program) (ac : Accept p) (forms : HasPlainForms p) (runs' : HasPla
         let w = object_with_root h (operand_of caller.locals t.action k) o root' in
         new_root_is w.0 (target_is ∙ ap number_of w.1) ∙ ap Some w.2
 
+    -- the constructor that ran makes an alias
+    run_aliased : calls.is_alias (method_at p fr.method) ≡ true
+    run_aliased = ap calls.is_alias run.1 ∙ ap is_some (fit.alias ∙ some)
+
+    run_makes : constructs (method_at p fr.method) ≡ true
+    run_makes = ap constructs run.1 ∙ fit.makes ∙ ap constructs (sym named_there.1) ∙ go t.action refl new
+      where
+        go : (a : Action) → t.action ≡ a → is_new a ≡ true → constructs m ≡ true
+        go actions.Skip is' one = absurd (true≢false (sym one))
+        go (actions.New m' d n') is' one = ap (λ (z : MethodId). constructs (method_at p z)) (sym (named_is m' (ap called_method is'))) ∙ subst (IsOfItsKind p) is' kind
+        go a is' one = absurd (true≢false (sym one))
+
     -- an alias of null is the library's
-    null_owes : (o : ℕ) (y : Object) → target ≡ None → root_of K V ≡ Some o → object_at K o ≡ Some y → may_owe y ≡ true → ⊥
+    null_owes : (o : ℕ) (y : Object) → target ≡ None → root_of K V ≡ Some o → object_at K o ≡ Some y → OwesOrHolds p K o y → ⊥
     null_owes o y none root' now owes = go t.action refl new
       where
         self' : (w : ℕ) × (fr.locals.this ≡ values.Object w) × (0 < w) × (w < next_number h)
@@ -437,6 +480,21 @@ module _ (p : Program) (ac : Accept p) (forms : HasPlainForms p) (runs' : HasPla
             sym (roots_of_links-itself h self'.0 old.0 old.1 unlinked) ∙ sym (roots (λ x z. none) self'.0 (self'.2, self'.3))
             ∙ (let both : Some (root K self'.0) ≡ Some o = ap (root_of K) (sym (answer_is_self ∙ self'.1)) ∙ root' in (let same : root K self'.0 ≡ o = cc in same))
 
+        -- what was being made, with an aliased argument, held nothing, and nothing was moved to it since
+        holds_nothing : IsHolder p K self'.0 → ⊥
+        holds_nothing (c, z, there, done', heavy', held') = elim (end_births p at fr.locals.this caller.locals t.action (method_at p fr.method) plain v e h no_reset ends unmade c z there done') [
+          | inl before ↦ by before.0 before.1 before.2 (ap (is_heavy_class p) (sym before.3) ∙ heavy') (goes_on c before.0 z before.1 there before.2 (ap (is_heavy_class p) (sym before.3) ∙ heavy'))
+          | inr free ↦ true≢false (sym held' ∙ free self'.0)
+        ]
+          where
+            by : (x : Object) → object_at h c ≡ Some x → x.finished ≡ true → is_heavy_class p x.class ≡ true → OwnerGoes None (caller ∷ rest) at x.owner z.owner → ⊥
+            by x there' was' wide (stays same) =
+                let own = field_of_owner x.owner self'.0 (ap (λ (a : Owner). is_held_by a self'.0) (sym same) ∙ held') in
+                alias_holds_nothing p fr (caller ∷ rest) h contents self'.0 run_aliased (λ u at'. unmade self'.0 u new self'.1 at') (alone c x self'.0 own.0 run_makes self'.1 there' wide own.1)
+                (c, x, there', was', wide, ap (λ (a : Owner). is_held_by a self'.0) (sym same) ∙ held')
+            by x there' was' wide (passed from to low) = absurd (let never : None ≡ Some self'.0 = to self'.0 held' in cc)
+            by x there' was' wide (left none' then' fields others) = true≢false (sym held' ∙ fields self'.0)
+
         is_aliased' : calls.is_alias plain ≡ true
         is_aliased' = ap is_some (plain_alias ∙ some)
 
@@ -446,10 +504,13 @@ module _ (p : Program) (ac : Accept p) (forms : HasPlainForms p) (runs' : HasPla
             let null' = null_here p at o fr.locals.this caller.locals m' d n' (method_at p fr.method) plain v h y is_aliased' (ap (λ (a : Action). alias_target (operand_of caller.locals a) plain) (sym is') ∙ none) (self'.1 ∙ ap values.Object itself')
             (subst (λ (x : Option ClassId). object_at (returned_heap p at fr.locals.this caller.locals (actions.New m' d n') (method_at p fr.method) plain v x h) o ≡ Some y) normal'
             (subst (λ (a : Action). object_at (returned_heap p at fr.locals.this caller.locals a (method_at p fr.method) plain v e h) o ≡ Some y) is' now)) in
-            true≢false (sym owes ∙ ap not (and_from y.finished (is_library_owner y.owner) null'.0 (ap is_library_owner null'.1)))
+            elim owes [
+              | inl may ↦ true≢false (sym may ∙ ap not (and_from y.finished (is_library_owner y.owner) null'.0 (ap is_library_owner null'.1)))
+              | inr holds ↦ holds_nothing (subst (IsHolder p K) (sym itself') holds)
+            ]
         go a is' one = true≢false (sym one)
 
-    new_to_operand : (o : ℕ) (y : Object) → root_of K V ≡ Some o → object_at K o ≡ Some y → may_owe y ≡ true → root_of h (operand_of caller.locals t.action k) ≡ Some o
+    new_to_operand : (o : ℕ) (y : Object) → root_of K V ≡ Some o → object_at K o ≡ Some y → OwesOrHolds p K o y → root_of h (operand_of caller.locals t.action k) ≡ Some o
     new_to_operand o y root' now owes = by target refl
       where
         by : (j : Option ℕ) → target ≡ j → root_of h (operand_of caller.locals t.action k) ≡ Some o
@@ -477,7 +538,7 @@ module _ (p : Program) (ac : Accept p) (forms : HasPlainForms p) (runs' : HasPla
             receives_not = ap (λ (z : MethodId). constructs (method_at p z)) (sym (named_is m' (ap called_method is'))) ∙ (subst (IsPlainAction p) is' form).1
         go a is' one = refl
 
-    module _ (o : ℕ) (x : Object) (before : object_at h o ≡ Some x) (heavy : is_heavy_class p x.class ≡ true) (owes : may_owe x ≡ true) where
+    module _ (o : ℕ) (x : Object) (before : object_at h o ≡ Some x) (heavy : is_heavy_class p x.class ≡ true) (owes : OwesOrHolds p h o x) where
       value_is : root_of K V ≡ root_of h (result_value fr.locals (Some run.0) q)
       value_is = ap (root_of K) answer_is ∙ value_root_is (roots_called old) ∙ ap (λ (z : Option Method). root_of h (result_value fr.locals z q)) run.1
 
@@ -488,7 +549,7 @@ module _ (p : Program) (ac : Accept p) (forms : HasPlainForms p) (runs' : HasPla
       to_operand root' = result_is_argument p ac h fr caller rest st args covered i s q here is (returns edge) run.0 run.1 k run_alias method_kind back.index t back.here o x before heavy owes receives (sym value_is ∙ root')
 
   -- an alias of the object of a fact has that object for its root
-  aliased : (o : ℕ) (x : Object) (c : Covers p h (is_given p h caller o x.class) (is_renewed p h caller o) rest caller o x) → object_at h o ≡ Some x → is_heavy_class p x.class ≡ true → may_owe x ≡ true
+  aliased : (o : ℕ) (x : Object) (c : Covers p h (is_given p h caller o x.class) (is_renewed p h caller o) rest caller o x) → object_at h o ≡ Some x → is_heavy_class p x.class ≡ true → OwesOrHolds p h o x
       → gives_alias p t.action t.edge c.fact.places ≡ true → root_of K V ≡ Some o
   aliased o x c before heavy owes gives' =
       let operand = gives_operand p t.action t.edge c.fact.places gives' in
@@ -499,31 +560,6 @@ module _ (p : Program) (ac : Accept p) (forms : HasPlainForms p) (runs' : HasPla
         | inl new ↦ new_to_result k position (normal operand.0) new o root'
         | inr called' ↦ to_result k position operand.0 called'.0 called'.1 called'.2 o x before heavy owes root'
       ]
-
-  -- ---- who owns what
-
-  -- the frame owned its result, which the caller owns when the call has ended
-  result_owner : (n : ℕ) (x u : Object) → object_at h n ≡ Some x → is_heavy_class p x.class ≡ true → may_owe x ≡ true → IsReturned p at (method_at p fr.method) v e h n x u → x.owner ≡ owners.Frame (at + 1)
-  result_owner n x u before heavy owes r =
-      returned_owner p ac h fr (caller ∷ rest) st mine' covered i s q here is at n x u before heavy owes r ∙ ap owners.Frame (let number : length (caller ∷ rest) + 1 ≡ length rest + 1 + 1 = omega arith in number)
-
-  pub goes_on : OwnersGo p None (caller ∷ rest) at h K
-  goes_on = end_owners_go p at fr.locals.this caller.locals t.action (method_at p fr.method) plain v e h no_reset unmade (caller ∷ rest) gives_up_alone result_owner None
-    where
-      gives_up_alone : (n : ℕ) (x : Object) → object_at h n ≡ Some x → is_heavy_class p x.class ≡ true → (w : ℕ) → constructs (method_at p fr.method) ≡ true → fr.locals.this ≡ values.Object w → is_held_by x.owner w ≡ true → RunOnOthers w (caller ∷ rest)
-      gives_up_alone n x before heavy w makes this held' = by x.owner refl held'
-        where
-          by : (a : Owner) → x.owner ≡ a → is_held_by a w ≡ true → RunOnOthers w (caller ∷ rest)
-          by (owners.Field u g) own is' = subst (λ (z : ℕ). RunOnOthers z (caller ∷ rest)) (eqb-true u w is') (alone n x u g makes (this ∙ ap values.Object (sym (eqb-true u w is'))) before heavy own)
-          by (owners.Frame j) own is' = absurd (true≢false (sym is'))
-          by owners.Library own is' = absurd (true≢false (sym is'))
-          by owners.Released own is' = absurd (true≢false (sym is'))
-          by owners.Lost own is' = absurd (true≢false (sym is'))
-          by owners.Unowned own is' = absurd (true≢false (sym is'))
-
-  -- the caller goes on owning what it owned
-  pub caller_owns : (o : ℕ) (x y : Object) → object_at h o ≡ Some x → object_at K o ≡ Some y → x.finished ≡ true → is_heavy_class p x.class ≡ true → x.owner ≡ owners.Frame at → y.owner ≡ owners.Frame at
-  caller_owns = end_keeps_own p at fr.locals.this caller.locals t.action (method_at p fr.method) plain v e h no_reset unmade result_owner
 
   -- ---- what the call gives
 
@@ -574,19 +610,19 @@ module _ (p : Program) (ac : Accept p) (forms : HasPlainForms p) (runs' : HasPla
 
   -- what the call gives is covered by its birth, or comes from the operand of which it is an alias
   made : (place : Place) (o : ℕ) (y : Object) → IsSmall place → is_local place ≡ true → is_made (made_place t.action) place ≡ true → place_value p K caller.method after.locals place ≡ V → root_of K V ≡ Some o
-      → object_at K o ≡ Some y → is_heavy_class p y.class ≡ true → may_owe y ≡ true → IsMadeHere place o y
+      → object_at K o ≡ Some y → is_heavy_class p y.class ≡ true → OwesOrHolds p K o y → IsMadeHere place o y
   made place o y small local' there value root' now heavy owes = by named_there.0.sig.alias refl
     where
       by_end : (k : ℕ) → named_there.0.sig.alias ≡ Some k → (x : Option ClassId) → e ≡ x → IsMadeHere place o y
       by_end k some (Some c) thrown' =
-          absurd (thrown_light p ac forms runs' h texts links apart fr caller rest st below keeps gives mine' covered i s q here is t named back named_there.0 named_there.1 call may makes exits (roots_thrown c thrown') unmade was place o y small there value root'
+          absurd (thrown_light p ac forms runs' h texts links apart fr caller rest st below keeps gives mine' covered i s q here is t named back named_there.0 named_there.1 call may makes exits (roots_thrown c thrown') unmade was holders place o y small there value root'
           now heavy owes c thrown' (ap (λ (x : Option ClassId). root_of K (answered fr.locals.this t.action v x)) (sym thrown') ∙ root'))
       by_end k some None none =
           let old = was o y now in
           let edge = back.normal none in
           inr (inr (from_operand p h caller below t local place o small local' there edge k (ap alias_in same_callee ∙ some) (elim (alias_kind k some) [
             | inl new ↦ new_to_operand k some none new o y root' now owes
-            | inr called' ↦ to_operand k some edge called'.0 called'.1 called'.2 o old.0 old.1 (ap (is_heavy_class p) (sym old.2) ∙ heavy) (owed_before old.0 y old.3 owes) root'
+            | inr called' ↦ to_operand k some edge called'.0 called'.1 called'.2 o old.0 old.1 (ap (is_heavy_class p) (sym old.2) ∙ heavy) (bore_before p h K holders o old.0 y old.1 old.3 owes) root'
           ])))
 
       as_born : IsBornSo p K (is_renewed p h caller o) rest after place o y ((y.owner ≡ owners.Frame at) × (((is_new t.action ≡ true) × (fr.locals.this ≡ values.Object o)) ⊎ ((x : Object) → object_at h o ≡ Some x → x.owner ≡ owners.Frame (at + 1)))) → IsMadeHere place o y
@@ -595,7 +631,7 @@ module _ (p : Program) (ac : Accept p) (forms : HasPlainForms p) (runs' : HasPla
 
       by : (a : Option ℕ) → named_there.0.sig.alias ≡ a → IsMadeHere place o y
       by None none =
-          as_born (given p ac forms runs' h texts links apart fr caller rest st below keeps gives mine' covered i s q here is t named back named_there.0 named_there.1 call may makes exits (roots_plain none) unmade was place o y small there value root' now heavy
+          as_born (given p ac forms runs' h texts links apart fr caller rest st below keeps gives mine' covered i s q here is t named back named_there.0 named_there.1 call may makes exits (roots_plain none) unmade was holders place o y small there value root' now heavy
           owes none)
       by (Some k) some = by_end k some e refl
 
@@ -606,13 +642,13 @@ module _ (p : Program) (ac : Accept p) (forms : HasPlainForms p) (runs' : HasPla
     gifts = small_gifts p ac h K rest stand all_roots.1
 
     -- each place of the caller is in a fact that comes from one before, or was born. Where the call creates the object's obligation anew, the fact is still read so.
-    pub caller_from : (place : Place) (o : ℕ) (y : Object) → IsSmall place → root_of K (place_value p K caller.method after.locals place) ≡ Some o → object_at K o ≡ Some y → is_heavy_class p y.class ≡ true → may_owe y ≡ true
+    pub caller_from : (place : Place) (o : ℕ) (y : Object) → IsSmall place → root_of K (place_value p K caller.method after.locals place) ≡ Some o → object_at K o ≡ Some y → is_heavy_class p y.class ≡ true → OwesOrHolds p K o y
         → IsKeyedFrom p ac h K links carries fields caller below back.index t back.here local inside all_roots.0 V rest (is_given p h caller) (is_renewed p h caller) IsGivenOrNot place o y
     caller_from =
         call_from p ac h K links carries fields caller below back.index t back.here local inside all_roots.0 V back.row rest (is_given p h caller) (is_renewed p h caller)
         (λ o c gives'. given_at_step p h caller below back.index t o c back.here back.row gives') waits.0 ready.0 (given_kept p h K rest gifts)
-        (stays_apart p None (caller ∷ rest) at h K finishes goes_on rest caller (omega arith) (λ w to this. absurd (let never : None ≡ Some w = to in cc)) (λ w none. none.1))
-        (held_here p None (caller ∷ rest) at h K finishes goes_on rest caller (omega arith) (λ w none. none.0))
+        (stays_apart p None (caller ∷ rest) at h K finishes goes_on holders rest caller (omega arith) (λ w to this. absurd (let never : None ≡ Some w = to in cc)) (λ w none. none.1))
+        (held_here p None (caller ∷ rest) at h K finishes goes_on holders rest caller (omega arith) (λ w none. none.0))
         (λ o x y before now done heavy spared mine. caller_owns o x y before now done heavy mine)
         noted
         (λ o x y c before now g more trusted spared old done goes heavy owes names less knows.
@@ -625,7 +661,7 @@ module _ (p : Program) (ac : Accept p) (forms : HasPlainForms p) (runs' : HasPla
     pub rest_waiting : AreWaiting p K rest
     rest_waiting =
         all_wait_on p h K links carries rest all_roots.1 (all_keep_but_texts p h K fields rest) (all_there p h ranges rest (All-tail (λ (x : Frame). LocalsInRange h x.locals) caller rest in')) ready.1 gifts
-        (owners_kept p None (caller ∷ rest) at h K finishes goes_on rest (omega arith) tt (λ w none. none.1)) waits.1
+        (owners_kept p None (caller ∷ rest) at h K finishes goes_on holders rest (omega arith) tt (λ w none. none.1)) waits.1
 
     -- what is lent to them stays so
     pub lent_on : (o : ℕ) (w : Owner) → IsLentFrom p h rest o w → IsLentFrom p K rest o w

@@ -61,7 +61,7 @@ use Rattle.value_laws.proofs.Chains.{object_there}
 use Rattle.value_laws.proofs.Entries.{same_count}
 use Rattle.value_laws.specs.Typed.{IsDeclaredElsewhere, NamesMembers}
 use Rattle.value_laws.specs.FieldContents.{IsDispatched, is_chosen_by_class}
-use Rattle.value_laws.specs.PlaceFacts.{Covers, IsCovered, asked_by, asked_of, gives_none, is_given, is_lent, may_owe, renews_none}
+use Rattle.value_laws.specs.PlaceFacts.{Covers, IsCovered, asked_by, asked_of, gives_none, is_given, is_lent, OwesOrHolds, renews_none}
 use Rattle.value_laws.specs.Renewing.{is_renewed}
 use Rattle.value_laws.specs.Ranges.{LocalsInRange}
 use Rattle.value_laws.proofs.FrameOperations.{all_at}
@@ -218,7 +218,7 @@ module _ (p : Program) (ac : Accept p) (forms' : HasPlainForms p) (h : HeapConte
   -- The object of a fact of the caller, which says that it is owned, or is that of what is lent to the caller. All that was called on the object as the call ends, and
   -- all that the fact knows before, is among the names.
   module _ (o : ℕ) (x y : Object) (c : Covers p h (is_given p h caller o x.class) (is_renewed p h caller o) rest caller o x) (before : object_at h o ≡ Some x) (spared : is_given p h caller o x.class ≡ false) (old : is_renewed p h caller o ≡ false) (done : x.finished ≡ true) (goes : GoesOn x y)
-      (heavy : is_heavy_class p x.class ≡ true) (owes : may_owe x ≡ true) (names : Names) (less : set.is_subset y.called names ≡ true) (knows : set.is_subset c.fact.called names ≡ true) where
+      (heavy : is_heavy_class p x.class ≡ true) (owes : OwesOrHolds p h o x) (names : Names) (less : set.is_subset y.called names ≡ true) (knows : set.is_subset c.fact.called names ≡ true) where
     -- what was called on it before is among them
     called_before : set.is_subset x.called names ≡ true
     called_before = within_trans x.called y.called names goes.called less
@@ -435,7 +435,7 @@ module _ (p : Program) (ac : Accept p) (forms' : HasPlainForms p) (h : HeapConte
   kept_as held names ps qs same kept = subst (λ (us : List Promise). AreKept p below.number t.action held names us) (sym same) kept
 
   pub promises_kept : (o : ℕ) (x y : Object) (c : Covers p h (is_given p h caller o x.class) (is_renewed p h caller o) rest caller o x) → object_at h o ≡ Some x → (g : Fact) → (moved_at_call p c.origin t.action t.edge c.fact ≡ moves.Moves → is_owned_in g.mode ≡ false)
-      → (is_owned_in g.mode ≡ true) ⊎ (is_lent p (method_at p caller.method) c.origin.kind ≡ true) → is_given p h caller o x.class ≡ false → is_renewed p h caller o ≡ false → x.finished ≡ true → GoesOn x y → is_heavy_class p x.class ≡ true → may_owe x ≡ true
+      → (is_owned_in g.mode ≡ true) ⊎ (is_lent p (method_at p caller.method) c.origin.kind ≡ true) → is_given p h caller o x.class ≡ false → is_renewed p h caller o ≡ false → x.finished ≡ true → GoesOn x y → is_heavy_class p x.class ≡ true → OwesOrHolds p h o x
       → (names : Names) → set.is_subset y.called names ≡ true → set.is_subset c.fact.called names ≡ true → AreKept p below.number t.action c.fact.places names (promises_at p t.action t.edge)
   promises_kept o x y c before g more trusted spared old done goes heavy owes names less knows = elim (call.keeps fr.method n run.0 may named_at run.1 run.2) [
     | inl keeps ↦ as_promised keeps t.edge refl

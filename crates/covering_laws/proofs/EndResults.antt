@@ -44,6 +44,7 @@ use Rattle.value_laws.specs.Paths.{Reach, move_of, relation_of}
 use Rattle.value_laws.specs.Accept.{Accept}
 use Rattle.ledger_state.specs.Classes.{class_in, runtime_class}
 use Rattle.ledger_state.specs.Contents.{HeapContents}
+use Rattle.ledger_state.specs.declared.entry.Owner.{Owner}
 use Rattle.ledger_state.specs.Heaps.{object_at, root, root_of, unfinished}
 use Rattle.ledger_state.specs.Locals.{temp_value}
 use Rattle.ledger_state.specs.Values.{number_of}
@@ -75,7 +76,7 @@ use Rattle.value_laws.specs.Typed.{GivesResult, NamesMembers}
 use Rattle.value_laws.specs.Types.{GivesAsNamed, IsNoObjectButText, KeepsTypes, is_text}
 use Rattle.value_laws.proofs.ValueTypeLaws.{returned_value_is_no_object}
 use Rattle.value_laws.specs.FieldContents.{is_new}
-use Rattle.value_laws.specs.PlaceFacts.{Covers, IsCovered, IsKeyed, IsOwned, IsTrueOf, gives_none, may_owe, owned, renews_none, unowned}
+use Rattle.value_laws.specs.PlaceFacts.{Covers, IsCovered, IsKeyed, IsOwned, IsTrueOf, gives_none, OwesOrHolds, owned, renews_none, unowned}
 use Rattle.value_laws.specs.Renewing.{is_renewed}
 use Rattle.value_laws.proofs.EndResets.{plain_alias_position}
 use Rattle.value_laws.proofs.Renewed.{says_nothing, without_reset}
@@ -97,7 +98,8 @@ use Rattle.covering_laws.specs.Throws.{EndsAsDeclared}
 use Rattle.covering_laws.proofs.LinkedExceptions.{exceptions_unlinked}
 use Rattle.covering_laws.proofs.LocalSteps.{names_members}
 use Rattle.covering_laws.proofs.ResultOwners.{result_is_owned}
-use Rattle.covering_laws.proofs.Waiting.{IsCarried, KeepsRoots, owed_before, value_root}
+use Rattle.covering_laws.proofs.Waiting.{IsCarried, KeepsRoots, bore_before, value_root}
+use Rattle.covering_laws.proofs.Owners.{HoldersWere}
 use Rattle.covering_laws.specs.Texts.{TextsAreLight}
 
 no_number : (k : HeapContents) (v : Value) (o : ℕ) → number_of v ≡ None → root_of k v ≡ Some o → ⊥
@@ -152,9 +154,9 @@ module _ (p : Program) (ac : Accept p) (forms' : HasPlainForms p) (runs' : HasPl
   body_method = ap (method_in p) st.at ∙ ap (method_at p) st.method ∙ run.1
 
   module _ (roots : KeepsRoots h K) (unmade : (w : ℕ) (x : Object) → is_new t.action ≡ true → fr.locals.this ≡ values.Object w → object_at h w ≡ Some x → x.finished ≡ false)
-      (was : (o : ℕ) (y : Object) → object_at K o ≡ Some y → IsCarried h o y) (place : Place) (o : ℕ) (y : Object) (small : IsSmall place) (there : is_made (made_place t.action) place ≡ true)
+      (was : (o : ℕ) (y : Object) → object_at K o ≡ Some y → IsCarried h o y) (holders : HoldersWere p h K) (place : Place) (o : ℕ) (y : Object) (small : IsSmall place) (there : is_made (made_place t.action) place ≡ true)
       (value : place_value p K caller.method after.locals place ≡ V) (rooted : root_of K V ≡ Some o) (now : object_at K o ≡ Some y) (heavy : is_heavy_class p y.class ≡ true)
-      (owes : may_owe y ≡ true) where
+      (owes : OwesOrHolds p K o y) where
     old : IsCarried h o y
     old = was o y now
 
@@ -306,7 +308,7 @@ module _ (p : Program) (ac : Accept p) (forms' : HasPlainForms p) (runs' : HasPl
                 (ap owning_result_in body_method ∙ owning_run owning) in' (or_right (is_heavy_class p c.origin.class) (not (is_empty (must_of_optional p (Some result_there.0)))) (not_light (is_empty (must_of_optional p (Some result_there.0))) refl)) fine
 
           owned_cover : (c : Covers p h false false (caller ∷ rest) fr o old.0) × (has c.fact.places (places.Temp d) ≡ true) × IsOwned p h false false (caller ∷ rest) fr o old.0 c
-          owned_cover = by (covered (places.Temp d) o old.0 room (temp_root d found) old.1 (ap (is_heavy_class p) (sym old.2) ∙ heavy) (owed_before old.0 y old.3 owes))
+          owned_cover = by (covered (places.Temp d) o old.0 room (temp_root d found) old.1 (ap (is_heavy_class p) (sym old.2) ∙ heavy) (bore_before p h K holders o old.0 y old.1 old.3 owes))
             where
               by : IsKeyed p h false false (caller ∷ rest) fr (places.Temp d) o old.0 → (c : Covers p h false false (caller ∷ rest) fr o old.0) × (has c.fact.places (places.Temp d) ≡ true) × IsOwned p h false false (caller ∷ rest) fr o old.0 c
               by (owned c in' key) = (c, in', key)
@@ -337,7 +339,7 @@ module _ (p : Program) (ac : Accept p) (forms' : HasPlainForms p) (runs' : HasPl
                 (ap calls.alias_position run.1 ∙ fit.alias ∙ plain) (ap conducts.result_in run.1 ∙ result_there.1)
                 (ap (λ (c : Completion). root_of h (result_value fr.locals (method_at p fr.method) c)) end' ∙ temp_root d found) old.1
                 (and_from (old.0.finished && not (is_library_owner old.0.owner)) (set.is_subset (must_of p old.0.class) (must_of_type p result_there.0))
-                (and_from old.0.finished (not (is_library_owner old.0.owner)) truth.finished (ap (λ (b : Bool). not (b && is_library_owner old.0.owner)) (sym truth.finished) ∙ owed_before old.0 y old.3 owes))
+                (and_from old.0.finished (not (is_library_owner old.0.owner)) truth.finished (ap (λ (a : Owner). not (is_library_owner a)) (owned_cover.2.owner refl (ap is_own (mine owned_cover.0 owned_cover.1).0))))
                 (within_trans (must_of p old.0.class) (must_of p owned_cover.0.origin.class) (must_of_type p result_there.0) truth.class (mine owned_cover.0 owned_cover.1).2)) now,
             inr (λ x there'. ap (λ (z : Object). z.owner) (let both : Some x ≡ Some old.0 = sym there' ∙ old.1 in (let one : x ≡ old.0 = cc in one)) ∙ owned_cover.2.owner refl (ap is_own (mine owned_cover.0 owned_cover.1).0)
                 ∙ ap owners.Frame (let number : length (caller ∷ rest) + 1 ≡ length rest + 1 + 1 = omega arith in number)),

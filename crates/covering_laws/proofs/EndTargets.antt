@@ -37,7 +37,7 @@ use Rattle.value_laws.specs.FieldContents.{AreUnfinished, IsBeingMade, IsDispatc
 use Rattle.value_laws.specs.HeapAnew.{HasNoHolder, IsEmptied, finished_root, is_anew_at_end, target_root}
 use Rattle.value_laws.specs.Heaps.{GoesOn, HasEarlierLinks, KeepsLinks}
 use Rattle.value_laws.specs.Nexts.{IsBackStep}
-use Rattle.value_laws.specs.PlaceFacts.{IsCovered, RunsOn, is_given, may_owe}
+use Rattle.value_laws.specs.PlaceFacts.{IsCovered, RunsOn, is_given, OwesOrHolds}
 use Rattle.value_laws.specs.PlainForms.{HasPlainForms}
 use Rattle.value_laws.specs.ClassValues.{IsOnInstance}
 use Rattle.covering_laws.specs.Sight.{ActsInSight}
@@ -274,8 +274,8 @@ module _ (p : Program) (ac : Accept p) (forms : HasPlainForms p) (h : HeapConten
         none_left true = refl
         none_left false = refl
 
-        owes : may_owe z ≡ true
-        owes = ap (λ (b : Bool). not (z.finished && b)) (ap is_library_owner owner) ∙ none_left z.finished
+        owes : OwesOrHolds p h n z
+        owes = inl (ap (λ (b : Bool). not (z.finished && b)) (ap is_library_owner owner) ∙ none_left z.finished)
 
     holder_gone : (n : ℕ) (x : Object) → target_root g caller.locals t.action method ≡ Some n → object_at g n ≡ Some x → (w : ℕ) (f : FieldId) → x.owner ≡ owners.Field w f → (finished_in (object_at g w) ≡ false) × RunsOn w (caller ∷ rest)
     holder_gone n x is' now w f owner =

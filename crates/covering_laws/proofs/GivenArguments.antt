@@ -31,6 +31,7 @@ use Rattle.ownership_rules.specs.Births.{fact_at, origin_of}
 use Rattle.value_laws.specs.Paths.{Reach, move_of, relation_of}
 use Rattle.value_laws.specs.Accept.{Accept}
 use Rattle.ledger_state.specs.Contents.{HeapContents}
+use Rattle.ledger_state.specs.declared.entry.Owner.{Owner}
 use Rattle.ledger_state.specs.Heaps.{object_at, root_of}
 use Rattle.ledger_state.specs.declared.object.Object.{Object}
 use Rattle.ledger_state.specs.Locals.{temp_value}
@@ -42,7 +43,7 @@ use Rattle.value_laws.specs.Choosing.{body_id, frame_steps}
 use Rattle.value_laws.specs.Heaps.{GoesOn, IsGiven}
 use Rattle.value_laws.specs.Agreement.{Stands}
 use Rattle.value_laws.specs.Outcomes.{IsCallRow}
-use Rattle.value_laws.specs.PlaceFacts.{Covers, IsCovered, IsKeyed, IsOwned, IsTrueOf, IsUnowned, claims, gives_away, gives_none, is_owning_fact, may_owe, owned, renews_none, unowned}
+use Rattle.value_laws.specs.PlaceFacts.{Covers, IsCovered, IsKeyed, IsOwned, IsTrueOf, IsUnowned, claims, gives_away, gives_none, is_owning_fact, OwesOrHolds, may_owe, owned, renews_none, unowned}
 use Rattle.covering_laws.proofs.CoveredArguments.{IsOwnedAs, argument_is_given, argument_is_owned, asked_before, no_two_arguments}
 use Rattle.covering_laws.proofs.GivenAway.{IsTaken, given_taken}
 use Rattle.ownership_rules.specs.MovesAtCalls.{moved_at_call}
@@ -118,7 +119,7 @@ module _ (p : Program) (ac : Accept p) (h : HeapContents) (fr : Frame) (st : Sta
 
   -- ---- the operand of an owning parameter
 
-  module _ (covered : IsCovered p h gives_none renews_none frs fr) (o : ℕ) (x : Object) (there : object_at h o ≡ Some x) (class : is_heavy_class p x.class ≡ true) (owes : may_owe x ≡ true) (m : Method) (j : ℕ) (q : ParamSig)
+  module _ (covered : IsCovered p h gives_none renews_none frs fr) (o : ℕ) (x : Object) (there : object_at h o ≡ Some x) (class : is_heavy_class p x.class ≡ true) (owes : OwesOrHolds p h o x) (m : Method) (j : ℕ) (q : ParamSig)
       (named : callee p s.action ≡ Some m) (at : slice_get m.sig.params.items j ≡ Some q) (owning : q.owning ≡ true) (root : root_of h (operand_of fr.locals s.action (j + 1)) ≡ Some o) where
     abbrev pub temp : (n : ℕ) × (operand_at s.action (j + 1) ≡ Some n) × (operand_of fr.locals s.action (j + 1) ≡ temp_value fr.locals n)
     temp = operand_temp fr.locals s.action (j + 1) h o root
@@ -163,11 +164,11 @@ module _ (p : Program) (ac : Accept p) (h : HeapContents) (fr : Frame) (st : Sta
         let as' = owned_as false false o x c.0 m j q named at owning (holds c.0 c.1) (heavy_of heavy c.0) in
         let truth = c.0.true' (given_claims false false o x c.0 m j q named at owning (holds c.0 c.1) (heavy_of heavy c.0)) refl in
         and_from (x.finished && not (is_library_owner x.owner)) (set.is_subset (must_of p x.class) (must_of_type p q.vtype))
-        (and_from x.finished (not (is_library_owner x.owner)) truth.finished (ap (λ (b : Bool). not (b && is_library_owner x.owner)) (sym truth.finished) ∙ owes))
+        (and_from x.finished (not (is_library_owner x.owner)) truth.finished (ap (λ (a : Owner). not (is_library_owner a)) (operand_owner heavy)))
         (within_trans (must_of p x.class) (must_of p c.0.origin.class) (must_of_type p q.vtype) truth.class as'.2)
 
   -- no object is the operand of two owning parameters
-  pub two_operands : IsCovered p h gives_none renews_none frs fr → (o : ℕ) (x : Object) → object_at h o ≡ Some x → is_heavy_class p x.class ≡ true → may_owe x ≡ true → (m : Method) (j k : ℕ) (q r : ParamSig) → j < k → callee p s.action ≡ Some m
+  pub two_operands : IsCovered p h gives_none renews_none frs fr → (o : ℕ) (x : Object) → object_at h o ≡ Some x → is_heavy_class p x.class ≡ true → OwesOrHolds p h o x → (m : Method) (j k : ℕ) (q r : ParamSig) → j < k → callee p s.action ≡ Some m
       → slice_get m.sig.params.items j ≡ Some q → slice_get m.sig.params.items k ≡ Some r → q.owning ≡ true → r.owning ≡ true → not (is_empty (must_of_optional p (Some q.vtype))) ≡ true
       → not (is_empty (must_of_optional p (Some r.vtype))) ≡ true → root_of h (operand_of fr.locals s.action (j + 1)) ≡ Some o → root_of h (operand_of fr.locals s.action (k + 1)) ≡ Some o → ⊥
   two_operands covered o x there class owes m j k q r less named at at' owning owning' heavy heavy' root root' = by (cover.2.others (places.Temp temp'.0) room (ap (root_of h) (sym temp'.2) ∙ root'))
@@ -217,7 +218,7 @@ module _ (p : Program) (ac : Accept p) (h : HeapContents) (fr : Frame) (st : Sta
           no_element zero is = let never : None ≡ Some g.param = is in cc
           no_element (suc n') is = let never : None ≡ Some g.param = is in cc
       by (Some m) is =
-          operand_owner p ac h fr st frs i s here row covered n x there class owes m g.index g.param (calls' ∙ is) (ap (λ (k : Option Method). slice_get (params_in k) g.index) (sym is) ∙ g.at) g.owning
+          operand_owner p ac h fr st frs i s here row covered n x there class (inl owes) m g.index g.param (calls' ∙ is) (ap (λ (k : Option Method). slice_get (params_in k) g.index) (sym is) ∙ g.at) g.owning
           (ap (λ (k : ℕ). root_of h (operand_of fr.locals s.action k)) (let same : g.index + 1 ≡ 1 + g.index = omega arith in same) ∙ g.root)
           (heavy_by_fit p x.class g.param.vtype class (and_parts (x.finished && not (is_library_owner x.owner)) (set.is_subset (must_of p x.class) (must_of_type p g.param.vtype)) g.may).1)
 
@@ -256,7 +257,7 @@ module _ (p : Program) (ac : Accept p) (h : HeapContents) (fr : Frame) (st : Sta
 
 -- what the frame gives away it owns, as long as it has not given it
 pub away_owner : (p : Program) (ac : Accept p) (h : HeapContents) (fr : Frame) (st : Stands p fr) (frs : List Frame) (i : ℕ) (s : Step) → slice_get (frame_steps p fr) i ≡ Some s → IsCallRow s.action
-    → IsCovered p h gives_none renews_none frs fr → (o : ℕ) (x : Object) → object_at h o ≡ Some x → is_heavy_class p x.class ≡ true → may_owe x ≡ true → gives_away p h fr.locals s.action o x.class ≡ true → x.owner ≡ owners.Frame (length frs + 1)
+    → IsCovered p h gives_none renews_none frs fr → (o : ℕ) (x : Object) → object_at h o ≡ Some x → is_heavy_class p x.class ≡ true → OwesOrHolds p h o x → gives_away p h fr.locals s.action o x.class ≡ true → x.owner ≡ owners.Frame (length frs + 1)
 away_owner p ac h fr st frs i s here row covered o x there heavy owes gives =
     let t = given_taken p h fr.locals s.action o x.class gives in
     operand_owner p ac h fr st frs i s here row covered o x there heavy owes t.0 t.2.index t.2.param t.1 t.2.at t.2.owning

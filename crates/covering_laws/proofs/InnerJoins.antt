@@ -67,7 +67,7 @@ use Rattle.covering_laws.specs.Linking.{LinkedAreAliases}
 use Rattle.covering_laws.specs.TextUpdates.{UpdatesTexts}
 use Rattle.covering_laws.specs.Throws.{RaisesExceptions}
 use Rattle.covering_laws.proofs.Gifts.{all_keep_gifts}
-use Rattle.covering_laws.proofs.InnerSteps.{HoldsNoneHeavy, carries, classes, fields, heap, inner_covered, linked_were, none_heavy, owners_below, owners_go, roots, unfinished, value, finishes}
+use Rattle.covering_laws.proofs.InnerSteps.{HoldsNoneHeavy, carries, classes, fields, heap, inner_covered, linked_were, none_heavy, owners_below, owners_go, roots, unfinished, value, finishes, inner_holders}
 use Rattle.covering_laws.proofs.Owners.{AllKeepGifts, given_kept, owners_kept}
 use Rattle.covering_laws.proofs.LightExceptions.{exceptions_are_light, operation_is_light}
 use Rattle.covering_laws.proofs.LocalSteps.{LocalsIn, all_there, holds_there, local_step, names_members}
@@ -253,7 +253,7 @@ module _ (p : Program) (ac : Accept p) (forms : HasPlainForms p) (c : Config) (t
     all_wait p h heap_then links plain_roots (carries p ac forms h links fr st i s here local step.row step.test e made updates) frs
         (all_keep_but_texts p h heap_then (fields p ac forms h links fr st i s here local step.row step.test e made updates) frs)
         (all_there p h ranges frs (All-tail (λ (x : Frame). LocalsInRange h x.locals) fr frs in')) (frames_ready p h heap_then plain_unfinished frs) gifts
-        (owners_kept p None (fr ∷ frs) (length frs + 1) h heap_then (finishes p ac forms h links fr st i s here local step.row step.test e made updates) (owners_go p ac forms h links fr st i s here local step.row step.test e made updates (fr ∷ frs) (length frs + 1)) frs (omega arith) tt
+        (owners_kept p None (fr ∷ frs) (length frs + 1) h heap_then (finishes p ac forms h links fr st i s here local step.row step.test e made updates) (owners_go p ac forms h links fr st i s here local step.row step.test e made updates (fr ∷ frs) (length frs + 1)) (inner_holders p ac forms h links fr st i s here local step.row step.test e made updates (fr ∷ frs) (length frs + 1)) frs (omega arith) tt
         (λ w none. none.1)) covered.1,
     owners_below p ac forms h links fr st i s here local step.row step.test e made updates (length frs + 1) covered.2,
   )

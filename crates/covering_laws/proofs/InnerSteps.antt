@@ -25,6 +25,7 @@ use Rattle.value_laws.specs.CalledRows.{called_after}
 use Rattle.ownership_rules.specs.Births.{birth_on, fact_at}
 use Rattle.program_model.specs.declared.kinds.BodyId.{BodyId}
 use Rattle.value_laws.specs.Accept.{Accept}
+use Rattle.ledger_obligations.specs.Obligations.{is_held_by}
 use Rattle.ledger_state.specs.Contents.{HeapContents}
 use Rattle.ledger_state.specs.Heaps.{next_number, object_at, root, root_of}
 use Rattle.ledger_state.specs.Locals.{temp_value}
@@ -50,12 +51,13 @@ use Rattle.value_laws.specs.Steps.{IsTrueTest}
 use Rattle.value_laws.specs.PlaceFacts.{AllHold, IsCovered, IsUnowned, OwnersBelow, gives_none, is_frame_from, is_lent, renews_none}
 use Rattle.covering_laws.proofs.Births.{born_covers}
 use Rattle.covering_laws.proofs.CallResults.{born_unowned, not_lent_none}
-use Rattle.covering_laws.proofs.Owners.{KeepsGiven, OwnersGo, stays, stays_apart, KeepsFinished, held_here, keeps_finished}
+use Rattle.covering_laws.proofs.Owners.{BirthsAreFree, HoldersWere, KeepsGiven, OwnersGo, holders_were, none_unready, stays, stays_apart, KeepsFinished, held_here, keeps_finished}
 use Rattle.covering_laws.proofs.StoreOwners.{thrown_below}
 use Rattle.value_laws.proofs.Ready.{row_gives_none}
 use Rattle.covering_laws.proofs.TopSteps.{IsLocalStep, top_covered, after_as}
 use Rattle.covering_laws.proofs.Waiting.{Carries, HoldsThere, KeepsFieldsButTexts, KeepsRoots, KeepsUnfinished, all_ready, keeps_roots, linked_roots, new_root, no_other}
 use Rattle.covering_laws.proofs.LinkedExceptions.{LinkedWere}
+use Rattle.covering_laws.proofs.NewOwners.{thrown_births}
 use Rattle.covering_laws.proofs.OwnerSteps.{free_below, given_up_free}
 use Rattle.covering_laws.proofs.TextStores.{left_goes_on, left_to_library, light_back, light_forward, light_unless, row_light, store_linked, unless_fields}
 use Rattle.covering_laws.specs.TextUpdates.{IsLeftByText, IsLightStore, UpdatesTexts}
@@ -194,6 +196,20 @@ module _ (p : Program) (ac : Accept p) (forms : HasPlainForms p) (h : HeapConten
     pub owners_go : (below : List Frame) (j : ℕ) → OwnersGo p None below j h heap
     owners_go below j o x y before at done heavy = stays (same_owner o x y before at heavy)
 
+    inner_births : BirthsAreFree h heap
+    inner_births o y now done = by (left o y now)
+      where
+        by : (x : Object) × (object_at (thrown_heap p e h) o ≡ Some x) × IsLeftByText p x y → ((x : Object) × (object_at h o ≡ Some x) × (x.finished ≡ true) × (y.class ≡ x.class)) ⊎ ((w : ℕ) → is_held_by y.owner w ≡ false)
+        by (x, there, inl same) = elim (thrown_births p e h o x there (ap (λ (z : Object). z.finished) (sym same) ∙ done)) [
+          | inl old ↦ inl (old.0, old.1, old.2, ap (λ (z : Object). z.class) same ∙ old.3)
+          | inr free ↦ inr (λ w. ap (λ (z : Object). is_held_by z.owner w) same ∙ free w)
+        ]
+        by (x, there, inr gone) = inr (given_up_free x y gone.0).1
+
+    -- what fields own
+    pub inner_holders : (below : List Frame) (j : ℕ) → HoldersWere p h heap
+    inner_holders below j = holders_were p None below j h heap (owners_go below j) inner_births (none_unready h)
+
     pub owners_below : (n : ℕ) → OwnersBelow h n → OwnersBelow heap n
     owners_below n below o y at = by (left o y at)
       where
@@ -234,8 +250,8 @@ module _ (p : Program) (ac : Accept p) (forms : HasPlainForms p) (h : HeapConten
 
       pub inner_covered : IsCovered p heap gives_none renews_none frs (frame_after p h fr s value)
       inner_covered = top_covered p ac h heap links carries fields fr st i s here r inside (keeps_roots p h heap roots fr inside) value frs gives_none renews_none covered (all_ready p h heap unfinished fr) gifts
-          (stays_apart p None (fr ∷ frs) (length frs + 1) h heap finishes (owners_go (fr ∷ frs) (length frs + 1)) frs fr (omega arith) (λ w none this. no_object_into w none) (λ w none. none.1))
-          (held_here p None (fr ∷ frs) (length frs + 1) h heap finishes (owners_go (fr ∷ frs) (length frs + 1)) frs fr (omega arith) (λ w none. none.0))
+          (stays_apart p None (fr ∷ frs) (length frs + 1) h heap finishes (owners_go (fr ∷ frs) (length frs + 1)) (inner_holders (fr ∷ frs) (length frs + 1)) frs fr (omega arith) (λ w none this. no_object_into w none) (λ w none. none.1))
+          (held_here p None (fr ∷ frs) (length frs + 1) h heap finishes (owners_go (fr ∷ frs) (length frs + 1)) (inner_holders (fr ∷ frs) (length frs + 1)) frs fr (omega arith) (λ w none. none.0))
           (λ o f g. Unit {0})
           (λ o x c q is. after_as (GoesAs c.fact (places_after p st.number s.action s.edge c.fact.places) (called_after p st.number s.action s.edge c.fact))
           (λ (g : Fact). GoesAs c.fact (places_after p st.number s.action s.edge c.fact.places) (called_after p st.number s.action s.edge c.fact) g × Unit {0})

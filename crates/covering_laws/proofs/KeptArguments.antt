@@ -47,7 +47,7 @@ use Rattle.value_laws.specs.Configuration.{Frame}
 use Rattle.value_laws.specs.Choosing.{body_id, frame_steps}
 use Rattle.value_laws.specs.Agreement.{Stands}
 use Rattle.value_laws.specs.PlainForms.{HasPlainForms}
-use Rattle.value_laws.specs.PlaceFacts.{Covers, IsCovered, fits_in, gives_none, is_heavy_in, may_owe, renews_none}
+use Rattle.value_laws.specs.PlaceFacts.{Covers, IsCovered, fits_in, gives_none, is_heavy_in, OwesOrHolds, renews_none}
 use Rattle.value_laws.proofs.SetLaws.{has_copied}
 use Rattle.value_laws.specs.Outcomes.{IsFault}
 use Rattle.value_laws.specs.FactGoing.{left, taken}
@@ -103,7 +103,7 @@ itself n = eq-eqb n n refl
 -- what a constructor with an aliased argument stores in a field whose type has an obligation is in a fact of that argument
 module _ (p : Program) (ac : Accept p) (forms : HasPlainForms p) (h : HeapContents) (frs : List Frame) (fr : Frame) (st : Stands p fr) (covered : IsCovered p h gives_none renews_none frs fr) (i d : ℕ) (s : Step) (f : FieldId) (o : ℕ) (x : Object)
     (here : slice_get (frame_steps p fr) i ≡ Some s) (is : s.action ≡ actions.PutOwn f d) (m : Method) (of : method_at p st.body.method ≡ Some m) (aliased' : is_alias_constructor p st.number ≡ true) (wide : is_heavy_in p (Some f) ≡ true)
-    (root : root_of h (temp_value fr.locals d) ≡ Some o) (at : object_at h o ≡ Some x) (heavy : is_heavy_class p x.class ≡ true) (owes' : may_owe x ≡ true) where
+    (root : root_of h (temp_value fr.locals d) ≡ Some o) (at : object_at h o ≡ Some x) (heavy : is_heavy_class p x.class ≡ true) (owes' : OwesOrHolds p h o x) where
   room : IsSmallAction p (actions.PutOwn f d)
   room = stores.small p ac forms h frs fr st covered i d s f here is
 
@@ -141,7 +141,7 @@ module _ (p : Program) (ac : Accept p) (forms : HasPlainForms p) (h : HeapConten
 
 module _ (p : Program) (ac : Accept p) (h : HeapContents) (frs : List Frame) (fr : Frame) (st : Stands p fr) (covered : IsCovered p h gives_none renews_none frs fr) (i : ℕ) (s : Step) (v o : ℕ) (x : Object) (m : Method) (named : method_at p fr.method ≡ Some m)
     (here : slice_get (frame_steps p fr) i ≡ Some s) (makes : constructs (method_at p fr.method) ≡ true) (alias : alias_position p st.number ≡ Some (suc v)) (at : object_at h o ≡ Some x)
-    (heavy : is_heavy_class p x.class ≡ true) (owes' : may_owe x ≡ true) where
+    (heavy : is_heavy_class p x.class ≡ true) (owes' : OwesOrHolds p h o x) where
   stored_argument : HasPlainForms p → (d : ℕ) (f : FieldId) → s.action ≡ actions.PutOwn f d → is_heavy_in p (Some f) ≡ true → root_of h (temp_value fr.locals d) ≡ Some o → root_of h (variable_value fr.locals v) ≡ Some o
   stored_argument forms d f is wide root =
       parameter_holds p ac fr st m named v makes alias h frs o x (cover p ac forms h frs fr st covered i d s f o x here is m (in_body p ac fr st m named v makes alias) (aliased p ac fr st m named v makes alias) wide root at heavy owes')
@@ -241,7 +241,7 @@ makes_some (Some x) is = (x, refl)
 
 pub argument_alone : (p : Program) → Accept p → HasPlainForms p → (h : HeapContents) (frs : List Frame) (fr : Frame) → (st : Stands p fr) → IsCovered p h gives_none renews_none frs fr → (i d : ℕ) (s : Step) (f : FieldId) (o : ℕ) (x : Object) (v : ℕ)
     → slice_get (frame_steps p fr) i ≡ Some s → s.action ≡ actions.PutOwn f d → constructs (method_at p fr.method) ≡ true → alias_position p st.number ≡ Some (suc v) → is_heavy_in p (Some f) ≡ true
-    → root_of h (temp_value fr.locals d) ≡ Some o → object_at h o ≡ Some x → is_heavy_class p x.class ≡ true → may_owe x ≡ true → root_of h (variable_value fr.locals v) ≡ Some o
+    → root_of h (temp_value fr.locals d) ≡ Some o → object_at h o ≡ Some x → is_heavy_class p x.class ≡ true → OwesOrHolds p h o x → root_of h (variable_value fr.locals v) ≡ Some o
 argument_alone p ac forms h frs fr st covered i d s f o x v here is makes alias wide root at heavy owes' =
     let named = makes_some (method_at p fr.method) makes in
     stored_argument p ac h frs fr st covered i s v o x named.0 named.1 here makes alias at heavy owes' forms d f is wide root
@@ -249,7 +249,7 @@ argument_alone p ac forms h frs fr st covered i d s f o x v here is makes alias 
 -- where the receiver is marked as aliased, only it is stored
 pub this_alone : (p : Program) → Accept p → HasPlainForms p → (h : HeapContents) (frs : List Frame) (fr : Frame) → (st : Stands p fr) → IsCovered p h gives_none renews_none frs fr → (i d : ℕ) (s : Step) (f : FieldId) (o : ℕ) (x : Object)
     → slice_get (frame_steps p fr) i ≡ Some s → s.action ≡ actions.PutOwn f d → constructs (method_at p fr.method) ≡ true → alias_position p st.number ≡ Some 0 → is_heavy_in p (Some f) ≡ true
-    → root_of h (temp_value fr.locals d) ≡ Some o → object_at h o ≡ Some x → is_heavy_class p x.class ≡ true → may_owe x ≡ true → root_of h fr.locals.this ≡ Some o
+    → root_of h (temp_value fr.locals d) ≡ Some o → object_at h o ≡ Some x → is_heavy_class p x.class ≡ true → OwesOrHolds p h o x → root_of h fr.locals.this ≡ Some o
 this_alone p ac forms h frs fr st covered i d s f o x here is makes alias wide root at heavy owes' =
     let named = makes_some (method_at p fr.method) makes in
     of_this p ac forms h frs fr st covered i d s f o x here is named.0 (ap (method_at p) st.method ∙ named.1)
@@ -257,7 +257,7 @@ this_alone p ac forms h frs fr st covered i d s f o x here is makes alias wide r
 
 pub field_holds : (p : Program) → Accept p → (h : HeapContents) (frs : List Frame) (fr : Frame) → (st : Stands p fr) → IsCovered p h gives_none renews_none frs fr → (i : ℕ) (s : Step) (q : Completion) (v w o : ℕ) (x : Object) (m : Method)
     → slice_get (frame_steps p fr) i ≡ Some s → s.action ≡ actions.End q → is_throw q ≡ false → method_at p fr.method ≡ Some m → constructs (method_at p fr.method) ≡ true
-    → alias_position p st.number ≡ Some (suc v) → fr.locals.this ≡ values.Object w → root_of h (variable_value fr.locals v) ≡ Some o → object_at h o ≡ Some x → is_heavy_class p x.class ≡ true → may_owe x ≡ true
+    → alias_position p st.number ≡ Some (suc v) → fr.locals.this ≡ values.Object w → root_of h (variable_value fr.locals v) ≡ Some o → object_at h o ≡ Some x → is_heavy_class p x.class ≡ true → OwesOrHolds p h o x
     → (f : FieldId) × (field : Field) × (field_at p f ≡ Some field) × (field.owning ≡ true) × (is_class_of field.class (method_at p fr.method) ≡ true)
     × (set.is_subset (must_of_optional p (type_at m.sig (suc v))) (must_of_type p field.vtype) ≡ true) × (root_of h (field_value p h w f) ≡ Some o)
 field_holds p ac h frs fr st covered i s q v w o x m here is normal named makes alias this root at heavy owes' =

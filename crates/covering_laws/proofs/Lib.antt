@@ -16,6 +16,7 @@ pub mod Waiting
 pub mod Gifts
 pub mod Lost
 pub mod TopSteps
+pub mod NewOwners
 pub mod Births
 pub mod BornTruths
 pub mod OwnerSteps

@@ -42,7 +42,9 @@ use Rattle.value_laws.specs.Accept.{Accept}
 use Rattle.stub_conduct.specs.declared.choice.Conduct.{Conduct}
 use Rattle.stub_conduct.specs.declared.choice.Conduct.TheVariants as conducts
 use Rattle.value_laws.specs.Fitting.{FitsMethod}
+use Rattle.ledger_obligations.specs.Obligations.{is_held_by}
 use Rattle.ledger_state.specs.Contents.{HeapContents}
+use Rattle.ledger_state.specs.declared.entry.Owner.{Owner}
 use Rattle.ledger_state.specs.Heaps.{next_number, object_at, root, root_of}
 use Rattle.ledger_state.specs.declared.array.ArrayObject.{ArrayObject}
 use Rattle.ledger_state.specs.declared.locals.Locals.{Locals}
@@ -80,8 +82,8 @@ use Rattle.value_laws.proofs.Ready.{call_sets, plain_step, row_gives_none, step_
 use Rattle.value_laws.proofs.Unmet.{way_of_call}
 use Rattle.value_laws.specs.Typed.{IsLibraryConstant, NamesMembers}
 use Rattle.value_laws.proofs.Moved.{IsConstantRead}
-use Rattle.value_laws.specs.FieldContents.{LinksLead}
-use Rattle.value_laws.specs.PlaceFacts.{AreCovered, IsCovered, IsTrueOf, IsUnowned, gives_none, may_owe, owned, renews_none, unowned}
+use Rattle.value_laws.specs.FieldContents.{HaveContents, LinksLead}
+use Rattle.value_laws.specs.PlaceFacts.{AreCovered, IsCovered, IsHolder, IsTrueOf, IsUnowned, gives_none, OwesOrHolds, owned, renews_none, unowned}
 use Rattle.value_laws.specs.Ranges.{FieldsInRange, LocalsInRange}
 use Rattle.std.proofs.lemmas.Bool.{and_from}
 use Rattle.ledger_state.specs.Values.{number_of}
@@ -109,8 +111,10 @@ use Rattle.covering_laws.proofs.MadeObjects.{fresh_finished, library_carries, li
 use Rattle.covering_laws.proofs.Gifts.{all_keep_gifts}
 use Rattle.covering_laws.proofs.GivenArguments.{given_owner}
 use Rattle.covering_laws.proofs.GivenAway.{moved_given}
+use Rattle.covering_laws.proofs.NewOwners.{library_births}
+use Rattle.covering_laws.proofs.OlderHolders.{holder_there}
 use Rattle.covering_laws.proofs.LibraryOwners.{library_below, library_owner, library_owners_go}
-use Rattle.covering_laws.proofs.Owners.{OwnersGo, given_kept, owners_kept, stays_apart, KeepsFinished, held_here}
+use Rattle.covering_laws.proofs.Owners.{HoldersWere, OwnersGo, given_kept, holders_were, none_unready, owners_kept, stays_apart, KeepsFinished, held_here}
 use Rattle.covering_laws.proofs.TopSteps.{ComesFrom, IsKeyedFrom, IsLocalStep, IsMadeSo, StopsOwning, after_as, top_covered}
 use Rattle.covering_laws.proofs.Waiting.{but_texts, Carries, HoldsThere, KeepsRoots, KeepsUnfinished, all_keep, all_ready, all_wait, frames_ready, keeps_roots, new_root, no_other, value_root, carries_finish}
 use Rattle.covering_laws.specs.Linking.{IsGivenAsAlias, LinkedAreAliases}
@@ -178,7 +182,7 @@ small_interest p small named n (Some x) at is = small named x n at is
 
 module _ (p : Program) (ac : Accept p) (forms : HasPlainForms p) (names : HasSmallInterests p) (h : HeapContents) (links : HasEarlierLinks h) (ranges : FieldsInRange h) (fr : Frame) (frs : List Frame) (st : Stands p fr)
     (mine : LocalsInRange h fr.locals) (arrays : List ArrayObject) (named runs : MethodId) (d : Conduct) (s : Step) (next : IsLibraryMove p h arrays fr.locals (frame_steps p fr) named runs d s) (count : ℕ)
-    (leads : LinksLead p h) where
+    (leads : LinksLead p h) (contents : HaveContents p (fr ∷ frs) h) where
   -- the position of the frame
   abbrev at : ℕ
   at = length frs + 1
@@ -279,8 +283,26 @@ module _ (p : Program) (ac : Accept p) (forms : HasPlainForms p) (names : HasSma
   existing : (k : ℕ) → d ≡ conducts.Existing k → GivesUnowned ran
   existing k is = subst (MayGive ran) is may_give
 
+  -- the next object holds nothing
+  next_holds_nothing : IsHolder p K (next_number h) → ⊥
+  next_holds_nothing (c, y, now, done, heavy, held) = elim (library_births p l s.action (without_reset m) ran d at h no_reset c y now done) [
+    | inl old ↦ elim (library_owner p l s.action (without_reset m) ran d at h no_reset c old.0 y old.1 now) [
+      | inl same ↦ (
+          let z = holder_there p (fr ∷ frs) h contents (next_number h) (c, old.0, old.1, old.2, ap (is_heavy_class p) (sym old.3) ∙ heavy, ap (λ (a : Owner). is_held_by a (next_number h)) (sym same) ∙ held) in
+          let range = numbers_are_in_range h (next_number h) z.0 z.1 in
+          let below = range.1 in
+          omega (arith, below))
+      | inr gave ↦ true≢false (sym held ∙ ap (λ (a : Owner). is_held_by a (next_number h)) gave.0)
+    ]
+    | inr free ↦ true≢false (sym held ∙ free (next_number h))
+  ]
+
+  -- what fields own
+  pub holders_by : OwnersGo p None (fr ∷ frs) at h K → HoldersWere p h K
+  holders_by goes = holders_were p None (fr ∷ frs) at h K goes (library_births p l s.action (without_reset m) ran d at h no_reset) (none_unready h)
+
   -- the object that is given: it is made by the call, or was there
-  module _ (o : ℕ) (y : Object) (root' : root_of K v ≡ Some o) (now : object_at K o ≡ Some y) (heavy : is_heavy_class p y.class ≡ true) (owes : may_owe y ≡ true) where
+  module _ (o : ℕ) (y : Object) (root' : root_of K v ≡ Some o) (now : object_at K o ≡ Some y) (heavy : is_heavy_class p y.class ≡ true) (owes : OwesOrHolds p K o y) where
     -- it is the root of the aliased operand
     abbrev IsOperand : Type 0
     IsOperand = (k : ℕ) × (alias_position ran ≡ Some k) × (root_of h (operand_of l s.action k) ≡ Some o)
@@ -304,7 +326,10 @@ module _ (p : Program) (ac : Accept p) (forms : HasPlainForms p) (names : HasSma
             let number : next_number h ≡ o = new_number (λ z there. (subst (λ (w : Option ℕ). IsAliasOf w z) none (alias_next k some (conducts.Fresh e) is z there).2).2) o next_is in
             let there : object_at K (next_number h) ≡ Some y = ap (object_at K) number ∙ now in
             let made = subst (λ (w : Option ℕ). IsAliasOf w y) none (alias_next k some (conducts.Fresh e) is y there).2 in
-            true≢false (sym owes ∙ ap not (and_from y.finished (is_library_owner y.owner) (made_finished e is y there) (ap is_library_owner made.1)))
+            elim owes [
+              | inl may ↦ true≢false (sym may ∙ ap not (and_from y.finished (is_library_owner y.owner) (made_finished e is y there) (ap is_library_owner made.1)))
+              | inr holds ↦ next_holds_nothing (subst (IsHolder p K) (sym number) holds)
+            ]
 
         of_object : (w : ℕ) → position_object (position_of None l s.action) k ≡ Some w → IsOperand
         of_object w is' =
@@ -379,7 +404,7 @@ module _ (p : Program) (ac : Accept p) (forms : HasPlainForms p) (names : HasSma
     form = plain_step p ac forms fr st next.index s next.here
 
     noted : (o : ℕ) (x y : Object) (n : NameId) → object_at h o ≡ Some x → object_at K o ≡ Some y → root_of h (operand_of l s.action 0) ≡ Some o → is_super_target s.action ≡ false
-        → interest_in (callee p s.action) ≡ Some n → x.finished ≡ true → GoesOn x y → is_heavy_class p x.class ≡ true → may_owe x ≡ true → set.contains y.called n.0 ≡ true
+        → interest_in (callee p s.action) ≡ Some n → x.finished ≡ true → GoesOn x y → is_heavy_class p x.class ≡ true → OwesOrHolds p h o x → set.contains y.called n.0 ≡ true
     noted o x y n before now root' other interest done goes heavy owes =
         let r = subst (λ (z : Option Method). IsReceiver h l s.action z o n) same_callee (noted_at p ac h l o n s.action form row other root' (same_interest (callee p s.action) ∙ interest)) in
         let number = operands_there 0 r.object (ap number_of r.value) in
@@ -406,7 +431,7 @@ module _ (p : Program) (ac : Accept p) (forms : HasPlainForms p) (names : HasSma
 
     -- what the call gives is covered by its birth, or comes from the operand of which it is an alias
     made : (q : Place) (o : ℕ) (y : Object) → IsSmall q → is_local q ≡ true → is_made (made_place s.action) q ≡ true → place_value p K fr.method after.locals q ≡ v → root_of K v ≡ Some o → object_at K o ≡ Some y
-        → is_heavy_class p y.class ≡ true → may_owe y ≡ true → IsMadeHere q o y
+        → is_heavy_class p y.class ≡ true → OwesOrHolds p K o y → IsMadeHere q o y
     made q o y small local' there is root' now heavy owes = given o y root' now heavy owes (IsMadeHere q o y)
         (λ e same number none edge as' done. fresh e same number none edge as' done) (λ k same edge gives. old k same edge gives) (λ edge operand. inr (inr (comes q o small local' there edge operand.0 operand.1 operand.2)))
       where
@@ -561,20 +586,20 @@ module _ (p : Program) (ac : Accept p) (forms : HasPlainForms p) (names : HasSma
             go a is' = absurd (subst IsCallRow is' row)
 
     -- the frame owned what it gave to the library
-    call_goes : IsCovered p h gives_none renews_none frs fr → OwnersGo p None (fr ∷ frs) at h K
+    pub call_goes : IsCovered p h gives_none renews_none frs fr → OwnersGo p None (fr ∷ frs) at h K
     call_goes covered = library_owners_go p l s.action (without_reset m) ran d at h no_reset None (fr ∷ frs) at (λ o x before heavy owes g. given_owner p ac h fr st frs next.index s next.here row covered m same_callee o x before heavy owes (given_so o x g))
 
     -- each place after the call is in a fact that comes from one before it, or was born
     pub call_top_from : IsCovered p h gives_none renews_none frs fr → LocalsIn h frs → (q : Place) (o : ℕ) (y : Object) → IsSmall q → root_of K (place_value p K after.method after.locals q) ≡ Some o → object_at K o ≡ Some y
-        → is_heavy_class p y.class ≡ true → may_owe y ≡ true
+        → is_heavy_class p y.class ≡ true → OwesOrHolds p K o y
         → IsKeyedFrom p ac h K links carries (but_texts p h K (library_keeps p l s.action (without_reset m) ran at h no_reset links d)) fr st next.index s next.here local inside (keeps_roots p h K roots fr inside) v frs gives_none renews_none
         (IsGivenOr p ac h K links carries (but_texts p h K (library_keeps p l s.action (without_reset m) ran at h no_reset links d)) fr st next.index s next.here local inside (keeps_roots p h K roots fr inside) v row) q o y
     call_top_from covered others =
         call_from p ac h K links carries (but_texts p h K (library_keeps p l s.action (without_reset m) ran at h no_reset links d)) fr st next.index s next.here local inside (keeps_roots p h K roots fr inside) v row frs gives_none renews_none
         (λ o c never. absurd (true≢false (sym never))) covered
         (all_ready p h K (library_unfinished p l s.action (without_reset m) ran at h no_reset links d) fr) (given_kept p h K frs (all_keep_gifts p h K roots frs others))
-        (stays_apart p None (fr ∷ frs) at h K library_finishes (call_goes covered) frs fr (omega arith) (λ w is this. absurd (let never : None ≡ Some w = is in cc)) (λ w none. none.1))
-        (held_here p None (fr ∷ frs) at h K library_finishes (call_goes covered) frs fr (omega arith) (λ w none. none.0))
+        (stays_apart p None (fr ∷ frs) at h K library_finishes (call_goes covered) (holders_by (call_goes covered)) frs fr (omega arith) (λ w is this. absurd (let never : None ≡ Some w = is in cc)) (λ w none. none.1))
+        (held_here p None (fr ∷ frs) at h K library_finishes (call_goes covered) (holders_by (call_goes covered)) frs fr (omega arith) (λ w none. none.0))
         (λ o x y before now done heavy spared mine. elim (library_owner p l s.action (without_reset m) ran d at h no_reset o x y before now) [
           | inl same ↦ same ∙ mine
           | inr gave ↦ absurd (true≢false (sym (moved_given p h l s.action m o x same_callee (given_so o x gave.1)) ∙ spared))
@@ -606,7 +631,7 @@ module _ (p : Program) (ac : Accept p) (forms : HasPlainForms p) (names : HasSma
     test = constant_test l s.action s.edge named read
 
     constant_made : (q : Place) (o : ℕ) (y : Object) → IsSmall q → is_local q ≡ true → is_made (made_place s.action) q ≡ true → place_value p K fr.method after.locals q ≡ v → root_of K v ≡ Some o
-        → object_at K o ≡ Some y → is_heavy_class p y.class ≡ true → may_owe y ≡ true → IsUnowned p K false false frs after q o y
+        → object_at K o ≡ Some y → is_heavy_class p y.class ≡ true → OwesOrHolds p K o y → IsUnowned p K false false frs after q o y
     constant_made q o y small local' there is root' now heavy owes = go s.action refl read
       where
         by_class : (x : Place) (k : MethodId) (z : Method) (r : ClassId) → s.action ≡ actions.Plain x (plain_values.LibraryConstant k) → k ≡ named → s.edge ≡ edges.Go → m ≡ Some z → z.sig.result ≡ Some (types.Obj r)
@@ -657,8 +682,8 @@ module _ (p : Program) (ac : Accept p) (forms : HasPlainForms p) (names : HasSma
     read_top covered others =
         top_covered p ac h K links carries (but_texts p h K (library_keeps p l s.action (without_reset m) ran at h no_reset links d)) fr st next.index s next.here local_read inside (keeps_roots p h K roots fr inside) v frs gives_none renews_none covered
         (all_ready p h K (library_unfinished p l s.action (without_reset m) ran at h no_reset links d) fr) (given_kept p h K frs (all_keep_gifts p h K roots frs others))
-        (stays_apart p None (fr ∷ frs) at h K library_finishes read_goes frs fr (omega arith) (λ w is this. absurd (let never : None ≡ Some w = is in cc)) (λ w none. none.1))
-        (held_here p None (fr ∷ frs) at h K library_finishes read_goes frs fr (omega arith) (λ w none. none.0))
+        (stays_apart p None (fr ∷ frs) at h K library_finishes read_goes (holders_by read_goes) frs fr (omega arith) (λ w is this. absurd (let never : None ≡ Some w = is in cc)) (λ w none. none.1))
+        (held_here p None (fr ∷ frs) at h K library_finishes read_goes (holders_by read_goes) frs fr (omega arith) (λ w none. none.0))
         (λ o f g. Unit {0})
         (λ o x c q is. after_as (GoesAs c.fact (places_after p st.number s.action s.edge c.fact.places) (called_after p st.number s.action s.edge c.fact))
         (λ (g : Fact). GoesAs c.fact (places_after p st.number s.action s.edge c.fact.places) (called_after p st.number s.action s.edge c.fact) g × Unit {0})
@@ -734,12 +759,15 @@ module _ (p : Program) (ac : Accept p) (forms : HasPlainForms p) (names : HasSma
   pub library_after_unfinished : KeepsUnfinished h K no_other
   library_after_unfinished = library_unfinished p l s.action (without_reset m) ran at h no_reset links d
 
+  all_goes : (called_method s.action ≡ Some named) ⊎ IsConstantRead s.action named → IsCovered p h gives_none renews_none frs fr → OwnersGo p None (fr ∷ frs) at h K
+  all_goes row covered = elim row [ inl called ↦ call_goes called (row_of s.action called) covered | inr read ↦ read_goes read ]
+
   pub library_covered : (called_method s.action ≡ Some named) ⊎ IsConstantRead s.action named → LocalsIn h (fr ∷ frs) → AreCovered p h (fr ∷ frs) → AreCovered p K (after ∷ frs)
   library_covered row in' covered = (
     elim row [ inl called ↦ call_top called (row_of s.action called) covered.0 others | inr read ↦ read_top read covered.0 others ],
     all_wait p h K links roots carries frs (all_keep p h K (library_keeps p l s.action (without_reset m) ran at h no_reset links d) frs)
         (all_there p h ranges frs others) (frames_ready p h K (library_unfinished p l s.action (without_reset m) ran at h no_reset links d) frs) (all_keep_gifts p h K roots frs others)
-        (owners_kept p None (fr ∷ frs) at h K library_finishes (elim row [ inl called ↦ call_goes called (row_of s.action called) covered.0 | inr read ↦ read_goes read ]) frs (omega arith) tt (λ w none. none.1)) covered.1,
+        (owners_kept p None (fr ∷ frs) at h K library_finishes (all_goes row covered.0) (holders_by (all_goes row covered.0)) frs (omega arith) tt (λ w none. none.1)) covered.1,
     library_below p l s.action (without_reset m) ran d at h no_reset covered.2,
   )
     where

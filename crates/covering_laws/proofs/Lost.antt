@@ -8,6 +8,7 @@ use Rattle.program_model.specs.declared.kinds.ClassId.{ClassId}
 use Rattle.program_model.specs.declared.program.Program.{Program}
 use Rattle.java_control.specs.declared.place.Place.{Place}
 use Rattle.java_control.specs.declared.place.Place.TheVariants as places
+use Rattle.ledger_obligations.specs.MustCallSets.{is_heavy_class}
 use Rattle.ledger_state.specs.Contents.{HeapContents}
 use Rattle.ledger_state.specs.Heaps.{object_at, root_of, same_root}
 use Rattle.ledger_state.specs.Locals as locals
@@ -27,7 +28,7 @@ use Rattle.value_laws.specs.Configuration.{Frame, held_by}
 use Rattle.value_laws.specs.Heaps.{GoesOn}
 use Rattle.value_laws.proofs.EndLaws.{changed_back, frame_back, kept_goes_on}
 use Rattle.value_laws.proofs.HeapLaws.{root_of_changed, changed_object_at-object}
-use Rattle.value_laws.specs.PlaceFacts.{AreCovered, AreWaiting, IsCovered, OwnersBelow, gives_none, is_field_of, is_frame_below, is_frame_from, is_given, renews_none, HasOlderHolder}
+use Rattle.value_laws.specs.PlaceFacts.{AreCovered, AreWaiting, IsCovered, OwnersBelow, gives_none, is_field_of, is_frame_below, is_frame_from, is_given, renews_none, HasOlderHolder, IsHolder}
 use Rattle.covering_laws.proofs.Gifts.{gifts_same}
 use Rattle.covering_laws.proofs.Owners.{AllKeepGifts, KeepsGifts, KeepsOwn, KeepsOwners, given_kept, is_field_place, KeepsFinished, keeps_finished}
 use Rattle.covering_laws.proofs.Waiting.{AllHeldBefore, IsCarried, KeepsReady, KeepsUnfinished, given_alike, same_place, stays_covered}
@@ -224,6 +225,13 @@ module _ (p : Program) (k : HeapContents) (held : List (List Value)) where
     ]
   ]
 
+  -- what a field owns it owned
+  holder_was : (w : ℕ) → IsHolder p left w → IsHolder p k w
+  holder_was w (c, y, now, done, heavy, held') = let x = was_there c y now in elim (owner_after c x.0 y x.1 now) [
+    | inl same ↦ (c, x.0, x.1, sym x.2.finished ∙ done, ap (is_heavy_class p) (sym x.2.class) ∙ heavy, ap (λ (a : Owner). is_held_by a w) (sym same) ∙ held')
+    | inr lost ↦ absurd (true≢false (sym held' ∙ ap (λ (a : Owner). is_held_by a w) lost.1))
+  ]
+
   keeps : (gives : ℕ → ClassId → Bool) (frs : List Frame) (fr : Frame) → held_at held (length frs + 1) ≡ locals.held fr.locals → AreHeld frs → KeepsOwners p k left gives frs fr
   keeps gives frs fr there lower = record {
     own = not_lost gives (length frs + 1) fr there;
@@ -234,6 +242,7 @@ module _ (p : Program) (k : HeapContents) (held : List (List Value)) where
       low = λ o x y before at done heavy low. low_still (length frs + 1) o x y before at low;
       keeps = λ o x y before at done heavy lent. lent_kept frs lower o x y before at lent;
       older = λ o x y before at done heavy none older. older_still frs o x y before at older;
+      holders = λ w ready holds. holder_was w holds;
     };
     held = λ o x y before at done heavy alone own. field_kept o x y before at own.holder own.field own.owns;
   }

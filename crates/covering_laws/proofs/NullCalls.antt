@@ -43,7 +43,8 @@ use Rattle.covering_laws.proofs.InnerSteps.{no_object, same_goes_on}
 use Rattle.covering_laws.proofs.KnownNames.{AreKept}
 use Rattle.covering_laws.proofs.LightExceptions.{null_pointer_is_light}
 use Rattle.covering_laws.proofs.LocalSteps.{LocalsIn, all_there, holds_there, local_step}
-use Rattle.covering_laws.proofs.Owners.{AllKeepGifts, given_kept, owners_kept, stays_apart, KeepsFinished, held_here, keeps_finished}
+use Rattle.covering_laws.proofs.Owners.{AllKeepGifts, HoldersWere, given_kept, holders_were, none_unready, owners_kept, stays_apart, KeepsFinished, held_here, keeps_finished}
+use Rattle.covering_laws.proofs.NewOwners.{thrown_births}
 use Rattle.covering_laws.proofs.StoreOwners.{thrown_below, thrown_owners_go, thrown_same}
 use Rattle.covering_laws.proofs.TopSteps.{IsLocalStep}
 use Rattle.covering_laws.proofs.Waiting.{AllHeldBefore, Carries, KeepsFields, KeepsRoots, KeepsUnfinished, all_held_before, all_keep, all_ready, all_wait, but_texts, frames_ready, keeps_roots, linked_roots, new_root, no_other}
@@ -131,14 +132,17 @@ module _ (p : Program) (ac : Accept p) (forms : HasPlainForms p) (h : HeapConten
   same_owner : (o : ℕ) (x y : Object) → object_at h o ≡ Some x → object_at k o ≡ Some y → y.owner ≡ x.owner
   same_owner o x y before at = ap (λ (z : Object). z.owner) (thrown_same p (Some npe) h o x y before at)
 
+  holders : (frs : List Frame) → HoldersWere p h k
+  holders frs = holders_were p None (fr ∷ frs) (length frs + 1) h k (thrown_owners_go p (Some npe) h None (fr ∷ frs) (length frs + 1)) (thrown_births p (Some npe) h) (none_unready h)
+
   pub null_covered : (frs : List Frame) → LocalsIn h (fr ∷ frs) → AreCovered p h (fr ∷ frs) → AreCovered p k (after ∷ frs)
   null_covered frs in' covered = (
     call_covered p ac h k links (thrown_carries p h links npe) (but_texts p h k (thrown_fields p h links npe)) fr st i s here local
         (holds_there p h ranges fr (All-head (λ (x : Frame). LocalsInRange h x.locals) fr frs in'))
         (keeps_roots p h k (thrown_roots p h links npe) fr (holds_there p h ranges fr (All-head (λ (x : Frame). LocalsInRange h x.locals) fr frs in'))) v call.row
         frs gives_none renews_none (λ o c gives. absurd (true≢false (sym gives))) covered.0 (all_ready p h k (thrown_unfinished p h links npe) fr) (given_kept p h k frs gifts)
-        (stays_apart p None (fr ∷ frs) (length frs + 1) h k finishes (thrown_owners_go p (Some npe) h None (fr ∷ frs) (length frs + 1)) frs fr (omega arith) (λ w none this. no_object_into w none) (λ w none. none.1))
-        (held_here p None (fr ∷ frs) (length frs + 1) h k finishes (thrown_owners_go p (Some npe) h None (fr ∷ frs) (length frs + 1)) frs fr (omega arith) (λ w none. none.0))
+        (stays_apart p None (fr ∷ frs) (length frs + 1) h k finishes (thrown_owners_go p (Some npe) h None (fr ∷ frs) (length frs + 1)) (holders frs) frs fr (omega arith) (λ w none this. no_object_into w none) (λ w none. none.1))
+        (held_here p None (fr ∷ frs) (length frs + 1) h k finishes (thrown_owners_go p (Some npe) h None (fr ∷ frs) (length frs + 1)) (holders frs) frs fr (omega arith) (λ w none. none.0))
         (λ o x y before at done heavy kept mine. same_owner o x y before at ∙ mine)
         (λ o x y n before at root' other interest stays old done goes heavy owes. absurd (no_object h (operand_of fr.locals s.action 0) o call.null root'))
         (λ o x y c before at g more trusted stays old done goes some owes names less was. none_kept c.fact.places names)
@@ -146,7 +150,7 @@ module _ (p : Program) (ac : Accept p) (forms : HasPlainForms p) (h : HeapConten
         (λ q o y small local' none there is root' at heavy owes. inr (inl (made frs q o y is root' at heavy))),
     all_wait p h k links (thrown_roots p h links npe) (thrown_carries p h links npe) frs (all_keep p h k (thrown_fields p h links npe) frs)
         (all_there p h ranges frs (All-tail (λ (x : Frame). LocalsInRange h x.locals) fr frs in')) (frames_ready p h k (thrown_unfinished p h links npe) frs) gifts
-        (owners_kept p None (fr ∷ frs) (length frs + 1) h k finishes (thrown_owners_go p (Some npe) h None (fr ∷ frs) (length frs + 1)) frs (omega arith) tt (λ w none. none.1)) covered.1,
+        (owners_kept p None (fr ∷ frs) (length frs + 1) h k finishes (thrown_owners_go p (Some npe) h None (fr ∷ frs) (length frs + 1)) (holders frs) frs (omega arith) tt (λ w none. none.1)) covered.1,
     thrown_below p (Some npe) h (length frs + 1) covered.2,
   )
     where

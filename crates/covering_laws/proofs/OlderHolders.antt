@@ -1,7 +1,7 @@
 -- Where a field owns an object with an obligation, the field's object is finished, or its constructor runs.
-use Rattle.std.proofs.Common.{◌≡◌, ◌⊎◌, inl, inr, ℕ, Bool, true, false, true≢false, List, [], ◌∷◌, refl, sym, ap, ◌∙◌, eqb-true}
+use Rattle.std.proofs.Common.{◌≡◌, ◌⊎◌, inl, inr, ℕ, Bool, Some, true, false, true≢false, List, [], ◌∷◌, refl, sym, ap, ◌∙◌, eqb-true}
 use Rattle.std.proofs.lemmas.Bool.{and_parts, or_right}
-use Rattle.std.specs.Prelude.{◌||◌, not}
+use Rattle.std.specs.Prelude.{◌||◌, ◌&&◌, not}
 use Rattle.program_model.specs.declared.kinds.ClassId.{ClassId}
 use Rattle.program_model.specs.declared.kinds.FieldId.{FieldId}
 use Rattle.program_model.specs.declared.program.Program.{Program}
@@ -20,11 +20,13 @@ use Rattle.ledger_state.specs.declared.value.Value.TheVariants as values
 use Rattle.ledger_steps.specs.LedgerCallsCalls.{is_alias}
 use Rattle.value_laws.specs.Configuration.{Frame}
 use Rattle.value_laws.specs.Choosing.{is_number}
-use Rattle.value_laws.specs.FieldContents.{HaveContents, IsContent, is_made_in, makes_holder, makes_object}
-use Rattle.value_laws.specs.PlaceFacts.{HoldersAreOlder, RunsOn}
+use Rattle.value_laws.specs.FieldContents.{HaveContents, IsContent, RunOnOthers, is_made_in, makes_holder, makes_object}
+use Rattle.value_laws.specs.PlaceFacts.{HoldersAreOlder, IsHolder, RunsOn}
 use Rattle.value_laws.specs.Safety.{constructs_object}
+use Rattle.covering_laws.proofs.Owners.{runs_on_none}
 
-field_of_owner : (o : Owner) (w : ℕ) → is_held_by o w ≡ true → (f : FieldId) × (o ≡ owners.Field w f)
+-- the field that owns it
+pub field_of_owner : (o : Owner) (w : ℕ) → is_held_by o w ≡ true → (f : FieldId) × (o ≡ owners.Field w f)
 field_of_owner (owners.Field v f) w is = (f, ap (λ (k : ℕ). owners.Field k f) (eqb-true v w is))
 field_of_owner (owners.Frame j) w is = absurd (true≢false (sym is))
 field_of_owner owners.Library w is = absurd (true≢false (sym is))
@@ -38,7 +40,7 @@ is_object (values.Object k) w is = ap values.Object (sym (eqb-true w k is))
 is_object v w is = absurd (true≢false (sym is))
 
 -- a constructor among the frames that makes the object runs on it
-makes_on : (p : Program) (w : ℕ) (c : ClassId) (frs : List Frame) → is_made_in p w c frs ≡ true → RunsOn w frs
+pub makes_on : (p : Program) (w : ℕ) (c : ClassId) (frs : List Frame) → is_made_in p w c frs ≡ true → RunsOn w frs
 makes_on p w c [] is = true≢false (sym is)
 makes_on p w c (fr ∷ frs) is = go (makes_holder p w c fr) refl is (makes_on p w c frs)
   where
@@ -57,3 +59,25 @@ holders_are_older p frs h contents o x at heavy w held =
     by : (f : FieldId) (k : IsContent p frs h o x w f) (b : Bool) → k.holder.finished ≡ b → (finished_in (object_at h w) ≡ true) ⊎ RunsOn w frs
     by f k true done = inl (ap finished_in k.at ∙ done)
     by f k false unready = inr (makes_on p w k.field.class frs (k.made unready))
+
+-- the object of a field that owns such an object is there
+pub holder_there : (p : Program) (frs : List Frame) (h : HeapContents) → HaveContents p frs h → (w : ℕ) → IsHolder p h w → (z : Object) × (object_at h w ≡ Some z)
+holder_there p frs h contents w (c, x, at, done, heavy, held) =
+    let owner = field_of_owner x.owner w held in
+    let k = contents c x w owner.0 at (or_right (is_unmet x) (is_heavy_class p x.class) heavy) owner.1 in
+    (k.holder, k.at)
+
+-- What a constructor with an aliased argument makes holds nothing, where no frame below runs on it. (Nothing is moved to its fields.)
+pub alias_holds_nothing : (p : Program) (fr : Frame) (frs : List Frame) (h : HeapContents) → HaveContents p (fr ∷ frs) h → (w : ℕ) → is_alias (method_at p fr.method) ≡ true → ((z : Object) → object_at h w ≡ Some z → z.finished ≡ false) → RunOnOthers w frs
+    → IsHolder p h w → ⊥
+alias_holds_nothing p fr frs h contents w alias open' others (c, x, at, done, heavy, held) =
+    let owner = field_of_owner x.owner w held in
+    let k = contents c x w owner.0 at (or_right (is_unmet x) (is_heavy_class p x.class) heavy) owner.1 in
+    by k.field.class (k.made (open' k.holder k.at))
+  where
+    by : (d : ClassId) → is_made_in p w d (fr ∷ frs) ≡ true → ⊥
+    by d is = runs_on_none w frs others (makes_on p w d frs (go (makes_object p w d fr) is))
+      where
+        go : (b : Bool) → (b && not (is_alias (method_at p fr.method)) || is_made_in p w d frs) ≡ true → is_made_in p w d frs ≡ true
+        go true some = (let none : not (is_alias (method_at p fr.method)) ≡ false = ap not alias in ap (λ (u : Bool). u || is_made_in p w d frs) (sym none) ∙ some)
+        go false some = some

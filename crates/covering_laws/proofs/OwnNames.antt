@@ -46,7 +46,7 @@ use Rattle.value_laws.specs.Agreement.{HasMadeClasses, Stands}
 use Rattle.value_laws.specs.PlainForms.{HasPlainForms, run_by}
 use Rattle.covering_laws.specs.Covering.{HoldsHeavy, IsNotGiven}
 use Rattle.value_laws.specs.FieldContents.{IsDispatched, is_chosen_by_class, promised_on}
-use Rattle.value_laws.specs.PlaceFacts.{IsCovered, gives_none, may_owe, renews_none}
+use Rattle.value_laws.specs.PlaceFacts.{IsCovered, gives_none, OwesOrHolds, renews_none}
 use Rattle.value_laws.proofs.Names.{of_interest}
 use Rattle.covering_laws.proofs.CoveredFieldLaws.{promises_are_kept_at_end}
 use Rattle.covering_laws.proofs.OwnMethods.{IsOwn, own, own_class, own_must, own_runs, promised_own}
@@ -67,7 +67,7 @@ module _ (p : Program) (ac : Accept p) (forms' : HasPlainForms p) (h : HeapConte
     (i : ℕ) (s : Step) (q : Completion) (there : slice_get (frame_steps p fr) i ≡ Some s) (is : s.action ≡ actions.End q) (j : ℕ) (t : Step) (waits : slice_get (frame_steps p caller) j ≡ Some t)
     (named : MethodId) (n : Method) (called : called_method t.action ≡ Some named) (named_at : method_at p named ≡ Some n) (dispatched : IsDispatched p h fr caller) (name : NameId)
     (interest : n.sig.interest ≡ Some name) (chosen : is_chosen_by_class (form_of t.action) ≡ true) (o : ℕ) (y : Object) (now : object_at h o ≡ Some y) (heavy : is_heavy_class p y.class ≡ true)
-    (owes : may_owe y ≡ true) (done : y.finished ≡ true) (made : HasMadeClasses p h) (spared : IsNotGiven p h (caller ∷ rest) fr o y) where
+    (owes : OwesOrHolds p h o y) (done : y.finished ≡ true) (made : HasMadeClasses p h) (spared : IsNotGiven p h (caller ∷ rest) fr o y) where
   module _ (k c : ℕ) (x : Object) (f : FieldId) (field : Field) (target : operand_of caller.locals t.action 0 ≡ values.Object k) (at : object_at h k ≡ Some x) (declared : field_at p f ≡ Some field)
       (owning : field.owning ≡ true) (calls : CallsOnField p x.class f) (held : field_value p h k f ≡ values.Object c) (inner : Leads p h c o) (one : is_the_one (must_of p x.class) name ≡ true) where
     abbrev its : IsOwn p x.class name

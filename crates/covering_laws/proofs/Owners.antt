@@ -25,7 +25,7 @@ use Rattle.ledger_obligations.specs.Obligations.{finished_in, is_held_by}
 use Rattle.value_laws.specs.Places.{place_value}
 use Rattle.value_laws.specs.Configuration.{Frame}
 use Rattle.value_laws.specs.FieldContents.{RunOnOthers}
-use Rattle.value_laws.specs.PlaceFacts.{HasOlderHolder, RunsOn, is_apart, is_content, is_field_of, is_frame_below, is_frame_from, is_given, was_given}
+use Rattle.value_laws.specs.PlaceFacts.{HasOlderHolder, IsHolder, RunsOn, is_apart, is_content, is_field_of, is_frame_below, is_frame_from, is_given, was_given}
 use Rattle.value_laws.specs.Renewing.{IsHeldBy, IsLentFrom, IsOwnedByThis, is_renewed, makes_alone, was_renewed}
 
 -- ---- the owner of an object, before a step and after it
@@ -52,6 +52,43 @@ keeps_finished h k goes n done = by (object_at h n) refl done
     by None none never = absurd (true≢false (sym never))
     by (Some x) some is = (let y = goes n x some is in ap finished_in y.1 ∙ y.2)
 
+-- ---- what fields own
+
+-- what a field of an object, but for one that was not finished, owns after a step, a field of it owned before
+abbrev pub HoldersWere : Program → HeapContents → HeapContents → Type 0
+HoldersWere p h k = (w : ℕ) → ((z : Object) → object_at h w ≡ Some z → z.finished ≡ true) → IsHolder p k w → IsHolder p h w
+
+-- what a field of an object owns it owned
+abbrev pub HoldersStay : Program → HeapContents → HeapContents → Type 0
+HoldersStay p h k = (w : ℕ) → IsHolder p k w → IsHolder p h w
+
+-- objects that are of the class that they were, finished if they were, and owned as they were
+pub holders_stay : (p : Program) (h k : HeapContents) → ((o : ℕ) (y : Object) → object_at k o ≡ Some y → (x : Object) × (object_at h o ≡ Some x) × (y.class ≡ x.class) × (y.finished ≡ x.finished) × (y.owner ≡ x.owner)) → HoldersStay p h k
+holders_stay p h k was w (c, y, now, done, heavy, held) =
+    let x = was c y now in (c, x.0, x.1, sym x.3 ∙ done, ap (is_heavy_class p) (sym x.2) ∙ heavy, ap (λ (a : Owner). is_held_by a w) (sym x.4) ∙ held)
+
+-- what is finished after a step was so before it, or no field owns it
+abbrev pub BirthsAreFree : HeapContents → HeapContents → Type 0
+BirthsAreFree h k = (o : ℕ) (y : Object) → object_at k o ≡ Some y → y.finished ≡ true → ((x : Object) × (object_at h o ≡ Some x) × (x.finished ≡ true) × (y.class ≡ x.class)) ⊎ ((w : ℕ) → is_held_by y.owner w ≡ false)
+
+-- the object into which a step moves what a frame owned is not finished
+abbrev pub IsUnready : HeapContents → Option ℕ → Type 0
+IsUnready h into = (w : ℕ) → into ≡ Some w → (z : Object) × (object_at h w ≡ Some z) × (z.finished ≡ false)
+
+pub none_unready : (h : HeapContents) → IsUnready h None
+none_unready h w is = absurd (let never : None ≡ Some w = is in cc)
+
+pub holders_were : (p : Program) (into : Option ℕ) (below : List Frame) (j : ℕ) (h k : HeapContents) → OwnersGo p into below j h k → BirthsAreFree h k → IsUnready h into → HoldersWere p h k
+holders_were p into below j h k go_on births unready w ready (c, y, now, done, heavy, held) = elim (births c y now done) [
+  | inl old ↦ by old.0 old.1 old.2 (ap (is_heavy_class p) (sym old.3) ∙ heavy) (go_on c old.0 y old.1 now old.2 (ap (is_heavy_class p) (sym old.3) ∙ heavy))
+  | inr free ↦ absurd (true≢false (sym held ∙ free w))
+]
+  where
+    by : (x : Object) → object_at h c ≡ Some x → x.finished ≡ true → is_heavy_class p x.class ≡ true → OwnerGoes into below j x.owner y.owner → IsHolder p h w
+    by x before was heavy' (stays same) = (c, x, before, was, heavy', ap (λ (a : Owner). is_held_by a w) (sym same) ∙ held)
+    by x before was heavy' (passed from goes low) = let z = unready w (goes w held) in absurd (true≢false (sym (ready z.0 z.1) ∙ z.2))
+    by x before was heavy' (left none then' fields others) = absurd (true≢false (sym held ∙ fields w))
+
 -- ---- what frames own
 
 abbrev pub is_field_place : Place → Bool
@@ -63,7 +100,7 @@ is_field_place places.Super = false
 
 -- what is not owned by the frame above these or one above it does not come to be, nor does what no frame owns, nor does a field of `this`, in a frame
 -- that runs no constructor, come to own anything; what is lent to the frame keeps its owner; and the holder of what no frame from here on owns is finished, or a frame below
--- runs on it
+-- runs on it; and what fields own is as said above
 pub record StaysApart (p : Program) (h k : HeapContents) (frs : List Frame) (fr : Frame) : Type 0 where
   pub apart : (o : ℕ) (x y : Object) → object_at h o ≡ Some x → object_at k o ≡ Some y → x.finished ≡ true → is_heavy_class p x.class ≡ true → is_frame_from (length frs + 1) x.owner ≡ false → is_frame_from (length frs + 1) y.owner ≡ false
   pub free : (o : ℕ) (x y : Object) → object_at h o ≡ Some x → object_at k o ≡ Some y → x.finished ≡ true → is_heavy_class p x.class ≡ true → is_frame_from 0 x.owner ≡ false → is_frame_from 0 y.owner ≡ false
@@ -73,6 +110,7 @@ pub record StaysApart (p : Program) (h k : HeapContents) (frs : List Frame) (fr 
   pub keeps : (o : ℕ) (x y : Object) → object_at h o ≡ Some x → object_at k o ≡ Some y → x.finished ≡ true → is_heavy_class p x.class ≡ true → IsLentFrom p h frs o x.owner → y.owner ≡ x.owner
   pub older : (o : ℕ) (x y : Object) → object_at h o ≡ Some x → object_at k o ≡ Some y → x.finished ≡ true → is_heavy_class p x.class ≡ true → is_frame_from (length frs + 1) x.owner ≡ false → HasOlderHolder h frs x.owner
       → HasOlderHolder k frs y.owner
+  pub holders : HoldersWere p h k
 
 -- what an owning field of `this` owns it goes on owning, where the frame runs a constructor without an aliased argument
 abbrev pub KeepsHeld : Program → HeapContents → HeapContents → Frame → Type 0
@@ -212,7 +250,7 @@ none_on : (into : Option ℕ) (fr : Frame) (frs : List Frame) → RunsNoneOn int
 none_on None fr frs others = ((λ w is this. (let never : None ≡ Some w = is in cc)), tt)
 none_on (Some u) fr frs others = ((λ w is this. others.0 (this ∙ ap values.Object (let both : Some u ≡ Some w = is in (let one : w ≡ u = cc in one)))), others.1)
 
-module _ (p : Program) (into : Option ℕ) (leaving : List Frame) (j : ℕ) (h k : HeapContents) (finishes : KeepsFinished h k) (go_on : OwnersGo p into leaving j h k) where
+module _ (p : Program) (into : Option ℕ) (leaving : List Frame) (j : ℕ) (h k : HeapContents) (finishes : KeepsFinished h k) (go_on : OwnersGo p into leaving j h k) (holders' : HoldersWere p h k) where
   -- what no frame from a position on owns stays so
   apart_by : (i : ℕ) (a b : Owner) → i ≤ j → OwnerGoes into leaving j a b → is_frame_from i a ≡ false → is_frame_from i b ≡ false
   apart_by i a b below (stays same) none = ap (is_frame_from i) same ∙ none
@@ -278,6 +316,7 @@ module _ (p : Program) (into : Option ℕ) (leaving : List Frame) (j : ℕ) (h k
       low = low_here;
       keeps = kept_here spared;
       older = older_here;
+      holders = holders';
       content = λ o x y before at done heavy plain own. content_by fr.locals.this refl x.owner y.owner (go_on o x y before at done heavy) own;
     }
       where
@@ -296,6 +335,7 @@ module _ (p : Program) (into : Option ℕ) (leaving : List Frame) (j : ℕ) (h k
       low = low_here;
       keeps = kept_here spared;
       older = older_here;
+      holders = holders';
       content = λ o x y before at done heavy plain own. absurd (true≢false (sym makes ∙ plain));
     }
 

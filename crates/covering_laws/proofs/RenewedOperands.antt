@@ -38,7 +38,7 @@ use Rattle.value_laws.specs.Anew.{IsInHands, MayBeAnew, holds_target, is_target}
 use Rattle.value_laws.specs.Outcomes.{IsCallRow}
 use Rattle.value_laws.specs.Paths.{Reach, move_of, relation_of}
 use Rattle.value_laws.specs.PlainForms.{HasPlainForms, ResetsPlainly}
-use Rattle.value_laws.specs.PlaceFacts.{Covers, IsCovered, IsKeyed, IsOwned, claims, gives_away, gives_none, may_owe, owned, renews_none, unowned}
+use Rattle.value_laws.specs.PlaceFacts.{Covers, IsCovered, IsKeyed, IsOwned, claims, gives_away, gives_none, OwesOrHolds, owned, renews_none, unowned}
 use Rattle.value_laws.specs.Renewing.{IsHeldBy, IsLentFrom, is_renewed, makes_alone, renews}
 use Rattle.value_laws.proofs.ResetTargets.{answered_targets}
 use Rattle.value_laws.proofs.Resetting.{answered_target}
@@ -83,7 +83,7 @@ claimed_owner p h away anew frs fr o x c key kept done = elim (claims_by p (meth
 ]
 
 module _ (p : Program) (ac : Accept p) (forms : HasPlainForms p) (h : HeapContents) (fr : Frame) (st : Stands p fr) (frs : List Frame) (i : ℕ) (s : Step) (here : slice_get (frame_steps p fr) i ≡ Some s) (row : IsCallRow s.action)
-    (covered : IsCovered p h gives_none renews_none frs fr) (o : ℕ) (x : Object) (before : object_at h o ≡ Some x) (heavy : is_heavy_class p x.class ≡ true) (owes : may_owe x ≡ true) where
+    (covered : IsCovered p h gives_none renews_none frs fr) (o : ℕ) (x : Object) (before : object_at h o ≡ Some x) (heavy : is_heavy_class p x.class ≡ true) (owes : OwesOrHolds p h o x) where
   module _ (k : ℕ) (position : reset_in (callee p s.action) ≡ Some k) (root : root_of h (operand_of fr.locals s.action k) ≡ Some o) where
     temp : (n : ℕ) × (operand_at s.action k ≡ Some n) × (operand_of fr.locals s.action k ≡ temp_value fr.locals n)
     temp = operand_temp fr.locals s.action k h o root

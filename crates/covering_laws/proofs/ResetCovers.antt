@@ -35,7 +35,7 @@ use Rattle.ledger_steps.specs.LedgerCallsCalls.{operand_of}
 use Rattle.value_laws.specs.Configuration.{Frame}
 use Rattle.value_laws.specs.Choosing.{frame_steps}
 use Rattle.ledger_obligations.specs.Obligations.{is_library_owner, finished_in, is_held_by}
-use Rattle.value_laws.specs.PlaceFacts.{AreWaiting, Covers, IsCovered, IsKeyed, IsOwned, IsTrueOf, IsUnowned, asked_of, claims, gives_away, is_apart, is_content, is_frame_below, is_frame_from, is_given, is_taken_at, is_taken_by, is_taken_from, may_owe, owned, tells_calls, unowned, was_given, HasOlderHolder, IsInField, RunsOn}
+use Rattle.value_laws.specs.PlaceFacts.{AreWaiting, Covers, IsCovered, IsKeyed, IsOwned, IsTrueOf, IsUnowned, asked_of, claims, gives_away, is_apart, is_content, is_frame_below, is_frame_from, is_given, is_taken_at, is_taken_by, is_taken_from, OwesOrHolds, owned, tells_calls, unowned, was_given, HasOlderHolder, IsInField, RunsOn}
 use Rattle.value_laws.specs.Renewing.{IsLentFrom, fact_as, is_renewed, renews, renews_at, was_renewed, IsHeldBy, is_declared_beside}
 use Rattle.value_laws.proofs.Needs.{origin_needs_all}
 use Rattle.program_model.specs.declared.kinds.FieldId.{FieldId}
@@ -44,7 +44,7 @@ use Rattle.ownership_rules.specs.Signatures.{is_present}
 use Rattle.value_laws.specs.FieldContents.{AreNew, AreUnfinished, DeclaresOwning, RunOnOthers}
 use Rattle.covering_laws.proofs.HeavyFields.{claims_by}
 use Rattle.covering_laws.proofs.InFields.{held_by_this, held_heavy, held_in_field, held_kept}
-use Rattle.covering_laws.proofs.Owners.{KeepsFinished, held_among, held_at, lent_not_from, lent_owner, runs_on_none}
+use Rattle.covering_laws.proofs.Owners.{HoldersStay, KeepsFinished, held_among, held_at, lent_not_from, lent_owner, runs_on_none}
 use Rattle.covering_laws.proofs.LocalSteps.{LocalsIn}
 use Rattle.value_laws.specs.Ranges.{IsNumber, LocalsInRange}
 use Rattle.value_laws.proofs.Chains.{object_there}
@@ -74,12 +74,13 @@ pub record IsRenewed (p : Program) (h : HeapContents) (frs : List Frame) (o : �
   pub owner : y.owner ≡ x.owner
   pub called : y.called ≡ set.empty
   pub must : (y.must ≡ must_of p y.class) ⊎ (y.must ≡ x.must)
-  pub mine : is_heavy_class p y.class ≡ true → may_owe y ≡ true → OwnsOrIsLent p h frs o x.owner
+  pub mine : is_heavy_class p y.class ≡ true → OwesOrHolds p h o x → OwnsOrIsLent p h frs o x.owner
 
--- it may owe a call, where it may later
-pub owes_before : (p : Program) (h : HeapContents) (frs : List Frame) (o : ℕ) (x y : Object) → IsRenewed p h frs o x y → may_owe y ≡ true → may_owe x ≡ true
-owes_before p h frs o x y it is =
-    ap (λ (b : Bool). not (b && is_library_owner x.owner)) (sym it.finished) ∙ ap (λ (u : Owner). not (y.finished && is_library_owner u)) (sym it.owner) ∙ is
+-- what may owe a call, or holds something, did so before
+pub bears_before : (p : Program) (h k : HeapContents) → HoldersStay p h k → (o : ℕ) (x y : Object) → y.finished ≡ x.finished → y.owner ≡ x.owner → OwesOrHolds p k o y → OwesOrHolds p h o x
+bears_before p h k stay o x y finished owner (inl owes) =
+    inl (ap (λ (b : Bool). not (b && is_library_owner x.owner)) (sym finished) ∙ ap (λ (u : Owner). not (y.finished && is_library_owner u)) (sym owner) ∙ owes)
+bears_before p h k stay o x y finished owner (inr holds) = inr (stay o holds)
 
 at_or_above : (i n : ℕ) → i ≤ n → is_frame_from i (owners.Frame n) ≡ true
 at_or_above i n low = go (nat_lt n i) refl
@@ -154,23 +155,6 @@ waiting_renewed p h fr frs o x y making it = record {
   called = it.called;
   must = it.must;
   mine = λ heavy owes. as_waiting p h fr frs o x.owner making (it.mine heavy owes);
-}
-
--- what holds of one heap's objects holds of another's
-pub hands_on : (p : Program) (h k : HeapContents) (frs : List Frame) (o : ℕ) (w : Owner) → (IsLentFrom p h frs o w → IsLentFrom p k frs o w) → (IsHeldAbove h frs w → IsHeldAbove k frs w) → OwnsOrIsLent p h frs o w → OwnsOrIsLent p k frs o w
-hands_on p h k frs o w on held (inl above) = inl above
-hands_on p h k frs o w on held (inr (inl lent)) = inr (inl (on lent))
-hands_on p h k frs o w on held (inr (inr in')) = inr (inr (held in'))
-
-pub renewed_on : (p : Program) (h k : HeapContents) (frs : List Frame) (o : ℕ) (x y : Object) → ((w : Owner) → IsLentFrom p h frs o w → IsLentFrom p k frs o w) → ((w : Owner) → IsHeldAbove h frs w → IsHeldAbove k frs w)
-    → IsRenewed p h frs o x y → IsRenewed p k frs o x y
-renewed_on p h k frs o x y on held it = record {
-  class = it.class;
-  finished = it.finished;
-  owner = it.owner;
-  called = it.called;
-  must = it.must;
-  mine = λ heavy owes. hands_on p h k frs o x.owner (on x.owner) (held x.owner) (it.mine heavy owes);
 }
 
 -- a frame has not lent what it owns
@@ -450,8 +434,8 @@ module _ (p : Program) (h k : HeapContents) (same : (v : Value) → root_of k v 
       let t = turns o y v root' now in
       (t.0, t.1, elim t.2 [ inl it ↦ inl it | inr it ↦ inr (waiting_renewed p h fr frs o t.0 y making it) ])
 
-  covered_waiting : (fr : Frame) (frs : List Frame) → AreMaking p h (fr ∷ frs) → Turns (fr ∷ frs) → IsCovered p h (is_given p h fr) (is_renewed p h fr) frs fr → IsCovered p k (is_given p k fr) (is_renewed p k fr) frs fr
-  covered_waiting fr frs making turns covered q o y small held at heavy owes =
+  covered_waiting : HoldersStay p h k → (fr : Frame) (frs : List Frame) → AreMaking p h (fr ∷ frs) → Turns (fr ∷ frs) → IsCovered p h (is_given p h fr) (is_renewed p h fr) frs fr → IsCovered p k (is_given p k fr) (is_renewed p k fr) frs fr
+  covered_waiting stay fr frs making turns covered q o y small held at heavy owes =
       subst (λ (b : Bool). IsKeyed p k (is_given p k fr o y.class) b frs fr q o y) (sym (same_renewed fr o))
       (subst (λ (b : Bool). IsKeyed p k b (is_renewed p h fr o) frs fr q o y) (sym (same_given fr o y.class)) (go (turns o y (place_value p k fr.method fr.locals q) held at)))
     where
@@ -462,12 +446,12 @@ module _ (p : Program) (h k : HeapContents) (same : (v : Value) → root_of k v 
       go (x, before, inl it) =
           subst (λ (z : Object). IsKeyed p k (is_given p h fr o z.class) (is_renewed p h fr o) frs fr q o z) (sym it)
           (keyed_same (is_given p h fr o x.class) (is_renewed p h fr o) frs fr o x q
-          (covered q o x small was_held before (ap (λ (z : Object). is_heavy_class p z.class) (sym it) ∙ heavy) (ap may_owe (sym it) ∙ owes)))
+          (covered q o x small was_held before (ap (λ (z : Object). is_heavy_class p z.class) (sym it) ∙ heavy) (bears_before p h k stay o x y (ap (λ (z : Object). z.finished) it) (ap (λ (z : Object). z.owner) it) owes)))
       go (x, before, inr anew) =
           subst (λ (c : ClassId). IsKeyed p k (is_given p h fr o c) (is_renewed p h fr o) frs fr q o y) (sym anew.class)
-          (keyed_waiting (is_given p h fr o x.class) frs fr o x y making anew (anew.mine heavy owes) (is_renewed p h fr o) refl q
-          (covered q o x small was_held before (ap (is_heavy_class p) (sym anew.class) ∙ heavy) (owes_before p h (fr ∷ frs) o x y anew owes)))
+          (keyed_waiting (is_given p h fr o x.class) frs fr o x y making anew (anew.mine heavy (bears_before p h k stay o x y anew.finished anew.owner owes)) (is_renewed p h fr o) refl q
+          (covered q o x small was_held before (ap (is_heavy_class p) (sym anew.class) ∙ heavy) (bears_before p h k stay o x y anew.finished anew.owner owes)))
 
-  pub waiting_anew : (frs : List Frame) → AreMaking p h frs → Turns frs → AreWaiting p h frs → AreWaiting p k frs
-  waiting_anew [] making turns waits = tt
-  waiting_anew (fr ∷ frs) making turns (covered, waits) = (covered_waiting fr frs making turns covered, waiting_anew frs making.1 (turns_on fr frs making turns) waits)
+  pub waiting_anew : HoldersStay p h k → (frs : List Frame) → AreMaking p h frs → Turns frs → AreWaiting p h frs → AreWaiting p k frs
+  waiting_anew stay [] making turns waits = tt
+  waiting_anew stay (fr ∷ frs) making turns (covered, waits) = (covered_waiting stay fr frs making turns covered, waiting_anew stay frs making.1 (turns_on fr frs making turns) waits)

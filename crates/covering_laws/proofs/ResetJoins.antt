@@ -1,4 +1,11 @@
 -- A call of the library that creates an obligation anew: the object is in a fact of the top frame, which owns it, and the fact goes on anew.
+use Rattle.value_laws.proofs.Chains.{object_there}
+use Rattle.covering_laws.proofs.NewOwners.{library_births}
+use Rattle.covering_laws.proofs.OwnerSteps.{movable_owes}
+use Rattle.covering_laws.proofs.LibraryOwners.{library_owner, library_keeps_library, library_owners_go}
+use Rattle.covering_laws.proofs.GivenArguments.{away_moves, away_owner, given_owner}
+use Rattle.covering_laws.proofs.GivenAway.{moved_given}
+use Rattle.program_model.specs.declared.program.ParamSig.{ParamSig}
 use Rattle.covering_laws.proofs.HeavyFields.{claims_by, claims_owned}
 use Rattle.covering_laws.proofs.InFields.{held_by_this}
 use Rattle.covering_laws.proofs.UnfinishedHolders.{held_unready, lent_unready, unfinished_kept}
@@ -45,14 +52,14 @@ use Rattle.ledger_state.specs.declared.object.Object.{Object}
 use Rattle.ledger_state.specs.declared.value.Value.{Value}
 use Rattle.ledger_state.specs.declared.value.Value.TheVariants as values
 use Rattle.ledger_obligations.specs.Obligations as obligations
-use Rattle.ledger_obligations.specs.Obligations.{finished_holder, finished_in, is_library_owner}
+use Rattle.ledger_obligations.specs.Obligations.{finished_holder, finished_in, is_library_owner, is_held_by}
 use Rattle.ledger_steps.specs.CallSteps.{library_called, library_heap, library_roots}
 use Rattle.value_laws.specs.Places.{place_value}
-use Rattle.ledger_steps.specs.LedgerCallsCalls.{form_of, object_by, operand_of, reset_position}
+use Rattle.ledger_steps.specs.LedgerCallsCalls.{form_of, object_by, operand_of, reset_position, params_in}
 use Rattle.value_laws.specs.Configuration.{Frame}
 use Rattle.value_laws.specs.Moves.{fits_target}
-use Rattle.value_laws.specs.Heaps.{HasEarlierLinks, IsOlder}
-use Rattle.value_laws.proofs.HeapLaws.{roots_go_on-root, roots_of_links-itself}
+use Rattle.value_laws.specs.Heaps.{HasEarlierLinks, IsOlder, IsGiven}
+use Rattle.value_laws.proofs.HeapLaws.{roots_go_on-root, roots_of_links-itself, numbers_are_in_range}
 use Rattle.value_laws.specs.Choosing.{body_id, frame_steps}
 use Rattle.value_laws.specs.Frames.{frame_after}
 use Rattle.value_laws.specs.Agreement.{Stands}
@@ -64,7 +71,7 @@ use Rattle.value_laws.proofs.Tracking.{same_body}
 use Rattle.value_laws.specs.HeapAnew.{HasNoHolder, IsEmptied, finished_root, is_anew, is_field_owner, target_root}
 use Rattle.value_laws.proofs.Emptied.{as_it_was, back, fresh_stays, turned}
 use Rattle.value_laws.proofs.LibraryCallLaws.{any_library_links_stay, emptied_objects, emptied_roots-root}
-use Rattle.value_laws.proofs.Renewed.{renewed, reset_keeps, same_root, says_nothing, without_reset}
+use Rattle.value_laws.proofs.Renewed.{renewed, reset_keeps, same_root, says_nothing, without_reset, same_params}
 use Rattle.value_laws.proofs.Growth.{library_grows}
 use Rattle.value_laws.specs.Anew.{GoesAnew, MayBeAnew, fact_anew, holds_target, is_target}
 use Rattle.value_laws.specs.FactGoing.{is_owned_in}
@@ -74,10 +81,10 @@ use Rattle.ledger_steps.specs.Conducts.{conduct_value, positions}
 use Rattle.value_laws.proofs.Resetting.{answered_target}
 use Rattle.value_laws.proofs.Needs.{origin_needs_all}
 use Rattle.value_laws.proofs.ResetTargets.{answered_targets}
-use Rattle.value_laws.specs.PlaceFacts.{AreCovered, AreWaiting, Covers, IsCovered, IsKeyed, IsOwned, IsUnowned, OwnersBelow, claims, gives_none, is_frame_from, is_owning_fact, may_owe, owned, renews_none, unowned}
+use Rattle.value_laws.specs.PlaceFacts.{AreCovered, AreWaiting, Covers, IsCovered, IsKeyed, IsOwned, IsUnowned, OwnersBelow, claims, gives_none, is_frame_from, is_owning_fact, OwesOrHolds, owned, renews_none, unowned, gives_away}
 use Rattle.value_laws.specs.Renewing.{IsHeldBy, IsLentFrom}
 use Rattle.value_laws.specs.Ranges.{FieldsInRange, LocalsInRange}
-use Rattle.value_laws.specs.FieldContents.{AreNew, AreUnfinished, LinksLead, OwningFieldsOwn}
+use Rattle.value_laws.specs.FieldContents.{AreNew, AreUnfinished, HaveContents, LinksLead, OwningFieldsOwn}
 use Rattle.std.proofs.lemmas.List.Elements.{All-tail}
 use Rattle.java_control.specs.declared.action.PlainValue.TheVariants as plain_values
 use Rattle.value_laws.proofs.Moved.{IsConstantRead}
@@ -93,12 +100,12 @@ use Rattle.covering_laws.proofs.KnownNames.{operand_temp}
 use Rattle.value_laws.proofs.ClassArguments.{target_is_instance}
 use Rattle.covering_laws.proofs.LibraryJoins.{call_top, call_top_from, library_after_unfinished, library_covered, library_keeps_roots, library_linked}
 use Rattle.covering_laws.proofs.LocalSteps.{LocalsIn, all_there, local_step}
-use Rattle.covering_laws.proofs.MadeObjects.{grown_fields, older_or_new}
+use Rattle.covering_laws.proofs.MadeObjects.{grown_fields, older_or_new, library_carries}
 use Rattle.covering_laws.proofs.Resets.{this_elsewhere}
-use Rattle.covering_laws.proofs.ResetCovers.{AreMaking, IsRenewed, OwnsOrIsLent, Turns, are_making, held_not_lent, keyed_same, not_lent, owes_before, owned_anew, same_held, true_anew, unowned_anew, waiting_anew}
-use Rattle.covering_laws.proofs.Owners.{KeepsFinished, given_kept, held_at, keeps_finished}
+use Rattle.covering_laws.proofs.ResetCovers.{AreMaking, IsRenewed, OwnsOrIsLent, Turns, are_making, bears_before, held_not_lent, keyed_same, not_lent, owned_anew, same_held, true_anew, unowned_anew, waiting_anew}
+use Rattle.covering_laws.proofs.Owners.{HoldersStay, HoldersWere, KeepsFinished, given_kept, held_at, holders_stay, keeps_finished, OwnersGo, holders_were, none_unready}
 use Rattle.covering_laws.proofs.Gifts.{all_keep_gifts}
-use Rattle.covering_laws.proofs.Waiting.{AllHeldBefore, KeepsFields, KeepsRoots, KeepsUnfinished, all_held_before, all_keep, no_other}
+use Rattle.covering_laws.proofs.Waiting.{AllHeldBefore, bore_before, KeepsFields, KeepsRoots, KeepsUnfinished, all_held_before, all_keep, no_other}
 
 -- no field owns an object, where none is owning
 pub unowned_by_fields : (p : Program) (owner : Owner) → ((f : FieldId) → is_owning p f ≡ false) → ((w : ℕ) (f : FieldId) → owner ≡ owners.Field w f → is_owning p f ≡ true) → is_field_owner owner ≡ false
@@ -232,7 +239,7 @@ module _ (p : Program) (ac : Accept p) (forms : HasPlainForms p) (h : HeapConten
         go n own = absurd (true≢false (sym own))
 
   -- the fact that has the target claims it, or says that it is lent
-  module _ (o : ℕ) (x : Object) (before : object_at h o ≡ Some x) (done : x.finished ≡ true) (heavy : is_heavy_class p x.class ≡ true) (owes : may_owe x ≡ true) (t : IsTargetAt o) where
+  module _ (o : ℕ) (x : Object) (before : object_at h o ≡ Some x) (done : x.finished ≡ true) (heavy : is_heavy_class p x.class ≡ true) (owes : OwesOrHolds p h o x) (t : IsTargetAt o) where
     abbrev pub IsTargetOwned : Type 0
     IsTargetOwned = (c : Covers p h false false frs fr o x) × (has c.fact.places (places.Temp t.0) ≡ true) × IsOwned p h false false frs fr o x c
 
@@ -277,7 +284,7 @@ module _ (p : Program) (ac : Accept p) (forms : HasPlainForms p) (h : HeapConten
       held_open : (w : ℕ) (f : FieldId) → x.owner ≡ owners.Field w f → is_heavy_class p x.class ≡ true → finished_in (object_at h w) ≡ false
       held_open w f owner heavy =
           elim (answered_owner n x before (ap finished_in (sym before) ∙ (target_at n is).1) heavy
-          (ap (λ (b : Bool). not (x.finished && b)) (ap is_library_owner owner) ∙ none_left x.finished) (target_at n is).0) [
+          (inl (ap (λ (b : Bool). not (x.finished && b)) (ap is_library_owner owner) ∙ none_left x.finished)) (target_at n is).0) [
             | inl own' ↦ absurd (let never : owners.Field w f ≡ owners.Frame at = sym owner ∙ own' in cc)
             | inr other ↦ elim other [
               | inl lent ↦ (lent_unready p h frs n x.owner w (held_at x.owner w f owner) unready.1 lent).0
@@ -298,10 +305,57 @@ module _ (p : Program) (ac : Accept p) (forms : HasPlainForms p) (h : HeapConten
   later_links : HasEarlierLinks J
   later_links = any_library_links_stay p l s.action m r d at h links (λ k w alias number. operand_in_range h l mine s.action k w number)
 
-  module _ (k : HeapContents) (hands : (o : ℕ) (w : Owner) → IsAnsweredBy p h frs fr o w → OwnsOrIsLent p k frs o w) (free : HasNoHolder h (target_root h l s.action m)) where
+  -- who owns what after the call without its reset
+  owners_would : OwnersGo p None (fr ∷ frs) at h K
+  owners_would = library_owners_go p l s.action (without_reset m) r d at h (says_nothing m) None (fr ∷ frs) at
+      (λ o x before heavy owes g. given_owner p ac h fr st frs i s here row covered m same_callee o x before heavy owes (subst (λ (qs : List ParamSig). IsGiven p (operand_of l s.action) 1 qs h o x) (same_params m) g))
+
+  holders : HoldersWere p h K
+  holders = holders_were p None (fr ∷ frs) at h K owners_would (library_births p l s.action (without_reset m) r d at h (says_nothing m)) (none_unready h)
+
+  -- the reset moves nothing
+  stay : HoldersStay p K J
+  stay = holders_stay p K J (λ o y now.
+      let z = back p l s.action m r d at h o y now in
+      let it = reset_keeps p (library_called p l s.action m r d h) (library_roots p l s.action m r d h) o z.0 in
+      (z.0, z.1, ap (λ (w : Object). w.class) (sym z.2) ∙ it.0, ap (λ (w : Object). w.finished) (sym z.2) ∙ it.2, ap (λ (w : Object). w.owner) (sym z.2) ∙ it.3))
+
+  -- what fields own they go on owning, over the call without its reset
+  pub still_held : HoldersStay p K h
+  still_held w (c, x, before, done, heavy, held) =
+      let range = numbers_are_in_range h c x before in
+      let some = range.0 in
+      let below = range.1 in
+      let more = (library_grows p l s.action (without_reset m) r d at h).count in
+      let y = object_there K c x some (omega (arith, below, more)) in
+      let on = library_carries p l s.action (without_reset m) r at h (says_nothing m) links d c y.0 y.1 below in
+      let one : on.0 ≡ x = (let both : Some on.0 ≡ Some x = sym on.1 ∙ before in (let same' : on.0 ≡ x = cc in same')) in
+      elim (library_owner p l s.action (without_reset m) r d at h (says_nothing m) c x y.0 before y.1) [
+        | inl stays ↦ (
+          c,
+          y.0,
+          y.1,
+          (on.3 (ap (λ (z : Object). z.finished) one ∙ done)).0.finished ∙ ap (λ (z : Object). z.finished) one ∙ done,
+          ap (is_heavy_class p) (on.2 ∙ ap (λ (z : Object). z.class) one) ∙ heavy,
+          ap (λ (a : Owner). is_held_by a w) stays ∙ held,
+        )
+        | inr gave ↦ absurd (true≢false (sym held ∙ ap (λ (a : Owner). is_held_by a w) (given_owner p ac h fr st frs i s here row covered m same_callee c x before heavy (movable_owes p gave.1.param.vtype x gave.1.may)
+            (subst (λ (qs : List ParamSig). IsGiven p (operand_of l s.action) 1 qs h c x) (same_params m) gave.1))))
+      ]
+
+  module _ (k : HeapContents) (hands : (o : ℕ) (w : Owner) → IsAnsweredBy p h frs fr o w → OwnsOrIsLent p k frs o w) (free : HasNoHolder h (target_root h l s.action m)) (as_would : HoldersStay p K k) where
     -- the object is as it would be, or its obligation is created anew
     abbrev pub IsTurned : ℕ → Object → Type 0
-    IsTurned o y = (z : Object) × (object_at K o ≡ Some z) × (((y ≡ z) × (is_anew p l s.action m r d h o ≡ false)) ⊎ (IsRenewed p k frs o z y × ((x : Object) × (object_at h o ≡ Some x) × (x.finished ≡ true) × (z.class ≡ x.class) × (may_owe z ≡ true → (may_owe x ≡ true) × (z.owner ≡ x.owner)) × IsTargetAt o)))
+    IsTurned o y = (z : Object) × (object_at K o ≡ Some z) × (((y ≡ z) × (is_anew p l s.action m r d h o ≡ false)) ⊎ (IsRenewed p k frs o z y × ((x : Object) × (object_at h o ≡ Some x) × (x.finished ≡ true) × (z.class ≡ x.class) × (is_heavy_class p z.class ≡ true → OwesOrHolds p K o z → (OwesOrHolds p h o x) × (z.owner ≡ x.owner)) × IsTargetAt o)))
+
+    not_given : (o : ℕ) (x : Object) → object_at h o ≡ Some x → x.finished ≡ true → is_heavy_class p x.class ≡ true → OwesOrHolds p h o x → IsTargetAt o → IsGiven p (operand_of l s.action) 1 (params_in (without_reset m)) h o x → ⊥
+    not_given o x before done wide owes t given = elim (its_key o x before done wide owes t) [
+      | inl key ↦ (answer o x key.0 (t.3 key.0.fact.places key.1)).3 (away_moves p ac h fr st frs i s here row false false o x key.0 key.2 wide gives)
+      | inr lent ↦ not_lent p h frs o x.owner (away_owner p ac h fr st frs i s here row covered o x before wide owes gives) lent
+    ]
+      where
+        gives : gives_away p h fr.locals s.action o x.class ≡ true
+        gives = moved_given p h l s.action m o x same_callee (subst (λ (qs : List ParamSig). IsGiven p (operand_of l s.action) 1 qs h o x) (same_params m) given)
 
     pub turned_at : (o : ℕ) (y : Object) (u : Value) → root_of J u ≡ Some o → object_at J o ≡ Some y → IsTurned o y
     turned_at o y u root' now = (z.0, z.1, go (is_anew p l s.action m r d h o) refl)
@@ -309,7 +363,7 @@ module _ (p : Program) (ac : Accept p) (forms : HasPlainForms p) (h : HeapConten
         z : (w : Object) × (object_at K o ≡ Some w) × (turned p l s.action m r d at h o w ≡ y)
         z = back p l s.action m r d at h o y now
 
-        go : (b : Bool) → is_anew p l s.action m r d h o ≡ b → ((y ≡ z.0) × (is_anew p l s.action m r d h o ≡ false)) ⊎ (IsRenewed p k frs o z.0 y × ((x : Object) × (object_at h o ≡ Some x) × (x.finished ≡ true) × (z.0.class ≡ x.class) × (may_owe z.0 ≡ true → (may_owe x ≡ true) × (z.0.owner ≡ x.owner)) × IsTargetAt o))
+        go : (b : Bool) → is_anew p l s.action m r d h o ≡ b → ((y ≡ z.0) × (is_anew p l s.action m r d h o ≡ false)) ⊎ (IsRenewed p k frs o z.0 y × ((x : Object) × (object_at h o ≡ Some x) × (x.finished ≡ true) × (z.0.class ≡ x.class) × (is_heavy_class p z.0.class ≡ true → OwesOrHolds p K o z.0 → (OwesOrHolds p h o x) × (z.0.owner ≡ x.owner)) × IsTargetAt o))
         go false out = inl (sym z.2 ∙ as_it_was p l s.action m r d at h o z.0 out, out)
         go true anew = by (older_or_new p l s.action (without_reset m) r at h (says_nothing m) links d o z.0 z.1)
           where
@@ -318,7 +372,7 @@ module _ (p : Program) (ac : Accept p) (forms : HasPlainForms p) (h : HeapConten
                 let it = reset_keeps p (library_called p l s.action m r d h) (library_roots p l s.action m r d h) o z.0 in
                 (ap (λ (w : Object). w.class) (sym z.2) ∙ it.0, ap (λ (w : Object). w.link) (sym z.2) ∙ it.1, ap (λ (w : Object). w.finished) (sym z.2) ∙ it.2, ap (λ (w : Object). w.owner) (sym z.2) ∙ it.3)
 
-            old : IsOlder h o z.0 owners.Library → IsRenewed p k frs o z.0 y × ((x : Object) × (object_at h o ≡ Some x) × (x.finished ≡ true) × (z.0.class ≡ x.class) × (may_owe z.0 ≡ true → (may_owe x ≡ true) × (z.0.owner ≡ x.owner)) × IsTargetAt o)
+            old : IsOlder h o z.0 owners.Library → IsRenewed p k frs o z.0 y × ((x : Object) × (object_at h o ≡ Some x) × (x.finished ≡ true) × (z.0.class ≡ x.class) × (is_heavy_class p z.0.class ≡ true → OwesOrHolds p K o z.0 → (OwesOrHolds p h o x) × (z.0.owner ≡ x.owner)) × IsTargetAt o)
             old was = (
               record {
                 class = keeps.0;
@@ -326,11 +380,8 @@ module _ (p : Program) (ac : Accept p) (forms : HasPlainForms p) (h : HeapConten
                 owner = keeps.3;
                 called = emptied.called;
                 must = elim emptied.must [ inl all ↦ inl all | inr kept ↦ inr (kept ∙ sym was.goes_on.must) ];
-                mine = λ heavy owes. elim was.owner [
-                  | inl stays ↦ subst (OwnsOrIsLent p k frs o) (sym stays)
-                      (hands o x.owner (answered_owner o x was.at done (ap (is_heavy_class p) (sym (keeps.0 ∙ was.goes_on.class)) ∙ heavy) (might y x (keeps.2 ∙ was.goes_on.finished) (keeps.3 ∙ stays) owes) target.0))
-                  | inr gone ↦ absurd (true≢false (sym owes ∙ ap not (and_from y.finished (is_library_owner y.owner) (keeps.2 ∙ was.goes_on.finished ∙ done) (ap is_library_owner (keeps.3 ∙ gone)))))
-                ];
+                mine = λ heavy owes. (let it = before_owes (ap (is_heavy_class p) (sym keeps.0) ∙ heavy) (bears_before p K k as_would o z.0 z.0 refl refl owes) in
+                    subst (OwnsOrIsLent p k frs o) (sym it.1) (hands o x.owner (answered_owner o x was.at done (ap (is_heavy_class p) (sym (keeps.0 ∙ was.goes_on.class)) ∙ heavy) it.0 target.0)));
               },
               (x, was.at, done, was.goes_on.class, before_owes, target.0),
             )
@@ -350,18 +401,22 @@ module _ (p : Program) (ac : Accept p) (forms : HasPlainForms p) (h : HeapConten
                 done : x.finished ≡ true
                 done = ap finished_in (sym was.at) ∙ target.1
 
-                might : (a b : Object) → a.finished ≡ b.finished → a.owner ≡ b.owner → may_owe a ≡ true → may_owe b ≡ true
-                might a b finished owner is =
-                    ap (λ (f : Bool). not (f && is_library_owner b.owner)) (sym finished) ∙ ap (λ (w : Owner). not (a.finished && is_library_owner w)) (sym owner) ∙ is
+                -- what is given to the library is no target
+                before_owes : is_heavy_class p z.0.class ≡ true → OwesOrHolds p K o z.0 → (OwesOrHolds p h o x) × (z.0.owner ≡ x.owner)
+                before_owes heavy owes = by_owner (library_owner p l s.action (without_reset m) r d at h (says_nothing m) o x z.0 was.at z.1)
+                  where
+                    wide : is_heavy_class p x.class ≡ true
+                    wide = ap (is_heavy_class p) (sym was.goes_on.class) ∙ heavy
 
-                before_owes : may_owe z.0 ≡ true → (may_owe x ≡ true) × (z.0.owner ≡ x.owner)
-                before_owes owes = elim was.owner [
-                  | inl stays ↦ (might z.0 x was.goes_on.finished stays owes, stays)
-                  | inr gone ↦ absurd (true≢false (sym owes ∙ ap not (and_from z.0.finished (is_library_owner z.0.owner) (was.goes_on.finished ∙ done) (ap is_library_owner gone))))
-                ]
+                    bore : OwesOrHolds p h o x
+                    bore = bore_before p h K holders o x z.0 was.at (λ done'. (was.goes_on, λ mine'. library_keeps_library p l s.action (without_reset m) r d at h (says_nothing m) o x z.0 was.at z.1 done' mine')) owes
+
+                    by_owner : (z.0.owner ≡ x.owner) ⊎ ((z.0.owner ≡ owners.Library) × IsGiven p (operand_of l s.action) 1 (params_in (without_reset m)) h o x) → (OwesOrHolds p h o x) × (z.0.owner ≡ x.owner)
+                    by_owner (inl stays) = (bore, stays)
+                    by_owner (inr gone) = absurd (not_given o x was.at done wide bore target.0 gone.1)
 
             by : IsOlder h o z.0 owners.Library ⊎ (o ≡ next_number h)
-                → ((y ≡ z.0) × (is_anew p l s.action m r d h o ≡ false)) ⊎ (IsRenewed p k frs o z.0 y × ((x : Object) × (object_at h o ≡ Some x) × (x.finished ≡ true) × (z.0.class ≡ x.class) × (may_owe z.0 ≡ true → (may_owe x ≡ true) × (z.0.owner ≡ x.owner)) × IsTargetAt o))
+                → ((y ≡ z.0) × (is_anew p l s.action m r d h o ≡ false)) ⊎ (IsRenewed p k frs o z.0 y × ((x : Object) × (object_at h o ≡ Some x) × (x.finished ≡ true) × (z.0.class ≡ x.class) × (is_heavy_class p z.0.class ≡ true → OwesOrHolds p K o z.0 → (OwesOrHolds p h o x) × (z.0.owner ≡ x.owner)) × IsTargetAt o))
             by (inl was) = inr (old was)
             by (inr new) = absurd (true≢false (sym anew ∙ ap (is_anew p l s.action m r d h) new ∙ fresh_stays p l s.action m r d at h))
 
@@ -372,7 +427,7 @@ module _ (p : Program) (ac : Accept p) (forms : HasPlainForms p) (h : HeapConten
         ((x.owner ≡ owners.Frame at) × ((c : Covers p h false false frs fr o x) × IsOwned p h false false frs fr o x c × (is_own c.fact.mode ≡ true) × (is_target p s.action c.fact.places ≡ true) × ((t : ℕ) × (has c.fact.places (places.Temp t) ≡ true))))
         ⊎ (IsLentFrom p h frs o x.owner ⊎ IsHeldBy p fr x.owner)
 
-    pub renewed_in_hands : (o : ℕ) (y : Object) → object_at J o ≡ Some y → y.link ≡ None → is_anew p l s.action m r d h o ≡ true → is_heavy_class p y.class ≡ true → may_owe y ≡ true
+    pub renewed_in_hands : (o : ℕ) (y : Object) → object_at J o ≡ Some y → y.link ≡ None → is_anew p l s.action m r d h o ≡ true → is_heavy_class p y.class ≡ true → OwesOrHolds p J o y
         → (x : Object) × (object_at h o ≡ Some x) × (x.finished ≡ true) × (y.class ≡ x.class) × (y.owner ≡ x.owner) × IsInHands o x
     renewed_in_hands o y now unlinked is heavy owes = by (turned_at o y (values.Object o) (ap Some (roots_of_links-itself J o y now unlinked)) now)
       where
@@ -380,7 +435,7 @@ module _ (p : Program) (ac : Accept p) (forms : HasPlainForms p) (h : HeapConten
         by (z, there, inl (it, out)) = absurd (true≢false (sym is ∙ out))
         by (z, there, inr (anew, (x, before, done, class, owed, t))) =
             let wide : is_heavy_class p x.class ≡ true = ap (is_heavy_class p) (sym (anew.class ∙ class)) ∙ heavy in
-            let was = owed (owes_before p k frs o z y anew owes) in (
+            let was = owed (ap (is_heavy_class p) (sym anew.class) ∙ heavy) (bears_before p K J stay o z y anew.finished anew.owner owes) in (
               x,
               before,
               done,
@@ -397,7 +452,7 @@ module _ (p : Program) (ac : Accept p) (forms : HasPlainForms p) (h : HeapConten
 
 module _ (p : Program) (ac : Accept p) (forms : HasPlainForms p) (names : HasSmallInterests p) (h : HeapContents) (links : HasEarlierLinks h) (ranges : FieldsInRange h) (fr : Frame) (frs : List Frame) (st : Stands p fr)
     (mine : LocalsInRange h fr.locals) (arrays : List ArrayObject) (named runs : MethodId) (d : Conduct) (s : Step) (next : IsLibraryMove p h arrays fr.locals (frame_steps p fr) named runs d s) (count : ℕ)
-    (leads : LinksLead p h) (called : called_method s.action ≡ Some named) (row : IsCallRow s.action) (plain : IsPlainReset p st.number fr.control s.action)
+    (leads : LinksLead p h) (contents : HaveContents p (fr ∷ frs) h) (called : called_method s.action ≡ Some named) (row : IsCallRow s.action) (plain : IsPlainReset p st.number fr.control s.action)
     (making : AreMaking p h (fr ∷ frs)) (later : AreMaking p (library_heap p fr.locals s.action (without_reset (method_at p named)) (method_at p runs) d (length frs + 1) h) (fr ∷ frs))
     (free : HasNoHolder h (target_root h fr.locals s.action (method_at p named))) (covered : IsCovered p h gives_none renews_none frs fr) (others : LocalsIn h frs)
     (lent_on : (o : ℕ) (w : Owner) → IsLentFrom p h frs o w → IsLentFrom p (library_heap p fr.locals s.action (without_reset (method_at p named)) (method_at p runs) d (length frs + 1) h) frs o w) where
@@ -416,6 +471,12 @@ module _ (p : Program) (ac : Accept p) (forms : HasPlainForms p) (names : HasSma
   fields_here : KeepsFields p plain_heap left_heap
   fields_here w f own = fields p ac forms h links fr frs st mine named runs d next.index s next.here called row plain covered w f own
 
+  stay_then : HoldersStay p plain_heap left_heap
+  stay_then = holders_stay p plain_heap left_heap (λ o y now.
+      let z = back p fr.locals s.action (method_at p named) (method_at p runs) d (length frs + 1) h o y now in
+      let it = reset_keeps p (library_called p fr.locals s.action (method_at p named) (method_at p runs) d h) (library_roots p fr.locals s.action (method_at p named) (method_at p runs) d h) o z.0 in
+      (z.0, z.1, ap (λ (w : Object). w.class) (sym z.2) ∙ it.0, ap (λ (w : Object). w.finished) (sym z.2) ∙ it.2, ap (λ (w : Object). w.owner) (sym z.2) ∙ it.3))
+
   hands_then : (o : ℕ) (w : Owner) → IsAnsweredBy p h frs fr o w → OwnsOrIsLent p plain_heap frs o w
   hands_then = hands_of p h plain_heap fr frs later lent_on
 
@@ -431,19 +492,20 @@ module _ (p : Program) (ac : Accept p) (forms : HasPlainForms p) (names : HasSma
   -- ---- the top frame
 
   pub anew_top : IsCovered p left_heap gives_none renews_none frs after
-  anew_top q o y less held now heavy owes = by (turned_at p ac forms h links fr frs st mine named runs d next.index s next.here called row plain covered plain_heap hands_then free o y (place_value p left_heap after.method after.locals q) held now)
+  anew_top q o y less held now heavy owes = by (turned_at p ac forms h links fr frs st mine named runs d next.index s next.here called row plain covered plain_heap hands_then free (λ w holds. holds) o y (place_value p left_heap after.method after.locals q) held now)
     where
       was_held : root_of plain_heap (place_value p plain_heap after.method after.locals q) ≡ Some o
       was_held = sym (same_held p plain_heap left_heap same_here fields_here finishes after.method after.locals q) ∙ held
 
-      by : IsTurned p ac forms h links fr frs st mine named runs d next.index s next.here called row plain covered plain_heap hands_then free o y → IsKeyed p left_heap false false frs after q o y
+      by : IsTurned p ac forms h links fr frs st mine named runs d next.index s next.here called row plain covered plain_heap hands_then free (λ w holds. holds) o y → IsKeyed p left_heap false false frs after q o y
       by (z, there, inl (it, out)) =
           subst (λ (w : Object). IsKeyed p left_heap false false frs after q o w) (sym it)
           (keyed_same p plain_heap left_heap same_here fields_here finishes false false frs after o z q
-          (call_top p ac forms names h links ranges fr frs st mine arrays named runs d s next count leads called row covered others q o z less was_held there
-          (ap (λ (w : Object). is_heavy_class p w.class) (sym it) ∙ heavy) (ap may_owe (sym it) ∙ owes)))
+          (call_top p ac forms names h links ranges fr frs st mine arrays named runs d s next count leads contents called row covered others q o z less was_held there
+          (ap (λ (w : Object). is_heavy_class p w.class) (sym it) ∙ heavy)
+          (bears_before p plain_heap left_heap stay_then o z y (ap (λ (w : Object). w.finished) it) (ap (λ (w : Object). w.owner) it) owes)))
       by (z, there, inr (anew, (x, before, done, class, owed, t))) =
-          elim (call_top_from p ac forms names h links ranges fr frs st mine arrays named runs d s next count leads called row covered others q o z less was_held there heavy' owes') [
+          elim (call_top_from p ac forms names h links ranges fr frs st mine arrays named runs d s next count leads contents called row covered others q o z less was_held there heavy' owes') [
             | inr u ↦ unowned (unowned_anew p plain_heap left_heap same_here fields_here finishes false false false frs after o z y anew.class anew.finished anew.owner hands q u)
             | inl key ↦ owned_anew p plain_heap left_heap same_here fields_here finishes false false false frs after o z y anew.class anew.finished anew.owner hands q key.0 key.1 key.2
                 (λ claimed apart. true_anew p key.0.origin key.0.fact z y (origin_needs_all p key.0.body key.0.origin after.control key.0.fact key.0.reached)
@@ -456,11 +518,11 @@ module _ (p : Program) (ac : Accept p) (forms : HasPlainForms p) (names : HasSma
           heavy' : is_heavy_class p z.class ≡ true
           heavy' = ap (is_heavy_class p) (sym anew.class) ∙ heavy
 
-          owes' : may_owe z ≡ true
-          owes' = owes_before p plain_heap frs o z y anew owes
+          owes' : OwesOrHolds p plain_heap o z
+          owes' = bears_before p plain_heap left_heap stay_then o z y anew.finished anew.owner owes
 
           hands : OwnsOrIsLent p plain_heap frs o z.owner
-          hands = anew.mine heavy owes
+          hands = anew.mine heavy owes'
 
           wide : is_heavy_class p x.class ≡ true
           wide = ap (is_heavy_class p) (sym class) ∙ heavy'
@@ -471,7 +533,7 @@ module _ (p : Program) (ac : Accept p) (forms : HasPlainForms p) (names : HasSma
           emptied g w at' c key goes =
               let one : w ≡ x = (let both : Some w ≡ Some x = sym at' ∙ before in cc) in
               let is = goes (has_target p ac forms h links fr frs st mine named runs d next.index s next.here called row plain covered o w at' (ap (λ (u : Object). u.finished) one ∙ done)
-              (ap (λ (u : Object). is_heavy_class p u.class) one ∙ wide) (ap may_owe one ∙ (owed owes').0) t making c key) in
+              (ap (λ (u : Object). is_heavy_class p u.class) one ∙ wide) (subst (OwesOrHolds p h o) (sym one) (owed heavy' owes').0) t making c key) in
               (ap (λ (f : Fact). f.called) is, ap (λ (f : Fact). f.full) is)
 
           -- where the frame owns it, a fact that claims it says so
@@ -479,30 +541,30 @@ module _ (p : Program) (ac : Accept p) (forms : HasPlainForms p) (names : HasSma
           owned_so own c key = elim (claims_by p (method_at p fr.method) c.origin c.fact key.owning) [
             | inl mode ↦ and_from (is_heavy_class p c.origin.class) (is_own c.fact.mode) (claims_owned p (method_at p fr.method) c.origin c.fact key.owning).0 mode
             | inr held' ↦ (let by' = held_by_this p h false false frs fr o x c done held'.0 held'.1 in
-                absurd (let never : owners.Field by'.holder by'.field ≡ owners.Frame (length frs + 1) = sym by'.owns ∙ sym (owed owes').1 ∙ own in cc))
+                absurd (let never : owners.Field by'.holder by'.field ≡ owners.Frame (length frs + 1) = sym by'.owns ∙ sym (owed heavy' owes').1 ∙ own in cc))
           ]
 
           -- some fact goes on owning it
           ends : z.owner ≡ owners.Frame (length frs + 1) → ((w : Object) → object_at h o ≡ Some w → (u : Place) → IsSmall u → root_of h (place_value p h fr.method fr.locals u) ≡ Some o → (c : Covers p h false false frs fr o w)
               → IsOwned p h false false frs fr o w c → (g : Fact) → (moved_at_call p c.origin s.action s.edge c.fact ≡ moves.Moves → is_owned_in g.mode ≡ false)
               × (is_target p s.action c.fact.places ≡ true → GoesAnew p st.number c.origin s.action c.fact (places_after p st.number s.action s.edge c.fact.places) g) → is_own g.mode ≡ false) → ⊥
-          ends own stops = elim (its_key p ac forms h links fr frs st mine named runs d next.index s next.here called row plain covered o x before done wide (owed owes').0 t) [
+          ends own stops = elim (its_key p ac forms h links fr frs st mine named runs d next.index s next.here called row plain covered o x before done wide (owed heavy' owes').0 t) [
             | inl key ↦ (let target = t.3 key.0.fact.places key.1 in
                 true≢false (sym (still_own p ac forms h links fr frs st mine named runs d next.index s next.here called row plain covered o x key.0 target (owned_so own key.0 key.2))
                 ∙ stops x before (places.Temp t.0) t.1 t.2 key.0 key.2 (fact_anew key.0.fact (places_after p st.number s.action s.edge key.0.fact.places))
                 ((λ moved. absurd ((answer p ac forms h links fr frs st mine named runs d next.index s next.here called row plain covered o x key.0 target).3 moved)), (λ is. goes_anew p ac forms h links fr frs st mine named runs d next.index s next.here called row plain covered o x key.0 target))))
-            | inr lent ↦ not_lent p h frs o x.owner (sym (owed owes').1 ∙ own) lent
+            | inr lent ↦ not_lent p h frs o x.owner (sym (owed heavy' owes').1 ∙ own) lent
           ]
 
   -- ---- all frames
 
   pub anew_covered : AreWaiting p plain_heap frs → AreWaiting p left_heap frs
-  anew_covered waits = waiting_anew p plain_heap left_heap same_here fields_here finishes frs later.1 turns waits
+  anew_covered waits = waiting_anew p plain_heap left_heap same_here fields_here finishes stay_then frs later.1 turns waits
     where
       turns : Turns p plain_heap left_heap same_here fields_here finishes frs
-      turns o y u root' now = by (turned_at p ac forms h links fr frs st mine named runs d next.index s next.here called row plain covered plain_heap hands_then free o y u root' now)
+      turns o y u root' now = by (turned_at p ac forms h links fr frs st mine named runs d next.index s next.here called row plain covered plain_heap hands_then free (λ w holds. holds) o y u root' now)
         where
-          by : IsTurned p ac forms h links fr frs st mine named runs d next.index s next.here called row plain covered plain_heap hands_then free o y → (x : Object) × (object_at plain_heap o ≡ Some x) × ((y ≡ x) ⊎ IsRenewed p plain_heap frs o x y)
+          by : IsTurned p ac forms h links fr frs st mine named runs d next.index s next.here called row plain covered plain_heap hands_then free (λ w holds. holds) o y → (x : Object) × (object_at plain_heap o ≡ Some x) × ((y ≡ x) ⊎ IsRenewed p plain_heap frs o x y)
           by (z, there, inl it) = (z, there, inl it.0)
           by (z, there, inr (anew, rest)) = (z, there, inr anew)
 
@@ -529,7 +591,7 @@ row_by a named is = absurd (let never : None ≡ Some named = is in cc)
 
 module _ (p : Program) (ac : Accept p) (forms : HasPlainForms p) (names : HasSmallInterests p) (h : HeapContents) (links : HasEarlierLinks h) (ranges : FieldsInRange h) (fr : Frame) (frs : List Frame) (st : Stands p fr)
     (mine : LocalsInRange h fr.locals) (arrays : List ArrayObject) (named runs : MethodId) (d : Conduct) (s : Step) (next : IsLibraryMove p h arrays fr.locals (frame_steps p fr) named runs d s) (count : ℕ)
-    (leads : LinksLead p h) where
+    (leads : LinksLead p h) (contents : HaveContents p (fr ∷ frs) h) where
   abbrev left : HeapContents
   left = library_heap p fr.locals s.action (method_at p named) (method_at p runs) d (length frs + 1) h
 
@@ -547,18 +609,18 @@ module _ (p : Program) (ac : Accept p) (forms : HasPlainForms p) (names : HasSma
   pub left_unfinished : KeepsUnfinished h left no_other
   left_unfinished o x y apart before now unready =
       let z = was_there o y now in
-      z.4 ∙ library_after_unfinished p ac forms names h links ranges fr frs st mine arrays named runs d s next count leads o x z.0 apart before z.1 unready
+      z.4 ∙ library_after_unfinished p ac forms names h links ranges fr frs st mine arrays named runs d s next count leads contents o x z.0 apart before z.1 unready
 
   pub left_linked : LinkedAreAliases p h → LinkedAreAliases p left
   left_linked apart n y k there some =
       let z = was_there n y there in
-      subst (IsGivenAsAlias p) (sym z.2) (library_linked p ac forms names h links ranges fr frs st mine arrays named runs d s next count leads apart n z.0 k z.1 (sym z.3 ∙ some))
+      subst (IsGivenAsAlias p) (sym z.2) (library_linked p ac forms names h links ranges fr frs st mine arrays named runs d s next count leads contents apart n z.0 k z.1 (sym z.3 ∙ some))
 
   left_roots : KeepsRoots h left
   left_roots n number =
       let one = same_root p fr.locals s.action (method_at p named) (method_at p runs) d (length frs + 1) h (values.Object n) in
       (let both : Some (root left n) ≡ Some (root would n) = one in (let it : root left n ≡ root would n = cc in it))
-      ∙ library_keeps_roots p ac forms names h links ranges fr frs st mine arrays named runs d s next count leads n number
+      ∙ library_keeps_roots p ac forms names h links ranges fr frs st mine arrays named runs d s next count leads contents n number
 
   pub left_held_before : (rest : List Frame) → LocalsIn h rest → AllHeldBefore p h left rest
   left_held_before rest in' =
@@ -570,7 +632,7 @@ module _ (p : Program) (ac : Accept p) (forms : HasPlainForms p) (names : HasSma
   left_covered news unready own sight row in' covered = by row
     where
       K_covered : AreCovered p would (frame_after p h fr s (conduct_value count (method_at p runs) (positions fr.locals s.action (next_number h) d) (next_number h) d) ∷ frs)
-      K_covered = library_covered p ac forms names h links ranges fr frs st mine arrays named runs d s next count leads row in' covered
+      K_covered = library_covered p ac forms names h links ranges fr frs st mine arrays named runs d s next count leads contents row in' covered
 
       plain : reset_position (method_at p named) ≡ None → AreCovered p left (frame_after p h fr s (conduct_value count (method_at p runs) (positions fr.locals s.action (next_number h) d) (next_number h) d) ∷ frs)
       plain none =
@@ -587,8 +649,8 @@ module _ (p : Program) (ac : Accept p) (forms : HasPlainForms p) (names : HasSma
       by (inl called) = elim (resets_plainly p ac forms fr st next.index s next.here) [
         | inl none ↦ plain (sym (same_position (method_at p named)) ∙ ap reset_in (sym (ap (callee_in p) called)) ∙ none)
         | inr anew ↦ (
-          anew_top p ac forms names h links ranges fr frs st mine arrays named runs d s next count leads called (row_by s.action named called) anew making later (free anew) covered.0 others lent_on,
-          anew_covered p ac forms names h links ranges fr frs st mine arrays named runs d s next count leads called (row_by s.action named called) anew making later (free anew) covered.0 others lent_on K_covered.1,
+          anew_top p ac forms names h links ranges fr frs st mine arrays named runs d s next count leads contents called (row_by s.action named called) anew making later (free anew) covered.0 others lent_on,
+          anew_covered p ac forms names h links ranges fr frs st mine arrays named runs d s next count leads contents called (row_by s.action named called) anew making later (free anew) covered.0 others lent_on K_covered.1,
           below,
         )
       ]
@@ -600,11 +662,11 @@ module _ (p : Program) (ac : Accept p) (forms : HasPlainForms p) (names : HasSma
           making = are_making p h (fr ∷ frs) news unready
 
           later : AreMaking p would (fr ∷ frs)
-          later = are_making p would (fr ∷ frs) news (unfinished_kept p h would (λ o x y before now open'. library_after_unfinished p ac forms names h links ranges fr frs st mine arrays named runs d s next count leads o x y (λ never. never) before now open') (fr ∷ frs) in' unready)
+          later = are_making p would (fr ∷ frs) news (unfinished_kept p h would (λ o x y before now open'. library_after_unfinished p ac forms names h links ranges fr frs st mine arrays named runs d s next count leads contents o x y (λ never. never) before now open') (fr ∷ frs) in' unready)
 
           -- what is lent stays so
           lent_on : (o : ℕ) (w : Owner) → IsLentFrom p h frs o w → IsLentFrom p would frs o w
-          lent_on o w = (given_kept p h would frs (all_keep_gifts p h would (λ n number. library_keeps_roots p ac forms names h links ranges fr frs st mine arrays named runs d s next count leads n number) frs others)).lent o w
+          lent_on o w = (given_kept p h would frs (all_keep_gifts p h would (λ n number. library_keeps_roots p ac forms names h links ranges fr frs st mine arrays named runs d s next count leads contents n number) frs others)).lent o w
 
           free : IsPlainReset p st.number fr.control s.action → HasNoHolder h (target_root h fr.locals s.action (method_at p named))
           free anew = no_holder p ac forms h links fr frs st mine named runs d next.index s next.here called (row_by s.action named called) anew covered.0 unready own sight arrays (next.ran called).1

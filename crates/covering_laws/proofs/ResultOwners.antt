@@ -1,6 +1,6 @@
 -- The result of a method of the program that moves to the caller: the frame that ends owned it, or its end breaks a rule.
 use Rattle.std.specs.Prelude.{not, if◌then◌else◌, is_some}
-use Rattle.std.proofs.Common.{◌≡◌, ℕ, ◌+◌, ◌<◌, Bool, true, false, true≢false, ◌&&◌, Option, Some, None, List, length, slice_get, refl, sym, ap, ◌∙◌, subst}
+use Rattle.std.proofs.Common.{◌≡◌, ℕ, ◌+◌, ◌<◌, Bool, true, false, true≢false, ◌&&◌, Option, Some, None, List, length, slice_get, refl, sym, ap, ◌∙◌, subst, inl}
 use Rattle.std.specs.FinSet as set
 use Rattle.std.proofs.lemmas.Bool.{and_from, and_parts, or_right}
 use Rattle.rlc_base.specs.declared.place.Pos.{Pos}
@@ -56,7 +56,7 @@ use Rattle.value_laws.specs.Outcomes.{IsFault}
 use Rattle.value_laws.specs.Agreement.{Stands}
 use Rattle.value_laws.proofs.CallNames.{object_with_root}
 use Rattle.value_laws.proofs.Chains.{object_there}
-use Rattle.value_laws.specs.PlaceFacts.{Covers, IsCovered, IsKeyed, gives_none, is_owning_fact, may_owe, owned, renews_none, unowned}
+use Rattle.value_laws.specs.PlaceFacts.{Covers, IsCovered, IsKeyed, gives_none, is_owning_fact, OwesOrHolds, may_owe, owned, renews_none, unowned}
 use Rattle.value_laws.specs.Ranges.{LocalsInRange}
 use Rattle.covering_laws.proofs.Following.{breaks_nothing, same_body, step_there}
 use Rattle.covering_laws.proofs.AliasResults.{default_no_root}
@@ -109,7 +109,7 @@ module _ (p : Program) (ac : Accept p) (h : HeapContents) (fr : Frame) (frs : Li
   body_method : method_of p st.number ≡ Some run.0
   body_method = ap (method_in p) st.at ∙ ap (method_at p) st.method ∙ run.1
 
-  module _ (n : ℕ) (x : Object) (before : object_at h n ≡ Some x) (heavy : is_heavy_class p x.class ≡ true) (owes : may_owe x ≡ true) (type : VType) (owning : run.0.sig.owning_result ≡ true) (plain : run.0.sig.alias ≡ None)
+  module _ (n : ℕ) (x : Object) (before : object_at h n ≡ Some x) (heavy : is_heavy_class p x.class ≡ true) (owes : OwesOrHolds p h n x) (type : VType) (owning : run.0.sig.owning_result ≡ true) (plain : run.0.sig.alias ≡ None)
       (result : run.0.sig.result ≡ Some type) (fit : set.is_subset (must_of p x.class) (must_of_type p type) ≡ true) where
     -- the fact of the result says that the frame owns it
     module _ (d : ℕ) (pos : Pos) (end' : q ≡ completions.ReturnValue d pos) (root : root_of h (temp_value fr.locals d) ≡ Some n) where
@@ -155,6 +155,6 @@ module _ (p : Program) (ac : Accept p) (h : HeapContents) (fr : Frame) (frs : Li
   pub returned_owner : (at n : ℕ) (x u : Object) → object_at h n ≡ Some x → is_heavy_class p x.class ≡ true → may_owe x ≡ true
       → IsReturned p at (method_at p fr.method) (result_value fr.locals (method_at p fr.method) q) (exception_class p h (thrown_in fr.locals q)) h n x u → x.owner ≡ owners.Frame (length frs + 1)
   returned_owner at n x u before heavy owes r =
-      of_completion n x before heavy owes r.type (sym (ap conducts.owning_in run.1) ∙ r.owning) (no_alias run.0.sig.alias (sym (ap calls.is_alias run.1) ∙ r.own)) (sym (ap conducts.result_in run.1) ∙ r.result)
+      of_completion n x before heavy (inl owes) r.type (sym (ap conducts.owning_in run.1) ∙ r.owning) (no_alias run.0.sig.alias (sym (ap calls.is_alias run.1) ∙ r.own)) (sym (ap conducts.result_in run.1) ∙ r.result)
       (and_parts (x.finished && not (is_library_owner x.owner)) (set.is_subset (must_of p x.class) (must_of_type p r.type)) r.may).1 q refl r.normal
       (ap (λ (m : Option Method). root_of h (result_value fr.locals m q)) (sym run.1) ∙ r.root)

@@ -27,7 +27,7 @@ use Rattle.value_laws.specs.Chains.{HaveEnds}
 use Rattle.value_laws.specs.PlainForms.{HasPlainForms, MayRun}
 use Rattle.value_laws.specs.Nexts.{IsBackStep}
 use Rattle.value_laws.specs.Types.{GivesAsNamed, KeepsTypes, is_text}
-use Rattle.value_laws.specs.FieldContents.{IsBeingMade, IsDispatched, LinksLead, is_new, OwningFieldsOwn, AreNew, AreUnfinished, RunOnOthers, TopRunsAlone}
+use Rattle.value_laws.specs.FieldContents.{HaveContents, IsBeingMade, IsDispatched, LinksLead, is_new, OwningFieldsOwn, AreNew, AreUnfinished, RunOnOthers, TopRunsAlone}
 use Rattle.value_laws.specs.PlaceFacts.{AreWaiting, IsCovered, OwnersBelow, gives_none, renews_none, AreCovered, is_frame_from}
 use Rattle.value_laws.proofs.Renewed.{without_reset}
 use Rattle.value_laws.specs.Ranges.{FieldsInRange, LocalsInRange}
@@ -35,7 +35,7 @@ use Rattle.covering_laws.specs.Linking.{IsGivenAsAlias, LinkedAreAliases}
 use Rattle.covering_laws.specs.Throws.{EndsAsDeclared}
 use Rattle.covering_laws.specs.Sight.{ActsInSight}
 use Rattle.covering_laws.specs.Running.{HasPlainRuns}
-use Rattle.covering_laws.proofs.Owners.{stays_apart, KeepsFinished, KeepsHeld, held_here, runs_on_none}
+use Rattle.covering_laws.proofs.Owners.{HoldersStay, HoldersWere, holders_stay, stays_apart, KeepsFinished, KeepsHeld, held_here, runs_on_none}
 use Rattle.covering_laws.proofs.LocalSteps.{LocalsIn}
 use Rattle.covering_laws.proofs.Waiting.{AllHeldBefore, IsCarried, KeepsFields, KeepsUnfinished, held_before_further}
 use Rattle.covering_laws.specs.Making.{IsUnheld}
@@ -44,7 +44,7 @@ use Rattle.value_laws.specs.Arguments.{HasArguments}
 use Rattle.covering_laws.specs.Texts.{TextsAreLight}
 use Rattle.value_laws.specs.HeapAnew.{is_anew_at_end}
 use Rattle.covering_laws.proofs.AnewAtEnds.{AllTurned, caller_anew, rest_anew}
-use Rattle.covering_laws.proofs.EndJoins.{caller_from, caller_owns, ended_apart, ended_below, ended_held_before, ended_unfinished, goes_on, lent_on, ready, rest_waiting, was, finishes}
+use Rattle.covering_laws.proofs.EndJoins.{caller_from, holders, caller_owns, ended_apart, ended_below, ended_held_before, ended_unfinished, goes_on, lent_on, ready, rest_waiting, was, finishes}
 use Rattle.covering_laws.proofs.EndTargets.{as_turned, same_fields, same_roots, was_kept, reset_finishes}
 use Rattle.covering_laws.proofs.ResetCovers.{same_held, AreMaking, are_making, making_kept}
 use Rattle.value_laws.specs.Renewing.{IsLentFrom}
@@ -53,7 +53,7 @@ module _ (p : Program) (ac : Accept p) (forms : HasPlainForms p) (runs' : HasPla
     (fr caller : Frame) (rest : List Frame) (st : Stands p fr) (below : Stands p caller) (targets : KeepsTargets p caller) (keeps : KeepsTypes (is_text p h) p fr) (gives : GivesAsNamed p caller fr) (dispatched : IsDispatched p h fr caller)
     (making : IsBeingMade p h fr caller) (mine' : LocalsInRange h fr.locals) (covered : IsCovered p h gives_none renews_none (caller ∷ rest) fr) (i : ℕ) (s : Step) (q : Completion) (here : slice_get (frame_steps p fr) i ≡ Some s) (is : s.action ≡ actions.End q)
     (t : Step) (named : MethodId) (back : IsBackStep p (frame_steps p caller) (exception_class p h (thrown_in fr.locals q)) named t) (may : MayRun p named fr.method) (makes : IsMadeBy p h t.action fr.locals.this) (itself : RunsItself t.action named fr.method) (args : HasArguments p caller fr) (exits : EndsAsDeclared p h fr)
-    (leads : LinksLead p h) (ends : HaveEnds h) (made_after : IsMadeAfter p caller.locals t.action fr.locals.this) (classes : HasMadeClasses p h) (unheld : IsUnheld p h fr caller rest) (in' : LocalsIn h (caller ∷ rest)) (alone : TopRunsAlone p h (fr ∷ caller ∷ rest))
+    (leads : LinksLead p h) (ends : HaveEnds h) (made_after : IsMadeAfter p caller.locals t.action fr.locals.this) (classes : HasMadeClasses p h) (unheld : IsUnheld p h fr caller rest) (in' : LocalsIn h (caller ∷ rest)) (alone : TopRunsAlone p h (fr ∷ caller ∷ rest)) (contents : HaveContents p (fr ∷ caller ∷ rest) h)
     (own : OwningFieldsOwn p h) (stand : AllStand p rest) (waits : AreWaiting p h (caller ∷ rest)) (sight : ActsInSight p h caller) (news : AreNew p (caller ∷ rest)) (unready : AreUnfinished p h (caller ∷ rest))
     (fresh : (w : ℕ) → is_new t.action ≡ true → fr.locals.this ≡ values.Object w → RunOnOthers w (caller ∷ rest)) where
   abbrev at : ℕ
@@ -92,17 +92,24 @@ module _ (p : Program) (ac : Accept p) (forms : HasPlainForms p) (runs' : HasPla
   but_names n y now = was_kept p ac forms h links fr caller rest below sight dispatched making e v t named back ends made_after caller_in own waits.0 n y now
 
   was_there : (n : ℕ) (x : Object) → object_at K n ≡ Some x → IsCarried h n x
-  was_there n x now = was p ac forms runs' names h texts links apart ranges fr caller rest st below targets keeps gives dispatched making mine' covered i s q here is t named back may makes itself args exits leads ends made_after classes unheld in' alone n x now
+  was_there n x now = was p ac forms runs' names h texts links apart ranges fr caller rest st below targets keeps gives dispatched making mine' covered i s q here is t named back may makes itself args exits leads ends made_after classes unheld in' alone contents n x now
 
   mine : (o : ℕ) (x y : Object) → object_at h o ≡ Some x → object_at K o ≡ Some y → x.finished ≡ true → is_heavy_class p x.class ≡ true → x.owner ≡ owners.Frame at → y.owner ≡ owners.Frame at
-  mine o x y before now done heavy own' = caller_owns p ac forms runs' names h texts links apart ranges fr caller rest st below targets keeps gives dispatched making mine' covered i s q here is t named back may makes itself args exits leads ends made_after classes unheld in' alone o x y before now done heavy own'
+  mine o x y before now done heavy own' = caller_owns p ac forms runs' names h texts links apart ranges fr caller rest st below targets keeps gives dispatched making mine' covered i s q here is t named back may makes itself args exits leads ends made_after classes unheld in' alone contents o x y before now done heavy own'
+
+  -- what fields own
+  holders_then : HoldersWere p h K
+  holders_then = holders p ac forms runs' names h texts links apart ranges fr caller rest st below targets keeps gives dispatched making mine' covered i s q here is t named back may makes itself args exits leads ends made_after classes unheld in' alone contents
+
+  stay : HoldersStay p K J
+  stay = holders_stay p K J (λ n y now. let z = but_names n y now in (z.0, z.1, z.2, z.4, z.5))
 
   low_stays : (o : ℕ) (x y : Object) → object_at h o ≡ Some x → object_at K o ≡ Some y → x.finished ≡ true → is_heavy_class p x.class ≡ true → IsLentFrom p h rest o x.owner → y.owner ≡ x.owner
   low_stays o x y before now done heavy low =
-      (stays_apart p None (caller ∷ rest) at h K (finishes p ac forms runs' names h texts links apart ranges fr caller rest st below targets keeps gives dispatched making mine' covered i s q here is t named back may makes itself args exits leads ends made_after classes unheld in' alone) (goes_on p ac forms runs' names h texts links apart ranges fr caller rest st below targets keeps gives dispatched making mine' covered i s q here is t named back may makes itself args exits leads ends made_after classes unheld in' alone) rest caller (omega arith) (λ w to this. absurd (let never : None ≡ Some w = to in cc)) (λ w none. none.1)).keeps o x y before now done heavy low
+      (stays_apart p None (caller ∷ rest) at h K (finishes p ac forms runs' names h texts links apart ranges fr caller rest st below targets keeps gives dispatched making mine' covered i s q here is t named back may makes itself args exits leads ends made_after classes unheld in' alone contents) (goes_on p ac forms runs' names h texts links apart ranges fr caller rest st below targets keeps gives dispatched making mine' covered i s q here is t named back may makes itself args exits leads ends made_after classes unheld in' alone contents) holders_then rest caller (omega arith) (λ w to this. absurd (let never : None ≡ Some w = to in cc)) (λ w none. none.1)).keeps o x y before now done heavy low
 
   lasting : KeepsHeld p h K caller
-  lasting = held_here p None (caller ∷ rest) at h K (finishes p ac forms runs' names h texts links apart ranges fr caller rest st below targets keeps gives dispatched making mine' covered i s q here is t named back may makes itself args exits leads ends made_after classes unheld in' alone) (goes_on p ac forms runs' names h texts links apart ranges fr caller rest st below targets keeps gives dispatched making mine' covered i s q here is t named back may makes itself args exits leads ends made_after classes unheld in' alone) rest caller (omega arith) (λ w none. none.0)
+  lasting = held_here p None (caller ∷ rest) at h K (finishes p ac forms runs' names h texts links apart ranges fr caller rest st below targets keeps gives dispatched making mine' covered i s q here is t named back may makes itself args exits leads ends made_after classes unheld in' alone contents) (goes_on p ac forms runs' names h texts links apart ranges fr caller rest st below targets keeps gives dispatched making mine' covered i s q here is t named back may makes itself args exits leads ends made_after classes unheld in' alone contents) holders_then rest caller (omega arith) (λ w none. none.0)
 
   -- the reset finishes nothing
   finishes_on : KeepsFinished K J
@@ -113,18 +120,18 @@ module _ (p : Program) (ac : Accept p) (forms : HasPlainForms p) (runs' : HasPla
   holding = are_making p h (caller ∷ rest) news unready
 
   later : AreMaking p K (caller ∷ rest)
-  later = making_kept p h K (λ o. (fr.locals.this ≡ values.Object o) × (is_new t.action ≡ true)) (ended_unfinished p ac forms runs' names h texts links apart ranges fr caller rest st below targets keeps gives dispatched making mine' covered i s q here is t named back may makes itself args exits leads ends made_after classes unheld in' alone) (caller ∷ rest) in' (λ w runs other. runs_on_none w (caller ∷ rest) (fresh w other.1 other.0) runs) holding
+  later = making_kept p h K (λ o. (fr.locals.this ≡ values.Object o) × (is_new t.action ≡ true)) (ended_unfinished p ac forms runs' names h texts links apart ranges fr caller rest st below targets keeps gives dispatched making mine' covered i s q here is t named back may makes itself args exits leads ends made_after classes unheld in' alone contents) (caller ∷ rest) in' (λ w runs other. runs_on_none w (caller ∷ rest) (fresh w other.1 other.0) runs) holding
 
-  turns : AllTurned p ac forms h K J caller after rest below back.index t back.here back.row roots fields_stay finishes_on waits.0 was_there (ready p ac forms runs' names h texts links apart ranges fr caller rest st below targets keeps gives dispatched making mine' covered i s q here is t named back may makes itself args exits leads ends made_after classes unheld in' alone).0 (lent_on p ac forms runs' names h texts links apart ranges fr caller rest st below targets keeps gives dispatched making mine' covered i s q here is t named back may makes itself args exits leads ends made_after classes unheld in' alone stand waits) mine low_stays lasting holding later
+  turns : AllTurned p ac forms h K J caller after rest below back.index t back.here back.row roots fields_stay finishes_on waits.0 was_there (ready p ac forms runs' names h texts links apart ranges fr caller rest st below targets keeps gives dispatched making mine' covered i s q here is t named back may makes itself args exits leads ends made_after classes unheld in' alone contents).0 (lent_on p ac forms runs' names h texts links apart ranges fr caller rest st below targets keeps gives dispatched making mine' covered i s q here is t named back may makes itself args exits leads ends made_after classes unheld in' alone contents stand waits) mine low_stays lasting holding later holders_then stay
   turns o y u root now =
       let z = but_names o y now in
       (z.0, z.1, record { class = z.2; finished = z.4; owner = z.5; names = as_turned p ac forms h links fr caller rest below sight dispatched making e v t named back ends made_after caller_in own waits.0 unready o y u root now (is_anew_at_end p caller.locals t.action m (frame_gone p at fr.locals.this (method_at p fr.method) v e h) o) refl z.0 z.1 })
 
   pub returned_covered : OwnersBelow h (length (caller ∷ rest) + 1) → AreCovered p J (after ∷ rest)
   returned_covered low = (
-    caller_anew p ac forms h K J caller after rest below back.index t back.here back.row roots fields_stay finishes_on waits.0 was_there (ready p ac forms runs' names h texts links apart ranges fr caller rest st below targets keeps gives dispatched making mine' covered i s q here is t named back may makes itself args exits leads ends made_after classes unheld in' alone).0 (lent_on p ac forms runs' names h texts links apart ranges fr caller rest st below targets keeps gives dispatched making mine' covered i s q here is t named back may makes itself args exits leads ends made_after classes unheld in' alone stand waits) mine low_stays lasting holding later turns (λ place o y small root now heavy owes. caller_from p ac forms runs' names h texts links apart ranges fr caller rest st below targets keeps gives dispatched making mine' covered i s q here is t named back may makes itself args exits leads ends made_after classes unheld in' alone stand waits place o y small root now heavy owes),
-    rest_anew p ac forms h K J caller after rest below back.index t back.here back.row roots fields_stay finishes_on waits.0 was_there (ready p ac forms runs' names h texts links apart ranges fr caller rest st below targets keeps gives dispatched making mine' covered i s q here is t named back may makes itself args exits leads ends made_after classes unheld in' alone).0 (lent_on p ac forms runs' names h texts links apart ranges fr caller rest st below targets keeps gives dispatched making mine' covered i s q here is t named back may makes itself args exits leads ends made_after classes unheld in' alone stand waits) mine low_stays lasting holding later turns (rest_waiting p ac forms runs' names h texts links apart ranges fr caller rest st below targets keeps gives dispatched making mine' covered i s q here is t named back may makes itself args exits leads ends made_after classes unheld in' alone stand waits),
-    (λ n y now. let z = but_names n y now in ap (is_frame_from (at + 1)) z.5 ∙ ended_below p ac forms runs' names h texts links apart ranges fr caller rest st below targets keeps gives dispatched making mine' covered i s q here is t named back may makes itself args exits leads ends made_after classes unheld in' alone stand waits low n z.0 z.1),
+    caller_anew p ac forms h K J caller after rest below back.index t back.here back.row roots fields_stay finishes_on waits.0 was_there (ready p ac forms runs' names h texts links apart ranges fr caller rest st below targets keeps gives dispatched making mine' covered i s q here is t named back may makes itself args exits leads ends made_after classes unheld in' alone contents).0 (lent_on p ac forms runs' names h texts links apart ranges fr caller rest st below targets keeps gives dispatched making mine' covered i s q here is t named back may makes itself args exits leads ends made_after classes unheld in' alone contents stand waits) mine low_stays lasting holding later holders_then stay turns (λ place o y small root now heavy owes. caller_from p ac forms runs' names h texts links apart ranges fr caller rest st below targets keeps gives dispatched making mine' covered i s q here is t named back may makes itself args exits leads ends made_after classes unheld in' alone contents stand waits place o y small root now heavy owes),
+    rest_anew p ac forms h K J caller after rest below back.index t back.here back.row roots fields_stay finishes_on waits.0 was_there (ready p ac forms runs' names h texts links apart ranges fr caller rest st below targets keeps gives dispatched making mine' covered i s q here is t named back may makes itself args exits leads ends made_after classes unheld in' alone contents).0 (lent_on p ac forms runs' names h texts links apart ranges fr caller rest st below targets keeps gives dispatched making mine' covered i s q here is t named back may makes itself args exits leads ends made_after classes unheld in' alone contents stand waits) mine low_stays lasting holding later holders_then stay turns (rest_waiting p ac forms runs' names h texts links apart ranges fr caller rest st below targets keeps gives dispatched making mine' covered i s q here is t named back may makes itself args exits leads ends made_after classes unheld in' alone contents stand waits),
+    (λ n y now. let z = but_names n y now in ap (is_frame_from (at + 1)) z.5 ∙ ended_below p ac forms runs' names h texts links apart ranges fr caller rest st below targets keeps gives dispatched making mine' covered i s q here is t named back may makes itself args exits leads ends made_after classes unheld in' alone contents stand waits low n z.0 z.1),
   )
 
   -- ---- what does not hang on names
@@ -132,14 +139,14 @@ module _ (p : Program) (ac : Accept p) (forms : HasPlainForms p) (runs' : HasPla
   pub returned_apart : LinkedAreAliases p J
   returned_apart n y k now some =
       let z = but_names n y now in
-      subst (IsGivenAsAlias p) (sym z.2) (ended_apart p ac forms runs' names h texts links apart ranges fr caller rest st below targets keeps gives dispatched making mine' covered i s q here is t named back may makes itself args exits leads ends made_after classes unheld in' alone n z.0 k z.1 (sym z.3 ∙ some))
+      subst (IsGivenAsAlias p) (sym z.2) (ended_apart p ac forms runs' names h texts links apart ranges fr caller rest st below targets keeps gives dispatched making mine' covered i s q here is t named back may makes itself args exits leads ends made_after classes unheld in' alone contents n z.0 k z.1 (sym z.3 ∙ some))
 
   pub returned_unfinished : KeepsUnfinished h J (λ o. (fr.locals.this ≡ values.Object o) × (is_new t.action ≡ true))
   returned_unfinished o x y other before now open' =
-      let z = but_names o y now in z.4 ∙ ended_unfinished p ac forms runs' names h texts links apart ranges fr caller rest st below targets keeps gives dispatched making mine' covered i s q here is t named back may makes itself args exits leads ends made_after classes unheld in' alone o x z.0 other before z.1 open'
+      let z = but_names o y now in z.4 ∙ ended_unfinished p ac forms runs' names h texts links apart ranges fr caller rest st below targets keeps gives dispatched making mine' covered i s q here is t named back may makes itself args exits leads ends made_after classes unheld in' alone contents o x z.0 other before z.1 open'
 
   pub returned_held_before : AllHeldBefore p h J rest
-  returned_held_before = held_before_further p h K J rest (ended_held_before p ac forms runs' names h texts links apart ranges fr caller rest st below targets keeps gives dispatched making mine' covered i s q here is t named back may makes itself args exits leads ends made_after classes unheld in' alone) (stays rest)
+  returned_held_before = held_before_further p h K J rest (ended_held_before p ac forms runs' names h texts links apart ranges fr caller rest st below targets keeps gives dispatched making mine' covered i s q here is t named back may makes itself args exits leads ends made_after classes unheld in' alone contents) (stays rest)
     where
       stays : (frs : List Frame) → AllHeldBefore p K J frs
       stays [] = tt

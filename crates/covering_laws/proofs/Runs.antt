@@ -213,10 +213,10 @@ module _ (p : Program) (ac : Accept p) (forms : HasPlainForms p) (runs : HasPlai
   library_kept named m x s next row =
       goes (library_heap p fr.locals s.action (method_at p named) (method_at p m) x (length frs + 1) h)
       (frame_after p h fr s (conduct_value count (method_at p m) (positions fr.locals s.action (next_number h) x) (next_number h) x)) refl
-      (left_unfinished p ac forms names h links ranges fr frs st mine c.arrays named m x s next count hold.leads)
-      (left_held_before p ac forms names h links ranges fr frs st mine c.arrays named m x s next count hold.leads frs others_in)
-      (left_linked p ac forms names h links ranges fr frs st mine c.arrays named m x s next count hold.leads linked)
-      (left_covered p ac forms names h links ranges fr frs st mine c.arrays named m x s next count hold.leads hold.new hold.unfinished hold.owning sight row in' covered)
+      (left_unfinished p ac forms names h links ranges fr frs st mine c.arrays named m x s next count hold.leads hold.contents)
+      (left_held_before p ac forms names h links ranges fr frs st mine c.arrays named m x s next count hold.leads hold.contents frs others_in)
+      (left_linked p ac forms names h links ranges fr frs st mine c.arrays named m x s next count hold.leads hold.contents linked)
+      (left_covered p ac forms names h links ranges fr frs st mine c.arrays named m x s next count hold.leads hold.contents hold.new hold.unfinished hold.owning sight row in' covered)
     where
       mine : LocalsInRange h fr.locals
       mine = All-head (λ (u : Frame). LocalsInRange h u.locals) fr frs in'
@@ -280,18 +280,18 @@ module _ (p : Program) (ac : Accept p) (forms : HasPlainForms p) (runs : HasPlai
     returned_kept : AreKept p (returned p c fr caller rest pos q e named t)
     returned_kept = (
       all_lost p ended_heap held_after (after ∷ rest) (are_held p ended_heap (after ∷ rest)) (returned_covered p ac forms runs names c.heap light_at_end agrees.links linked ranges fr caller rest agrees.standing.0 below targets.1.0 keeps.0 called.0 hold.dispatched.0 making.0 mine covered.0 i s q here is t named back
-          may makes itself args exits hold.leads agrees.ends made_after agrees.classes making.1 below_in alone hold.owning agrees.standing.1.1 covered.1 sight hold.new.1 hold.unfinished.1
+          may makes itself args exits hold.leads agrees.ends made_after agrees.classes making.1 below_in alone hold.contents hold.owning agrees.standing.1.1 covered.1 sight hold.new.1 hold.unfinished.1
           (λ w new this. hold.fresh.0 back.index t w back.here new this) covered.2),
       making_on p c.heap (lose held_after ended_heap) apart (lost_unfinished p ended_heap held_after c.heap apart (returned_unfinished p ac forms runs names c.heap light_at_end agrees.links linked ranges fr caller rest agrees.standing.0 below targets.1.0 keeps.0 called.0 hold.dispatched.0 making.0
-          mine covered.0 i s q here is t named back may makes itself args exits hold.leads agrees.ends made_after agrees.classes making.1 below_in alone hold.owning agrees.standing.1.1 covered.1 sight hold.new.1 hold.unfinished.1
+          mine covered.0 i s q here is t named back may makes itself args exits hold.leads agrees.ends made_after agrees.classes making.1 below_in alone hold.contents hold.owning agrees.standing.1.1 covered.1 sight hold.new.1 hold.unfinished.1
           (λ w new this. hold.fresh.0 back.index t w back.here new this))) caller after rest refl below_in
           (apart_from apart (caller ∷ rest) (λ w other. hold.fresh.0 back.index t w back.here other.1 other.0))
           (held_before_further p c.heap ended_heap (lose held_after ended_heap) rest (returned_held_before p ac forms runs names c.heap light_at_end agrees.links linked ranges fr caller rest agrees.standing.0 below targets.1.0 keeps.0 called.0 hold.dispatched.0 making.0
-          mine covered.0 i s q here is t named back may makes itself args exits hold.leads agrees.ends made_after agrees.classes making.1 below_in alone hold.owning agrees.standing.1.1 covered.1 sight hold.new.1 hold.unfinished.1
+          mine covered.0 i s q here is t named back may makes itself args exits hold.leads agrees.ends made_after agrees.classes making.1 below_in alone hold.contents hold.owning agrees.standing.1.1 covered.1 sight hold.new.1 hold.unfinished.1
           (λ w new this. hold.fresh.0 back.index t w back.here new this)) (lost_held_before p ended_heap held_after rest)) making.2,
       still_aliases p ended_heap (lose held_after ended_heap) (lost_linked p ended_heap held_after)
           (returned_apart p ac forms runs names c.heap light_at_end agrees.links linked ranges fr caller rest agrees.standing.0 below targets.1.0 keeps.0 called.0 hold.dispatched.0 making.0 mine covered.0 i s q here is t named back may makes itself args exits
-          hold.leads agrees.ends made_after agrees.classes making.1 below_in alone hold.owning agrees.standing.1.1 covered.1 sight hold.new.1 hold.unfinished.1
+          hold.leads agrees.ends made_after agrees.classes making.1 below_in alone hold.contents hold.owning agrees.standing.1.1 covered.1 sight hold.new.1 hold.unfinished.1
           (λ w new this. hold.fresh.0 back.index t w back.here new this)),
     )
 

@@ -83,7 +83,7 @@ use Rattle.value_laws.proofs.Unmet.{way_of_call}
 use Rattle.value_laws.specs.Types.{KeepsTypes, StoredHoldNone, is_text}
 use Rattle.value_laws.proofs.ValueTypeFields.{field_is_none}
 use Rattle.value_laws.proofs.ValueTypeLaws.{argument_is_no_object}
-use Rattle.value_laws.specs.PlaceFacts.{AreCovered, AreWaiting, Covers, IsCovered, IsKeyed, IsTrueOf, IsUnowned, OwnersBelow, asked_by, asked_of, claims, fits_field, fits_in, gives_none, is_apart, is_content, is_field_of, is_frame_below, is_frame_from, is_given, is_heavy_field, is_heavy_in, is_lent, may_owe, owned, unowned, renews_none, HasOlderHolder, HoldersAreOlder}
+use Rattle.value_laws.specs.PlaceFacts.{AreCovered, AreWaiting, Covers, IsCovered, IsKeyed, IsTrueOf, IsUnowned, OwnersBelow, asked_by, asked_of, claims, fits_field, fits_in, gives_none, is_apart, is_content, is_field_of, is_frame_below, is_frame_from, is_given, is_heavy_field, is_heavy_in, is_lent, OwesOrHolds, owned, unowned, renews_none, HasOlderHolder, HoldersAreOlder}
 use Rattle.covering_laws.proofs.HeavyFields.{asked_here, claims_alone, claims_owned, covered_at}
 use Rattle.value_laws.proofs.KeptFacts.{parameter_unheld}
 use Rattle.value_laws.specs.Ranges.{FieldsInRange, IsInRange, IsNumber, LocalsInRange}
@@ -96,12 +96,13 @@ use Rattle.covering_laws.proofs.GivenArguments.{given_is_true, given_owner, oper
 use Rattle.covering_laws.proofs.GivenAway.{given_taken, moved_given, step_gives, taken_given}
 use Rattle.covering_laws.proofs.CallResults.{born_unowned}
 use Rattle.covering_laws.proofs.Gifts.{all_keep_gifts}
-use Rattle.covering_laws.proofs.Owners.{KeepsOwners, OwnersGo, owners_kept, stays_apart, KeepsGiven, given_kept, KeepsFinished, held_here}
+use Rattle.covering_laws.proofs.Owners.{HoldersWere, KeepsOwners, OwnersGo, holders_were, none_unready, owners_kept, stays_apart, KeepsGiven, given_kept, KeepsFinished, held_here}
+use Rattle.covering_laws.proofs.NewOwners.{start_births}
 use Rattle.covering_laws.proofs.OwnerSteps.{below_not_from}
 use Rattle.covering_laws.proofs.StartOwners.{below_further, start_below, start_owner, start_owners_go}
 use Rattle.covering_laws.proofs.LocalSteps.{LocalsIn, all_there}
 use Rattle.covering_laws.proofs.StartHeaps.{new_holds_nothing, start_carries, start_keeps, start_linked, start_roots, start_unfinished, new_unfinished, new_unlinked}
-use Rattle.covering_laws.proofs.Waiting.{AllHeldBefore, IsCarried, KeepsRoots, KeepsUnfinished, all_held_before, all_keep, all_wait, frames_ready, no_other, numbered, owed_before, value_root, was_ready, new_root, carries_finish}
+use Rattle.covering_laws.proofs.Waiting.{AllHeldBefore, IsCarried, KeepsRoots, KeepsUnfinished, all_held_before, all_keep, all_wait, frames_ready, no_other, numbered, bore_before, Continues, value_root, was_ready, new_root, carries_finish}
 use Rattle.covering_laws.proofs.KnownNames.{operand_temp}
 use Rattle.covering_laws.proofs.LinkedExceptions.{LinkedWere}
 use Rattle.covering_laws.proofs.BornTruths.{field_unlent}
@@ -279,6 +280,16 @@ module _ (p : Program) (ac : Accept p) (forms' : HasPlainForms p) (plain : HasPl
   finishes : KeepsFinished h K
   finishes = carries_finish h K (began_grows p l s.action (method_at p named) j h).count (start_carries p l s.action (method_at p named) j h links)
 
+  -- who owns what
+  goes : OwnersGo p None stack (length frs + 1) h K
+  goes = start_owners_go p l s.action (method_at p named) j h links None stack (length frs + 1) (omega (arith, position)) (given_owner p ac h fr st frs next.index s next.here row covered (method_at p named) same_callee)
+
+  holders : HoldersWere p h K
+  holders = holders_were p None stack (length frs + 1) h K goes (start_births p l s.action (method_at p named) j h links) (none_unready h)
+
+  bore : (o : ℕ) (x y : Object) → object_at h o ≡ Some x → (x.finished ≡ true → Continues x y) → OwesOrHolds p K o y → OwesOrHolds p h o x
+  bore o x y before goes' owes = bore_before p h K holders o x y before goes' owes
+
   -- the holder of an object is finished, or a frame runs on it
   older_here : (o : ℕ) (y : Object) → object_at K o ≡ Some y → is_heavy_class p y.class ≡ true → y.finished ≡ true → HasOlderHolder K stack y.owner
   older_here o y at heavy done w held = elim (begun_from p l s.action (method_at p named) j h links o y at) [
@@ -298,7 +309,7 @@ module _ (p : Program) (ac : Accept p) (forms' : HasPlainForms p) (plain : HasPl
   below_same = given_kept p h K frs (all_keep_gifts p h K roots frs lower)
 
   -- the object of the operand whose obligation the call creates anew is lent to it
-  renewed_lent : (k o : ℕ) (y : Object) → next.method.sig.reset ≡ Some k → root_of h (operand_of l s.action k) ≡ Some o → object_at K o ≡ Some y → is_heavy_class p y.class ≡ true → may_owe y ≡ true → y.finished ≡ true → IsLentFrom p K stack o y.owner
+  renewed_lent : (k o : ℕ) (y : Object) → next.method.sig.reset ≡ Some k → root_of h (operand_of l s.action k) ≡ Some o → object_at K o ≡ Some y → is_heavy_class p y.class ≡ true → OwesOrHolds p K o y → y.finished ≡ true → IsLentFrom p K stack o y.owner
   renewed_lent k o y position root at heavy owes done = by (was (operand_of l s.action k) o y root (numbered h links (operand_of l s.action k) o root (operand_in_range h l in' s.action k)) at)
     where
       target : reset_in (callee p s.action) ≡ Some k
@@ -313,7 +324,7 @@ module _ (p : Program) (ac : Accept p) (forms' : HasPlainForms p) (plain : HasPl
       by : IsCarried h o y → IsLentFrom p K stack o y.owner
       by (x, before, class, goes) = (
         renewed,
-        elim (renewed_answered p ac forms' h fr st frs next.index s next.here row covered o x before heavy' owes' does done') [
+        elim (renewed_answered p ac forms' h fr st frs next.index s next.here row covered o x before heavy' (bore o x y before goes owes) does done') [
           | inl own ↦ inl (same ∙ own)
           | inr other ↦ inr (elim other [ inl lent ↦ inl (subst (IsLentFrom p K frs o) (sym same) (below_same.lent o x.owner lent)) | inr held ↦ inr (subst (IsHeldBy p fr) (sym same) held) ])
         ],
@@ -322,16 +333,13 @@ module _ (p : Program) (ac : Accept p) (forms' : HasPlainForms p) (plain : HasPl
           heavy' : is_heavy_class p x.class ≡ true
           heavy' = ap (is_heavy_class p) (sym class) ∙ heavy
 
-          owes' : may_owe x ≡ true
-          owes' = owed_before x y goes owes
-
           done' : x.finished ≡ true
           done' = was_ready x y (λ none. started_unfinished o x y (λ never. never) before at none) done
 
           same : y.owner ≡ x.owner
           same = elim (start_owner p l s.action (method_at p named) j h links o x y before at) [
             | inl same' ↦ same'
-            | inr given ↦ absurd (true≢false (sym (moved_given p h l s.action (method_at p named) o x same_callee given.1) ∙ renewed_not_given p ac forms' h fr st frs next.index s next.here row covered o x before heavy' owes' does done'))
+            | inr given ↦ absurd (true≢false (sym (moved_given p h l s.action (method_at p named) o x same_callee given.1) ∙ renewed_not_given p ac forms' h fr st frs next.index s next.here row covered o x before heavy' (bore o x y before goes owes) does done'))
           ]
 
   -- ---- the places of the frame that begins
@@ -360,7 +368,7 @@ module _ (p : Program) (ac : Accept p) (forms' : HasPlainForms p) (plain : HasPl
 
   -- ---- parameters
 
-  module _ (i o : ℕ) (y : Object) (room : i < 160) (root : root_of K (variable_value begun_frame.locals i) ≡ Some o) (at : object_at K o ≡ Some y) (heavy : is_heavy_class p y.class ≡ true) (owes : may_owe y ≡ true)
+  module _ (i o : ℕ) (y : Object) (room : i < 160) (root : root_of K (variable_value begun_frame.locals i) ≡ Some o) (at : object_at K o ≡ Some y) (heavy : is_heavy_class p y.class ≡ true) (owes : OwesOrHolds p K o y)
       (v : Value) (arg : slice_get arguments i ≡ Some v) (value : variable_value begun_frame.locals i ≡ v) where
     inside : i < length (params_in (method_at p named))
     inside = let long = length-map-range_with_len (operand_of l s.action) 1 (length (params_in (method_at p named))) in let there = slice_get_within arguments i v arg in omega (arith, long, there)
@@ -430,7 +438,7 @@ module _ (p : Program) (ac : Accept p) (forms' : HasPlainForms p) (plain : HasPl
         given : like.0.owning ≡ true → is_heavy_class p c ≡ true → IsTrueOf p y (origin_of p (kinds.Param i) var.0.pos c None) (fact_at (places.Var i) modes.Own like.0.before true)
         given owning heavy' =
             let owning' = same_mark like.0.owning param.0.owning like.3 owning in
-            let cover = operand_owned p ac h fr st frs next.index s next.here row covered o carried.0 carried.1 (ap (is_heavy_class p) (sym carried.2) ∙ heavy) (owed_before carried.0 y carried.3 owes) next.method i param.0
+            let cover = operand_owned p ac h fr st frs next.index s next.here row covered o carried.0 carried.1 (ap (is_heavy_class p) (sym carried.2) ∙ heavy) (bore o carried.0 y carried.1 carried.3 owes) next.method i param.0
             (same_callee ∙ next.named_at) param_at owning' operand_root (subst (λ (t : VType). not (is_empty (must_of_optional p (Some t))) ≡ true) (sym type) heavy') in
             given_is_true p ac h fr st frs next.index s next.here row o carried.0 y cover.0 next.method i param.0 (same_callee ∙ next.named_at) param_at owning'
             (ap (has_temp cover.0.fact.places) (operand_temp l s.action (i + 1) h o operand_root).1 ∙ cover.1) c type heavy' (λ done. (carried.3 done).0) (kinds.Param i) var.0.pos (places.Var i) like.0.before
@@ -498,7 +506,7 @@ module _ (p : Program) (ac : Accept p) (forms' : HasPlainForms p) (plain : HasPl
       go b it is' = absurd (subst IsCallRow it row)
 
   -- the object of a constructor is not finished
-  this_unfinished : (o : ℕ) (y : Object) → root_of K begun_frame.locals.this ≡ Some o → object_at K o ≡ Some y → is_heavy_class p y.class ≡ true → may_owe y ≡ true → is_constructor_kind run.kind ≡ true → y.finished ≡ false
+  this_unfinished : (o : ℕ) (y : Object) → root_of K begun_frame.locals.this ≡ Some o → object_at K o ≡ Some y → is_heavy_class p y.class ≡ true → OwesOrHolds p K o y → is_constructor_kind run.kind ≡ true → y.finished ≡ false
   this_unfinished o y held at heavy owes makes = go s.action refl
     where
       named_makes : constructs (method_at p named) ≡ true
@@ -524,7 +532,7 @@ module _ (p : Program) (ac : Accept p) (forms' : HasPlainForms p) (plain : HasPl
         where
           by : root_of h l.this ≡ Some o → IsCarried h o y → y.finished ≡ false
           by root' (x, before, class, goes) =
-              let cover = covered_at p h false false frs fr places.This o x (covered places.This o x tt root' before (ap (is_heavy_class p) (sym class) ∙ heavy) (owed_before x y goes owes)) in
+              let cover = covered_at p h false false frs fr places.This o x (covered places.This o x tt root' before (ap (is_heavy_class p) (sym class) ∙ heavy) (bore o x y before goes owes)) in
               let reach = subst (λ (b : BodyId). Reach p b (relation_of p b) cover.0.origin fr.control cover.0.fact) (same_body cover.0.body st.number (body_id p fr.method) cover.0.id st.id) cover.0.reached in
               let caller_makes : constructs (method_at p fr.method) ≡ true =
               ap constructs (sym (method_here p fr st))
@@ -540,7 +548,7 @@ module _ (p : Program) (ac : Accept p) (forms' : HasPlainForms p) (plain : HasPl
       go b it = absurd (subst IsCallRow it row)
 
   -- what runs no constructor is lent `this` where it creates its obligation anew
-  this_lent : (o : ℕ) (y : Object) → root_of K begun_frame.locals.this ≡ Some o → object_at K o ≡ Some y → is_heavy_class p y.class ≡ true → may_owe y ≡ true → this_mode run.sig run.kind ≡ modes.Lent → y.finished ≡ true → IsLentFrom p K stack o y.owner
+  this_lent : (o : ℕ) (y : Object) → root_of K begun_frame.locals.this ≡ Some o → object_at K o ≡ Some y → is_heavy_class p y.class ≡ true → OwesOrHolds p K o y → this_mode run.sig run.kind ≡ modes.Lent → y.finished ≡ true → IsLentFrom p K stack o y.owner
   this_lent o y root at heavy owes mode done = go (is_constructor_kind run.kind) refl
     where
       of_call : (m : MethodId) (d n : ℕ) → s.action ≡ actions.New m d n → is_constructor_kind run.kind ≡ true
@@ -558,7 +566,7 @@ module _ (p : Program) (ac : Accept p) (forms' : HasPlainForms p) (plain : HasPl
           let root' : root_of h (operand_of l s.action 0) ≡ Some o = root_before (operand_of l s.action 0) o (operand_in_range h l in' s.action 0) (ap (root_of K) (sym (begun'.this ∙ operand other s.action refl)) ∙ root) in
           renewed_lent 0 o y (next.fit.reset 0 (lent_this run.sig run.kind other mode)) root' at heavy owes done
 
-  this_covered : (o : ℕ) (y : Object) → root_of K begun_frame.locals.this ≡ Some o → object_at K o ≡ Some y → is_heavy_class p y.class ≡ true → may_owe y ≡ true → Covered places.This o y
+  this_covered : (o : ℕ) (y : Object) → root_of K begun_frame.locals.this ≡ Some o → object_at K o ≡ Some y → is_heavy_class p y.class ≡ true → OwesOrHolds p K o y → Covered places.This o y
   this_covered o y root at heavy owes =
       let w = object_value K self o (ap (root_of K) (sym begun'.this) ∙ root) in
       let born = this_born p run (elim (kind_by w.0 w.1) [ inl one ↦ ap has_this one | inr new ↦ ap has_this new ]) in
@@ -581,7 +589,7 @@ module _ (p : Program) (ac : Accept p) (forms' : HasPlainForms p) (plain : HasPl
 
   -- ---- owning fields of `this`
 
-  module _ (n o : ℕ) (y : Object) (room : n < 16) (at : object_at K o ≡ Some y) (heavy : is_heavy_class p y.class ≡ true) (owes : may_owe y ≡ true) (f : FieldId) (beside : owning_field_beside p begun_frame.method n ≡ Some f)
+  module _ (n o : ℕ) (y : Object) (room : n < 16) (at : object_at K o ≡ Some y) (heavy : is_heavy_class p y.class ≡ true) (owes : OwesOrHolds p K o y) (f : FieldId) (beside : owning_field_beside p begun_frame.method n ≡ Some f)
       (root : root_of K (field_of p K begun_frame.locals.this f) ≡ Some o) where
     field : IsBeside p run n f
     field = place_of_beside p ac.well_formed.valid.typed begun_frame.method run n f (ap (method_at p) begun'.method ∙ begun'.named) room beside
@@ -688,7 +696,7 @@ module _ (p : Program) (ac : Accept p) (forms' : HasPlainForms p) (plain : HasPl
 
   -- ---- all places
 
-  placed : (q : Place) (o : ℕ) (y : Object) → IsSmall q → root_of K (place_value p K begun_frame.method begun_frame.locals q) ≡ Some o → object_at K o ≡ Some y → is_heavy_class p y.class ≡ true → may_owe y ≡ true → Covered q o y
+  placed : (q : Place) (o : ℕ) (y : Object) → IsSmall q → root_of K (place_value p K begun_frame.method begun_frame.locals q) ≡ Some o → object_at K o ≡ Some y → is_heavy_class p y.class ≡ true → OwesOrHolds p K o y → Covered q o y
   placed (places.Var i) o y room root at heavy owes =
       let rest : ℕ = variable_count p (body_of (method_at p runs)) - length arguments in
       let is : variable_value begun_frame.locals i ≡ value_or_nothing (slice_get (arguments ++ replicate rest values.Nothing) i) = ap (λ (x : Locals). variable_value x i) locals_are in
@@ -710,7 +718,7 @@ module _ (p : Program) (ac : Accept p) (forms' : HasPlainForms p) (plain : HasPl
   placed places.Super o y room root at heavy owes = absurd (let never : None ≡ Some o = root in cc)
 
   -- no two owning parameters take the same object
-  not_twice : (q r : Place) (o : ℕ) (y : Object) → object_at K o ≡ Some y → is_heavy_class p y.class ≡ true → may_owe y ≡ true → TakesAt q o → TakesAt r o → q ≡ r
+  not_twice : (q r : Place) (o : ℕ) (y : Object) → object_at K o ≡ Some y → is_heavy_class p y.class ≡ true → OwesOrHolds p K o y → TakesAt q o → TakesAt r o → q ≡ r
   not_twice q r o y at heavy owes (i, q_is, x, x_at, x_owns, x_heavy, x_root) (i', r_is, z, z_at, z_owns, z_heavy, z_root) = by (lt_or i i')
     where
       old : IsCarried h o y
@@ -719,7 +727,7 @@ module _ (p : Program) (ac : Accept p) (forms' : HasPlainForms p) (plain : HasPl
       never : (m n : ℕ) (u w : ParamSig) → m < n → slice_get next.method.sig.params.items m ≡ Some u → slice_get next.method.sig.params.items n ≡ Some w → u.owning ≡ true → w.owning ≡ true
           → not (is_empty (must_of_optional p (Some u.vtype))) ≡ true → not (is_empty (must_of_optional p (Some w.vtype))) ≡ true → root_of h (operand_of l s.action (m + 1)) ≡ Some o → root_of h (operand_of l s.action (n + 1)) ≡ Some o → ⊥
       never m n u w less u_at w_at u_owns w_owns u_heavy w_heavy u_root w_root =
-          two_operands p ac h fr st frs next.index s next.here row covered o old.0 old.1 (ap (is_heavy_class p) (sym old.2) ∙ heavy) (owed_before old.0 y old.3 owes) next.method m n u w less (same_callee ∙ next.named_at) u_at w_at u_owns w_owns
+          two_operands p ac h fr st frs next.index s next.here row covered o old.0 old.1 (ap (is_heavy_class p) (sym old.2) ∙ heavy) (bore o old.0 y old.1 old.3 owes) next.method m n u w less (same_callee ∙ next.named_at) u_at w_at u_owns w_owns
           u_heavy w_heavy u_root w_root
 
       lt_or : (m n : ℕ) → (m < n) ⊎ ((n < m) ⊎ (m ≡ n))
@@ -736,7 +744,7 @@ module _ (p : Program) (ac : Accept p) (forms' : HasPlainForms p) (plain : HasPl
       by (inr (inr same)) = q_is ∙ ap places.Var same ∙ sym r_is
 
   -- what a parameter takes is the callee's
-  taken_owner : (q : Place) (o : ℕ) (y : Object) → object_at K o ≡ Some y → is_heavy_class p y.class ≡ true → may_owe y ≡ true → TakesAt q o → (g : Origin) (f : Fact) → IsTrueOf p y g f → y.owner ≡ owners.Frame (length stack + 1)
+  taken_owner : (q : Place) (o : ℕ) (y : Object) → object_at K o ≡ Some y → is_heavy_class p y.class ≡ true → OwesOrHolds p K o y → TakesAt q o → (g : Origin) (f : Fact) → IsTrueOf p y g f → y.owner ≡ owners.Frame (length stack + 1)
   taken_owner q o y at heavy owes (i, q_is, x, x_at, x_owns, x_heavy, x_root) g f truth =
       begun_given p l s.action (method_at p named) j h links i x o old.0 y (ap (λ (m : Option Method). slice_get (params_in m) i) next.named_at ∙ x_at) x_owns
       (ap (λ (k : ℕ). root_of h (operand_of l s.action k)) (let same : 1 + i ≡ i + 1 = omega arith in same) ∙ x_root) old.1 may at ∙ ap owners.Frame position
@@ -745,7 +753,7 @@ module _ (p : Program) (ac : Accept p) (forms' : HasPlainForms p) (plain : HasPl
       old = was (operand_of l s.action (i + 1)) o y x_root (numbered h links (operand_of l s.action (i + 1)) o x_root (operand_in_range h l in' s.action (i + 1))) at
 
       may : may_move p x.vtype old.0 ≡ true
-      may = operand_may_move p ac h fr st frs next.index s next.here row covered o old.0 old.1 (ap (is_heavy_class p) (sym old.2) ∙ heavy) (owed_before old.0 y old.3 owes) next.method i x (same_callee ∙ next.named_at) x_at x_owns x_root x_heavy
+      may = operand_may_move p ac h fr st frs next.index s next.here row covered o old.0 old.1 (ap (is_heavy_class p) (sym old.2) ∙ heavy) (bore o old.0 y old.1 old.3 owes) next.method i x (same_callee ∙ next.named_at) x_at x_owns x_root x_heavy
 
   callee_covered : IsCovered p K gives_none renews_none stack begun_frame
   callee_covered q o y small' root at heavy owes = by (placed q o y small' root at heavy owes)
@@ -767,19 +775,14 @@ module _ (p : Program) (ac : Accept p) (forms' : HasPlainForms p) (plain : HasPl
   pub started_linked : LinkedWere h K
   started_linked = start_linked p l s.action (method_at p named) j h links
 
-  -- ---- who owns what
-
-  goes : OwnersGo p None stack (length frs + 1) h K
-  goes = start_owners_go p l s.action (method_at p named) j h links None stack (length frs + 1) (omega (arith, position)) (given_owner p ac h fr st frs next.index s next.here row covered (method_at p named) same_callee)
-
   caller_keeps : KeepsOwners p h K (is_given p h fr) frs fr
   caller_keeps = record {
     own = λ q o x y small' part root before now done heavy spared mine. elim (start_owner p l s.action (method_at p named) j h links o x y before now) [
       | inl same ↦ same ∙ mine
       | inr given ↦ absurd (true≢false (sym (step_gives p h fr next.index s o x.class next.here (moved_given p h l s.action (method_at p named) o x same_callee given.1)) ∙ spared))
     ];
-    others = stays_apart p None stack (length frs + 1) h K finishes goes frs fr (omega arith) (λ w is this. absurd (let never : None ≡ Some w = is in cc)) (λ w none. none.1);
-    held = held_here p None stack (length frs + 1) h K finishes goes frs fr (omega arith) (λ w none. none.0);
+    others = stays_apart p None stack (length frs + 1) h K finishes goes holders frs fr (omega arith) (λ w is this. absurd (let never : None ≡ Some w = is in cc)) (λ w none. none.1);
+    held = held_here p None stack (length frs + 1) h K finishes goes holders frs fr (omega arith) (λ w none. none.0);
   }
 
   pub start_covered : LocalsIn h (fr ∷ frs) → AreWaiting p h frs → AreCovered p K (begun_frame ∷ fr ∷ frs)
@@ -787,7 +790,7 @@ module _ (p : Program) (ac : Accept p) (forms' : HasPlainForms p) (plain : HasPl
     callee_covered,
     all_wait p h K links roots (start_carries p l s.action (method_at p named) j h links) (fr ∷ frs) (all_keep p h K (start_keeps p l s.action (method_at p named) j h links) (fr ∷ frs))
         (all_there p h ranges (fr ∷ frs) all) (frames_ready p h K started_unfinished (fr ∷ frs)) (all_keep_gifts p h K roots (fr ∷ frs) all)
-        (caller_keeps, owners_kept p None stack (length frs + 1) h K finishes goes frs (omega arith) tt (λ w none. none.1)) (caller_waits p ac forms' h fr st frs next.index s next.here row covered making, waits),
+        (caller_keeps, owners_kept p None stack (length frs + 1) h K finishes goes holders frs (omega arith) tt (λ w none. none.1)) (caller_waits p ac forms' h fr st frs next.index s next.here row covered making, waits),
     subst (OwnersBelow K) position (start_below p l s.action (method_at p named) j h links (λ o x at. ap (λ (n : ℕ). is_frame_from n x.owner) (let number : j + 1 ≡ length frs + 1 + 1 + 1 = omega (arith, position) in number)
         ∙ below_further h (length frs + 1) low o x at)),
   )

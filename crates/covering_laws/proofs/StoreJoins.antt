@@ -54,7 +54,7 @@ use Rattle.value_laws.specs.Stores.{IsMovedIn, IsStored}
 use Rattle.value_laws.proofs.Chains.{object_there}
 use Rattle.value_laws.proofs.Ready.{step_there}
 use Rattle.value_laws.specs.FieldContents.{DeclaresOwning, FieldsHold}
-use Rattle.value_laws.specs.PlaceFacts.{AreCovered, Covers, IsCovered, IsKeyed, gives_none, is_frame_from, is_heavy_in, is_owning_fact, may_owe, owned, renews_none, unowned}
+use Rattle.value_laws.specs.PlaceFacts.{AreCovered, Covers, IsCovered, IsKeyed, gives_none, is_frame_from, is_heavy_in, is_owning_fact, OwesOrHolds, may_owe, owned, renews_none, unowned}
 use Rattle.covering_laws.proofs.HeavyFields.{heavy_by_fit, unclaimed_not_owning}
 use Rattle.covering_laws.proofs.KeptArguments.{argument_alone, this_alone}
 use Rattle.covering_laws.proofs.Storing.{small}
@@ -62,7 +62,8 @@ use Rattle.value_laws.specs.Ranges.{FieldsInRange, LocalsInRange}
 use Rattle.covering_laws.specs.Linking.{LinkedAreAliases}
 use Rattle.covering_laws.proofs.LocalSteps.{LocalsIn, all_there, holds_there}
 use Rattle.covering_laws.proofs.Gifts.{all_keep_gifts}
-use Rattle.covering_laws.proofs.Owners.{AllKeepGifts, KeepsFinished, OwnersGo, StaysApart, constructor_apart, from_frame, given_kept, keeps_finished, owners_kept}
+use Rattle.covering_laws.proofs.Owners.{AllKeepGifts, HoldersWere, KeepsFinished, OwnersGo, StaysApart, constructor_apart, from_frame, given_kept, holders_were, keeps_finished, owners_kept}
+use Rattle.covering_laws.proofs.NewOwners.{no_births}
 use Rattle.covering_laws.proofs.StoreOwners.{store_below, store_keeps_library, store_owners_go}
 use Rattle.covering_laws.proofs.StoreSteps.{ArgumentIsLent, FieldTakes, FieldsStay, OwnerStays, others_stay, store_covered, temp_is_taken}
 use Rattle.covering_laws.proofs.Bodies.{argument_is_lent}
@@ -269,7 +270,7 @@ module _ (p : Program) (ac : Accept p) (forms : HasPlainForms p) (h : HeapConten
 
   module _ (covered : IsCovered p h gives_none renews_none frs fr) where
     -- where something moves, the constructor has no aliased argument, or that of a parameter
-    alias_form : (o : ℕ) (x : Object) → object_at h o ≡ Some x → is_heavy_class p x.class ≡ true → may_owe x ≡ true → IsMovedIn p h f v o x → (alias_position p st.number ≡ None) ⊎ ((n : ℕ) × (alias_position p st.number ≡ Some (suc n)))
+    alias_form : (o : ℕ) (x : Object) → object_at h o ≡ Some x → is_heavy_class p x.class ≡ true → OwesOrHolds p h o x → IsMovedIn p h f v o x → (alias_position p st.number ≡ None) ⊎ ((n : ℕ) × (alias_position p st.number ≡ Some (suc n)))
     alias_form o x before heavy owes moved = by (alias_position p st.number) refl
       where
         by : (a : Option ℕ) → alias_position p st.number ≡ a → (alias_position p st.number ≡ None) ⊎ ((n : ℕ) × (alias_position p st.number ≡ Some (suc n)))
@@ -278,7 +279,7 @@ module _ (p : Program) (ac : Accept p) (forms : HasPlainForms p) (h : HeapConten
         by (Some (suc n)) some = inr (n, some)
 
     -- in a constructor with an aliased argument nothing else moves to the field, and the argument stays
-    stays_bound : (o : ℕ) (x y : Object) → object_at h o ≡ Some x → object_at stored o ≡ Some y → is_heavy_class p x.class ≡ true → may_owe x ≡ true → IsMovedIn p h f v o x → (n : ℕ) → alias_position p st.number ≡ Some (suc n)
+    stays_bound : (o : ℕ) (x y : Object) → object_at h o ≡ Some x → object_at stored o ≡ Some y → is_heavy_class p x.class ≡ true → OwesOrHolds p h o x → IsMovedIn p h f v o x → (n : ℕ) → alias_position p st.number ≡ Some (suc n)
         → (y ≡ x) ⊎ (x.owner ≡ owners.Field w f)
     stays_bound o x y before at heavy owes moved n alias =
         let held = argument_alone p ac forms h frs fr st covered i d s f o x n here is constructor alias (heavy_field o x heavy moved) moved.root before heavy owes in
@@ -288,7 +289,7 @@ module _ (p : Program) (ac : Accept p) (forms : HasPlainForms p) (h : HeapConten
         elim z.2 [ inl still' ↦ inl (still' ∙ same) | inr gone ↦ inr (ap (λ (u : Object). u.owner) (sym same) ∙ gone.0.owner) ]
 
     -- what moves to the field the frame owns, or the field does
-    moves_from : (o : ℕ) (x y : Object) → object_at h o ≡ Some x → object_at stored o ≡ Some y → is_heavy_class p x.class ≡ true → may_owe x ≡ true → IsMovedIn p h f v o x → y ≡ with_owner (owners.Field w f) x
+    moves_from : (o : ℕ) (x y : Object) → object_at h o ≡ Some x → object_at stored o ≡ Some y → is_heavy_class p x.class ≡ true → OwesOrHolds p h o x → IsMovedIn p h f v o x → y ≡ with_owner (owners.Field w f) x
         → (x.owner ≡ owners.Frame (length frs + 1)) ⊎ (x.owner ≡ owners.Field w f)
     moves_from o x y before at heavy owes moved now = elim (alias_form o x before heavy owes moved) [ inl none ↦ by none (covered (places.Temp d) o x room moved.root before heavy owes) | inr alias ↦ inr (in_field (stays_bound o x y before at heavy owes moved alias.0 alias.1)) ]
       where
@@ -310,7 +311,11 @@ module _ (p : Program) (ac : Accept p) (forms : HasPlainForms p) (h : HeapConten
         ]
 
     owners_go : OwnersGo p (Some w) frs (length frs + 1) h stored
-    owners_go = store_owners_go p h stored w f v back frs (hold.new.0 w declared constructor new.this) (length frs + 1) moves_from
+    owners_go = store_owners_go p h stored w f v back frs (hold.new.0 w declared constructor new.this) (length frs + 1) (λ o x y before now heavy owes moved is. moves_from o x y before now heavy (inl owes) moved is)
+
+    holders : HoldersWere p h stored
+    holders = holders_were p (Some w) frs (length frs + 1) h stored owners_go (no_births h stored (λ o y now. let x = back o y now in let goes = stored_goes_on p h w f v o x.0 y x.2 in (x.0, x.1, goes.finished, goes.class)))
+        (λ u is. (new.object, ap (object_at h) (let both : Some w ≡ Some u = is in (let one : u ≡ w = cc in one)) ∙ new.there, unfinished'))
 
     -- what a field of the object owns it goes on owning, where another value is not stored into this field
     two_owners : (o : ℕ) (x : Object) (g : FieldId) → x.owner ≡ owners.Field w g → (x.owner ≡ owners.Frame (length frs + 1)) ⊎ (x.owner ≡ owners.Field w f) → g ≡ f
@@ -330,7 +335,7 @@ module _ (p : Program) (ac : Accept p) (forms : HasPlainForms p) (h : HeapConten
         | inl same ↦ ap (λ (z : Object). z.owner) same
         | inr changed ↦ elim changed [
           | inl gone ↦ absurd (apart (two_owners o x g own (inr gone.0.owner)))
-          | inr moved ↦ absurd (apart (two_owners o x g own (moves_from o x y before at heavy (owes_in_field x g own) moved.0 moved.1)))
+          | inr moved ↦ absurd (apart (two_owners o x g own (moves_from o x y before at heavy (inl (owes_in_field x g own)) moved.0 moved.1)))
         ]
       ];
       same = λ o x y before at root own. elim (was o x y before at) [
@@ -399,7 +404,7 @@ module _ (p : Program) (ac : Accept p) (forms : HasPlainForms p) (h : HeapConten
       (hold.new.0 w declared constructor new.this)
     where
       apart : IsCovered p h gives_none renews_none frs fr → StaysApart p h stored frs fr
-      apart cover = constructor_apart p (Some w) frs (length frs + 1) h stored stored_finishes (owners_go cover) frs fr (omega arith) constructor (λ n none. none)
+      apart cover = constructor_apart p (Some w) frs (length frs + 1) h stored stored_finishes (owners_go cover) (holders cover) frs fr (omega arith) constructor (λ n none. none)
 
   pub store_held_before : LocalsIn h (fr ∷ frs) → IsCovered p h gives_none renews_none frs fr → AllHeldBefore p h store_heap frs
   store_held_before in' covered = subst (λ (k : HeapContents). AllHeldBefore p h k frs) (sym heap_is)
@@ -409,9 +414,9 @@ module _ (p : Program) (ac : Accept p) (forms : HasPlainForms p) (h : HeapConten
   stores_covered in' covered = subst (λ (k : HeapContents). AreCovered p k (after ∷ frs)) (sym heap_is) (
     store_covered p ac forms h stored links stored_roots carries frs fr st covered.0 lent i d s f here is w new.this (holds_here p h w f bound v) (holds_other p h w f bound v)
         (holds_there p h ranges fr (All-head (λ (x : Frame). LocalsInRange h x.locals) fr frs in')) (all_ready p h stored stored_unfinished fr) made (given_kept p h stored frs (gifts in'))
-        (constructor_apart p (Some w) frs (length frs + 1) h stored stored_finishes (owners_go covered.0) frs fr (omega arith) constructor (λ n none. none)) field_takes (owner_stays covered.0) (fields_stay covered.0),
+        (constructor_apart p (Some w) frs (length frs + 1) h stored stored_finishes (owners_go covered.0) (holders covered.0) frs fr (omega arith) constructor (λ n none. none)) field_takes (owner_stays covered.0) (fields_stay covered.0),
     all_wait p h stored links stored_roots carries frs
         (others in' covered.0) (all_there p h ranges frs (All-tail (λ (x : Frame). LocalsInRange h x.locals) fr frs in')) (frames_ready p h stored stored_unfinished frs) (gifts in')
-        (owners_kept p (Some w) frs (length frs + 1) h stored stored_finishes (owners_go covered.0) frs (omega arith) (hold.new.0 w declared constructor new.this) (λ n none. none)) covered.1,
+        (owners_kept p (Some w) frs (length frs + 1) h stored stored_finishes (owners_go covered.0) (holders covered.0) frs (omega arith) (hold.new.0 w declared constructor new.this) (λ n none. none)) covered.1,
     store_below p h stored w f v back (length frs + 1) covered.2,
   )

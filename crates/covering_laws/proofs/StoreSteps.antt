@@ -47,7 +47,7 @@ use Rattle.value_laws.specs.Agreement.{Stands}
 use Rattle.value_laws.specs.PlainForms.{HasPlainForms}
 use Rattle.value_laws.specs.FactGoing.{ArePlaces, IsLeft, IsTaken, StoresAs, left, taken}
 use Rattle.value_laws.specs.FieldContents.{RunOnOthers}
-use Rattle.value_laws.specs.PlaceFacts.{Covers, HasOlderHolder, IsCovered, IsInField, IsKeyed, IsOwned, IsTrueOf, IsUnowned, asked_of, claims, fits_field, fits_in, gives_none, is_apart, is_content, is_field_of, is_frame_below, is_frame_from, is_heavy_field, is_heavy_in, is_lent, is_owning_fact, may_owe, owned, tells_calls, unowned, was_given, renews_none}
+use Rattle.value_laws.specs.PlaceFacts.{Covers, HasOlderHolder, IsCovered, IsInField, IsKeyed, IsOwned, IsTrueOf, IsUnowned, asked_of, claims, fits_field, fits_in, gives_none, is_apart, is_content, is_field_of, is_frame_below, is_frame_from, is_heavy_field, is_heavy_in, is_lent, is_owning_fact, OwesOrHolds, owned, tells_calls, unowned, was_given, renews_none}
 use Rattle.value_laws.proofs.FieldPlaces.{place_of_beside}
 use Rattle.value_laws.proofs.ValuesAfter.{IsFrom, value_is_from}
 use Rattle.covering_laws.proofs.HeavyFields.{HasPlace, apart_low, apart_where, claims_alone, claims_as, claims_owned, heavy_here, held_claims, held_mode, held_tells, known_on, lent_not_alone, lent_tells, own_claims, owning_in_no_field, tells_apart, tells_by, unclaimed_not_owning}
@@ -56,7 +56,7 @@ use Rattle.covering_laws.proofs.Storing.{Goes, alone_here, goes, now, small, the
 use Rattle.covering_laws.proofs.Owners.{KeepsGiven, StaysApart, apart_before, from_frame, lent_after}
 use Rattle.covering_laws.proofs.InFields.{declared_by_place, gone_without, held_heavy, held_in_field, in_field_on, in_this, kept_without, one_field, out_of_this, owned_at, owning_out_of_this, owning_place, place_by_number}
 use Rattle.covering_laws.proofs.TopSteps.{other_alone}
-use Rattle.covering_laws.proofs.Waiting.{AllKeep, Carries, Continues, HoldsThere, IsCarried, KeepsReady, KeepsRoots, numbered, owed_before, still_true, value_root, stays_unowned, still_unfinished}
+use Rattle.covering_laws.proofs.Waiting.{AllKeep, Carries, Continues, HoldsThere, IsCarried, KeepsReady, KeepsRoots, numbered, bore_before, still_true, value_root, stays_unowned, still_unfinished}
 use Rattle.program_model.specs.Lookups.{method_at}
 use Rattle.value_laws.specs.Renewing.{was_renewed, makes_alone}
 
@@ -85,7 +85,7 @@ FieldTakes p h k j fr st w f d =
 -- what the frame owns it goes on owning, or t(d) holds it, the field's type has an obligation, and the constructor has no aliased argument
 abbrev pub OwnerStays : (p : Program) → HeapContents → HeapContents → ℕ → (fr : Frame) → Stands p fr → FieldId → ℕ → Type 0
 OwnerStays p h k j fr st f d =
-    (o : ℕ) (x y : Object) → object_at h o ≡ Some x → object_at k o ≡ Some y → is_heavy_class p x.class ≡ true → may_owe x ≡ true → x.owner ≡ owners.Frame j
+    (o : ℕ) (x y : Object) → object_at h o ≡ Some x → object_at k o ≡ Some y → is_heavy_class p x.class ≡ true → OwesOrHolds p h o x → x.owner ≡ owners.Frame j
     → (y.owner ≡ owners.Frame j) ⊎ ((root_of h (temp_value fr.locals d) ≡ Some o) × (alias_position p st.number ≡ None) × (is_heavy_in p (Some f) ≡ true))
 
 -- What another field of `this` owns it goes on owning; and what the field owns and t(d) holds.
@@ -600,7 +600,7 @@ module _ (p : Program) (ac : Accept p) (forms : HasPlainForms p) (h k : HeapCont
       )
       go false e = (q, less, had_root q o less e root, (λ held one. joins held false e one))
 
-  module _ (o : ℕ) (x y : Object) (before : object_at h o ≡ Some x) (at : object_at k o ≡ Some y) (class : y.class ≡ x.class) (broad : is_heavy_class p x.class ≡ true) (owes : may_owe x ≡ true)
+  module _ (o : ℕ) (x y : Object) (before : object_at h o ≡ Some x) (at : object_at k o ≡ Some y) (class : y.class ≡ x.class) (broad : is_heavy_class p x.class ≡ true) (owes : OwesOrHolds p h o x)
       (goes_on : x.finished ≡ true → Continues x y) (done : y.finished ≡ true → x.finished ≡ true) where
     here_after : (c : Covers p h false false frs fr o x) (owned_by : IsTakenFrom o x c) (q : Place) → has (copied c.fact.places (place_of_field p f) (places.Temp d)) q ≡ true → (n : After o x y before at class broad goes_on done c owned_by) → has n.1.fact.places q ≡ true
     here_after c owned_by q in' n = ap (λ (u : Fact). has u.places q) n.3 ∙ n.4 (number_of q) ∙ in'
@@ -687,7 +687,7 @@ module _ (p : Program) (ac : Accept p) (forms : HasPlainForms p) (h k : HeapCont
         where
           by : IsCarried h o y → IsKeyed p k false false frs after q o y
           by (x, before, class, goes_on) =
-              keyed_from o x y before at class (ap (is_heavy_class p) (sym class) ∙ heavy) (owed_before x y goes_on owes) goes_on (ready from.0 o x y from.1 from.2 before at) q from
+              keyed_from o x y before at class (ap (is_heavy_class p) (sym class) ∙ heavy) (bore_before p h k others.holders o x y before goes_on owes) goes_on (ready from.0 o x y from.1 from.2 before at) q from
 
   -- ---- the frames that wait
 

@@ -42,7 +42,7 @@ use Rattle.value_laws.proofs.PlaceLaws.{alias_stands, places_come_from_sources, 
 use Rattle.value_laws.specs.Agreement.{Stands}
 use Rattle.value_laws.specs.Outcomes.{After}
 use Rattle.value_laws.specs.FactGoing.{GoesAs, is_owned_in}
-use Rattle.value_laws.specs.PlaceFacts.{Covers, IsCovered, IsKeyed, IsOwned, IsTrueOf, IsUnowned, asked_of, claims, gives_none, is_lent, is_owning_fact, may_owe, owned, tells_calls, unowned, is_apart}
+use Rattle.value_laws.specs.PlaceFacts.{Covers, IsCovered, IsKeyed, IsOwned, IsTrueOf, IsUnowned, asked_of, claims, gives_none, is_lent, is_owning_fact, OwesOrHolds, owned, tells_calls, unowned, is_apart}
 use Rattle.covering_laws.proofs.HeavyFields.{claims_as, claims_by, claims_owned, held_mode, held_tells, known_on, lent_not_alone, lent_tells, tells_apart, tells_by, unclaimed_not_owning}
 use Rattle.covering_laws.proofs.InFields.{held_heavy, held_in_field, held_kept, held_unowned, in_field_on, in_this, held_finished}
 use Rattle.covering_laws.proofs.OwnerSteps.{own_frame}
@@ -54,7 +54,7 @@ use Rattle.covering_laws.proofs.Following.{followed, same_body, step_there}
 use Rattle.covering_laws.proofs.Owners.{KeepsGiven, KeepsHeld, StaysApart, apart_before, lent_after}
 use Rattle.covering_laws.proofs.RenewedFacts.{true_alike}
 use Rattle.value_laws.proofs.Needs.{origin_needs_all}
-use Rattle.covering_laws.proofs.Waiting.{heavy_stays, kept_root, Carries, Continues, HoldsThere, IsCarried, KeepsFieldsButTexts, KeepsReady, KeepsRootsOf, numbered, owed_before, kept_place, still_true, stays_unowned, still_unfinished}
+use Rattle.covering_laws.proofs.Waiting.{heavy_stays, kept_root, Carries, Continues, HoldsThere, IsCarried, KeepsFieldsButTexts, KeepsReady, KeepsRootsOf, numbered, bore_before, kept_place, still_true, stays_unowned, still_unfinished}
 use Rattle.rlc_base.proofs.SetLaws.{within_self, within_trans, within_union_right}
 use Rattle.program_model.specs.Lookups.{method_at}
 use Rattle.java_control.specs.declared.fact.Outcome.{Outcome}
@@ -339,12 +339,12 @@ module _ (p : Program) (ac : Accept p) (h k : HeapContents) (links : HasEarlierL
       (row : (o : ℕ) (x : Object) (c : Covers p h (gives o x.class) (renewed o) frs fr o x) (q : Place) → has (later c.fact.places) q ≡ true
       → After (λ (g : Fact). GoesAs c.fact (later c.fact.places) (called_after p st.number s.action s.edge c.fact) g × More c.origin c.fact g) (flow p st.number c.origin s.action s.edge c.fact))
       (known : (o : ℕ) (x y : Object) (c : Covers p h (gives o x.class) (renewed o) frs fr o x) → object_at h o ≡ Some x → object_at k o ≡ Some y → (g : Fact) → More c.origin c.fact g → IsTrusted c.origin g → gives o x.class ≡ false → renewed o ≡ false → x.finished ≡ true → GoesOn x y
-      → is_heavy_class p x.class ≡ true → may_owe x ≡ true → (names : Names) → set.is_subset y.called names ≡ true → set.is_subset c.fact.called names ≡ true → set.is_subset (called_after p st.number s.action s.edge c.fact) names ≡ true)
-      (alias : (o : ℕ) (x : Object) (c : Covers p h (gives o x.class) (renewed o) frs fr o x) → object_at h o ≡ Some x → is_heavy_class p x.class ≡ true → may_owe x ≡ true → GivesIt c.fact.places o)
-      (own : (o : ℕ) (x y : Object) (c : Covers p h (gives o x.class) (renewed o) frs fr o x) → IsOwned p h (gives o x.class) (renewed o) frs fr o x c → object_at h o ≡ Some x → object_at k o ≡ Some y → is_heavy_class p x.class ≡ true → may_owe x ≡ true
+      → is_heavy_class p x.class ≡ true → OwesOrHolds p h o x → (names : Names) → set.is_subset y.called names ≡ true → set.is_subset c.fact.called names ≡ true → set.is_subset (called_after p st.number s.action s.edge c.fact) names ≡ true)
+      (alias : (o : ℕ) (x : Object) (c : Covers p h (gives o x.class) (renewed o) frs fr o x) → object_at h o ≡ Some x → is_heavy_class p x.class ≡ true → OwesOrHolds p h o x → GivesIt c.fact.places o)
+      (own : (o : ℕ) (x y : Object) (c : Covers p h (gives o x.class) (renewed o) frs fr o x) → IsOwned p h (gives o x.class) (renewed o) frs fr o x c → object_at h o ≡ Some x → object_at k o ≡ Some y → is_heavy_class p x.class ≡ true → OwesOrHolds p h o x
       → (g : Fact) → More c.origin c.fact g → is_own g.mode ≡ true → (gives o x.class ≡ false) × (x.finished ≡ true → x.owner ≡ owners.Frame (length frs + 1) → y.owner ≡ owners.Frame (length frs + 1)))
       (made : (q : Place) (o : ℕ) (y : Object) → IsSmall q → is_local q ≡ true → source p st.body s.action s.edge q ≡ None → is_made (made_place s.action) q ≡ true → place_value p k fr.method after.locals q ≡ v → root_of k v ≡ Some o → object_at k o ≡ Some y
-      → is_heavy_class p y.class ≡ true → may_owe y ≡ true → IsMadeSo frs gives renewed More q o y) where
+      → is_heavy_class p y.class ≡ true → OwesOrHolds p k o y → IsMadeSo frs gives renewed More q o y) where
     -- the place takes what the step makes
     abbrev IsMadeAt : Place → Type 0
     IsMadeAt q = (is_local q ≡ true) × (source p st.body s.action s.edge q ≡ None) × (is_made (made_place s.action) q ≡ true) × (place_value p k fr.method after.locals q ≡ v)
@@ -374,7 +374,7 @@ module _ (p : Program) (ac : Accept p) (h k : HeapContents) (links : HasEarlierL
         )
 
     -- an object that was there
-    module _ (o : ℕ) (x y : Object) (before : object_at h o ≡ Some x) (at : object_at k o ≡ Some y) (class : y.class ≡ x.class) (wide : is_heavy_class p x.class ≡ true) (owes : may_owe x ≡ true) (wide' : is_heavy_class p y.class ≡ true) (owes' : may_owe y ≡ true)
+    module _ (o : ℕ) (x y : Object) (before : object_at h o ≡ Some x) (at : object_at k o ≡ Some y) (class : y.class ≡ x.class) (wide : is_heavy_class p x.class ≡ true) (owes : OwesOrHolds p h o x) (wide' : is_heavy_class p y.class ≡ true) (owes' : OwesOrHolds p k o y)
         (goes : x.finished ≡ true → Continues x y) (done : y.finished ≡ true → x.finished ≡ true) where
       abbrev away : Bool
       away = gives o x.class
@@ -502,7 +502,7 @@ module _ (p : Program) (ac : Accept p) (h k : HeapContents) (links : HasEarlierL
           by (unowned u) = unowned_on z q u goes_to
 
     -- the object was there where a place held it
-    module _ (o : ℕ) (y : Object) (at : object_at k o ≡ Some y) (wide' : is_heavy_class p y.class ≡ true) (owes' : may_owe y ≡ true) where
+    module _ (o : ℕ) (y : Object) (at : object_at k o ≡ Some y) (wide' : is_heavy_class p y.class ≡ true) (owes' : OwesOrHolds p k o y) where
       carried_from : (q : Place) → ComesFrom q o → IsCarried h o y
       carried_from q (z, small, held, goes_to) = carries o y at (numbered h links (place_value p h fr.method fr.locals z) o held (inside z small)).1
 
@@ -511,14 +511,14 @@ module _ (p : Program) (ac : Accept p) (h k : HeapContents) (links : HasEarlierL
         where
           by : IsCarried h o y → IsKeyedFrom frs gives renewed More q o y
           by (x, before, class, goes) =
-              keyed_from o x y before at class (ap (is_heavy_class p) (sym class) ∙ wide') (owed_before x y goes owes') wide' owes' goes (ready from.0 o x y from.1 from.2 before at) q from
+              keyed_from o x y before at class (ap (is_heavy_class p) (sym class) ∙ wide') (bore_before p h k others.holders o x y before goes owes') wide' owes' goes (ready from.0 o x y from.1 from.2 before at) q from
 
       freed : StopsOwning p h fr frs gives renewed More o → y.owner ≡ owners.Frame (length frs + 1) → (q : Place) → ComesFrom q o → IsUnowned p k false (renewed o) frs after q o y
       freed ends mine q from = by (carried_from q from)
         where
           by : IsCarried h o y → IsUnowned p k false (renewed o) frs after q o y
           by (x, before, class, goes) =
-              freed_from o x y before at class (ap (is_heavy_class p) (sym class) ∙ wide') (owed_before x y goes owes') wide' owes' goes (ready from.0 o x y from.1 from.2 before at) ends mine q from
+              freed_from o x y before at class (ap (is_heavy_class p) (sym class) ∙ wide') (bore_before p h k others.holders o x y before goes owes') wide' owes' goes (ready from.0 o x y from.1 from.2 before at) ends mine q from
 
       -- a step makes one place
       one_made : (m : Option Place) (q z : Place) → is_made m q ≡ true → is_made m z ≡ true → q ≡ z
@@ -548,7 +548,7 @@ module _ (p : Program) (ac : Accept p) (h k : HeapContents) (links : HasEarlierL
           go true owning = inl (d, in', record { owning = owning; owner = λ stays own'. mine; others = each }, inr (ends, owned_so owning))
           go false none = inr (record { covers = d; here = in'; unowned = none })
 
-    pub top_from : (q : Place) (o : ℕ) (y : Object) → IsSmall q → root_of k (place_value p k after.method after.locals q) ≡ Some o → object_at k o ≡ Some y → is_heavy_class p y.class ≡ true → may_owe y ≡ true
+    pub top_from : (q : Place) (o : ℕ) (y : Object) → IsSmall q → root_of k (place_value p k after.method after.locals q) ≡ Some o → object_at k o ≡ Some y → is_heavy_class p y.class ≡ true → OwesOrHolds p k o y
         → IsKeyedFrom frs gives renewed More q o y
     top_from q o y small held at heavy owes = elim (origin_of_place q o small held) [
       | inl from ↦ came o y at heavy owes q from

@@ -30,7 +30,7 @@ use Rattle.java_control.specs.Owned.{fields_in}
 use Rattle.value_laws.specs.Heaps.{GoesOn, HasEarlierLinks, KeepsLinks}
 use Rattle.value_laws.proofs.HeapLaws.{numbers_are_in_range, roots_go_on-number, roots_of_links-absent, roots_of_links-itself, roots_of_links-there}
 use Rattle.ledger_obligations.specs.Obligations.{is_library_owner}
-use Rattle.value_laws.specs.PlaceFacts.{AreWaiting, Covers, IsCovered, IsInField, IsKeyed, IsOwned, IsTrueOf, IsUnowned, asked_of, is_given, is_owning_fact, may_owe, owned, unowned}
+use Rattle.value_laws.specs.PlaceFacts.{AreWaiting, Covers, IsCovered, IsInField, IsKeyed, IsOwned, IsTrueOf, IsUnowned, OwesOrHolds, asked_of, is_given, is_owning_fact, may_owe, owned, unowned}
 use Rattle.covering_laws.proofs.HeavyFields.{claims_owned, known_on, owning_in_no_field}
 use Rattle.covering_laws.proofs.InFields.{held_heavy, held_in_field, held_kept}
 use Rattle.value_laws.specs.Renewing.{fact_as, is_renewed}
@@ -38,7 +38,7 @@ use Rattle.value_laws.specs.Ranges.{IsInRange, IsNumber}
 use Rattle.covering_laws.specs.Making.{HoldNone}
 use Rattle.covering_laws.specs.TextUpdates.{HoldsOrTakesText, IsLight}
 use Rattle.covering_laws.proofs.TextStores.{light_root, no_root}
-use Rattle.covering_laws.proofs.Owners.{AllKeepGifts, AllKeepOwners, KeepsGifts, KeepsGiven, KeepsOwners, apart_before, given_kept, is_field_place, lent_after, KeepsFinished, keeps_finished}
+use Rattle.covering_laws.proofs.Owners.{AllKeepGifts, AllKeepOwners, HoldersWere, KeepsGifts, KeepsGiven, KeepsOwners, apart_before, given_kept, is_field_place, lent_after, KeepsFinished, keeps_finished}
 use Rattle.value_laws.proofs.Chains.{object_there}
 use Rattle.value_laws.proofs.FieldPlaces.{passes}
 use Rattle.java_control.specs.declared.fact.Mode.{Mode}
@@ -62,6 +62,19 @@ owed_before x y goes owes = go (x.finished && is_library_owner x.owner) refl
         let parts = and_parts x.finished (is_library_owner x.owner) e in
         let on = goes parts.0 in
         absurd (true≢false (sym owes ∙ ap not (and_from y.finished (is_library_owner y.owner) (on.0.finished ∙ parts.0) (on.1 parts.1))))
+
+-- what is not finished may
+pub open_owes : (x : Object) → x.finished ≡ false → may_owe x ≡ true
+open_owes x is = ap (λ (b : Bool). not (b && is_library_owner x.owner)) is
+
+-- what may owe a call, or holds something, did so before
+pub bore_before : (p : Program) (h k : HeapContents) → HoldersWere p h k → (o : ℕ) (x y : Object) → object_at h o ≡ Some x → (x.finished ≡ true → Continues x y) → OwesOrHolds p k o y → OwesOrHolds p h o x
+bore_before p h k holders o x y before goes (inl owes) = inl (owed_before x y goes owes)
+bore_before p h k holders o x y before goes (inr holds) = go x.finished refl
+  where
+    go : (b : Bool) → x.finished ≡ b → OwesOrHolds p h o x
+    go true done = inr (holders o (λ z there. ap (λ (u : Object). u.finished) (let both : Some x ≡ Some z = sym before ∙ there in (let one : z ≡ x = cc in one)) ∙ done) holds)
+    go false is = inl (open_owes x is)
 
 -- so is each object of the heap `k` that the heap `h` had
 abbrev pub Carries : HeapContents → HeapContents → Type 0
@@ -365,7 +378,7 @@ module _ (p : Program) (h k : HeapContents) (gives : ℕ → ClassId → Bool) (
           let heavy' : is_heavy_class p x.class ≡ true = ap (is_heavy_class p) (sym class) ∙ heavy in
           let root' = root_before q o small root in
           subst (λ (c : ClassId). IsKeyed p k (gives o c) (renewed o) frs fr q o y) (sym class)
-          (keyed_after o x y before at class heavy' goes (ready q o x y small root' before at) (gives o x.class) (renewed o) (λ none. none) q small root' (covered q o x small root' before heavy' (owed_before x y goes owes)))
+          (keyed_after o x y before at class heavy' goes (ready q o x y small root' before at) (gives o x.class) (renewed o) (λ none. none) q small root' (covered q o x small root' before heavy' (bore_before p h k keeps.others.holders o x y before goes owes)))
 
 -- what is covered where these objects are given away, and of these the obligations created anew, is so where the same ones are
 pub given_alike : (p : Program) (h : HeapContents) (f g : ℕ → ClassId → Bool) (d e : ℕ → Bool) (frs : List Frame) (fr : Frame) → ((o : ℕ) (c : ClassId) → g o c ≡ f o c) → ((o : ℕ) → e o ≡ d o) → IsCovered p h f d frs fr

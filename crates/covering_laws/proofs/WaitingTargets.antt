@@ -39,7 +39,7 @@ use Rattle.value_laws.specs.Choosing.{body_id, frame_steps}
 use Rattle.value_laws.specs.Configuration.{Frame}
 use Rattle.value_laws.specs.Outcomes.{IsCallRow}
 use Rattle.value_laws.specs.Paths.{Reach, move_of, relation_of}
-use Rattle.value_laws.specs.PlaceFacts.{Covers, IsCovered, IsKeyed, IsOwned, claims, is_given, is_lent, is_owning_fact, may_owe, owned, unowned}
+use Rattle.value_laws.specs.PlaceFacts.{Covers, IsCovered, IsKeyed, IsOwned, claims, is_given, is_lent, is_owning_fact, OwesOrHolds, owned, unowned}
 use Rattle.value_laws.specs.PlacePlaces.{HasPlacesAlone, is_local}
 use Rattle.value_laws.specs.Places.{place_value}
 use Rattle.value_laws.specs.PlainForms.{HasPlainForms}
@@ -195,7 +195,7 @@ pub record OwnsTarget (p : Program) (h : HeapContents) (frs : List Frame) (fr : 
 
 module _ (p : Program) (ac : Accept p) (forms : HasPlainForms p) (h : HeapContents) (fr : Frame) (frs : List Frame) (st : Stands p fr)
     (i : ℕ) (s : Step) (here : slice_get (frame_steps p fr) i ≡ Some s) (row : IsCallRow s.action) (covered : IsCovered p h (is_given p h fr) (is_renewed p h fr) frs fr)
-    (o : ℕ) (x : Object) (at : object_at h o ≡ Some x) (heavy : is_heavy_class p x.class ≡ true) (owes : may_owe x ≡ true) (done : x.finished ≡ true) (renewed : is_renewed p h fr o ≡ true) where
+    (o : ℕ) (x : Object) (at : object_at h o ≡ Some x) (heavy : is_heavy_class p x.class ≡ true) (owes : OwesOrHolds p h o x) (done : x.finished ≡ true) (renewed : is_renewed p h fr o ≡ true) where
   abbrev away : Bool
   away = is_given p h fr o x.class
 

@@ -12,11 +12,11 @@ use Rattle.ledger_state.specs.Heaps.{object_at, root_of}
 use Rattle.ledger_state.specs.declared.object.Object.{Object}
 use Rattle.ledger_state.specs.declared.value.Value.TheVariants as values
 use Rattle.value_laws.specs.Configuration.{Frame}
-use Rattle.value_laws.specs.PlaceFacts.{is_field_of, is_frame_below, is_heavy_in, may_owe, was_given}
+use Rattle.value_laws.specs.PlaceFacts.{is_field_of, is_frame_below, is_heavy_in, OwesOrHolds, was_given}
 use Rattle.value_laws.specs.Renewing.{was_renewed}
 
 -- the owning field `f` of the object that is `this` of the frame, and whose type has an obligation, holds object `o`, which is `x`, whose
--- class has one, and which may owe a call
+-- class has one, and which may owe a call, or of which a field owns something
 pub record HoldsHeavy (p : Program) (h : HeapContents) (fr : Frame) (w : ℕ) (f : FieldId) (o : ℕ) (x : Object) : Type 0 where
   pub this : fr.locals.this ≡ values.Object w
   pub owning : is_owning p f ≡ true
@@ -24,7 +24,7 @@ pub record HoldsHeavy (p : Program) (h : HeapContents) (fr : Frame) (w : ℕ) (f
   pub held : root_of h (field_value p h w f) ≡ Some o
   pub at : object_at h o ≡ Some x
   pub class : is_heavy_class p x.class ≡ true
-  pub owes : may_owe x ≡ true
+  pub owes : OwesOrHolds p h o x
 
 -- the frame, above the frames `frs`, did not begin with a call that creates the obligation of object `o`, which is `x`, anew; and it was not given the object,
 -- or one of these owns it, or the frame runs no constructor, and a field of `this` owns the object

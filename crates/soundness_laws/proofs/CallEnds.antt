@@ -467,7 +467,7 @@ module _ (p : Program) (ac : Accept p) (forms : HasPlainForms p) (names : HasSma
       (λ gives. given_root n x before done (gives_normally tr.0.fact.places gives) (shown gives))
     where
       it : OwnsTarget p h frs caller n x
-      it = its_owner p ac forms h caller frs below j t there answer.row waiting.0 n x before heavy owes done renewed mine
+      it = its_owner p ac forms h caller frs below j t there answer.row waiting.0 n x before heavy (inl owes) done renewed mine
 
       tr : (w : TracksAs p h (is_renewed p h caller n) caller n x) × (w.fact ≡ it.covers.fact) × (w.origin ≡ it.covers.origin)
       tr = covered_tracks p ac h caller frs below (is_given p h caller n x.class) (is_renewed p h caller n) n x it.covers it.key it.own it.kept it.temp it.there
@@ -692,7 +692,7 @@ module _ (p : Program) (ac : Accept p) (forms : HasPlainForms p) (names : HasSma
             go false other = w
 
     someones : IsSomeones
-    someones = elim (owned_or_lent p ac forms h caller frs below j t there answer.row waiting.0 n x.0 x.1 heavy still_owes finished renewed) [
+    someones = elim (owned_or_lent p ac forms h caller frs below j t there answer.row waiting.0 n x.0 x.1 heavy (inl still_owes) finished renewed) [
       | inl it ↦ callers it
       | inr other ↦ elim other [ inl lent ↦ lenders lent | inr held ↦ inr (held.1.holder, held.1.field, still_field held.1.holder held.1.field held.1.owns (inl held.1.runs)) ]
     ]

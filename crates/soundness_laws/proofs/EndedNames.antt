@@ -41,7 +41,7 @@ use Rattle.content_laws.specs.Renewing.{is_renewed}
 use Rattle.content_laws.specs.PlainForms.{HasPlainForms}
 use Rattle.content_laws.specs.FieldContents as fields
 use Rattle.content_laws.specs.FieldContents.{LinksLead}
-use Rattle.content_laws.specs.PlaceFacts.{IsCovered, gives_none, is_frame_below, may_owe, renews_none}
+use Rattle.content_laws.specs.PlaceFacts.{IsCovered, gives_none, is_frame_below, OwesOrHolds, renews_none}
 use Rattle.content_laws.proofs.Growth.{gone_grows}
 use Rattle.content_laws.proofs.CallNames.{IsReceiver, same_interest, small_name}
 use Rattle.content_laws.proofs.EndHeaps.{small_notes}
@@ -85,8 +85,8 @@ module _ (p : Program) (ac : Accept p) (forms : HasPlainForms p) (names : HasSma
     was_unmet : is_unmet old.before ≡ true
     was_unmet = unmet_before old.before y old.goes_on unmet
 
-    owes : may_owe old.before ≡ true
-    owes = not_the_librarys_owes old.before (ap is_library_owner mine)
+    owes : OwesOrHolds p h n old.before
+    owes = inl (not_the_librarys_owes old.before (ap is_library_owner mine))
 
     -- the caller, a frame below, owns the object
     low : is_frame_below (length (caller ∷ frs) + 1) old.before.owner ≡ true

@@ -112,7 +112,7 @@ pub led_value : (p : Program) (h : HeapContents) → LinksLead p h → (v : Valu
 led_value p h led v w o x is root' at heavy owes =
     let same : root h w ≡ o = (let both : Some (root h w) ≡ Some o = sym (ap (root_of h) is) ∙ root' in cc) in
     let y = has_object h w o x same at in
-    led w o y.0 x y.1 same at heavy owes
+    led w o y.0 x y.1 same at heavy (inl owes)
 
 all_at : {X : Type 0} (P : X → Type 0) (xs : List X) (k : ℕ) (x : X) → All P xs → slice_get xs k ≡ Some x → P x
 all_at P [] k x all at = absurd (let never : None ≡ Some x = at in cc)

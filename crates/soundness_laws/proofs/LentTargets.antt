@@ -48,7 +48,7 @@ module _ (p : Program) (ac : Accept p) (forms : HasPlainForms p) (h k : HeapCont
       rw (eq-eqb (length rest + 1) j (let both : owners.Frame (length rest + 1) ≡ owners.Frame j = sym here ∙ mine in (let one : length rest + 1 ≡ j = cc in one))) now
     where
       before : Awaits p h caller o x
-      before = owner_awaits p ac forms h caller rest standing.0 stacked.0.index stacked.0.step stacked.0.here (row_of stacked.0.step.action stacked.0.named stacked.0.calls) waiting.0 o x at heavy owes done is here
+      before = owner_awaits p ac forms h caller rest standing.0 stacked.0.index stacked.0.step stacked.0.here (row_of stacked.0.step.action stacked.0.named stacked.0.calls) waiting.0 o x at heavy (inl owes) done is here
 
       now : Awaits p k caller o y
       now = record {

@@ -98,7 +98,7 @@ use Rattle.ownership_rules.specs.Facts.{has, is_own}
 use Rattle.content_laws.specs.Anew.{is_target}
 use Rattle.content_laws.specs.PlaceFacts.{AreWaiting, Covers, IsCovered, IsOwned, gives_none, renews_none}
 use Rattle.content_laws.specs.Renewing.{IsHeldBy, IsLentFrom}
-use Rattle.content_laws.proofs.ResetJoins.{hands_of, no_holder, renewed_in_hands}
+use Rattle.content_laws.proofs.ResetJoins.{hands_of, no_holder, renewed_in_hands, still_held}
 use Rattle.content_laws.proofs.TargetTracks.{target_or_not, tracks_target}
 use Rattle.content_laws.proofs.WaitingTargets.{covered_tracks}
 use Rattle.soundness_laws.proofs.LentTargets.{lent_awaited, lent_owner}
@@ -291,7 +291,8 @@ module _ (p : Program) (ac : Accept p) (forms : HasPlainForms p) (names : HasSma
             let r = renewed_in_hands p ac forms h agrees.links fr frs agrees.standing.0 ranges named m d i s here called row plain covered h
             (hands_of p h h fr frs (are_making p h (fr ∷ frs) news unready) (λ n w lent. lent))
             (no_holder p ac forms h agrees.links fr frs agrees.standing.0 ranges named m d i s here called row plain covered unready owning sight arrays (step.ran called).1)
-            o y at free is wide (not_the_librarys_owes y stays) in
+            (still_held p ac forms h agrees.links fr frs agrees.standing.0 ranges named m d i s here called row plain covered)
+            o y at free is wide (inl (not_the_librarys_owes y stays)) in
             in_hands r
           where
             small : IsSmallAction p s.action
@@ -409,7 +410,7 @@ module _ (p : Program) (ac : Accept p) (forms : HasPlainForms p) (names : HasSma
     noted n held interest =
         let is = noted_receiver p ac h fr.method fr.locals s.action o t.fact.places n form small t.follows.places held interest in
         let first = has_object h is.object o x is.root before in
-        let leads = led is.object o first.0 x first.1 is.root before heavy (not_the_librarys_owes x (ap is_library_owner mine)) in
+        let leads = led is.object o first.0 x first.1 is.root before heavy (inl (not_the_librarys_owes x (ap is_library_owner mine))) in
         let has = subst (λ (m : Option Method). has_note (receiver_note fr.locals s.action m) (note false is.object n) ≡ true) same_callee is.noted in
         let ran = step.ran called in
         any_receiver_is_called p fr.locals s.action (method_at p named) (method_at p m) d (length frs + 1) h (note false is.object n) o first.0 y agrees.links few out has first.1

@@ -71,7 +71,7 @@ use Rattle.content_laws.specs.Renewing.{fact_as, is_renewed}
 use Rattle.content_laws.proofs.Carried.{HoldIt}
 use Rattle.content_laws.proofs.Readings.{places_as}
 use Rattle.content_laws.specs.PlainForms.{HasPlainForms, IsPlainAction, IsKeptBy, IsPlainCall, KeepsPromises, is_lent_parameter}
-use Rattle.content_laws.specs.PlaceFacts.{Covers, IsCovered, asked_by, asked_of, gives_none, renews_none, is_frame_below, is_lent, may_owe}
+use Rattle.content_laws.specs.PlaceFacts.{Covers, IsCovered, asked_by, asked_of, gives_none, renews_none, is_frame_below, is_lent, OwesOrHolds}
 use Rattle.content_laws.specs.Arguments.{HasArguments}
 use Rattle.content_laws.proofs.FactOrigins.{parameters_own, this_own}
 use Rattle.content_laws.proofs.SignedPromises.{Promises}
@@ -170,8 +170,8 @@ module _ (p : Program) (ac : Accept p) (forms : HasPlainForms p) (h : HeapConten
 
   module _ (o : ℕ) (x : Object) (anew : Bool) (w : TracksAs p h anew caller o x) (before : object_at h o ≡ Some x) (done : x.finished ≡ true) (heavy : is_heavy_class p x.class ≡ true) (mine : x.owner ≡ owners.Frame (length rest + 1))
       (stays : moved_at_call p w.origin t.action t.edge w.fact ≡ moves.Moves → ⊥) where
-    owes : may_owe x ≡ true
-    owes = not_the_librarys_owes x (ap is_library_owner mine)
+    owes : OwesOrHolds p h o x
+    owes = inl (not_the_librarys_owes x (ap is_library_owner mine))
 
     -- the caller, a frame below, owns the object
     low : is_frame_below (length (caller ∷ rest) + 1) x.owner ≡ true

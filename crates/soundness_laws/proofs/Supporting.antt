@@ -129,7 +129,7 @@ module _ (p : Program) (ac : Accept p) (forms : HasPlainForms p) (h : HeapConten
         held = c.held;
         at = at;
         class = heavy_by_unmet p x.class x unmet (c.own unmet);
-        owes = not_the_librarys_owes x (ap is_library_owner owner);
+        owes = inl (not_the_librarys_owes x (ap is_library_owner owner));
       }
 
   module _ (i : ℕ) (s : Step) (here : slice_get (frame_steps p fr) i ≡ Some s) (f : FieldId) (d : ℕ) (is : s.action ≡ actions.PutOwn f d) where
