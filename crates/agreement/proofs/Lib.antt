@@ -1,3 +1,10 @@
+pub mod Tops
+pub mod Spared
+pub mod SparingCalls
+pub mod SparingStays
+pub mod WaysOverSteps
+pub mod OldObjects
+pub mod SparingEnds
 pub mod Tests
 pub use Rattle.place_laws.proofs.Alike
 pub use Rattle.heap_laws.proofs.Begun
@@ -34,6 +41,7 @@ pub use Rattle.heap_laws.proofs.RootLaws
 pub use Rattle.place_laws.proofs.SetLaws
 pub use Rattle.place_laws.proofs.SignedTables
 pub use Rattle.place_laws.proofs.StartReached
+pub use Rattle.heap_laws.proofs.ResetsUp
 pub use Rattle.heap_laws.proofs.StoredObjects
 pub use Rattle.place_laws.proofs.Temps
 pub use Rattle.heap_laws.proofs.Traces
@@ -41,3 +49,6 @@ pub use Rattle.place_laws.proofs.TypeItems
 pub use Rattle.place_laws.proofs.TypeWays
 pub use Rattle.place_laws.proofs.ValuesAfter
 pub use Rattle.heap_laws.proofs.Walks
+pub use Rattle.heap_laws.proofs.WaysUp
+pub use Rattle.heap_laws.proofs.ReachedRoots
+pub use Rattle.heap_laws.proofs.ResetsUp

@@ -1,5 +1,5 @@
 -- What owning fields hold and own.
-use Rattle.std.specs.Prelude.{◌≡◌, ℕ, Bool, true, false, not, ◌&&◌, ◌||◌, Some, None, List, [], ◌∷◌, slice_get}
+use Rattle.std.specs.Prelude.{◌≡◌, ◌⊎◌, ℕ, Bool, true, false, not, ◌&&◌, ◌||◌, Some, None, List, [], ◌∷◌, slice_get}
 use Rattle.std.specs.List.{list_any}
 use Rattle.std.specs.FinSet as set
 use Rattle.rlc_base.specs.declared.name_id.NameId.{NameId}
@@ -36,7 +36,7 @@ use Rattle.ledger_runs.specs.Choosing.{frame_steps}
 use Rattle.heap_laws.specs.Leading.{Leads}
 use Rattle.agreement.specs.PlainForms.{run_by}
 use Rattle.agreement.specs.Renewable.{IsFollowed}
-use Rattle.agreement.specs.PlaceFacts.{OwesOrHolds}
+use Rattle.agreement.specs.PlaceFacts.{OwesOrHolds, is_heavy_in}
 use Rattle.agreement.specs.Safety.{constructs_object}
 
 -- the names that the method promises to call on what the field of `this` holds
@@ -87,6 +87,16 @@ has_obligation p x = is_unmet x || is_heavy_class p x.class
 -- each such object that a field owns is such a content
 abbrev pub HaveContents : Program → List Frame → HeapContents → Type 0
 HaveContents p frs h = (o : ℕ) (x : Object) (w : ℕ) (f : FieldId) → object_at h o ≡ Some x → has_obligation p x ≡ true → x.owner ≡ owners.Field w f → IsContent p frs h o x w f
+
+-- the class declares the field
+abbrev pub IsFieldOfClass : Program → FieldId → ClassId → Type 0
+IsFieldOfClass p f c = (field : Field) × (field_at p f ≡ Some field) × (field.class ≡ c)
+
+-- Where an owning field whose type has an obligation holds an object whose class has one, the class of the field's object declares the field; and where this is finished, and the object may owe a call,
+-- or a field of it owns something, the field owns it, or the field's object is linked to it.
+abbrev pub FieldsOwn : Program → HeapContents → Type 0
+FieldsOwn p h = (w : ℕ) (y : Object) (f : FieldId) (o : ℕ) (x : Object) → object_at h w ≡ Some y → is_owning p f ≡ true → is_heavy_in p (Some f) ≡ true → root_of h (field_value p h w f) ≡ Some o
+    → object_at h o ≡ Some x → is_heavy_class p x.class ≡ true → IsFieldOfClass p f y.class × (y.finished ≡ true → OwesOrHolds p h o x → (x.owner ≡ owners.Field w f) ⊎ (root h w ≡ o))
 
 -- what fields own owning fields own, and it is followed
 abbrev pub OwningFieldsOwn : Program → HeapContents → Type 0

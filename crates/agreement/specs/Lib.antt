@@ -22,6 +22,7 @@ pub use Rattle.heap_laws.specs.Fitting
 pub use Rattle.place_laws.specs.FrameValues
 pub use Rattle.heap_laws.specs.Anew as HeapAnew
 pub use Rattle.heap_laws.specs.Heaps
+pub use Rattle.heap_laws.specs.Holders
 pub use Rattle.heap_laws.specs.Leading
 pub use Rattle.heap_laws.specs.LedgerCallsCalls
 pub use Rattle.ledger_runs.specs.Outcomes as LedgerRunsOutcomes

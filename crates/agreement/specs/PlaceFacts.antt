@@ -2,16 +2,17 @@
 -- a call, or of which a field owns something, is in a fact that a path brings to the frame's control, and where such a fact says that the object is owned, what it says is
 -- true. Of each object, one fact of a frame at most says that the frame owns it.
 use Rattle.std.specs.Prelude.{◌≡◌, ◌⊎◌, ℕ, ◌+◌, ◌<◌, Bool, true, false, not, ◌&&◌, ◌||◌, Option, Some, None, List, [], ◌∷◌, length, nat_lt, slice_get, if◌then◌else◌}
-use Rattle.std.specs.List.{list_any}
+use Rattle.std.specs.List.{list_all, list_any}
 use Rattle.std.specs.FinSet as set
 use Rattle.program_model.specs.declared.kinds.BodyId.{BodyId}
 use Rattle.program_model.specs.declared.kinds.ClassId.{ClassId}
 use Rattle.program_model.specs.declared.kinds.FieldId.{FieldId}
 use Rattle.program_model.specs.declared.kinds.MethodId.{MethodId}
+use Rattle.program_model.specs.declared.program.Field.{Field}
 use Rattle.program_model.specs.declared.program.Method.{Method}
 use Rattle.program_model.specs.declared.program.ParamSig.{ParamSig}
 use Rattle.program_model.specs.declared.program.Program.{Program}
-use Rattle.program_model.specs.Lookups.{method_at}
+use Rattle.program_model.specs.Lookups.{field_at, method_at}
 use Rattle.ownership_rules.specs.Bodies.{constructs}
 use Rattle.ownership_rules.specs.MustCallSets.{Names, fits, fits_type, is_empty, is_heavy_class, must_of, must_of_optional, no_names}
 use Rattle.ownership_rules.specs.Signatures.{field_type}
@@ -36,7 +37,7 @@ use Rattle.ledger_state.specs.declared.locals.Locals.{Locals}
 use Rattle.ledger_state.specs.declared.object.Object.{Object}
 use Rattle.ledger_state.specs.declared.value.Value.{Value}
 use Rattle.ledger_state.specs.declared.value.Value.TheVariants as values
-use Rattle.place_laws.specs.Obligations.{finished_in, is_held_by, is_library_owner}
+use Rattle.place_laws.specs.Obligations.{is_held_by, is_library_owner}
 use Rattle.heap_laws.specs.Places.{owning_field_beside, place_value}
 use Rattle.heap_laws.specs.LedgerCallsCalls.{operand_of}
 use Rattle.ledger_runs.specs.Configuration.{Frame}
@@ -44,7 +45,8 @@ use Rattle.ledger_runs.specs.Choosing.{body_id, frame_steps}
 use Rattle.place_laws.specs.Places.{HasPlacesAlone}
 use Rattle.agreement.specs.PlainForms.{is_lent_parameter}
 use Rattle.fact_laws.specs.Going.{is_in_this}
-use Rattle.agreement.specs.Renewing.{IsLentFrom, IsOwnedByThis, fact_as, is_renewed, makes_alone, was_renewed}
+use Rattle.heap_laws.specs.Holders.{HasTop, IsComparable}
+use Rattle.agreement.specs.Renewing.{IsLentFrom, IsOwnedByThis, fact_as, is_renewed, is_reread, makes_alone}
 
 -- the object is not finished yet, or the library does not own it. (What the library owns it owns for ever. An alias of null is the library's.)
 abbrev pub may_owe : Object → Bool
@@ -152,11 +154,6 @@ gives_away p h l a o c = is_taken_by p h l a o c (callee p a)
 abbrev pub is_given : Program → HeapContents → Frame → ℕ → ClassId → Bool
 is_given p h fr o c = list_any (λ s. gives_away p h fr.locals s.action o c) (frame_steps p fr)
 
--- the call that began a frame, where `frs` are the frames below it, gave it the object
-abbrev pub was_given : Program → HeapContents → List Frame → ℕ → ClassId → Bool
-was_given p h [] o c = false
-was_given p h (fr ∷ frs) o c = is_given p h fr o c
-
 -- ---- who owns an object
 
 -- the frame at position `j` owns it, or one above
@@ -177,39 +174,73 @@ is_frame_below j owners.Released = false
 is_frame_below j owners.Lost = false
 is_frame_below j owners.Unowned = false
 
--- a field of the object owns it
-abbrev pub is_field_of : Value → Owner → Bool
-is_field_of (values.Object w) owner = is_held_by owner w
-is_field_of v owner = false
-
 -- no frame above the position `n` owns anything
 abbrev pub OwnersBelow : HeapContents → ℕ → Type 0
 OwnersBelow h n = (o : ℕ) (x : Object) → object_at h o ≡ Some x → is_frame_from (n + 1) x.owner ≡ false
-
--- ---- what is known of an object
-
--- a field of `this` holds the object, and owns it, and the frame runs no constructor
-abbrev pub is_content : Program → Frame → Owner → Fact → Bool
-is_content p fr owner f = is_held f.mode && (not (constructs (method_at p fr.method)) && is_field_of fr.locals.this owner)
-
--- the frame did not begin with a call that creates the object's obligation anew; and a field of `this` holds the object, or the frame was not given it, or a frame
--- below owns it
-abbrev pub is_apart : Program → HeapContents → List Frame → Frame → ℕ → Object → Fact → Bool
-is_apart p h frs fr o x f =
-    not (was_renewed p h frs o) && (is_content p fr x.owner f || (not (was_given p h frs o x.class) || is_frame_below (length frs + 1) x.owner))
 
 -- one of these frames runs on the object
 abbrev pub RunsOn : ℕ → List Frame → Type 0
 RunsOn w [] = ⊥
 RunsOn w (fr ∷ frs) = (fr.locals.this ≡ values.Object w) ⊎ RunsOn w frs
 
--- where a field owns the object, the field's object is finished, or one of these frames runs on it
-abbrev pub HasOlderHolder : HeapContents → List Frame → Owner → Type 0
-HasOlderHolder h frs owner = (w : ℕ) → is_held_by owner w ≡ true → (finished_in (object_at h w) ≡ true) ⊎ RunsOn w frs
+-- The way up from the object ends below the frame that stands on these: no frame from that one on owns its end, and where this is not finished, one of these frames runs on it.
+pub record EndsBelow (h : HeapContents) (frs : List Frame) (o : ℕ) : Type 0 where
+  pub end : ℕ
+  pub top : HasTop h o end
+  pub below : is_frame_from (length frs + 1) top.object.owner ≡ false
+  pub older : top.object.finished ≡ false → RunsOn end frs
 
--- so it is with each object that has an obligation
-abbrev pub HoldersAreOlder : Program → HeapContents → List Frame → Type 0
-HoldersAreOlder p h frs = (o : ℕ) (x : Object) → object_at h o ≡ Some x → is_heavy_class p x.class ≡ true → HasOlderHolder h frs x.owner
+-- So it does, and one of the frames below owns its end, or this is not finished, and one of them runs on it.
+pub record EndsStrictly (h : HeapContents) (frs : List Frame) (o : ℕ) : Type 0 where
+  pub end : ℕ
+  pub top : HasTop h o end
+  pub below : (is_frame_below (length frs + 1) top.object.owner ≡ true) ⊎ ((top.object.finished ≡ false) × RunsOn end frs)
+
+-- ---- what a call spares
+
+-- the object is finished, and its class has an obligation
+abbrev pub IsHeavyObject : Program → Object → Type 0
+IsHeavyObject p x = (x.finished ≡ true) × (is_heavy_class p x.class ≡ true)
+
+-- the call at which the frame waits creates the obligation of no such object anew that is within this one, or that this one is within
+abbrev pub Spares : Program → HeapContents → Frame → ℕ → Type 0
+Spares p h fr o = (u : ℕ) (x : Object) → object_at h u ≡ Some x → IsHeavyObject p x → IsComparable h u o → is_renewed p h fr u ≡ false
+
+-- the call that began a frame, where `frs` are the frames below it, spares the object
+abbrev pub IsSpared : Program → HeapContents → List Frame → ℕ → Type 0
+IsSpared p h [] o = Unit {0}
+IsSpared p h (fr ∷ frs) o = Spares p h fr o
+
+-- a field of `this` owns the object, and the frame runs no constructor
+pub record IsContentOfThis (p : Program) (fr : Frame) (owner : Owner) : Type 0 where
+  pub holder : ℕ
+  pub field : FieldId
+  pub runs : fr.locals.this ≡ values.Object holder
+  pub owns : owner ≡ owners.Field holder field
+  pub method : constructs (method_at p fr.method) ≡ false
+
+-- ---- what is known of an object
+
+-- the class declares an owning field
+abbrev pub HasOwningField : Program → ClassId → Type 0
+HasOwningField p c = (f : FieldId) × (field : Field) × (field_at p f ≡ Some field) × (field.owning ≡ true) × (field.class ≡ c)
+
+-- the method, where there is one, takes no obligation by its parameters
+abbrev pub takes_nothing : Program → Option Method → Bool
+takes_nothing p None = true
+takes_nothing p (Some m) = list_all (λ x. is_lent_parameter p (Some x)) m.sig.params.items
+
+-- What was old when the frame began, of finished objects whose class has an obligation: their ways up end below the frame that stands on these still. What one of the frames below owns or makes, or has
+-- within what it does, was old; and so was what a field of `this` owns, in a method that takes no obligation.
+pub record IsOld (p : Program) (h : HeapContents) (frs : List Frame) (fr : Frame) (old : ℕ → Bool) : Type 0 where
+  pub there : (o : ℕ) → old o ≡ true → (x : Object) × (object_at h o ≡ Some x) × (x.finished ≡ true)
+  pub ends : (o : ℕ) (x : Object) → object_at h o ≡ Some x → IsHeavyObject p x → old o ≡ true → EndsBelow h frs o
+  pub strict : (o : ℕ) (x : Object) → object_at h o ≡ Some x → IsHeavyObject p x → EndsStrictly h frs o → old o ≡ true
+  pub contents : (o : ℕ) (x : Object) → object_at h o ≡ Some x → IsHeavyObject p x → IsContentOfThis p fr x.owner → takes_nothing p (method_at p fr.method) ≡ true → old o ≡ true
+
+-- The object was old when the frame began, and the call that began it spares it.
+abbrev pub IsApart : Program → HeapContents → (ℕ → Bool) → List Frame → Frame → ℕ → Owner → Fact → Type 0
+IsApart p h old frs fr o owner f = (old o ≡ true) × IsSpared p h frs o
 
 -- an owning field of `this` owns the object, and of `this`, its parts and its fields that field's place alone is among these
 abbrev pub IsInField : Program → Frame → PlaceSet → Owner → Type 0
@@ -221,17 +252,19 @@ abbrev pub is_owning_fact : Program → Origin → Fact → Bool
 is_owning_fact p o f = is_heavy_class p o.class && is_own f.mode
 
 -- A fact that a path brings to the frame's control stands for object `o`, which is `x`: all places of the fact hold the object. `frs` are the
--- frames below, `away` says that the call at which the frame waits gives the object away, and `anew` that it creates the object's obligation anew.
+-- frames below, `away` says that the call at which the frame waits gives the object away, `anew` that what the frame knows of it is read as after its obligation was created anew, and `old` what was old
+-- for the frame when it began.
 -- Where the fact says that the object is owned, that is true, as the fact is read while the frame waits, unless the frame owned it and it is given away. Where it says
--- in a constructor without an aliased argument that a field holds a finished object, it is not given away, its class has an obligation, and one of its places is that of the owning field that owns the
+-- in a constructor without an aliased argument that a field holds a finished object, and its class has an obligation, it is not given away, and one of its places is that of the owning field that owns the
 -- object, the one place of it that is `this`'s. Where it says that the object is lent, the call that began the frame creates the object's obligation anew,
--- and a frame that waits for such a call owns the object; it is not given away. Where it is the fact of `this` in a constructor, the object is not finished.
+-- and the way leads to a frame that waits for such a call and has the object in hand; it is not given away. Where it is the fact of `this` in a constructor, the object is not finished; else what is lent
+-- is finished, if its class has owning fields.
 -- Where the fact is that of a lent parameter, or of `this`, it says never that the frame owns an object with an obligation, and that a field holds it in a
--- constructor with an aliased argument alone. What it then knows to be called on a finished object was called, or was asked for before; so also where it says that a field holds it; if the
--- frame was not given the object: then neither this frame nor one above it owns the object, nor a field of what these make, it is not given away, and its obligation is not created anew.
+-- constructor with an aliased argument alone. What it then knows of a finished object to be called was called, or was asked for before, as the fact is read while the frame waits, where the object was old and the call
+-- that began the frame spares it; then the call at which the frame waits does not create its obligation anew.
 -- Where its class has an obligation, it is in owning fields alone whose types bound this. Where it is in an owning field whose type has one, or outside
 -- constructors in any, it says that the field holds it.
-pub record Covers (p : Program) (h : HeapContents) (away anew : Bool) (frs : List Frame) (fr : Frame) (o : ℕ) (x : Object) : Type 0 where
+pub record Covers (p : Program) (h : HeapContents) (away anew : Bool) (old : ℕ → Bool) (frs : List Frame) (fr : Frame) (o : ℕ) (x : Object) : Type 0 where
   pub body : BodyId
   pub id : body_id p fr.method ≡ Some body
   pub origin : Origin
@@ -239,60 +272,60 @@ pub record Covers (p : Program) (h : HeapContents) (away anew : Bool) (frs : Lis
   pub reached : Reach p body (relation_of p body) origin fr.control fact
   pub alone : HasPlacesAlone fact.places
   pub places : AllHold p h fr.method fr.locals o fact.places
-  pub true' : claims p (method_at p fr.method) origin fact ≡ true → (away && is_own fact.mode) ≡ false → IsTrueOf p x origin (fact_as anew fact)
+  pub true' : claims p (method_at p fr.method) origin fact ≡ true → (away && is_own fact.mode) ≡ false → IsTrueOf p x origin (fact_as (anew) fact)
   pub lent : is_lent p (method_at p fr.method) origin.kind ≡ true → (is_owning_fact p origin fact ≡ false)
       × (is_held fact.mode ≡ true → (constructs (method_at p fr.method) ≡ true) × (makes_alone (method_at p fr.method) ≡ false))
-  pub free : x.finished ≡ true → is_held fact.mode ≡ true → makes_alone (method_at p fr.method) ≡ true
-      → (away ≡ false) × (is_heavy_class p origin.class ≡ true) × IsInField p fr fact.places x.owner
+  pub free : x.finished ≡ true → is_held fact.mode ≡ true → makes_alone (method_at p fr.method) ≡ true → is_heavy_class p origin.class ≡ true
+      → (away ≡ false) × IsInField p fr fact.places x.owner
   pub lends : fact.mode ≡ modes.Lent → x.finished ≡ true → (away ≡ false) × IsLentFrom p h frs o x.owner
   pub makes : constructs (method_at p fr.method) ≡ true → is_this_origin origin.kind ≡ true → x.finished ≡ false
-  pub unrenewed : x.finished ≡ true → tells_calls p fr.method origin fact ≡ true → is_apart p h frs fr o x fact ≡ true → anew ≡ false
-  pub known : x.finished ≡ true → tells_calls p fr.method origin fact ≡ true → is_apart p h frs fr o x fact ≡ true
-      → (away ≡ false) × (is_frame_from (length frs + 1) x.owner ≡ false) × (set.is_subset fact.called (set.union (asked_of p (method_at p fr.method) origin.kind) x.called) ≡ true)
-      × HasOlderHolder h frs x.owner
+  pub complete : fact.mode ≡ modes.Lent → (constructs (method_at p fr.method) && is_this_origin origin.kind) ≡ false → HasOwningField p x.class → x.finished ≡ true
+  pub unrenewed : x.finished ≡ true → tells_calls p fr.method origin fact ≡ true → old o ≡ true → IsSpared p h frs o → anew ≡ false
+  pub known : x.finished ≡ true → tells_calls p fr.method origin fact ≡ true → IsApart p h old frs fr o x.owner fact → anew ≡ false
+      → set.is_subset fact.called (set.union (asked_of p (method_at p fr.method) origin.kind) x.called) ≡ true
   pub fields : (k : ℕ) → k < 16 → is_heavy_class p origin.class ≡ true → has fact.places (place.Field k) ≡ true → fits_field p fr.method k origin.class ≡ true
   pub held : (k : ℕ) → k < 16 → has fact.places (place.Field k) ≡ true → is_heavy_field p fr.method (place.Field k) ≡ true
       → (fact.mode ≡ modes.Held) × (is_heavy_class p origin.class ≡ true)
   pub outside : constructs (method_at p fr.method) ≡ false → (k : ℕ) → k < 16 → has fact.places (place.Field k) ≡ true → fact.mode ≡ modes.Held
 
 -- the place, which holds the object, is in a fact that claims nothing of it
-pub record IsUnowned (p : Program) (h : HeapContents) (away anew : Bool) (frs : List Frame) (fr : Frame) (q : Place) (o : ℕ) (x : Object) : Type 0 where
-  pub covers : Covers p h away anew frs fr o x
+pub record IsUnowned (p : Program) (h : HeapContents) (away anew : Bool) (old : ℕ → Bool) (frs : List Frame) (fr : Frame) (q : Place) (o : ℕ) (x : Object) : Type 0 where
+  pub covers : Covers p h away anew old frs fr o x
   pub here : has covers.fact.places q ≡ true
   pub unowned : claims p (method_at p fr.method) covers.origin covers.fact ≡ false
 
 -- The fact claims that the frame owns the object, or a field of `this`; where it says that the frame does, that is so unless it is given away; and no other fact claims
 -- anything of it: each place that holds the object is in this fact, or in one that does not.
-pub record IsOwned (p : Program) (h : HeapContents) (away anew : Bool) (frs : List Frame) (fr : Frame) (o : ℕ) (x : Object) (c : Covers p h away anew frs fr o x) : Type 0 where
+pub record IsOwned (p : Program) (h : HeapContents) (away anew : Bool) (old : ℕ → Bool) (frs : List Frame) (fr : Frame) (o : ℕ) (x : Object) (c : Covers p h away anew old frs fr o x) : Type 0 where
   pub owning : claims p (method_at p fr.method) c.origin c.fact ≡ true
   pub owner : away ≡ false → is_own c.fact.mode ≡ true → x.owner ≡ owners.Frame (length frs + 1)
-  pub others : (q : Place) → IsSmall q → root_of h (place_value p h fr.method fr.locals q) ≡ Some o → (has c.fact.places q ≡ true) ⊎ IsUnowned p h away anew frs fr q o x
+  pub others : (q : Place) → IsSmall q → root_of h (place_value p h fr.method fr.locals q) ≡ Some o → (has c.fact.places q ≡ true) ⊎ IsUnowned p h away anew old frs fr q o x
 
 -- the place is in such a fact
-pub data IsKeyed (p : Program) (h : HeapContents) (away anew : Bool) (frs : List Frame) (fr : Frame) (q : Place) (o : ℕ) (x : Object) : Type 0 where
-  owned : (c : Covers p h away anew frs fr o x) → has c.fact.places q ≡ true → IsOwned p h away anew frs fr o x c → IsKeyed p h away anew frs fr q o x
-  unowned : IsUnowned p h away anew frs fr q o x → IsKeyed p h away anew frs fr q o x
+pub data IsKeyed (p : Program) (h : HeapContents) (away anew : Bool) (old : ℕ → Bool) (frs : List Frame) (fr : Frame) (q : Place) (o : ℕ) (x : Object) : Type 0 where
+  owned : (c : Covers p h away anew old frs fr o x) → has c.fact.places q ≡ true → IsOwned p h away anew old frs fr o x c → IsKeyed p h away anew old frs fr q o x
+  unowned : IsUnowned p h away anew old frs fr q o x → IsKeyed p h away anew old frs fr q o x
 
 -- each place of the frame that holds an object whose class has an obligation, and that may owe a call, or of which a field owns something, is so. `gives` says which objects
--- are given away, and `renewed` of which the obligation is created anew
-abbrev pub IsCovered : Program → HeapContents → (ℕ → ClassId → Bool) → (ℕ → Bool) → List Frame → Frame → Type 0
-IsCovered p h gives renewed frs fr = (q : Place) (o : ℕ) (x : Object) → IsSmall q → root_of h (place_value p h fr.method fr.locals q) ≡ Some o → object_at h o ≡ Some x
-    → is_heavy_class p x.class ≡ true → OwesOrHolds p h o x → IsKeyed p h (gives o x.class) (renewed o) frs fr q o x
+-- are given away, and `renewed` which are read as objects whose obligation is created anew
+abbrev pub IsCovered : Program → HeapContents → (ℕ → ClassId → Bool) → (ℕ → Owner → Bool) → (ℕ → Bool) → List Frame → Frame → Type 0
+IsCovered p h gives renewed old frs fr = (q : Place) (o : ℕ) (x : Object) → IsSmall q → root_of h (place_value p h fr.method fr.locals q) ≡ Some o → object_at h o ≡ Some x
+    → is_heavy_class p x.class ≡ true → OwesOrHolds p h o x → IsKeyed p h (gives o x.class) (renewed o x.owner) old frs fr q o x
 
 -- the top frame gives nothing away
 abbrev pub gives_none : ℕ → ClassId → Bool
 gives_none o c = false
 
 -- and creates no obligation anew
-abbrev pub renews_none : ℕ → Bool
-renews_none o = false
+abbrev pub renews_none : ℕ → Owner → Bool
+renews_none o owner = false
 
--- the frames that wait
-abbrev pub AreWaiting : Program → HeapContents → List Frame → Type 0
-AreWaiting p h [] = Unit {0}
-AreWaiting p h (fr ∷ frs) = IsCovered p h (is_given p h fr) (is_renewed p h fr) frs fr × AreWaiting p h frs
+-- The frames that wait, where `above` was old for the frame above them: what was old for one of them is so for the one above.
+abbrev pub AreWaiting : Program → HeapContents → (ℕ → Bool) → List Frame → Type 0
+AreWaiting p h above [] = Unit {0}
+AreWaiting p h above (fr ∷ frs) = (old : ℕ → Bool) × ((o : ℕ) → old o ≡ true → above o ≡ true) × IsOld p h frs fr old × IsCovered p h (is_given p h fr) (is_reread p h fr) old frs fr × AreWaiting p h old frs
 
 -- the top frame, those that wait, and no frame above owns anything
 abbrev pub AreCovered : Program → HeapContents → List Frame → Type 0
 AreCovered p h [] = Unit {0}
-AreCovered p h (fr ∷ frs) = IsCovered p h gives_none renews_none frs fr × AreWaiting p h frs × OwnersBelow h (length frs + 1)
+AreCovered p h (fr ∷ frs) = (old : ℕ → Bool) × IsOld p h frs fr old × IsCovered p h gives_none renews_none old frs fr × AreWaiting p h old frs × OwnersBelow h (length frs + 1)

@@ -1,4 +1,4 @@
--- The forms of steps and calls that the laws on safety speak of: no object with owning fields creates its own obligation anew.
+-- The forms of steps and calls that the laws on safety speak of: no constructor of a class with owning fields creates the obligation of its object anew.
 use Rattle.std.specs.Prelude.{◌≡◌, ℕ, Bool, true, false, not, ◌&&◌, ◌||◌, ◌⊎◌, Option, Some, None, List, slice_get}
 use Rattle.std.specs.List.{All, list_all, list_any}
 use Rattle.std.specs.FinSet as set
@@ -23,7 +23,7 @@ use Rattle.program_model.specs.Lookups.{body_at, field_at, method_at}
 use Rattle.program_model.specs.Overrides.{are_types, is_abstract, is_library}
 use Rattle.program_model.specs.SuperTests.{has_class, is_under}
 use Rattle.program_model.specs.Validity.{is_class_type}
-use Rattle.ownership_rules.specs.Bodies.{alias_in, constructs, has_field_place, is_class_of, is_constructor, is_constructor_kind, reset_in, resets_this}
+use Rattle.ownership_rules.specs.Bodies.{alias_in, constructs, has_field_place, is_class_of, is_constructor, is_constructor_kind, reset_in}
 use Rattle.ownership_rules.specs.MustCallSets.{Names, is_empty, must_of, must_of_type}
 use Rattle.must_call_sets.specs.OwningCases.{gives_as_alias}
 use Rattle.ownership_rules.specs.OverrideCases.{has_other_owning, has_other_result, has_wider_result}
@@ -153,9 +153,9 @@ abbrev pub all_owe_nothing : Program → Option VType → Bool
 all_owe_nothing p (Some (types.Obj c)) = not (is_under p p.core.string c) && list_all (λ (k : Class). not (has_class k.above.items c) || owes_nothing p k) p.classes.items
 all_owe_nothing p t = false
 
--- A call that creates an obligation anew, at the control `k`, does so of `this` only in a body in which no owning field has a place.
+-- A call that creates an obligation anew, at the control `k` of a constructor, does so of `this` only where no owning field has a place.
 pub record IsPlainReset (p : Program) (b : BodyId) (k : List Todo) (a : Action) : Type 0 where
-  pub other : is_reset_of_this p a ≡ true → (f : FieldId) → has_field_place p b f ≡ false
+  pub constructor : is_constructor p b ≡ true → is_reset_of_this p a ≡ true → (f : FieldId) → has_field_place p b f ≡ false
 
 -- the action at the control creates no obligation anew, or does so plainly
 abbrev pub ResetsPlainly : Program → BodyId → List Todo → Action → Type 0
@@ -167,8 +167,7 @@ IsTextUpdate p b f through_this = (through_this ≡ true) × (declares_field p b
 
 -- Each step that a control of a body can reach has one of the plain forms; owning fields are stored by `=` in constructors of the class that
 -- declares them, and otherwise by `+=` on texts alone; no super constructor is called behind such a store; no class with owning fields is the one whose constructor is called so; and
--- objects with owning fields run their own must-call methods. A method in which an owning field has a place creates the obligation of `this` not anew, and where bodies call what
--- creates one anew, they do so plainly.
+-- objects with owning fields run their own must-call methods. Where bodies call what creates an obligation anew, they do so plainly.
 pub record HasPlainForms (p : Program) : Type 0 where
   pub steps : (b : BodyId) {k : List Todo} (i : ℕ) (t : Move (List Todo)) → Comes (relation_of p b) k
       → slice_get ((relation_of p b).next k) i ≡ Some t → IsPlainAction p t.action
@@ -184,6 +183,5 @@ pub record HasPlainForms (p : Program) : Type 0 where
       → slice_get ((relation_of p b).next k) i ≡ Some t → calls_constructor p t.action ≡ true → called_method t.action ≡ Some m → field_at p f ≡ Some x → x.owning ≡ true
       → is_class_of x.class (method_at p m) ≡ false
   pub own : RunsOwnMethods p
-  pub bodies : (b : BodyId) → resets_this p b ≡ true → (f : FieldId) → has_field_place p b f ≡ false
   pub resets : (b : BodyId) {k : List Todo} (i : ℕ) (t : Move (List Todo)) → Comes (relation_of p b) k
       → slice_get ((relation_of p b).next k) i ≡ Some t → ResetsPlainly p b k t.action

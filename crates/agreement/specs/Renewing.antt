@@ -11,15 +11,18 @@ use Rattle.program_model.specs.Lookups.{field_at, method_at}
 use Rattle.ownership_rules.specs.Bodies.{alias_in, constructs, is_class_of, reset_in}
 use Rattle.ownership_rules.specs.Signatures.{is_present}
 use Rattle.ownership_rules.specs.Callees.{callee}
-use Rattle.ownership_rules.specs.MustCallSets.{no_names}
+use Rattle.ownership_rules.specs.MustCallSets.{is_heavy_class, no_names}
 use Rattle.java_control.specs.declared.action.Action.{Action}
 use Rattle.java_control.specs.declared.fact.Fact.{Fact}
 use Rattle.ledger_state.specs.Contents.{HeapContents}
-use Rattle.ledger_state.specs.Heaps.{root_of, same_root}
+use Rattle.ledger_state.specs.Heaps.{object_at, root_of, same_root}
 use Rattle.ledger_state.specs.declared.entry.Owner.{Owner}
 use Rattle.ledger_state.specs.declared.entry.Owner.TheVariants as owners
 use Rattle.ledger_state.specs.declared.locals.Locals.{Locals}
+use Rattle.ledger_state.specs.declared.object.Object.{Object}
+use Rattle.ledger_state.specs.declared.value.Value.{Value}
 use Rattle.ledger_state.specs.declared.value.Value.TheVariants as values
+use Rattle.place_laws.specs.Obligations.{is_held_by}
 use Rattle.heap_laws.specs.LedgerCallsCalls.{operand_of}
 use Rattle.ledger_runs.specs.Configuration.{Frame}
 use Rattle.ledger_runs.specs.Choosing.{frame_steps}
@@ -43,6 +46,16 @@ is_renewed p h fr o = list_any (λ s. renews p h fr.locals s.action o) (frame_st
 abbrev pub was_renewed : Program → HeapContents → List Frame → ℕ → Bool
 was_renewed p h [] o = false
 was_renewed p h (fr ∷ frs) o = is_renewed p h fr o
+
+-- a field of the object owns what has this owner
+abbrev pub is_field_of : Value → Owner → Bool
+is_field_of (values.Object w) owner = is_held_by owner w
+is_field_of v owner = false
+
+-- What the frame knows of object `o` is read anew: the call at which it waits creates the object's obligation anew. (What a field of `this` owns, where the call creates that of `this` anew,
+-- needs no such reading: nothing is known of it.)
+abbrev pub is_reread : Program → HeapContents → Frame → ℕ → Owner → Bool
+is_reread p h fr o owner = is_renewed p h fr o
 
 -- ---- the facts of a frame that waits for such a call
 
@@ -75,9 +88,28 @@ pub record IsOwnedByThis (p : Program) (fr : Frame) (owner : Owner) : Type 0 whe
 abbrev pub IsHeldBy : Program → Frame → Owner → Type 0
 IsHeldBy p fr owner = (makes_alone (method_at p fr.method) ≡ true) × IsOwnedByThis p fr owner
 
--- A frame, where `frs` are the frames below it, began with a call that creates the obligation of object `o` anew: the frame that waits for this call owns
--- the object, or it began with such a call itself, and so on down to the owner, or the frame is a constructor that has the object in a field of `this`.
+-- A field of `this` of the frame, which runs no constructor, owns the object; and `this`, which is finished and linked to none, and whose class has an obligation, is lent to the frame, as
+-- `lent` says of its number and its owner.
+pub record IsHeldByLent (p : Program) (h : HeapContents) (lent : ℕ → Owner → Type 0) (fr : Frame) (owner : Owner) : Type 0 where
+  pub holder : ℕ
+  pub field : FieldId
+  pub owns : owner ≡ owners.Field holder field
+  pub runs : fr.locals.this ≡ values.Object holder
+  pub method : constructs (method_at p fr.method) ≡ false
+  pub object : Object
+  pub at : object_at h holder ≡ Some object
+  pub finished : object.finished ≡ true
+  pub unlinked : object.link ≡ None
+  pub heavy : is_heavy_class p object.class ≡ true
+  pub lends : lent holder object.owner
+
+-- The frame, at position `n`, may have the obligation of an object with this number and this owner created anew: it owns it, or has it lent; or a field of `this` owns it, in a
+-- constructor, or where `this` is lent to the frame.
+abbrev pub HasInHand : Program → HeapContents → (ℕ → Owner → Type 0) → ℕ → Frame → ℕ → Owner → Type 0
+HasInHand p h lent n fr o owner = (owner ≡ owners.Frame n) ⊎ (lent o owner ⊎ (IsHeldBy p fr owner ⊎ IsHeldByLent p h lent fr owner))
+
+-- A frame, where `frs` are the frames below it, began with a call that creates the obligation of object `o` anew: the frame that waits for this call has the object in hand.
+-- So the way leads down the stack, and up to the object whose field owns it, until a frame owns the object, or has it in a field of the object that its constructor makes.
 abbrev pub IsLentFrom : Program → HeapContents → List Frame → ℕ → Owner → Type 0
 IsLentFrom p h [] o owner = ⊥
-IsLentFrom p h (fr ∷ frs) o owner =
-    (is_renewed p h fr o ≡ true) × ((owner ≡ owners.Frame (length frs + 1)) ⊎ (IsLentFrom p h frs o owner ⊎ IsHeldBy p fr owner))
+IsLentFrom p h (fr ∷ frs) o owner = (is_renewed p h fr o ≡ true) × HasInHand p h (IsLentFrom p h frs) (length frs + 1) fr o owner

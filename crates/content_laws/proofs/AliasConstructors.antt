@@ -24,7 +24,7 @@ use Rattle.ledger_obligations.specs.Obligations.{is_the_one, own_promises}
 use Rattle.covering_laws.specs.Leading.{CallsOnField}
 use Rattle.covering_laws.proofs.AliasConducts.{argument_has_names, gives_object, one_name}
 use Rattle.content_laws.proofs.Ends.{same_name}
-use Rattle.content_laws.proofs.Finalizers.{is_promised, owned_names}
+use Rattle.covering_laws.proofs.Finalizers.{is_promised, owned_names}
 use Rattle.content_laws.proofs.Promised.{promises_its_own}
 
 module _ (p : Program) (ac : Accept p) (m : MethodId) (d : Method) (k : ℕ) (at : method_at p m ≡ Some d) (alias : d.sig.alias ≡ Some k) (new : is_constructor_kind d.kind ≡ true) where

@@ -154,7 +154,7 @@ bound_when h (Some m) l u v o new alias root argument =
     (ap (λ (k : Option ℕ). same_root (root_of h u) (root_of_number h (object_by (parameter l) k))) alias ∙ ap (λ (r : Option ℕ). same_root r (root_of_number h (number_of (variable_value l v)))) root
     ∙ ap (same_root (Some o)) (number_root h (variable_value l v) ∙ argument) ∙ eq-eqb o o refl)
 
-module _ (p : Program) (ac : Accept p) (forms' : HasPlainForms p) (h : HeapContents) (fr : Frame) (frs : List Frame) (st : Stands p fr) (links : HasEarlierLinks h) (covered : IsCovered p h gives_none renews_none frs fr)
+module _ (p : Program) (ac : Accept p) (forms' : HasPlainForms p) (h : HeapContents) (fr : Frame) (frs : List Frame) (st : Stands p fr) (links : HasEarlierLinks h) (old : ℕ → Bool) (covered : IsCovered p h gives_none renews_none old frs fr)
     (hold : FieldsHold p (fr ∷ frs) h) (i : ℕ) (s : Step) (here : slice_get (frame_steps p fr) i ≡ Some s) (f : FieldId) (d : ℕ) (is : s.action ≡ actions.PutOwn f d) (w : ℕ)
     (this : fr.locals.this ≡ values.Object w) (self : Object) (self_at : object_at h w ≡ Some self) (standing : AllStand p frs) (called : IsCalledFrom p h fr frs)
     (bounded : (o : ℕ) (x : Object) → object_at h o ≡ Some x → x.link ≡ None → is_unmet x ≡ true → (t : VType) → may_move p t x ≡ true → set.is_subset x.must (must_of p x.class) ≡ true) where
@@ -287,7 +287,7 @@ module _ (p : Program) (ac : Accept p) (forms' : HasPlainForms p) (h : HeapConte
   pub heavy_is_bound : (a : ℕ) → alias_in (method_at p fr.method) ≡ Some a → (o : ℕ) (x : Object) → object_at h o ≡ Some x → is_heavy_class p x.class ≡ true → IsMovedIn p h f v o x → bound ≡ true
   heavy_is_bound zero alias o x at heavy moved =
       let root : root_of h fr.locals.this ≡ Some o =
-      this_alone p ac forms' h frs fr st covered i d s f o x here is constructor (alias_is ∙ alias)
+      this_alone p ac forms' h old frs fr st covered i d s f o x here is constructor (alias_is ∙ alias)
       (heavy_field_by p f field declared.1 x.class heavy (type_bound o x moved))
       moved.root at heavy (inl (not_the_librarys_owes x (may_library p (type_of_field (field_at p f)) x moved.may))) in
       let same : w ≡ o = (let both : Some w ≡ Some o = sym (ap (root_of h) this ∙ unlinked_root h links w self self_at unfinished) ∙ root in (let one : w ≡ o = cc in one)) in
@@ -295,7 +295,7 @@ module _ (p : Program) (ac : Accept p) (forms' : HasPlainForms p) (h : HeapConte
       absurd (true≢false (sym (may_finished p (type_of_field (field_at p f)) x moved.may) ∙ ap (λ (z : Object). z.finished) (sym one) ∙ unfinished))
   heavy_is_bound (suc a) alias o x at heavy moved =
       bound_when h (method_at p fr.method) fr.locals v a o constructor alias moved.root
-      (argument_alone p ac forms' h frs fr st covered i d s f o x a here is constructor (alias_is ∙ alias)
+      (argument_alone p ac forms' h old frs fr st covered i d s f o x a here is constructor (alias_is ∙ alias)
       (heavy_field_by p f field declared.1 x.class heavy (type_bound o x moved))
       moved.root at heavy (inl (not_the_librarys_owes x (may_library p (type_of_field (field_at p f)) x moved.may))))
 

@@ -1,21 +1,28 @@
 -- The end of a frame and of the call at which the frame below waits.
-use Rattle.covering_laws.specs.Renewing.{is_renewed}
+use Rattle.covering_laws.specs.Renewing.{is_renewed, renews_at}
+use Rattle.covering_laws.specs.Outcomes.{IsCallRow}
+use Rattle.covering_laws.specs.Callees.{callee_in}
+use Rattle.covering_laws.proofs.WaitingTargets.{renewed_at_step}
+use Rattle.content_laws.proofs.MustCallMethods.{must_call_resets_none}
 use Rattle.std.specs.Prelude.{not}
 use Rattle.std.specs.FinSet as set
-use Rattle.std.proofs.Common.{inl, ◌≡◌, ℕ, Bool, true, false, true≢false, Option, Some, None, List, ◌∷◌, slice_get, refl, sym, ap, ◌∙◌, inr, eq-eqb}
+use Rattle.std.specs.List.{list_all}
+use Rattle.std.proofs.Common.{inl, ◌≡◌, ℕ, Bool, true, false, true≢false, Option, Some, None, IsSomeAnd, Contains, List, ◌∷◌, slice_get, refl, sym, ap, ◌∙◌, inr, eq-eqb}
 use Rattle.rlc_base.proofs.SetLaws.{within_trans}
 use Rattle.rlc_base.specs.declared.name_id.NameId.{NameId}
 use Rattle.program_model.specs.declared.kinds.ClassId.{ClassId}
 use Rattle.program_model.specs.declared.kinds.FieldId.{FieldId}
 use Rattle.program_model.specs.declared.kinds.MethodId.{MethodId}
+use Rattle.program_model.specs.declared.program.Class.{Class}
 use Rattle.program_model.specs.declared.program.Field.{Field}
 use Rattle.program_model.specs.declared.program.Method.{Method}
+use Rattle.program_model.specs.declared.program.ParamSig.{ParamSig}
 use Rattle.program_model.specs.declared.program.Program.{Program}
-use Rattle.program_model.specs.Lookups.{field_at, method_at}
+use Rattle.program_model.specs.Lookups.{class_at, field_at, method_at}
 use Rattle.program_model.specs.SuperTests.{is_class, is_under}
-use Rattle.must_call_sets.specs.Bodies.{constructs, has_field_place, is_constructor_kind, is_field_in, is_finalizer, is_finalizer_in, method_in, method_of}
+use Rattle.must_call_sets.specs.Bodies.{constructs, has_field_place, is_constructor_kind, is_field_in, is_finalizer, is_finalizer_in, method_in, method_of, reset_in}
 use Rattle.must_call_sets.specs.MustCallSets.{is_empty, is_heavy_class, must_of, must_of_optional, must_of_type, no_names}
-use Rattle.must_call_sets.specs.Signatures.{type_of_field}
+use Rattle.must_call_sets.specs.Signatures.{has_name, type_of_field}
 use Rattle.java_control.specs.Calls.{called_method}
 use Rattle.java_control.specs.Control.{Step}
 use Rattle.java_control.specs.Owned.{is_owning_field}
@@ -26,23 +33,22 @@ use Rattle.ledger_state.specs.Classes.{class_in}
 use Rattle.ledger_state.specs.Contents.{HeapContents}
 use Rattle.ledger_state.specs.Heaps.{object_at}
 use Rattle.ledger_state.specs.Values.{number_of}
-use Rattle.ledger_state.specs.declared.entry.Owner.{Owner}
 use Rattle.ledger_state.specs.declared.entry.Owner.TheVariants as owners
 use Rattle.ledger_state.specs.declared.object.Object.{Object}
 use Rattle.ledger_state.specs.declared.value.Value.{Value}
 use Rattle.ledger_state.specs.declared.value.Value.TheVariants as values
-use Rattle.ledger_obligations.specs.Obligations.{is_held_by, is_library_owner}
+use Rattle.ledger_obligations.specs.Obligations.{is_library_owner}
 use Rattle.ledger_steps.specs.LedgerCallsCalls.{operand_of}
 use Rattle.covering_laws.specs.Configuration.{Frame}
 use Rattle.covering_laws.specs.Choosing.{frame_steps}
 use Rattle.covering_laws.specs.Agreement.{HasMadeClasses, Stands}
-use Rattle.covering_laws.specs.PlainForms.{HasPlainForms, may_be_made, run_by}
+use Rattle.covering_laws.specs.PlainForms.{HasPlainForms, is_lent_parameter, may_be_made, run_by}
 use Rattle.covering_laws.specs.Heaps.{GoesOn}
 use Rattle.covering_laws.specs.Covering.{HoldsHeavy}
 use Rattle.covering_laws.proofs.CoveredFieldLaws.{promises_are_kept_at_end}
 use Rattle.covering_laws.proofs.Names.{of_interest}
 use Rattle.covering_laws.specs.FieldContents.{IsContent, IsDispatched, promised_on}
-use Rattle.covering_laws.specs.PlaceFacts.{IsCovered, gives_none, renews_none, is_field_of, is_heavy_in}
+use Rattle.covering_laws.specs.PlaceFacts.{IsCovered, IsOld, IsSpared, gives_none, is_heavy_in, renews_none, takes_nothing}
 use Rattle.content_laws.proofs.Goes.{not_the_librarys_owes}
 use Rattle.content_laws.specs.Going.{IsNotedBy}
 
@@ -79,16 +85,17 @@ same_name a b same = ap (λ (k : ℕ). (let z : NameId = record { 0 = k } in z))
 
 -- ---- the promise of the method that ends
 
-module _ (p : Program) (ac : Accept p) (forms' : HasPlainForms p) (h : HeapContents) (fr caller : Frame) (frs : List Frame) (st : Stands p fr) (covered : IsCovered p h gives_none renews_none (caller ∷ frs) fr)
-    (i : ℕ) (s : Step) (q : Completion) (here : slice_get (frame_steps p fr) i ≡ Some s) (is : s.action ≡ actions.End q) (j : ℕ) (t : Step) (there : slice_get (frame_steps p caller) j ≡ Some t)
+module _ (p : Program) (ac : Accept p) (forms' : HasPlainForms p) (h : HeapContents) (fr caller : Frame) (frs : List Frame) (st : Stands p fr) (below : Stands p caller) (old : ℕ → Bool) (aged : IsOld p h (caller ∷ frs) fr old)
+    (covered : IsCovered p h gives_none renews_none old (caller ∷ frs) fr)
+    (i : ℕ) (s : Step) (q : Completion) (here : slice_get (frame_steps p fr) i ≡ Some s) (is : s.action ≡ actions.End q) (j : ℕ) (t : Step) (there : slice_get (frame_steps p caller) j ≡ Some t) (row : IsCallRow t.action)
     (named : MethodId) (n : Method) (called : called_method t.action ≡ Some named) (named_at : method_at p named ≡ Some n) (dispatched : IsDispatched p h fr caller) (made : HasMadeClasses p h) where
-  pub promise_is_kept : (o : ℕ) (x y : Object) (w : ℕ) (f : FieldId) → object_at h o ≡ Some x → is_heavy_class p x.class ≡ true → x.finished ≡ true → is_renewed p h caller o ≡ false → GoesOn x y → x.owner ≡ owners.Field w f → (content : IsContent p (fr ∷ caller ∷ frs) h o x w f)
+  pub promise_is_kept : (o : ℕ) (x y : Object) (w : ℕ) (f : FieldId) → object_at h o ≡ Some x → is_heavy_class p x.class ≡ true → x.finished ≡ true → GoesOn x y → x.owner ≡ owners.Field w f → (content : IsContent p (fr ∷ caller ∷ frs) h o x w f)
       → (m : MethodId) (d : Method) (name : NameId) → method_at p m ≡ Some d → d.class ≡ content.holder.class → d.sig.interest ≡ Some name
       → set.contains (must_of p content.holder.class) name.0 ≡ true → IsNotedBy caller.locals t.action (Some n) w name.0 → set.is_subset (promised_on f d) y.called ≡ true
-  promise_is_kept o x y w f at heavy done still goes owner content m d name there' class interest must noted =
+  promise_is_kept o x y w f at heavy done goes owner content m d name there' class interest must noted =
       within_trans (promised_on f d) x.called y.called
-      (promises_are_kept_at_end p ac h (caller ∷ frs) fr st covered i s q d f w o x here is method no_constructor place (inr finalizer) (holds_heavy p h (fr ∷ caller ∷ frs) fr o x w f content at heavy owner run.2)
-      (still, inr (inr (no_constructor, owned)))
+      (promises_are_kept_at_end p ac h (caller ∷ frs) fr st old covered i s q d f w o x here is method no_constructor place (inr finalizer) (holds_heavy p h (fr ∷ caller ∷ frs) fr o x w f content at heavy owner run.2)
+      (was_old, spared)
       done)
       goes.called
     where
@@ -97,10 +104,6 @@ module _ (p : Program) (ac : Accept p) (forms' : HasPlainForms p) (h : HeapConte
 
       run : (fr.method ≡ run_by p named content.holder.class) × (is_under p content.holder.class n.class ≡ true) × (fr.locals.this ≡ values.Object w)
       run = dispatched j t named n w content.holder there called named_at noted.chosen target content.at
-
-      -- the field owns it
-      owned : is_field_of fr.locals.this x.owner ≡ true
-      owned = ap (λ (v : Value). is_field_of v x.owner) run.2 ∙ ap (λ (a : Owner). is_held_by a w) owner ∙ eq-eqb w w refl
 
       named_interest : n.sig.interest ≡ Some name
       named_interest = noted.interest ∙ ap Some (same_name noted.name name noted.number)
@@ -116,9 +119,35 @@ module _ (p : Program) (ac : Accept p) (forms' : HasPlainForms p) (h : HeapConte
       method : method_at p fr.method ≡ Some d
       method = ap (method_at p) runs ∙ there'
 
-      -- a method of interest is no constructor
+      -- a method of interest is no constructor, and has no parameters
       no_constructor : constructs (method_at p fr.method) ≡ false
       no_constructor = ap constructs method ∙ ap is_constructor_kind (of_interest p ac.well_formed m d name there' interest).instance
+
+      takes : takes_nothing p (method_at p fr.method) ≡ true
+      takes = ap (takes_nothing p) method ∙ ap (list_all (λ (a : ParamSig). is_lent_parameter p (Some a))) (of_interest p ac.well_formed m d name there' interest).bare
+
+      -- so what the field owns was old when the method began
+      was_old : old o ≡ true
+      was_old = aged.contents o x at (done, heavy) (record { holder = w; field = f; runs = run.2; owns = owner; method = no_constructor }) takes
+
+      -- and the call creates nothing anew
+      class_there : (k : Class) × (class_at p content.holder.class ≡ Some k)
+      class_there = go (class_at p d.class) refl (ac.well_formed.valid.typed.methods m d there').listed
+        where
+          go : (z : Option Class) → class_at p d.class ≡ z → IsSomeAnd z (λ k. Contains k.methods.items m) → (k : Class) × (class_at p content.holder.class ≡ Some k)
+          go None none listed = absurd listed
+          go (Some z) some listed = (z, ap (class_at p) (sym class) ∙ some)
+
+      resets_none : n.sig.reset ≡ None
+      resets_none = must_call_resets_none p ac named n content.holder.class class_there.0 named_at class_there.1 run.1 (ap (has_name (must_of p content.holder.class)) named_interest ∙ must)
+
+      spared : IsSpared p h (caller ∷ frs) o
+      spared u z there'' heavy' comes = go (is_renewed p h caller u) refl
+        where
+          go : (b : Bool) → is_renewed p h caller u ≡ b → is_renewed p h caller u ≡ false
+          go false still = still
+          go true renewed = absurd (true≢false (sym (renewed_at_step p h caller below j t u there row renewed)
+              ∙ ap (λ (r : Option ℕ). renews_at h caller.locals t.action u r) (ap reset_in (ap (callee_in p) called ∙ named_at) ∙ resets_none)))
 
       body_method : method_of p st.number ≡ Some d
       body_method = ap (method_in p) st.at ∙ ap (method_at p) st.method ∙ method

@@ -70,7 +70,7 @@ use Rattle.covering_laws.proofs.HeapLaws.{roots_of_links-itself, roots_of_links-
 use Rattle.covering_laws.proofs.Root.{each_under_object}
 use Rattle.covering_laws.proofs.Texts.{above_light, above_object, texts_lead_to_texts}
 use Rattle.covering_laws.proofs.ValueTypeLaws.{argument_is_no_object, stored_value_is_no_object}
-use Rattle.content_laws.proofs.Finalizers.{none_at, parts_empty, well_shaped}
+use Rattle.covering_laws.proofs.Finalizers.{none_at, parts_empty, well_shaped}
 
 -- ---- lists
 

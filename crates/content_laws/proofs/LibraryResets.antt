@@ -1,7 +1,9 @@
 -- A call of the library that creates an obligation anew, beside the same call without its reset.
+use Rattle.covering_laws.proofs.ResetsUp.{IsTestedTarget, library_reset_rises}
+use Rattle.covering_laws.specs.Holders.{HoldersAreUnlinked}
 use Rattle.covering_laws.proofs.Links.{library_evolves}
 use Rattle.std.specs.Prelude.{◌&&◌, nat_lt, not, if◌then◌else◌}
-use Rattle.std.proofs.Common.{◌≡◌, inl, inr, ℕ, zero, suc, Bool, true, false, true≢false, Option, Some, None, List, option_map, refl, sym, ap, ◌∙◌, subst}
+use Rattle.std.proofs.Common.{Bool, List, None, Option, Some, ap, false, inl, inr, option_map, refl, subst, suc, sym, true, true≢false, zero, ℕ, ◌∙◌, ◌≡◌, ◌⊎◌}
 use Rattle.std.proofs.lemmas.Bool.{and_parts}
 use Rattle.program_model.specs.declared.kinds.FieldId.{FieldId}
 use Rattle.program_model.specs.declared.program.Method.{Method}
@@ -30,7 +32,7 @@ use Rattle.covering_laws.proofs.HeapLaws.{root_of_changed, roots_of_links-itself
 use Rattle.covering_laws.specs.Chains.{Ends, HaveEnds, IsLast, ends_here, of_field}
 use Rattle.covering_laws.specs.HeapAnew.{HasNoHolder, is_anew, target_root}
 use Rattle.covering_laws.specs.Heaps.{HasEarlierLinks, IsOlder}
-use Rattle.must_call_sets.specs.MustCallSets.{must_of}
+use Rattle.must_call_sets.specs.MustCallSets.{is_heavy_class, must_of}
 use Rattle.covering_laws.proofs.Emptied.{as_it_was, emptied_root, fresh_stays}
 use Rattle.covering_laws.proofs.Growth.{library_grows}
 use Rattle.covering_laws.proofs.LibraryCallLaws.{emptied_objects, emptied_roots-root}
@@ -56,7 +58,8 @@ unready_holder h w f none = go (finished_in (object_at h w)) refl none
     go true done some = absurd (let never : Some w ≡ None = some in cc)
     go false unready is = unready
 
-module _ (p : Program) (l : Locals) (a : Action) (m r : Option Method) (d : Conduct) (i : ℕ) (h : HeapContents) (held : List (List Value)) (links : HasEarlierLinks h) (free : HasNoHolder h (target_root h l a m)) (ends : HaveEnds h) where
+module _ (p : Program) (l : Locals) (a : Action) (m r : Option Method) (d : Conduct) (i : ℕ) (h : HeapContents) (held : List (List Value)) (links : HasEarlierLinks h) (ends : HaveEnds h)
+    (unlinked' : HoldersAreUnlinked (is_heavy_class p) h) (tops : IsTestedTarget p l a m r d h links (is_heavy_class p) unlinked' ⊎ HasNoHolder h (target_root h l a m)) where
   abbrev plain : HeapContents
   plain = library_heap p l a (without_reset m) r d i h
 
@@ -130,8 +133,8 @@ module _ (p : Program) (l : Locals) (a : Action) (m r : Option Method) (d : Cond
     }
 
     -- a field of no finished object owns it
-    no_holder_of : anew n ≡ true → x.link ≡ None → (w : ℕ) (f : FieldId) → x.owner ≡ owners.Field w f → finished_in (object_at plain w) ≡ false
-    no_holder_of is none w f owner =
+    no_holder_of : HasNoHolder h (target_root h l a m) → anew n ≡ true → x.link ≡ None → (w : ℕ) (f : FieldId) → x.owner ≡ owners.Field w f → finished_in (object_at plain w) ≡ false
+    no_holder_of free is none w f owner =
         let was = was_there is in
         let root_is : target_root h l a m ≡ Some n =
         emptied_roots-root p l a m r d h n was.before links free was.at is ∙ ap Some (roots_of_links-itself h n was.before was.at (sym was.goes_on.link ∙ none)) in
@@ -143,6 +146,12 @@ module _ (p : Program) (l : Locals) (a : Action) (m r : Option Method) (d : Cond
               let later = library_evolves p l a (without_reset m) r d i h (says_nothing m) w holder.0 holder.1 in
               ap finished_in later.1 ∙ later.2.finished ∙ sym (ap finished_in holder.1) ∙ unready_holder h w f (sym (ap (finished_holder h) held) ∙ free n was.before root_is was.at))
         ]
+
+  -- with each root that the reset reaches it reaches the object whose field owns it, where that is finished
+  rises : IsTestedTarget p l a m r d h links (is_heavy_class p) unlinked' → (n w : ℕ) (f : FieldId) (x : Object) → object_at plain n ≡ Some x → anew n ≡ true → x.link ≡ None → x.owner ≡ owners.Field w f
+      → (finished_in (object_at plain w) ≡ false) ⊎ (anew w ≡ true)
+  unfolding is_anew
+  rises tested n w f x at is none owner = library_reset_rises p l a m r d h links (is_heavy_class p) unlinked' i tested n w f x at is none owner
 
   at_after : (n : ℕ) → object_at (lose held whole) n ≡ option_map (changed n) (object_at plain n)
   at_after n = changed_at (lost_object whole held) whole n ∙ ap (option_map (lost_object whole held n)) (renewed p l a m r d i h n) ∙ both (object_at plain n)
@@ -165,7 +174,10 @@ module _ (p : Program) (l : Locals) (a : Action) (m r : Option Method) (d : Cond
     roots = λ n. root_of_changed (lost_object whole held) whole n (λ k x. (lost_stays k x (is_unmet x && not (owner_holds whole held x.owner k)) refl).link)
         ∙ (let both : Some (root whole n) ≡ Some (root plain n) = same_root p l a m r d i h (values.Object n) in (let one : root whole n ≡ root plain n = cc in one));
     fields = λ w f own. grown_fields p h whole (library_grows p l a m r d i h) w f own ∙ sym (grown_fields p h plain (library_grows p l a (without_reset m) r d i h) w f own);
-    up = λ n x w f at is none owner. inl (no_holder_of n x at is none w f owner);
+    up = λ n x w f at is none owner. elim tops [
+      | inl tested ↦ elim (rises tested n w f x at is none owner) [ inl unready ↦ inl unready | inr up ↦ inr (inl up) ]
+      | inr free ↦ inl (no_holder_of n x at free is none w f owner)
+    ];
   }
 
 -- ---- no reset

@@ -1,5 +1,5 @@
--- Obligations that are created anew, of objects that no field owns, or one of an object that is not finished, or whose obligation is created anew, too: what
--- owning fields hold and own stays.
+-- Obligations that are created anew, of objects that no field owns, or one of an object that is not finished, or whose obligation is created anew, too, or on which nothing was
+-- called: what owning fields hold and own stays.
 use Rattle.covering_laws.proofs.OlderHolders.{field_of_owner}
 use Rattle.covering_laws.proofs.Owners.{held_at}
 use Rattle.std.proofs.Common.{◌≡◌, ◌⊎◌, inl, inr, ℕ, Bool, true, false, true≢false, Option, Some, None, List, [], ◌∷◌, refl, sym, ap, ◌∙◌, subst}
@@ -49,13 +49,14 @@ pub record StaysAside (p : Program) (anew : Bool) (x y : Object) : Type 0 where
   pub emptied : anew ≡ true → (y.called ≡ set.empty) × (y.link ≡ None → y.must ≡ must_of p y.class)
 
 -- So does each object of the heap `h` in the heap `k`, where the test tells of which the obligation is created anew. Where a field owns one that is linked to none, the
--- field's object is not finished, or its obligation is created anew, too. Owning fields hold what they held.
+-- field's object is not finished, or its obligation is created anew, too, or nothing was called on it. Owning fields hold what they held.
 pub record Renews (p : Program) (anew : ℕ → Bool) (h k : HeapContents) : Type 0 where
   pub forth : (n : ℕ) (x : Object) → object_at h n ≡ Some x → (y : Object) × (object_at k n ≡ Some y) × StaysAside p (anew n) x y
   pub back : (n : ℕ) (y : Object) → object_at k n ≡ Some y → (x : Object) × (object_at h n ≡ Some x) × StaysAside p (anew n) x y
   pub roots : (n : ℕ) → root k n ≡ root h n
   pub fields : (w : ℕ) (f : FieldId) → is_owning p f ≡ true → field_value p k w f ≡ field_value p h w f
-  pub up : (n : ℕ) (x : Object) (w : ℕ) (f : FieldId) → object_at h n ≡ Some x → anew n ≡ true → x.link ≡ None → x.owner ≡ owners.Field w f → (finished_in (object_at h w) ≡ false) ⊎ (anew w ≡ true)
+  pub up : (n : ℕ) (x : Object) (w : ℕ) (f : FieldId) → object_at h n ≡ Some x → anew n ≡ true → x.link ≡ None → x.owner ≡ owners.Field w f
+      → (finished_in (object_at h w) ≡ false) ⊎ ((anew w ≡ true) ⊎ ((z : Object) → object_at h w ≡ Some z → z.called ≡ set.empty))
 
 field_before : (p : Program) (b : Bool) (x y : Object) (w : ℕ) (f : FieldId) → StaysAside p b x y → y.owner ≡ owners.Field w f → x.owner ≡ owners.Field w f
 field_before p b x y w f stays owner = elim stays.owner [ inl same ↦ sym same ∙ owner | inr lost ↦ absurd (let never : owners.Lost ≡ owners.Field w f = sym lost.0 ∙ owner in cc) ]
@@ -125,10 +126,18 @@ module _ (p : Program) (anew : ℕ → Bool) (h k : HeapContents) (renews : Rene
   dispatched_renewed (fr ∷ caller ∷ frs) all = (dispatched_one fr caller all.0, all.1, dispatched_renewed (caller ∷ frs) all.2)
 
   module _ (frs : List Frame) (o w : ℕ) (f : FieldId) (x y : Object) (content : IsContent p frs h o x w f) (now : Object) (at : object_at k w ≡ Some now) where
+    -- where nothing was called on the holder, all that was called on it was done
+    kept_uncalled : now.called ≡ set.empty → IsKept p now f y
+    kept_uncalled none m d n at' class interest must has = absurd (true≢false (sym has ∙ ap (λ (s : Names). set.contains s n.0) none ∙ member_of-empty n.0))
+
     -- what was called on a holder whose obligation is created anew is nothing
     kept_emptied : StaysAside p true content.holder now → IsKept p now f y
-    kept_emptied goes m d n at' class interest must has =
-        absurd (true≢false (sym has ∙ ap (λ (s : Names). set.contains s n.0) (goes.emptied refl).0 ∙ member_of-empty n.0))
+    kept_emptied goes = kept_uncalled (goes.emptied refl).0
+
+    -- nothing was called on one on which nothing was before
+    still_uncalled : (b : Bool) → StaysAside p b content.holder now → content.holder.called ≡ set.empty → now.called ≡ set.empty
+    still_uncalled true goes none = (goes.emptied refl).0
+    still_uncalled false goes none = (goes.same refl).1 ∙ none
 
     -- and what was called on another one was done to the content, where this stays
     kept_renewed : StaysAside p false x y → (b : Bool) → StaysAside p b content.holder now → content.holder.finished ≡ true → IsKept p now f y
@@ -197,7 +206,10 @@ module _ (p : Program) (anew : ℕ → Bool) (h k : HeapContents) (renews : Rene
         content_renewed frs o w f x y content now.0 now.1 stays.class now.2 (λ unmet. own)
         (λ done. elim (renews.up o x w f before is (sym stays.link ∙ unlinked) owned) [
           | inl unready ↦ absurd (true≢false (sym done ∙ sym (ap finished_in content.at) ∙ unready))
-          | inr up ↦ kept_emptied frs o w f x y content now.0 now.1 (subst (λ (b : Bool). StaysAside p b content.holder now.0) up now.2)
+          | inr more ↦ elim more [
+            | inl up ↦ kept_emptied frs o w f x y content now.0 now.1 (subst (λ (b : Bool). StaysAside p b content.holder now.0) up now.2)
+            | inr uncalled ↦ kept_uncalled frs o w f x y content now.0 now.1 (still_uncalled frs o w f x y content now.0 now.1 (anew w) now.2 (uncalled content.holder content.at))
+          ]
         ])
 
     content_then : IsContent p frs k o y w f

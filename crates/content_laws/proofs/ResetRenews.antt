@@ -1,5 +1,5 @@
 -- A heap whose objects are those of another, but that those which a reset reaches are emptied: what owning fields hold and own stays, where the reset reaches the finished
--- holder of what it reaches, also over what is lost.
+-- holder of what it reaches, or nothing was called on that, also over what is lost.
 use Rattle.std.specs.Prelude.{◌&&◌, not, if◌then◌else◌}
 use Rattle.std.proofs.Common.{◌≡◌, ◌⊎◌, inl, inr, ℕ, Bool, true, false, true≢false, Option, Some, None, List, nat_eq, option_map, refl, sym, ap, ◌∙◌, subst, eq-eqb}
 use Rattle.std.specs.FinSet as set
@@ -24,7 +24,9 @@ use Rattle.content_laws.proofs.Renewals.{Renews, StaysAside}
 
 module _ (p : Program) (c : HeapContents) (roots : List ℕ) (plain whole : HeapContents) (it : IsResetOf p c roots plain whole) (held : List (List Value))
     (itself : (n : ℕ) (x : Object) → object_at plain n ≡ Some x → is_reached c roots n ≡ true → x.link ≡ None
-    → (root c n ≡ n) × ((w : ℕ) (f : FieldId) → x.owner ≡ owners.Field w f → (finished_in (object_at plain w) ≡ false) ⊎ (is_reached c roots w ≡ true)))
+    → (root c n ≡ n)
+    × ((w : ℕ) (f : FieldId) → x.owner ≡ owners.Field w f
+    → (finished_in (object_at plain w) ≡ false) ⊎ ((is_reached c roots w ≡ true) ⊎ ((z : Object) → object_at plain w ≡ Some z → z.called ≡ set.empty))))
     (fields : (w : ℕ) (f : FieldId) → is_owning p f ≡ true → field_value p whole w f ≡ field_value p plain w f) where
   abbrev turned : ℕ → Object → Object
   turned n x = reset_in p c roots n x

@@ -1,9 +1,7 @@
 -- The end of a frame and of its call keeps what owning fields hold and own.
 use Rattle.covering_laws.proofs.Waiting.{bore_before}
-use Rattle.covering_laws.proofs.UnfinishedHolders.{held_unready, lent_unready}
-use Rattle.covering_laws.proofs.WaitingTargets.{owned_or_lent}
-use Rattle.covering_laws.proofs.Owners.{held_at, runs_on_none}
-use Rattle.covering_laws.proofs.NoteLaws.{noted_goes_on}
+use Rattle.covering_laws.specs.Holders.{HoldersAreUnlinked}
+use Rattle.covering_laws.proofs.ContentHolders.{contents_have_holders}
 pub use Rattle.covering_laws.proofs.Returns.{back_is}
 use Rattle.std.specs.Prelude.{◌<◌, ◌||◌, ◌&&◌, is_some, not}
 use Rattle.std.specs.FinSet as set
@@ -44,8 +42,8 @@ use Rattle.ledger_state.specs.declared.object.Link.{Link}
 use Rattle.ledger_state.specs.declared.object.Object.{Object}
 use Rattle.ledger_state.specs.declared.value.Value.{Value}
 use Rattle.ledger_state.specs.declared.value.Value.TheVariants as values
-use Rattle.ledger_obligations.specs.Obligations.{alias_born, all_notes, end_holder, finished, finished_in, is_held_by, is_library_owner, lose, noted_object}
-use Rattle.ledger_steps.specs.LedgerCallsCalls.{alias_position, alias_target, interest_in, is_alias, object_by, operand_of, receiver_note, reset_position}
+use Rattle.ledger_obligations.specs.Obligations.{alias_born, end_holder, finished, lose}
+use Rattle.ledger_steps.specs.LedgerCallsCalls.{alias_position, alias_target, interest_in, is_alias, object_by, operand_of, reset_position}
 use Rattle.covering_laws.specs.Configuration.{Config, Frame, held_by}
 use Rattle.covering_laws.specs.Choosing.{frame_steps, is_number}
 use Rattle.covering_laws.specs.Frames.{frame_after}
@@ -60,7 +58,7 @@ use Rattle.covering_laws.proofs.HeapLaws.{roots_of_links-there}
 use Rattle.covering_laws.proofs.ObjectLaws.{in_range}
 use Rattle.covering_laws.specs.ProgramCalls as program_calls
 use Rattle.covering_laws.proofs.EndLinks.{called_links, end_links, gone_links}
-use Rattle.covering_laws.proofs.Returned.{end_back, gone_unowned}
+use Rattle.covering_laws.proofs.Returned.{gone_unowned}
 use Rattle.covering_laws.specs.Arguments.{HasArguments}
 use Rattle.covering_laws.proofs.Constructors.{spoken}
 use Rattle.covering_laws.proofs.KeptArguments.{field_holds}
@@ -74,11 +72,10 @@ use Rattle.covering_laws.specs.Naming.{IsOfItsKind}
 use Rattle.covering_laws.proofs.NamedReached.{names_what_is_there}
 use Rattle.covering_laws.specs.FieldContents.{AreDispatched, AreFresh, AreNew, AreUnfinished, FieldsHold, HaveContents, IsBeingMade, IsContent, LinksLead, RunOnOthers, is_made_in, is_new, makes_holder, makes_object, promised_on, OwningFieldsOwn}
 use Rattle.covering_laws.specs.Renewable.{IsFollowed}
-use Rattle.covering_laws.specs.PlaceFacts.{IsCovered, RunsOn, gives_none, is_given, OwesOrHolds, renews_none}
-use Rattle.covering_laws.specs.Renewing.{is_renewed}
+use Rattle.covering_laws.specs.PlaceFacts.{IsCovered, IsOld, gives_none, OwesOrHolds, renews_none}
 use Rattle.covering_laws.specs.Sight.{ActsInSight}
 use Rattle.covering_laws.proofs.EndResets.{plain_alias_position}
-use Rattle.covering_laws.proofs.EndTargets.{left_links, reached_root, reset_of, same_fields}
+use Rattle.covering_laws.proofs.EndTargets.{left_links, reached_rises, reset_of, same_fields}
 use Rattle.covering_laws.proofs.HeapLaws.{links_stay-lost}
 use Rattle.covering_laws.proofs.Renewed.{says_nothing, without_reset}
 use Rattle.content_laws.proofs.LibraryResets.{same_interest}
@@ -88,7 +85,7 @@ use Rattle.covering_laws.specs.Ranges.{LocalsInRange}
 use Rattle.content_laws.proofs.AliasConstructors.{alias_class_is_heavy, calls_on_field}
 use Rattle.content_laws.proofs.Ends.{promise_is_kept, receiver_object}
 use Rattle.content_laws.proofs.Finished.{changed_dispatched, changed_unfinished, linked_contents, made, made_contents, one_back}
-use Rattle.content_laws.proofs.Goes.{contents_go_on, dispatched_on, goes_forth, led_there, not_the_librarys_owes, holders_go, there, unfinished_on}
+use Rattle.content_laws.proofs.Goes.{contents_go_on, dispatched_on, goes_forth, led_there, holders_go, there, unfinished_on}
 use Rattle.content_laws.proofs.Heaps.{after_goes, end_goes}
 use Rattle.content_laws.proofs.Leading.{goes_hold, leads_forth}
 use Rattle.content_laws.proofs.Leaves.{holder_owns_nothing}
@@ -144,9 +141,9 @@ row_of (actions.Super k d n) m is = tt
 row_of a m is = absurd (let never : None ≡ Some m = is in cc)
 
 module _ (p : Program) (ac : Accept p) (forms' : HasPlainForms p) (c d : Config) (fr caller : Frame) (rest : List Frame) (agrees : Agrees p (fr ∷ caller ∷ rest) c.heap c.entries)
-    (covered : IsCovered p c.heap gives_none renews_none (caller ∷ rest) fr) (in' : LocalsIn c.heap (fr ∷ caller ∷ rest)) (hold : FieldsHold p (fr ∷ caller ∷ rest) c.heap) (making : IsBeingMade p c.heap fr caller) (given : HasArguments p caller fr) (i : ℕ) (s : Step) (q : Completion)
+    (old : ℕ → Bool) (aged : IsOld p c.heap (caller ∷ rest) fr old) (covered : IsCovered p c.heap gives_none renews_none old (caller ∷ rest) fr) (in' : LocalsIn c.heap (fr ∷ caller ∷ rest)) (hold : FieldsHold p (fr ∷ caller ∷ rest) c.heap) (making : IsBeingMade p c.heap fr caller) (given : HasArguments p caller fr) (i : ℕ) (s : Step) (q : Completion)
     (here : slice_get (frame_steps p fr) i ≡ Some s) (is : s.action ≡ actions.End q)
-    (exits : is_throw q ≡ true → exception_class p c.heap (thrown_in fr.locals q) ≡ None → ⊥) (sight : ActsInSight p c.heap caller) (waiting : IsCovered p c.heap (is_given p c.heap caller) (is_renewed p c.heap caller) rest caller) where
+    (exits : is_throw q ≡ true → exception_class p c.heap (thrown_in fr.locals q) ≡ None → ⊥) (sight : ActsInSight p c.heap caller) where
   abbrev h : HeapContents
   h = c.heap
 
@@ -225,36 +222,13 @@ module _ (p : Program) (ac : Accept p) (forms' : HasPlainForms p) (c d : Config)
         go true done = done
         go false unready = absurd (let never : owners.Field w f ≡ owners.Unowned = sym owner ∙ agrees.ends.unfinished o x at unready in cc)
 
-    -- the call does not create anew the obligation of what a field of a finished object owns
-    not_renewed : (o : ℕ) (x y : Object) (w : ℕ) (f : FieldId) → object_at h o ≡ Some x → is_heavy_class p y.class ≡ true → GoesOn x y → x.owner ≡ owners.Field w f → (content : IsContent p (fr ∷ caller ∷ rest) h o x w f) → content.holder.finished ≡ true
-        → is_renewed p h caller o ≡ false
-    not_renewed o x y w f at heavy on owner content done = go (is_renewed p h caller o) refl
-      where
-        held : is_held_by x.owner w ≡ true
-        held = held_at x.owner w f owner
-
-        ready : finished_in (object_at h w) ≡ false → ⊥
-        ready unready = true≢false (sym (ap finished_in content.at ∙ done) ∙ unready)
-
-        go : (b : Bool) → is_renewed p h caller o ≡ b → is_renewed p h caller o ≡ false
-        go false still = still
-        go true renewed =
-            absurd (elim (owned_or_lent p ac forms' h caller rest standing'.0 back.index t back.here back.row waiting o x at (ap (is_heavy_class p) (sym on.class) ∙ heavy)
-            (inl (not_the_librarys_owes x (ap is_library_owner owner))) (owned_is_finished o x w f at owner) renewed) [
-              | inl owned ↦ (let never : owners.Field w f ≡ owners.Frame (length rest + 1) = sym owner ∙ owned.key.owner owned.kept owned.own in cc)
-              | inr other ↦ elim other [
-                | inl lent ↦ ready (lent_unready p h rest o x.owner w held hold.unfinished.1.1 lent).0
-                | inr held' ↦ ready (held_unready p h caller rest x.owner w held hold.unfinished.1 held').0
-              ]
-            ])
-
     some_method : (n : Method) → method_at p named ≡ Some n → (o : ℕ) (x y : Object) (w : ℕ) (f : FieldId) → object_at h o ≡ Some x → object_at reset o ≡ Some y → is_heavy_class p y.class ≡ true → GoesOn x y → x.owner ≡ owners.Field w f
         → (content : IsContent p (fr ∷ caller ∷ rest) h o x w f) → (m : MethodId) (d' : Method) (name : NameId) → content.holder.finished ≡ true → method_at p m ≡ Some d' → d'.class ≡ content.holder.class
         → d'.sig.interest ≡ Some name → set.contains (must_of p content.holder.class) name.0 ≡ true → IsNotedBy caller.locals t.action (method_at p named) w name.0
         → set.is_subset (promised_on f d') y.called ≡ true
     some_method n named_at o x y w f there' now heavy on owner content m d' name fin at' class interest must noted =
-        promise_is_kept p ac forms' h fr caller rest agrees.standing.0 covered i s q here is back.index t back.here named n back.calls named_at hold.dispatched.0 agrees.classes o x y w f there'
-        (ap (is_heavy_class p) (sym on.class) ∙ heavy) (owned_is_finished o x w f there' owner) (not_renewed o x y w f there' heavy on owner content fin) on owner content m d' name at' class interest must (subst (λ (z : Option Method). IsNotedBy caller.locals t.action z w name.0) named_at noted)
+        promise_is_kept p ac forms' h fr caller rest agrees.standing.0 standing'.0 old aged covered i s q here is back.index t back.here back.row named n back.calls named_at hold.dispatched.0 agrees.classes o x y w f there'
+        (ap (is_heavy_class p) (sym on.class) ∙ heavy) (owned_is_finished o x w f there' owner) on owner content m d' name at' class interest must (subst (λ (z : Option Method). IsNotedBy caller.locals t.action z w name.0) named_at noted)
 
     keeps : (o : ℕ) (x y : Object) (w : ℕ) (f : FieldId) → object_at h o ≡ Some x → object_at reset o ≡ Some y → is_heavy_class p y.class ≡ true → GoesOn x y → x.owner ≡ owners.Field w f
         → (content : IsContent p (fr ∷ caller ∷ rest) h o x w f) → (m : MethodId) (d' : Method) (name : NameId) → content.holder.finished ≡ true → method_at p m ≡ Some d' → d'.class ≡ content.holder.class
@@ -595,7 +569,7 @@ module _ (p : Program) (ac : Accept p) (forms' : HasPlainForms p) (c d : Config)
           where
             go : (x : Object) × IsRootBefore o x → KeepsArgument p reset w object.0 o
             go (x, (before, heavy', owes', held)) = by
-                (field_holds p ac h (caller ∷ rest) fr agrees.standing.0 covered i s q position' w o x running.0 here is normal running.1 constructor body_alias this held before heavy' owes')
+                (field_holds p ac h old (caller ∷ rest) fr agrees.standing.0 covered i s q position' w o x running.0 here is normal running.1 constructor body_alias this held before heavy' owes')
               where
                 by : (f : FieldId) × (field : Field) × (field_at p f ≡ Some field) × (field.owning ≡ true) × (is_class_of field.class (method_at p fr.method) ≡ true)
                     × (set.is_subset (must_of_optional p (type_at running.0.sig (suc position'))) (must_of_type p field.vtype) ≡ true) × (root_of h (field_value p h w f) ≡ Some o)
@@ -711,40 +685,18 @@ module _ (p : Program) (ac : Accept p) (forms' : HasPlainForms p) (c d : Config)
     abbrev gone_heap : HeapContents
     gone_heap = frame_gone p position fr.locals.this (method_at p fr.method) v e h
 
-    -- an object on which a frame below runs is not finished, where it was not when the frame had gone: it is none that a `new` has finished
-    still_unready : (w : ℕ) → finished_in (object_at gone_heap w) ≡ false → RunsOn w (caller ∷ rest) → finished_in (object_at heap w) ≡ false
-    still_unready w unready on = go (object_at heap w) refl
-      where
-        apart : program_calls.is_new t.action ≡ true → number_of fr.locals.this ≡ Some w → ⊥
-        apart new self = runs_on_none w (caller ∷ rest) (hold.fresh.0 waits.index waits.step w waits.here (made_new new) (receiver_object w fr.locals.this self)) on
-
-        noted_then : (z y : Object) → object_at gone_heap w ≡ Some z → noted_object (all_notes p gone_heap (receiver_note caller.locals t.action plain)) w z ≡ y → y.finished ≡ false
-        noted_then z y before same =
-            ap (λ (u : Object). u.finished) (sym same) ∙ (noted_goes_on (all_notes p gone_heap (receiver_note caller.locals t.action plain)) w z).finished ∙ sym (ap finished_in before) ∙ unready
-
-        go : (y : Option Object) → object_at heap w ≡ y → finished_in (object_at heap w) ≡ false
-        go None now = ap finished_in now
-        go (Some y) now = elim (end_back p position fr.locals.this caller.locals t.action plain gone_heap no_reset e w y now) [
-          | inl made' ↦ absurd (apart made'.2.new made'.2.self)
-          | inr other ↦ elim other [ inl alias ↦ absurd (apart alias.2.new alias.2.self) | inr noted ↦ ap finished_in now ∙ noted_then noted.0 y noted.1 noted.2 ]
-        ]
-
-    -- what the reset reaches is its own root, and a field of no finished object owns it
-    itself : (n : ℕ) (x : Object) → object_at heap n ≡ Some x → is_reached (returned_called p caller.locals t.action (method_at p named) gone_heap) (returned_roots p caller.locals t.action (method_at p named) gone_heap) n ≡ true → x.link ≡ None
-        → (root (returned_called p caller.locals t.action (method_at p named) gone_heap) n ≡ n) × ((w : ℕ) (f : FieldId) → x.owner ≡ owners.Field w f
-        → (finished_in (object_at heap w) ≡ false) ⊎ (is_reached (returned_called p caller.locals t.action (method_at p named) gone_heap) (returned_roots p caller.locals t.action (method_at p named) gone_heap) w ≡ true))
-    itself n x at anew none =
-        let it = reached_root p ac forms' h links fr caller rest standing'.0 sight hold.dispatched.0 making e v t named back agrees.ends made_after' caller_in hold.owning waiting hold.unfinished.1 n x at anew none in
-        (it.0, λ w f owner. (let holder = it.1 w f owner in inl (still_unready w holder.0 holder.1)))
+    -- the holders of what fields own are linked to none
+    holders : HoldersAreUnlinked (is_heavy_class p) h
+    holders = contents_have_holders p ac (fr ∷ caller ∷ rest) h hold.contents
 
     renews : Renews p (is_reached (returned_called p caller.locals t.action (method_at p named) gone_heap) (returned_roots p caller.locals t.action (method_at p named) gone_heap)) heap (lose (held_by (after ∷ rest)) whole)
-    renews = reset_renews p (returned_called p caller.locals t.action (method_at p named) gone_heap) (returned_roots p caller.locals t.action (method_at p named) gone_heap) heap whole (reset_of p ac forms' h links fr caller rest standing'.0 sight hold.dispatched.0 making e v t named back agrees.ends made_after' caller_in hold.owning waiting) (held_by (after ∷ rest))
-        itself (λ w f owning. same_fields p ac forms' h links fr caller rest standing'.0 sight hold.dispatched.0 making e v t named back agrees.ends made_after' caller_in hold.owning waiting w f owning)
+    renews = reset_renews p (returned_called p caller.locals t.action (method_at p named) gone_heap) (returned_roots p caller.locals t.action (method_at p named) gone_heap) heap whole (reset_of p ac forms' h links fr caller rest standing'.0 sight hold.dispatched.0 making e v t named back agrees.ends made_after' caller_in hold.owning) (held_by (after ∷ rest))
+        (reached_rises p ac forms' h links fr caller rest standing'.0 sight hold.dispatched.0 making e v t named back agrees.ends made_after' caller_in hold.owning holders) (λ w f owning. same_fields p ac forms' h links fr caller rest standing'.0 sight hold.dispatched.0 making e v t named back agrees.ends made_after' caller_in hold.owning w f owning)
 
     returned_hold : (pos : Pos) → Done (returned p c fr caller rest pos q e named t)
     returned_hold pos =
         renewed_hold p (is_reached (returned_called p caller.locals t.action (method_at p named) gone_heap) (returned_roots p caller.locals t.action (method_at p named) gone_heap)) heap (lose (held_by (after ∷ rest)) whole) renews
-        (links_stay-lost (held_by (after ∷ rest)) whole (left_links p ac forms' h links fr caller rest standing'.0 sight hold.dispatched.0 making e v t named back agrees.ends made_after' caller_in hold.owning waiting)) (after ∷ rest) then_held
+        (links_stay-lost (held_by (after ∷ rest)) whole (left_links p ac forms' h links fr caller rest standing'.0 sight hold.dispatched.0 making e v t named back agrees.ends made_after' caller_in hold.owning)) (after ∷ rest) then_held
 
   pub back_hold : c.frames ≡ fr ∷ caller ∷ rest → (pos : Pos) (r : Return) → IsBack p (frame_steps p caller) e waits.named r → returned_by p c fr caller rest pos q r ≡ went d → Done d
   back_hold frames pos (Back x named t) back same' =

@@ -1,6 +1,6 @@
 -- What owning fields hold and own, over each step of a run.
 use Rattle.std.specs.Prelude.{zero, suc}
-use Rattle.std.proofs.Common.{◌≡◌, ℕ, true, false, true≢false, Some, None, List, [], ◌∷◌, slice_get, refl, sym, ap, ◌∙◌, subst}
+use Rattle.std.proofs.Common.{Bool, ◌≡◌, ℕ, true, false, true≢false, Some, None, List, [], ◌∷◌, slice_get, refl, sym, ap, ◌∙◌, subst}
 use Rattle.rlc_base.specs.declared.place.Pos.{Pos}
 use Rattle.program_model.specs.declared.kinds.ClassId.{ClassId}
 use Rattle.program_model.specs.declared.kinds.MethodId.{MethodId}
@@ -35,7 +35,7 @@ use Rattle.covering_laws.specs.Nexts.{IsNext}
 use Rattle.covering_laws.proofs.Cases.{next_is}
 use Rattle.covering_laws.proofs.Returns.{back_is}
 use Rattle.covering_laws.specs.FieldContents.{FieldsHold, IsBeingMade, is_made_in}
-use Rattle.covering_laws.specs.PlaceFacts.{AreCovered, AreWaiting, IsCovered, gives_none, renews_none}
+use Rattle.covering_laws.specs.PlaceFacts.{AreCovered, IsCovered, IsOld, gives_none, renews_none}
 use Rattle.covering_laws.specs.Ranges.{AreInRange, FieldsInRange}
 use Rattle.content_laws.proofs.ContentFrames.{begun_method}
 use Rattle.content_laws.proofs.Goes.{contents_go_on, leaves_goes, leaves_roots}
@@ -81,35 +81,35 @@ module _ (p : Program) (ac : Accept p) (forms' : HasPlainForms p) (c d : Config)
   carried : (x : Config) → went x ≡ went d → FieldsHold p x.frames x.heap → FieldsHold p d.frames d.heap
   carried x is held = subst (λ (y : Config). FieldsHold p y.frames y.heap) (let same : x ≡ d = cc in same) held
 
-  ended_hold : (fr : Frame) (frs : List Frame) (agrees : Agrees p (fr ∷ frs) c.heap c.entries) (covered : IsCovered p c.heap gives_none renews_none frs fr) (waits : AreWaiting p c.heap frs) (in' : LocalsIn c.heap (fr ∷ frs)) (ranges : FieldsInRange c.heap)
+  ended_hold : (fr : Frame) (frs : List Frame) (agrees : Agrees p (fr ∷ frs) c.heap c.entries) (old : ℕ → Bool) (aged : IsOld p c.heap frs fr old) (covered : IsCovered p c.heap gives_none renews_none old frs fr) (in' : LocalsIn c.heap (fr ∷ frs)) (ranges : FieldsInRange c.heap)
       (hold : FieldsHold p (fr ∷ frs) c.heap) → HaveArguments p (fr ∷ frs) → EndsByClass p c.heap fr → c.frames ≡ fr ∷ frs → (pos : Pos) (q : Completion) (i : ℕ) (s : Step) → slice_get (frame_steps p fr) i ≡ Some s → s.action ≡ actions.End q
       → end p c fr frs pos q ≡ went d → FieldsHold p d.frames d.heap
-  ended_hold fr [] agrees covered waits in' ranges hold given exits frames pos q i s here is same =
+  ended_hold fr [] agrees old aged covered in' ranges hold given exits frames pos q i s here is same =
       carried (main_ended p c fr pos q) same (main_hold p ac c fr agrees hold pos q)
-  ended_hold fr (caller ∷ rest) agrees covered waits in' ranges hold given exits frames pos q i s here is same =
-      back_hold p ac forms' c d fr caller rest agrees covered in' hold (making fr caller rest frames) given.0 i s q here is (exits i s q here is) (subst (λ (gs : List Frame). AllActInSight p c.heap gs) frames sight).1.0 waits.0 frames pos
+  ended_hold fr (caller ∷ rest) agrees old aged covered in' ranges hold given exits frames pos q i s here is same =
+      back_hold p ac forms' c d fr caller rest agrees old aged covered in' hold (making fr caller rest frames) given.0 i s q here is (exits i s q here is) (subst (λ (gs : List Frame). AllActInSight p c.heap gs) frames sight).1.0 frames pos
       (return_move p (frame_steps p caller) (exception_class p c.heap (thrown_in fr.locals q)))
       (back_is p caller agrees.standing.1.0 agrees.stacked.0.named agrees.stacked.0.index agrees.stacked.0.step agrees.stacked.0.here agrees.stacked.0.calls (exception_class p c.heap (thrown_in fr.locals q)))
       same
 
-  moved_hold : (fr : Frame) (frs : List Frame) (agrees : Agrees p (fr ∷ frs) c.heap c.entries) (covered : IsCovered p c.heap gives_none renews_none frs fr) (waits : AreWaiting p c.heap frs) (in' : LocalsIn c.heap (fr ∷ frs)) (ranges : FieldsInRange c.heap)
+  moved_hold : (fr : Frame) (frs : List Frame) (agrees : Agrees p (fr ∷ frs) c.heap c.entries) (old : ℕ → Bool) (aged : IsOld p c.heap frs fr old) (covered : IsCovered p c.heap gives_none renews_none old frs fr) (in' : LocalsIn c.heap (fr ∷ frs)) (ranges : FieldsInRange c.heap)
       (hold : FieldsHold p (fr ∷ frs) c.heap) → HaveArguments p (fr ∷ frs) → EndsByClass p c.heap fr → c.frames ≡ fr ∷ frs → (mv : Move) → IsNext p c.heap c.arrays fr.method fr.locals (frame_steps p fr) mv → moved p c fr frs mv ≡ went d
       → FieldsHold p d.frames d.heap
-  moved_hold fr frs agrees covered waits in' ranges hold given exits frames (Inner e s) next same =
-      carried (within p c fr frs e s) same (inner_step p ac forms' c fr frs agrees covered in' ranges hold (subst (λ (gs : List Frame). AllActInSight p c.heap gs) frames sight).0 e s next.0 next.1 next.2 (links_then (within p c fr frs e s) same))
-  moved_hold fr frs agrees covered waits in' ranges hold given exits frames (Start named runs a pos) next same =
-      carried (began p c fr frs named runs a pos) same (began_hold p ac forms' c fr frs agrees covered in' ranges hold named runs a pos next (links_then (began p c fr frs named runs a pos) same))
-  moved_hold fr frs agrees covered waits in' ranges hold given exits frames (Library named m x s) next same =
-      carried (library_went p c fr frs named m x s) same (library_hold p ac forms' c fr frs agrees covered in' ranges hold named m x s next (library_creates p ac forms' c fr frs agrees covered in' ranges hold (subst (λ (gs : List Frame). AllActInSight p c.heap gs) frames sight).0 named m x s next) (links_then (library_went p c fr frs named m x s) same))
-  moved_hold fr frs agrees covered waits in' ranges hold given exits frames (End pos q) next same = ended_hold fr frs agrees covered waits in' ranges hold given exits frames pos q next.0 next.1 next.2 next.3 same
-  moved_hold fr frs agrees covered waits in' ranges hold given exits frames (Stray e pos) next same = absurd (let never : stray e pos ≡ went d = same in cc)
-  moved_hold fr frs agrees covered waits in' ranges hold given exits frames Rest next same = subst (λ (x : Config). FieldsHold p x.frames x.heap) (let one : c ≡ d = cc in one) (subst (λ (gs : List Frame). FieldsHold p gs c.heap) (sym frames) hold)
+  moved_hold fr frs agrees old aged covered in' ranges hold given exits frames (Inner e s) next same =
+      carried (within p c fr frs e s) same (inner_step p ac forms' c fr frs agrees old covered in' ranges hold (subst (λ (gs : List Frame). AllActInSight p c.heap gs) frames sight).0 e s next.0 next.1 next.2 (links_then (within p c fr frs e s) same))
+  moved_hold fr frs agrees old aged covered in' ranges hold given exits frames (Start named runs a pos) next same =
+      carried (began p c fr frs named runs a pos) same (began_hold p ac forms' c fr frs agrees old covered in' ranges hold named runs a pos next (links_then (began p c fr frs named runs a pos) same))
+  moved_hold fr frs agrees old aged covered in' ranges hold given exits frames (Library named m x s) next same =
+      carried (library_went p c fr frs named m x s) same (library_hold p ac forms' c fr frs agrees old covered in' ranges hold named m x s next (library_creates p ac forms' c fr frs agrees old covered in' ranges hold (subst (λ (gs : List Frame). AllActInSight p c.heap gs) frames sight).0 named m x s next) (links_then (library_went p c fr frs named m x s) same))
+  moved_hold fr frs agrees old aged covered in' ranges hold given exits frames (End pos q) next same = ended_hold fr frs agrees old aged covered in' ranges hold given exits frames pos q next.0 next.1 next.2 next.3 same
+  moved_hold fr frs agrees old aged covered in' ranges hold given exits frames (Stray e pos) next same = absurd (let never : stray e pos ≡ went d = same in cc)
+  moved_hold fr frs agrees old aged covered in' ranges hold given exits frames Rest next same = subst (λ (x : Config). FieldsHold p x.frames x.heap) (let one : c ≡ d = cc in one) (subst (λ (gs : List Frame). FieldsHold p gs c.heap) (sym frames) hold)
 
   by_frames : (frs : List Frame) → c.frames ≡ frs → Agrees p frs c.heap c.entries → HaveTargets p frs → LocalsIn c.heap frs → FieldsInRange c.heap → AreCovered p c.heap frs → FieldsHold p frs c.heap → HaveArguments p frs → TopEndsByClass p c.heap frs
       → moved_by p c frs (top_move p c frs) ≡ went d → FieldsHold p d.frames d.heap
   by_frames [] frames agrees targets in' ranges covered hold given exits same = absurd (let never : ended c.ended ≡ went d = same in cc)
   by_frames (fr ∷ frs) frames agrees targets in' ranges covered hold given exits same =
-      moved_hold fr frs agrees covered.0 covered.1 in' ranges hold given exits frames (top_move p c (fr ∷ frs)) (next_is p ac forms' c.heap c.arrays (next_choice c.choices c.used) fr agrees.standing.0 targets.0 agrees.classes) same
+      moved_hold fr frs agrees covered.0 covered.1 covered.2 in' ranges hold given exits frames (top_move p c (fr ∷ frs)) (next_is p ac forms' c.heap c.arrays (next_choice c.choices c.used) fr agrees.standing.0 targets.0 agrees.classes) same
 
 pub fields_hold_step : (p : Program) → Accept p → HasPlainForms p → (c d : Config) → Agree p c → HaveTargets p c.frames → AreInRange c → AreCovered p c.heap c.frames → FieldsHold p c.frames c.heap
     → ((fr caller : Frame) (rest : List Frame) → c.frames ≡ fr ∷ caller ∷ rest → IsBeingMade p c.heap fr caller) → AllActInSight p c.heap c.frames → HasEarlierLinks d.heap → HaveArguments p c.frames → TopEndsByClass p c.heap c.frames → step p c ≡ went d

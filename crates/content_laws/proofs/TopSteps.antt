@@ -1,8 +1,12 @@
 -- A step of the top frame keeps what owning fields hold and own: within the frame, at the start of a call, and over a call of the library.
+use Rattle.covering_laws.proofs.ClassArguments.{target_is_instance}
+use Rattle.covering_laws.proofs.ContentHolders.{contents_have_holders}
+use Rattle.covering_laws.proofs.LibraryTargets.{tops}
+use Rattle.covering_laws.specs.Holders.{HoldersAreUnlinked}
 use Rattle.std.proofs.lemmas.Bool.{or_left}
 use Rattle.std.specs.Prelude.{◌<◌, ◌≤◌, ◌||◌, ◌&&◌, not}
 use Rattle.std.specs.FinSet as set
-use Rattle.std.proofs.Common.{◌≡◌, ◌⊎◌, ℕ, ◌+◌, Bool, true, false, true≢false, Option, Some, None, List, ◌∷◌, length, slice_get, refl, sym, ap, ◌∙◌, subst, if◌then◌else◌, inl, inr, arith}
+use Rattle.std.proofs.Common.{Bool, List, None, Option, Some, ap, arith, false, if◌then◌else◌, inl, inr, length, refl, slice_get, subst, sym, true, true≢false, ℕ, ◌+◌, ◌∙◌, ◌∷◌, ◌≡◌, ◌⊎◌}
 use Rattle.std.proofs.lemmas.List.Elements.{All-head, All-tail}
 use Rattle.rlc_base.specs.declared.name_id.NameId.{NameId}
 use Rattle.rlc_base.specs.declared.place.Pos.{Pos}
@@ -65,7 +69,6 @@ use Rattle.content_laws.proofs.TextContents.{text_holds}
 use Rattle.content_laws.proofs.Renewals.{CreatesAnew, linked_before, renewed_hold}
 use Rattle.content_laws.proofs.LibraryResets.{library_renews, position_none, read_resets_nothing, same_interest}
 use Rattle.covering_laws.proofs.Renewed.{says_nothing, without_reset}
-use Rattle.covering_laws.proofs.ResetJoins.{no_holder}
 use Rattle.covering_laws.specs.HeapAnew.{is_anew}
 use Rattle.covering_laws.specs.Sight.{ActsInSight}
 use Rattle.covering_laws.specs.TextUpdates.{IsLeftByText, IsLightStore, UpdatesTexts}
@@ -98,7 +101,7 @@ library_stays p t x may is = go x.finished (sym (ap (λ (o : Owner). x.finished 
     go true same = true≢false (sym same)
     go false same = true≢false (sym same)
 
-module _ (p : Program) (ac : Accept p) (forms' : HasPlainForms p) (c : Config) (fr : Frame) (frs : List Frame) (agrees : Agrees p (fr ∷ frs) c.heap c.entries) (covered : IsCovered p c.heap gives_none renews_none frs fr)
+module _ (p : Program) (ac : Accept p) (forms' : HasPlainForms p) (c : Config) (fr : Frame) (frs : List Frame) (agrees : Agrees p (fr ∷ frs) c.heap c.entries) (old : ℕ → Bool) (covered : IsCovered p c.heap gives_none renews_none old frs fr)
     (in' : LocalsIn c.heap (fr ∷ frs)) (ranges : FieldsInRange c.heap) (hold : FieldsHold p (fr ∷ frs) c.heap) where
   abbrev h : HeapContents
   h = c.heap
@@ -226,11 +229,11 @@ module _ (p : Program) (ac : Accept p) (forms' : HasPlainForms p) (c : Config) (
     store_held : (w : ℕ) → fr.locals.this ≡ values.Object w → IsHeld (stored_owning p h w f tied (temp_value fr.locals t))
     store_held w this = (
       (full.fields, full.count),
-      stored_links p h w f tied (temp_value fr.locals t) links (still p ac forms' h fr frs st links covered hold i s here f t is w this self.0 self.1 agrees.standing.1 agrees.stacked bounded tied),
+      stored_links p h w f tied (temp_value fr.locals t) links (still p ac forms' h fr frs st links old covered hold i s here f t is w this self.0 self.1 agrees.standing.1 agrees.stacked bounded tied),
       record {
-        contents = stored_contents p ac forms' h fr frs st links covered hold i s here f t is w this self.0 self.1 agrees.standing.1 agrees.stacked bounded own after (same_makes p fr after frs same);
-        owning = store_owning p ac forms' h fr frs st links covered hold i s here f t is w this self.0 self.1 agrees.standing.1 agrees.stacked bounded sight;
-        leads = stored_leads p ac forms' h fr frs st links covered hold i s here f t is w this self.0 self.1 agrees.standing.1 agrees.stacked bounded;
+        contents = stored_contents p ac forms' h fr frs st links old covered hold i s here f t is w this self.0 self.1 agrees.standing.1 agrees.stacked bounded own after (same_makes p fr after frs same);
+        owning = store_owning p ac forms' h fr frs st links old covered hold i s here f t is w this self.0 self.1 agrees.standing.1 agrees.stacked bounded sight;
+        leads = stored_leads p ac forms' h fr frs st links old covered hold i s here f t is w this self.0 self.1 agrees.standing.1 agrees.stacked bounded;
         new = same_new p fr after frs same hold.new;
         fresh = same_fresh p fr after frs same hold.fresh;
         unfinished = same_unfinished p fr after frs same (stored_owning p h w f tied (temp_value fr.locals t)) (unfinished_on p h (stored_owning p h w f tied (temp_value fr.locals t)) forth (fr ∷ frs) (this_in h (fr ∷ frs) in') hold.unfinished);
@@ -245,7 +248,7 @@ module _ (p : Program) (ac : Accept p) (forms' : HasPlainForms p) (c : Config) (
         self = there h w (top.this w (ap number_of this))
 
         forth : Evolves h (stored_owning p h w f tied (temp_value fr.locals t))
-        forth = store_forth p ac forms' h fr frs st links covered hold i s here f t is w this self.0 self.1 agrees.standing.1 agrees.stacked bounded
+        forth = store_forth p ac forms' h fr frs st links old covered hold i s here f t is w this self.0 self.1 agrees.standing.1 agrees.stacked bounded
 
         full : IsFuller h (stored_owning p h w f tied (temp_value fr.locals t))
         full = owning_fuller p h w f tied (temp_value fr.locals t) (top.this w (ap number_of this)) (top.temps t) ranges
@@ -317,6 +320,9 @@ module _ (p : Program) (ac : Accept p) (forms' : HasPlainForms p) (c : Config) (
       (reset_target (positions fr.locals s.action (next_number h) x) (method_at p named) ≡ None)
       ⊎ CreatesAnew p fr.locals s.action (method_at p named) (method_at p m) x (length frs + 1) h (called_heap named m x s)
 
+  unlinked : HoldersAreUnlinked (is_heavy_class p) h
+  unlinked = contents_have_holders p ac (fr ∷ frs) h hold.contents
+
   -- what a step creates anew it creates plainly
   pub library_creates : ActsInSight p h fr → (named m : MethodId) (x : Conduct) (s : Step) → IsLibraryMove p h c.arrays fr.locals (frame_steps p fr) named m x s → CreatesPlainly named m x s
   library_creates sight named m x s next = elim next.row [
@@ -327,8 +333,8 @@ module _ (p : Program) (ac : Accept p) (forms' : HasPlainForms p) (c : Config) (
         nothing = says_nothing (method_at p named);
         interest = same_interest (method_at p named);
         anew = is_anew p fr.locals s.action (method_at p named) (method_at p m) x h;
-        renews = library_renews p fr.locals s.action (method_at p named) (method_at p m) x (length frs + 1) h (held_by (called_frame named m x s ∷ frs)) links
-            (no_holder p ac forms' h links fr frs st top named m x next.index s next.here call.1 call.0 anew covered hold.unfinished hold.owning sight c.arrays (next.ran call.1).1) agrees.ends;
+        renews = library_renews p fr.locals s.action (method_at p named) (method_at p m) x (length frs + 1) h (held_by (called_frame named m x s ∷ frs)) links agrees.ends unlinked
+            (tops p h links fr named m x next.index s next.here call.1 (target_is_instance p h c.arrays fr.locals s.action (method_at p named) (next.ran call.1).1) hold.owning sight unlinked);
       })
     ]
     | inr read ↦ inl (read_resets_nothing fr.locals s.action read (next_number h) x (method_at p named))

@@ -123,7 +123,7 @@ left_breaks p b o c f never = go (alias_never_returned p b o c f) never
 
 -- ---- the end of a frame
 
-module _ (p : Program) (ac : Accept p) (h : HeapContents) (fr caller : Frame) (rest : List Frame) (st : Stands p fr) (args : HasArguments p caller fr) (covered : IsCovered p h gives_none renews_none (caller ∷ rest) fr) (i : ℕ) (s : Step) (q : Completion)
+module _ (p : Program) (ac : Accept p) (h : HeapContents) (fr caller : Frame) (old : ℕ → Bool) (rest : List Frame) (st : Stands p fr) (args : HasArguments p caller fr) (covered : IsCovered p h gives_none renews_none old (caller ∷ rest) fr) (i : ℕ) (s : Step) (q : Completion)
     (here : slice_get (frame_steps p fr) i ≡ Some s) (is : s.action ≡ actions.End q) (normal : is_throw q ≡ false) (x : Method) (runs : method_at p fr.method ≡ Some x) (k : ℕ) (alias : x.sig.alias ≡ Some k)
     (plain : is_constructor_kind x.kind ≡ false) (j : ℕ) (t : Step) (there : slice_get (frame_steps p caller) j ≡ Some t) (o : ℕ) (y : Object) (at : object_at h o ≡ Some y) (heavy : is_heavy_class p y.class ≡ true)
     (owes' : OwesOrHolds p h o y) where
@@ -143,10 +143,10 @@ module _ (p : Program) (ac : Accept p) (h : HeapContents) (fr caller : Frame) (r
   some_names = argument_has_names p ac.well_formed fr.method x runs k alias
 
   -- the fact of a place
-  cover : (place : Place) → IsSmall place → root_of h (place_value p h fr.method fr.locals place) ≡ Some o → (c : Covers p h false false (caller ∷ rest) fr o y) × (has c.fact.places place ≡ true)
-  cover place small root = covered_at p h false false (caller ∷ rest) fr place o y (covered place o y small root at heavy owes')
+  cover : (place : Place) → IsSmall place → root_of h (place_value p h fr.method fr.locals place) ≡ Some o → (c : Covers p h false false old (caller ∷ rest) fr o y) × (has c.fact.places place ≡ true)
+  cover place small root = covered_at p h false false old (caller ∷ rest) fr place o y (covered place o y small root at heavy owes')
 
-  module _ (c : Covers p h false false (caller ∷ rest) fr o y) where
+  module _ (c : Covers p h false false old (caller ∷ rest) fr o y) where
     reached : Reach p st.number (relation_of p st.number) c.origin fr.control c.fact
     reached = subst (λ (b : BodyId). Reach p b (relation_of p b) c.origin fr.control c.fact) (same_body c.body st.number (body_id p fr.method) c.id st.id) c.reached
 
@@ -164,7 +164,7 @@ module _ (p : Program) (ac : Accept p) (h : HeapContents) (fr caller : Frame) (r
   -- ---- the argument is the result
 
   -- a fact of the argument moves as the result
-  moves_as_result : (c : Covers p h false false (caller ∷ rest) fr o y) → is_origin_at c.origin.kind (Some k) ≡ true → is_heavy_class p c.origin.class ≡ true → root_of h (result_value fr.locals (Some x) q) ≡ Some o
+  moves_as_result : (c : Covers p h false false old (caller ∷ rest) fr o y) → is_origin_at c.origin.kind (Some k) ≡ true → is_heavy_class p c.origin.class ≡ true → root_of h (result_value fr.locals (Some x) q) ≡ Some o
   moves_as_result c origin class = by (moved_at_return p st.number c.origin (actions.End q) c.fact) refl
     where
       never : alias_never_returned p st.number c.origin q c.fact ≡ true
@@ -191,7 +191,7 @@ module _ (p : Program) (ac : Accept p) (h : HeapContents) (fr caller : Frame) (r
       let w = object_with_root h (operand_of caller.locals t.action 0) o root in
       let this : fr.locals.this ≡ values.Object w.0 = args.receiver j t w.0 there w.1 in
       let found = cover places.This tt (ap (root_of h) this ∙ ap Some w.2) in
-      let c : Covers p h false false (caller ∷ rest) fr o y = found.0 in
+      let c : Covers p h false false old (caller ∷ rest) fr o y = found.0 in
       let own = this_own p ac st.number st.body st.at c.origin fr.control c.fact (reached c) found.1 in
       moves_as_result c (ap (λ (n : ℕ). is_origin_at c.origin.kind (Some n)) zero' ∙ own)
       (ap (is_heavy_class p) (this_class p ac st.number st.body x st.at in_body c.origin fr.control c.fact (reached c) (zero_origin c.origin.kind own))
@@ -217,7 +217,7 @@ module _ (p : Program) (ac : Accept p) (h : HeapContents) (fr caller : Frame) (r
     of_parameter : root_of h (operand_of caller.locals t.action (suc v)) ≡ Some o → root_of h (result_value fr.locals (Some x) q) ≡ Some o
     of_parameter root =
         let found = cover (places.Var v) variable_small (ap (root_of h) given ∙ root) in
-        let c : Covers p h false false (caller ∷ rest) fr o y = found.0 in
+        let c : Covers p h false false old (caller ∷ rest) fr o y = found.0 in
         let own = parameters_own p ac st.number st.body x v st.at in_body spoken c.origin fr.control c.fact (reached c) found.1 in
         let param = element_there x.sig.params.items v (omega (arith, inside)) in
         let class : param.0.vtype ≡ types.Obj c.origin.class =
@@ -236,7 +236,7 @@ module _ (p : Program) (ac : Accept p) (h : HeapContents) (fr caller : Frame) (r
   -- ---- the result is the argument
 
   -- a fact in the result's temp is in mode Alias
-  is_aliased : (d : ℕ) (pos : Pos) → q ≡ completions.ReturnValue d pos → (c : Covers p h false false (caller ∷ rest) fr o y) → has c.fact.places (places.Temp d) ≡ true → c.fact.mode ≡ modes.Alias
+  is_aliased : (d : ℕ) (pos : Pos) → q ≡ completions.ReturnValue d pos → (c : Covers p h false false old (caller ∷ rest) fr o y) → has c.fact.places (places.Temp d) ≡ true → c.fact.mode ≡ modes.Alias
   is_aliased d pos end' c in' = alias_mode c.fact.mode (by (is_alias c.fact.mode) refl)
     where
       result_heavy : is_heavy_as p c.origin.class (result_type p st.number) ≡ true
@@ -256,7 +256,7 @@ module _ (p : Program) (ac : Accept p) (h : HeapContents) (fr caller : Frame) (r
   from_result : has_receiver t.action ≡ true → (d : ℕ) (pos : Pos) → q ≡ completions.ReturnValue d pos → root_of h (temp_value fr.locals d) ≡ Some o → root_of h (operand_of caller.locals t.action k) ≡ Some o
   from_result receives d pos end' root = by k refl
     where
-      found : (c : Covers p h false false (caller ∷ rest) fr o y) × (has c.fact.places (places.Temp d) ≡ true)
+      found : (c : Covers p h false false old (caller ∷ rest) fr o y) × (has c.fact.places (places.Temp d) ≡ true)
       found = cover (places.Temp d) (room d pos end') root
 
       mode : found.0.fact.mode ≡ modes.Alias

@@ -1,59 +1,87 @@
--- The end of a call that creates an obligation anew: the caller reads its facts anew until then, and those that have the object go on anew; so each says what is true
--- when the obligation is created anew.
-use Rattle.std.proofs.Common.{◌≡◌, ◌⊎◌, inl, inr, ℕ, ◌+◌, Bool, true, false, true≢false, ◌&&◌, Some, List, ◌∷◌, length, slice_get, refl, sym, ap, ◌∙◌, subst, arith}
+-- The step by which a call ends that creates an obligation anew, of the program or of the library: the obligations of the target and of what it is within are created anew. Of each such object the facts
+-- of the frame that called know nothing that a reset changes, but for the fact of the target, which goes on anew; and so it is with the frames that wait below.
+use Rattle.std.proofs.Common.{◌≡◌, ◌⊎◌, inl, inr, ℕ, ◌+◌, ◌<◌, Bool, true, false, true≢false, not, ◌&&◌, None, Some, List, [], ◌∷◌, length, slice_get, refl, sym, ap, ◌∙◌, subst}
 use Rattle.std.specs.FinSet as set
 use Rattle.program_model.specs.declared.kinds.BodyId.{BodyId}
+use Rattle.program_model.specs.declared.kinds.ClassId.{ClassId}
+use Rattle.program_model.specs.declared.kinds.FieldId.{FieldId}
+use Rattle.program_model.specs.declared.kinds.MethodId.{MethodId}
 use Rattle.program_model.specs.declared.program.Program.{Program}
 use Rattle.program_model.specs.Lookups.{method_at}
+use Rattle.ledger_obligations.specs.Bodies.{reset_in}
 use Rattle.ledger_obligations.specs.MustCallSets.{Names, is_heavy_class, no_names}
+use Rattle.ledger_obligations.specs.Obligations.{is_library_owner}
 use Rattle.java_control.specs.Control.{Step}
 use Rattle.java_control.specs.PlaceNumbers.{IsSmall}
+use Rattle.java_control.specs.declared.action.Action.{Action}
 use Rattle.java_control.specs.declared.fact.Fact.{Fact}
-use Rattle.java_control.specs.declared.fact.Mode.{Mode}
 use Rattle.java_control.specs.declared.fact.Mode.TheVariants as modes
 use Rattle.java_control.specs.declared.fact.Origin.{Origin}
 use Rattle.java_control.specs.declared.place.Place.{Place}
 use Rattle.java_control.specs.declared.place.Place.TheVariants as places
+use Rattle.ownership_rules.specs.Callees.{callee}
 use Rattle.ownership_rules.specs.Facts.{PlaceSet, has, is_own, mode_at, need}
 use Rattle.ownership_rules.specs.MovesAtCalls.{moved_at_call}
 use Rattle.ownership_rules.specs.declared.moved.Moved.TheVariants as moves
+use Rattle.java_control.specs.declared.fact.Mode.{Mode}
 use Rattle.ledger_state.specs.Contents.{HeapContents}
-use Rattle.ledger_state.specs.Heaps.{object_at, root_of}
+use Rattle.ledger_state.specs.Heaps.{next_number, object_at, root_of}
 use Rattle.ledger_state.specs.declared.entry.Owner.{Owner}
 use Rattle.ledger_state.specs.declared.entry.Owner.TheVariants as owners
+use Rattle.ledger_state.specs.declared.locals.Locals.{Locals}
 use Rattle.ledger_state.specs.declared.object.Object.{Object}
 use Rattle.ledger_state.specs.declared.value.Value.{Value}
-use Rattle.ledger_obligations.specs.Obligations.{is_held_by}
 use Rattle.value_laws.specs.Accept.{Accept}
 use Rattle.value_laws.specs.Agreement.{Stands}
-use Rattle.value_laws.specs.Anew.{GoesAnew, fact_anew, is_target}
+use Rattle.value_laws.specs.Anew.{GoesAnew, MayBeAnew, fact_anew, is_target}
+use Rattle.value_laws.specs.Chains.{HaveEnds}
 use Rattle.value_laws.specs.Choosing.{body_id, frame_steps}
 use Rattle.value_laws.specs.Configuration.{Frame}
 use Rattle.value_laws.specs.FactGoing.{is_owned_in}
+use Rattle.value_laws.specs.FieldContents.{AreNew, AreUnfinished}
 use Rattle.value_laws.specs.HeapAnew.{IsEmptied}
+use Rattle.value_laws.specs.Holders.{IsWithin, by_field, itself}
 use Rattle.value_laws.specs.Outcomes.{IsCallRow}
 use Rattle.value_laws.specs.Paths.{Reach, move_of, relation_of}
-use Rattle.value_laws.specs.PlaceFacts.{AreWaiting, Covers, IsCovered, IsKeyed, IsOwned, IsTrueOf, IsUnowned, gives_none, is_given, OwesOrHolds, owned, renews_none, unowned}
+use Rattle.value_laws.specs.PlaceFacts.{AreCovered, AreWaiting, Covers, IsCovered, IsHeavyObject, IsKeyed, IsOld, IsOwned, IsTrueOf, IsUnowned, OwesOrHolds, OwnersBelow, claims, gives_away, gives_none, is_frame_from, owned, renews_none, unowned}
 use Rattle.value_laws.specs.PlaceRows.{places_after}
 use Rattle.value_laws.specs.Places.{place_value}
 use Rattle.value_laws.specs.PlainForms.{HasPlainForms}
-use Rattle.value_laws.specs.Renewing.{IsLentFrom, fact_as, is_renewed, IsHeldBy}
+use Rattle.value_laws.specs.Renewing.{HasInHand, IsHeldBy, IsHeldByLent, IsLentFrom, fact_as, renews}
 use Rattle.value_laws.proofs.FrameFollowing.{breaks_nothing}
+use Rattle.value_laws.proofs.HeapLaws.{numbers_are_in_range}
 use Rattle.value_laws.proofs.Needs.{origin_needs_all}
 use Rattle.value_laws.proofs.Ready.{step_there}
 use Rattle.value_laws.proofs.Resetting.{answered_target}
+use Rattle.value_laws.proofs.RootLaws.{one_object}
+use Rattle.value_laws.proofs.SparingCalls.{constructor_of, lent_ends_below, made_top, not_made_here, owned_apart}
+use Rattle.value_laws.proofs.SparingEnds.{made_apart}
 use Rattle.value_laws.proofs.Tracking.{same_body}
-use Rattle.covering_laws.proofs.Owners.{HoldersStay, HoldersWere, KeepsFinished, KeepsHeld, held_at}
-use Rattle.covering_laws.proofs.ResetCovers.{IsRenewed, OwnsOrIsLent, Turns, bears_before, keyed_same, keyed_unmade, not_lent, owned_anew, same_held, true_anew, unowned_anew, waiting_anew, AreMaking, held_not_lent}
-use Rattle.covering_laws.proofs.TopSteps.{StopsOwning}
-use Rattle.covering_laws.proofs.Waiting.{IsCarried, KeepsFields, KeepsReady, bore_before}
+use Rattle.value_laws.proofs.WaysUp.{StepsUp, ends, finished_on_the_way, goes, steps_up}
+use Rattle.covering_laws.proofs.AlikeHeaps.{AreAlike, IsAlike, alike_holders, old_alike}
+use Rattle.covering_laws.proofs.GivenArguments.{away_moves}
+use Rattle.covering_laws.proofs.HeavyFields.{claims_by, claims_owned}
 use Rattle.covering_laws.proofs.InFields.{held_by_this}
-use Rattle.covering_laws.proofs.HeavyFields.{claims_by}
-use Rattle.covering_laws.proofs.WaitingTargets.{OwnsTarget, owned_or_lent, renewed_at_step, target_mode, target_temp}
+use Rattle.covering_laws.proofs.Owners.{HoldersStay, KeepsGifts, KeepsHeld, OwnerGoes, OwnersGo, StaysApart, WaysGo, held_at, left, passed, stays}
+use Rattle.covering_laws.proofs.ReachedAbove.{IsReachedBy}
+use Rattle.covering_laws.proofs.RenewedOperands.{HoldsLent, claimed_owner, step_renews}
+use Rattle.covering_laws.proofs.ResetCovers.{IsRenewed, Turns, bears_before, keyed_same, keyed_unmade, not_lent, owned_anew, same_held, true_anew, unowned_anew, waiting_anew}
+use Rattle.covering_laws.proofs.TopSteps.{StopsOwning}
+use Rattle.covering_laws.proofs.Waiting.{Carries, KeepsFields, KeepsReady, bore_before}
+use Rattle.covering_laws.proofs.WaitingTargets.{target_mode, target_stays, target_temp}
+
+-- what a field owns may owe a call
+pub field_owes : (x : Object) (w : ℕ) (f : FieldId) → x.owner ≡ owners.Field w f → not (x.finished && is_library_owner x.owner) ≡ true
+field_owes x w f owner = ap (λ (b : Bool). not (x.finished && b)) (ap is_library_owner owner) ∙ none_left x.finished
+  where
+    none_left : (b : Bool) → not (b && false) ≡ true
+    none_left true = refl
+    none_left false = refl
 
 -- a fact without names, of which all is needed, is read anew as it is
-as_it_is : (p : Program) (g : Origin) (f : Fact) (x : Object) → (f.called ≡ no_names) × (f.full ≡ true) → IsTrueOf p x g (fact_as true f) → IsTrueOf p x g f
-as_it_is p g f x none truth = record {
+as_it_is : (p : Program) (g : Origin) (f : Fact) (x : Object) → (f.called ≡ no_names) × (f.full ≡ true) → (anew : Bool) → IsTrueOf p x g (fact_as anew f) → IsTrueOf p x g f
+as_it_is p g f x none false truth = truth
+as_it_is p g f x none true truth = record {
   finished = truth.finished;
   class = truth.class;
   bounded = truth.bounded;
@@ -64,210 +92,428 @@ as_it_is p g f x none truth = record {
     need_of : Bool → Names
     need_of b = need g (record f { full = b })
 
--- `h` is the heap before the end of the call, `k` the heap that the end would leave without the reset, and `j` the one that it leaves
-module _ (p : Program) (ac : Accept p) (forms : HasPlainForms p) (h k j : HeapContents) (caller after : Frame) (rest : List Frame) (below : Stands p caller) (index : ℕ) (t : Step) (here : slice_get (frame_steps p caller) index ≡ Some t)
-    (row : IsCallRow t.action) (same : (v : Value) → root_of j v ≡ root_of k v) (fields : KeepsFields p k j) (finishes : KeepsFinished k j) (covered : IsCovered p h (is_given p h caller) (is_renewed p h caller) rest caller)
-    (was : (n : ℕ) (x : Object) → object_at k n ≡ Some x → IsCarried h n x) (ready : KeepsReady p h k caller) (lent_on : (o : ℕ) (w : Owner) → IsLentFrom p h rest o w → IsLentFrom p k rest o w)
-    (mine : (o : ℕ) (x y : Object) → object_at h o ≡ Some x → object_at k o ≡ Some y → x.finished ≡ true → is_heavy_class p x.class ≡ true → x.owner ≡ owners.Frame (length rest + 1) → y.owner ≡ owners.Frame (length rest + 1))
-    (low : (o : ℕ) (x y : Object) → object_at h o ≡ Some x → object_at k o ≡ Some y → x.finished ≡ true → is_heavy_class p x.class ≡ true → IsLentFrom p h rest o x.owner → y.owner ≡ x.owner)
-    (lasting : KeepsHeld p h k caller) (making : AreMaking p h (caller ∷ rest)) (later : AreMaking p k (caller ∷ rest)) (holders : HoldersWere p h k) (stay : HoldersStay p k j) where
-  -- the fact's place in the caller after the call
+-- ---- over a step without its reset
+
+module _ (p : Program) (below : List Frame) (n : ℕ) (h k : HeapContents) (ways : WaysGo p None below n h k) (go_on : OwnersGo p None below n h k) where
+  -- a field of an object that was finished goes on owning what it owned
+  pub field_stays : (o : ℕ) (x y : Object) (w : ℕ) (f : FieldId) → object_at h o ≡ Some x → object_at k o ≡ Some y → IsHeavyObject p x → x.owner ≡ owners.Field w f → (z : Object) → object_at h w ≡ Some z → z.finished ≡ true
+      → y.owner ≡ x.owner
+  field_stays o x y w f before now heavy own z there done = by x.owner y.owner own (go_on o x y before now heavy.0 heavy.1)
+    where
+      by : (a b : Owner) → a ≡ owners.Field w f → OwnerGoes h None below n a b → b ≡ a
+      by a b is (stays same) = same
+      by a b is (passed from to low) = absurd (true≢false (sym from ∙ ap (is_frame_from n) is))
+      by a b is (left none then' fields news) = absurd (true≢false (sym done ∙ (news w (held_at a w f is)).1 z there))
+
+  -- what is within a finished object stays so, where its class has an obligation
+  pub within_stays : (a b : ℕ) (x z : Object) → object_at h a ≡ Some x → is_heavy_class p x.class ≡ true → object_at h b ≡ Some z → z.finished ≡ true → IsWithin h a b → IsWithin k a b
+  within_stays _ b x z at heavy there done (itself o) = itself o
+  within_stays _ b x z at heavy there done (by_field o v _ f x' at' own rest) =
+      let same = one_object x' x (object_at h o) at' at in
+      let heavy' : is_heavy_class p x'.class ≡ true = ap (λ (u : Object). is_heavy_class p u.class) same ∙ heavy in
+      let y = ways.objects o x' at' in
+      let w = ways.unlinked o x' v f at' heavy' own in
+      let finished' = finished_on_the_way h o b x' z ways.have.unfinished (by_field o v b f x' at' own rest) at' there done in
+      let holder = finished_on_the_way h v b w.0 z ways.have.unfinished rest w.1 there done in
+      by_field o v b f y.0 y.1 (field_stays o x' y.0 v f at' y.1 (finished', heavy') own w.0 w.1 holder ∙ own) (within_stays v b w.0 z w.1 w.3 there done rest)
+
+-- ---- the reset
+
+-- the object is the target of the call's reset, or the target is within it
+pub record IsRisen (p : Program) (h : HeapContents) (l : Locals) (a : Action) (o : ℕ) : Type 0 where
+  pub target : ℕ
+  pub object : Object
+  pub at : object_at h target ≡ Some object
+  pub heavy : IsHeavyObject p object
+  pub renews : renews p h l a target ≡ true
+  pub within : IsWithin h target o
+
+-- The object `o`, which would be `z`, is `y`, its obligation created anew: it was finished, and where its class has an obligation, it is the target, or the target is within it.
+pub record IsTurnedAnew (p : Program) (h : HeapContents) (l : Locals) (a : Action) (o : ℕ) (z y : Object) : Type 0 where
+  pub emptied : IsEmptied p z y
+  pub was : Object
+  pub before : object_at h o ≡ Some was
+  pub done : was.finished ≡ true
+  pub risen : is_heavy_class p z.class ≡ true → IsRisen p h l a o
+
+-- each root that a place of the heap `j` holds is as it would be in the heap `k`, or is turned anew
+abbrev pub AllTurned : Program → HeapContents → HeapContents → HeapContents → Locals → Action → Type 0
+AllTurned p h k j l a = (o : ℕ) (y : Object) (v : Value) → root_of j v ≡ Some o → object_at j o ≡ Some y → (z : Object) × (object_at k o ≡ Some z) × IsAlike z y × ((y ≡ z) ⊎ IsTurnedAnew p h l a o z y)
+
+-- `h` is the heap before the step by which the call ends, `k` the heap that it would leave without the reset, and `j` the one that it leaves; `fr` is the frame that called, which stands on `frs`.
+-- `gives` says what the call gives away, and `renewed` which facts the frame read anew till then.
+module _ (p : Program) (ac : Accept p) (forms : HasPlainForms p) (h k j : HeapContents) (fr after : Frame) (frs : List Frame) (st : Stands p fr) (index : ℕ) (t : Step) (here : slice_get (frame_steps p fr) index ≡ Some t)
+    (row : IsCallRow t.action) (same : (v : Value) → root_of j v ≡ root_of k v) (fields : KeepsFields p k j) (alike : AreAlike k j)
+    (gives : ℕ → ClassId → Bool) (renewed : ℕ → Bool) (old : ℕ → Bool) (at_step : (o : ℕ) (c : ClassId) → gives o c ≡ true → gives_away p h fr.locals t.action o c ≡ true)
+    (read : (o : ℕ) → renewed o ≡ true → (renews p h fr.locals t.action o ≡ true) × (o < next_number h))
+    (covered : IsCovered p h gives (λ o owner. renewed o) old frs fr) (holds : HoldsLent p h old frs fr st)
+    (below : List Frame) (n : ℕ) (ways : WaysGo p None below n h k) (go_on : OwnersGo p None below n h k) (others : StaysApart p h k frs fr) (lasting : KeepsHeld p h k fr) (gift : KeepsGifts p h k fr)
+    (carries : Carries h k) (ready : KeepsReady p h k fr)
+    (mine : (o : ℕ) (x y : Object) → object_at h o ≡ Some x → object_at k o ≡ Some y → x.finished ≡ true → is_heavy_class p x.class ≡ true → gives_away p h fr.locals t.action o x.class ≡ false
+    → x.owner ≡ owners.Frame (length frs + 1) → y.owner ≡ owners.Frame (length frs + 1))
+    (later : HaveEnds k) (new : AreNew p (fr ∷ frs)) (unready : AreUnfinished p h (fr ∷ frs)) (unready' : AreUnfinished p k (fr ∷ frs)) (aged : IsOld p k frs after old) (after_method : after.method ≡ fr.method) where
+  abbrev at : ℕ
+  at = length frs + 1
+
+  -- the fact's place in the frame after the call
   abbrev held_after : PlaceSet → PlaceSet
-  held_after held = places_after p below.number t.action t.edge held
+  held_after held = places_after p st.number t.action t.edge held
 
-  -- how a fact of the caller goes on over the call
+  -- how a fact of the frame goes on over the call
   abbrev pub Goes : Origin → Fact → Fact → Type 0
-  Goes o f g = (moved_at_call p o t.action t.edge f ≡ moves.Moves → is_owned_in g.mode ≡ false) × (is_target p t.action f.places ≡ true → GoesAnew p below.number o t.action f (places_after p below.number t.action t.edge f.places) g)
+  Goes o f g = (moved_at_call p o t.action t.edge f ≡ moves.Moves → is_owned_in g.mode ≡ false) × (is_target p t.action f.places ≡ true → GoesAnew p st.number o t.action f (places_after p st.number t.action t.edge f.places) g)
 
-  -- a fact of the caller after the call that says that it owns the object said so before, or no other fact goes on owning it
+  -- a fact of the frame after the call that claims the object claimed it before; or it says that the frame owns it, and no other fact goes on owning it; or it knows of no calls, and all that its
+  -- class asks for is needed
   abbrev pub IsFromOwned : ℕ → Origin → Fact → Type 0
   IsFromOwned o origin g =
-      ((x : Object) × (object_at h o ≡ Some x) × (c : Covers p h (is_given p h caller o x.class) (is_renewed p h caller o) rest caller o x) × IsOwned p h (is_given p h caller o x.class) (is_renewed p h caller o) rest caller o x c
-      × (origin ≡ c.origin) × Goes c.origin c.fact g)
-      ⊎ (StopsOwning p h caller rest (is_given p h caller) (is_renewed p h caller) Goes o × (is_own g.mode ≡ true))
+      ((x : Object) × (object_at h o ≡ Some x) × (c : Covers p h (gives o x.class) (renewed o) old frs fr o x) × IsOwned p h (gives o x.class) (renewed o) old frs fr o x c × (origin ≡ c.origin) × Goes c.origin c.fact g)
+      ⊎ ((StopsOwning p h fr old frs gives renewed Goes o × (is_own g.mode ≡ true)) ⊎ ((g.called ≡ no_names) × (g.full ≡ true)))
 
   abbrev pub IsKeyedAfter : Place → ℕ → Object → Type 0
   IsKeyedAfter q o y =
-      ((c : Covers p k false (is_renewed p h caller o) rest after o y) × (has c.fact.places q ≡ true) × IsOwned p k false (is_renewed p h caller o) rest after o y c × IsFromOwned o c.origin c.fact)
-      ⊎ IsUnowned p k false (is_renewed p h caller o) rest after q o y
+      ((c : Covers p k false (renewed o) old frs after o y) × (has c.fact.places q ≡ true) × IsOwned p k false (renewed o) old frs after o y c × IsFromOwned o c.origin c.fact)
+      ⊎ IsUnowned p k false (renewed o) old frs after q o y
 
-  -- Object `o`, which would be `z`, is `y`: it is the same, or its obligation was created anew.
-  pub record IsTurned (o : ℕ) (z y : Object) : Type 0 where
-    pub class : y.class ≡ z.class
-    pub finished : y.finished ≡ z.finished
-    pub owner : y.owner ≡ z.owner
-    pub names : (y ≡ z) ⊎ (IsEmptied p z y × (is_renewed p h caller o ≡ true) × ((x : Object) → object_at h o ≡ Some x → x.finished ≡ true))
+  bore : (o : ℕ) (x z : Object) → object_at h o ≡ Some x → object_at k o ≡ Some z → OwesOrHolds p k o z → OwesOrHolds p h o x
+  bore o x z before now owes =
+      let c = carries o z now (numbers_are_in_range h o x before).1 in
+      let one = one_object c.0 x (object_at h o) c.1 before in
+      subst (OwesOrHolds p h o) one (bore_before p h k others.holders o c.0 z c.1 c.3 owes)
 
-  -- ---- an object whose obligation the call creates anew
+  -- the rules let the call create the obligation anew of what a fact of the frame has for the target
+  answer : (away anew : Bool) (o : ℕ) (x : Object) (c : Covers p h away anew old frs fr o x) → is_target p t.action c.fact.places ≡ true
+      → (m : ℕ) × (reset_in (callee p t.action) ≡ Some m) × MayBeAnew p st.number c.origin t.action m c.fact × (moved_at_call p c.origin t.action t.edge c.fact ≡ moves.Moves → ⊥)
+  answer away anew o x c target = elim (answered_target p st.number c.origin t.action t.edge c.fact row target) [
+    | inl fault ↦ absurd (breaks_nothing p ac st.number c.origin index (move_of t) c.fact
+        (subst (λ (b : BodyId). Reach p b (relation_of p b) c.origin fr.control c.fact) (same_body c.body st.number (body_id p fr.method) c.id st.id) c.reached) (step_there p fr st index t here) fault)
+    | inr is ↦ is
+  ]
 
-  module _ (o : ℕ) (x : Object) (before : object_at h o ≡ Some x) (done : x.finished ≡ true) (heavy : is_heavy_class p x.class ≡ true) (owes : OwesOrHolds p h o x) (renewed : is_renewed p h caller o ≡ true) where
-    abbrev away : Bool
-    away = is_given p h caller o x.class
+  -- ---- an object that a reset reaches
 
+  module _ (o : ℕ) (x : Object) (before : object_at h o ≡ Some x) (done : x.finished ≡ true) (heavy : is_heavy_class p x.class ≡ true) (owes : OwesOrHolds p h o x) (risen : IsRisen p h fr.locals t.action o) where
     abbrev anew : Bool
-    anew = is_renewed p h caller o
+    anew = renewed o
 
-    hand : OwnsTarget p h rest caller o x ⊎ (IsLentFrom p h rest o x.owner ⊎ IsHeldBy p caller x.owner)
-    hand = owned_or_lent p ac forms h caller rest below index t here row covered o x before heavy owes done renewed
+    abbrev goal : ℕ
+    goal = risen.target
 
-    temp : (d : ℕ) × IsSmall (places.Temp d) × (root_of h (place_value p h caller.method caller.locals (places.Temp d)) ≡ Some o) × ((held : PlaceSet) → has held (places.Temp d) ≡ true → is_target p t.action held ≡ true)
-    temp = target_temp p ac forms h caller rest below index t here row o (renewed_at_step p h caller below index t o here row renewed)
+    owes_goal : OwesOrHolds p h goal risen.object
+    owes_goal = go (steps_up h goal o risen.within)
+      where
+        go : StepsUp h goal o → OwesOrHolds p h goal risen.object
+        go (ends one) = subst (λ (m : ℕ). OwesOrHolds p h m risen.object) (sym one) (subst (OwesOrHolds p h o) (one_object x risen.object (object_at h o) before (ap (object_at h) (sym one) ∙ risen.at)) owes)
+        go (goes v f y there own rest) = inl (field_owes risen.object v f (ap (λ (u : Object). u.owner) (one_object risen.object y (object_at h goal) risen.at there) ∙ own))
 
-    -- what a field of the caller's object owns it owns then
-    held_stays : (z : Object) → object_at k o ≡ Some z → IsHeldBy p caller x.owner → z.owner ≡ x.owner
-    held_stays z now held = lasting o x z before now done heavy held.0 held.1
+    pub temp : (d : ℕ) × IsSmall (places.Temp d) × (root_of h (place_value p h fr.method fr.locals (places.Temp d)) ≡ Some goal) × ((held : PlaceSet) → has held (places.Temp d) ≡ true → is_target p t.action held ≡ true)
+    temp = target_temp p ac forms h fr old frs st index t here row goal risen.renews
 
-    in_hands : (z : Object) → object_at k o ≡ Some z → OwnsOrIsLent p k rest o z.owner
-    in_hands z now = elim hand [
-      | inl own ↦ inl (length rest + 1, mine o x z before now done heavy (own.key.owner own.kept own.own), omega arith)
+    -- the frame owns the target, and the fact that says so has it
+    abbrev pub OwnsHere : Type 0
+    OwnsHere = (c : Covers p h (gives goal risen.object.class) (renewed goal) old frs fr goal risen.object) × (has c.fact.places (places.Temp temp.0) ≡ true)
+        × IsOwned p h (gives goal risen.object.class) (renewed goal) old frs fr goal risen.object c × (is_own c.fact.mode ≡ true)
+
+    -- the target is in the frame's hand
+    pub hand : OwnsHere ⊎ (IsLentFrom p h frs goal risen.object.owner ⊎ (IsHeldBy p fr risen.object.owner ⊎ IsHeldByLent p h (IsLentFrom p h frs) fr risen.object.owner))
+    hand = by (covered (places.Temp temp.0) goal risen.object temp.1 temp.2 risen.at risen.heavy.1 owes_goal)
+      where
+        by : IsKeyed p h (gives goal risen.object.class) (renewed goal) old frs fr (places.Temp temp.0) goal risen.object
+            → OwnsHere ⊎ (IsLentFrom p h frs goal risen.object.owner ⊎ (IsHeldBy p fr risen.object.owner ⊎ IsHeldByLent p h (IsLentFrom p h frs) fr risen.object.owner))
+        by (owned c in' key) = elim (claims_by p (method_at p fr.method) c.origin c.fact key.owning) [
+          | inl own ↦ inl (c, in', key, own)
+          | inr held ↦ inr (inr (inl (
+            held.1,
+            held_by_this p h (gives goal risen.object.class) (renewed goal) old frs fr goal risen.object c risen.heavy.0 held.0 held.1
+                (claims_owned p (method_at p fr.method) c.origin c.fact key.owning).0,
+          )))
+        ]
+        by (unowned u) =
+            elim (target_mode p ac forms h fr old frs st index t here row (gives goal risen.object.class) (renewed goal) goal risen.object u.covers (temp.3 u.covers.fact.places u.here)) [
+              | inl claimed ↦ absurd (true≢false (sym claimed ∙ u.unowned))
+              | inr mode ↦ elim mode [
+                | inl lends ↦ inr (inl (u.covers.lends lends risen.heavy.0).1)
+                | inr anew' ↦ elim (holds goal risen.object risen.at risen.heavy.1 owes_goal risen.heavy.0 (gives goal risen.object.class) (renewed goal) u.covers anew') [ inl lends ↦ inr (inl lends) | inr held ↦ inr (inr (inr held)) ]
+              ]
+            ]
+
+    -- what the frame owns so is not given away
+    not_given : OwnsHere → gives_away p h fr.locals t.action goal risen.object.class ≡ false
+    not_given (c, in', key, own) = go (gives_away p h fr.locals t.action goal risen.object.class) refl
+      where
+        go : (b : Bool) → gives_away p h fr.locals t.action goal risen.object.class ≡ b → gives_away p h fr.locals t.action goal risen.object.class ≡ false
+        go false none = none
+        go true is =
+            absurd (target_stays p ac forms h fr old frs st index t here row (gives goal risen.object.class) (renewed goal) goal risen.object c (temp.3 c.fact.places in')
+            (away_moves p ac h fr st old frs index t here row (gives goal risen.object.class) (renewed goal) goal risen.object c key risen.heavy.1 is))
+
+    pub its_owner : OwnsHere → risen.object.owner ≡ owners.Frame at
+    its_owner owns = owns.2.owner (go (gives goal risen.object.class) refl) owns.3
+      where
+        go : (b : Bool) → gives goal risen.object.class ≡ b → gives goal risen.object.class ≡ false
+        go false none = none
+        go true is = absurd (true≢false (sym (at_step goal risen.object.class is) ∙ not_given owns))
+
+    pub in_hand : HasInHand p h (IsLentFrom p h frs) at fr goal risen.object.owner
+    in_hand = elim hand [ inl owns ↦ inl (its_owner owns) | inr other ↦ inr other ]
+
+    -- ---- the target in the heap that the step would leave
+
+    next : (y : Object) × (object_at k goal ≡ Some y) × (y.class ≡ risen.object.class) × (risen.object.finished ≡ true → (y.finished ≡ true) × (y.link ≡ risen.object.link))
+    next = ways.objects goal risen.object risen.at
+
+    heavy_next : IsHeavyObject p next.0
+    heavy_next = ((next.3 risen.heavy.0).0, ap (is_heavy_class p) next.2 ∙ risen.heavy.1)
+
+    lends_next : IsHeldByLent p h (IsLentFrom p h frs) fr risen.object.owner → (next.0.owner ≡ risen.object.owner) × IsHeldByLent p k (IsLentFrom p k frs) fr next.0.owner
+    lends_next held =
+        let y = ways.objects held.holder held.object held.at in
+        let kept = others.keeps held.holder held.object y.0 held.at y.1 held.finished held.heavy held.lends in
+        let stay = field_stays p below n h k ways go_on goal risen.object next.0 held.holder held.field risen.at next.1 risen.heavy held.owns held.object held.at held.finished in (
+          stay,
+          record {
+            holder = held.holder;
+            field = held.field;
+            owns = stay ∙ held.owns;
+            runs = held.runs;
+            method = held.method;
+            object = y.0;
+            at = y.1;
+            finished = (y.3 held.finished).0;
+            unlinked = (y.3 held.finished).1 ∙ held.unlinked;
+            heavy = ap (is_heavy_class p) y.2 ∙ held.heavy;
+            lends = kept.1;
+          },
+        )
+
+    in_hand_next : HasInHand p k (IsLentFrom p k frs) at fr goal next.0.owner
+    in_hand_next = elim hand [
+      | inl owns ↦ inl (mine goal risen.object next.0 risen.at next.1 risen.heavy.0 risen.heavy.1 (not_given owns) (its_owner owns))
       | inr other ↦ elim other [
-        | inl lent ↦ inr (inl (subst (IsLentFrom p k rest o) (sym (low o x z before now done heavy lent)) (lent_on o x.owner lent)))
-        | inr held ↦ (let its = later.0 x.owner held in
-            inr (inr (held.1.holder, ap (λ (a : Owner). is_held_by a held.1.holder) (held_stays z now held) ∙ held_at x.owner held.1.holder held.1.field held.1.owns, its.0, its.1)))
+        | inl lent ↦ inr (inl (others.keeps goal risen.object next.0 risen.at next.1 risen.heavy.0 risen.heavy.1 lent).1)
+        | inr field ↦ elim field [
+          | inl held ↦ inr (inr (inl (subst (IsHeldBy p fr) (sym (lasting goal risen.object next.0 risen.at next.1 risen.heavy.0 risen.heavy.1 held.0 held.1)) held)))
+          | inr held ↦ inr (inr (inr (lends_next held).1))
+        ]
       ]
     ]
 
-    -- each fact that claims that the caller owns it, or a field, has the target
-    has_target : (c : Covers p h away anew rest caller o x) → IsOwned p h away anew rest caller o x c → is_target p t.action c.fact.places ≡ true
-    has_target c key = elim (key.others (places.Temp temp.0) temp.1 temp.2) [
-      | inl in' ↦ temp.3 c.fact.places in'
-      | inr u ↦ absurd (elim (target_mode p ac forms h caller rest below index t here row away anew o x u.covers (temp.3 u.covers.fact.places u.here)) [
-        | inl claimed ↦ true≢false (sym claimed ∙ u.unowned)
-        | inr mode ↦ (let lent = u.covers.lends mode done in
-            elim (claims_by p (method_at p caller.method) c.origin c.fact key.owning) [
-              | inl own ↦ not_lent p h rest o x.owner (key.owner lent.0 own) lent.1
-              | inr held ↦ held_not_lent p h caller rest o x.owner making (held.1, held_by_this p h away anew rest caller o x c done held.0 held.1) lent.1
-            ])
-      ])
+    within_next : IsWithin k goal o
+    within_next = within_stays p below n h k ways go_on goal o risen.object x risen.at risen.heavy.1 before done risen.within
+
+    reached : IsReachedBy p k frs o
+    reached = record {
+      mid = fr ∷ [];
+      target = goal;
+      object = next.0;
+      at = next.1;
+      heavy = heavy_next;
+      lent = ((gift goal).1 ∙ step_renews p h fr index t goal here risen.renews, in_hand_next);
+      within = within_next;
+      new = new;
+      unfinished = unready';
+    }
+
+    -- ---- the fact that claims the object
+
+    held_not_lent : IsHeldBy p fr x.owner → IsLentFrom p h frs o x.owner → ⊥
+    held_not_lent held lent =
+        not_made_here p h ways.have fr frs new unready o o x (lent_ends_below p h ways.have frs unready.1 o x before lent) before held (made_top p h ways.have fr frs unready o x before held)
+
+    -- it has the target
+    has_target : (c : Covers p h (gives o x.class) anew old frs fr o x) → IsOwned p h (gives o x.class) anew old frs fr o x c → gives o x.class ≡ false → is_target p t.action c.fact.places ≡ true
+    has_target c key kept = elim (claimed_owner p h (gives o x.class) anew old frs fr o x c key kept done) [
+      | inl own ↦ at_goal (owned_apart p h ways.have fr frs new unready o goal x risen.object before own risen.at in_hand (inl risen.within)) (λ lent. not_lent p h frs o x.owner own lent)
+          (λ held. (let never : owners.Field held.holder held.field ≡ owners.Frame at = sym held.owns ∙ own in cc))
+      | inr held ↦ at_goal (made_apart p h ways.have fr frs new unready o goal x risen.object before held risen.at in_hand (inl risen.within)) (λ lent. held_not_lent held lent)
+          (λ lends. true≢false (sym (constructor_of p h ways.have fr x.owner held) ∙ lends.method))
     ]
-
-    own_after : (n : Mode) (held : PlaceSet) → is_own n ≡ true → is_own (mode_at n held) ≡ true
-    own_after modes.Own held own = refl
-    own_after n held own = absurd (true≢false (sym own))
-
-    -- where the caller owns it, a fact goes on owning it
-    goes_on : OwnsTarget p h rest caller o x → StopsOwning p h caller rest (is_given p h caller) (is_renewed p h caller) Goes o → ⊥
-    goes_on own stops =
-        true≢false (sym (own_after own.covers.fact.mode (held_after own.covers.fact.places) own.own)
-        ∙ stops x before (places.Temp temp.0) temp.1 temp.2 own.covers own.key (fact_anew own.covers.fact (held_after own.covers.fact.places)) ((λ moved. absurd (own.stays index t here moved)), (λ is. goes)))
       where
-        reached : Reach p below.number (relation_of p below.number) own.covers.origin caller.control own.covers.fact
-        reached = subst (λ (b : BodyId). Reach p b (relation_of p b) own.covers.origin caller.control own.covers.fact) (same_body own.covers.body below.number (body_id p caller.method) own.covers.id below.id) own.covers.reached
-
-        goes : GoesAnew p below.number own.covers.origin t.action own.covers.fact (held_after own.covers.fact.places) (fact_anew own.covers.fact (held_after own.covers.fact.places))
-        goes = elim (answered_target p below.number own.covers.origin t.action t.edge own.covers.fact row (own.target index t here)) [
-          | inl fault ↦ absurd (breaks_nothing p ac below.number own.covers.origin index (move_of t) own.covers.fact reached (step_there p caller below index t here) fault)
-          | inr is ↦ record { position = is.0; target = is.1; may = is.2; anew = refl }
+        at_goal : goal ≡ o → (IsLentFrom p h frs o x.owner → ⊥) → (IsHeldByLent p h (IsLentFrom p h frs) fr x.owner → ⊥) → is_target p t.action c.fact.places ≡ true
+        at_goal one no_lent no_held = elim (key.others (places.Temp temp.0) temp.1 (temp.2 ∙ ap Some one)) [
+          | inl in' ↦ temp.3 c.fact.places in'
+          | inr u ↦ absurd (elim (target_mode p ac forms h fr old frs st index t here row (gives o x.class) anew o x u.covers (temp.3 u.covers.fact.places u.here)) [
+            | inl claimed ↦ true≢false (sym claimed ∙ u.unowned)
+            | inr mode ↦ elim mode [
+              | inl lends ↦ no_lent (u.covers.lends lends done).1
+              | inr anew' ↦ elim (holds o x before heavy owes done (gives o x.class) anew u.covers anew') [ inl lends ↦ no_lent lends | inr held ↦ no_held held ]
+            ]
+          ])
         ]
 
-    -- the fact that owns it after the call has no names, and needs all
-    emptied : (z : Object) → object_at k o ≡ Some z → (c : Covers p k false anew rest after o z) → IsOwned p k false anew rest after o z c → IsFromOwned o c.origin c.fact → (c.fact.called ≡ no_names) × (c.fact.full ≡ true)
-    emptied z now c key (inl (w, at, d, own, origin, goes)) = by w at d own goes
+    own_after : (m : Mode) (held : PlaceSet) → is_own m ≡ true → is_own (mode_at m held) ≡ true
+    own_after modes.Own held own = refl
+    own_after m held own = absurd (true≢false (sym own))
+
+    -- where the frame owns the object after the call, a fact goes on owning it
+    goes_on : (z : Object) → object_at k o ≡ Some z → z.owner ≡ owners.Frame at → StopsOwning p h fr old frs gives renewed Goes o → ⊥
+    goes_on z now own stops = elim hand [
+      | inl owns ↦ still (subst (λ (m : ℕ). StopsOwning p h fr old frs gives renewed Goes m) (sym one) stops) owns
+      | inr other ↦ elim other [
+        | inl lent ↦ not_lent p h frs goal risen.object.owner (sym (others.keeps goal risen.object next.0 risen.at next.1 risen.heavy.0 risen.heavy.1 lent).0 ∙ its) lent
+        | inr field ↦ elim field [
+          | inl held ↦ (let never : owners.Field held.1.holder held.1.field ≡ owners.Frame at =
+              sym held.1.owns ∙ sym (lasting goal risen.object next.0 risen.at next.1 risen.heavy.0 risen.heavy.1 held.0 held.1) ∙ its in cc)
+          | inr held ↦ (let never : owners.Field held.holder held.field ≡ owners.Frame at = sym held.owns ∙ sym (lends_next held).0 ∙ its in cc)
+        ]
+      ]
+    ]
       where
-        by : (w : Object) → object_at h o ≡ Some w → (d : Covers p h (is_given p h caller o w.class) anew rest caller o w) → IsOwned p h (is_given p h caller o w.class) anew rest caller o w d → Goes d.origin d.fact c.fact
+        one : goal ≡ o
+        one = owned_apart p k later fr frs new unready' o goal z next.0 now own next.1 in_hand_next (inl within_next)
+
+        its : next.0.owner ≡ owners.Frame at
+        its = ap (λ (u : Object). u.owner) (one_object next.0 z (object_at k o) (ap (object_at k) (sym one) ∙ next.1) now) ∙ own
+
+        still : StopsOwning p h fr old frs gives renewed Goes goal → OwnsHere → ⊥
+        still ends' (c, in', key, own') =
+            true≢false (sym (own_after c.fact.mode (held_after c.fact.places) own')
+            ∙ ends' risen.object risen.at (places.Temp temp.0) temp.1 temp.2 c key (fact_anew c.fact (held_after c.fact.places))
+            ((λ moved. absurd (stays' moved)), (λ is. record { position = answer'.0; target = answer'.1; may = answer'.2; anew = refl })))
+          where
+            stays' : moved_at_call p c.origin t.action t.edge c.fact ≡ moves.Moves → ⊥
+            stays' = target_stays p ac forms h fr old frs st index t here row (gives goal risen.object.class) (renewed goal) goal risen.object c (temp.3 c.fact.places in')
+
+            answer' : (m : ℕ) × (reset_in (callee p t.action) ≡ Some m) × MayBeAnew p st.number c.origin t.action m c.fact × (moved_at_call p c.origin t.action t.edge c.fact ≡ moves.Moves → ⊥)
+            answer' = answer (gives goal risen.object.class) (renewed goal) goal risen.object c (temp.3 c.fact.places in')
+
+    -- what claims the object after the call knows no names, and needs all
+    emptied : (z : Object) → object_at k o ≡ Some z → (c : Covers p k false anew old frs after o z) → IsOwned p k false anew old frs after o z c → claims p (method_at p fr.method) c.origin c.fact ≡ true → IsFromOwned o c.origin c.fact
+        → (c.fact.called ≡ no_names) × (c.fact.full ≡ true)
+    emptied z now c key claimed (inl (w, there, d, own, origin, goes')) = by w there d own goes'
+      where
+        by : (w : Object) → object_at h o ≡ Some w → (d : Covers p h (gives o w.class) anew old frs fr o w) → IsOwned p h (gives o w.class) anew old frs fr o w d → Goes d.origin d.fact c.fact
             → (c.fact.called ≡ no_names) × (c.fact.full ≡ true)
-        by w at d own goes = (ap (λ (f : Fact). f.called) is, ap (λ (f : Fact). f.full) is)
+        by w there d own goes' = (ap (λ (f : Fact). f.called) is, ap (λ (f : Fact). f.full) is)
           where
             one : x ≡ w
-            one = let both : Some x ≡ Some w = sym before ∙ at in cc
+            one = one_object x w (object_at h o) before there
+
+            kept : gives o w.class ≡ false
+            kept = go (gives o w.class) refl
+              where
+                go : (b : Bool) → gives o w.class ≡ b → gives o w.class ≡ false
+                go false none = none
+                go true gives' =
+                    absurd (true≢false (sym (claims_owned p (method_at p fr.method) c.origin c.fact claimed).1
+                    ∙ goes'.0 (away_moves p ac h fr st old frs index t here row (gives o w.class) anew o w d own (ap (λ (u : Object). is_heavy_class p u.class) (sym one) ∙ heavy) (at_step o w.class gives'))))
 
             target : is_target p t.action d.fact.places ≡ true
             target =
-                subst (λ (u : Object). (e : Covers p h (is_given p h caller o u.class) anew rest caller o u) → IsOwned p h (is_given p h caller o u.class) anew rest caller o u e → is_target p t.action e.fact.places ≡ true) one has_target d own
+                subst (λ (u : Object). (e : Covers p h (gives o u.class) anew old frs fr o u) → IsOwned p h (gives o u.class) anew old frs fr o u e → gives o u.class ≡ false → is_target p t.action e.fact.places ≡ true) one
+                has_target d own kept
 
             is : c.fact ≡ fact_anew d.fact (held_after d.fact.places)
-            is = (goes.1 target).anew
-    emptied z now c key (inr (stops, own')) = absurd (elim hand [
-      | inl own ↦ goes_on own stops
-      | inr other ↦ elim other [
-        | inl lent ↦ not_lent p h rest o x.owner (sym (low o x z before now done heavy lent) ∙ key.owner refl own') lent
-        | inr held ↦ (let never : owners.Field held.1.holder held.1.field ≡ owners.Frame (length rest + 1) = sym held.1.owns ∙ sym (held_stays z now held) ∙ key.owner refl own' in cc)
-      ]
-    ])
+            is = (goes'.1 target).anew
+    emptied z now c key claimed (inr (inl (stops, own'))) = absurd (goes_on z now (key.owner refl own') stops)
+    emptied z now c key claimed (inr (inr none)) = none
 
-    -- the caller's place after the reset
-    keyed_anew : (q : Place) (z y : Object) → object_at k o ≡ Some z → IsTurned o z y → IsKeyedAfter q o z → IsKeyed p j false false rest after q o y
-    keyed_anew q z y now turn (inr u) = unowned (unowned_anew p k j same fields finishes false anew false rest after o z y turn.class turn.finished turn.owner (in_hands z now) q u)
-    keyed_anew q z y now turn (inl (c, in', key, from)) =
-        owned_anew p k j same fields finishes false anew false rest after o z y turn.class turn.finished turn.owner (in_hands z now) q c in' key
-        (λ claimed apart. true_after (as_it_is p c.origin c.fact z none (subst (λ (b : Bool). IsTrueOf p z c.origin (fact_as b c.fact)) renewed (c.true' claimed apart))))
+    -- the frame's place after the reset
+    keyed_anew : (q : Place) (z y : Object) → object_at k o ≡ Some z → IsAlike z y → (y ≡ z) ⊎ IsEmptied p z y → IsKeyedAfter q o z → IsKeyed p j false false old frs after q o y
+    keyed_anew q z y now like turn key = by key
       where
-        none : (c.fact.called ≡ no_names) × (c.fact.full ≡ true)
-        none = emptied z now c key from
+        wide : is_heavy_class p z.class ≡ true
+        wide = let w = ways.objects o x before in ap (is_heavy_class p) (ap (λ (u : Object). u.class) (one_object z w.0 (object_at k o) now w.1) ∙ w.2) ∙ heavy
 
-        true_after : IsTrueOf p z c.origin c.fact → IsTrueOf p y c.origin c.fact
-        true_after truth = elim turn.names [
-          | inl it ↦ subst (λ (u : Object). IsTrueOf p u c.origin c.fact) (sym it) truth
-          | inr em ↦ true_anew p c.origin c.fact z y (origin_needs_all p c.body c.origin after.control c.fact c.reached) none turn.class turn.finished em.0.called em.0.must truth
-        ]
+        by : IsKeyedAfter q o z → IsKeyed p j false false old frs after q o y
+        by (inr u) = unowned (unowned_anew p k j same fields alike later false anew false old frs after aged o z y now wide like.class like.finished like.owner reached q u)
+        by (inl (c, in', key', from)) =
+            owned_anew p k j same fields alike later false anew false old frs after aged o z y now wide like.class like.finished like.owner reached q c in' key'
+            (λ claimed apart. true_after (as_it_is p c.origin c.fact z none anew (c.true' claimed apart)))
+          where
+            method : claims p (method_at p fr.method) c.origin c.fact ≡ claims p (method_at p after.method) c.origin c.fact
+            method = ap (λ (m : MethodId). claims p (method_at p m) c.origin c.fact) (sym after_method)
 
-  -- ---- the caller
+            none : (c.fact.called ≡ no_names) × (c.fact.full ≡ true)
+            none = emptied z now c key' (method ∙ key'.owning) from
 
-  -- each root that a place holds was there, and is so
-  abbrev pub AllTurned : Type 0
-  AllTurned = (o : ℕ) (y : Object) (v : Value) → root_of j v ≡ Some o → object_at j o ≡ Some y → (z : Object) × (object_at k o ≡ Some z) × IsTurned o z y
+            true_after : IsTrueOf p z c.origin c.fact → IsTrueOf p y c.origin c.fact
+            true_after truth = elim turn [
+              | inl it ↦ subst (λ (u : Object). IsTrueOf p u c.origin c.fact) (sym it) truth
+              | inr em ↦ true_anew p c.origin c.fact z y (origin_needs_all p c.body c.origin after.control c.fact c.reached) none like.class like.finished em.called em.must truth
+            ]
 
-  module _ (turns : AllTurned) where
-    pub caller_anew : ((q : Place) (o : ℕ) (y : Object) → IsSmall q → root_of k (place_value p k after.method after.locals q) ≡ Some o → object_at k o ≡ Some y → is_heavy_class p y.class ≡ true → OwesOrHolds p k o y → IsKeyedAfter q o y)
-        → IsCovered p j gives_none renews_none rest after
-    caller_anew from q o y small held now heavy owes = by (is_renewed p h caller o) refl
+  -- ---- all frames
+
+  module _ (turns : AllTurned p h k j fr.locals t.action) where
+    stay : HoldersStay p k j
+    stay = alike_holders p k j alike
+
+    -- the frame that called
+    pub covered_anew : ((q : Place) (o : ℕ) (y : Object) → IsSmall q → root_of k (place_value p k after.method after.locals q) ≡ Some o → object_at k o ≡ Some y → is_heavy_class p y.class ≡ true → OwesOrHolds p k o y → IsKeyedAfter q o y)
+        → IsCovered p j gives_none renews_none old frs after
+    covered_anew from q o y small held now heavy owes = by (renewed o) refl
       where
-        turned : (z : Object) × (object_at k o ≡ Some z) × IsTurned o z y
+        turned : (z : Object) × (object_at k o ≡ Some z) × IsAlike z y × ((y ≡ z) ⊎ IsTurnedAnew p h fr.locals t.action o z y)
         turned = turns o y (place_value p j after.method after.locals q) held now
 
+        like : IsAlike turned.0 y
+        like = turned.2
+
         owes' : OwesOrHolds p k o turned.0
-        owes' = bears_before p k j stay o turned.0 y turned.2.finished turned.2.owner owes
+        owes' = bears_before p k j stay o turned.0 y like.finished like.owner owes
 
         heavy' : is_heavy_class p turned.0.class ≡ true
-        heavy' = ap (is_heavy_class p) (sym turned.2.class) ∙ heavy
+        heavy' = ap (is_heavy_class p) (sym like.class) ∙ heavy
 
         key : IsKeyedAfter q o turned.0
-        key = from q o turned.0 small (sym (same_held p k j same fields finishes after.method after.locals q) ∙ held) turned.1 heavy' owes'
+        key = from q o turned.0 small (sym (same_held p k j same fields alike after.method after.locals q) ∙ held) turned.1 heavy' owes'
 
-        as_keyed : IsKeyed p k false (is_renewed p h caller o) rest after q o turned.0
+        as_keyed : IsKeyed p k false (renewed o) old frs after q o turned.0
         as_keyed = elim key [ inl is ↦ owned is.0 is.1 is.2 | inr u ↦ unowned u ]
 
-        old : IsCarried h o turned.0
-        old = was o turned.0 turned.1
-
-        by_done : (b : Bool) → old.0.finished ≡ b → is_renewed p h caller o ≡ true → IsKeyed p j false false rest after q o y
-        by_done true done renewed =
-            keyed_anew o old.0 old.1 done (ap (is_heavy_class p) (sym old.2) ∙ heavy') (bore_before p h k holders o old.0 turned.0 old.1 old.3 owes') renewed q turned.0 y turned.1 turned.2 key
-        by_done false unmade renewed = by_made turned.0.finished refl
+        -- it is a target
+        by_done : (w : Object) → object_at h o ≡ Some w → turned.0.class ≡ w.class → renewed o ≡ true → (b : Bool) → w.finished ≡ b → IsKeyed p j false false old frs after q o y
+        by_done w before class is true done =
+            keyed_anew o w before done wide (bore o w turned.0 before turned.1 owes') (record { target = o; object = w; at = before; heavy = (done, wide); renews = (read o is).0; within = itself o }) q turned.0 y turned.1 like
+            (elim turned.3 [ inl it ↦ inl it | inr em ↦ inr em.emptied ]) key
           where
-            temp' : (d : ℕ) × IsSmall (places.Temp d) × (root_of h (place_value p h caller.method caller.locals (places.Temp d)) ≡ Some o) × ((held : PlaceSet) → has held (places.Temp d) ≡ true → is_target p t.action held ≡ true)
-            temp' = target_temp p ac forms h caller rest below index t here row o (renewed_at_step p h caller below index t o here row renewed)
-
-            by_made : (b : Bool) → turned.0.finished ≡ b → IsKeyed p j false false rest after q o y
-            by_made true made = absurd (true≢false (sym (ready (places.Temp temp'.0) o old.0 turned.0 temp'.1 temp'.2 old.1 turned.1 made) ∙ unmade))
-            by_made false still = keyed_unmade p k j same fields finishes (is_renewed p h caller o) false rest after q o turned.0 y turned.2.class turned.2.finished turned.2.owner still as_keyed
-
-        by : (b : Bool) → is_renewed p h caller o ≡ b → IsKeyed p j false false rest after q o y
-        by true renewed = by_done old.0.finished refl renewed
-        by false none = subst (λ (w : Object). IsKeyed p j false false rest after q o w) (sym it) (keyed_same p k j same fields finishes false false rest after o turned.0 q (subst (λ (b : Bool). IsKeyed p k false b rest after q o turned.0) none as_keyed))
+            wide : is_heavy_class p w.class ≡ true
+            wide = ap (is_heavy_class p) (sym class) ∙ heavy'
+        by_done w before class is false unmade = by_made turned.0.finished refl
           where
-            it : y ≡ turned.0
-            it = elim turned.2.names [ inl is ↦ is | inr em ↦ absurd (true≢false (sym em.1 ∙ none)) ]
+            place : (d : ℕ) × IsSmall (places.Temp d) × (root_of h (place_value p h fr.method fr.locals (places.Temp d)) ≡ Some o) × ((held : PlaceSet) → has held (places.Temp d) ≡ true → is_target p t.action held ≡ true)
+            place = target_temp p ac forms h fr old frs st index t here row o (read o is).0
+
+            by_made : (b : Bool) → turned.0.finished ≡ b → IsKeyed p j false false old frs after q o y
+            by_made true made = absurd (true≢false (sym (ready (places.Temp place.0) o w turned.0 place.1 place.2 before turned.1 made) ∙ unmade))
+            by_made false still = keyed_unmade p k j same fields alike (renewed o) false old frs after q o turned.0 y like.class like.finished like.owner still as_keyed
+
+        by : (b : Bool) → renewed o ≡ b → IsKeyed p j false false old frs after q o y
+        by true is = let w = carries o turned.0 turned.1 (read o is).1 in by_done w.0 w.1 w.2 is w.0.finished refl
+        by false none = elim turned.3 [
+          | inl it ↦ subst (λ (w : Object). IsKeyed p j false false old frs after q o w) (sym it)
+              (keyed_same p k j same fields alike false false old frs after o turned.0 q (subst (λ (b : Bool). IsKeyed p k false b old frs after q o turned.0) none as_keyed))
+          | inr em ↦ keyed_anew o em.was em.before em.done
+              (let w = ways.objects o em.was em.before in ap (is_heavy_class p) (sym (ap (λ (u : Object). u.class) (one_object turned.0 w.0 (object_at k o) turned.1 w.1) ∙ w.2)) ∙ heavy')
+              (bore o em.was turned.0 em.before turned.1 owes') (em.risen heavy') q turned.0 y turned.1 like (inr em.emptied) key
+        ]
 
     -- the frames that wait below it
-    pub rest_anew : AreWaiting p k rest → AreWaiting p j rest
-    rest_anew waits = waiting_anew p k j same fields finishes stay rest later.1 below_turns waits
+    pub rest_anew : AreWaiting p k old frs → AreWaiting p j old frs
+    rest_anew waits = waiting_anew p k j same fields alike later old frs below_turns waits
       where
-        below_turns : Turns p k j same fields finishes rest
-        below_turns o y v root now = (turned.0, turned.1, elim turned.2.names [ inl it ↦ inl it | inr em ↦ inr (renewed em.0 em.1 em.2) ])
+        below_turns : Turns p k j same fields alike frs
+        below_turns o y v root now = (turned.0, turned.1, elim turned.3 [ inl it ↦ inl it | inr em ↦ inr (renewed' em) ])
           where
-            turned : (z : Object) × (object_at k o ≡ Some z) × IsTurned o z y
+            turned : (z : Object) × (object_at k o ≡ Some z) × IsAlike z y × ((y ≡ z) ⊎ IsTurnedAnew p h fr.locals t.action o z y)
             turned = turns o y v root now
 
-            renewed : IsEmptied p turned.0 y → is_renewed p h caller o ≡ true → ((x : Object) → object_at h o ≡ Some x → x.finished ≡ true) → IsRenewed p k rest o turned.0 y
-            renewed em anew done = record {
+            renewed' : IsTurnedAnew p h fr.locals t.action o turned.0 y → IsRenewed p k frs o turned.0 y
+            renewed' em = record {
               class = turned.2.class;
               finished = turned.2.finished;
               owner = turned.2.owner;
-              called = em.called;
-              must = em.must;
-              mine = λ heavy owes.
-                  let old = was o turned.0 turned.1 in
-                  in_hands o old.0 old.1 (done old.0 old.1) (ap (is_heavy_class p) (sym old.2 ∙ sym turned.2.class) ∙ heavy)
-                  (bore_before p h k holders o old.0 turned.0 old.1 old.3 owes) anew turned.0 turned.1;
+              called = em.emptied.called;
+              must = em.emptied.must;
+              reached = λ heavy owes.
+                  let heavy' : is_heavy_class p turned.0.class ≡ true = ap (is_heavy_class p) (sym turned.2.class) ∙ heavy in
+                  let w = ways.objects o em.was em.before in
+                  reached o em.was em.before em.done (ap (is_heavy_class p) (sym (ap (λ (u : Object). u.class) (one_object turned.0 w.0 (object_at k o) turned.1 w.1) ∙ w.2)) ∙ heavy')
+                  (bore o em.was turned.0 em.before turned.1 owes) (em.risen heavy');
             }
+
+    -- all of them
+    pub all_anew : ((q : Place) (o : ℕ) (y : Object) → IsSmall q → root_of k (place_value p k after.method after.locals q) ≡ Some o → object_at k o ≡ Some y → is_heavy_class p y.class ≡ true → OwesOrHolds p k o y → IsKeyedAfter q o y)
+        → AreWaiting p k old frs → OwnersBelow j (length frs + 1) → AreCovered p j (after ∷ frs)
+    all_anew from waits low = (old, old_alike p k j alike frs after old aged, covered_anew from, rest_anew waits, low)

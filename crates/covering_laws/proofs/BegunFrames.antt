@@ -31,7 +31,7 @@ use Rattle.value_laws.specs.Configuration.{Frame}
 use Rattle.value_laws.proofs.PlaceLaws.{single_place-alone}
 use Rattle.value_laws.specs.Agreement.{Stands}
 use Rattle.value_laws.specs.PlainForms.{is_lent_parameter}
-use Rattle.value_laws.specs.PlaceFacts.{Covers, IsTrueOf, asked_of, claims, fits_field, is_apart, is_frame_from, is_heavy_field, is_lent, is_owning_fact, HasOlderHolder}
+use Rattle.value_laws.specs.PlaceFacts.{Covers, HasOwningField, IsTrueOf, asked_of, claims, fits_field, is_heavy_field, is_lent, is_owning_fact}
 use Rattle.covering_laws.proofs.HeavyFields.{tells_by}
 use Rattle.covering_laws.proofs.Births.{at_itself, at_one}
 use Rattle.rlc_base.proofs.SetLaws.{empty_within, within_trans, within_union_left}
@@ -74,25 +74,24 @@ lent_unowned p s k x c type lent = by x.owning refl
         ap (λ (b : Bool). b && is_own (parameter_mode s k x)) light
     by false other = not_and (is_heavy_class p c) (is_own (parameter_mode s k x)) (rw other (not_own _ _ (lent_or_none _ _)))
 
-module _ (p : Program) (k : HeapContents) (fr : Frame) (st : Stands p fr) (starts : fr.control ≡ start_of p st.number) (frs : List Frame) where
-  -- A place is covered by its birth at the entry. What is born as lent is so from a frame below. What is lent to the frame, or a field of `this` holds,
-  -- neither it nor a frame above owns, where it was not given to it, and the names that its fact knows are asked for; where a field owns it, the field's object is finished, or a frame below runs on it. The place of an owning field is born as
+module _ (p : Program) (k : HeapContents) (fr : Frame) (st : Stands p fr) (starts : fr.control ≡ start_of p st.number) (old : ℕ → Bool) (frs : List Frame) where
+  -- A place is covered by its birth at the entry. What is born as lent is so from a frame below, and finished where its class has owning fields. Of what is lent to the frame, or a field of `this` holds,
+  -- the names that its fact knows are asked for. The place of an owning field is born as
   -- held, and its class has an obligation where the field's type has one.
   pub entered_covers : (q : Place) (o : ℕ) (y : Object) (g : Origin) (mode : Mode) (names : Names) (full : Bool) (n : ℕ) → IsSmall q
       → slice_get (births_at_entry p st.number) n ≡ Some (g, fact_at q mode names full) → root_of k (place_value p k fr.method fr.locals q) ≡ Some o
       → (claims p (method_at p fr.method) g (fact_at q mode names full) ≡ true → IsTrueOf p y g (fact_at q mode names full))
       → (is_lent p (method_at p fr.method) g.kind ≡ true
       → (is_owning_fact p g (fact_at q mode names full) ≡ false) × (is_held mode ≡ false) × (set.is_subset names (asked_of p (method_at p fr.method) g.kind) ≡ true)) → (is_held mode ≡ true → is_empty names ≡ true)
-      → (y.finished ≡ true → is_apart p k frs fr o y (fact_at q mode names full) ≡ true → is_frame_from (length frs + 1) y.owner ≡ false)
       → (is_held mode ≡ true → makes_alone (method_at p fr.method) ≡ true → ⊥) → (mode ≡ modes.Lent → y.finished ≡ true → IsLentFrom p k frs o y.owner)
       → (constructs (method_at p fr.method) ≡ true → is_this_origin g.kind ≡ true → y.finished ≡ false)
+      → (mode ≡ modes.Lent → (constructs (method_at p fr.method) && is_this_origin g.kind) ≡ false → HasOwningField p y.class → y.finished ≡ true)
       → ((j : ℕ) → q ≡ places.Field j → is_heavy_class p g.class ≡ true → fits_field p fr.method j g.class ≡ true)
       → ((j : ℕ) → q ≡ places.Field j → is_heavy_field p fr.method q ≡ true → (mode ≡ modes.Held) × (is_heavy_class p g.class ≡ true))
       → ((j : ℕ) → q ≡ places.Field j → mode ≡ modes.Held)
-      → (y.finished ≡ true → HasOlderHolder k frs y.owner)
-      → (c : Covers p k false false frs fr o y) × (has c.fact.places q ≡ true) × (c.origin ≡ g) × (c.fact ≡ fact_at q mode names full)
-  entered_covers q o y g mode names full n small birth root truth lent' none below unmade lends makes wide held field older =
-      let covers : Covers p k false false frs fr o y = record {
+      → (c : Covers p k false false old frs fr o y) × (has c.fact.places q ≡ true) × (c.origin ≡ g) × (c.fact ≡ fact_at q mode names full)
+  entered_covers q o y g mode names full n small birth root truth lent' none unmade lends makes complete wide held field =
+      let covers : Covers p k false false old frs fr o y = record {
         body = st.number;
         id = st.id;
         origin = g;
@@ -101,20 +100,17 @@ module _ (p : Program) (k : HeapContents) (fr : Frame) (st : Stands p fr) (start
         alone = single_place-alone q small;
         places = λ z small' is. subst (λ (u : Place). root_of k (place_value p k fr.method fr.locals u) ≡ Some o) (at_one q small mode names full z small' is) root;
         true' = λ claimed mine. truth claimed;
-        free = λ done held' alone. absurd (unmade held' alone);
+        free = λ done held' alone heavy. absurd (unmade held' alone);
         lent = λ lent. (let is = lent' lent in (is.0, λ held'. absurd (true≢false (sym held' ∙ is.1))));
         lends = λ lent done. (refl, lends lent done);
         makes = makes;
-        unrenewed = λ done tells apart. refl;
-        known = λ done tells apart. (
-          refl,
-          below done apart,
-          elim (tells_by p fr.method g (fact_at q mode names full) tells) [
-            | inl lent ↦ within_trans names (asked_of p (method_at p fr.method) g.kind) (set.union (asked_of p (method_at p fr.method) g.kind) y.called) (lent' lent).2 (within_union_left (asked_of p (method_at p fr.method) g.kind) y.called)
-            | inr held' ↦ within_trans names no_names (set.union (asked_of p (method_at p fr.method) g.kind) y.called) (none held') (empty_within (set.union (asked_of p (method_at p fr.method) g.kind) y.called))
-          ],
-          older done,
-        );
+        complete = complete;
+        unrenewed = λ done tells was is. refl;
+        known = λ done tells apart stays.
+            elim (tells_by p fr.method g (fact_at q mode names full) tells) [
+              | inl lent ↦ within_trans names (asked_of p (method_at p fr.method) g.kind) (set.union (asked_of p (method_at p fr.method) g.kind) y.called) (lent' lent).2 (within_union_left (asked_of p (method_at p fr.method) g.kind) y.called)
+              | inr held' ↦ within_trans names no_names (set.union (asked_of p (method_at p fr.method) g.kind) y.called) (none held') (empty_within (set.union (asked_of p (method_at p fr.method) g.kind) y.called))
+            ];
         fields = λ j inside heavy is. wide j (at_one q small mode names full (places.Field j) inside is) heavy;
         held = λ j inside is heavy.
             let same : q ≡ places.Field j = at_one q small mode names full (places.Field j) inside is in

@@ -51,14 +51,14 @@ module _ (q : Place) (small : IsSmall q) where
   pub no_field : (mode : Mode) (names : Names) (full : Bool) → is_local q ≡ true → (n : ℕ) → n < 16 → has (fact_at q mode names full).places (places.Field n) ≡ true → ⊥
   no_field mode names full local n inside is = true≢false (sym local ∙ ap is_local (at_one mode names full (places.Field n) inside is))
 
-module _ (p : Program) (k : HeapContents) (fr : Frame) (st : Stands p fr) (i : ℕ) (s : Step) (here : slice_get (frame_steps p fr) i ≡ Some s) (after : Frame) (frs : List Frame) where
+module _ (p : Program) (k : HeapContents) (fr : Frame) (st : Stands p fr) (i : ℕ) (s : Step) (here : slice_get (frame_steps p fr) i ≡ Some s) (after : Frame) (old : ℕ → Bool) (frs : List Frame) where
   -- `after` is the frame after the step
   pub born_covers : (anew : Bool) (q : Place) (o : ℕ) (y : Object) (g : Origin) (mode : Mode) (full : Bool) → after.method ≡ fr.method → after.control ≡ s.to → IsSmall q → is_local q ≡ true
       → birth_on p s.action s.edge s.pos ≡ Some (g, fact_at q mode no_names full) → root_of k (place_value p k after.method after.locals q) ≡ Some o
       → ((m : Option Method) → is_lent p m g.kind ≡ false) → is_held mode ≡ false → (mode ≡ modes.Lent → ⊥) → is_this_origin g.kind ≡ false → (claims p (method_at p after.method) g (fact_at q mode no_names full) ≡ true → IsTrueOf p y g (fact_at q mode no_names full))
-      → (c : Covers p k false anew frs after o y) × (has c.fact.places q ≡ true) × (c.origin ≡ g) × (c.fact ≡ fact_at q mode no_names full)
+      → (c : Covers p k false anew old frs after o y) × (has c.fact.places q ≡ true) × (c.origin ≡ g) × (c.fact ≡ fact_at q mode no_names full)
   born_covers anew q o y g mode full method control small local birth root unlent unheld alone' aside truth =
-      let covers : Covers p k false anew frs after o y = record {
+      let covers : Covers p k false anew old frs after o y = record {
         body = st.number;
         id = ap (body_id p) method ∙ st.id;
         origin = g;
@@ -69,10 +69,11 @@ module _ (p : Program) (k : HeapContents) (fr : Frame) (st : Stands p fr) (i : �
         true' = λ claimed mine. true_as p anew y g (fact_at q mode no_names full) (origin_needs_all p st.number g after.control (fact_at q mode no_names full) there) (truth claimed);
         lends = λ lent done. absurd (alone' lent);
         makes = λ constructor this. absurd (true≢false (sym this ∙ aside));
-        unrenewed = λ done tells apart. absurd (silent tells);
+        complete = λ lent other fields. absurd (alone' lent);
+        unrenewed = λ done tells was is. absurd (silent tells);
         lent = λ lent. absurd (true≢false (sym lent ∙ unlent (method_at p after.method)));
-        free = λ done held alone. absurd (true≢false (sym held ∙ unheld));
-        known = λ done tells apart. absurd (silent tells);
+        free = λ done held alone heavy. absurd (true≢false (sym held ∙ unheld));
+        known = λ done tells apart stays. absurd (silent tells);
         fields = λ n inside wide is. absurd (no_field q small mode no_names full local n inside is);
         held = λ n inside is heavy. absurd (no_field q small mode no_names full local n inside is);
         outside = λ plain n inside is. absurd (no_field q small mode no_names full local n inside is);

@@ -66,20 +66,20 @@ pub not_lent_none : modes.None ≡ modes.Lent → ⊥
 not_lent_none is = let never : modes.None ≡ modes.Lent = is in cc
 
 -- the place is in a fact for which this is so, or in one that does not say that the frame owns the object
-abbrev pub IsBornSo : Program → HeapContents → Bool → List Frame → Frame → Place → ℕ → Object → Type 0 → Type 0
-IsBornSo p k anew frs fr q o y A = ((c : Covers p k false anew frs fr o y) × (has c.fact.places q ≡ true) × A) ⊎ IsUnowned p k false anew frs fr q o y
+abbrev pub IsBornSo : Program → HeapContents → Bool → (ℕ → Bool) → List Frame → Frame → Place → ℕ → Object → Type 0 → Type 0
+IsBornSo p k anew old frs fr q o y A = ((c : Covers p k false anew old frs fr o y) × (has c.fact.places q ≡ true) × A) ⊎ IsUnowned p k false anew old frs fr q o y
 
 -- what is born is in a fact that does not say so
-pub born_unowned : (p : Program) (k : HeapContents) (anew : Bool) (frs : List Frame) (fr : Frame) (q : Place) (o : ℕ) (y : Object) (g : Origin) (f : Fact)
-    → (c : Covers p k false anew frs fr o y) × (has c.fact.places q ≡ true) × (c.origin ≡ g) × (c.fact ≡ f) → claims p (method_at p fr.method) g f ≡ false → IsUnowned p k false anew frs fr q o y
-born_unowned p k anew frs fr q o y g f (c, there, origin, fact) none = record { covers = c; here = there; unowned = ap (λ (u : Origin). claims p (method_at p fr.method) u c.fact) origin ∙ ap (claims p (method_at p fr.method) g) fact ∙ none }
+pub born_unowned : (p : Program) (k : HeapContents) (anew : Bool) (old : ℕ → Bool) (frs : List Frame) (fr : Frame) (q : Place) (o : ℕ) (y : Object) (g : Origin) (f : Fact)
+    → (c : Covers p k false anew old frs fr o y) × (has c.fact.places q ≡ true) × (c.origin ≡ g) × (c.fact ≡ f) → claims p (method_at p fr.method) g f ≡ false → IsUnowned p k false anew old frs fr q o y
+born_unowned p k anew old frs fr q o y g f (c, there, origin, fact) none = record { covers = c; here = there; unowned = ap (λ (u : Origin). claims p (method_at p fr.method) u c.fact) origin ∙ ap (claims p (method_at p fr.method) g) fact ∙ none }
 
-module _ (p : Program) (h k : HeapContents) (fr : Frame) (st : Stands p fr) (i : ℕ) (s : Step) (here : slice_get (frame_steps p fr) i ≡ Some s) (v : Value) (frs : List Frame) (anew : Bool) (d o : ℕ) (y : Object) (small : IsSmall (places.Temp d))
+module _ (p : Program) (h k : HeapContents) (fr : Frame) (st : Stands p fr) (i : ℕ) (s : Step) (here : slice_get (frame_steps p fr) i ≡ Some s) (v : Value) (old : ℕ → Bool) (frs : List Frame) (anew : Bool) (d o : ℕ) (y : Object) (small : IsSmall (places.Temp d))
     (root : root_of k (place_value p k fr.method (frame_after p h fr s v).locals (places.Temp d)) ≡ Some o) (m : MethodId) (x : Method) (edge : s.edge ≡ edges.Go) (named : method_at p m ≡ Some x) (alias : x.sig.alias ≡ None) where
   -- the result of a call
   pub result_covers : (c : ℕ) (form : TargetForm) (r : ClassId) → s.action ≡ actions.Call m d c form → x.sig.result ≡ Some (types.Obj r)
       → (x.sig.owning_result ≡ true → is_heavy_class p r ≡ true → IsTrueOf p y (origin_of p kinds.Result s.pos r x.sig.first) (fact_at (places.Temp d) modes.Own no_names false))
-      → IsBornSo p k anew frs (frame_after p h fr s v) (places.Temp d) o y ((x.sig.owning_result ≡ true) × (is_heavy_class p r ≡ true))
+      → IsBornSo p k anew old frs (frame_after p h fr s v) (places.Temp d) o y ((x.sig.owning_result ≡ true) × (is_heavy_class p r ≡ true))
   result_covers c form r is result truth = by x.sig.owning_result refl
     where
       birth : birth_on p s.action s.edge s.pos ≡ Some (origin_of p kinds.Result s.pos r x.sig.first, result_fact d x.sig.owning_result)
@@ -97,32 +97,32 @@ module _ (p : Program) (h k : HeapContents) (fr : Frame) (st : Stands p fr) (i :
       heavy_of true c' e = refl
       heavy_of false c' e = absurd (true≢false (sym e))
 
-      by : (b : Bool) → x.sig.owning_result ≡ b → IsBornSo p k anew frs (frame_after p h fr s v) (places.Temp d) o y ((x.sig.owning_result ≡ true) × (is_heavy_class p r ≡ true))
+      by : (b : Bool) → x.sig.owning_result ≡ b → IsBornSo p k anew old frs (frame_after p h fr s v) (places.Temp d) o y ((x.sig.owning_result ≡ true) × (is_heavy_class p r ≡ true))
       by true own = by_class (is_heavy_class p r) refl
         where
-          born_here : (z : Covers p k false anew frs (frame_after p h fr s v) o y) × (has z.fact.places (places.Temp d) ≡ true) × (z.origin ≡ origin_of p kinds.Result s.pos r x.sig.first)
+          born_here : (z : Covers p k false anew old frs (frame_after p h fr s v) o y) × (has z.fact.places (places.Temp d) ≡ true) × (z.origin ≡ origin_of p kinds.Result s.pos r x.sig.first)
               × (z.fact ≡ fact_at (places.Temp d) modes.Own no_names false)
           born_here =
-              born_covers p k fr st i s here (frame_after p h fr s v) frs anew (places.Temp d) o y (origin_of p kinds.Result s.pos r x.sig.first) modes.Own false refl refl small refl
+              born_covers p k fr st i s here (frame_after p h fr s v) old frs anew (places.Temp d) o y (origin_of p kinds.Result s.pos r x.sig.first) modes.Own false refl refl small refl
               (birth ∙ ap (λ (b : Bool). Some (origin_of p kinds.Result s.pos r x.sig.first, result_fact d b)) own) root
               (result_unlent p s.pos r x.sig.first) refl not_lent_own (result_is_other p s.pos r x.sig.first) (λ claimed. truth own (ap (is_heavy_class p) (sym class) ∙ heavy_of _ _ claimed))
 
-          by_class : (b : Bool) → is_heavy_class p r ≡ b → IsBornSo p k anew frs (frame_after p h fr s v) (places.Temp d) o y ((x.sig.owning_result ≡ true) × (is_heavy_class p r ≡ true))
+          by_class : (b : Bool) → is_heavy_class p r ≡ b → IsBornSo p k anew old frs (frame_after p h fr s v) (places.Temp d) o y ((x.sig.owning_result ≡ true) × (is_heavy_class p r ≡ true))
           by_class true heavy = inl (born_here.0, born_here.1, (own, heavy))
-          by_class false light = inr (born_unowned p k anew frs (frame_after p h fr s v) (places.Temp d) o y (origin_of p kinds.Result s.pos r x.sig.first) (fact_at (places.Temp d) modes.Own no_names false) born_here
+          by_class false light = inr (born_unowned p k anew old frs (frame_after p h fr s v) (places.Temp d) o y (origin_of p kinds.Result s.pos r x.sig.first) (fact_at (places.Temp d) modes.Own no_names false) born_here
               (ap (λ (b : Bool). b && true) (ap (is_heavy_class p) class ∙ light)))
       by false own =
-          inr (born_unowned p k anew frs (frame_after p h fr s v) (places.Temp d) o y (origin_of p kinds.Result s.pos r x.sig.first) (fact_at (places.Temp d) modes.None no_names true)
-          (born_covers p k fr st i s here (frame_after p h fr s v) frs anew (places.Temp d) o y (origin_of p kinds.Result s.pos r x.sig.first) modes.None true refl refl small refl
+          inr (born_unowned p k anew old frs (frame_after p h fr s v) (places.Temp d) o y (origin_of p kinds.Result s.pos r x.sig.first) (fact_at (places.Temp d) modes.None no_names true)
+          (born_covers p k fr st i s here (frame_after p h fr s v) old frs anew (places.Temp d) o y (origin_of p kinds.Result s.pos r x.sig.first) modes.None true refl refl small refl
           (birth ∙ ap (λ (b : Bool). Some (origin_of p kinds.Result s.pos r x.sig.first, result_fact d b)) own) root
           (result_unlent p s.pos r x.sig.first) refl not_lent_none (result_is_other p s.pos r x.sig.first) (λ claimed. absurd (unclaimed p (method_at p fr.method) (origin_of p kinds.Result s.pos r x.sig.first) (places.Temp d) claimed)))
           (unowned_mode p (origin_of p kinds.Result s.pos r x.sig.first)))
 
   -- the object of a `new`
   pub new_covers : (c : ℕ) → s.action ≡ actions.New m d c → is_heavy_class p x.class ≡ true
-      → IsTrueOf p y (origin_of p kinds.New s.pos x.class x.sig.first) (fact_at (places.Temp d) modes.Own no_names false) → (z : Covers p k false anew frs (frame_after p h fr s v) o y) × (has z.fact.places (places.Temp d) ≡ true)
+      → IsTrueOf p y (origin_of p kinds.New s.pos x.class x.sig.first) (fact_at (places.Temp d) modes.Own no_names false) → (z : Covers p k false anew old frs (frame_after p h fr s v) o y) × (has z.fact.places (places.Temp d) ≡ true)
   new_covers c is heavy truth =
-      let z = born_covers p k fr st i s here (frame_after p h fr s v) frs anew (places.Temp d) o y (origin_of p kinds.New s.pos x.class x.sig.first) modes.Own false refl refl small refl
+      let z = born_covers p k fr st i s here (frame_after p h fr s v) old frs anew (places.Temp d) o y (origin_of p kinds.New s.pos x.class x.sig.first) modes.Own false refl refl small refl
       (ap (λ (a : Action). birth_on p a s.edge s.pos) is ∙ ap (λ (f : Edge). birth_on p (actions.New m d c) f s.pos) edge ∙ ap (new_birth p d s.pos) named ∙ new_birth_is p d s.pos x alias heavy)
       root (new_unlent p s.pos x.class x.sig.first) refl not_lent_own (new_is_other p s.pos x.class x.sig.first) (λ claimed. truth) in
       (z.0, z.1)

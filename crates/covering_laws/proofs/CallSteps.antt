@@ -35,10 +35,10 @@ use Rattle.value_laws.proofs.Resetting.{call_goes_so}
 use Rattle.value_laws.specs.PlaceFacts.{Covers, IsCovered, IsOwned, gives_away, gives_none, is_lent, OwesOrHolds, owned, unowned}
 use Rattle.ownership_rules.specs.Facts.{has, is_held, is_own}
 use Rattle.covering_laws.proofs.GivenArguments.{away_moves}
-use Rattle.covering_laws.proofs.Owners.{KeepsGiven, StaysApart, KeepsHeld}
+use Rattle.covering_laws.proofs.Owners.{KeepsHeld, StaysApart}
 use Rattle.rlc_base.proofs.SetLaws.{within_at}
 use Rattle.covering_laws.proofs.KnownNames.{AreKept, known_after_call, operand_holds, receiver_is_operand}
-use Rattle.covering_laws.proofs.TopSteps.{IsKeyedFrom, IsLocalStep, IsMadeSo, after_as, after_both, top_from}
+use Rattle.covering_laws.proofs.TopSteps.{IsBornAnew, IsKeyedFrom, IsLeftOut, IsLocalStep, IsMadeSo, IsSureOf, after_as, after_both, top_from}
 use Rattle.covering_laws.proofs.Waiting.{Carries, HoldsThere, KeepsFieldsButTexts, KeepsReady, KeepsRootsOf}
 use Rattle.value_laws.specs.FactGoing.{GoesAs, is_owned_in}
 use Rattle.program_model.specs.Lookups.{method_at}
@@ -66,35 +66,35 @@ module _ (p : Program) (ac : Accept p) (h k : HeapContents) (links : HasEarlierL
       × (is_target p s.action f.places ≡ true → GoesAnew p st.number o s.action f (places_after p st.number s.action s.edge f.places) g)
 
   -- what goes on in a fact that owns it is not given away
-  stays_here : (frs : List Frame) (away anew : Bool) (o : ℕ) (x : Object) (c : Covers p h away anew frs fr o x) → IsOwned p h away anew frs fr o x c → is_heavy_class p x.class ≡ true → (g : Fact) → IsGivenOr c.origin c.fact g → is_own g.mode ≡ true
+  stays_here : (old : ℕ → Bool) (frs : List Frame) (away anew : Bool) (o : ℕ) (x : Object) (c : Covers p h away anew old frs fr o x) → IsOwned p h away anew old frs fr o x c → is_heavy_class p x.class ≡ true → (g : Fact) → IsGivenOr c.origin c.fact g → is_own g.mode ≡ true
       → gives_away p h fr.locals s.action o x.class ≡ false
-  stays_here frs away anew o x c key heavy g more own = go (gives_away p h fr.locals s.action o x.class) refl
+  stays_here old frs away anew o x c key heavy g more own = go (gives_away p h fr.locals s.action o x.class) refl
     where
       go : (b : Bool) → gives_away p h fr.locals s.action o x.class ≡ b → gives_away p h fr.locals s.action o x.class ≡ false
       go false none = none
-      go true gives = absurd (true≢false (sym (or_left (is_own g.mode) (is_held g.mode) own) ∙ more.0 (away_moves p ac h fr st frs i s here row away anew o x c key heavy gives)))
+      go true gives = absurd (true≢false (sym (or_left (is_own g.mode) (is_held g.mode) own) ∙ more.0 (away_moves p ac h fr st old frs i s here row away anew o x c key heavy gives)))
 
   -- `at_step`: what is given away is given by this call. `owner`: what is not, the frame goes on owning. `noted`: the call is noted on its receiver.
-  -- `kept`: what the signature promises at the places of a fact was done. `alias`: an alias of the object of a fact has that object for its root. `made`: what
-  -- the call gives is covered, or comes from an operand
-  module _ (frs : List Frame) (gives : ℕ → ClassId → Bool) (renewed : ℕ → Bool)
+  -- `kept`: what the signature promises at the places of a fact was done. `alias`: an alias of the object of a fact has that object for its root. `bears`: where it
+  -- creates the obligation of `this` anew, it bears the facts of fields. `made`: what the call gives is covered, or comes from an operand
+  module _ (old : ℕ → Bool) (frs : List Frame) (gives : ℕ → ClassId → Bool) (renewed : ℕ → Bool)
       (at_step : (o : ℕ) (c : ClassId) → gives o c ≡ true → gives_away p h fr.locals s.action o c ≡ true)
-      (covered : IsCovered p h gives renewed frs fr)
+      (covered : IsCovered p h gives (λ o owner. renewed o) old frs fr)
       (ready : KeepsReady p h k fr)
-      (gifts : KeepsGiven p h k frs)
       (others : StaysApart p h k frs fr)
       (lasting : KeepsHeld p h k fr)
       (owner : (o : ℕ) (x y : Object) → object_at h o ≡ Some x → object_at k o ≡ Some y → x.finished ≡ true → is_heavy_class p x.class ≡ true → gives_away p h fr.locals s.action o x.class ≡ false → x.owner ≡ owners.Frame (length frs + 1) → y.owner ≡ owners.Frame (length frs + 1))
-      (noted : (o : ℕ) (x y : Object) (n : NameId) → object_at h o ≡ Some x → object_at k o ≡ Some y → root_of h (operand_of fr.locals s.action 0) ≡ Some o → is_super_target s.action ≡ false → interest_in (callee p s.action) ≡ Some n → gives o x.class ≡ false → renewed o ≡ false → x.finished ≡ true → GoesOn x y → is_heavy_class p x.class ≡ true → OwesOrHolds p h o x → set.contains y.called n.0 ≡ true)
-      (kept : (o : ℕ) (x y : Object) (c : Covers p h (gives o x.class) (renewed o) frs fr o x) → object_at h o ≡ Some x → object_at k o ≡ Some y → (g : Fact) → IsGivenOr c.origin c.fact g → IsTrustedIn c.origin g → gives o x.class ≡ false → renewed o ≡ false → x.finished ≡ true → GoesOn x y → is_heavy_class p x.class ≡ true → OwesOrHolds p h o x → (names : Names) → set.is_subset y.called names ≡ true → set.is_subset c.fact.called names ≡ true → AreKept p st.number s.action c.fact.places names (promises_at p s.action s.edge))
-      (alias : (o : ℕ) (x : Object) (c : Covers p h (gives o x.class) (renewed o) frs fr o x) → object_at h o ≡ Some x → is_heavy_class p x.class ≡ true → OwesOrHolds p h o x → gives_alias p s.action s.edge c.fact.places ≡ true → root_of k v ≡ Some o)
-      (made : (q : Place) (o : ℕ) (y : Object) → IsSmall q → is_local q ≡ true → source p st.body s.action s.edge q ≡ None → is_made (made_place s.action) q ≡ true → place_value p k fr.method after.locals q ≡ v → root_of k v ≡ Some o → object_at k o ≡ Some y → is_heavy_class p y.class ≡ true → OwesOrHolds p k o y → IsMadeSo p ac h k links carries fields fr st i s here r inside roots v frs gives renewed IsGivenOr q o y) where
+      (noted : (o : ℕ) (x y : Object) (c : Covers p h (gives o x.class) (renewed o) old frs fr o x) (n : NameId) → object_at h o ≡ Some x → object_at k o ≡ Some y → root_of h (operand_of fr.locals s.action 0) ≡ Some o → is_super_target s.action ≡ false → interest_in (callee p s.action) ≡ Some n → IsSureOf p ac h k links carries fields fr st i s here r inside roots v old frs (gives o x.class) (renewed o) o x c → renewed o ≡ false → x.finished ≡ true → GoesOn x y → is_heavy_class p x.class ≡ true → OwesOrHolds p h o x → set.contains y.called n.0 ≡ true)
+      (kept : (o : ℕ) (x y : Object) (c : Covers p h (gives o x.class) (renewed o) old frs fr o x) → object_at h o ≡ Some x → object_at k o ≡ Some y → (g : Fact) → IsGivenOr c.origin c.fact g → IsTrustedIn c.origin g → IsSureOf p ac h k links carries fields fr st i s here r inside roots v old frs (gives o x.class) (renewed o) o x c → renewed o ≡ false → x.finished ≡ true → GoesOn x y → is_heavy_class p x.class ≡ true → OwesOrHolds p h o x → (names : Names) → set.is_subset y.called names ≡ true → set.is_subset c.fact.called names ≡ true → AreKept p st.number s.action c.fact.places names (promises_at p s.action s.edge))
+      (alias : (o : ℕ) (x : Object) (c : Covers p h (gives o x.class) (renewed o) old frs fr o x) → object_at h o ≡ Some x → is_heavy_class p x.class ≡ true → OwesOrHolds p h o x → gives_alias p s.action s.edge c.fact.places ≡ true → root_of k v ≡ Some o)
+      (bears : (q : Place) (o : ℕ) (y : Object) → IsSmall q → IsLeftOut p ac h k links carries fields fr st i s here r inside roots v q → root_of k (place_value p k fr.method after.locals q) ≡ Some o → object_at k o ≡ Some y → is_heavy_class p y.class ≡ true → OwesOrHolds p k o y → IsBornAnew p ac h k links carries fields fr st i s here r inside roots v old frs renewed q o y)
+      (made : (q : Place) (o : ℕ) (y : Object) → IsSmall q → is_local q ≡ true → source p st.body s.action s.edge q ≡ None → is_made (made_place s.action) q ≡ true → place_value p k fr.method after.locals q ≡ v → root_of k v ≡ Some o → object_at k o ≡ Some y → is_heavy_class p y.class ≡ true → OwesOrHolds p k o y → IsMadeSo p ac h k links carries fields fr st i s here r inside roots v old frs gives renewed IsGivenOr q o y) where
     not_given : (b : Bool) {d : Bool} → (b ≡ true → d ≡ true) → d ≡ false → b ≡ false
     not_given false goes none = refl
     not_given true goes none = absurd (true≢false (sym (goes refl) ∙ none))
 
     -- what the call makes of a fact of the frame
-    call_row : (o : ℕ) (x : Object) (c : Covers p h (gives o x.class) (renewed o) frs fr o x) (q : Place) → has (places_after p st.number s.action s.edge c.fact.places) q ≡ true
+    call_row : (o : ℕ) (x : Object) (c : Covers p h (gives o x.class) (renewed o) old frs fr o x) (q : Place) → has (places_after p st.number s.action s.edge c.fact.places) q ≡ true
         → After (λ (g : Fact). GoesAs c.fact (places_after p st.number s.action s.edge c.fact.places) (called_after p st.number s.action s.edge c.fact) g × IsGivenOr c.origin c.fact g) (flow p st.number c.origin s.action s.edge c.fact)
     call_row o x c q is =
         after_as
@@ -111,25 +111,26 @@ module _ (p : Program) (ac : Accept p) (h k : HeapContents) (links : HasEarlierL
 
     -- each place after the call is in a fact that comes from one before it, or was born
     pub call_from : (q : Place) (o : ℕ) (y : Object) → IsSmall q → root_of k (place_value p k fr.method after.locals q) ≡ Some o → object_at k o ≡ Some y → is_heavy_class p y.class ≡ true → OwesOrHolds p k o y
-        → IsKeyedFrom p ac h k links carries fields fr st i s here r inside roots v frs gives renewed IsGivenOr q o y
-    call_from = top_from p ac h k links carries fields fr st i s here r inside roots v frs gives renewed covered ready gifts others lasting
+        → IsKeyedFrom p ac h k links carries fields fr st i s here r inside roots v old frs gives renewed IsGivenOr q o y
+    call_from = top_from p ac h k links carries fields fr st i s here r inside roots v old frs gives renewed covered ready others lasting
         IsGivenOr
         call_row
-        (λ o x y c before at g more trusted stays old done goes some owes names less was.
+        (λ o x y c before at g more trusted sure stays done goes some owes names less was.
         known_after_call p st.number s.action s.edge c.fact names row was
         (λ n receives interest.
         let operand = receiver_is_operand p h fr.method fr.locals o s.action c.fact.places c.places receives in
-        within_at y.called names less n.0 (noted o x y n before at (operand_holds p h fr.method fr.locals s.action o 0 c.fact.places r.small (omega arith) c.places operand.1) operand.0 interest stays old done goes some owes))
-        (kept o x y c before at g more trusted stays old done goes some owes names less was))
+        within_at y.called names less n.0 (noted o x y c n before at (operand_holds p h fr.method fr.locals s.action o 0 c.fact.places r.small (omega arith) c.places operand.1) operand.0 interest sure stays done goes some owes))
+        (kept o x y c before at g more trusted sure stays done goes some owes names less was))
         alias
         (λ o x y c key before at heavy owes g more own.
-        let stays = stays_here frs (gives o x.class) (renewed o) o x c key heavy g more own in (
+        let stays = stays_here old frs (gives o x.class) (renewed o) o x c key heavy g more own in (
           not_given (gives o x.class) (at_step o x.class) stays,
           (λ done mine. owner o x y before at done heavy stays mine),
         ))
+        bears
         made
 
-    pub call_covered : IsCovered p k gives_none renewed frs after
+    pub call_covered : IsCovered p k gives_none (λ o owner. renewed o) old frs after
     call_covered q o y small held at heavy owes = elim (call_from q o y small held at heavy owes) [
       | inl key ↦ owned key.0 key.1 key.2
       | inr free ↦ unowned free

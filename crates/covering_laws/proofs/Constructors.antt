@@ -1,5 +1,5 @@
 -- A frame that runs a constructor with an aliased argument.
-use Rattle.std.proofs.Common.{◌≡◌, ℕ, zero, suc, ◌+◌, ◌<◌, ◌≤◌, true, false, true≢false, not, arith, Option, Some, None, List, [], ◌∷◌, length, slice_get, refl, sym, ap, ◌∙◌, subst, IsSomeAnd}
+use Rattle.std.proofs.Common.{Bool, ◌≡◌, ℕ, zero, suc, ◌+◌, ◌<◌, ◌≤◌, true, false, true≢false, not, arith, Option, Some, None, List, [], ◌∷◌, length, slice_get, refl, sym, ap, ◌∙◌, subst, IsSomeAnd}
 use Rattle.std.proofs.lemmas.Bool.{and_from}
 use Rattle.program_model.specs.declared.kinds.BodyId.{BodyId}
 use Rattle.program_model.specs.declared.kinds.ClassId.{ClassId}
@@ -90,7 +90,7 @@ module _ (p : Program) (ac : Accept p) (fr : Frame) (st : Stands p fr) (m : Meth
   at_parameter kind is = ap (is_origin_at kind) (ap Some (let next : v + 1 ≡ suc v = omega arith in next) ∙ sym alias) ∙ is
 
   -- a fact of the aliased parameter
-  module _ (h : HeapContents) (frs : List Frame) (o : ℕ) (x : Object) (c : Covers p h false false frs fr o x) where
+  module _ (h : HeapContents) (old : ℕ → Bool) (frs : List Frame) (o : ℕ) (x : Object) (c : Covers p h false false old frs fr o x) where
     pub reached : Reach p st.number (relation_of p st.number) c.origin fr.control c.fact
     reached = subst (λ (b : BodyId). Reach p b (relation_of p b) c.origin fr.control c.fact) (same_body c.body st.number (body_id p fr.method) c.id st.id) c.reached
 

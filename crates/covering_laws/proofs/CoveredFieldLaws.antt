@@ -1,5 +1,5 @@
 -- The laws on stores and on the ends of frames, each under its name.
-use Rattle.std.proofs.Common.{◌≡◌, ◌⊎◌, ℕ, true, false, Some, None, List, slice_get}
+use Rattle.std.proofs.Common.{◌≡◌, Bool, ◌⊎◌, ℕ, true, false, Some, None, List, slice_get}
 use Rattle.std.specs.FinSet as set
 use Rattle.program_model.specs.declared.kinds.FieldId.{FieldId}
 use Rattle.program_model.specs.declared.program.Method.{Method}
@@ -22,22 +22,22 @@ use Rattle.value_laws.specs.Agreement.{Stands}
 use Rattle.value_laws.specs.PlainForms.{HasPlainForms}
 use Rattle.value_laws.specs.FieldContents.{promised_on}
 use Rattle.value_laws.specs.PlaceFacts.{IsCovered, gives_none, renews_none}
-use Rattle.covering_laws.specs.Covering.{HoldsHeavy, IsNotGiven}
+use Rattle.covering_laws.specs.Covering.{HoldsHeavy, IsCountedOn}
 use Rattle.covering_laws.proofs.FrameEnds.{kept_at_end, met_at_throw}
 use Rattle.covering_laws.proofs.Storing.{displaced_is_met}
 
-pub overwritten_is_met : (p : Program) → Accept p → HasPlainForms p → (h : HeapContents) (frs : List Frame) (fr : Frame) → (st : Stands p fr) → alias_position p st.number ≡ None → IsCovered p h gives_none renews_none frs fr
+pub overwritten_is_met : (p : Program) → Accept p → HasPlainForms p → (h : HeapContents) (frs : List Frame) (fr : Frame) → (st : Stands p fr) → alias_position p st.number ≡ None → (old : ℕ → Bool) → IsCovered p h gives_none renews_none old frs fr
     → (i d : ℕ) (s : Step) (f : FieldId) (w o : ℕ) (x : Object) → slice_get (frame_steps p fr) i ≡ Some s → s.action ≡ actions.PutOwn f d
     → HoldsHeavy p h fr w f o x → (root_of h (temp_value fr.locals d) ≡ Some o → ⊥) → is_unmet x ≡ false
-overwritten_is_met p ac forms h frs fr st plain covered i d s f w o x here is holds apart = displaced_is_met p ac forms h frs fr st covered i d s f here is plain w o x holds apart
+overwritten_is_met p ac forms h frs fr st plain old covered i d s f w o x here is holds apart = displaced_is_met p ac forms h old frs fr st covered i d s f here is plain w o x holds apart
 
-pub promises_are_kept_at_end : (p : Program) → Accept p → (h : HeapContents) (frs : List Frame) (fr : Frame) → (st : Stands p fr) → IsCovered p h gives_none renews_none frs fr
+pub promises_are_kept_at_end : (p : Program) → Accept p → (h : HeapContents) (frs : List Frame) (fr : Frame) → (st : Stands p fr) → (old : ℕ → Bool) → IsCovered p h gives_none renews_none old frs fr
     → (i : ℕ) (s : Step) (q : Completion) (m : Method) (f : FieldId) (w o : ℕ) (x : Object) → slice_get (frame_steps p fr) i ≡ Some s → s.action ≡ actions.End q
     → method_at p fr.method ≡ Some m → constructs (method_at p fr.method) ≡ false → has_field_place p st.number f ≡ true → (is_throw q ≡ false) ⊎ (is_finalizer p st.number ≡ true)
-    → HoldsHeavy p h fr w f o x → IsNotGiven p h frs fr o x → x.finished ≡ true → set.is_subset (promised_on f m) x.called ≡ true
-promises_are_kept_at_end p ac h frs fr st covered i s q m f w o x here is named plain place way holds apart done = kept_at_end p ac h frs fr st covered i s q f w o x here is place holds done plain apart m named way
+    → HoldsHeavy p h fr w f o x → IsCountedOn p h old frs fr o x → x.finished ≡ true → set.is_subset (promised_on f m) x.called ≡ true
+promises_are_kept_at_end p ac h frs fr st old covered i s q m f w o x here is named plain place way holds apart done = kept_at_end p ac h frs fr st old covered i s q f w o x here is place holds done plain apart m named way
 
-pub contents_are_met_at_throw : (p : Program) → Accept p → (h : HeapContents) (frs : List Frame) (fr : Frame) → (st : Stands p fr) → IsCovered p h gives_none renews_none frs fr
+pub contents_are_met_at_throw : (p : Program) → Accept p → (h : HeapContents) (frs : List Frame) (fr : Frame) → (st : Stands p fr) → (old : ℕ → Bool) → IsCovered p h gives_none renews_none old frs fr
     → (i : ℕ) (s : Step) (q : Completion) (f : FieldId) (w o : ℕ) (x : Object) → slice_get (frame_steps p fr) i ≡ Some s → s.action ≡ actions.End q
     → alias_position p st.number ≡ None → is_throw q ≡ true → constructs (method_at p fr.method) ≡ true → has_field_place p st.number f ≡ true → HoldsHeavy p h fr w f o x → is_unmet x ≡ false
-contents_are_met_at_throw p ac h frs fr st covered i s q f w o x here is plain throws makes place holds = met_at_throw p ac h frs fr st covered i s q f w o x here is place holds plain throws makes
+contents_are_met_at_throw p ac h frs fr st old covered i s q f w o x here is plain throws makes place holds = met_at_throw p ac h frs fr st old covered i s q f w o x here is place holds plain throws makes

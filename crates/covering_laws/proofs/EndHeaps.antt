@@ -37,6 +37,7 @@ use Rattle.value_laws.proofs.EndLinks.{end_links, end_links_one, gone_evolves, g
 use Rattle.value_laws.proofs.EndLinks as program_ends
 use Rattle.value_laws.proofs.Returned.{IsFrom, end_back, gone_back, gone_unowned, result_back}
 use Rattle.value_laws.specs.FieldContents.{is_new}
+use Rattle.value_laws.specs.Ranges.{IsNumber}
 use Rattle.value_laws.proofs.Growth.{gone_grows, returned_grows}
 use Rattle.value_laws.proofs.CallNames.{IsReceiver}
 use Rattle.value_laws.proofs.Chains.{object_there}
@@ -215,6 +216,17 @@ module _ (p : Program) (at : ℕ) (self : Value) (l : Locals) (a : Action) (runs
         let top = range.1 in
         let z = object_there h k (unfinished class) some (omega (arith, below, top)) in
         roots_over_a_link-linked gone ended w link links_gone one links_after ∙ gone_root k z.0 z.1
+
+    -- and so has what had it for a root
+    pub made_roots : (n : ℕ) → IsNumber h n → root h n ≡ w → root ended n ≡ root h k
+    made_roots n number is =
+        let class : ClassId = record { 0 = 0 } in
+        let range = numbers_are_in_range h w x there in
+        let top = range.1 in
+        let u = object_there h k (unfinished class) some (omega (arith, below, top)) in
+        let z = object_there h n (unfinished class) number.0 number.1 in
+        let y = gone_keeps n z.0 z.1 in
+        (roots_over_a_link-number gone ended w link links_gone one links_after n y.0 y.1).0 (gone_root n z.0 z.1 ∙ is) ∙ gone_root k u.0 u.1
 
   -- ---- names
 

@@ -42,7 +42,7 @@ use Rattle.value_laws.specs.Heaps.{GoesOn, HasEarlierLinks}
 use Rattle.value_laws.specs.ProgramCalls.{IsReturned}
 use Rattle.value_laws.specs.Leading.{Leads, is_passed_on}
 use Rattle.value_laws.proofs.HeapLaws.{roots_of_links-itself}
-use Rattle.value_laws.specs.Agreement.{AllStand, HasMadeClasses, IsMadeAfter, IsMadeBy, RunsItself, Stands}
+use Rattle.value_laws.specs.Agreement.{AllStand, HasMadeClasses, IsMadeAfter, IsMadeBy, RunsItself, RunsOnSame, Stands}
 use Rattle.value_laws.specs.Chains.{HaveEnds}
 use Rattle.value_laws.specs.PlainForms.{HasPlainForms, IsPlainAction, IsPlainCall, MayRun, RunsFor}
 use Rattle.value_laws.specs.Nexts.{IsBackStep}
@@ -52,15 +52,14 @@ use Rattle.value_laws.proofs.CallNames.{IsReceiver, object_with_root, operand_ha
 use Rattle.value_laws.proofs.Ready.{call_sets, plain_call, plain_step, step_there}
 use Rattle.value_laws.proofs.Unmet.{way_of_call}
 use Rattle.value_laws.specs.Types.{GivesAsNamed, KeepsTypes, is_text}
-use Rattle.value_laws.specs.FieldContents.{HaveContents, IsBeingMade, IsDispatched, LinksLead, is_new, RunOnOthers, TopRunsAlone}
-use Rattle.value_laws.specs.PlaceFacts.{AreWaiting, Covers, IsCovered, OwnersBelow, IsHolder, gives_none, is_given, may_owe, OwesOrHolds, renews_none}
-use Rattle.covering_laws.proofs.NewOwners.{end_births}
+use Rattle.value_laws.specs.FieldContents.{AreNew, AreUnfinished, FieldsOwn, HaveContents, IsBeingMade, IsDispatched, LinksLead, is_new, RunOnOthers, TopRunsAlone}
+use Rattle.value_laws.specs.PlaceFacts.{AreWaiting, Covers, IsCovered, IsHeavyObject, IsHolder, IsOld, OwesOrHolds, OwnersBelow, Spares, gives_none, is_given, may_owe, renews_none, AreCovered, is_frame_from}
 use Rattle.covering_laws.proofs.OlderHolders.{alias_holds_nothing, field_of_owner}
-use Rattle.value_laws.specs.Renewing.{IsLentFrom, is_renewed}
+use Rattle.value_laws.specs.Renewing.{HasInHand, IsLentFrom, is_renewed, is_reread, renews}
 use Rattle.value_laws.proofs.Emptied.{plain_note}
 use Rattle.value_laws.proofs.EndResets.{plain_alias_position}
 use Rattle.value_laws.proofs.Renewed.{says_nothing, without_reset}
-use Rattle.value_laws.specs.Ranges.{FieldsInRange, LocalsInRange}
+use Rattle.value_laws.specs.Ranges.{FieldsInRange, IsNumber, LocalsInRange}
 use Rattle.covering_laws.specs.Linking.{IsGivenAsAlias, LinkedAreAliases}
 use Rattle.covering_laws.specs.Throws.{EndsAsDeclared}
 use Rattle.covering_laws.specs.Running.{HasPlainRuns}
@@ -69,22 +68,23 @@ use Rattle.covering_laws.proofs.AliasResults.{argument_is_result, result_is_argu
 use Rattle.covering_laws.proofs.CallNotes.{noted_at}
 use Rattle.covering_laws.proofs.KnownNames.{operand_holds}
 use Rattle.covering_laws.proofs.CallSteps.{IsGivenOr, call_from}
-use Rattle.covering_laws.proofs.EndHeaps.{end_carries, end_keeps, end_linked, end_noted, end_roots, end_unfinished, end_was, null_here, other_roots, self_root}
+use Rattle.covering_laws.proofs.EndHeaps.{end_carries, end_keeps, end_linked, end_noted, end_roots, end_unfinished, end_was, made_roots, null_here, other_roots, self_root}
 use Rattle.covering_laws.proofs.EndOwners.{end_below, end_keeps_own, end_owners_go, number_value}
 use Rattle.covering_laws.proofs.BegunFrames.{not_own}
 use Rattle.covering_laws.proofs.CallResults.{IsBornSo}
 use Rattle.covering_laws.proofs.Gifts.{small_gifts}
 use Rattle.covering_laws.proofs.GivenArguments.{away_moves}
 use Rattle.covering_laws.proofs.GivenAway.{given_at_step}
-use Rattle.covering_laws.proofs.Owners.{AllKeepGifts, HoldersWere, OwnerGoes, OwnersGo, given_kept, holders_were, left, none_unready, owners_kept, passed, stays, stays_apart, KeepsFinished, held_here}
+use Rattle.covering_laws.proofs.Owners.{AllKeepGifts, HoldersWere, IsNewTo, KeepsHeld, OwnerGoes, OwnersGo, StaysApart, WaysGo, held_here, holders_were, left, old_kept, owners_kept, passed, stays, stays_apart}
 use Rattle.covering_laws.proofs.ResultOwners.{returned_owner}
 use Rattle.covering_laws.proofs.Bodies.{running_method}
 use Rattle.covering_laws.proofs.OwnNames.{chosen_by_note, own_name_called}
 use Rattle.covering_laws.proofs.EndNames.{promises_kept}
+use Rattle.covering_laws.proofs.FieldOwnersAtEnds.{fields_own_at_end}
 use Rattle.covering_laws.proofs.EndResults.{given, thrown_light}
 use Rattle.covering_laws.proofs.LocalSteps.{LocalsIn, all_there, holds_there, local_step}
-use Rattle.covering_laws.proofs.TopSteps.{IsKeyedFrom, IsLocalStep, IsMadeSo, StopsOwning}
-use Rattle.covering_laws.proofs.Waiting.{AllHeldBefore, AllKeepRoots, AllReady, AllThere, Carries, HoldsThere, IsCarried, KeepsFieldsButTexts, KeepsOtherRoots, KeepsRoots, KeepsUnfinished, all_held_before_on, all_keep, all_keep_but_texts, but_texts, all_keep_other_roots, all_keep_roots, all_wait_on, frames_ready_but, bore_before, value_root, carries_finish}
+use Rattle.covering_laws.proofs.TopSteps.{IsKeyedFrom, IsLocalStep, IsMadeSo, IsSureOf, StopsOwning}
+use Rattle.covering_laws.proofs.Waiting.{AllHeldBefore, AllKeepRoots, AllReady, AllThere, Carries, HoldsThere, IsCarried, KeepsFieldsButTexts, KeepsOtherRoots, KeepsRoots, KeepsUnfinished, all_held_before_on, all_keep, all_keep_but_texts, but_texts, all_keep_other_roots, all_keep_roots, all_wait_on, frames_ready_but, bore_before, old_as, value_root, ways_go_on, KeepsFields, numbered}
 use Rattle.value_laws.proofs.Chains.{object_there}
 use Rattle.value_laws.proofs.Steps.{result_in_range}
 use Rattle.value_laws.proofs.RangeValues.{operand_in_range}
@@ -102,6 +102,7 @@ use Rattle.value_laws.specs.Aliases.{gives_alias}
 use Rattle.java_control.specs.declared.fact.Fact.{Fact}
 use Rattle.java_control.specs.declared.fact.Origin.{Origin}
 use Rattle.java_control.specs.declared.place.Place.{Place}
+use Rattle.java_control.specs.declared.place.Place.TheVariants as places
 use Rattle.ownership_rules.specs.Facts.{is_held, is_own}
 use Rattle.value_laws.specs.Frames.{is_made, made_place}
 use Rattle.value_laws.specs.Places.{class_of_method, place_value}
@@ -109,8 +110,17 @@ use Rattle.value_laws.specs.Naming.{IsOfItsKind}
 use Rattle.value_laws.proofs.NamedReached.{names_what_is_there}
 use Rattle.value_laws.specs.PlacePlaces.{is_local}
 use Rattle.covering_laws.proofs.InFields.{held_finished, held_unowned}
-use Rattle.covering_laws.proofs.HeavyFields.{claims_by}
-use Rattle.covering_laws.proofs.OwnerSteps.{own_frame}
+use Rattle.covering_laws.proofs.HeavyFields.{claims_by, claims_owned}
+use Rattle.covering_laws.proofs.OwnerSteps.{held_is, own_frame}
+use Rattle.covering_laws.proofs.LeftOut.{left_out_bears}
+use Rattle.covering_laws.proofs.RenewedOperands.{HoldsLent, claimed_owner}
+use Rattle.covering_laws.proofs.StepWays.{end_births, end_unowned, ways_by}
+use Rattle.covering_laws.proofs.AlikeHeaps.{AreAlike}
+use Rattle.covering_laws.proofs.AnewAtEnds.{AllTurned, all_anew}
+use Rattle.covering_laws.proofs.WaitingTargets.{owned_or_lent, renewed_at_step, target_temp}
+use Rattle.value_laws.specs.Holders.{HoldersAreUnlinked, IsComparable}
+use Rattle.value_laws.specs.Types.{StoredHoldNone}
+use Rattle.value_laws.proofs.SparingEnds.{CountsOn, comparable_bears, counted_is_spared, counts_as_made, counts_as_owned, counts_as_spared, made_ends_strictly, owned_ends_strictly}
 use Rattle.value_laws.proofs.Growth.{returned_grows}
 use Rattle.covering_laws.specs.Texts.{TextsAreLight}
 
@@ -127,9 +137,11 @@ no_receiver h l a o root new = true≢false (sym new)
 
 module _ (p : Program) (ac : Accept p) (forms : HasPlainForms p) (runs' : HasPlainRuns p) (names : HasSmallInterests p) (h : HeapContents) (texts : TextsAreLight p h) (links : HasEarlierLinks h) (apart : LinkedAreAliases p h) (ranges : FieldsInRange h)
     (fr caller : Frame) (rest : List Frame) (st : Stands p fr) (below : Stands p caller) (targets : KeepsTargets p caller) (keeps : KeepsTypes (is_text p h) p fr) (gives : GivesAsNamed p caller fr) (dispatched : IsDispatched p h fr caller)
-    (making : IsBeingMade p h fr caller) (mine' : LocalsInRange h fr.locals) (covered : IsCovered p h gives_none renews_none (caller ∷ rest) fr) (i : ℕ) (s : Step) (q : Completion) (here : slice_get (frame_steps p fr) i ≡ Some s) (is : s.action ≡ actions.End q)
+    (making : IsBeingMade p h fr caller) (mine' : LocalsInRange h fr.locals) (old : ℕ → Bool) (covered : IsCovered p h gives_none renews_none old (caller ∷ rest) fr) (i : ℕ) (s : Step) (q : Completion) (here : slice_get (frame_steps p fr) i ≡ Some s) (is : s.action ≡ actions.End q)
     (t : Step) (named : MethodId) (back : IsBackStep p (frame_steps p caller) (exception_class p h (thrown_in fr.locals q)) named t) (may : MayRun p named fr.method) (makes : IsMadeBy p h t.action fr.locals.this) (itself : RunsItself t.action named fr.method) (args : HasArguments p caller fr) (exits : EndsAsDeclared p h fr)
-    (leads : LinksLead p h) (ends : HaveEnds h) (made_after : IsMadeAfter p caller.locals t.action fr.locals.this) (classes : HasMadeClasses p h) (unheld : IsUnheld p h fr caller rest) (in' : LocalsIn h (caller ∷ rest)) (alone : TopRunsAlone p h (fr ∷ caller ∷ rest)) (contents : HaveContents p (fr ∷ caller ∷ rest) h) where
+    (leads : LinksLead p h) (ends : HaveEnds h) (made_after : IsMadeAfter p caller.locals t.action fr.locals.this) (classes : HasMadeClasses p h) (unheld : IsUnheld p h fr caller rest) (in' : LocalsIn h (caller ∷ rest)) (alone : TopRunsAlone p h (fr ∷ caller ∷ rest)) (contents : HaveContents p (fr ∷ caller ∷ rest) h)
+    (unlinked : HoldersAreUnlinked (is_heavy_class p) h) (fresh : (w : ℕ) → is_new t.action ≡ true → fr.locals.this ≡ values.Object w → RunOnOthers w (caller ∷ rest)) (on_same : RunsOnSame t.action caller.locals.this fr.locals.this)
+    (stored : StoredHoldNone (is_text p h) p h) where
   -- the position of the caller
   abbrev pub at : ℕ
   at = length rest + 1
@@ -254,7 +266,7 @@ module _ (p : Program) (ac : Accept p) (forms : HasPlainForms p) (runs' : HasPla
   roots_thrown c thrown' = roots (λ normal' new. absurd (let never : None ≡ Some c = sym normal' ∙ thrown' in cc))
 
   roots_called : is_new t.action ≡ false → KeepsRoots h K
-  roots_called old = roots (λ normal' new. absurd (true≢false (sym new ∙ old)))
+  roots_called earlier = roots (λ normal' new. absurd (true≢false (sym new ∙ earlier)))
 
   roots_plain : named_there.0.sig.alias ≡ None → KeepsRoots h K
   roots_plain none = roots (λ normal' new. ap (object_by (operand_of caller.locals t.action)) (plain_alias ∙ none))
@@ -303,6 +315,9 @@ module _ (p : Program) (ac : Accept p) (forms : HasPlainForms p) (runs' : HasPla
     linked_root : root K self ≡ root h k
     linked_root = self_root p at fr.locals.this caller.locals t.action (method_at p fr.method) plain v e h links no_reset unmade normal' new self k (self_made new).1 is_aliased to object.0 object.1 unowned later.0 later.1
 
+    made_keep : (n : ℕ) → IsNumber h n → root h n ≡ self → root K n ≡ root h k
+    made_keep = made_roots p at fr.locals.this caller.locals t.action (method_at p fr.method) plain v e h links no_reset unmade normal' new self k (self_made new).1 is_aliased to object.0 object.1 unowned later.0 later.1
+
   -- the frames that wait keep the roots of what they hold
   pub all_roots : AllKeepRoots p h K (caller ∷ rest)
   all_roots = by e refl (is_new t.action) refl target refl
@@ -312,7 +327,7 @@ module _ (p : Program) (ac : Accept p) (forms : HasPlainForms p) (runs' : HasPla
 
       by : (x : Option ClassId) → e ≡ x → (b : Bool) → is_new t.action ≡ b → (k : Option ℕ) → target ≡ k → AllKeepRoots p h K (caller ∷ rest)
       by (Some c) thrown' b new k to = all_keep_roots p h K (roots_thrown c thrown') (caller ∷ rest) inside
-      by None normal' false old k to = all_keep_roots p h K (roots_called old) (caller ∷ rest) inside
+      by None normal' false earlier k to = all_keep_roots p h K (roots_called earlier) (caller ∷ rest) inside
       by None normal' true new None none = all_keep_roots p h K (roots (λ x y. none)) (caller ∷ rest) inside
       by None normal' true new (Some k) to =
           all_keep_other_roots p h K (self normal' new k to) (others_keep normal' new k to) (caller ∷ rest) inside (unheld back.index t (self normal' new k to) back.here new (self_made new).1)
@@ -323,10 +338,27 @@ module _ (p : Program) (ac : Accept p) (forms : HasPlainForms p) (runs' : HasPla
   caller_in : LocalsInRange h caller.locals
   caller_in = All-head (λ (x : Frame). LocalsInRange h x.locals) caller rest in'
 
+  -- ---- what stays
+
+  pub inside : HoldsThere p h caller
+  inside = holds_there p h ranges caller caller_in
+
+  pub carries : Carries h K
+  carries = end_carries p at fr.locals.this caller.locals t.action (method_at p fr.method) plain v e h links no_reset unmade
+
+  pub fields : KeepsFieldsButTexts p h K
+  fields = but_texts p h K (end_keeps p at fr.locals.this caller.locals t.action (method_at p fr.method) plain v e h links no_reset unmade)
+
+  pub was : (n : ℕ) (x : Object) → object_at K n ≡ Some x → IsCarried h n x
+  was = end_was p at fr.locals.this caller.locals t.action (method_at p fr.method) plain v e h links no_reset unmade
+
+  -- ---- names
+
+  -- the call is noted on its receiver, whose names its frame leaves
   noted : (o : ℕ) (x y : Object) (k : NameId) → object_at h o ≡ Some x → object_at K o ≡ Some y → root_of h (operand_of caller.locals t.action 0) ≡ Some o → is_super_target t.action ≡ false
-      → interest_in (callee p t.action) ≡ Some k → is_given p h caller o x.class ≡ false → is_renewed p h caller o ≡ false → x.finished ≡ true → GoesOn x y
+      → interest_in (callee p t.action) ≡ Some k → (old o ≡ true) × Spares p h caller o → x.finished ≡ true → GoesOn x y
       → is_heavy_class p x.class ≡ true → OwesOrHolds p h o x → set.contains y.called k.0 ≡ true
-  noted o x y k before now root' other interest spared old done goes heavy owes = by (is_passed_on p (note false r.object k) object.0) refl
+  noted o x y k before now root' other interest counted done goes heavy owes = by (is_passed_on p (note false r.object k) object.0) refl
     where
       r : IsReceiver h caller.locals t.action m o k
       r = subst (λ (z : Option Method). IsReceiver h caller.locals t.action z o k) (ap (callee_in p) back.calls)
@@ -350,8 +382,8 @@ module _ (p : Program) (ac : Accept p) (forms : HasPlainForms p) (runs' : HasPla
           end_noted p at fr.locals.this caller.locals t.action (method_at p fr.method) plain v e h links no_reset unmade o object.0 y k (no_receiver h caller.locals t.action o root') plain_receiver
           (λ n is'. small_name p t.action n names (interest ∙ sym (named_interest (Some k) interest) ∙ is')) object.1 goes_through way now
       by false stopped = within_at x.called y.called goes.called k.0
-          (own_name_called p ac forms h links fr caller rest st covered i s q here is back.index t back.here named named_there.0 back.calls named_there.1 dispatched k
-          (ap interest_in (sym same_callee) ∙ interest) (chosen_by_note caller.locals t.action m (note false r.object k) r.noted) o x before heavy owes done classes (old, inl spared) r.object object.0 r.value object.1 way stopped)
+          (own_name_called p ac forms h links fr caller rest st old covered i s q here is back.index t back.here named named_there.0 back.calls named_there.1 dispatched k
+          (ap interest_in (sym same_callee) ∙ interest) (chosen_by_note caller.locals t.action m (note false r.object k) r.noted) o x before heavy owes done classes counted r.object object.0 r.value object.1 way stopped)
 
   -- what is linked is an alias: so is the object of a `new`
   pub ended_apart : LinkedAreAliases p K
@@ -365,7 +397,7 @@ module _ (p : Program) (ac : Accept p) (forms : HasPlainForms p) (runs' : HasPla
       alias_there (Some k) is' some' = (k, is')
 
       of_new : is_new t.action ≡ true → fr.locals.this ≡ values.Object n → calls.is_alias plain ≡ true → ((x : Object) × (object_at h n ≡ Some x) × (y.class ≡ x.class)) → IsGivenAsAlias p y.class
-      of_new new this aliased' old = go t.action refl new makes
+      of_new new this aliased' earlier = go t.action refl new makes
         where
           alias' : (k : ℕ) × (named_there.0.sig.alias ≡ Some k)
           alias' = alias_there named_there.0.sig.alias refl (sym (ap is_some plain_alias) ∙ aliased')
@@ -375,10 +407,10 @@ module _ (p : Program) (ac : Accept p) (forms : HasPlainForms p) (runs' : HasPla
           go (actions.New m' d n') is' one made' =
               let m_is = named_is m' (ap called_method is') in
               let number : made'.0 ≡ n = (let both : values.Object made'.0 ≡ values.Object n = sym made'.1 ∙ this in (let same : made'.0 ≡ n = cc in same)) in
-              let class : named_there.0.class ≡ old.0.class = (let both : Some named_there.0.class ≡ Some old.0.class = sym (ap class_of_method named_there.1) ∙ sym (ap (λ (z : MethodId). class_of_method (method_at p z)) m_is)
-              ∙ made'.3 old.0 (ap (object_at h) number ∙ old.1) in (let same : named_there.0.class ≡ old.0.class = cc in same)) in
+              let class : named_there.0.class ≡ earlier.0.class = (let both : Some named_there.0.class ≡ Some earlier.0.class = sym (ap class_of_method named_there.1) ∙ sym (ap (λ (z : MethodId). class_of_method (method_at p z)) m_is)
+              ∙ made'.3 earlier.0 (ap (object_at h) number ∙ earlier.1) in (let same : named_there.0.class ≡ earlier.0.class = cc in same)) in
               let new_kind : is_constructor_kind named_there.0.kind ≡ true = sym (ap constructs named_there.1) ∙ sym (ap (λ (z : MethodId). constructs (method_at p z)) m_is) ∙ subst (IsOfItsKind p) is' kind in
-              record { number = named; method = named_there.0; at = named_there.1; position = alias'.0; alias = alias'.1; class = inl (new_kind, old.2 ∙ sym class) }
+              record { number = named; method = named_there.0; at = named_there.1; position = alias'.0; alias = alias'.1; class = inl (new_kind, earlier.2 ∙ sym class) }
           go a is' one made' = absurd (true≢false (sym one))
 
   pub ended_unfinished : KeepsUnfinished h K (λ o. (fr.locals.this ≡ values.Object o) × (is_new t.action ≡ true))
@@ -396,29 +428,58 @@ module _ (p : Program) (ac : Accept p) (forms : HasPlainForms p) (runs' : HasPla
   -- the frame owned its result, which the caller owns when the call has ended
   result_owner : (n : ℕ) (x u : Object) → object_at h n ≡ Some x → is_heavy_class p x.class ≡ true → may_owe x ≡ true → IsReturned p at (method_at p fr.method) v e h n x u → x.owner ≡ owners.Frame (at + 1)
   result_owner n x u before heavy owes r =
-      returned_owner p ac h fr (caller ∷ rest) st mine' covered i s q here is at n x u before heavy owes r ∙ ap owners.Frame (let number : length (caller ∷ rest) + 1 ≡ length rest + 1 + 1 = omega arith in number)
+      returned_owner p ac h fr old (caller ∷ rest) st mine' covered i s q here is at n x u before heavy owes r ∙ ap owners.Frame (let number : length (caller ∷ rest) + 1 ≡ length rest + 1 + 1 = omega arith in number)
+
+  -- a constructor that runs on an object on which no frame below runs has not finished it
+  made_unready : (w : ℕ) → constructs (method_at p fr.method) ≡ true → fr.locals.this ≡ values.Object w → RunOnOthers w (caller ∷ rest) → (z : Object) → object_at h w ≡ Some z → z.finished ≡ false
+  made_unready w makes' this others z there = go t.action refl
+    where
+      named_makes : constructs m ≡ true
+      named_makes = ap constructs named_there.1 ∙ sym fit.makes ∙ sym (ap constructs run.1) ∙ makes'
+
+      go : (a : Action) → t.action ≡ a → z.finished ≡ false
+      go actions.Skip is' = absurd (let never : None ≡ Some named = sym (ap called_method is') ∙ back.calls in cc)
+      go (actions.New m' d n') is' = unmade w z (ap is_new is') this there
+      go (actions.Super m' d n') is' = absurd (others.0 (sym (subst (λ (a : Action). RunsOnSame a caller.locals.this fr.locals.this) is' on_same) ∙ this))
+      go (actions.Call m' d n' f) is' = absurd (true≢false (sym named_makes ∙ ap (λ (z' : MethodId). constructs (method_at p z')) (sym (named_is m' (ap called_method is'))) ∙ subst (IsOfItsKind p) is' kind))
+      go a is' = absurd (let never : None ≡ Some named = sym (ap called_method is') ∙ back.calls in cc)
 
   pub goes_on : OwnersGo p None (caller ∷ rest) at h K
   goes_on = end_owners_go p at fr.locals.this caller.locals t.action (method_at p fr.method) plain v e h no_reset unmade (caller ∷ rest) gives_up_alone result_owner None
     where
-      gives_up_alone : (n : ℕ) (x : Object) → object_at h n ≡ Some x → is_heavy_class p x.class ≡ true → (w : ℕ) → constructs (method_at p fr.method) ≡ true → fr.locals.this ≡ values.Object w → is_held_by x.owner w ≡ true → RunOnOthers w (caller ∷ rest)
-      gives_up_alone n x before heavy w makes this held' = by x.owner refl held'
-        where
-          by : (a : Owner) → x.owner ≡ a → is_held_by a w ≡ true → RunOnOthers w (caller ∷ rest)
-          by (owners.Field u g) own is' = subst (λ (z : ℕ). RunOnOthers z (caller ∷ rest)) (eqb-true u w is') (alone n x u g makes (this ∙ ap values.Object (sym (eqb-true u w is'))) before heavy own)
-          by (owners.Frame j) own is' = absurd (true≢false (sym is'))
-          by owners.Library own is' = absurd (true≢false (sym is'))
-          by owners.Released own is' = absurd (true≢false (sym is'))
-          by owners.Lost own is' = absurd (true≢false (sym is'))
-          by owners.Unowned own is' = absurd (true≢false (sym is'))
+      gives_up_alone : (n : ℕ) (x : Object) → object_at h n ≡ Some x → is_heavy_class p x.class ≡ true → (w : ℕ) → constructs (method_at p fr.method) ≡ true → fr.locals.this ≡ values.Object w → is_held_by x.owner w ≡ true → IsNewTo h (caller ∷ rest) w
+      gives_up_alone n x before heavy w makes this held' =
+          let field = field_of_owner x.owner w held' in
+          let others = alone n x w field.0 makes this before heavy field.1 in
+          (others, λ z there. made_unready w makes this others z there)
+
+  pub ways : WaysGo p None (caller ∷ rest) at h K
+  ways = ways_by p None (caller ∷ rest) at h K ends unlinked (end_unowned p at fr.locals.this caller.locals t.action (method_at p fr.method) plain v e h no_reset ends unmade)
+      (returned_grows p at fr.locals.this caller.locals t.action (method_at p fr.method) plain v e h).count carries (end_births p at fr.locals.this caller.locals t.action (method_at p fr.method) plain v e h no_reset ends unmade)
+      (λ o. (fr.locals.this ≡ values.Object o) × (is_new t.action ≡ true)) ended_unfinished (λ o is'. fresh o is'.1 is'.0) (λ w none. absurd (let never : None ≡ Some w = none in cc))
 
   -- what fields own
   pub holders : HoldersWere p h K
-  holders = holders_were p None (caller ∷ rest) at h K goes_on (end_births p at fr.locals.this caller.locals t.action (method_at p fr.method) plain v e h no_reset ends unmade) (none_unready h)
+  holders = holders_were p None (caller ∷ rest) at h K ways goes_on
 
   -- the caller goes on owning what it owned
   pub caller_owns : (o : ℕ) (x y : Object) → object_at h o ≡ Some x → object_at K o ≡ Some y → x.finished ≡ true → is_heavy_class p x.class ≡ true → x.owner ≡ owners.Frame at → y.owner ≡ owners.Frame at
   caller_owns = end_keeps_own p at fr.locals.this caller.locals t.action (method_at p fr.method) plain v e h no_reset unmade result_owner
+
+  -- what fields hold they own
+  pub ended_owns : FieldsOwn p h → FieldsOwn p K
+  ended_owns = fields_own_at_end p ac forms h links ranges ends fr caller old rest st covered args back.index t back.here named makes itself new_makes (λ m' d n' is'. named_is m' (ap called_method is'))
+      plain (plain_alias ∙ sym (ap alias_in named_there.1)) no_reset at v e unmade result_owner roots
+      (λ normal' new k to. (self normal' new k to, (self_made new).1, object normal' new k to, others_keep normal' new k to, made_keep normal' new k to, linked_root normal' new k to)) fields carries holders goes_on
+    where
+      new_makes : is_new t.action ≡ true → constructs (method_at p fr.method) ≡ true
+      new_makes new = go t.action refl new
+        where
+          go : (a : Action) → t.action ≡ a → is_new a ≡ true → constructs (method_at p fr.method) ≡ true
+          go actions.Skip is' one = absurd (true≢false (sym one))
+          go (actions.New m' d n') is' one =
+              ap (λ (z : MethodId). constructs (method_at p z)) (subst (λ (a : Action). RunsItself a named fr.method) is' itself ∙ sym (named_is m' (ap called_method is'))) ∙ subst (IsOfItsKind p) is' kind
+          go a is' one = absurd (true≢false (sym one))
 
   -- ---- a result that is an alias
 
@@ -465,29 +526,34 @@ module _ (p : Program) (ac : Accept p) (forms : HasPlainForms p) (runs' : HasPla
         self' : (w : ℕ) × (fr.locals.this ≡ values.Object w) × (0 < w) × (w < next_number h)
         self' = self_made new
 
-        old : (x : Object) × (object_at h self'.0 ≡ Some x)
-        old = let class : ClassId = record { 0 = 0 } in object_there h self'.0 (unfinished class) self'.2 self'.3
+        earlier : (x : Object) × (object_at h self'.0 ≡ Some x)
+        earlier = let class : ClassId = record { 0 = 0 } in object_there h self'.0 (unfinished class) self'.2 self'.3
 
-        unlinked : old.0.link ≡ None
-        unlinked = by old.0.link refl
+        no_link : earlier.0.link ≡ None
+        no_link = by earlier.0.link refl
           where
-            by : (l : Option Link) → old.0.link ≡ l → old.0.link ≡ None
+            by : (l : Option Link) → earlier.0.link ≡ l → earlier.0.link ≡ None
             by None none' = none'
-            by (Some l) some' = absurd (true≢false (sym (links self'.0 old.0 l old.1 some').finished ∙ unmade self'.0 old.0 new self'.1 old.1))
+            by (Some l) some' = absurd (true≢false (sym (links self'.0 earlier.0 l earlier.1 some').finished ∙ unmade self'.0 earlier.0 new self'.1 earlier.1))
 
         itself' : self'.0 ≡ o
         itself' =
-            sym (roots_of_links-itself h self'.0 old.0 old.1 unlinked) ∙ sym (roots (λ x z. none) self'.0 (self'.2, self'.3))
+            sym (roots_of_links-itself h self'.0 earlier.0 earlier.1 no_link) ∙ sym (roots (λ x z. none) self'.0 (self'.2, self'.3))
             ∙ (let both : Some (root K self'.0) ≡ Some o = ap (root_of K) (sym (answer_is_self ∙ self'.1)) ∙ root' in (let same : root K self'.0 ≡ o = cc in same))
 
         -- what was being made, with an aliased argument, held nothing, and nothing was moved to it since
         holds_nothing : IsHolder p K self'.0 → ⊥
         holds_nothing (c, z, there, done', heavy', held') = elim (end_births p at fr.locals.this caller.locals t.action (method_at p fr.method) plain v e h no_reset ends unmade c z there done') [
-          | inl before ↦ by before.0 before.1 before.2 (ap (is_heavy_class p) (sym before.3) ∙ heavy') (goes_on c before.0 z before.1 there before.2 (ap (is_heavy_class p) (sym before.3) ∙ heavy'))
-          | inr free ↦ true≢false (sym held' ∙ free self'.0)
+          | inl before ↦ (let wide' = wide_then before.0 before.1 in by before.0 before.1 before.2 wide' (goes_on c before.0 z before.1 there before.2 wide'))
+          | inr free ↦ true≢false (sym (held_is z.owner self'.0 held') ∙ free.0)
         ]
           where
-            by : (x : Object) → object_at h c ≡ Some x → x.finished ≡ true → is_heavy_class p x.class ≡ true → OwnerGoes None (caller ∷ rest) at x.owner z.owner → ⊥
+            wide_then : (x : Object) → object_at h c ≡ Some x → is_heavy_class p x.class ≡ true
+            wide_then x at' =
+                let then' = was c z there in
+                ap (λ (u : Object). is_heavy_class p u.class) (let both : Some x ≡ Some then'.0 = sym at' ∙ then'.1 in (let one : x ≡ then'.0 = cc in one)) ∙ ap (is_heavy_class p) (sym then'.2) ∙ heavy'
+
+            by : (x : Object) → object_at h c ≡ Some x → x.finished ≡ true → is_heavy_class p x.class ≡ true → OwnerGoes h None (caller ∷ rest) at x.owner z.owner → ⊥
             by x there' was' wide (stays same) =
                 let own = field_of_owner x.owner self'.0 (ap (λ (a : Owner). is_held_by a self'.0) (sym same) ∙ held') in
                 alias_holds_nothing p fr (caller ∷ rest) h contents self'.0 run_aliased (λ u at'. unmade self'.0 u new self'.1 at') (alone c x self'.0 own.0 run_makes self'.1 there' wide own.1)
@@ -518,7 +584,7 @@ module _ (p : Program) (ac : Accept p) (forms : HasPlainForms p) (runs' : HasPla
         by (Some j) to = ap (root_of h) (number_value (operand_of caller.locals t.action k) j (sym target_is ∙ to)) ∙ sym (new_root_is j to) ∙ root'
 
   -- the method that runs returns its aliased argument
-  module _ (k : ℕ) (some : named_there.0.sig.alias ≡ Some k) (edge : t.edge ≡ edges.Go) (old : is_new t.action ≡ false) (method' : constructs m ≡ false) (receives : has_receiver t.action ≡ true) where
+  module _ (k : ℕ) (some : named_there.0.sig.alias ≡ Some k) (edge : t.edge ≡ edges.Go) (earlier : is_new t.action ≡ false) (method' : constructs m ≡ false) (receives : has_receiver t.action ≡ true) where
     run_alias : run.0.sig.alias ≡ Some k
     run_alias = fit.alias ∙ some
 
@@ -527,7 +593,7 @@ module _ (p : Program) (ac : Accept p) (forms : HasPlainForms p) (runs' : HasPla
 
     -- its result is what the caller takes
     answer_is : V ≡ v
-    answer_is = ap (answered fr.locals.this t.action v) (normal edge) ∙ go t.action refl old
+    answer_is = ap (answered fr.locals.this t.action v) (normal edge) ∙ go t.action refl earlier
       where
         go : (a : Action) → t.action ≡ a → is_new a ≡ false → answered_normally fr.locals.this a v ≡ v
         go actions.Skip is' one = refl
@@ -540,134 +606,175 @@ module _ (p : Program) (ac : Accept p) (forms : HasPlainForms p) (runs' : HasPla
 
     module _ (o : ℕ) (x : Object) (before : object_at h o ≡ Some x) (heavy : is_heavy_class p x.class ≡ true) (owes : OwesOrHolds p h o x) where
       value_is : root_of K V ≡ root_of h (result_value fr.locals (Some run.0) q)
-      value_is = ap (root_of K) answer_is ∙ value_root_is (roots_called old) ∙ ap (λ (z : Option Method). root_of h (result_value fr.locals z q)) run.1
+      value_is = ap (root_of K) answer_is ∙ value_root_is (roots_called earlier) ∙ ap (λ (z : Option Method). root_of h (result_value fr.locals z q)) run.1
 
       to_result : root_of h (operand_of caller.locals t.action k) ≡ Some o → root_of K V ≡ Some o
-      to_result root' = value_is ∙ argument_is_result p ac h fr caller rest st args covered i s q here is (returns edge) run.0 run.1 k run_alias method_kind back.index t back.here o x before heavy owes root'
+      to_result root' = value_is ∙ argument_is_result p ac h fr caller old rest st args covered i s q here is (returns edge) run.0 run.1 k run_alias method_kind back.index t back.here o x before heavy owes root'
 
       to_operand : root_of K V ≡ Some o → root_of h (operand_of caller.locals t.action k) ≡ Some o
-      to_operand root' = result_is_argument p ac h fr caller rest st args covered i s q here is (returns edge) run.0 run.1 k run_alias method_kind back.index t back.here o x before heavy owes receives (sym value_is ∙ root')
-
-  -- an alias of the object of a fact has that object for its root
-  aliased : (o : ℕ) (x : Object) (c : Covers p h (is_given p h caller o x.class) (is_renewed p h caller o) rest caller o x) → object_at h o ≡ Some x → is_heavy_class p x.class ≡ true → OwesOrHolds p h o x
-      → gives_alias p t.action t.edge c.fact.places ≡ true → root_of K V ≡ Some o
-  aliased o x c before heavy owes gives' =
-      let operand = gives_operand p t.action t.edge c.fact.places gives' in
-      let k = operand.1.0 in
-      let position : named_there.0.sig.alias ≡ Some k = ap alias_in (sym same_callee) ∙ operand.1.1 in
-      let root' = operand_holds p h caller.method caller.locals t.action o k c.fact.places local.small (operand_has_position p t.action c.fact.places k local.small operand.1.2) c.places operand.1.2 in
-      elim (alias_kind k position) [
-        | inl new ↦ new_to_result k position (normal operand.0) new o root'
-        | inr called' ↦ to_result k position operand.0 called'.0 called'.1 called'.2 o x before heavy owes root'
-      ]
-
-  -- ---- what the call gives
-
-  pub inside : HoldsThere p h caller
-  inside = holds_there p h ranges caller caller_in
-
-  pub carries : Carries h K
-  carries = end_carries p at fr.locals.this caller.locals t.action (method_at p fr.method) plain v e h links no_reset unmade
-
-  pub finishes : KeepsFinished h K
-  finishes = carries_finish h K (returned_grows p at fr.locals.this caller.locals t.action (method_at p fr.method) plain v e h).count carries
-
-  pub fields : KeepsFieldsButTexts p h K
-  fields = but_texts p h K (end_keeps p at fr.locals.this caller.locals t.action (method_at p fr.method) plain v e h links no_reset unmade)
-
-  pub was : (n : ℕ) (x : Object) → object_at K n ≡ Some x → IsCarried h n x
-  was = end_was p at fr.locals.this caller.locals t.action (method_at p fr.method) plain v e h links no_reset unmade
-
-  abbrev pub IsGivenOrNot : Origin → Fact → Fact → Type 0
-  IsGivenOrNot = IsGivenOr p ac h K links carries fields caller below back.index t back.here local inside all_roots.0 V back.row
-
-  abbrev IsMadeHere : Place → ℕ → Object → Type 0
-  IsMadeHere place o y = IsMadeSo p ac h K links carries fields caller below back.index t back.here local inside all_roots.0 V rest (is_given p h caller) (is_renewed p h caller) IsGivenOrNot place o y
-
-  -- an owner of two frames
-  no_two : (n : ℕ) → owners.Frame n ≡ owners.Frame (n + 1) → ⊥
-  no_two n is' = let one : n ≡ n + 1 = cc in omega (arith, one)
-
-  -- no fact of the caller goes on owning what it is given
-  stops : (o : ℕ) (y : Object) → object_at K o ≡ Some y → is_heavy_class p y.class ≡ true
-      → ((is_new t.action ≡ true) × (fr.locals.this ≡ values.Object o)) ⊎ ((x : Object) → object_at h o ≡ Some x → x.owner ≡ owners.Frame (at + 1)) → StopsOwning p h caller rest (is_given p h caller) (is_renewed p h caller) IsGivenOrNot o
-  stops o y now heavy (inl (new, this)) x before z small root d key g more = absurd ((unheld back.index t o back.here new this).0 z small root)
-  stops o y now heavy (inr owner) x before z small root d key g more = by (is_given p h caller o x.class) refl
-    where
-      heavy' : is_heavy_class p x.class ≡ true
-      heavy' =
-          let old = was o y now in
-          ap (λ (u : Object). is_heavy_class p u.class) (let both : Some x ≡ Some old.0 = sym before ∙ old.1 in (let one : x ≡ old.0 = cc in one)) ∙ ap (is_heavy_class p) (sym old.2) ∙ heavy
-
-      by : (b : Bool) → is_given p h caller o x.class ≡ b → is_own g.mode ≡ false
-      by false spared = absurd (elim (claims_by p (method_at p caller.method) d.origin d.fact key.owning) [
-        | inl own ↦ no_two at (sym (key.owner spared own) ∙ owner x before)
-        | inr held' ↦ true≢false (sym (own_frame (at + 1) x.owner (owner x before))
-            ∙ held_unowned p h (is_given p h caller o x.class) (is_renewed p h caller o) rest caller o x d (held_finished p h (is_given p h caller o x.class) (is_renewed p h caller o) rest caller o x d key.owning held'.0) held'.0 held'.1 (at + 1))
-      ])
-      by true gives' = not_own (is_own g.mode) (is_held g.mode)
-          (more.0 (away_moves p ac h caller below rest back.index t back.here back.row (is_given p h caller o x.class) (is_renewed p h caller o) o x d key heavy' (given_at_step p h caller below back.index t o x.class back.here back.row gives')))
-
-  -- what the call gives is covered by its birth, or comes from the operand of which it is an alias
-  made : (place : Place) (o : ℕ) (y : Object) → IsSmall place → is_local place ≡ true → is_made (made_place t.action) place ≡ true → place_value p K caller.method after.locals place ≡ V → root_of K V ≡ Some o
-      → object_at K o ≡ Some y → is_heavy_class p y.class ≡ true → OwesOrHolds p K o y → IsMadeHere place o y
-  made place o y small local' there value root' now heavy owes = by named_there.0.sig.alias refl
-    where
-      by_end : (k : ℕ) → named_there.0.sig.alias ≡ Some k → (x : Option ClassId) → e ≡ x → IsMadeHere place o y
-      by_end k some (Some c) thrown' =
-          absurd (thrown_light p ac forms runs' h texts links apart fr caller rest st below keeps gives mine' covered i s q here is t named back named_there.0 named_there.1 call may makes exits (roots_thrown c thrown') unmade was holders place o y small there value root'
-          now heavy owes c thrown' (ap (λ (x : Option ClassId). root_of K (answered fr.locals.this t.action v x)) (sym thrown') ∙ root'))
-      by_end k some None none =
-          let old = was o y now in
-          let edge = back.normal none in
-          inr (inr (from_operand p h caller below t local place o small local' there edge k (ap alias_in same_callee ∙ some) (elim (alias_kind k some) [
-            | inl new ↦ new_to_operand k some none new o y root' now owes
-            | inr called' ↦ to_operand k some edge called'.0 called'.1 called'.2 o old.0 old.1 (ap (is_heavy_class p) (sym old.2) ∙ heavy) (bore_before p h K holders o old.0 y old.1 old.3 owes) root'
-          ])))
-
-      as_born : IsBornSo p K (is_renewed p h caller o) rest after place o y ((y.owner ≡ owners.Frame at) × (((is_new t.action ≡ true) × (fr.locals.this ≡ values.Object o)) ⊎ ((x : Object) → object_at h o ≡ Some x → x.owner ≡ owners.Frame (at + 1)))) → IsMadeHere place o y
-      as_born (inl (c, in'', its)) = inl (c, in'', its.0, stops o y now heavy its.1)
-      as_born (inr u) = inr (inl u)
-
-      by : (a : Option ℕ) → named_there.0.sig.alias ≡ a → IsMadeHere place o y
-      by None none =
-          as_born (given p ac forms runs' h texts links apart fr caller rest st below keeps gives mine' covered i s q here is t named back named_there.0 named_there.1 call may makes exits (roots_plain none) unmade was holders place o y small there value root' now heavy
-          owes none)
-      by (Some k) some = by_end k some e refl
+      to_operand root' = result_is_argument p ac h fr caller old rest st args covered i s q here is (returns edge) run.0 run.1 k run_alias method_kind back.index t back.here o x before heavy owes receives (sym value_is ∙ root')
 
   -- ---- all frames
 
-  module _ (stand : AllStand p rest) (waits : AreWaiting p h (caller ∷ rest)) where
-    gifts : AllKeepGifts p h K rest
+  -- `old` and `older` are what was old for the frame that ends and for the caller when they began
+  module _ (stand : AllStand p rest) (aged : IsOld p h (caller ∷ rest) fr old) (older : ℕ → Bool) (up : (o : ℕ) → older o ≡ true → old o ≡ true) (was_old : IsOld p h rest caller older)
+      (waiting : IsCovered p h (is_given p h caller) (is_reread p h caller) older rest caller) (lower : AreWaiting p h older rest) (holds : HoldsLent p h older rest caller below) (news : AreNew p (caller ∷ rest))
+      (unready : AreUnfinished p h (caller ∷ rest)) where
+    pub gifts : AllKeepGifts p h K rest
     gifts = small_gifts p ac h K rest stand all_roots.1
+
+    pub others : StaysApart p h K rest caller
+    others = stays_apart p None (caller ∷ rest) at h K ways goes_on rest caller (omega arith) gifts tt (λ w none. none.1) (λ w none this. absurd (let never : None ≡ Some w = none in cc))
+
+    pub lasting : KeepsHeld p h K caller
+    lasting = held_here p None (caller ∷ rest) at h K ways goes_on rest caller (omega arith) gifts (λ w none. none.0)
+
+    -- ---- what the caller counts on
+
+    -- what it creates anew is in its hands
+    pub in_hands : (u : ℕ) (y : Object) → object_at h u ≡ Some y → IsHeavyObject p y → OwesOrHolds p h u y → is_renewed p h caller u ≡ true → HasInHand p h (IsLentFrom p h rest) at caller u y.owner
+    in_hands u y there heavy owes renewed = elim (owned_or_lent p ac forms h caller older rest below back.index t back.here back.row waiting holds u y there heavy.1 owes heavy.0 renewed) [
+      | inl own ↦ inl (own.key.owner own.kept own.own)
+      | inr other ↦ inr other
+    ]
+
+    abbrev IsSureHere : (o : ℕ) (x : Object) → Covers p h (is_given p h caller o x.class) (is_renewed p h caller o) older rest caller o x → Type 0
+    IsSureHere o x c = IsSureOf p ac h K links carries fields caller below back.index t back.here local inside all_roots.0 V older rest (is_given p h caller o x.class) (is_renewed p h caller o) o x c
+
+    -- where a fact of the caller is sure, its object was old when the frame that ends began, and the call spares it
+    counted : (o : ℕ) (x : Object) (c : Covers p h (is_given p h caller o x.class) (is_renewed p h caller o) older rest caller o x) → object_at h o ≡ Some x → x.finished ≡ true → is_heavy_class p x.class ≡ true → OwesOrHolds p h o x
+        → IsSureHere o x c → is_renewed p h caller o ≡ false → (old o ≡ true) × Spares p h caller o
+    counted o x c before done heavy owes sure spared = let is' = counts sure in (is'.0, counted_is_spared p h ends caller rest news unready o x before hands spared is'.1)
+      where
+        hands : (u : ℕ) (y : Object) → object_at h u ≡ Some y → IsHeavyObject p y → IsComparable h u o → is_renewed p h caller u ≡ true → HasInHand p h (IsLentFrom p h rest) at caller u y.owner
+        hands u y there heavy' comes renewed = in_hands u y there heavy' (comparable_bears p h ends unlinked o u x y before there heavy comes owes) renewed
+
+        counts : IsSureHere o x c → (old o ≡ true) × CountsOn p h caller rest o x
+        counts (inl (key, kept)) = elim (claimed_owner p h (is_given p h caller o x.class) (is_renewed p h caller o) older rest caller o x c key kept done) [
+          | inl mine ↦ (aged.strict o x before (done, heavy) (owned_ends_strictly p h ends caller rest news unready o x before mine), counts_as_owned mine)
+          | inr held' ↦ (aged.strict o x before (done, heavy) (made_ends_strictly p h ends caller rest news unready o x before held'), counts_as_made held')
+        ]
+        counts (inr (tells, away)) = (up o away.0, counts_as_spared away.1 (was_old.ends o x before (done, heavy) away.0))
+
+    -- ---- what the call gives
+
+    -- an alias of the object of a fact has that object for its root
+    aliased : (o : ℕ) (x : Object) (c : Covers p h (is_given p h caller o x.class) (is_renewed p h caller o) older rest caller o x) → object_at h o ≡ Some x → is_heavy_class p x.class ≡ true → OwesOrHolds p h o x
+        → gives_alias p t.action t.edge c.fact.places ≡ true → root_of K V ≡ Some o
+    aliased o x c before heavy owes gives' =
+        let operand = gives_operand p t.action t.edge c.fact.places gives' in
+        let k = operand.1.0 in
+        let position : named_there.0.sig.alias ≡ Some k = ap alias_in (sym same_callee) ∙ operand.1.1 in
+        let root' = operand_holds p h caller.method caller.locals t.action o k c.fact.places local.small (operand_has_position p t.action c.fact.places k local.small operand.1.2) c.places operand.1.2 in
+        elim (alias_kind k position) [
+          | inl new ↦ new_to_result k position (normal operand.0) new o root'
+          | inr called' ↦ to_result k position operand.0 called'.0 called'.1 called'.2 o x before heavy owes root'
+        ]
+
+    abbrev pub IsGivenOrNot : Origin → Fact → Fact → Type 0
+    IsGivenOrNot = IsGivenOr p ac h K links carries fields caller below back.index t back.here local inside all_roots.0 V back.row
+
+    abbrev IsMadeHere : Place → ℕ → Object → Type 0
+    IsMadeHere place o y = IsMadeSo p ac h K links carries fields caller below back.index t back.here local inside all_roots.0 V older rest (is_given p h caller) (is_renewed p h caller) IsGivenOrNot place o y
+
+    -- an owner of two frames
+    no_two : (n : ℕ) → owners.Frame n ≡ owners.Frame (n + 1) → ⊥
+    no_two n is' = let one : n ≡ n + 1 = cc in omega (arith, one)
+
+    -- no fact of the caller goes on owning what it is given
+    stops : (o : ℕ) (y : Object) → object_at K o ≡ Some y → is_heavy_class p y.class ≡ true
+        → ((is_new t.action ≡ true) × (fr.locals.this ≡ values.Object o)) ⊎ ((x : Object) → object_at h o ≡ Some x → x.owner ≡ owners.Frame (at + 1)) → StopsOwning p h caller older rest (is_given p h caller) (is_renewed p h caller) IsGivenOrNot o
+    stops o y now heavy (inl (new, this)) x before z small root d key g more = absurd ((unheld back.index t o back.here new this).0 z small root)
+    stops o y now heavy (inr owner) x before z small root d key g more = by (is_given p h caller o x.class) refl
+      where
+        heavy' : is_heavy_class p x.class ≡ true
+        heavy' =
+            let earlier = was o y now in
+            ap (λ (u : Object). is_heavy_class p u.class) (let both : Some x ≡ Some earlier.0 = sym before ∙ earlier.1 in (let one : x ≡ earlier.0 = cc in one)) ∙ ap (is_heavy_class p) (sym earlier.2) ∙ heavy
+
+        by : (b : Bool) → is_given p h caller o x.class ≡ b → is_own g.mode ≡ false
+        by false spared = absurd (elim (claims_by p (method_at p caller.method) d.origin d.fact key.owning) [
+          | inl own ↦ no_two at (sym (key.owner spared own) ∙ owner x before)
+          | inr held' ↦ true≢false (sym (own_frame (at + 1) x.owner (owner x before))
+              ∙ held_unowned p h (is_given p h caller o x.class) (is_renewed p h caller o) older rest caller o x d (held_finished p h (is_given p h caller o x.class) (is_renewed p h caller o) older rest caller o x d key.owning held'.0) held'.0 held'.1
+              (claims_owned p (method_at p caller.method) d.origin d.fact key.owning).0 (at + 1))
+        ])
+        by true gives' = not_own (is_own g.mode) (is_held g.mode)
+            (more.0 (away_moves p ac h caller below older rest back.index t back.here back.row (is_given p h caller o x.class) (is_renewed p h caller o) o x d key heavy' (given_at_step p h caller below back.index t o x.class back.here back.row gives')))
+
+    -- what the call gives is covered by its birth, or comes from the operand of which it is an alias
+    made : (place : Place) (o : ℕ) (y : Object) → IsSmall place → is_local place ≡ true → is_made (made_place t.action) place ≡ true → place_value p K caller.method after.locals place ≡ V → root_of K V ≡ Some o
+        → object_at K o ≡ Some y → is_heavy_class p y.class ≡ true → OwesOrHolds p K o y → IsMadeHere place o y
+    made place o y small local' there value root' now heavy owes = by named_there.0.sig.alias refl
+      where
+        by_end : (k : ℕ) → named_there.0.sig.alias ≡ Some k → (x : Option ClassId) → e ≡ x → IsMadeHere place o y
+        by_end k some (Some c) thrown' =
+            absurd (thrown_light p ac forms runs' h texts links apart fr caller rest st below keeps gives mine' old older covered i s q here is t named back named_there.0 named_there.1 call may makes exits (roots_thrown c thrown') unmade was holders place o y small there value root'
+            now heavy owes c thrown' (ap (λ (x : Option ClassId). root_of K (answered fr.locals.this t.action v x)) (sym thrown') ∙ root'))
+        by_end k some None none =
+            let earlier = was o y now in
+            let edge = back.normal none in
+            inr (inr (from_operand p h caller below t local place o small local' there edge k (ap alias_in same_callee ∙ some) (elim (alias_kind k some) [
+              | inl new ↦ new_to_operand k some none new o y root' now owes
+              | inr called' ↦ to_operand k some edge called'.0 called'.1 called'.2 o earlier.0 earlier.1 (ap (is_heavy_class p) (sym earlier.2) ∙ heavy) (bore_before p h K holders o earlier.0 y earlier.1 earlier.3 owes) root'
+            ])))
+
+        as_born : IsBornSo p K (is_renewed p h caller o) older rest after place o y ((y.owner ≡ owners.Frame at) × (((is_new t.action ≡ true) × (fr.locals.this ≡ values.Object o)) ⊎ ((x : Object) → object_at h o ≡ Some x → x.owner ≡ owners.Frame (at + 1)))) → IsMadeHere place o y
+        as_born (inl (c, in'', its)) = inl (c, in'', its.0, stops o y now heavy its.1)
+        as_born (inr u) = inr (inl u)
+
+        by : (a : Option ℕ) → named_there.0.sig.alias ≡ a → IsMadeHere place o y
+        by None none =
+            as_born (given p ac forms runs' h texts links apart fr caller rest st below keeps gives mine' old older covered i s q here is t named back named_there.0 named_there.1 call may makes exits (roots_plain none) unmade was holders place o y small there value root' now heavy
+            owes none)
+        by (Some k) some = by_end k some e refl
 
     -- each place of the caller is in a fact that comes from one before, or was born. Where the call creates the object's obligation anew, the fact is still read so.
     pub caller_from : (place : Place) (o : ℕ) (y : Object) → IsSmall place → root_of K (place_value p K caller.method after.locals place) ≡ Some o → object_at K o ≡ Some y → is_heavy_class p y.class ≡ true → OwesOrHolds p K o y
-        → IsKeyedFrom p ac h K links carries fields caller below back.index t back.here local inside all_roots.0 V rest (is_given p h caller) (is_renewed p h caller) IsGivenOrNot place o y
+        → IsKeyedFrom p ac h K links carries fields caller below back.index t back.here local inside all_roots.0 V older rest (is_given p h caller) (is_renewed p h caller) IsGivenOrNot place o y
     caller_from =
-        call_from p ac h K links carries fields caller below back.index t back.here local inside all_roots.0 V back.row rest (is_given p h caller) (is_renewed p h caller)
-        (λ o c gives'. given_at_step p h caller below back.index t o c back.here back.row gives') waits.0 ready.0 (given_kept p h K rest gifts)
-        (stays_apart p None (caller ∷ rest) at h K finishes goes_on holders rest caller (omega arith) (λ w to this. absurd (let never : None ≡ Some w = to in cc)) (λ w none. none.1))
-        (held_here p None (caller ∷ rest) at h K finishes goes_on holders rest caller (omega arith) (λ w none. none.0))
+        call_from p ac h K links carries fields caller below back.index t back.here local inside all_roots.0 V back.row older rest (is_given p h caller) (is_renewed p h caller)
+        (λ o c gives'. given_at_step p h caller below back.index t o c back.here back.row gives') waiting ready.0 others lasting
         (λ o x y before now done heavy spared mine. caller_owns o x y before now done heavy mine)
-        noted
-        (λ o x y c before now g more trusted spared old done goes heavy owes names less knows.
-        promises_kept p ac forms h fr caller rest st below targets args caller_in covered i s q here is back.index t back.here back.row named named_there.0 back.calls
-        named_there.1 call may dispatched returns thrown o x y c before g more.0 trusted spared old done goes heavy owes names less knows)
+        (λ o x y c n before now root' other interest sure spared done goes heavy owes. noted o x y n before now root' other interest (counted o x c before done heavy owes sure spared) done goes heavy owes)
+        (λ o x y c before now g more trusted sure spared done goes heavy owes names less knows.
+        let is' = counted o x c before done heavy owes sure spared in
+        promises_kept p ac forms h fr caller rest st below targets args caller_in old older covered i s q here is back.index t back.here back.row named named_there.0 back.calls
+        named_there.1 call may dispatched returns thrown o x y c before g more.0 trusted is'.0 is'.1 done goes heavy owes names less knows)
         aliased
+        (left_out_bears p ac forms h K texts stored links carries fields caller below back.index t back.here local inside all_roots.0 V older rest (is_given p h caller) (is_renewed p h caller) waiting ready.0 others lasting)
         (λ place o y small local' none' there value root now heavy owes. made place o y small local' there value root now heavy owes)
 
-    -- the frames below it go on waiting
-    pub rest_waiting : AreWaiting p K rest
-    rest_waiting =
-        all_wait_on p h K links carries rest all_roots.1 (all_keep_but_texts p h K fields rest) (all_there p h ranges rest (All-tail (λ (x : Frame). LocalsInRange h x.locals) caller rest in')) ready.1 gifts
-        (owners_kept p None (caller ∷ rest) at h K finishes goes_on holders rest (omega arith) tt (λ w none. none.1)) waits.1
+    -- what was old for the caller is so
+    pub still_old : IsOld p K rest after older
+    still_old = old_as p K older rest caller after refl refl (old_kept p h K older rest caller others (ways_go_on p None (caller ∷ rest) at h K ways) was_old)
 
-    -- what is lent to them stays so
-    pub lent_on : (o : ℕ) (w : Owner) → IsLentFrom p h rest o w → IsLentFrom p K rest o w
-    lent_on o w = (given_kept p h K rest gifts).lent o w
+    -- the frames below it go on waiting
+    pub rest_waiting : AreWaiting p K older rest
+    rest_waiting =
+        all_wait_on p h K links carries (ways_go_on p None (caller ∷ rest) at h K ways) older rest all_roots.1 (all_keep_but_texts p h K fields rest) (all_there p h ranges rest (All-tail (λ (x : Frame). LocalsInRange h x.locals) caller rest in')) ready.1 gifts
+        (owners_kept p None (caller ∷ rest) at h K ways goes_on rest (omega arith) gifts tt (λ w none. none.1)) lower
 
     pub ended_below : OwnersBelow h (length (caller ∷ rest) + 1) → OwnersBelow K at
     ended_below low =
         end_below p at fr.locals.this caller.locals t.action (method_at p fr.method) plain v e h no_reset unmade
         (subst (OwnersBelow h) (let number : length (caller ∷ rest) + 1 ≡ length rest + 1 + 1 = omega arith in number) low)
+
+    -- ---- the reset
+
+    -- the heap `j` is the one that the call leaves with its reset
+    module _ (j : HeapContents) (same : (u : Value) → root_of j u ≡ root_of K u) (fields' : KeepsFields p K j) (alike : AreAlike K j) (later : HaveEnds K) (unready' : AreUnfinished p K (caller ∷ rest)) (turns : AllTurned p h K j caller.locals t.action) where
+      -- what the caller read anew till then
+      read_here : (o : ℕ) → is_renewed p h caller o ≡ true → (renews p h caller.locals t.action o ≡ true) × (o < next_number h)
+      read_here o is' =
+          let does = renewed_at_step p h caller below back.index t o back.here back.row is' in
+          let place = target_temp p ac forms h caller older rest below back.index t back.here back.row o does in
+          (does, (numbered h links (place_value p h caller.method caller.locals (places.Temp place.0)) o place.2 (inside (places.Temp place.0) place.1)).1)
+
+      -- each place of the caller, and of the frames below it, is covered
+      pub anew_covered : OwnersBelow h (length (caller ∷ rest) + 1) → AreCovered p j (after ∷ rest)
+      anew_covered low =
+          all_anew p ac forms h K j caller after rest below back.index t back.here back.row same fields' alike (is_given p h caller) (is_renewed p h caller) older
+          (λ o c gives'. given_at_step p h caller below back.index t o c back.here back.row gives') read_here waiting holds (caller ∷ rest) at ways goes_on others lasting (small_gifts p ac h K (caller ∷ rest) (below, stand) all_roots).0 carries ready.0
+          (λ o x y before now done heavy kept owner. caller_owns o x y before now done heavy owner) later news unready unready' still_old refl turns (λ place o y small root now heavy owes. caller_from place o y small root now heavy owes) rest_waiting
+          (λ n y now. let z = alike.back n y now in ap (is_frame_from (at + 1)) z.2.owner ∙ ended_below low n z.0 z.1)

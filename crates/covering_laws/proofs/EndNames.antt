@@ -61,8 +61,8 @@ use Rattle.value_laws.proofs.Chains.{object_there}
 use Rattle.value_laws.proofs.Entries.{same_count}
 use Rattle.value_laws.specs.Typed.{IsDeclaredElsewhere, NamesMembers}
 use Rattle.value_laws.specs.FieldContents.{IsDispatched, is_chosen_by_class}
-use Rattle.value_laws.specs.PlaceFacts.{Covers, IsCovered, asked_by, asked_of, gives_none, is_given, is_lent, OwesOrHolds, renews_none}
-use Rattle.value_laws.specs.Renewing.{is_renewed}
+use Rattle.value_laws.specs.PlaceFacts.{Covers, IsCovered, Spares, asked_by, asked_of, gives_none, is_given, is_lent, OwesOrHolds, renews_none}
+use Rattle.value_laws.specs.Renewing.{is_reread}
 use Rattle.value_laws.specs.Ranges.{LocalsInRange}
 use Rattle.value_laws.proofs.FrameOperations.{all_at}
 use Rattle.value_laws.proofs.RangeValues.{operand_in_range}
@@ -71,13 +71,13 @@ use Rattle.value_laws.proofs.NamedReached.{names_what_is_there}
 use Rattle.value_laws.specs.Flow.{flow}
 use Rattle.value_laws.specs.Paths.{move_of, Reach, relation_of}
 use Rattle.covering_laws.proofs.Following.{small_step, step_there, breaks_nothing, same_body}
-use Rattle.covering_laws.proofs.HeavyFields.{HasPlace, apart_held, apart_where, asked_here, covered_at, has_place_here, held_tells, held_unlent, known_alone, lent_tells, value_here, plain_not_alone, lent_not_alone}
+use Rattle.covering_laws.proofs.HeavyFields.{HasPlace, asked_here, covered_at, has_place_here, held_tells, held_unlent, known_alone, lent_tells, value_here, plain_not_alone, lent_not_alone}
 use Rattle.covering_laws.proofs.Bodies.{running_method}
 use Rattle.covering_laws.proofs.EntryBirths.{alike_parameter, same_mark}
 use Rattle.covering_laws.proofs.KnownNames.{AreKept, all_kept, operand_holds}
 use Rattle.covering_laws.proofs.LocalSteps.{names_members}
 use Rattle.covering_laws.proofs.PromisedFields.{IsOwnField, promised_field}
-use Rattle.covering_laws.proofs.StartJoins.{first_value}
+use Rattle.covering_laws.proofs.MadeTargets.{first_value}
 use Rattle.std.specs.List.{All, list_any}
 use Rattle.program_model.specs.declared.kinds.BodyId.{BodyId}
 use Rattle.java_control.specs.declared.fact.Fact.{Fact}
@@ -201,7 +201,7 @@ at_target (promised.At k) v is = ap promised.At (eqb-true k v is)
 at_target (promised.OfField f) v is = absurd (true≢false (sym is))
 
 module _ (p : Program) (ac : Accept p) (forms' : HasPlainForms p) (h : HeapContents) (fr caller : Frame) (rest : List Frame) (st : Stands p fr) (below : Stands p caller) (targets : KeepsTargets p caller) (args : HasArguments p caller fr)
-    (in' : LocalsInRange h caller.locals) (covered : IsCovered p h gives_none renews_none (caller ∷ rest) fr) (i : ℕ) (s : Step) (q : Completion) (here : slice_get (frame_steps p fr) i ≡ Some s) (is : s.action ≡ actions.End q)
+    (in' : LocalsInRange h caller.locals) (old older : ℕ → Bool) (covered : IsCovered p h gives_none renews_none old (caller ∷ rest) fr) (i : ℕ) (s : Step) (q : Completion) (here : slice_get (frame_steps p fr) i ≡ Some s) (is : s.action ≡ actions.End q)
     (j : ℕ) (t : Step) (there : slice_get (frame_steps p caller) j ≡ Some t) (row : IsCallRow t.action) (named : MethodId) (n : Method) (called : called_method t.action ≡ Some named) (named_at : method_at p named ≡ Some n)
     (call : IsPlainCall p named) (may : MayRun p named fr.method) (dispatched : IsDispatched p h fr caller)
     (returned : t.edge ≡ edges.Go → is_throw q ≡ false) (thrown : (d : ClassId) → t.edge ≡ edges.Throws d → is_throw q ≡ true) where
@@ -217,7 +217,7 @@ module _ (p : Program) (ac : Accept p) (forms' : HasPlainForms p) (h : HeapConte
 
   -- The object of a fact of the caller, which says that it is owned, or is that of what is lent to the caller. All that was called on the object as the call ends, and
   -- all that the fact knows before, is among the names.
-  module _ (o : ℕ) (x y : Object) (c : Covers p h (is_given p h caller o x.class) (is_renewed p h caller o) rest caller o x) (before : object_at h o ≡ Some x) (spared : is_given p h caller o x.class ≡ false) (old : is_renewed p h caller o ≡ false) (done : x.finished ≡ true) (goes : GoesOn x y)
+  module _ (o : ℕ) (x y : Object) (c : Covers p h (is_given p h caller o x.class) (is_reread p h caller o x.owner) older rest caller o x) (before : object_at h o ≡ Some x) (aged : old o ≡ true) (spared : Spares p h caller o) (done : x.finished ≡ true) (goes : GoesOn x y)
       (heavy : is_heavy_class p x.class ≡ true) (owes : OwesOrHolds p h o x) (names : Names) (less : set.is_subset y.called names ≡ true) (knows : set.is_subset c.fact.called names ≡ true) where
     -- what was called on it before is among them
     called_before : set.is_subset x.called names ≡ true
@@ -292,11 +292,11 @@ module _ (p : Program) (ac : Accept p) (forms' : HasPlainForms p) (h : HeapConte
       its_place : HasPlace p fr f
       its_place = has_place_here p ac fr st f place_here
 
-      found : (c : Covers p h false false (caller ∷ rest) fr o x) × (has c.fact.places (place_of_field p f) ≡ true)
-      found = covered_at p h false false (caller ∷ rest) fr (place_of_field p f) o x
+      found : (c : Covers p h false false old (caller ∷ rest) fr o x) × (has c.fact.places (place_of_field p f) ≡ true)
+      found = covered_at p h false false old (caller ∷ rest) fr (place_of_field p f) o x
           (covered (place_of_field p f) o x its_place.small (ap (root_of h) (value_here p h fr f its_place w same_this) ∙ held_root) before heavy owes)
 
-      abbrev cover : Covers p h false false (caller ∷ rest) fr o x
+      abbrev cover : Covers p h false false old (caller ∷ rest) fr o x
       cover = found.0
 
       -- a call on `this` is one of no constructor
@@ -318,13 +318,13 @@ module _ (p : Program) (ac : Accept p) (forms' : HasPlainForms p) (h : HeapConte
       held_here = cover.outside no_constructor (field_number p f) its_place.small found.1
 
       known_here : set.is_subset cover.fact.called x.called ≡ true
-      known_here = known_alone p (method_at p fr.method) cover.origin.kind cover.fact.called x.called (held_unlent p h false false (caller ∷ rest) fr o x cover held_here no_constructor)
-          (cover.known done (held_tells p fr.method cover.origin cover.fact (plain_not_alone (method_at p fr.method) no_constructor) held_here) (apart_held p h (caller ∷ rest) fr o x cover.fact held_here (old, inl spared))).2
+      known_here = known_alone p (method_at p fr.method) cover.origin.kind cover.fact.called x.called (held_unlent p h false false old (caller ∷ rest) fr o x cover held_here no_constructor)
+          (cover.known done (held_tells p fr.method cover.origin cover.fact (plain_not_alone (method_at p fr.method) no_constructor) held_here) (aged, spared) refl)
 
       by_end : (xs : List Promise) → AsksFor p st.number q xs → (k : ℕ) (u : Promise) → slice_get xs k ≡ Some u → u.target ≡ promised.OfField f → set.is_subset u.names names ≡ true
       by_end xs asks k u at target =
           within_trans u.names x.called names
-          (shown_on_field p ac h fr st i s q here is (caller ∷ rest) o x cover (λ moved. absurd (held_stays_here p st.number cover.origin q cover.fact held_here moved)) x.called known_here xs asks
+          (shown_on_field p ac h fr st i s q here is old (caller ∷ rest) o x cover (λ moved. absurd (held_stays_here p st.number cover.origin q cover.fact held_here moved)) x.called known_here xs asks
           f k u at target (and_from (has_field_place p st.number f) (has cover.fact.places (place_of_field p f)) place_here found.1)) called_before
 
     -- ---- the operand at a position that the fact has: the method that ran has owning parameters where the named one does
@@ -342,19 +342,19 @@ module _ (p : Program) (ac : Accept p) (forms' : HasPlainForms p) (h : HeapConte
 
       -- what is lent shows its names, but for those that are asked for before
       of_lent : (place : Place) (v : ℕ) (e : OriginKind) → IsSmall place → root_of h (place_value p h fr.method fr.locals place) ≡ Some o → u.target ≡ promised.At v → is_lent p (Some r) e ≡ true → set.is_subset (asked_of p (Some r) e) names ≡ true
-          → ((cover : Covers p h false false (caller ∷ rest) fr o x) → has cover.fact.places place ≡ true → (is_origin_at cover.origin.kind (Some v) ≡ true) × (cover.origin.kind ≡ e)) → set.is_subset u.names names ≡ true
+          → ((cover : Covers p h false false old (caller ∷ rest) fr o x) → has cover.fact.places place ≡ true → (is_origin_at cover.origin.kind (Some v) ≡ true) × (cover.origin.kind ≡ e)) → set.is_subset u.names names ≡ true
       of_lent place v e room root target lent asked its =
-          let there' = covered_at p h false false (caller ∷ rest) fr place o x (covered place o x room root before heavy owes) in
-          let cover : Covers p h false false (caller ∷ rest) fr o x = there'.0 in
+          let there' = covered_at p h false false old (caller ∷ rest) fr place o x (covered place o x room root before heavy owes) in
+          let cover : Covers p h false false old (caller ∷ rest) fr o x = there'.0 in
           let origin = its cover there'.1 in
           let lent' : is_lent p (method_at p fr.method) cover.origin.kind ≡ true = ap (is_lent p (method_at p fr.method)) origin.1 ∙ ap (λ (m : Option Method). is_lent p m e) own_method ∙ lent in
           let asks' : asked_of p (method_at p fr.method) cover.origin.kind ≡ asked_of p (Some r) e = ap (asked_of p (method_at p fr.method)) origin.1 ∙ ap (λ (m : Option Method). asked_of p m e) own_method in
           within_trans u.names (set.union (asked_of p (method_at p fr.method) cover.origin.kind) x.called) names
-          (shown_on_position p ac h fr st i s q here is (caller ∷ rest) o x cover (unowned_moves p st.number cover.origin cover.fact (cover.lent lent').0 q) (set.union (asked_of p (method_at p fr.method) cover.origin.kind) x.called)
-          (cover.known done (lent_tells p fr.method cover.origin cover.fact (lent_not_alone p h false false (caller ∷ rest) fr o x cover lent') lent') (apart_where p h (caller ∷ rest) fr o x cover.fact old spared)).2 xs asks v k u at target origin.0)
+          (shown_on_position p ac h fr st i s q here is old (caller ∷ rest) o x cover (unowned_moves p st.number cover.origin cover.fact (cover.lent lent').0 q) (set.union (asked_of p (method_at p fr.method) cover.origin.kind) x.called)
+          (cover.known done (lent_tells p fr.method cover.origin cover.fact (lent_not_alone p h false false old (caller ∷ rest) fr o x cover lent') lent') (aged, spared) refl) xs asks v k u at target origin.0)
           (union_within (asked_of p (method_at p fr.method) cover.origin.kind) x.called names (ap (λ (a : Names). set.is_subset a names) asks' ∙ asked) called_before)
 
-      reached_here : (cover : Covers p h false false (caller ∷ rest) fr o x) → Reach p st.number (relation_of p st.number) cover.origin fr.control cover.fact
+      reached_here : (cover : Covers p h false false old (caller ∷ rest) fr o x) → Reach p st.number (relation_of p st.number) cover.origin fr.control cover.fact
       reached_here cover = subst (λ (b : BodyId). Reach p b (relation_of p b) cover.origin fr.control cover.fact) (same_body cover.body st.number (body_id p fr.method) cover.id st.id) cover.reached
 
       on_receiver : u.target ≡ promised.At 0 → holds_operand t.action c.fact.places 0 ≡ true → set.is_subset u.names names ≡ true
@@ -434,10 +434,10 @@ module _ (p : Program) (ac : Accept p) (forms' : HasPlainForms p) (h : HeapConte
   kept_as : (held : PlaceSet) (names : Names) (ps qs : List Promise) → qs ≡ ps → Kept held names ps → Kept held names qs
   kept_as held names ps qs same kept = subst (λ (us : List Promise). AreKept p below.number t.action held names us) (sym same) kept
 
-  pub promises_kept : (o : ℕ) (x y : Object) (c : Covers p h (is_given p h caller o x.class) (is_renewed p h caller o) rest caller o x) → object_at h o ≡ Some x → (g : Fact) → (moved_at_call p c.origin t.action t.edge c.fact ≡ moves.Moves → is_owned_in g.mode ≡ false)
-      → (is_owned_in g.mode ≡ true) ⊎ (is_lent p (method_at p caller.method) c.origin.kind ≡ true) → is_given p h caller o x.class ≡ false → is_renewed p h caller o ≡ false → x.finished ≡ true → GoesOn x y → is_heavy_class p x.class ≡ true → OwesOrHolds p h o x
+  pub promises_kept : (o : ℕ) (x y : Object) (c : Covers p h (is_given p h caller o x.class) (is_reread p h caller o x.owner) older rest caller o x) → object_at h o ≡ Some x → (g : Fact) → (moved_at_call p c.origin t.action t.edge c.fact ≡ moves.Moves → is_owned_in g.mode ≡ false)
+      → (is_owned_in g.mode ≡ true) ⊎ (is_lent p (method_at p caller.method) c.origin.kind ≡ true) → old o ≡ true → Spares p h caller o → x.finished ≡ true → GoesOn x y → is_heavy_class p x.class ≡ true → OwesOrHolds p h o x
       → (names : Names) → set.is_subset y.called names ≡ true → set.is_subset c.fact.called names ≡ true → AreKept p below.number t.action c.fact.places names (promises_at p t.action t.edge)
-  promises_kept o x y c before g more trusted spared old done goes heavy owes names less knows = elim (call.keeps fr.method n run.0 may named_at run.1 run.2) [
+  promises_kept o x y c before g more trusted aged spared done goes heavy owes names less knows = elim (call.keeps fr.method n run.0 may named_at run.1 run.2) [
     | inl keeps ↦ as_promised keeps t.edge refl
     | inr same ↦ itself same t.edge refl
   ]
@@ -445,11 +445,11 @@ module _ (p : Program) (ac : Accept p) (forms' : HasPlainForms p) (h : HeapConte
       -- all of a list that the end asks for, of the named method
       on_target : (same : fr.method ≡ named) (xs : List Promise) → AsksFor p st.number q xs → (k : ℕ) (u : Promise) → slice_get xs k ≡ Some u → Promises n u → (v : Target) → u.target ≡ v → IsPromised p n.sig v → holds_target p below.number t.action c.fact.places v ≡ true → set.is_subset u.names names ≡ true
       on_target same xs asks k u at promises (promised.At v) target valid' holds =
-          on_position o x y c before spared old done goes heavy owes names less knows n (ap (method_at p) same ∙ named_at) (own_alike p n) g more trusted xs asks k u at promises v target valid' holds
+          on_position o x y c before aged spared done goes heavy owes names less knows n (ap (method_at p) same ∙ named_at) (own_alike p n) g more trusted xs asks k u at promises v target valid' holds
       on_target same xs asks k u at promises (promised.OfField f) target valid' holds =
           let parts = and_parts (is_this_target t.action) (holds_field p below.number c.fact.places f) holds in
           let field = and_parts (has_field_place p below.number f) (has c.fact.places (place_of_field p f)) parts.1 in
-          by_end o x y c before spared old done goes heavy owes names less knows same f (promised_field p ac named n u named_at promises f target) parts.0 field.0 field.1 xs asks k u at target
+          by_end o x y c before aged spared done goes heavy owes names less knows same f (promised_field p ac named n u named_at promises f target) parts.0 field.0 field.1 xs asks k u at target
 
       all_of_end : (same : fr.method ≡ named) (xs : List Promise) → AsksFor p st.number q xs → ((k : ℕ) (u : Promise) → slice_get xs k ≡ Some u → Promises n u) → All (λ (v : Promise). IsPromised p n.sig v.target) xs → Kept c.fact.places names xs
       all_of_end same xs asks promises valid' = all_kept p below.number t.action c.fact.places names xs (λ k u at holds.
@@ -471,7 +471,7 @@ module _ (p : Program) (ac : Accept p) (forms' : HasPlainForms p) (h : HeapConte
                   let parts = name_where (is_at mine.0.target v) mine.0.names a mine.3 in
                   let target = at_target mine.0.target v parts.0 in
                   within_at mine.0.names names
-                  (on_position o x y c before spared old done goes heavy owes names less knows run.0 run.1 alike_here g more trusted ps asks mine.1 mine.0 mine.2 (promises mine.1 mine.0 mine.2) v target
+                  (on_position o x y c before aged spared done goes heavy owes names less knows run.0 run.1 alike_here g more trusted ps asks mine.1 mine.0 mine.2 (promises mine.1 mine.0 mine.2) v target
                   (subst (λ (w : Target). IsPromised p run.0.sig w) target (all_at (λ (w : Promise). IsPromised p run.0.sig w.target) ps mine.1 mine.0 valid' mine.2)) holds) a parts.1
 
       here_run : method_of p st.number ≡ Some run.0

@@ -30,7 +30,7 @@ use Rattle.value_laws.proofs.EndLaws.{changed_back, frame_back, holder_back, is_
 use Rattle.value_laws.proofs.Returned.{end_back, gone_back, result_back, result_takes}
 use Rattle.value_laws.specs.FieldContents.{is_new, RunOnOthers}
 use Rattle.value_laws.specs.PlaceFacts.{OwnersBelow, is_frame_from, may_owe}
-use Rattle.covering_laws.proofs.Owners.{OwnerGoes, OwnersGo, frame_from_lower, from_frame, passed, stays}
+use Rattle.covering_laws.proofs.Owners.{IsNewTo, OwnerGoes, OwnersGo, frame_from_lower, from_frame, held_at, passed, stays}
 use Rattle.value_laws.specs.Configuration.{Frame}
 use Rattle.covering_laws.proofs.OwnerSteps.{IsFree, KeepsLibrary, below_next, frame_is, free_below, gave_up, given_up_free, held_is, is_field_owner, movable, movable_owes, never_moved, own_frame, still_below, under}
 
@@ -182,6 +182,26 @@ module _ (p : Program) (at : ℕ) (self : Value) (l : Locals) (a : Action) (runs
     ]
   ]
 
+  -- it keeps the owner that it had, or no field owns it
+  pub end_owner : (n : ℕ) (x y : Object) → object_at h n ≡ Some x → object_at ended n ≡ Some y → x.finished ≡ true → (y.owner ≡ x.owner) ⊎ (is_field_owner y.owner ≡ false)
+  end_owner n x y before now done =
+      let z = call_keeps_owner n x y before done now in
+      as_before z.0 z.2 (gone_owner p at self runs v e h n x z.0 before z.1)
+    where
+      no_field : (o : Owner) → ((w : ℕ) → is_held_by o w ≡ false) → is_field_owner o ≡ false
+      no_field (owners.Field w f) none = absurd (true≢false (sym (held_at (owners.Field w f) w f refl) ∙ none w))
+      no_field (owners.Frame j) none = refl
+      no_field owners.Library none = refl
+      no_field owners.Released none = refl
+      no_field owners.Lost none = refl
+      no_field owners.Unowned none = refl
+
+      as_before : (z : Object) → y.owner ≡ z.owner → IsResult p at self runs v e h n x z ⊎ IsEnded p at self runs v e h x z → (y.owner ≡ x.owner) ⊎ (is_field_owner y.owner ≡ false)
+      as_before z same (inl result) = inr (ap is_field_owner (same ∙ result.2 ∙ result.1.owner))
+      as_before z same (inr (inl stood)) = inl (same ∙ stood)
+      as_before z same (inr (inr (inl frame))) = inr (ap is_field_owner same ∙ no_field z.owner frame.1.1)
+      as_before z same (inr (inr (inr field))) = inr (ap is_field_owner same ∙ no_field z.owner field.1.1)
+
   pub end_keeps_library : KeepsLibrary h ended
   end_keeps_library n x y before now done is =
       let z = call_keeps_owner n x y before done now in
@@ -199,14 +219,14 @@ module _ (p : Program) (at : ℕ) (self : Value) (l : Locals) (a : Action) (runs
           not_field o lib field' = true≢false (sym field')
 
   -- where the frame owned its result, which moves, and no frame below runs on a constructor's object of which a field owns something
-  pub end_owners_go : (below : List Frame) → ((n : ℕ) (x : Object) → object_at h n ≡ Some x → is_heavy_class p x.class ≡ true → (w : ℕ) → constructs runs ≡ true → self ≡ values.Object w → is_held_by x.owner w ≡ true → RunOnOthers w below)
+  pub end_owners_go : (below : List Frame) → ((n : ℕ) (x : Object) → object_at h n ≡ Some x → is_heavy_class p x.class ≡ true → (w : ℕ) → constructs runs ≡ true → self ≡ values.Object w → is_held_by x.owner w ≡ true → IsNewTo h below w)
       → ((n : ℕ) (x u : Object) → object_at h n ≡ Some x → is_heavy_class p x.class ≡ true → may_owe x ≡ true → IsReturned p at runs v e h n x u → x.owner ≡ owners.Frame (at + 1))
       → (into : Option ℕ) → OwnersGo p into below at h ended
   end_owners_go below alone mine into n x y before now done heavy =
       let z = call_keeps_owner n x y before done now in
-      subst (OwnerGoes into below at x.owner) (sym z.2) (go z.0 (gone_owner p at self runs v e h n x z.0 before z.1))
+      subst (OwnerGoes h into below at x.owner) (sym z.2) (go z.0 (gone_owner p at self runs v e h n x z.0 before z.1))
     where
-      go : (z : Object) → IsResult p at self runs v e h n x z ⊎ IsEnded p at self runs v e h x z → OwnerGoes into below at x.owner z.owner
+      go : (z : Object) → IsResult p at self runs v e h n x z ⊎ IsEnded p at self runs v e h x z → OwnerGoes h into below at x.owner z.owner
       go z (inl result) =
           passed (frame_from_lower at (at + 1) x.owner (omega arith) (own_frame (at + 1) x.owner (mine n x result.0 before heavy (movable_owes p result.1.type x result.1.may) result.1)))
           (λ w held. absurd (true≢false (sym held ∙ ap (λ (o : Owner). is_held_by o w) (result.2 ∙ result.1.owner))))
@@ -216,7 +236,7 @@ module _ (p : Program) (at : ℕ) (self : Value) (l : Locals) (a : Action) (runs
           passed (frame_from_lower at (at + 1) x.owner (omega arith) (own_frame (at + 1) x.owner (frame_is x.owner (at + 1) frame.0))) (λ w held. absurd (true≢false (sym held ∙ frame.1.1 w)))
           (λ k same. absurd (true≢false (sym (ap (is_frame_from 0) same ∙ from_frame 0 k (omega arith)) ∙ frame.1.0)))
       go z (inr (inr (inr field))) =
-          gave_up into below at x.owner z.owner (held_is x.owner field.0.1.0 field.0.1.2) field.1 (λ w held. alone n x before heavy w field.0.0 (number_value self w (field.0.1.1 ∙ ap Some (one_holder x.owner field.0.1.0 w field.0.1.2 held))) held)
+          gave_up h into below at x.owner z.owner (held_is x.owner field.0.1.0 field.0.1.2) field.1 (λ w held. alone n x before heavy w field.0.0 (number_value self w (field.0.1.1 ∙ ap Some (one_holder x.owner field.0.1.0 w field.0.1.2 held))) held)
 
   -- the caller goes on owning what it owned
   pub end_keeps_own : ((n : ℕ) (x u : Object) → object_at h n ≡ Some x → is_heavy_class p x.class ≡ true → may_owe x ≡ true → IsReturned p at runs v e h n x u → x.owner ≡ owners.Frame (at + 1))

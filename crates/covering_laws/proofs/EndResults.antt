@@ -107,7 +107,7 @@ no_number k (values.Object n) o none is = absurd (let never : Some n ≡ None = 
 no_number k v o none is = cc
 
 module _ (p : Program) (ac : Accept p) (forms' : HasPlainForms p) (runs' : HasPlainRuns p) (h : HeapContents) (texts : TextsAreLight p h) (links : HasEarlierLinks h) (apart : LinkedAreAliases p h) (fr caller : Frame) (rest : List Frame) (st : Stands p fr) (below : Stands p caller)
-    (keeps : KeepsTypes (is_text p h) p fr) (gives : GivesAsNamed p caller fr) (mine' : LocalsInRange h fr.locals) (covered : IsCovered p h gives_none renews_none (caller ∷ rest) fr) (i : ℕ) (s : Step) (q : Completion) (here : slice_get (frame_steps p fr) i ≡ Some s) (is : s.action ≡ actions.End q)
+    (keeps : KeepsTypes (is_text p h) p fr) (gives : GivesAsNamed p caller fr) (mine' : LocalsInRange h fr.locals) (old older : ℕ → Bool) (covered : IsCovered p h gives_none renews_none old (caller ∷ rest) fr) (i : ℕ) (s : Step) (q : Completion) (here : slice_get (frame_steps p fr) i ≡ Some s) (is : s.action ≡ actions.End q)
     (t : Step) (named : MethodId) (back : IsBackStep p (frame_steps p caller) (exception_class p h (thrown_in fr.locals q)) named t) (n : Method) (named_at : method_at p named ≡ Some n) (call : IsPlainCall p named)
     (may : MayRun p named fr.method) (makes : IsMadeBy p h t.action fr.locals.this) (declared : EndsAsDeclared p h fr) where
   -- the position of the caller
@@ -157,8 +157,8 @@ module _ (p : Program) (ac : Accept p) (forms' : HasPlainForms p) (runs' : HasPl
       (was : (o : ℕ) (y : Object) → object_at K o ≡ Some y → IsCarried h o y) (holders : HoldersWere p h K) (place : Place) (o : ℕ) (y : Object) (small : IsSmall place) (there : is_made (made_place t.action) place ≡ true)
       (value : place_value p K caller.method after.locals place ≡ V) (rooted : root_of K V ≡ Some o) (now : object_at K o ≡ Some y) (heavy : is_heavy_class p y.class ≡ true)
       (owes : OwesOrHolds p K o y) where
-    old : IsCarried h o y
-    old = was o y now
+    carried : IsCarried h o y
+    carried = was o y now
 
     -- what a temp of the frame holds
     temp_root : (d : ℕ) → root_of K (temp_value fr.locals d) ≡ Some o → root_of h (temp_value fr.locals d) ≡ Some o
@@ -187,8 +187,8 @@ module _ (p : Program) (ac : Accept p) (forms' : HasPlainForms p) (runs' : HasPl
             by_link : (k' : ℕ) (x : Object) → root h k' ≡ o → object_at h k' ≡ Some x → x.class ≡ c → (l : Option Link) → x.link ≡ l → ⊥
             by_link k' x root'' at' class None none =
                 let same : k' ≡ o = sym (roots_of_links-itself h k' x at' none) ∙ root'' in
-                let one : old.0 ≡ x = (let both : Some old.0 ≡ Some x = sym old.1 ∙ ap (object_at h) (sym same) ∙ at' in (let it : old.0 ≡ x = cc in it)) in
-                true≢false (sym heavy ∙ ap (is_heavy_class p) (old.2 ∙ ap (λ (z : Object). z.class) one ∙ class) ∙ light)
+                let one : carried.0 ≡ x = (let both : Some carried.0 ≡ Some x = sym carried.1 ∙ ap (object_at h) (sym same) ∙ at' in (let it : carried.0 ≡ x = cc in it)) in
+                true≢false (sym heavy ∙ ap (is_heavy_class p) (carried.2 ∙ ap (λ (z : Object). z.class) one ∙ class) ∙ light)
             by_link k' x root'' at' class (Some l) some =
                 let way = back.thrown c thrown in
                 true≢false (sym (leaving_is_throwable p ac named c way.0 way.1) ∙ ap (λ (z : ClassId). is_under p z p.core.throwable) (sym class) ∙ exceptions_unlinked p ac h apart k' x l at' some)
@@ -202,13 +202,13 @@ module _ (p : Program) (ac : Accept p) (forms' : HasPlainForms p) (runs' : HasPl
     IsTaken = (y.owner ≡ owners.Frame at) × (((is_new t.action ≡ true) × (fr.locals.this ≡ values.Object o)) ⊎ ((x : Object) → object_at h o ≡ Some x → x.owner ≡ owners.Frame (at + 1)))
 
     abbrev pub IsGivenHere : Type 0
-    IsGivenHere = IsBornSo p K (is_renewed p h caller o) rest after place o y IsTaken
+    IsGivenHere = IsBornSo p K (is_renewed p h caller o) older rest after place o y IsTaken
 
     at_temp : (d : ℕ) → made_place t.action ≡ Some (places.Temp d)
-        → (IsSmall (places.Temp d) → root_of K (place_value p K caller.method after.locals (places.Temp d)) ≡ Some o → IsBornSo p K (is_renewed p h caller o) rest after (places.Temp d) o y IsTaken) → IsGivenHere
+        → (IsSmall (places.Temp d) → root_of K (place_value p K caller.method after.locals (places.Temp d)) ≡ Some o → IsBornSo p K (is_renewed p h caller o) older rest after (places.Temp d) o y IsTaken) → IsGivenHere
     at_temp d same covers =
         let it : places.Temp d ≡ place = single_place-same (places.Temp d) place (ap (λ (x : Option Place). is_made x place) (sym same) ∙ there) in
-        subst (λ (z : Place). IsBornSo p K (is_renewed p h caller o) rest after z o y IsTaken) it (covers (subst IsSmall (sym it) small)
+        subst (λ (z : Place). IsBornSo p K (is_renewed p h caller o) older rest after z o y IsTaken) it (covers (subst IsSmall (sym it) small)
         (subst (λ (z : Place). root_of K (place_value p K caller.method after.locals z) ≡ Some o) (sym it) (ap (root_of K) value ∙ rooted)))
 
     module _ (normal : e ≡ None) (plain : n.sig.alias ≡ None) where
@@ -240,14 +240,14 @@ module _ (p : Program) (ac : Accept p) (forms' : HasPlainForms p) (runs' : HasPl
           let made = subst (λ (a : Action). IsMadeBy p h a fr.locals.this) it makes in
           let m_is = named_is m (ap called_method it) in
           let self : fr.locals.this ≡ values.Object o = made.1 ∙ ap values.Object (self_is it made root') in
-          let class : n.class ≡ y.class = (let both : Some n.class ≡ Some old.0.class = sym (ap class_of_method named_at) ∙ sym (ap (λ (z : MethodId). class_of_method (method_at p z)) m_is) ∙ made.3 old.0
-          (ap (object_at h) (let both : values.Object made.0 ≡ values.Object o = sym made.1 ∙ self in (let one : made.0 ≡ o = cc in one)) ∙ old.1) in (let one : n.class ≡ old.0.class = cc in one)) ∙ sym old.2 in
+          let class : n.class ≡ y.class = (let both : Some n.class ≡ Some carried.0.class = sym (ap class_of_method named_at) ∙ sym (ap (λ (z : MethodId). class_of_method (method_at p z)) m_is) ∙ made.3 carried.0
+          (ap (object_at h) (let both : values.Object made.0 ≡ values.Object o = sym made.1 ∙ self in (let one : made.0 ≡ o = cc in one)) ∙ carried.1) in (let one : n.class ≡ carried.0.class = cc in one)) ∙ sym carried.2 in
           let done = finished_here p at o fr.locals.this caller.locals m d c (method_at p fr.method) plain_method v h y (unaliased plain) self
           (subst (λ (x : Option ClassId). object_at (returned_heap p at fr.locals.this caller.locals (actions.New m d c) (method_at p fr.method) plain_method v x h) o ≡ Some y) normal
           (subst (λ (a : Action). object_at (returned_heap p at fr.locals.this caller.locals a (method_at p fr.method) plain_method v e h) o ≡ Some y) it now)) in
           let owner = end_new_owner p at fr.locals.this caller.locals t.action (method_at p fr.method) plain_method v e h no_reset unmade o y normal (ap is_new it) (unaliased plain) self now
           done.0 (λ x there'. unmade o x (ap is_new it) self there') in
-          at_temp d (ap made_place it) (λ small' root''. (let z = new_covers p h K caller below back.index t back.here V rest (is_renewed p h caller o) d o y small' root'' m n edge (ap (method_at p) m_is ∙ named_at) plain c it
+          at_temp d (ap made_place it) (λ small' root''. (let z = new_covers p h K caller below back.index t back.here V older rest (is_renewed p h caller o) d o y small' root'' m n edge (ap (method_at p) m_is ∙ named_at) plain c it
           (ap (is_heavy_class p) class ∙ heavy)
           (true_of_made p kinds.New t.pos n.class y.class n.sig.first (places.Temp d) y done.0 refl (done.1 ∙ sym (ap (first_set p y.class) fit.first)) (subst (λ (z : ClassId). fits p y.class z ≡ true) (sym class) (within_self (must_of p y.class)))) in
           inl (z.0, z.1, (owner, inl (ap is_new it, self)))))
@@ -279,8 +279,8 @@ module _ (p : Program) (ac : Accept p) (forms' : HasPlainForms p) (runs' : HasPl
             let object = temp_object d found in
             let valid : IsResult p (Some (types.Obj c)) = subst (IsResult p) gives' (ac.well_formed.valid.typed.methods fr.method run.0 run.1).signature.result in
             let apart' : is_under p p.core.string c ≡ false = apart_from_strings p ac c none valid.0 in
-            light_root p ac c none valid.0 h apart object.0 o object.1 old.0 object.4
-            (declared.gives i s d pos run.0 c object.0 object.1 here (is ∙ ap actions.End end') run.1 gives' apart' object.2 object.4) object.3 old.1 (ap (is_heavy_class p) (sym old.2) ∙ heavy)
+            light_root p ac c none valid.0 h apart object.0 o object.1 carried.0 object.4
+            (declared.gives i s d pos run.0 c object.0 object.1 here (is ∙ ap actions.End end') run.1 gives' apart' object.2 object.4) object.3 carried.1 (ap (is_heavy_class p) (sym carried.2) ∙ heavy)
         owes_none (types.Primitive k) gives' none = true≢false (sym none)
         owes_none types.Str gives' none = true≢false (sym none)
         owes_none (types.Arr k) gives' none = true≢false (sym none)
@@ -295,7 +295,7 @@ module _ (p : Program) (ac : Accept p) (forms' : HasPlainForms p) (runs' : HasPl
           not_light false some = refl
 
           -- the fact of the result says that the frame owns it, or its end breaks a rule
-          module _ (c : Covers p h false false (caller ∷ rest) fr o old.0) (in' : has c.fact.places (places.Temp d) ≡ true) where
+          module _ (c : Covers p h false false old (caller ∷ rest) fr o carried.0) (in' : has c.fact.places (places.Temp d) ≡ true) where
             reached : Reach p st.number (relation_of p st.number) c.origin fr.control c.fact
             reached = subst (λ (b : BodyId). Reach p b (relation_of p b) c.origin fr.control c.fact) (same_body c.body st.number (body_id p fr.method) c.id st.id) c.reached
 
@@ -307,20 +307,20 @@ module _ (p : Program) (ac : Accept p) (forms' : HasPlainForms p) (runs' : HasPl
             mine = result_is_owned p st.number c.origin d pos s.edge c.fact result_there.0 (ap at_returns.result_in body_method ∙ result_there.1) (ap alias_in body_method ∙ fit.alias ∙ plain)
                 (ap owning_result_in body_method ∙ owning_run owning) in' (or_right (is_heavy_class p c.origin.class) (not (is_empty (must_of_optional p (Some result_there.0)))) (not_light (is_empty (must_of_optional p (Some result_there.0))) refl)) fine
 
-          owned_cover : (c : Covers p h false false (caller ∷ rest) fr o old.0) × (has c.fact.places (places.Temp d) ≡ true) × IsOwned p h false false (caller ∷ rest) fr o old.0 c
-          owned_cover = by (covered (places.Temp d) o old.0 room (temp_root d found) old.1 (ap (is_heavy_class p) (sym old.2) ∙ heavy) (bore_before p h K holders o old.0 y old.1 old.3 owes))
+          owned_cover : (c : Covers p h false false old (caller ∷ rest) fr o carried.0) × (has c.fact.places (places.Temp d) ≡ true) × IsOwned p h false false old (caller ∷ rest) fr o carried.0 c
+          owned_cover = by (covered (places.Temp d) o carried.0 room (temp_root d found) carried.1 (ap (is_heavy_class p) (sym carried.2) ∙ heavy) (bore_before p h K holders o carried.0 y carried.1 carried.3 owes))
             where
-              by : IsKeyed p h false false (caller ∷ rest) fr (places.Temp d) o old.0 → (c : Covers p h false false (caller ∷ rest) fr o old.0) × (has c.fact.places (places.Temp d) ≡ true) × IsOwned p h false false (caller ∷ rest) fr o old.0 c
+              by : IsKeyed p h false false old (caller ∷ rest) fr (places.Temp d) o carried.0 → (c : Covers p h false false old (caller ∷ rest) fr o carried.0) × (has c.fact.places (places.Temp d) ≡ true) × IsOwned p h false false old (caller ∷ rest) fr o carried.0 c
               by (owned c in' key) = (c, in', key)
               by (unowned u) = let it = mine u.covers u.here in
                   absurd (true≢false (sym (own_claims p (method_at p fr.method) u.covers.origin u.covers.fact it.0 it.1) ∙ u.unowned))
 
-          truth : IsTrueOf p old.0 owned_cover.0.origin owned_cover.0.fact
+          truth : IsTrueOf p carried.0 owned_cover.0.origin owned_cover.0.fact
           truth = let it = mine owned_cover.0 owned_cover.1 in owned_cover.0.true' (own_claims p (method_at p fr.method) owned_cover.0.origin owned_cover.0.fact it.0 it.1) refl
 
           true_here : IsTrueOf p y (origin_of p kinds.Result t.pos r None) (fact_at (places.Temp d) modes.Own no_names false)
           true_here =
-              true_of_result p old.0 y owned_cover.0.origin owned_cover.0.fact kinds.Result t.pos r (places.Temp d) truth (old.3 truth.finished).0
+              true_of_result p carried.0 y owned_cover.0.origin owned_cover.0.fact kinds.Result t.pos r (places.Temp d) truth (carried.3 truth.finished).0
               (within_trans (must_of p owned_cover.0.origin.class) (must_of_optional p (Some result_there.0)) (must_of p r) (mine owned_cover.0 owned_cover.1).2 wider)
             where
               wider : set.is_subset (must_of_optional p (Some result_there.0)) (must_of p r) ≡ true
@@ -335,26 +335,26 @@ module _ (p : Program) (ac : Accept p) (forms' : HasPlainForms p) (runs' : HasPl
           -- the caller owns it when the call has ended
           taken : IsTaken
           taken = (
-            end_result_owner p at fr.locals.this caller.locals t.action (method_at p fr.method) plain_method v e h no_reset unmade result_there.0 o old.0 y normal (ap owning_in run.1 ∙ owning_run owning)
+            end_result_owner p at fr.locals.this caller.locals t.action (method_at p fr.method) plain_method v e h no_reset unmade result_there.0 o carried.0 y normal (ap owning_in run.1 ∙ owning_run owning)
                 (ap calls.alias_position run.1 ∙ fit.alias ∙ plain) (ap conducts.result_in run.1 ∙ result_there.1)
-                (ap (λ (c : Completion). root_of h (result_value fr.locals (method_at p fr.method) c)) end' ∙ temp_root d found) old.1
-                (and_from (old.0.finished && not (is_library_owner old.0.owner)) (set.is_subset (must_of p old.0.class) (must_of_type p result_there.0))
-                (and_from old.0.finished (not (is_library_owner old.0.owner)) truth.finished (ap (λ (a : Owner). not (is_library_owner a)) (owned_cover.2.owner refl (ap is_own (mine owned_cover.0 owned_cover.1).0))))
-                (within_trans (must_of p old.0.class) (must_of p owned_cover.0.origin.class) (must_of_type p result_there.0) truth.class (mine owned_cover.0 owned_cover.1).2)) now,
-            inr (λ x there'. ap (λ (z : Object). z.owner) (let both : Some x ≡ Some old.0 = sym there' ∙ old.1 in (let one : x ≡ old.0 = cc in one)) ∙ owned_cover.2.owner refl (ap is_own (mine owned_cover.0 owned_cover.1).0)
+                (ap (λ (c : Completion). root_of h (result_value fr.locals (method_at p fr.method) c)) end' ∙ temp_root d found) carried.1
+                (and_from (carried.0.finished && not (is_library_owner carried.0.owner)) (set.is_subset (must_of p carried.0.class) (must_of_type p result_there.0))
+                (and_from carried.0.finished (not (is_library_owner carried.0.owner)) truth.finished (ap (λ (a : Owner). not (is_library_owner a)) (owned_cover.2.owner refl (ap is_own (mine owned_cover.0 owned_cover.1).0))))
+                (within_trans (must_of p carried.0.class) (must_of p owned_cover.0.origin.class) (must_of_type p result_there.0) truth.class (mine owned_cover.0 owned_cover.1).2)) now,
+            inr (λ x there'. ap (λ (z : Object). z.owner) (let both : Some x ≡ Some carried.0 = sym there' ∙ carried.1 in (let one : x ≡ carried.0 = cc in one)) ∙ owned_cover.2.owner refl (ap is_own (mine owned_cover.0 owned_cover.1).0)
                 ∙ ap owners.Frame (let number : length (caller ∷ rest) + 1 ≡ length rest + 1 + 1 = omega arith in number)),
           )
 
         result_given : (m : MethodId) (d' c : ℕ) (f : TargetForm) → t.action ≡ actions.Call m d' c f → IsGivenHere
         result_given m d' c f it = by n.sig.result refl
           where
-            as_taken : (r : ClassId) (z : Place) → n.sig.result ≡ Some (types.Obj r) → IsBornSo p K (is_renewed p h caller o) rest after z o y ((n.sig.owning_result ≡ true) × (is_heavy_class p r ≡ true)) → IsBornSo p K (is_renewed p h caller o) rest after z o y IsTaken
+            as_taken : (r : ClassId) (z : Place) → n.sig.result ≡ Some (types.Obj r) → IsBornSo p K (is_renewed p h caller o) older rest after z o y ((n.sig.owning_result ≡ true) × (is_heavy_class p r ≡ true)) → IsBornSo p K (is_renewed p h caller o) older rest after z o y IsTaken
             as_taken r z result (inl (c, in', own)) = inl (c, in', taken r result own.0 own.1)
             as_taken r z result (inr u) = inr u
 
             of_class : (r : ClassId) → n.sig.result ≡ Some (types.Obj r) → IsGivenHere
             of_class r result = at_temp d' (ap made_place it) (λ small' root''. as_taken r (places.Temp d') result
-                (result_covers p h K caller below back.index t back.here V rest (is_renewed p h caller o) d' o y small' root'' m n edge (ap (method_at p) (named_is m (ap called_method it)) ∙ named_at) plain
+                (result_covers p h K caller below back.index t back.here V older rest (is_renewed p h caller o) d' o y small' root'' m n edge (ap (method_at p) (named_is m (ap called_method it)) ∙ named_at) plain
                 c f r it result (λ owning heavy'. subst (λ (first : Option Names). IsTrueOf p y (origin_of p kinds.Result t.pos r first) (fact_at (places.Temp d') modes.Own no_names false)) (sym fit.first)
                 (owned_at r result owning heavy'))))
               where
@@ -364,11 +364,11 @@ module _ (p : Program) (ac : Accept p) (forms' : HasPlainForms p) (runs' : HasPl
 
             of_none : (x : VType) → n.sig.result ≡ Some x → is_class_type x ≡ false → ⊥
             of_none x result none =
-                true≢false (sym (ap (is_heavy_class p) (sym old.2) ∙ heavy)
-                ∙ texts (temp_value fr.locals d) o old.0
+                true≢false (sym (ap (is_heavy_class p) (sym carried.2) ∙ heavy)
+                ∙ texts (temp_value fr.locals d) o carried.0
                 (subst (λ (r : Completion). IsNoObjectButText p h (result_value fr.locals (method_at p fr.method) r)) end'
                 (returned_value_is_no_object (is_text p h) p ac fr keeps i s q here is (ap (thrown_in fr.locals) end')
-                ((gives back.index t named back.here back.calls).0 (subst (λ (z : Option Method). NoObject (result_of z)) (sym named_at) (subst NoObject (sym result) none))))) (temp_root d found) old.1)
+                ((gives back.index t named back.here back.calls).0 (subst (λ (z : Option Method). NoObject (result_of z)) (sym named_at) (subst NoObject (sym result) none))))) (temp_root d found) carried.1)
 
             by : (x : Option VType) → n.sig.result ≡ x → IsGivenHere
             by None result = absurd (let never : None ≡ Some result_there.0 = sym (alike.none result) ∙ result_there.1 in cc)

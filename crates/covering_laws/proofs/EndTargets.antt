@@ -1,7 +1,8 @@
--- Whose obligation the end of a call of the program's method creates anew: the root of an operand of the call, which no field of a finished object owns. All other objects are
--- as they would be without the reset.
-use Rattle.covering_laws.proofs.UnfinishedHolders.{held_unready, lent_unready}
-use Rattle.std.proofs.Common.{Bool, List, None, Option, Some, ap, eq-eqb, false, inl, inr, length, not, refl, sym, true, true≢false, ℕ, ◌&&◌, ◌+◌, ◌<◌, ◌∙◌, ◌∷◌, ◌≡◌, ◌⊎◌}
+-- Whose obligation the end of a call of the program's method creates anew: that of the root of an operand of the call, and of the finished object whose field owns it, and so on upwards.
+-- All other objects are as they would be without the reset.
+use Rattle.std.specs.FinSet as set
+use Rattle.std.specs.Prelude.{if◌then◌else◌}
+use Rattle.std.proofs.Common.{Bool, List, None, Option, Some, ap, eq-eqb, false, option_map, subst, inl, inr, length, refl, sym, true, true≢false, ℕ, ◌+◌, ◌<◌, ◌∙◌, ◌≡◌, ◌⊎◌}
 use Rattle.program_model.specs.declared.kinds.ClassId.{ClassId}
 use Rattle.program_model.specs.declared.kinds.FieldId.{FieldId}
 use Rattle.program_model.specs.declared.kinds.MethodId.{MethodId}
@@ -25,19 +26,19 @@ use Rattle.ledger_state.specs.declared.object.Link.{Link}
 use Rattle.ledger_state.specs.declared.object.Object.{Object}
 use Rattle.ledger_state.specs.declared.value.Value.{Value}
 use Rattle.ledger_state.specs.declared.value.Value.TheVariants as values
-use Rattle.ledger_obligations.specs.Obligations.{finished_holder, finished_in, is_frame, is_held_by, is_library_owner, reset_in as reset_object}
+use Rattle.ledger_obligations.specs.Obligations.{all_notes, finished_holder, finished_in, is_frame, is_held_by, noted_object, reset_in as reset_object}
 use Rattle.ledger_steps.specs.Ends.{frame_gone, returned_called, returned_heap, returned_roots}
-use Rattle.ledger_steps.specs.LedgerCallsCalls.{alias_target, object_by, operand_of, receiver_note, reset_position}
+use Rattle.ledger_steps.specs.LedgerCallsCalls.{alias_target, object_by, operand_of, receiver_note, reset_position, reset_target}
 use Rattle.value_laws.specs.Accept.{Accept}
 use Rattle.value_laws.specs.Agreement.{IsMadeAfter, Stands}
 use Rattle.value_laws.specs.Chains.{HaveEnds}
 use Rattle.value_laws.specs.Choosing.{frame_steps}
 use Rattle.value_laws.specs.Configuration.{Frame}
-use Rattle.value_laws.specs.FieldContents.{AreUnfinished, IsBeingMade, IsDispatched, OwningFieldsOwn, is_new}
+use Rattle.value_laws.specs.FieldContents.{IsBeingMade, IsDispatched, OwningFieldsOwn, is_new}
 use Rattle.value_laws.specs.HeapAnew.{HasNoHolder, IsEmptied, finished_root, is_anew_at_end, target_root}
 use Rattle.value_laws.specs.Heaps.{GoesOn, HasEarlierLinks, KeepsLinks}
+use Rattle.value_laws.specs.Holders.{FieldsGoOnOwning, HoldersAreUnlinked, IsWithin, itself}
 use Rattle.value_laws.specs.Nexts.{IsBackStep}
-use Rattle.value_laws.specs.PlaceFacts.{IsCovered, RunsOn, is_given, OwesOrHolds}
 use Rattle.value_laws.specs.PlainForms.{HasPlainForms}
 use Rattle.value_laws.specs.ClassValues.{IsOnInstance}
 use Rattle.covering_laws.specs.Sight.{ActsInSight}
@@ -49,25 +50,37 @@ use Rattle.value_laws.proofs.Chains.{object_there}
 use Rattle.value_laws.proofs.EndLinks.{end_links, gone_evolves, gone_links}
 use Rattle.value_laws.proofs.EndResets.{end_of_target, made_apart, reached_target, plain_alias_position, renewed_at_end}
 use Rattle.value_laws.proofs.Growth.{returned_grows}
-use Rattle.value_laws.proofs.HeapLaws.{evolving_heaps-links, notes_add_names-heap, roots_go_on-number, roots_go_on-root, roots_of_links-itself}
+use Rattle.value_laws.proofs.HeapLaws.{changed_object_at-object, evolving_heaps-links, roots_go_on-number, roots_go_on-root, roots_of_links-itself}
 use Rattle.value_laws.proofs.ObjectLaws.{goes_on_further}
 use Rattle.value_laws.proofs.RangeValues.{operand_in_range}
 use Rattle.value_laws.proofs.Renewed.{says_nothing, without_reset, reset_keeps}
+use Rattle.value_laws.proofs.ResetsUp.{IsResetUp, IsTestedEndTarget, end_is_up, end_reset_rises, holders_go_on}
+use Rattle.value_laws.proofs.WaysUp.{StepsUp, ends as ends_up, goes as goes_up, steps_up, within_goes_on}
 use Rattle.value_laws.proofs.ResetHeaps.{IsResetOf, reset_empties, reset_root, reset_stays, reset_was, reset_forth}
 use Rattle.value_laws.proofs.Returned.{IsFrom, end_back, gone_back, gone_unowned, result_back}
+use Rattle.covering_laws.proofs.AlikeHeaps.{AreAlike}
+use Rattle.covering_laws.proofs.AnewAtEnds.{AllTurned, IsRisen as Risen, IsTurnedAnew}
+use Rattle.covering_laws.proofs.WaitingTargets.{renewed_at_step}
 use Rattle.covering_laws.proofs.EndOwners.{IsResult, gone_owner, number_value, same_new, IsHeldBySelf}
 use Rattle.covering_laws.proofs.MadeObjects.{grown_fields}
 use Rattle.covering_laws.proofs.OwnerSteps.{IsFree}
 use Rattle.covering_laws.proofs.RenewedOperands.{step_renews}
 use Rattle.value_laws.proofs.Readings.{operand_renews}
-use Rattle.covering_laws.proofs.ResetJoins.{same_position, target_value}
-use Rattle.covering_laws.proofs.Waiting.{KeepsFields}
+use Rattle.covering_laws.proofs.TargetRoots.{same_position, target_value}
+use Rattle.covering_laws.proofs.Waiting.{KeepsFields, IsCarried}
 use Rattle.covering_laws.proofs.Owners.{KeepsFinished, keeps_finished}
-use Rattle.covering_laws.proofs.WaitingTargets.{owned_or_lent}
+
+-- the holder of what no field of a finished object owns is not finished
+unready_holder : (h : HeapContents) (w : ℕ) (f : FieldId) → finished_holder h (owners.Field w f) ≡ None → finished_in (object_at h w) ≡ false
+unready_holder h w f none = go (finished_in (object_at h w)) refl none
+  where
+    go : (b : Bool) → finished_in (object_at h w) ≡ b → (if b then Some w else None) ≡ None → finished_in (object_at h w) ≡ false
+    go true done some = absurd (let never : Some w ≡ None = some in cc)
+    go false unready is = unready
 
 module _ (p : Program) (ac : Accept p) (forms : HasPlainForms p) (h : HeapContents) (links : HasEarlierLinks h) (fr caller : Frame) (rest : List Frame) (below : Stands p caller) (sight : ActsInSight p h caller) (dispatched : IsDispatched p h fr caller)
     (making : IsBeingMade p h fr caller) (e : Option ClassId) (v : Value) (t : Step) (named : MethodId) (back : IsBackStep p (frame_steps p caller) e named t) (ends : HaveEnds h) (made_after : IsMadeAfter p caller.locals t.action fr.locals.this)
-    (caller_in : LocalsInRange h caller.locals) (own : OwningFieldsOwn p h) (waiting : IsCovered p h (is_given p h caller) (is_renewed p h caller) rest caller) where
+    (caller_in : LocalsInRange h caller.locals) (own : OwningFieldsOwn p h) where
   abbrev position : ℕ
   position = length rest + 1
 
@@ -143,6 +156,16 @@ module _ (p : Program) (ac : Accept p) (forms : HasPlainForms p) (h : HeapConten
     reset_forth p (returned_called p caller.locals t.action method g) (returned_roots p caller.locals t.action method g) kept left reset_of n x at',
     (reset_keeps p (returned_called p caller.locals t.action method g) (returned_roots p caller.locals t.action method g) n x).2 ∙ done,
   ))
+
+  pub heaps_alike : AreAlike kept left
+  heaps_alike = record {
+    forth = λ o x at'. (let it = reset_keeps p (returned_called p caller.locals t.action method g) (returned_roots p caller.locals t.action method g) o x in (
+      reset_object p (returned_called p caller.locals t.action method g) (returned_roots p caller.locals t.action method g) o x,
+      reset_forth p (returned_called p caller.locals t.action method g) (returned_roots p caller.locals t.action method g) kept left reset_of o x at',
+      record { class = it.0; link = it.1; finished = it.2; owner = it.3 },
+    ));
+    back = λ o y now. (let z = was_kept o y now in (z.0, z.1, record { class = z.2; link = z.3; finished = z.4; owner = z.5 }));
+  }
 
   -- links lead to earlier objects
   pub kept_links : HasEarlierLinks kept
@@ -223,14 +246,6 @@ module _ (p : Program) (ac : Accept p) (forms : HasPlainForms p) (h : HeapConten
       go (inr (inr (inl frame))) = absurd (not_free frame.1)
       go (inr (inr (inr field))) = absurd (not_free field.1)
 
-  -- what was not finished is not, when the frame has gone
-  unready_gone : (w : ℕ) → finished_in (object_at h w) ≡ false → finished_in (object_at g w) ≡ false
-  unready_gone w open' = go (object_at g w) refl
-    where
-      go : (y : Option Object) → object_at g w ≡ y → finished_in (object_at g w) ≡ false
-      go None now = ap finished_in now
-      go (Some y) now = let z = was_gone w y now in ap finished_in now ∙ z.2.finished ∙ sym (ap finished_in z.1) ∙ open'
-
   -- what the caller has called is called on an object of the method's class, where the receiver chooses what runs
   on_instance : IsOnInstance p h caller.locals t.action method
   on_instance w z chosen is' named_at =
@@ -252,52 +267,101 @@ module _ (p : Program) (ac : Accept p) (forms : HasPlainForms p) (h : HeapConten
       by values.Nothing same root' = absurd (let never : None ≡ Some n = root' in cc)
       by v same root' = absurd (let never : None ≡ Some n = root' in cc)
 
-  module _ (unready : AreUnfinished p h (caller ∷ rest)) where
-    -- where a field owns it, the field's object is not finished, and the caller or a frame below it runs on it
-    holder_here : (n : ℕ) (z : Object) → object_at h n ≡ Some z → IsTargetHere n → (w : ℕ) (f : FieldId) → z.owner ≡ owners.Field w f → (finished_in (object_at h w) ≡ false) × RunsOn w (caller ∷ rest)
-    holder_here n z before target w f owner =
-        elim (owned_or_lent p ac forms h caller rest below back.index t back.here back.row waiting n z before heavy owes (target.1 z before) target.0) [
-          | inl owned ↦ absurd (let never : owners.Field w f ≡ owners.Frame (length rest + 1) = sym owner ∙ owned.key.owner owned.kept owned.own in cc)
-          | inr other ↦ elim other [
-            | inl lent ↦ (let it = lent_unready p h rest n z.owner w held unready.1 lent in (it.0, inr it.1))
-            | inr held' ↦ (let it = held_unready p h caller rest z.owner w held unready held' in (it.0, inl it.1))
-          ]
-        ]
-      where
-        held : is_held_by z.owner w ≡ true
-        held = ap (λ (o : Owner). is_held_by o w) owner ∙ eq-eqb w w refl
+  module _ (holders : HoldersAreUnlinked (is_heavy_class p) h) where
+    -- when the frame has gone, fields own no more than they did
+    gone_owns_no_more : FieldsGoOnOwning g h
+    gone_owns_no_more n x w f now owner = let z = was_gone n x now in (z.0, z.1, owner_before n x z.0 z.1 now w f owner)
 
-        heavy : is_heavy_class p z.class ≡ true
-        heavy = (own n z w f before owner).1 (sight.renews back.index t named n z back.here back.calls on_instance (target_root_here n z before target) before)
+    gone_holders : HoldersAreUnlinked (is_heavy_class p) g
+    gone_holders = holders_go_on h g (gone_evolves p position fr.locals.this (method_at p fr.method) v e h) gone_owns_no_more (is_heavy_class p) holders
 
-        none_left : (b : Bool) → not (b && false) ≡ true
-        none_left true = refl
-        none_left false = refl
+    abbrev IsHeavyTarget : Type 0
+    IsHeavyTarget = IsTestedEndTarget p caller.locals t.action method g links_gone (is_heavy_class p) gone_holders
 
-        owes : OwesOrHolds p h n z
-        owes = inl (ap (λ (b : Bool). not (z.finished && b)) (ap is_library_owner owner) ∙ none_left z.finished)
-
-    holder_gone : (n : ℕ) (x : Object) → target_root g caller.locals t.action method ≡ Some n → object_at g n ≡ Some x → (w : ℕ) (f : FieldId) → x.owner ≡ owners.Field w f → (finished_in (object_at g w) ≡ false) × RunsOn w (caller ∷ rest)
-    holder_gone n x is' now w f owner =
+    -- a target whose class has no obligation is owned by no field
+    light_unheld : (n : ℕ) (x : Object) → target_root g caller.locals t.action method ≡ Some n → object_at g n ≡ Some x → is_heavy_class p x.class ≡ false → (o : Owner) → x.owner ≡ o → finished_holder g o ≡ None
+    light_unheld n x is' now light (owners.Field w f) owner =
         let z = was_gone n x now in
-        let it = holder_here n z.0 z.1 (target_here n is') w f (owner_before n x z.0 z.1 now w f owner) in
-        (unready_gone w it.0, it.1)
+        let heavy = (own n z.0 w f z.1 (owner_before n x z.0 z.1 now w f owner)).1 (sight.renews back.index t named n z.0 back.here back.calls on_instance (target_root_here n z.0 z.1 (target_here n is')) z.1) in
+        absurd (true≢false (sym (ap (is_heavy_class p) z.2.class ∙ heavy) ∙ light))
+    light_unheld n x is' now light (owners.Frame j) owner = refl
+    light_unheld n x is' now light owners.Library owner = refl
+    light_unheld n x is' now light owners.Released owner = refl
+    light_unheld n x is' now light owners.Lost owner = refl
+    light_unheld n x is' now light owners.Unowned owner = refl
 
-    pub free : HasNoHolder g (target_root g caller.locals t.action method)
-    free n x is' now = by x.owner (holder_gone n x is' now)
+    -- the target's root is of a class with an obligation, or no field of a finished object owns it
+    tops : IsHeavyTarget ⊎ HasNoHolder g (target_root g caller.locals t.action method)
+    tops = go (reset_target (operand_of caller.locals t.action) method) refl
       where
-        by : (o : Owner) → ((w : ℕ) (f : FieldId) → o ≡ owners.Field w f → (finished_in (object_at g w) ≡ false) × RunsOn w (caller ∷ rest)) → finished_holder g o ≡ None
-        by (owners.Field w f) holder = rw (holder w f refl).0 refl
-        by (owners.Frame k) holder = refl
-        by owners.Library holder = refl
-        by owners.Released holder = refl
-        by owners.Lost holder = refl
-        by owners.Unowned holder = refl
+        by_class : (k : ℕ) → reset_target (operand_of caller.locals t.action) method ≡ Some k → (y : Object) → object_at g (root g k) ≡ Some y → (b : Bool) → is_heavy_class p y.class ≡ b
+            → IsHeavyTarget ⊎ HasNoHolder g (target_root g caller.locals t.action method)
+        by_class k target y at true heavy = inl (λ j target' z there. (let one : j ≡ k = (let both : Some j ≡ Some k = sym target' ∙ target in cc) in
+            let same : y ≡ z = (let both : Some y ≡ Some z = sym at ∙ ap (λ (n : ℕ). object_at g (root g n)) (sym one) ∙ there in cc) in
+            ap (λ (u : Object). is_heavy_class p u.class) (sym same) ∙ heavy))
+        by_class k target y at false light = inr (λ n z is' there. light_unheld n z is' there (ap (λ (u : Object). is_heavy_class p u.class) (sym (one_root n z is' there)) ∙ light) z.owner refl)
+          where
+            one_root : (n : ℕ) (z : Object) → target_root g caller.locals t.action method ≡ Some n → object_at g n ≡ Some z → y ≡ z
+            one_root n z is' there = by_test (finished_in (object_at g (root g k))) (sym (ap (finished_root g) target) ∙ is')
+              where
+                by_test : (b : Bool) → (if b then Some (root g k) else None) ≡ Some n → y ≡ z
+                by_test true same = (let one : root g k ≡ n = cc in (let both : Some y ≡ Some z = sym at ∙ ap (object_at g) one ∙ there in cc))
+                by_test false same = absurd (let never : None ≡ Some n = same in cc)
 
-    -- ---- the objects
+        by_object : (k : ℕ) → reset_target (operand_of caller.locals t.action) method ≡ Some k → (y : Option Object) → object_at g (root g k) ≡ y
+            → IsHeavyTarget ⊎ HasNoHolder g (target_root g caller.locals t.action method)
+        by_object k target None at = inl (λ j target' z there. (let one : j ≡ k = (let both : Some j ≡ Some k = sym target' ∙ target in cc) in
+            absurd (let never : None ≡ Some z = sym at ∙ ap (λ (n : ℕ). object_at g (root g n)) (sym one) ∙ there in cc)))
+        by_object k target (Some y) at = by_class k target y at (is_heavy_class p y.class) refl
+
+        go : (k : Option ℕ) → reset_target (operand_of caller.locals t.action) method ≡ k → IsHeavyTarget ⊎ HasNoHolder g (target_root g caller.locals t.action method)
+        go None none = inr (λ n z is' there. absurd (let never : None ≡ Some n = sym (ap (finished_root g) none) ∙ is' in cc))
+        go (Some k) target = by_object k target (object_at g (root g k)) refl
+
+    -- ---- what the reset reaches
+
+    -- of what the end creates the obligation anew, its root is finished, and the target's root is within it
+    pub reached_up : (n : ℕ) (x : Object) → object_at g n ≡ Some x → is_anew_at_end p caller.locals t.action method g n ≡ true → IsResetUp g (target_root g caller.locals t.action method) n
+    reached_up n x at' anew = elim tops [
+      | inl tested ↦ end_is_up p caller.locals t.action method g links_gone (is_heavy_class p) gone_holders n x tested at' anew
+      | inr free ↦ (let found = end_of_target p caller.locals t.action method g links_gone free n x at' anew in
+          record { start = root g n; is_target = found; within = itself (root g n); finished = target_finished (reset_target (operand_of caller.locals t.action) method) (root g n) found })
+    ]
+      where
+        target_finished : (k : Option ℕ) (r : ℕ) → finished_root g k ≡ Some r → finished_in (object_at g r) ≡ true
+        target_finished None r none = absurd (let never : None ≡ Some r = none in cc)
+        target_finished (Some k) r found = (target_value g (values.Object k) r found).1
+
+    -- the target, which is the object or within it: the caller's call creates its obligation anew; and the object was finished
+    abbrev pub IsTurnedUp : ℕ → Type 0
+    IsTurnedUp o = (start : ℕ) × IsTargetHere start × IsWithin h start o × ((x : Object) → object_at h o ≡ Some x → x.finished ≡ true)
+
+    -- where the object's class has an obligation, that of the target has one
+    pub target_heavy : (o start : ℕ) (x z : Object) → IsTargetHere start → IsWithin h start o → object_at h o ≡ Some x → is_heavy_class p x.class ≡ true → object_at h start ≡ Some z → is_heavy_class p z.class ≡ true
+    target_heavy o start x z target up there heavy at' = go (steps_up h start o up)
+      where
+        go : StepsUp h start o → is_heavy_class p z.class ≡ true
+        go (ends_up same) = ap (λ (u : Object). is_heavy_class p u.class) (let both : Some z ≡ Some x = sym at' ∙ ap (object_at h) same ∙ there in (let one : z ≡ x = cc in one)) ∙ heavy
+        go (goes_up w f y there' owner rest) =
+            let one : z ≡ y = (let both : Some z ≡ Some y = sym at' ∙ there' in cc) in
+            (own start z w f at' (ap (λ (u : Object). u.owner) one ∙ owner)).1 (sight.renews back.index t named start z back.here back.calls on_instance (target_root_here start z at' target) at')
+
+    turned_up : (o : ℕ) (w : Object) → object_at g o ≡ Some w → w.link ≡ None → is_anew_at_end p caller.locals t.action method g o ≡ true → IsTurnedUp o
+    turned_up o w at' none anew =
+        let up = reached_up o w at' anew in
+        (up.start, target_here up.start up.is_target, within_goes_on g h up.start o gone_owns_no_more (subst (IsWithin g up.start) itself' up.within), λ x there. done x there)
+      where
+        itself' : root g o ≡ o
+        itself' = roots_of_links-itself g o w at' none
+
+        done : (x : Object) → object_at h o ≡ Some x → x.finished ≡ true
+        done x there =
+            let z = was_gone o w at' in
+            ap (λ (u : Object). u.finished) (let both : Some x ≡ Some z.0 = sym there ∙ z.1 in (let one : x ≡ z.0 = cc in one)) ∙ sym z.2.finished
+            ∙ sym (ap finished_in at') ∙ ap (λ (n : ℕ). finished_in (object_at g n)) (sym itself') ∙ (reached_up o w at' anew).finished
 
     pub as_turned : (o : ℕ) (y : Object) (v : Value) → root_of left v ≡ Some o → object_at left o ≡ Some y → (b : Bool) → is_anew_at_end p caller.locals t.action method g o ≡ b → (z : Object) → object_at kept o ≡ Some z
-        → (y ≡ z) ⊎ (IsEmptied p z y × (is_renewed p h caller o ≡ true) × ((x : Object) → object_at h o ≡ Some x → x.finished ≡ true))
+        → (y ≡ z) ⊎ (IsEmptied p z y × IsTurnedUp o)
     unfolding is_anew_at_end
     as_turned o y v root' now false out z there =
         let stayed = reset_stays p (returned_called p caller.locals t.action method g) (returned_roots p caller.locals t.action method g) kept left reset_of o y out now in
@@ -313,34 +377,110 @@ module _ (p : Program) (ac : Accept p) (forms : HasPlainForms p) (h : HeapConten
         made : program_calls.is_new t.action ≡ true → number_of fr.locals.this ≡ Some o → ⊥
         made new self = true≢false (sym anew ∙ made_apart p position fr.locals.this caller.locals t.action method e g made_free o new self)
 
-        target : (w : Object) → object_at g o ≡ Some w → w.link ≡ None → IsTargetHere o
-        target w at' none =
-            target_here o (end_of_target p caller.locals t.action method g links_gone free o w at' anew ∙ ap Some (roots_of_links-itself g o w at' none))
-
-        by : IsFrom p position fr.locals.this caller.locals t.action (without_reset method) g (says_nothing method) e o z
-            → (y ≡ z) ⊎ (IsEmptied p z y × (is_renewed p h caller o ≡ true) × ((x : Object) → object_at h o ≡ Some x → x.finished ≡ true))
+        by : IsFrom p position fr.locals.this caller.locals t.action (without_reset method) g (says_nothing method) e o z → (y ≡ z) ⊎ (IsEmptied p z y × IsTurnedUp o)
         by (inl made') = absurd (made made'.2.new made'.2.self)
         by (inr (inl alias)) = absurd (made alias.2.new alias.2.self)
-        by (inr (inr noted)) =
-            let it = target noted.0 noted.1 (ap (λ (u : Object). u.link) noted.2 ∙ link_none) in
-            inr (reset_empties p (returned_called p caller.locals t.action method g) (returned_roots p caller.locals t.action method g) kept left reset_of o z y anew there now, it.0, it.1)
+        by (inr (inr noted)) = inr (
+          reset_empties p (returned_called p caller.locals t.action method g) (returned_roots p caller.locals t.action method g) kept left reset_of o z y anew there now,
+          turned_up o noted.0 noted.1 (ap (λ (u : Object). u.link) noted.2 ∙ link_none) anew,
+        )
 
-    -- what is linked to none, and created anew, is its own root, and where a field owns it, the field's object is not finished
-    pub reached_root : (n : ℕ) (x : Object) → object_at kept n ≡ Some x → is_reached (returned_called p caller.locals t.action method g) (returned_roots p caller.locals t.action method g) n ≡ true → x.link ≡ None
-        → (root (returned_called p caller.locals t.action method g) n ≡ n) × ((w : ℕ) (f : FieldId) → x.owner ≡ owners.Field w f → (finished_in (object_at g w) ≡ false) × RunsOn w (caller ∷ rest))
-    reached_root n x now anew none = by (end_back p position fr.locals.this caller.locals t.action (without_reset method) g (says_nothing method) e n x now)
+    -- an object when the call is noted
+    abbrev noted_again : ℕ → Object → Object
+    noted_again = noted_object (all_notes p g (receiver_note caller.locals t.action method))
+
+    -- the target rises to an object whose class has an obligation
+    risen_to : (o : ℕ) (x : Object) → object_at h o ≡ Some x → is_heavy_class p x.class ≡ true → IsTurnedUp o → Risen p h caller.locals t.action o
+    risen_to o x before heavy (start, target, within, done) = by (steps_up h start o within)
+      where
+        of_target : (z : Object) → object_at h start ≡ Some z → Risen p h caller.locals t.action o
+        of_target z there = record {
+          target = start;
+          object = z;
+          at = there;
+          heavy = (target.1 z there, target_heavy o start x z target within before heavy there);
+          renews = renewed_at_step p h caller below back.index t start back.here back.row target.0;
+          within = within;
+        }
+
+        by : StepsUp h start o → Risen p h caller.locals t.action o
+        by (ends_up one) = of_target x (ap (object_at h) one ∙ before)
+        by (goes_up w f z there owner more) = of_target z there
+
+    -- each root that a place holds after the call is as it would be without the reset, or is turned anew
+    pub all_turned : ((n : ℕ) (x : Object) → object_at kept n ≡ Some x → IsCarried h n x) → AllTurned p h kept left caller.locals t.action
+    all_turned was o y u root' now = (z.0, z.1, record { class = z.2; link = z.3; finished = z.4; owner = z.5 }, elim turned [ inl it ↦ inl it | inr anew ↦ inr (as_anew anew.0 anew.1) ])
+      where
+        z : (w : Object) × (object_at kept o ≡ Some w) × (y.class ≡ w.class) × (y.link ≡ w.link) × (y.finished ≡ w.finished) × (y.owner ≡ w.owner)
+        z = was_kept o y now
+
+        before : IsCarried h o z.0
+        before = was o z.0 z.1
+
+        turned : (y ≡ z.0) ⊎ (IsEmptied p z.0 y × IsTurnedUp o)
+        turned = as_turned o y u root' now (is_anew_at_end p caller.locals t.action method g o) refl z.0 z.1
+
+        as_anew : IsEmptied p z.0 y → IsTurnedUp o → IsTurnedAnew p h caller.locals t.action o z.0 y
+        as_anew emptied up = record {
+          emptied = emptied;
+          was = before.0;
+          before = before.1;
+          done = up.3 before.0 before.1;
+          risen = λ heavy. risen_to o before.0 before.1 (ap (is_heavy_class p) (sym before.2) ∙ heavy) up;
+        }
+
+    abbrev pub IsReached : ℕ → Type 0
+    IsReached k = is_reached (returned_called p caller.locals t.action method g) (returned_roots p caller.locals t.action method g) k ≡ true
+
+    -- the reset reaches the object, or it is not finished, or nothing was called on it
+    abbrev pub IsRisen : ℕ → Type 0
+    IsRisen w = (finished_in (object_at kept w) ≡ false) ⊎ (IsReached w ⊎ ((z : Object) → object_at kept w ≡ Some z → z.called ≡ set.empty))
+
+    -- With what is linked to none, and created anew, the reset reaches the object whose field owns it, or that is not finished, or the `new` that has ended has just finished it: nothing
+    -- was called on that. And it is its own root.
+    pub reached_rises : (n : ℕ) (x : Object) → object_at kept n ≡ Some x → IsReached n → x.link ≡ None
+        → (root (returned_called p caller.locals t.action method g) n ≡ n) × ((w : ℕ) (f : FieldId) → x.owner ≡ owners.Field w f → IsRisen w)
+    reached_rises n x now anew none = by (end_back p position fr.locals.this caller.locals t.action (without_reset method) g (says_nothing method) e n x now)
       where
         made : program_calls.is_new t.action ≡ true → number_of fr.locals.this ≡ Some n → ⊥
         made new self = true≢false (sym anew ∙ made_apart p position fr.locals.this caller.locals t.action method e g made_free n new self)
 
+        -- what was not finished when the frame had gone is not, or it is the object of a `new`
+        still_unready : (w : ℕ) → finished_in (object_at g w) ≡ false → IsRisen w
+        still_unready w unready = go (object_at kept w) refl
+          where
+            uncalled : (y : Object) → object_at kept w ≡ Some y → y.called ≡ set.empty → IsRisen w
+            uncalled y at' empty = inr (inr (λ z there. (let one : z ≡ y = (let both : Some z ≡ Some y = sym there ∙ at' in cc) in ap (λ (u : Object). u.called) one ∙ empty)))
+
+            go : (y : Option Object) → object_at kept w ≡ y → IsRisen w
+            go None at' = inl (ap finished_in at')
+            go (Some y) at' = elim (end_back p position fr.locals.this caller.locals t.action (without_reset method) g (says_nothing method) e w y at') [
+              | inl made' ↦ uncalled y at' made'.2.called
+              | inr other ↦ elim other [
+                | inl alias ↦ uncalled y at' alias.2.called
+                | inr noted ↦ inl (ap finished_in at' ∙ ap (λ (u : Object). u.finished) (sym noted.2) ∙ sym (ap finished_in noted.1) ∙ unready)
+              ]
+            ]
+
         by : IsFrom p position fr.locals.this caller.locals t.action (without_reset method) g (says_nothing method) e n x
-            → (root (returned_called p caller.locals t.action method g) n ≡ n) × ((w : ℕ) (f : FieldId) → x.owner ≡ owners.Field w f → (finished_in (object_at g w) ≡ false) × RunsOn w (caller ∷ rest))
+            → (root (returned_called p caller.locals t.action method g) n ≡ n) × ((w : ℕ) (f : FieldId) → x.owner ≡ owners.Field w f → IsRisen w)
         by (inl made') = absurd (made made'.2.new made'.2.self)
         by (inr (inl alias)) = absurd (made alias.2.new alias.2.self)
-        by (inr (inr noted)) =
-            let unlinked' : noted.0.link ≡ None = ap (λ (u : Object). u.link) noted.2 ∙ none in
-            let again = notes_add_names-heap p (receiver_note caller.locals t.action method) g n noted.0 noted.1 in
-            let found = reached_target p caller.locals t.action method g links_gone free n noted.0 noted.1 anew ∙ ap Some (roots_of_links-itself g n noted.0 noted.1 unlinked') in (
-              roots_of_links-itself (returned_called p caller.locals t.action method g) n again.0 again.1 (again.2.link ∙ unlinked'),
-              λ w f owner. holder_gone n noted.0 found noted.1 w f (ap (λ (u : Object). u.owner) noted.2 ∙ owner),
-            )
+        by (inr (inr noted)) = (roots_of_links-itself (returned_called p caller.locals t.action method g) n (noted_again n noted.0) at_called (ap (λ (u : Object). u.link) noted.2 ∙ none), rises)
+          where
+            free_link : noted.0.link ≡ None
+            free_link = ap (λ (u : Object). u.link) noted.2 ∙ none
+
+            at_called : object_at (returned_called p caller.locals t.action method g) n ≡ Some (noted_again n noted.0)
+            at_called = changed_object_at-object noted_again g n ∙ ap (option_map (noted_again n)) noted.1
+
+            rises : (w : ℕ) (f : FieldId) → x.owner ≡ owners.Field w f → IsRisen w
+            rises w f owner = elim tops [
+              | inl tested ↦ elim (end_reset_rises p caller.locals t.action method g links_gone (is_heavy_class p) gone_holders tested n w f (noted_again n noted.0) at_called anew free_link (ap (λ (u : Object). u.owner) noted.2 ∙ owner)) [
+                | inl unready ↦ still_unready w unready
+                | inr up ↦ inr (inl up)
+              ]
+              | inr free ↦ (
+                  let found = reached_target p caller.locals t.action method g links_gone free n noted.0 noted.1 anew ∙ ap Some (roots_of_links-itself g n noted.0 noted.1 free_link) in
+                  still_unready w (unready_holder g w f (sym (ap (finished_holder g) (ap (λ (u : Object). u.owner) noted.2 ∙ owner)) ∙ free n noted.0 found noted.1)))
+            ]

@@ -39,7 +39,7 @@ use Rattle.value_laws.specs.FieldContents.{promised_on}
 use Rattle.value_laws.specs.Renewing.{makes_alone}
 use Rattle.value_laws.specs.PlaceFacts.{Covers, IsCovered, IsTrueOf, gives_none, renews_none}
 use Rattle.value_laws.proofs.Ending.{ends, held_stays_here}
-use Rattle.covering_laws.specs.Covering.{HoldsHeavy, IsNotGiven}
+use Rattle.covering_laws.specs.Covering.{HoldsHeavy, IsCountedOn}
 use Rattle.covering_laws.proofs.Following.{breaks_nothing, method_here, same_body, step_there}
 use Rattle.covering_laws.proofs.HeavyFields.{HasPlace, apart_held, covers_field, has_place_here, heavy_here, held_claims, held_tells, held_unlent, known_alone, makes_alone_by, plain_not_alone}
 
@@ -102,15 +102,15 @@ no_position kind = go (position_of kind)
 
 -- ---- the end of a frame
 
-module _ (p : Program) (ac : Accept p) (h : HeapContents) (frs : List Frame) (fr : Frame) (st : Stands p fr) (covered : IsCovered p h gives_none renews_none frs fr) (i : ℕ) (s : Step) (q : Completion) (f : FieldId) (w o : ℕ) (x : Object)
+module _ (p : Program) (ac : Accept p) (h : HeapContents) (frs : List Frame) (fr : Frame) (st : Stands p fr) (old : ℕ → Bool) (covered : IsCovered p h gives_none renews_none old frs fr) (i : ℕ) (s : Step) (q : Completion) (f : FieldId) (w o : ℕ) (x : Object)
     (here : slice_get (frame_steps p fr) i ≡ Some s) (is : s.action ≡ actions.End q) (place : has_field_place p st.number f ≡ true) (holds : HoldsHeavy p h fr w f o x) where
   there : HasPlace p fr f
   there = has_place_here p ac fr st f place
 
-  found : (c : Covers p h false false frs fr o x) × (has c.fact.places (place_of_field p f) ≡ true)
-  found = covers_field p h fr f there frs covered w o x holds
+  found : (c : Covers p h false false old frs fr o x) × (has c.fact.places (place_of_field p f) ≡ true)
+  found = covers_field p h fr f there old frs covered w o x holds
 
-  abbrev cover : Covers p h false false frs fr o x
+  abbrev cover : Covers p h false false old frs fr o x
   cover = found.0
 
   owned : (cover.fact.mode ≡ modes.Held) × (is_heavy_class p cover.origin.class ≡ true)
@@ -130,13 +130,13 @@ module _ (p : Program) (ac : Accept p) (h : HeapContents) (frs : List Frame) (fr
     | inr good ↦ good
   ]
 
-  pub kept_at_end : x.finished ≡ true → constructs (method_at p fr.method) ≡ false → IsNotGiven p h frs fr o x → (m : Method) → method_at p fr.method ≡ Some m → (is_throw q ≡ false) ⊎ (is_finalizer p st.number ≡ true) → set.is_subset (promised_on f m) x.called ≡ true
+  pub kept_at_end : x.finished ≡ true → constructs (method_at p fr.method) ≡ false → IsCountedOn p h old frs fr o x → (m : Method) → method_at p fr.method ≡ Some m → (is_throw q ≡ false) ⊎ (is_finalizer p st.number ≡ true) → set.is_subset (promised_on f m) x.called ≡ true
   kept_at_end done plain apart m named way =
       within_trans (promised_on f m) (promised_by_end p st.number cover.origin.kind cover.fact.places q) x.called
       (by_end p st.number cover.origin.kind cover.fact.places f m place found.1 (method_here p fr st ∙ named) q way)
       (within_trans (promised_by_end p st.number cover.origin.kind cover.fact.places q) cover.fact.called x.called kept.2
-      (known_alone p (method_at p fr.method) cover.origin.kind cover.fact.called x.called (held_unlent p h false false frs fr o x cover owned.0 plain)
-      (cover.known done (held_tells p fr.method cover.origin cover.fact (plain_not_alone (method_at p fr.method) plain) owned.0) (apart_held p h frs fr o x cover.fact owned.0 apart)).2))
+      (known_alone p (method_at p fr.method) cover.origin.kind cover.fact.called x.called (held_unlent p h false false old frs fr o x cover owned.0 plain)
+      (cover.known done (held_tells p fr.method cover.origin cover.fact (plain_not_alone (method_at p fr.method) plain) owned.0) (apart_held p h old frs fr o x cover.fact owned.0 apart) refl)))
 
   met_of : (t c l m a : Bool) → t ≡ true → c ≡ true → l ≡ true → a ≡ false → (t && c && l && not m && not a) ≡ false → m ≡ true
   met_of t c l true a throws makes held plain good = refl

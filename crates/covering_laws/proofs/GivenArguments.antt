@@ -85,9 +85,9 @@ true_of_result p x y g f kind pos c q truth goes fit =
       called = empty_within y.called;
     }
 
-module _ (p : Program) (ac : Accept p) (h : HeapContents) (fr : Frame) (st : Stands p fr) (frs : List Frame) (i : ℕ) (s : Step) (here : slice_get (frame_steps p fr) i ≡ Some s) (row : IsCallRow s.action) where
+module _ (p : Program) (ac : Accept p) (h : HeapContents) (fr : Frame) (st : Stands p fr) (old : ℕ → Bool) (frs : List Frame) (i : ℕ) (s : Step) (here : slice_get (frame_steps p fr) i ≡ Some s) (row : IsCallRow s.action) where
   -- an argument of an owning parameter that has an obligation is in a fact that says that the frame owns it, or the call breaks a rule
-  module _ (away anew : Bool) (o : ℕ) (x : Object) (g : Covers p h away anew frs fr o x) (m : Method) (j : ℕ) (q : ParamSig) (named : callee p s.action ≡ Some m) (at : slice_get m.sig.params.items j ≡ Some q) (owning : q.owning ≡ true)
+  module _ (away anew : Bool) (o : ℕ) (x : Object) (g : Covers p h away anew old frs fr o x) (m : Method) (j : ℕ) (q : ParamSig) (named : callee p s.action ≡ Some m) (at : slice_get m.sig.params.items j ≡ Some q) (owning : q.owning ≡ true)
       (held : holds_operand s.action g.fact.places (j + 1) ≡ true) (heavy : is_heavy_as p g.origin.class (Some q.vtype) ≡ true) where
     reached : Reach p st.number (relation_of p st.number) g.origin fr.control g.fact
     reached = subst (λ (b : BodyId). Reach p b (relation_of p b) g.origin fr.control g.fact) (same_body g.body st.number (body_id p fr.method) g.id st.id) g.reached
@@ -105,7 +105,7 @@ module _ (p : Program) (ac : Accept p) (h : HeapContents) (fr : Frame) (st : Sta
     given_claims = own_claims p (method_at p fr.method) g.origin g.fact owned_as.0 owned_as.1
 
   -- the argument is covered in the caller, whose step of the call breaks no rule
-  pub given_is_true : (o : ℕ) (x y : Object) (g : Covers p h false false frs fr o x) → (m : Method) (j : ℕ) (q : ParamSig) → callee p s.action ≡ Some m → slice_get m.sig.params.items j ≡ Some q → q.owning ≡ true
+  pub given_is_true : (o : ℕ) (x y : Object) (g : Covers p h false false old frs fr o x) → (m : Method) (j : ℕ) (q : ParamSig) → callee p s.action ≡ Some m → slice_get m.sig.params.items j ≡ Some q → q.owning ≡ true
       → holds_operand s.action g.fact.places (j + 1) ≡ true → (c : ClassId) → q.vtype ≡ types.Obj c → is_heavy_class p c ≡ true → (x.finished ≡ true → GoesOn x y)
       → (kind : OriginKind) (pos : Pos) (place : Place) (before : Names) → set.is_subset before q.before ≡ true → IsTrueOf p y (origin_of p kind pos c None) (fact_at place modes.Own before true)
   given_is_true o x y g m j q named at owning held c type heavy goes kind pos place before less =
@@ -119,7 +119,7 @@ module _ (p : Program) (ac : Accept p) (h : HeapContents) (fr : Frame) (st : Sta
 
   -- ---- the operand of an owning parameter
 
-  module _ (covered : IsCovered p h gives_none renews_none frs fr) (o : ℕ) (x : Object) (there : object_at h o ≡ Some x) (class : is_heavy_class p x.class ≡ true) (owes : OwesOrHolds p h o x) (m : Method) (j : ℕ) (q : ParamSig)
+  module _ (covered : IsCovered p h gives_none renews_none old frs fr) (o : ℕ) (x : Object) (there : object_at h o ≡ Some x) (class : is_heavy_class p x.class ≡ true) (owes : OwesOrHolds p h o x) (m : Method) (j : ℕ) (q : ParamSig)
       (named : callee p s.action ≡ Some m) (at : slice_get m.sig.params.items j ≡ Some q) (owning : q.owning ≡ true) (root : root_of h (operand_of fr.locals s.action (j + 1)) ≡ Some o) where
     abbrev pub temp : (n : ℕ) × (operand_at s.action (j + 1) ≡ Some n) × (operand_of fr.locals s.action (j + 1) ≡ temp_value fr.locals n)
     temp = operand_temp fr.locals s.action (j + 1) h o root
@@ -127,23 +127,23 @@ module _ (p : Program) (ac : Accept p) (h : HeapContents) (fr : Frame) (st : Sta
     small : IsSmall (places.Temp temp.0)
     small = subst IsSmallTemp temp.1 (operand_has_room p s.action (j + 1) (small_step p ac fr st i s here))
 
-    keyed : IsKeyed p h false false frs fr (places.Temp temp.0) o x
+    keyed : IsKeyed p h false false old frs fr (places.Temp temp.0) o x
     keyed = covered (places.Temp temp.0) o x small (ap (root_of h) (sym temp.2) ∙ root) there class owes
 
-    holds : (c : Covers p h false false frs fr o x) → has c.fact.places (places.Temp temp.0) ≡ true → holds_operand s.action c.fact.places (j + 1) ≡ true
+    holds : (c : Covers p h false false old frs fr o x) → has c.fact.places (places.Temp temp.0) ≡ true → holds_operand s.action c.fact.places (j + 1) ≡ true
     holds c has' = ap (has_temp c.fact.places) temp.1 ∙ has'
 
     abbrev IsHeavyType : Type 0
     IsHeavyType = not (is_empty (must_of_optional p (Some q.vtype))) ≡ true
 
-    heavy_of : IsHeavyType → (c : Covers p h false false frs fr o x) → is_heavy_as p c.origin.class (Some q.vtype) ≡ true
+    heavy_of : IsHeavyType → (c : Covers p h false false old frs fr o x) → is_heavy_as p c.origin.class (Some q.vtype) ≡ true
     heavy_of heavy c = or_right (is_heavy_class p c.origin.class) (not (is_empty (must_of_optional p (Some q.vtype)))) heavy
 
     -- the operand is in the one fact that says that the frame owns the object
-    pub operand_owned : IsHeavyType → (c : Covers p h false false frs fr o x) × (has c.fact.places (places.Temp temp.0) ≡ true) × IsOwned p h false false frs fr o x c
+    pub operand_owned : IsHeavyType → (c : Covers p h false false old frs fr o x) × (has c.fact.places (places.Temp temp.0) ≡ true) × IsOwned p h false false old frs fr o x c
     operand_owned heavy = by keyed
       where
-        by : IsKeyed p h false false frs fr (places.Temp temp.0) o x → (c : Covers p h false false frs fr o x) × (has c.fact.places (places.Temp temp.0) ≡ true) × IsOwned p h false false frs fr o x c
+        by : IsKeyed p h false false old frs fr (places.Temp temp.0) o x → (c : Covers p h false false old frs fr o x) × (has c.fact.places (places.Temp temp.0) ≡ true) × IsOwned p h false false old frs fr o x c
         by (owned c has' own) = (c, has', own)
         by (unowned u) = absurd (true≢false (sym (given_owned false false o x u.covers m j q named at owning (holds u.covers u.here) (heavy_of heavy u.covers)) ∙ unclaimed_not_owning p (method_at p fr.method) u.covers.origin u.covers.fact u.unowned))
 
@@ -168,12 +168,12 @@ module _ (p : Program) (ac : Accept p) (h : HeapContents) (fr : Frame) (st : Sta
         (within_trans (must_of p x.class) (must_of p c.0.origin.class) (must_of_type p q.vtype) truth.class as'.2)
 
   -- no object is the operand of two owning parameters
-  pub two_operands : IsCovered p h gives_none renews_none frs fr → (o : ℕ) (x : Object) → object_at h o ≡ Some x → is_heavy_class p x.class ≡ true → OwesOrHolds p h o x → (m : Method) (j k : ℕ) (q r : ParamSig) → j < k → callee p s.action ≡ Some m
+  pub two_operands : IsCovered p h gives_none renews_none old frs fr → (o : ℕ) (x : Object) → object_at h o ≡ Some x → is_heavy_class p x.class ≡ true → OwesOrHolds p h o x → (m : Method) (j k : ℕ) (q r : ParamSig) → j < k → callee p s.action ≡ Some m
       → slice_get m.sig.params.items j ≡ Some q → slice_get m.sig.params.items k ≡ Some r → q.owning ≡ true → r.owning ≡ true → not (is_empty (must_of_optional p (Some q.vtype))) ≡ true
       → not (is_empty (must_of_optional p (Some r.vtype))) ≡ true → root_of h (operand_of fr.locals s.action (j + 1)) ≡ Some o → root_of h (operand_of fr.locals s.action (k + 1)) ≡ Some o → ⊥
   two_operands covered o x there class owes m j k q r less named at at' owning owning' heavy heavy' root root' = by (cover.2.others (places.Temp temp'.0) room (ap (root_of h) (sym temp'.2) ∙ root'))
     where
-      cover : (c : Covers p h false false frs fr o x) × (has c.fact.places (places.Temp (operand_temp fr.locals s.action (j + 1) h o root).0) ≡ true) × IsOwned p h false false frs fr o x c
+      cover : (c : Covers p h false false old frs fr o x) × (has c.fact.places (places.Temp (operand_temp fr.locals s.action (j + 1) h o root).0) ≡ true) × IsOwned p h false false old frs fr o x c
       cover = operand_owned covered o x there class owes m j q named at owning root heavy
 
       temp' : (n : ℕ) × (operand_at s.action (k + 1) ≡ Some n) × (operand_of fr.locals s.action (k + 1) ≡ temp_value fr.locals n)
@@ -188,7 +188,7 @@ module _ (p : Program) (ac : Accept p) (h : HeapContents) (fr : Frame) (st : Sta
       reached' : Reach p st.number (relation_of p st.number) cover.0.origin fr.control cover.0.fact
       reached' = subst (λ (b : BodyId). Reach p b (relation_of p b) cover.0.origin fr.control cover.0.fact) (same_body cover.0.body st.number (body_id p fr.method) cover.0.id st.id) cover.0.reached
 
-      by : (has cover.0.fact.places (places.Temp temp'.0) ≡ true) ⊎ IsUnowned p h false false frs fr (places.Temp temp'.0) o x → ⊥
+      by : (has cover.0.fact.places (places.Temp temp'.0) ≡ true) ⊎ IsUnowned p h false false old frs fr (places.Temp temp'.0) o x → ⊥
       by (inl in') = no_two_arguments p st.number cover.0.origin s.edge cover.0.fact s.action row (breaks_nothing p ac st.number cover.0.origin i (move_of s) cover.0.fact reached' (step_there p fr st i s here)) m j k q r less named at at'
           owning owning' held (ap (has_temp cover.0.fact.places) temp'.1 ∙ in') (or_right (is_heavy_class p cover.0.origin.class) (not (is_empty (must_of_optional p (Some q.vtype)))) heavy)
       by (inr u) = true≢false (sym (given_owned false false o x u.covers m k r named at' owning' (ap (has_temp u.covers.fact.places) temp'.1 ∙ u.here)
@@ -204,8 +204,8 @@ heavy_by_fit p c t heavy fits' = go (is_empty (must_of_type p t)) refl
     go false some = refl
     go true none = absurd (true≢false (sym (within_trans (must_of p c) (must_of_type p t) no_names fits' none) ∙ not-true (is_empty (must_of p c)) heavy))
 
-module _ (p : Program) (ac : Accept p) (h : HeapContents) (fr : Frame) (st : Stands p fr) (frs : List Frame) (i : ℕ) (s : Step) (here : slice_get (frame_steps p fr) i ≡ Some s) (row : IsCallRow s.action)
-    (covered : IsCovered p h gives_none renews_none frs fr) (named : Option Method) (calls' : callee p s.action ≡ named) where
+module _ (p : Program) (ac : Accept p) (h : HeapContents) (fr : Frame) (st : Stands p fr) (old : ℕ → Bool) (frs : List Frame) (i : ℕ) (s : Step) (here : slice_get (frame_steps p fr) i ≡ Some s) (row : IsCallRow s.action)
+    (covered : IsCovered p h gives_none renews_none old frs fr) (named : Option Method) (calls' : callee p s.action ≡ named) where
   -- the frame owns what it gives
   pub given_owner : (n : ℕ) (x : Object) → object_at h n ≡ Some x → is_heavy_class p x.class ≡ true → may_owe x ≡ true → IsGiven p (operand_of fr.locals s.action) 1 (params_in named) h n x
       → x.owner ≡ owners.Frame (length frs + 1)
@@ -218,20 +218,20 @@ module _ (p : Program) (ac : Accept p) (h : HeapContents) (fr : Frame) (st : Sta
           no_element zero is = let never : None ≡ Some g.param = is in cc
           no_element (suc n') is = let never : None ≡ Some g.param = is in cc
       by (Some m) is =
-          operand_owner p ac h fr st frs i s here row covered n x there class (inl owes) m g.index g.param (calls' ∙ is) (ap (λ (k : Option Method). slice_get (params_in k) g.index) (sym is) ∙ g.at) g.owning
+          operand_owner p ac h fr st old frs i s here row covered n x there class (inl owes) m g.index g.param (calls' ∙ is) (ap (λ (k : Option Method). slice_get (params_in k) g.index) (sym is) ∙ g.at) g.owning
           (ap (λ (k : ℕ). root_of h (operand_of fr.locals s.action k)) (let same : g.index + 1 ≡ 1 + g.index = omega arith in same) ∙ g.root)
           (heavy_by_fit p x.class g.param.vtype class (and_parts (x.finished && not (is_library_owner x.owner)) (set.is_subset (must_of p x.class) (must_of_type p g.param.vtype)) g.may).1)
 
-module _ (p : Program) (ac : Accept p) (h : HeapContents) (fr : Frame) (st : Stands p fr) (frs : List Frame) (i : ℕ) (s : Step) (here : slice_get (frame_steps p fr) i ≡ Some s) (row : IsCallRow s.action) where
+module _ (p : Program) (ac : Accept p) (h : HeapContents) (fr : Frame) (st : Stands p fr) (old : ℕ → Bool) (frs : List Frame) (i : ℕ) (s : Step) (here : slice_get (frame_steps p fr) i ≡ Some s) (row : IsCallRow s.action) where
   -- ---- what it gives away
 
   -- the fact that says that the frame owns what is given away moves at the call
-  pub away_moves : (away anew : Bool) (o : ℕ) (x : Object) (d : Covers p h away anew frs fr o x) → IsOwned p h away anew frs fr o x d → is_heavy_class p x.class ≡ true → gives_away p h fr.locals s.action o x.class ≡ true
+  pub away_moves : (away anew : Bool) (o : ℕ) (x : Object) (d : Covers p h away anew old frs fr o x) → IsOwned p h away anew old frs fr o x d → is_heavy_class p x.class ≡ true → gives_away p h fr.locals s.action o x.class ≡ true
       → moved_at_call p d.origin s.action s.edge d.fact ≡ moves.Moves
   away_moves away anew o x d own heavy gives = elim (own.others (places.Temp temp.0) small (ap (root_of h) (sym temp.2) ∙ root)) [
     | inl in' ↦ (argument_is_given p st.number d.origin s.edge d.fact s.action row (breaks_nothing p ac st.number d.origin i (move_of s) d.fact (reached d) (step_there p fr st i s here)) t.0 t.2.index t.2.param t.1 t.2.at t.2.owning
         (holds d in') (heavy_as d)).1
-    | inr u ↦ absurd (true≢false (sym (given_owned p ac h fr st frs i s here row away anew o x u.covers t.0 t.2.index t.2.param t.1 t.2.at t.2.owning (holds u.covers u.here) (heavy_as u.covers)) ∙ unclaimed_not_owning p (method_at p fr.method) u.covers.origin u.covers.fact u.unowned))
+    | inr u ↦ absurd (true≢false (sym (given_owned p ac h fr st old frs i s here row away anew o x u.covers t.0 t.2.index t.2.param t.1 t.2.at t.2.owning (holds u.covers u.here) (heavy_as u.covers)) ∙ unclaimed_not_owning p (method_at p fr.method) u.covers.origin u.covers.fact u.unowned))
   ]
     where
       t : (m : Method) × (callee p s.action ≡ Some m) × IsTaken p h fr.locals s.action o x.class m.sig.params.items 0
@@ -246,19 +246,19 @@ module _ (p : Program) (ac : Accept p) (h : HeapContents) (fr : Frame) (st : Sta
       small : IsSmall (places.Temp temp.0)
       small = subst IsSmallTemp temp.1 (operand_has_room p s.action (t.2.index + 1) (small_step p ac fr st i s here))
 
-      holds : (c : Covers p h away anew frs fr o x) → has c.fact.places (places.Temp temp.0) ≡ true → holds_operand s.action c.fact.places (t.2.index + 1) ≡ true
+      holds : (c : Covers p h away anew old frs fr o x) → has c.fact.places (places.Temp temp.0) ≡ true → holds_operand s.action c.fact.places (t.2.index + 1) ≡ true
       holds c has' = ap (has_temp c.fact.places) temp.1 ∙ has'
 
-      heavy_as : (c : Covers p h away anew frs fr o x) → is_heavy_as p c.origin.class (Some t.2.param.vtype) ≡ true
+      heavy_as : (c : Covers p h away anew old frs fr o x) → is_heavy_as p c.origin.class (Some t.2.param.vtype) ≡ true
       heavy_as c = or_right (is_heavy_class p c.origin.class) (not (is_empty (must_of_optional p (Some t.2.param.vtype)))) (heavy_by_fit p x.class t.2.param.vtype heavy t.2.fit)
 
-      reached : (c : Covers p h away anew frs fr o x) → Reach p st.number (relation_of p st.number) c.origin fr.control c.fact
+      reached : (c : Covers p h away anew old frs fr o x) → Reach p st.number (relation_of p st.number) c.origin fr.control c.fact
       reached c = subst (λ (b : BodyId). Reach p b (relation_of p b) c.origin fr.control c.fact) (same_body c.body st.number (body_id p fr.method) c.id st.id) c.reached
 
 -- what the frame gives away it owns, as long as it has not given it
-pub away_owner : (p : Program) (ac : Accept p) (h : HeapContents) (fr : Frame) (st : Stands p fr) (frs : List Frame) (i : ℕ) (s : Step) → slice_get (frame_steps p fr) i ≡ Some s → IsCallRow s.action
-    → IsCovered p h gives_none renews_none frs fr → (o : ℕ) (x : Object) → object_at h o ≡ Some x → is_heavy_class p x.class ≡ true → OwesOrHolds p h o x → gives_away p h fr.locals s.action o x.class ≡ true → x.owner ≡ owners.Frame (length frs + 1)
-away_owner p ac h fr st frs i s here row covered o x there heavy owes gives =
+pub away_owner : (p : Program) (ac : Accept p) (h : HeapContents) (fr : Frame) (st : Stands p fr) (old : ℕ → Bool) (frs : List Frame) (i : ℕ) (s : Step) → slice_get (frame_steps p fr) i ≡ Some s → IsCallRow s.action
+    → IsCovered p h gives_none renews_none old frs fr → (o : ℕ) (x : Object) → object_at h o ≡ Some x → is_heavy_class p x.class ≡ true → OwesOrHolds p h o x → gives_away p h fr.locals s.action o x.class ≡ true → x.owner ≡ owners.Frame (length frs + 1)
+away_owner p ac h fr st old frs i s here row covered o x there heavy owes gives =
     let t = given_taken p h fr.locals s.action o x.class gives in
-    operand_owner p ac h fr st frs i s here row covered o x there heavy owes t.0 t.2.index t.2.param t.1 t.2.at t.2.owning
+    operand_owner p ac h fr st old frs i s here row covered o x there heavy owes t.0 t.2.index t.2.param t.1 t.2.at t.2.owning
     (ap (λ (k : ℕ). root_of h (operand_of fr.locals s.action k)) (let same : t.2.index + 1 ≡ 0 + t.2.index + 1 = omega arith in same) ∙ t.2.root) (heavy_by_fit p x.class t.2.param.vtype heavy t.2.fit)

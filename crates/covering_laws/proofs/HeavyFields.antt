@@ -1,5 +1,5 @@
 -- What an owning field of `this` holds in a frame that has a place for the field.
-use Rattle.std.proofs.Common.{◌≡◌, ◌⊎◌, inl, inr, ℕ, ◌<◌, Bool, true, false, not, ◌&&◌, ◌||◌, ◌+◌, Option, Some, None, List, length, slice_get, refl, sym, ap, ◌∙◌, subst, true≢false, eqb-true}
+use Rattle.std.proofs.Common.{◌≡◌, ◌⊎◌, inl, inr, ℕ, ◌<◌, Bool, true, false, not, ◌&&◌, ◌||◌, ◌+◌, Option, Some, None, List, slice_get, refl, sym, ap, ◌∙◌, subst, true≢false, eqb-true}
 use Rattle.std.specs.FinSet as set
 use Rattle.std.proofs.lemmas.Bool.{and_parts, not-true, or_left, or_right, and_from}
 use Rattle.rlc_base.proofs.SetLaws.{empty_within, union_monotone, union_within, within_self, within_trans}
@@ -35,11 +35,11 @@ use Rattle.ledger_state.specs.declared.value.Value.TheVariants as values
 use Rattle.value_laws.specs.Places.{field_place_value, owning_field_beside, place_value}
 use Rattle.value_laws.specs.Configuration.{Frame}
 use Rattle.value_laws.specs.Agreement.{Stands}
-use Rattle.value_laws.specs.PlaceFacts.{Covers, IsCovered, IsKeyed, asked_by, asked_of, claims, fits_field, fits_in, gives_none, is_apart, is_content, is_frame_below, is_heavy_field, is_heavy_in, is_lent, is_owning_fact, owned, tells_calls, unowned, was_given, renews_none}
+use Rattle.value_laws.specs.PlaceFacts.{Covers, IsApart, IsCovered, IsKeyed, asked_by, asked_of, claims, fits_field, fits_in, gives_none, is_heavy_field, is_heavy_in, is_lent, is_owning_fact, owned, renews_none, tells_calls, unowned}
 use Rattle.value_laws.specs.PlainForms.{is_lent_parameter}
-use Rattle.value_laws.specs.Renewing.{was_renewed, makes_alone}
+use Rattle.value_laws.specs.Renewing.{makes_alone}
 use Rattle.value_laws.proofs.FieldPlaces.{beside_of_place}
-use Rattle.covering_laws.specs.Covering.{HoldsHeavy, IsNotGiven}
+use Rattle.covering_laws.specs.Covering.{HoldsHeavy, IsCountedOn}
 use Rattle.covering_laws.proofs.Following.{method_here}
 
 same_class : (c d : ClassId) → is_class c d ≡ true → c ≡ d
@@ -76,9 +76,9 @@ module _ (p : Program) (ac : Accept p) (fr : Frame) (st : Stands p fr) (f : Fiel
           of_method x at parts.0 (method_at p fr.method) refl (ap (is_class_of x.class) (sym (method_here p fr st)) ∙ parts.1)
 
 -- the fact of a place that is covered
-pub covered_at : (p : Program) (h : HeapContents) (away anew : Bool) (frs : List Frame) (fr : Frame) (q : Place) (o : ℕ) (x : Object) → IsKeyed p h away anew frs fr q o x → (c : Covers p h away anew frs fr o x) × (has c.fact.places q ≡ true)
-covered_at p h away anew frs fr q o x (owned c here key) = (c, here)
-covered_at p h away anew frs fr q o x (unowned u) = (u.covers, u.here)
+pub covered_at : (p : Program) (h : HeapContents) (away anew : Bool) (old : ℕ → Bool) (frs : List Frame) (fr : Frame) (q : Place) (o : ℕ) (x : Object) → IsKeyed p h away anew old frs fr q o x → (c : Covers p h away anew old frs fr o x) × (has c.fact.places q ≡ true)
+covered_at p h away anew old frs fr q o x (owned c here key) = (c, here)
+covered_at p h away anew old frs fr q o x (unowned u) = (u.covers, u.here)
 
 module _ (p : Program) (h : HeapContents) (fr : Frame) (f : FieldId) (here : HasPlace p fr f) where
   pub value_here : (w : ℕ) → fr.locals.this ≡ values.Object w → place_value p h fr.method fr.locals (place_of_field p f) ≡ field_value p h w f
@@ -87,8 +87,8 @@ module _ (p : Program) (h : HeapContents) (fr : Frame) (f : FieldId) (here : Has
   pub heavy_here : is_heavy_in p (Some f) ≡ true → is_heavy_field p fr.method (place_of_field p f) ≡ true
   heavy_here heavy = ap (is_heavy_in p) here.beside ∙ heavy
 
-  pub covers_field : (frs : List Frame) → IsCovered p h gives_none renews_none frs fr → (w o : ℕ) (x : Object) → HoldsHeavy p h fr w f o x → (c : Covers p h false false frs fr o x) × (has c.fact.places (place_of_field p f) ≡ true)
-  covers_field frs covered w o x holds = covered_at p h false false frs fr (place_of_field p f) o x
+  pub covers_field : (old : ℕ → Bool) (frs : List Frame) → IsCovered p h gives_none renews_none old frs fr → (w o : ℕ) (x : Object) → HoldsHeavy p h fr w f o x → (c : Covers p h false false old frs fr o x) × (has c.fact.places (place_of_field p f) ≡ true)
+  covers_field old frs covered w o x holds = covered_at p h false false old frs fr (place_of_field p f) o x
       (covered (place_of_field p f) o x here.small (ap (root_of h) (value_here w holds.this) ∙ holds.held) holds.at holds.class holds.owes)
 
 -- in a constructor without an aliased argument a fact that says that a field holds the object claims it
@@ -167,18 +167,18 @@ known_alone p m kind called names none known =
     (union_within (asked_of p m kind) names names (subst (λ (s : Names). set.is_subset s names ≡ true) (sym (none_asked p m kind none)) (empty_within names)) (within_self names))
 
 -- outside constructors a fact that says that a field holds its object is of no such origin
-pub held_unlent : (p : Program) (h : HeapContents) (away anew : Bool) (frs : List Frame) (fr : Frame) (o : ℕ) (x : Object) (c : Covers p h away anew frs fr o x) → c.fact.mode ≡ modes.Held → constructs (method_at p fr.method) ≡ false
+pub held_unlent : (p : Program) (h : HeapContents) (away anew : Bool) (old : ℕ → Bool) (frs : List Frame) (fr : Frame) (o : ℕ) (x : Object) (c : Covers p h away anew old frs fr o x) → c.fact.mode ≡ modes.Held → constructs (method_at p fr.method) ≡ false
     → is_lent p (method_at p fr.method) c.origin.kind ≡ false
-held_unlent p h away anew frs fr o x c held plain = by (is_lent p (method_at p fr.method) c.origin.kind) refl
+held_unlent p h away anew old frs fr o x c held plain = by (is_lent p (method_at p fr.method) c.origin.kind) refl
   where
     by : (b : Bool) → is_lent p (method_at p fr.method) c.origin.kind ≡ b → is_lent p (method_at p fr.method) c.origin.kind ≡ false
     by false none = none
     by true lent = absurd (true≢false (sym ((c.lent lent).1 (ap is_held held)).0 ∙ plain))
 
 -- nor in constructors without an aliased argument
-pub lent_not_alone : (p : Program) (h : HeapContents) (away anew : Bool) (frs : List Frame) (fr : Frame) (o : ℕ) (x : Object) (c : Covers p h away anew frs fr o x) → is_lent p (method_at p fr.method) c.origin.kind ≡ true
+pub lent_not_alone : (p : Program) (h : HeapContents) (away anew : Bool) (old : ℕ → Bool) (frs : List Frame) (fr : Frame) (o : ℕ) (x : Object) (c : Covers p h away anew old frs fr o x) → is_lent p (method_at p fr.method) c.origin.kind ≡ true
     → (is_held c.fact.mode && makes_alone (method_at p fr.method)) ≡ false
-lent_not_alone p h away anew frs fr o x c lent = go (is_held c.fact.mode) refl
+lent_not_alone p h away anew old frs fr o x c lent = go (is_held c.fact.mode) refl
   where
     go : (b : Bool) → is_held c.fact.mode ≡ b → (b && makes_alone (method_at p fr.method)) ≡ false
     go true held = ((c.lent lent).1 held).1
@@ -239,31 +239,15 @@ unclaimed_not_owning p m o f none = go (is_owning_fact p o f) refl
     go true owning = absurd (true≢false (sym (owning_claims p m o f owning) ∙ none))
 
 -- such a fact has no place of an owning field
-pub owning_in_no_field : (p : Program) (h : HeapContents) (away anew : Bool) (frs : List Frame) (fr : Frame) (o : ℕ) (x : Object) (c : Covers p h away anew frs fr o x) → is_owning_fact p c.origin c.fact ≡ true
+pub owning_in_no_field : (p : Program) (h : HeapContents) (away anew : Bool) (old : ℕ → Bool) (frs : List Frame) (fr : Frame) (o : ℕ) (x : Object) (c : Covers p h away anew old frs fr o x) → is_owning_fact p c.origin c.fact ≡ true
     → (k : ℕ) → k < 16 → has c.fact.places (places.Field k) ≡ true → ⊥
-owning_in_no_field p h away anew frs fr o x c owning k inside there =
+owning_in_no_field p h away anew old frs fr o x c owning k inside there =
     let parts = and_parts (is_heavy_class p c.origin.class) (is_own c.fact.mode) owning in
     let held = c.held k inside there (heavy_by_place p fr.method k c.origin.class parts.0 (c.fields k inside parts.0 there)) in
     true≢false (sym parts.1 ∙ ap is_own held.0)
 
--- ---- what the frame was not given
+-- ---- what the frame may count on
 
-either_apart : (p : Program) (h : HeapContents) (frs : List Frame) (fr : Frame) (o : ℕ) (x : Object) (f : Fact) → was_renewed p h frs o ≡ false
-    → (is_content p fr x.owner f || (not (was_given p h frs o x.class) || is_frame_below (length frs + 1) x.owner)) ≡ true → is_apart p h frs fr o x f ≡ true
-either_apart p h frs fr o x f old apart =
-    and_from (not (was_renewed p h frs o)) (is_content p fr x.owner f || (not (was_given p h frs o x.class) || is_frame_below (length frs + 1) x.owner)) (ap not old) apart
-
-pub apart_where : (p : Program) (h : HeapContents) (frs : List Frame) (fr : Frame) (o : ℕ) (x : Object) (f : Fact) → was_renewed p h frs o ≡ false → was_given p h frs o x.class ≡ false → is_apart p h frs fr o x f ≡ true
-apart_where p h frs fr o x f old none = either_apart p h frs fr o x f old
-    (or_right (is_content p fr x.owner f) (not (was_given p h frs o x.class) || is_frame_below (length frs + 1) x.owner) (rw none refl))
-
--- what a frame below owns
-pub apart_low : (p : Program) (h : HeapContents) (frs : List Frame) (fr : Frame) (o : ℕ) (x : Object) (f : Fact) → was_renewed p h frs o ≡ false → is_frame_below (length frs + 1) x.owner ≡ true → is_apart p h frs fr o x f ≡ true
-apart_low p h frs fr o x f old low = either_apart p h frs fr o x f old
-    (or_right (is_content p fr x.owner f) (not (was_given p h frs o x.class) || is_frame_below (length frs + 1) x.owner) (or_right (not (was_given p h frs o x.class)) (is_frame_below (length frs + 1) x.owner) low))
-
-pub apart_held : (p : Program) (h : HeapContents) (frs : List Frame) (fr : Frame) (o : ℕ) (x : Object) (f : Fact) → f.mode ≡ modes.Held → IsNotGiven p h frs fr o x → is_apart p h frs fr o x f ≡ true
-apart_held p h frs fr o x f held (old, inl none) = apart_where p h frs fr o x f old none
-apart_held p h frs fr o x f held (old, inr (inl low)) = apart_low p h frs fr o x f old low
-apart_held p h frs fr o x f held (old, inr (inr (no_constructor, own))) =
-    either_apart p h frs fr o x f old (or_left (is_content p fr x.owner f) (not (was_given p h frs o x.class) || is_frame_below (length frs + 1) x.owner) (rw (held, no_constructor, own) refl))
+-- what was old and is spared
+pub apart_held : (p : Program) (h : HeapContents) (old : ℕ → Bool) (frs : List Frame) (fr : Frame) (o : ℕ) (x : Object) (f : Fact) → f.mode ≡ modes.Held → IsCountedOn p h old frs fr o x → IsApart p h old frs fr o x.owner f
+apart_held p h old frs fr o x f held spared = spared

@@ -84,7 +84,7 @@ field_from held from (suc n) is = elim (either (has held (places.Field from)) (h
 ]
 
 -- and there are no others
-place_in : (held : PlaceSet) → is_in_this held ≡ true → (q : Place) × IsSmall q × (is_local q ≡ false) × (has held q ≡ true)
+pub place_in : (held : PlaceSet) → is_in_this held ≡ true → (q : Place) × IsSmall q × (is_local q ≡ false) × (has held q ≡ true)
 place_in held is = elim (either (has held places.This) (has_part held) is) [
   | inl this ↦ (places.This, tt, refl, this)
   | inr part ↦ elim (either (has_field held) (has held places.Super) part) [
@@ -184,23 +184,19 @@ place_by_number k places.Super small less out same = absurd (omega (arith, small
 
 -- ---- a fact in mode Held of a constructor without an aliased argument
 
-module _ (p : Program) (h : HeapContents) (away anew : Bool) (frs : List Frame) (fr : Frame) (o : ℕ) (x : Object) (c : Covers p h away anew frs fr o x) (done : x.finished ≡ true) (held : is_held c.fact.mode ≡ true)
-    (alone : makes_alone (method_at p fr.method) ≡ true) where
-  third : (away ≡ false) × (is_heavy_class p c.origin.class ≡ true) × IsInField p fr c.fact.places x.owner → IsInField p fr c.fact.places x.owner
-  third (kept, heavy, field) = field
+module _ (p : Program) (h : HeapContents) (away anew : Bool) (old : ℕ → Bool) (frs : List Frame) (fr : Frame) (o : ℕ) (x : Object) (c : Covers p h away anew old frs fr o x) (done : x.finished ≡ true) (held : is_held c.fact.mode ≡ true)
+    (alone : makes_alone (method_at p fr.method) ≡ true) (heavy : is_heavy_class p c.origin.class ≡ true) where
+  second : (away ≡ false) × IsInField p fr c.fact.places x.owner → IsInField p fr c.fact.places x.owner
+  second (kept, field) = field
 
   pub held_in_field : IsInField p fr c.fact.places x.owner
-  held_in_field = third (c.free done held alone)
+  held_in_field = second (c.free done held alone heavy)
 
   pub held_by_this : IsOwnedByThis p fr x.owner
   held_by_this = held_in_field.0
 
-  -- it claims the object
-  pub held_heavy : is_heavy_class p c.origin.class ≡ true
-  held_heavy = (c.free done held alone).1
-
   pub held_kept : away ≡ false
-  held_kept = (c.free done held alone).0
+  held_kept = (c.free done held alone heavy).0
 
   -- no frame owns it
   pub held_unowned : (i : ℕ) → is_frame_from i x.owner ≡ false
@@ -214,8 +210,8 @@ this_kind (kinds.Param j) is = absurd (let same : j + 1 ≡ 0 = eqb-true (j + 1)
 this_kind kind is = absurd (true≢false (sym is))
 
 -- none of its places is `this`'s
-pub owning_out_of_this : (p : Program) (ac : Accept p) (h : HeapContents) (away anew : Bool) (frs : List Frame) (fr : Frame) (st : Stands p fr) (o : ℕ) (x : Object) (c : Covers p h away anew frs fr o x) → is_owning_fact p c.origin c.fact ≡ true → is_in_this c.fact.places ≡ false
-owning_out_of_this p ac h away anew frs fr st o x c owning = go (is_in_this c.fact.places) refl
+pub owning_out_of_this : (p : Program) (ac : Accept p) (h : HeapContents) (away anew : Bool) (old : ℕ → Bool) (frs : List Frame) (fr : Frame) (st : Stands p fr) (o : ℕ) (x : Object) (c : Covers p h away anew old frs fr o x) → is_owning_fact p c.origin c.fact ≡ true → is_in_this c.fact.places ≡ false
+owning_out_of_this p ac h away anew old frs fr st o x c owning = go (is_in_this c.fact.places) refl
   where
     reached : Reach p st.number (relation_of p st.number) c.origin fr.control c.fact
     reached = subst (λ (b : BodyId). Reach p b (relation_of p b) c.origin fr.control c.fact) (same_body c.body st.number (body_id p fr.method) c.id st.id) c.reached
@@ -223,7 +219,7 @@ owning_out_of_this p ac h away anew frs fr st o x c owning = go (is_in_this c.fa
     no_place : (q : Place) → IsSmall q → is_local q ≡ false → has c.fact.places q ≡ true → ⊥
     no_place (places.Var i) small out is = true≢false out
     no_place (places.Temp d) small out is = true≢false out
-    no_place (places.Field k) small out is = owning_in_no_field p h away anew frs fr o x c owning k small is
+    no_place (places.Field k) small out is = owning_in_no_field p h away anew old frs fr o x c owning k small is
     no_place places.Super small out is = (let never : None ≡ Some o = c.places places.Super tt is in cc)
     no_place places.This small out is =
         let run = running_method p ac fr st in
@@ -236,8 +232,8 @@ owning_out_of_this p ac h away anew frs fr st o x c owning = go (is_in_this c.fa
     go true inside = absurd (let it = place_in c.fact.places inside in no_place it.0 it.1 it.2 it.3)
 
 -- what a fact in mode Held claims is finished
-pub held_finished : (p : Program) (h : HeapContents) (away anew : Bool) (frs : List Frame) (fr : Frame) (o : ℕ) (x : Object) (c : Covers p h away anew frs fr o x) → claims p (method_at p fr.method) c.origin c.fact ≡ true → is_held c.fact.mode ≡ true → x.finished ≡ true
-held_finished p h away anew frs fr o x c claimed held = (c.true' claimed (not_own away c.fact.mode held)).finished
+pub held_finished : (p : Program) (h : HeapContents) (away anew : Bool) (old : ℕ → Bool) (frs : List Frame) (fr : Frame) (o : ℕ) (x : Object) (c : Covers p h away anew old frs fr o x) → claims p (method_at p fr.method) c.origin c.fact ≡ true → is_held c.fact.mode ≡ true → x.finished ≡ true
+held_finished p h away anew old frs fr o x c claimed held = (c.true' claimed (not_own away c.fact.mode held)).finished
   where
     none : (a : Bool) → (a && false) ≡ false
     none true = refl

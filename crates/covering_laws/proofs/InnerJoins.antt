@@ -1,6 +1,6 @@
 -- The top frame takes a step that calls nothing and stores into no owning field: what the step makes is no object, or is not owned.
 use Rattle.std.specs.Prelude.{if◌then◌else◌}
-use Rattle.std.proofs.Common.{◌≡◌, ◌⊎◌, inl, inr, ℕ, ◌+◌, arith, Bool, true, false, Option, Some, None, List, length, ◌∷◌, option_map, slice_get, nat_eq, eq-eqb, refl, sym, ap, ◌∙◌, subst, true≢false}
+use Rattle.std.proofs.Common.{◌≡◌, ◌⊎◌, inl, inr, ℕ, ◌+◌, arith, Bool, true, false, Option, Some, None, List, [], length, ◌∷◌, option_map, slice_get, nat_eq, eq-eqb, refl, sym, ap, ◌∙◌, subst, true≢false}
 use Rattle.std.proofs.lemmas.List.Elements.{All-head, All-tail}
 use Rattle.program_model.specs.declared.kinds.ClassId.{ClassId}
 use Rattle.program_model.specs.declared.kinds.FieldId.{FieldId}
@@ -67,12 +67,16 @@ use Rattle.covering_laws.specs.Linking.{LinkedAreAliases}
 use Rattle.covering_laws.specs.TextUpdates.{UpdatesTexts}
 use Rattle.covering_laws.specs.Throws.{RaisesExceptions}
 use Rattle.covering_laws.proofs.Gifts.{all_keep_gifts}
-use Rattle.covering_laws.proofs.InnerSteps.{HoldsNoneHeavy, carries, classes, fields, heap, inner_covered, linked_were, none_heavy, owners_below, owners_go, roots, unfinished, value, finishes, inner_holders}
-use Rattle.covering_laws.proofs.Owners.{AllKeepGifts, given_kept, owners_kept}
+use Rattle.covering_laws.proofs.InnerSteps.{HoldsNoneHeavy, carries, classes, fields, heap, inner_covered, inner_ways, linked_were, none_heavy, owners_below, owners_go, roots, unfinished, value, inner_nobody}
+use Rattle.value_laws.specs.Chains.{HaveEnds}
+use Rattle.value_laws.specs.Holders.{HoldersAreUnlinked, UnfinishedAreUnowned}
+use Rattle.value_laws.specs.FieldContents.{FieldsOwn}
+use Rattle.covering_laws.proofs.FieldOwners.{fields_own_by}
+use Rattle.covering_laws.proofs.Owners.{AllKeepGifts, OwnersGo, WaysGo, holders_were, old_kept, owners_kept, stays_apart}
 use Rattle.covering_laws.proofs.LightExceptions.{exceptions_are_light, operation_is_light}
 use Rattle.covering_laws.proofs.LocalSteps.{LocalsIn, all_there, holds_there, local_step, names_members}
 use Rattle.covering_laws.proofs.TopSteps.{IsLocalStep}
-use Rattle.covering_laws.proofs.Waiting.{AllHeldBefore, KeepsRoots, KeepsUnfinished, all_held_before, all_keep_but_texts, all_wait, frames_ready, no_other}
+use Rattle.covering_laws.proofs.Waiting.{AllHeldBefore, KeepsRoots, KeepsUnfinished, all_held_before, all_keep_but_texts, all_wait, frames_ready, no_other, old_as, ways_go_on}
 use Rattle.covering_laws.proofs.LinkedExceptions.{exceptions_unlinked, still_aliases}
 use Rattle.value_laws.specs.LibraryClasses.{HasLightTexts}
 use Rattle.covering_laws.proofs.Texts.{texts_are_light}
@@ -246,21 +250,45 @@ module _ (p : Program) (ac : Accept p) (forms : HasPlainForms p) (c : Config) (t
   pub plain_unfinished : KeepsUnfinished h heap_then no_other
   plain_unfinished = unfinished p ac forms h links fr st i s here local step.row step.test e made updates
 
-  pub plain_covered : (frs : List Frame) → LocalsIn h (fr ∷ frs) → AreCovered p h (fr ∷ frs) → AreCovered p heap_then (after ∷ frs)
-  plain_covered frs in' covered = (
-    inner_covered p ac forms h links fr st i s here local step.row step.test e made updates frs covered.0 (given_kept p h heap_then frs gifts)
+  pub plain_nobody : UnfinishedAreUnowned h → UnfinishedAreUnowned heap_then
+  plain_nobody = inner_nobody p ac forms h links fr st i s here local step.row step.test e made updates
+
+  pub plain_covered : HaveEnds h → HoldersAreUnlinked (is_heavy_class p) h → (frs : List Frame) → LocalsIn h (fr ∷ frs) → AreCovered p h (fr ∷ frs) → AreCovered p heap_then (after ∷ frs)
+  plain_covered have unlinked frs in' (old, is, covered, waits, below) = (
+    old,
+    old_as p heap_then old frs fr after refl refl
+        (old_kept p h heap_then old frs fr
+        (stays_apart p None (fr ∷ frs) (length frs + 1) h heap_then ways goes frs fr (omega arith) gifts tt (λ w none. none.1) (λ w none this. no_object_into w none)) (ways_go_on p None (fr ∷ frs) (length frs + 1) h heap_then ways) is),
+    inner_covered p ac forms h links fr st i s here local step.row step.test e made updates old frs covered gifts ways
         (holds_there p h ranges fr (All-head (λ (x : Frame). LocalsInRange h x.locals) fr frs in')) light given,
-    all_wait p h heap_then links plain_roots (carries p ac forms h links fr st i s here local step.row step.test e made updates) frs
+    all_wait p h heap_then links plain_roots (carries p ac forms h links fr st i s here local step.row step.test e made updates) (ways_go_on p None (fr ∷ frs) (length frs + 1) h heap_then ways) old frs
         (all_keep_but_texts p h heap_then (fields p ac forms h links fr st i s here local step.row step.test e made updates) frs)
         (all_there p h ranges frs (All-tail (λ (x : Frame). LocalsInRange h x.locals) fr frs in')) (frames_ready p h heap_then plain_unfinished frs) gifts
-        (owners_kept p None (fr ∷ frs) (length frs + 1) h heap_then (finishes p ac forms h links fr st i s here local step.row step.test e made updates) (owners_go p ac forms h links fr st i s here local step.row step.test e made updates (fr ∷ frs) (length frs + 1)) (inner_holders p ac forms h links fr st i s here local step.row step.test e made updates (fr ∷ frs) (length frs + 1)) frs (omega arith) tt
-        (λ w none. none.1)) covered.1,
-    owners_below p ac forms h links fr st i s here local step.row step.test e made updates (length frs + 1) covered.2,
+        (owners_kept p None (fr ∷ frs) (length frs + 1) h heap_then ways goes frs (omega arith) gifts tt (λ w none. none.1)) waits,
+    owners_below p ac forms h links fr st i s here local step.row step.test e made updates (length frs + 1) below,
   )
     where
       gifts : AllKeepGifts p h heap_then frs
       gifts = all_keep_gifts p h heap_then plain_roots frs (All-tail (λ (x : Frame). LocalsInRange h x.locals) fr frs in')
 
+      ways : WaysGo p None (fr ∷ frs) (length frs + 1) h heap_then
+      ways = inner_ways p ac forms h links fr st i s here local step.row step.test e made updates have unlinked (fr ∷ frs) (length frs + 1)
+
+      goes : OwnersGo p None (fr ∷ frs) (length frs + 1) h heap_then
+      goes = owners_go p ac forms h links fr st i s here local step.row step.test e made updates (fr ∷ frs) (length frs + 1)
+
+      no_object_into : (w : ℕ) → ◌≡◌ {A = Option ℕ} None (Some w) → ⊥
+      no_object_into w none = cc
+
   pub plain_held_before : (frs : List Frame) → LocalsIn h frs → AllHeldBefore p h heap_then frs
   plain_held_before frs in' =
       all_held_before p h heap_then plain_roots frs (all_keep_but_texts p h heap_then (fields p ac forms h links fr st i s here local step.row step.test e made updates) frs) (all_there p h ranges frs in')
+
+  -- what fields hold they own
+  pub plain_owns : HaveEnds h → HoldersAreUnlinked (is_heavy_class p) h → FieldsOwn p h → FieldsOwn p heap_then
+  plain_owns have unlinked = fields_own_by p None [] 1 h heap_then links ranges have.unfinished (fields p ac forms h links fr st i s here local step.row step.test e made updates)
+      (carries p ac forms h links fr st i s here local step.row step.test e made updates)
+      (holders_were p None [] 1 h heap_then (inner_ways p ac forms h links fr st i s here local step.row step.test e made updates have unlinked [] 1) goes) plain_roots goes plain_unfinished
+    where
+      goes : OwnersGo p None [] 1 h heap_then
+      goes = owners_go p ac forms h links fr st i s here local step.row step.test e made updates [] 1

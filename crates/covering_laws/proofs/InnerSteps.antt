@@ -25,7 +25,6 @@ use Rattle.value_laws.specs.CalledRows.{called_after}
 use Rattle.ownership_rules.specs.Births.{birth_on, fact_at}
 use Rattle.program_model.specs.declared.kinds.BodyId.{BodyId}
 use Rattle.value_laws.specs.Accept.{Accept}
-use Rattle.ledger_obligations.specs.Obligations.{is_held_by}
 use Rattle.ledger_state.specs.Contents.{HeapContents}
 use Rattle.ledger_state.specs.Heaps.{next_number, object_at, root, root_of}
 use Rattle.ledger_state.specs.Locals.{temp_value}
@@ -48,16 +47,20 @@ use Rattle.value_laws.specs.PlainForms.{HasPlainForms}
 use Rattle.value_laws.specs.Outcomes.{IsNotNull, IsPlainRow}
 use Rattle.value_laws.proofs.Going.{other_steps}
 use Rattle.value_laws.specs.Steps.{IsTrueTest}
-use Rattle.value_laws.specs.PlaceFacts.{AllHold, IsCovered, IsUnowned, OwnersBelow, gives_none, is_frame_from, is_lent, renews_none}
+use Rattle.value_laws.specs.PlaceFacts.{AllHold, IsCovered, IsUnowned, OwnersBelow, gives_none, is_frame_below, is_frame_from, is_lent, renews_none}
 use Rattle.covering_laws.proofs.Births.{born_covers}
 use Rattle.covering_laws.proofs.CallResults.{born_unowned, not_lent_none}
-use Rattle.covering_laws.proofs.Owners.{BirthsAreFree, HoldersWere, KeepsGiven, OwnersGo, holders_were, none_unready, stays, stays_apart, KeepsFinished, held_here, keeps_finished}
+use Rattle.java_control.specs.Calls.{is_reset_of_this}
+use Rattle.value_laws.specs.Chains.{HaveEnds}
+use Rattle.value_laws.specs.HeapAnew.{is_field_owner}
+use Rattle.value_laws.specs.Holders.{HoldersAreUnlinked, UnfinishedAreUnowned}
+use Rattle.covering_laws.proofs.StepWays.{text_unowned, thrown_unowned}
+use Rattle.covering_laws.proofs.Owners.{AllKeepGifts, KeepsFinished, OwnersGo, WaysGo, held_here, keeps_finished, stays, stays_apart}
 use Rattle.covering_laws.proofs.StoreOwners.{thrown_below}
 use Rattle.value_laws.proofs.Ready.{row_gives_none}
 use Rattle.covering_laws.proofs.TopSteps.{IsLocalStep, top_covered, after_as}
 use Rattle.covering_laws.proofs.Waiting.{Carries, HoldsThere, KeepsFieldsButTexts, KeepsRoots, KeepsUnfinished, all_ready, keeps_roots, linked_roots, new_root, no_other}
 use Rattle.covering_laws.proofs.LinkedExceptions.{LinkedWere}
-use Rattle.covering_laws.proofs.NewOwners.{thrown_births}
 use Rattle.covering_laws.proofs.OwnerSteps.{free_below, given_up_free}
 use Rattle.covering_laws.proofs.TextStores.{left_goes_on, left_to_library, light_back, light_forward, light_unless, row_light, store_linked, unless_fields}
 use Rattle.covering_laws.specs.TextUpdates.{IsLeftByText, IsLightStore, UpdatesTexts}
@@ -98,6 +101,14 @@ same_names p b (actions.Call m d n form) e f row safe = absurd row
 same_names p b (actions.New m d n) e f row safe = absurd row
 same_names p b (actions.Super m d n) e f row safe = absurd row
 same_names p b a e f row safe = refl
+
+-- nor does it create the obligation of `this` anew
+row_resets_none : (p : Program) (a : Action) → IsPlainRow a → is_reset_of_this p a ≡ false
+row_resets_none p actions.Skip row = refl
+row_resets_none p (actions.Call m d n form) row = absurd row
+row_resets_none p (actions.New m d n) row = absurd row
+row_resets_none p (actions.Super m d n) row = absurd row
+row_resets_none p a row = refl
 
 -- the value holds no object of a class with an obligation
 abbrev pub HoldsNoneHeavy : Program → HeapContents → Value → Type 0
@@ -186,6 +197,31 @@ module _ (p : Program) (ac : Accept p) (forms : HasPlainForms p) (h : HeapConten
     pub finishes : KeepsFinished h heap
     finishes = keeps_finished h heap (λ n x at done. let y = forward n x at in (y.0, y.1, y.2.finished ∙ done))
 
+    -- nobody owns what is not finished
+    pub inner_nobody : UnfinishedAreUnowned h → UnfinishedAreUnowned heap
+    inner_nobody before = text_unowned p (thrown_heap p e h) heap left (thrown_unowned p e h before)
+
+    -- the ways up go on
+    pub inner_ways : HaveEnds h → HoldersAreUnlinked (is_heavy_class p) h → (below : List Frame) (j : ℕ) → WaysGo p None below j h heap
+    inner_ways have unlinked below j = record {
+      have = have;
+      unlinked = unlinked;
+      objects = λ o x at. (let y = forward o x at in (y.0, y.1, y.2.class, λ done. (y.2.finished ∙ done, y.2.link)));
+      unmade = λ o x y before now open'. inl (unfinished o x y (λ never. never) before now open', nobody o x y before open' (was o x y before now));
+      fresh = λ o y none now. elim (was_there o y now) [
+        | inl old ↦ absurd (let never : None ≡ Some old.0 = sym none ∙ old.1 in cc)
+        | inr new ↦ elim (exceptions_are_the_librarys p e h o y new.1) [
+          | inl old ↦ absurd (let never : None ≡ Some y = sym none ∙ old in cc)
+          | inr library ↦ (ap is_field_owner library.1, λ n under. ap (is_frame_below n) library.1)
+        ]
+      ];
+      unready = λ w never. absurd (let no : None ≡ Some w = never in cc);
+    }
+      where
+        nobody : (o : ℕ) (x y : Object) → object_at h o ≡ Some x → x.finished ≡ false → IsLeftByText p x y → y.owner ≡ owners.Unowned
+        nobody o x y before open' (inl same) = ap (λ (z : Object). z.owner) same ∙ have.unfinished o x before open'
+        nobody o x y before open' (inr gone) = absurd (let never : owners.Unowned ≡ owners.Field gone.2.0 gone.2.1 = sym (have.unfinished o x before open') ∙ gone.2.2 in cc)
+
     -- owners of what has an obligation stay
     pub same_owner : (o : ℕ) (x y : Object) → object_at h o ≡ Some x → object_at heap o ≡ Some y → is_heavy_class p x.class ≡ true → y.owner ≡ x.owner
     same_owner o x y before at heavy = elim (was o x y before at) [
@@ -195,20 +231,6 @@ module _ (p : Program) (ac : Accept p) (forms : HasPlainForms p) (h : HeapConten
 
     pub owners_go : (below : List Frame) (j : ℕ) → OwnersGo p None below j h heap
     owners_go below j o x y before at done heavy = stays (same_owner o x y before at heavy)
-
-    inner_births : BirthsAreFree h heap
-    inner_births o y now done = by (left o y now)
-      where
-        by : (x : Object) × (object_at (thrown_heap p e h) o ≡ Some x) × IsLeftByText p x y → ((x : Object) × (object_at h o ≡ Some x) × (x.finished ≡ true) × (y.class ≡ x.class)) ⊎ ((w : ℕ) → is_held_by y.owner w ≡ false)
-        by (x, there, inl same) = elim (thrown_births p e h o x there (ap (λ (z : Object). z.finished) (sym same) ∙ done)) [
-          | inl old ↦ inl (old.0, old.1, old.2, ap (λ (z : Object). z.class) same ∙ old.3)
-          | inr free ↦ inr (λ w. ap (λ (z : Object). is_held_by z.owner w) same ∙ free w)
-        ]
-        by (x, there, inr gone) = inr (given_up_free x y gone.0).1
-
-    -- what fields own
-    pub inner_holders : (below : List Frame) (j : ℕ) → HoldersWere p h heap
-    inner_holders below j = holders_were p None below j h heap (owners_go below j) inner_births (none_unready h)
 
     pub owners_below : (n : ℕ) → OwnersBelow h n → OwnersBelow heap n
     owners_below n below o y at = by (left o y at)
@@ -224,22 +246,22 @@ module _ (p : Program) (ac : Accept p) (forms : HasPlainForms p) (h : HeapConten
     abbrev pub IsGiven : Place → Type 0
     IsGiven q = HoldsNoneHeavy p heap made ⊎ ((g : Origin) × (birth_on p s.action s.edge s.pos ≡ Some (g, fact_at q modes.None no_names true)) × (g.kind ≡ kinds.Read))
 
-    module _ (frs : List Frame) (covered : IsCovered p h gives_none renews_none frs fr) (gifts : KeepsGiven p h heap frs) (inside : HoldsThere p h fr)
+    module _ (old : ℕ → Bool) (frs : List Frame) (covered : IsCovered p h gives_none renews_none old frs fr) (gifts : AllKeepGifts p h heap frs) (ways : WaysGo p None (fr ∷ frs) (length frs + 1) h heap) (inside : HoldsThere p h fr)
         (light : (c : ClassId) (y : Object) → e ≡ Some c → object_at heap (next_number h) ≡ Some y → is_heavy_class p y.class ≡ false)
         (gives : (q : Place) → e ≡ None → source p st.body s.action s.edge q ≡ None → is_made (made_place s.action) q ≡ true → IsGiven q) where
       given : (q : Place) (o : ℕ) (y : Object) → IsSmall q → is_local q ≡ true → source p st.body s.action s.edge q ≡ None → is_made (made_place s.action) q ≡ true
           → place_value p heap fr.method (frame_after p h fr s value).locals q ≡ value → root_of heap value ≡ Some o → object_at heap o ≡ Some y → is_heavy_class p y.class ≡ true
-          → IsUnowned p heap false false frs (frame_after p h fr s value) q o y
+          → IsUnowned p heap false false old frs (frame_after p h fr s value) q o y
       given q o y small local none there is found' at heavy = by e refl found'
         where
-          by : (x : Option ClassId) → e ≡ x → root_of heap (thrown_value h x made) ≡ Some o → IsUnowned p heap false false frs (frame_after p h fr s value) q o y
+          by : (x : Option ClassId) → e ≡ x → root_of heap (thrown_value h x made) ≡ Some o → IsUnowned p heap false false old frs (frame_after p h fr s value) q o y
           by (Some c) same found =
               let number : next_number h ≡ o = sym next_root ∙ (let both : root_of heap (values.Object (next_number h)) ≡ Some o = found in cc) in
               absurd (true≢false (sym heavy ∙ light c y same (ap (object_at heap) number ∙ at)))
           by None same found = elim (gives q same none there) [
             | inl nothing ↦ absurd (true≢false (sym heavy ∙ nothing o y found at))
-            | inr birth ↦ born_unowned p heap false frs (frame_after p h fr s value) q o y birth.0 (fact_at q modes.None no_names true)
-                (born_covers p heap fr st i s here (frame_after p h fr s value) frs false q o y birth.0 modes.None true refl refl small local birth.1
+            | inr birth ↦ born_unowned p heap false old frs (frame_after p h fr s value) q o y birth.0 (fact_at q modes.None no_names true)
+                (born_covers p heap fr st i s here (frame_after p h fr s value) old frs false q o y birth.0 modes.None true refl refl small local birth.1
                 (ap (root_of heap) is ∙ found') (λ m. ap (is_lent p m) birth.2 ∙ read_unlent p m) refl not_lent_none (ap is_this_origin birth.2) (λ claimed. absurd (true≢false (sym claimed ∙ unclaimed (is_heavy_class p birth.0.class)))))
                 (unclaimed (is_heavy_class p birth.0.class))
           ]
@@ -248,20 +270,21 @@ module _ (p : Program) (ac : Accept p) (forms : HasPlainForms p) (h : HeapConten
               unclaimed true = refl
               unclaimed false = refl
 
-      pub inner_covered : IsCovered p heap gives_none renews_none frs (frame_after p h fr s value)
-      inner_covered = top_covered p ac h heap links carries fields fr st i s here r inside (keeps_roots p h heap roots fr inside) value frs gives_none renews_none covered (all_ready p h heap unfinished fr) gifts
-          (stays_apart p None (fr ∷ frs) (length frs + 1) h heap finishes (owners_go (fr ∷ frs) (length frs + 1)) (inner_holders (fr ∷ frs) (length frs + 1)) frs fr (omega arith) (λ w none this. no_object_into w none) (λ w none. none.1))
-          (held_here p None (fr ∷ frs) (length frs + 1) h heap finishes (owners_go (fr ∷ frs) (length frs + 1)) (inner_holders (fr ∷ frs) (length frs + 1)) frs fr (omega arith) (λ w none. none.0))
+      pub inner_covered : IsCovered p heap gives_none renews_none old frs (frame_after p h fr s value)
+      inner_covered = top_covered p ac h heap links carries fields fr st i s here r inside (keeps_roots p h heap roots fr inside) value old frs gives_none (λ o. false) covered (all_ready p h heap unfinished fr)
+          (stays_apart p None (fr ∷ frs) (length frs + 1) h heap ways (owners_go (fr ∷ frs) (length frs + 1)) frs fr (omega arith) gifts tt (λ w none. none.1) (λ w none this. no_object_into w none))
+          (held_here p None (fr ∷ frs) (length frs + 1) h heap ways (owners_go (fr ∷ frs) (length frs + 1)) frs fr (omega arith) gifts (λ w none. none.0))
           (λ o f g. Unit {0})
           (λ o x c q is. after_as (GoesAs c.fact (places_after p st.number s.action s.edge c.fact.places) (called_after p st.number s.action s.edge c.fact))
           (λ (g : Fact). GoesAs c.fact (places_after p st.number s.action s.edge c.fact.places) (called_after p st.number s.action s.edge c.fact) g × Unit {0})
           (flow p st.number c.origin s.action s.edge c.fact) (λ g goes. (goes, tt))
           (other_steps p st.number c.origin s.action s.edge c.fact q row (not_null p h fr o c.fact s.action s.edge r.small c.places test) is))
-          (λ o x y c before at g more trusted stays old done goes some owes names less was.
+          (λ o x y c before at g more trusted sure stays done goes some owes names less was.
           ap (λ (t : Names). set.is_subset t names) (same_names p st.number s.action s.edge c.fact row (not_null p h fr o c.fact s.action s.edge r.small c.places test))
           ∙ was)
           (λ o x c before some owes gives. absurd (true≢false (sym gives ∙ row_gives_none p s.action s.edge c.fact.places row)))
           (λ o x y c key before at heavy owes g more own. (refl, (λ done mine. same_owner o x y before at heavy ∙ mine)))
+          (λ q o y small out root' now heavy owes. absurd (true≢false (sym out.0 ∙ row_resets_none p s.action row)))
           (λ q o y small local none there is found' at heavy owes. inr (inl (given q o y small local none there is found' at heavy)))
         where
           no_object_into : (w : ℕ) → ◌≡◌ {A = Option ℕ} None (Some w) → ⊥

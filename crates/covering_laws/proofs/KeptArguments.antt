@@ -101,37 +101,37 @@ itself n = eq-eqb n n refl
 -- ---- a store
 
 -- what a constructor with an aliased argument stores in a field whose type has an obligation is in a fact of that argument
-module _ (p : Program) (ac : Accept p) (forms : HasPlainForms p) (h : HeapContents) (frs : List Frame) (fr : Frame) (st : Stands p fr) (covered : IsCovered p h gives_none renews_none frs fr) (i d : ℕ) (s : Step) (f : FieldId) (o : ℕ) (x : Object)
+module _ (p : Program) (ac : Accept p) (forms : HasPlainForms p) (h : HeapContents) (old : ℕ → Bool) (frs : List Frame) (fr : Frame) (st : Stands p fr) (covered : IsCovered p h gives_none renews_none old frs fr) (i d : ℕ) (s : Step) (f : FieldId) (o : ℕ) (x : Object)
     (here : slice_get (frame_steps p fr) i ≡ Some s) (is : s.action ≡ actions.PutOwn f d) (m : Method) (of : method_at p st.body.method ≡ Some m) (aliased' : is_alias_constructor p st.number ≡ true) (wide : is_heavy_in p (Some f) ≡ true)
     (root : root_of h (temp_value fr.locals d) ≡ Some o) (at : object_at h o ≡ Some x) (heavy : is_heavy_class p x.class ≡ true) (owes' : OwesOrHolds p h o x) where
   room : IsSmallAction p (actions.PutOwn f d)
-  room = stores.small p ac forms h frs fr st covered i d s f here is
+  room = stores.small p ac forms h old frs fr st covered i d s f here is
 
   mine : HasPlace p fr f
-  mine = stores.there p ac forms h frs fr st covered i d s f here is
+  mine = stores.there p ac forms h old frs fr st covered i d s f here is
 
-  stored : (c : Covers p h false false frs fr o x) × (has c.fact.places (places.Temp d) ≡ true)
-  stored = fields.covered_at p h false false frs fr (places.Temp d) o x (covered (places.Temp d) o x room.0 root at heavy owes')
+  stored : (c : Covers p h false false old frs fr o x) × (has c.fact.places (places.Temp d) ≡ true)
+  stored = fields.covered_at p h false false old frs fr (places.Temp d) o x (covered (places.Temp d) o x room.0 root at heavy owes')
 
-  abbrev cover : Covers p h false false frs fr o x
+  abbrev cover : Covers p h false false old frs fr o x
   cover = stored.0
 
   reached_there : Reach p st.number (relation_of p st.number) cover.origin fr.control cover.fact
   reached_there = subst (λ (b : BodyId). Reach p b (relation_of p b) cover.origin fr.control cover.fact) (same_body cover.body st.number (body_id p fr.method) cover.id st.id) cover.reached
 
-  joins : has (stores.now p ac forms h frs fr st covered i d s f here is o x cover) (place_of_field p f) ≡ true
+  joins : has (stores.now p ac forms h old frs fr st covered i d s f here is o x cover) (place_of_field p f) ≡ true
   joins = has_copied cover.fact.places (place_of_field p f) (places.Temp d) (place_of_field p f) room.1 room.1 ∙ rw (itself (field_number p f)) stored.1
 
   of_argument : is_origin_at cover.origin.kind (alias_position p st.number) ≡ true
-  of_argument = by (stores.goes p ac forms h frs fr st covered i d s f here is o x cover (place_of_field p f) joins)
+  of_argument = by (stores.goes p ac forms h old frs fr st covered i d s f here is o x cover (place_of_field p f) joins)
     where
       held_already : (b : Bool) → has cover.fact.places (place_of_field p f) ≡ b → (has cover.fact.places (place_of_field p f) ≡ false → is_heavy_store p cover.origin f ≡ false) → is_origin_at cover.origin.kind (alias_position p st.number) ≡ true
       held_already true in' light =
           let owned = cover.held (field_number p f) mine.small in' (fields.heavy_here p h fr f mine wide) in
-          held_is_argument p ac st.number st.body m st.at of aliased' (this_elsewhere p forms st.number) cover.origin fr.control cover.fact reached_there owned.0
+          held_is_argument p ac st.number st.body m st.at of aliased' (this_elsewhere p forms st.number aliased') cover.origin fr.control cover.fact reached_there owned.0
       held_already false out light = absurd (true≢false (sym (or_right (is_heavy_class p cover.origin.class) (is_heavy_in p (Some f)) wide) ∙ light out))
 
-      by : (g : Fact) × Reach p st.number (relation_of p st.number) cover.origin s.to g × stores.Goes p ac forms h frs fr st covered i d s f here is o x cover g → is_origin_at cover.origin.kind (alias_position p st.number) ≡ true
+      by : (g : Fact) × Reach p st.number (relation_of p st.number) cover.origin s.to g × stores.Goes p ac forms h old frs fr st covered i d s f here is o x cover g → is_origin_at cover.origin.kind (alias_position p st.number) ≡ true
       by (g, reach, (same, taken reset called full t)) = t.alias aliased'
       by (g, reach, (same, left reset called full l)) = held_already (has cover.fact.places (place_of_field p f)) refl (l.light stored.1)
 
@@ -139,31 +139,31 @@ module _ (p : Program) (ac : Accept p) (forms : HasPlainForms p) (h : HeapConten
   of_this : alias_position p st.number ≡ Some 0 → root_of h fr.locals.this ≡ Some o
   of_this alias = cover.places places.This tt (this_stays p ac st.number st.body m st.at of cover.origin fr.control cover.fact reached_there (ap (is_origin_at cover.origin.kind) (sym alias) ∙ of_argument))
 
-module _ (p : Program) (ac : Accept p) (h : HeapContents) (frs : List Frame) (fr : Frame) (st : Stands p fr) (covered : IsCovered p h gives_none renews_none frs fr) (i : ℕ) (s : Step) (v o : ℕ) (x : Object) (m : Method) (named : method_at p fr.method ≡ Some m)
+module _ (p : Program) (ac : Accept p) (h : HeapContents) (old : ℕ → Bool) (frs : List Frame) (fr : Frame) (st : Stands p fr) (covered : IsCovered p h gives_none renews_none old frs fr) (i : ℕ) (s : Step) (v o : ℕ) (x : Object) (m : Method) (named : method_at p fr.method ≡ Some m)
     (here : slice_get (frame_steps p fr) i ≡ Some s) (makes : constructs (method_at p fr.method) ≡ true) (alias : alias_position p st.number ≡ Some (suc v)) (at : object_at h o ≡ Some x)
     (heavy : is_heavy_class p x.class ≡ true) (owes' : OwesOrHolds p h o x) where
   stored_argument : HasPlainForms p → (d : ℕ) (f : FieldId) → s.action ≡ actions.PutOwn f d → is_heavy_in p (Some f) ≡ true → root_of h (temp_value fr.locals d) ≡ Some o → root_of h (variable_value fr.locals v) ≡ Some o
   stored_argument forms d f is wide root =
-      parameter_holds p ac fr st m named v makes alias h frs o x (cover p ac forms h frs fr st covered i d s f o x here is m (in_body p ac fr st m named v makes alias) (aliased p ac fr st m named v makes alias) wide root at heavy owes')
-      (of_argument p ac forms h frs fr st covered i d s f o x here is m (in_body p ac fr st m named v makes alias) (aliased p ac fr st m named v makes alias) wide root at heavy owes')
+      parameter_holds p ac fr st m named v makes alias h old frs o x (cover p ac forms h old frs fr st covered i d s f o x here is m (in_body p ac fr st m named v makes alias) (aliased p ac fr st m named v makes alias) wide root at heavy owes')
+      (of_argument p ac forms h old frs fr st covered i d s f o x here is m (in_body p ac fr st m named v makes alias) (aliased p ac fr st m named v makes alias) wide root at heavy owes')
 
   -- ---- a normal end
 
   module _ (q : Completion) (is : s.action ≡ actions.End q) (normal : is_throw q ≡ false) (root : root_of h (variable_value fr.locals v) ≡ Some o) where
-    found : (c : Covers p h false false frs fr o x) × (has c.fact.places (places.Var v) ≡ true)
-    found = fields.covered_at p h false false frs fr (places.Var v) o x (covered (places.Var v) o x (variable_small p ac fr st m named v makes alias) root at heavy owes')
+    found : (c : Covers p h false false old frs fr o x) × (has c.fact.places (places.Var v) ≡ true)
+    found = fields.covered_at p h false false old frs fr (places.Var v) o x (covered (places.Var v) o x (variable_small p ac fr st m named v makes alias) root at heavy owes')
 
-    abbrev c : Covers p h false false frs fr o x
+    abbrev c : Covers p h false false old frs fr o x
     c = found.0
 
     way : Reach p st.number (relation_of p st.number) c.origin fr.control c.fact
-    way = reached p ac fr st m named v makes alias h frs o x c
+    way = reached p ac fr st m named v makes alias h old frs o x c
 
     own : is_origin_at c.origin.kind (Some (v + 1)) ≡ true
     own = parameters_own p ac st.number st.body m v st.at (in_body p ac fr st m named v makes alias) (spoken p ac fr st m named v makes alias) c.origin fr.control c.fact way found.1
 
     class : is_heavy_class p c.origin.class ≡ true
-    class = heavy_here p ac fr st m named v makes alias h frs o x c own
+    class = heavy_here p ac fr st m named v makes alias h old frs o x c own
 
     -- a constructor returns no value
     stays : moved_at_return p st.number c.origin (actions.End q) c.fact ≡ moves.Stays
@@ -213,7 +213,7 @@ module _ (p : Program) (ac : Accept p) (h : HeapContents) (frs : List Frame) (fr
 
     fits : set.is_subset (must_of_optional p (type_at m.sig (suc v))) (must_of_type p stands.field.vtype) ≡ true
     fits =
-        ap (λ (t : Option VType). set.is_subset (must_of_optional p t) (must_of_type p stands.field.vtype)) (type_here p ac fr st m named v makes alias h frs o x c own)
+        ap (λ (t : Option VType). set.is_subset (must_of_optional p t) (must_of_type p stands.field.vtype)) (type_here p ac fr st m named v makes alias h old frs o x c own)
         ∙ subst (λ (y : Option Field). fits_type p c.origin.class (type_of_field y) ≡ true) stands.at
         (subst (λ (g : Option FieldId). fits_in p c.origin.class g ≡ true) beside.1 (c.fields number.0 number.1 class number.2))
 
@@ -239,26 +239,26 @@ makes_some : (m : Option Method) → constructs m ≡ true → (x : Method) × (
 makes_some None none = absurd (true≢false (sym none))
 makes_some (Some x) is = (x, refl)
 
-pub argument_alone : (p : Program) → Accept p → HasPlainForms p → (h : HeapContents) (frs : List Frame) (fr : Frame) → (st : Stands p fr) → IsCovered p h gives_none renews_none frs fr → (i d : ℕ) (s : Step) (f : FieldId) (o : ℕ) (x : Object) (v : ℕ)
+pub argument_alone : (p : Program) → Accept p → HasPlainForms p → (h : HeapContents) (old : ℕ → Bool) (frs : List Frame) (fr : Frame) → (st : Stands p fr) → IsCovered p h gives_none renews_none old frs fr → (i d : ℕ) (s : Step) (f : FieldId) (o : ℕ) (x : Object) (v : ℕ)
     → slice_get (frame_steps p fr) i ≡ Some s → s.action ≡ actions.PutOwn f d → constructs (method_at p fr.method) ≡ true → alias_position p st.number ≡ Some (suc v) → is_heavy_in p (Some f) ≡ true
     → root_of h (temp_value fr.locals d) ≡ Some o → object_at h o ≡ Some x → is_heavy_class p x.class ≡ true → OwesOrHolds p h o x → root_of h (variable_value fr.locals v) ≡ Some o
-argument_alone p ac forms h frs fr st covered i d s f o x v here is makes alias wide root at heavy owes' =
+argument_alone p ac forms h old frs fr st covered i d s f o x v here is makes alias wide root at heavy owes' =
     let named = makes_some (method_at p fr.method) makes in
-    stored_argument p ac h frs fr st covered i s v o x named.0 named.1 here makes alias at heavy owes' forms d f is wide root
+    stored_argument p ac h old frs fr st covered i s v o x named.0 named.1 here makes alias at heavy owes' forms d f is wide root
 
 -- where the receiver is marked as aliased, only it is stored
-pub this_alone : (p : Program) → Accept p → HasPlainForms p → (h : HeapContents) (frs : List Frame) (fr : Frame) → (st : Stands p fr) → IsCovered p h gives_none renews_none frs fr → (i d : ℕ) (s : Step) (f : FieldId) (o : ℕ) (x : Object)
+pub this_alone : (p : Program) → Accept p → HasPlainForms p → (h : HeapContents) (old : ℕ → Bool) (frs : List Frame) (fr : Frame) → (st : Stands p fr) → IsCovered p h gives_none renews_none old frs fr → (i d : ℕ) (s : Step) (f : FieldId) (o : ℕ) (x : Object)
     → slice_get (frame_steps p fr) i ≡ Some s → s.action ≡ actions.PutOwn f d → constructs (method_at p fr.method) ≡ true → alias_position p st.number ≡ Some 0 → is_heavy_in p (Some f) ≡ true
     → root_of h (temp_value fr.locals d) ≡ Some o → object_at h o ≡ Some x → is_heavy_class p x.class ≡ true → OwesOrHolds p h o x → root_of h fr.locals.this ≡ Some o
-this_alone p ac forms h frs fr st covered i d s f o x here is makes alias wide root at heavy owes' =
+this_alone p ac forms h old frs fr st covered i d s f o x here is makes alias wide root at heavy owes' =
     let named = makes_some (method_at p fr.method) makes in
-    of_this p ac forms h frs fr st covered i d s f o x here is named.0 (ap (method_at p) st.method ∙ named.1)
+    of_this p ac forms h old frs fr st covered i d s f o x here is named.0 (ap (method_at p) st.method ∙ named.1)
     (and_from (is_constructor p st.number) (is_present (alias_position p st.number)) (ap constructs (method_here p fr st) ∙ makes) (ap is_present alias)) wide root at heavy owes' alias
 
-pub field_holds : (p : Program) → Accept p → (h : HeapContents) (frs : List Frame) (fr : Frame) → (st : Stands p fr) → IsCovered p h gives_none renews_none frs fr → (i : ℕ) (s : Step) (q : Completion) (v w o : ℕ) (x : Object) (m : Method)
+pub field_holds : (p : Program) → Accept p → (h : HeapContents) (old : ℕ → Bool) (frs : List Frame) (fr : Frame) → (st : Stands p fr) → IsCovered p h gives_none renews_none old frs fr → (i : ℕ) (s : Step) (q : Completion) (v w o : ℕ) (x : Object) (m : Method)
     → slice_get (frame_steps p fr) i ≡ Some s → s.action ≡ actions.End q → is_throw q ≡ false → method_at p fr.method ≡ Some m → constructs (method_at p fr.method) ≡ true
     → alias_position p st.number ≡ Some (suc v) → fr.locals.this ≡ values.Object w → root_of h (variable_value fr.locals v) ≡ Some o → object_at h o ≡ Some x → is_heavy_class p x.class ≡ true → OwesOrHolds p h o x
     → (f : FieldId) × (field : Field) × (field_at p f ≡ Some field) × (field.owning ≡ true) × (is_class_of field.class (method_at p fr.method) ≡ true)
     × (set.is_subset (must_of_optional p (type_at m.sig (suc v))) (must_of_type p field.vtype) ≡ true) × (root_of h (field_value p h w f) ≡ Some o)
-field_holds p ac h frs fr st covered i s q v w o x m here is normal named makes alias this root at heavy owes' =
-    kept_argument p ac h frs fr st covered i s v o x m named here makes alias at heavy owes' q is normal root w this
+field_holds p ac h old frs fr st covered i s q v w o x m here is normal named makes alias this root at heavy owes' =
+    kept_argument p ac h old frs fr st covered i s v o x m named here makes alias at heavy owes' q is normal root w this

@@ -19,7 +19,7 @@ use Rattle.program_model.specs.Validity.{IsOfKind}
 use Rattle.ledger_obligations.specs.Bodies.{alias_in, constructs, is_constructor_kind}
 use Rattle.ledger_obligations.specs.MustCallSets.{Names, fits, is_heavy_class, must_of, no_names}
 use Rattle.ledger_obligations.specs.WellFormed.{HasSmallInterests}
-use Rattle.java_control.specs.Calls.{called_method, operand_at}
+use Rattle.java_control.specs.Calls.{called_method}
 use Rattle.java_control.specs.Control.{Step}
 use Rattle.java_control.specs.PlaceNumbers.{IsSmall}
 use Rattle.java_control.specs.declared.action.Action.{Action}
@@ -66,7 +66,7 @@ use Rattle.value_laws.specs.Leading.{Leads}
 use Rattle.value_laws.proofs.HeapLaws.{numbers_are_in_range, roots_of_links-absent}
 use Rattle.value_laws.specs.LibraryCalls.{HasSmallInterest, IsAliasMadeAs, IsAliasOf, IsMadeAs}
 use Rattle.value_laws.proofs.LibraryCallLaws.{library_aliases_are_older_or_made, library_objects_are_older_or_made, receiver_is_called}
-use Rattle.value_laws.specs.PlacePlaces.{IsWay, SetsLocals, is_local}
+use Rattle.value_laws.specs.PlacePlaces.{is_local}
 use Rattle.value_laws.proofs.PlaceLaws.{single_place-same}
 use Rattle.value_laws.specs.Naming.{IsOfItsKind}
 use Rattle.value_laws.proofs.NamedReached.{names_what_is_there}
@@ -83,7 +83,10 @@ use Rattle.value_laws.proofs.Unmet.{way_of_call}
 use Rattle.value_laws.specs.Typed.{IsLibraryConstant, NamesMembers}
 use Rattle.value_laws.proofs.Moved.{IsConstantRead}
 use Rattle.value_laws.specs.FieldContents.{HaveContents, LinksLead}
-use Rattle.value_laws.specs.PlaceFacts.{AreCovered, IsCovered, IsHolder, IsTrueOf, IsUnowned, gives_none, OwesOrHolds, owned, renews_none, unowned}
+use Rattle.value_laws.specs.Types.{StoredHoldNone, is_text}
+use Rattle.value_laws.proofs.RootLaws.{one_object}
+use Rattle.covering_laws.specs.Texts.{TextsAreLight}
+use Rattle.value_laws.specs.PlaceFacts.{AreCovered, AreWaiting, IsCovered, IsOld, IsHolder, IsTrueOf, IsUnowned, OwnersBelow, gives_none, OwesOrHolds, owned, renews_none, unowned, gives_away}
 use Rattle.value_laws.specs.Ranges.{FieldsInRange, LocalsInRange}
 use Rattle.std.proofs.lemmas.Bool.{and_from}
 use Rattle.ledger_state.specs.Values.{number_of}
@@ -111,12 +114,18 @@ use Rattle.covering_laws.proofs.MadeObjects.{fresh_finished, library_carries, li
 use Rattle.covering_laws.proofs.Gifts.{all_keep_gifts}
 use Rattle.covering_laws.proofs.GivenArguments.{given_owner}
 use Rattle.covering_laws.proofs.GivenAway.{moved_given}
-use Rattle.covering_laws.proofs.NewOwners.{library_births}
 use Rattle.covering_laws.proofs.OlderHolders.{holder_there}
+use Rattle.covering_laws.proofs.ContentHolders.{contents_have_holders}
+use Rattle.covering_laws.proofs.LeftOut.{left_out_bears}
+use Rattle.covering_laws.proofs.LibraryConstants.{constant_row, constant_sets, constant_test, constant_way, no_operand}
 use Rattle.covering_laws.proofs.LibraryOwners.{library_below, library_owner, library_owners_go}
-use Rattle.covering_laws.proofs.Owners.{HoldersWere, OwnersGo, given_kept, holders_were, none_unready, owners_kept, stays_apart, KeepsFinished, held_here}
+use Rattle.value_laws.specs.Chains.{HaveEnds}
+use Rattle.value_laws.specs.HeapAnew.{is_field_owner}
+use Rattle.covering_laws.proofs.StepWays.{ends_by, library_births, library_unowned, ways_by}
+use Rattle.covering_laws.proofs.OwnerSteps.{held_is}
+use Rattle.covering_laws.proofs.Owners.{AllKeepGifts, KeepsHeld, OwnersGo, StaysApart, WaysGo, held_here, old_kept, owners_kept, stays_apart}
 use Rattle.covering_laws.proofs.TopSteps.{ComesFrom, IsKeyedFrom, IsLocalStep, IsMadeSo, StopsOwning, after_as, top_covered}
-use Rattle.covering_laws.proofs.Waiting.{but_texts, Carries, HoldsThere, KeepsRoots, KeepsUnfinished, all_keep, all_ready, all_wait, frames_ready, keeps_roots, new_root, no_other, value_root, carries_finish}
+use Rattle.covering_laws.proofs.Waiting.{but_texts, Carries, HoldsThere, KeepsRoots, KeepsUnfinished, all_keep, all_ready, all_wait, frames_ready, keeps_roots, new_root, no_other, old_as, value_root, ways_go_on}
 use Rattle.covering_laws.specs.Linking.{IsGivenAsAlias, LinkedAreAliases}
 use Rattle.value_laws.proofs.AliasConducts.{GivesAlias, gives_object, library_gives}
 use Rattle.value_laws.specs.FactGoing.{GoesAs}
@@ -148,41 +157,15 @@ given_no_object h count t z o is = cc
 argument_no_object : (h : HeapContents) (m : Option Method) (at : ℕ → Value) (o : ℕ) → alias_position m ≡ None → root_of h (argument_of m at) ≡ Some o → ⊥
 argument_no_object h m at o none is = let never : None ≡ Some o = sym (ap (λ (k : Option ℕ). root_of h (value_at at k)) none) ∙ is in cc
 
-constant_row : (a : Action) (named : MethodId) → IsConstantRead a named → IsPlainRow a
-constant_row actions.Skip named is = absurd is
-constant_row (actions.Plain q v) named is = tt
-constant_row a named is = absurd is
-
-constant_way : (a : Action) (e : Edge) (named : MethodId) → IsConstantRead a named → IsWay a e
-constant_way actions.Skip e named is = tt
-constant_way (actions.Put f d this) e named is = absurd is
-constant_way a e named is = tt
-
-constant_test : (l : Locals) (a : Action) (e : Edge) (named : MethodId) → IsConstantRead a named → IsTrueTest l a e
-constant_test l actions.Skip e named is = tt
-constant_test l (actions.Test d) e named is = absurd is
-constant_test l a e named is = tt
-
--- a read has no operand
-no_operand : (a : Action) (named : MethodId) → IsConstantRead a named → (k n : ℕ) → operand_at a k ≡ Some n → ⊥
-no_operand actions.Skip named is k n some = is
-no_operand (actions.Plain x v) named is k n some = let never : None ≡ Some n = some in cc
-no_operand a named is k n some = is
-
-constant_sets : (a : Action) (named : MethodId) → IsConstantRead a named → SetsLocals a
-constant_sets actions.Skip named is = tt
-constant_sets (actions.Plain x v) named is = tt
-constant_sets a named is = absurd is
-
 small_interest : (p : Program) → HasSmallInterests p → (named : MethodId) (n : NameId) (x : Option Method) → method_at p named ≡ x → ledger_calls.interest_in x ≡ Some n → n.0 < 128
 small_interest p small named n None at is = absurd (let never : None ≡ Some n = is in cc)
 small_interest p small named n (Some x) at is = small named x n at is
 
 -- ---- the call
 
-module _ (p : Program) (ac : Accept p) (forms : HasPlainForms p) (names : HasSmallInterests p) (h : HeapContents) (links : HasEarlierLinks h) (ranges : FieldsInRange h) (fr : Frame) (frs : List Frame) (st : Stands p fr)
+module _ (p : Program) (ac : Accept p) (forms : HasPlainForms p) (names : HasSmallInterests p) (h : HeapContents) (links : HasEarlierLinks h) (ranges : FieldsInRange h) (fr : Frame) (old : ℕ → Bool) (frs : List Frame) (st : Stands p fr)
     (mine : LocalsInRange h fr.locals) (arrays : List ArrayObject) (named runs : MethodId) (d : Conduct) (s : Step) (next : IsLibraryMove p h arrays fr.locals (frame_steps p fr) named runs d s) (count : ℕ)
-    (leads : LinksLead p h) (contents : HaveContents p (fr ∷ frs) h) where
+    (leads : LinksLead p h) (contents : HaveContents p (fr ∷ frs) h) (have : HaveEnds h) (texts : TextsAreLight p h) (stored : StoredHoldNone (is_text p h) p h) where
   -- the position of the frame
   abbrev at : ℕ
   at = length frs + 1
@@ -222,8 +205,15 @@ module _ (p : Program) (ac : Accept p) (forms : HasPlainForms p) (names : HasSma
   pub carries : Carries h K
   carries = library_carries p l s.action (without_reset m) ran at h no_reset links d
 
-  library_finishes : KeepsFinished h K
-  library_finishes = carries_finish h K (library_grows p l s.action (without_reset m) ran d at h).count carries
+  -- the ways up go on
+  pub library_ways : WaysGo p None (fr ∷ frs) at h K
+  library_ways = ways_by p None (fr ∷ frs) at h K have (contents_have_holders p ac (fr ∷ frs) h contents) (library_unowned p l s.action (without_reset m) ran d at h have.unfinished) (library_grows p l s.action (without_reset m) ran d at h).count carries (library_births p l s.action (without_reset m) ran d at h no_reset) no_other
+      (library_unfinished p l s.action (without_reset m) ran at h no_reset links d) (λ o never. absurd never) (λ w never. absurd (let no : None ≡ Some w = never in cc))
+
+  -- and end
+  pub library_ends : HaveEnds K
+  library_ends = ends_by at h K have (library_grows p l s.action (without_reset m) ran d at h).count (library_births p l s.action (without_reset m) ran d at h no_reset) (library_unowned p l s.action (without_reset m) ran d at h have.unfinished)
+      (λ o x y before now done. elim (library_owner p l s.action (without_reset m) ran d at h no_reset o x y before now) [ inl same ↦ inl same | inr gave ↦ inr (ap is_field_owner gave.0) ])
 
   pub inside : HoldsThere p h fr
   inside = holds_there p h ranges fr mine
@@ -288,18 +278,17 @@ module _ (p : Program) (ac : Accept p) (forms : HasPlainForms p) (names : HasSma
   next_holds_nothing (c, y, now, done, heavy, held) = elim (library_births p l s.action (without_reset m) ran d at h no_reset c y now done) [
     | inl old ↦ elim (library_owner p l s.action (without_reset m) ran d at h no_reset c old.0 y old.1 now) [
       | inl same ↦ (
-          let z = holder_there p (fr ∷ frs) h contents (next_number h) (c, old.0, old.1, old.2, ap (is_heavy_class p) (sym old.3) ∙ heavy, ap (λ (a : Owner). is_held_by a (next_number h)) (sym same) ∙ held) in
+          let inside' = numbers_are_in_range h c old.0 old.1 in
+          let was = carries c y now inside'.1 in
+          let class : y.class ≡ old.0.class = was.2 ∙ ap (λ (u : Object). u.class) (one_object was.0 old.0 (object_at h c) was.1 old.1) in
+          let z = holder_there p (fr ∷ frs) h contents (next_number h) (c, old.0, old.1, old.2, ap (is_heavy_class p) (sym class) ∙ heavy, ap (λ (a : Owner). is_held_by a (next_number h)) (sym same) ∙ held) in
           let range = numbers_are_in_range h (next_number h) z.0 z.1 in
           let below = range.1 in
           omega (arith, below))
       | inr gave ↦ true≢false (sym held ∙ ap (λ (a : Owner). is_held_by a (next_number h)) gave.0)
     ]
-    | inr free ↦ true≢false (sym held ∙ free (next_number h))
+    | inr free ↦ true≢false (sym (held_is y.owner (next_number h) held) ∙ free.0)
   ]
-
-  -- what fields own
-  pub holders_by : OwnersGo p None (fr ∷ frs) at h K → HoldersWere p h K
-  holders_by goes = holders_were p None (fr ∷ frs) at h K goes (library_births p l s.action (without_reset m) ran d at h no_reset) (none_unready h)
 
   -- the object that is given: it is made by the call, or was there
   module _ (o : ℕ) (y : Object) (root' : root_of K v ≡ Some o) (now : object_at K o ≡ Some y) (heavy : is_heavy_class p y.class ≡ true) (owes : OwesOrHolds p K o y) where
@@ -422,18 +411,18 @@ module _ (p : Program) (ac : Accept p) (forms : HasPlainForms p) (names : HasSma
     comes q o small local' there edge k some is = from_operand p h fr st s local q o small local' there edge k (ap alias_in same_callee ∙ sym (same_alias m) ∙ sym (one_alias p named runs next.answers) ∙ some) is
 
     abbrev IsMadeHere : Place → ℕ → Object → Type 0
-    IsMadeHere q o y = IsMadeSo p ac h K links carries (but_texts p h K (library_keeps p l s.action (without_reset m) ran at h no_reset links d)) fr st next.index s next.here local inside (keeps_roots p h K roots fr inside) v frs gives_none renews_none
+    IsMadeHere q o y = IsMadeSo p ac h K links carries (but_texts p h K (library_keeps p l s.action (without_reset m) ran at h no_reset links d)) fr st next.index s next.here local inside (keeps_roots p h K roots fr inside) v old frs gives_none (λ o. false)
         (IsGivenOr p ac h K links carries (but_texts p h K (library_keeps p l s.action (without_reset m) ran at h no_reset links d)) fr st next.index s next.here local inside (keeps_roots p h K roots fr inside) v row) q o y
 
     -- what the call makes no fact of the frame owned
-    stops : (o : ℕ) (More : Origin → Fact → Fact → Type 0) → next_number h ≡ o → StopsOwning p h fr frs gives_none renews_none More o
+    stops : (o : ℕ) (More : Origin → Fact → Fact → Type 0) → next_number h ≡ o → StopsOwning p h fr old frs gives_none (λ o. false) More o
     stops o More number x before = absurd (let range = numbers_are_in_range h o x before in let below = range.1 in omega (arith, below, number))
 
     -- what the call gives is covered by its birth, or comes from the operand of which it is an alias
     made : (q : Place) (o : ℕ) (y : Object) → IsSmall q → is_local q ≡ true → is_made (made_place s.action) q ≡ true → place_value p K fr.method after.locals q ≡ v → root_of K v ≡ Some o → object_at K o ≡ Some y
         → is_heavy_class p y.class ≡ true → OwesOrHolds p K o y → IsMadeHere q o y
     made q o y small local' there is root' now heavy owes = given o y root' now heavy owes (IsMadeHere q o y)
-        (λ e same number none edge as' done. fresh e same number none edge as' done) (λ k same edge gives. old k same edge gives) (λ edge operand. inr (inr (comes q o small local' there edge operand.0 operand.1 operand.2)))
+        (λ e same number none edge as' done. fresh e same number none edge as' done) (λ k same edge gives. existing k same edge gives) (λ edge operand. inr (inr (comes q o small local' there edge operand.0 operand.1 operand.2)))
       where
         rooted : root_of K (place_value p K fr.method after.locals q) ≡ Some o
         rooted = ap (root_of K) is ∙ root'
@@ -446,19 +435,19 @@ module _ (p : Program) (ac : Accept p) (forms : HasPlainForms p) (names : HasSma
 
         -- at the place of the result
         at_temp : (d' : ℕ) (A : Type 0) → made_place s.action ≡ Some (places.Temp d')
-            → (IsSmall (places.Temp d') → root_of K (place_value p K fr.method after.locals (places.Temp d')) ≡ Some o → IsBornSo p K false frs after (places.Temp d') o y A) → IsBornSo p K false frs after q o y A
+            → (IsSmall (places.Temp d') → root_of K (place_value p K fr.method after.locals (places.Temp d')) ≡ Some o → IsBornSo p K false old frs after (places.Temp d') o y A) → IsBornSo p K false old frs after q o y A
         at_temp d' A same covers =
             let here = place d' same in
-            subst (λ (z : Place). IsBornSo p K false frs after z o y A) here (covers (subst IsSmall (sym here) small) (subst (λ (z : Place). root_of K (place_value p K fr.method after.locals z) ≡ Some o) (sym here) rooted))
+            subst (λ (z : Place). IsBornSo p K false old frs after z o y A) here (covers (subst IsSmall (sym here) small) (subst (λ (z : Place). root_of K (place_value p K fr.method after.locals z) ≡ Some o) (sym here) rooted))
 
         alias : alias_position ran ≡ None → (x : Method) → m ≡ Some x → x.sig.alias ≡ None
         alias none x named_at = ap alias_position (sym named_at) ∙ sym (one_alias p named runs next.answers) ∙ none
 
         result : (k : MethodId) (d' c : ℕ) (f : TargetForm) (x : Method) (r : ClassId) → s.action ≡ actions.Call k d' c f → k ≡ named → s.edge ≡ edges.Go → m ≡ Some x → x.sig.result ≡ Some (types.Obj r) → x.sig.alias ≡ None
             → (x.sig.owning_result ≡ true → IsTrueOf p y (origin_of p kinds.Result s.pos r x.sig.first) (fact_at (places.Temp d') modes.Own no_names false))
-            → IsBornSo p K false frs after q o y ((x.sig.owning_result ≡ true) × (is_heavy_class p r ≡ true))
+            → IsBornSo p K false old frs after q o y ((x.sig.owning_result ≡ true) × (is_heavy_class p r ≡ true))
         result k d' c f x r same it edge named_at result' none truth =
-            at_temp d' ((x.sig.owning_result ≡ true) × (is_heavy_class p r ≡ true)) (ap made_place same) (λ small' root''. result_covers p h K fr st next.index s next.here v frs false d' o y small' root'' k x edge (ap (method_at p) it ∙ named_at) none c f r same result'
+            at_temp d' ((x.sig.owning_result ≡ true) × (is_heavy_class p r ≡ true)) (ap made_place same) (λ small' root''. result_covers p h K fr st next.index s next.here v old frs false d' o y small' root'' k x edge (ap (method_at p) it ∙ named_at) none c f r same result'
             (λ owning heavy'. truth owning))
 
         fresh : (e : ClassId) → d ≡ conducts.Fresh e → next_number h ≡ o → alias_position ran ≡ None → s.edge ≡ edges.Go → IsMadeAs p s.action ran at (conducts.Fresh e) y → y.finished ≡ true → IsMadeHere q o y
@@ -477,7 +466,7 @@ module _ (p : Program) (ac : Accept p) (forms : HasPlainForms p) (names : HasSma
             no_method : ran ≡ None → ⊥
             no_method none' = subst (λ (z : Option Method). FitsMethod p z (conducts.Fresh e)) none' fit
 
-            born : (A : Type 0) → (A → y.owner ≡ owners.Frame at) → IsBornSo p K false frs after q o y A → IsMadeHere q o y
+            born : (A : Type 0) → (A → y.owner ≡ owners.Frame at) → IsBornSo p K false old frs after q o y A → IsMadeHere q o y
             born A owner (inl (c, has', it)) = inl (c, has', owner it, stops o _ number)
             born A owner (inr u) = inr (inl u)
 
@@ -531,7 +520,7 @@ module _ (p : Program) (ac : Accept p) (forms : HasPlainForms p) (names : HasSma
                     let class : x.class ≡ e = by_kind x ran_at true (ap (λ (z : MethodId). constructs (method_at p z)) one ∙ new) in
                     born (Unit {0}) (λ unit. as'.2 ∙ ap (λ (a : Action). result_owner a ran at) is')
                     (at_temp d' (Unit {0}) (ap made_place is') (λ small' root''.
-                    let z = new_covers p h K fr st next.index s next.here v frs false d' o y small' root'' k x edge (ap (method_at p) it ∙ named_at) (alias none x named_at) c is'
+                    let z = new_covers p h K fr st next.index s next.here v old frs false d' o y small' root'' k x edge (ap (method_at p) it ∙ named_at) (alias none x named_at) c is'
                     (ap (is_heavy_class p) class ∙ ap (is_heavy_class p) (sym as'.0) ∙ heavy)
                     (true_of_made p kinds.New s.pos x.class e x.sig.first (places.Temp d') y done as'.0 (must x ran_at) (subst (λ (z : ClassId). fits p e z ≡ true) (sym class) (within_self (must_of p e)))) in
                     inl (z.0, z.1, tt)))
@@ -543,8 +532,8 @@ module _ (p : Program) (ac : Accept p) (forms : HasPlainForms p) (names : HasSma
             go (actions.Super k d' c) is' = absurd (true≢false (sym (ap is_super is') ∙ next.other e same))
             go a is' = absurd (subst IsCallRow is' row)
 
-        old : (k : ℕ) → d ≡ conducts.Existing k → s.edge ≡ edges.Go → GivesUnowned ran → IsMadeHere q o y
-        old k same edge gives = go s.action refl
+        existing : (k : ℕ) → d ≡ conducts.Existing k → s.edge ≡ edges.Go → GivesUnowned ran → IsMadeHere q o y
+        existing k same edge gives = go s.action refl
           where
             no_new : (j : MethodId) → j ≡ named → constructs (method_at p j) ≡ true → ⊥
             no_new j it new =
@@ -560,7 +549,7 @@ module _ (p : Program) (ac : Accept p) (forms : HasPlainForms p) (names : HasSma
             free j d' c f is' x r named_at gives' plain unowned' =
                 by (result j d' c f x r is' (named_is j (actions.Call j d' c f) is' refl) edge named_at gives' plain (λ owning. absurd (true≢false (sym owning ∙ unowned'))))
               where
-                by : IsBornSo p K false frs after q o y ((x.sig.owning_result ≡ true) × (is_heavy_class p r ≡ true)) → IsMadeHere q o y
+                by : IsBornSo p K false old frs after q o y ((x.sig.owning_result ≡ true) × (is_heavy_class p r ≡ true)) → IsMadeHere q o y
                 by (inl (c', has', own)) = absurd (true≢false (sym own.0 ∙ unowned'))
                 by (inr u) = inr (inl u)
 
@@ -586,33 +575,44 @@ module _ (p : Program) (ac : Accept p) (forms : HasPlainForms p) (names : HasSma
             go a is' = absurd (subst IsCallRow is' row)
 
     -- the frame owned what it gave to the library
-    pub call_goes : IsCovered p h gives_none renews_none frs fr → OwnersGo p None (fr ∷ frs) at h K
-    call_goes covered = library_owners_go p l s.action (without_reset m) ran d at h no_reset None (fr ∷ frs) at (λ o x before heavy owes g. given_owner p ac h fr st frs next.index s next.here row covered m same_callee o x before heavy owes (given_so o x g))
+    pub call_goes : IsCovered p h gives_none renews_none old frs fr → OwnersGo p None (fr ∷ frs) at h K
+    call_goes covered = library_owners_go p l s.action (without_reset m) ran d at h no_reset None (fr ∷ frs) at (λ o x before heavy owes g. given_owner p ac h fr st old frs next.index s next.here row covered m same_callee o x before heavy owes (given_so o x g))
+
+    -- what is not given away the frame goes on owning
+    pub call_owner : (o : ℕ) (x y : Object) → object_at h o ≡ Some x → object_at K o ≡ Some y → x.finished ≡ true → is_heavy_class p x.class ≡ true → gives_away p h l s.action o x.class ≡ false → x.owner ≡ owners.Frame at → y.owner ≡ owners.Frame at
+    call_owner o x y before now done heavy spared mine = elim (library_owner p l s.action (without_reset m) ran d at h no_reset o x y before now) [
+      | inl same ↦ same ∙ mine
+      | inr gave ↦ absurd (true≢false (sym (moved_given p h l s.action m o x same_callee (given_so o x gave.1)) ∙ spared))
+    ]
+
+    pub call_apart : IsCovered p h gives_none renews_none old frs fr → LocalsIn h frs → StaysApart p h K frs fr
+    call_apart covered others = stays_apart p None (fr ∷ frs) at h K library_ways (call_goes covered) frs fr (omega arith) (all_keep_gifts p h K roots frs others) tt (λ w none. none.1) (λ w is this. absurd (let never : None ≡ Some w = is in cc))
+
+    pub call_lasting : IsCovered p h gives_none renews_none old frs fr → LocalsIn h frs → KeepsHeld p h K fr
+    call_lasting covered others = held_here p None (fr ∷ frs) at h K library_ways (call_goes covered) frs fr (omega arith) (all_keep_gifts p h K roots frs others) (λ w none. none.0)
 
     -- each place after the call is in a fact that comes from one before it, or was born
-    pub call_top_from : IsCovered p h gives_none renews_none frs fr → LocalsIn h frs → (q : Place) (o : ℕ) (y : Object) → IsSmall q → root_of K (place_value p K after.method after.locals q) ≡ Some o → object_at K o ≡ Some y
+    pub call_top_from : IsCovered p h gives_none renews_none old frs fr → LocalsIn h frs → (q : Place) (o : ℕ) (y : Object) → IsSmall q → root_of K (place_value p K after.method after.locals q) ≡ Some o → object_at K o ≡ Some y
         → is_heavy_class p y.class ≡ true → OwesOrHolds p K o y
-        → IsKeyedFrom p ac h K links carries (but_texts p h K (library_keeps p l s.action (without_reset m) ran at h no_reset links d)) fr st next.index s next.here local inside (keeps_roots p h K roots fr inside) v frs gives_none renews_none
+        → IsKeyedFrom p ac h K links carries (but_texts p h K (library_keeps p l s.action (without_reset m) ran at h no_reset links d)) fr st next.index s next.here local inside (keeps_roots p h K roots fr inside) v old frs gives_none (λ o. false)
         (IsGivenOr p ac h K links carries (but_texts p h K (library_keeps p l s.action (without_reset m) ran at h no_reset links d)) fr st next.index s next.here local inside (keeps_roots p h K roots fr inside) v row) q o y
     call_top_from covered others =
-        call_from p ac h K links carries (but_texts p h K (library_keeps p l s.action (without_reset m) ran at h no_reset links d)) fr st next.index s next.here local inside (keeps_roots p h K roots fr inside) v row frs gives_none renews_none
+        call_from p ac h K links carries (but_texts p h K (library_keeps p l s.action (without_reset m) ran at h no_reset links d)) fr st next.index s next.here local inside (keeps_roots p h K roots fr inside) v row old frs gives_none (λ o. false)
         (λ o c never. absurd (true≢false (sym never))) covered
-        (all_ready p h K (library_unfinished p l s.action (without_reset m) ran at h no_reset links d) fr) (given_kept p h K frs (all_keep_gifts p h K roots frs others))
-        (stays_apart p None (fr ∷ frs) at h K library_finishes (call_goes covered) (holders_by (call_goes covered)) frs fr (omega arith) (λ w is this. absurd (let never : None ≡ Some w = is in cc)) (λ w none. none.1))
-        (held_here p None (fr ∷ frs) at h K library_finishes (call_goes covered) (holders_by (call_goes covered)) frs fr (omega arith) (λ w none. none.0))
-        (λ o x y before now done heavy spared mine. elim (library_owner p l s.action (without_reset m) ran d at h no_reset o x y before now) [
-          | inl same ↦ same ∙ mine
-          | inr gave ↦ absurd (true≢false (sym (moved_given p h l s.action m o x same_callee (given_so o x gave.1)) ∙ spared))
-        ])
-        (λ o x y n before now root' other interest spared old done goes heavy owes. noted o x y n before now root' other interest done goes heavy owes)
-        (λ o x y c before now g more trusted spared old done goes some owes names less was. kept_further p st.number s.action c.fact.places y.called names (promises_at p s.action s.edge) less
-        (library_keeps_promises p ac h links fr st arrays named runs d s next at frs called local.small interests leads mine o x y c before now some owes))
+        (all_ready p h K (library_unfinished p l s.action (without_reset m) ran at h no_reset links d) fr)
+        (call_apart covered others) (call_lasting covered others)
+        call_owner
+        (λ o x y c n before now root' other interest sure stays done goes heavy owes. noted o x y n before now root' other interest done goes heavy owes)
+        (λ o x y c before now g more trusted sure stays done goes some owes names less was. kept_further p st.number s.action c.fact.places y.called names (promises_at p s.action s.edge) less
+        (library_keeps_promises p ac h links fr st arrays named runs d s next at old frs called local.small interests leads mine o x y c before now some owes))
         (λ o x c before some owes gives.
         library_alias p ac h links arrays l s.action s.edge c.fact.places named runs (without_reset m) d at count o local.small form same_callee next.answers operands_there next.by (λ e is. let way = next.thrown e is in (way.0, way.2))
         (λ k below held. operand_holds p h fr.method l s.action o k c.fact.places local.small below c.places held) gives)
+        (left_out_bears p ac forms h K texts stored links carries (but_texts p h K (library_keeps p l s.action (without_reset m) ran at h no_reset links d)) fr st next.index s next.here local inside (keeps_roots p h K roots fr inside) v old frs gives_none (λ o. false) covered (all_ready p h K (library_unfinished p l s.action (without_reset m) ran at h no_reset links d) fr)
+        (call_apart covered others) (call_lasting covered others))
         (λ q o y small local' none' there is root' now heavy owes. made q o y small local' there is root' now heavy owes)
 
-    pub call_top : IsCovered p h gives_none renews_none frs fr → LocalsIn h frs → IsCovered p K gives_none renews_none frs after
+    pub call_top : IsCovered p h gives_none renews_none old frs fr → LocalsIn h frs → IsCovered p K gives_none renews_none old frs after
     call_top covered others q o y small held now heavy owes = elim (call_top_from covered others q o y small held now heavy owes) [
       | inl key ↦ owned key.0 key.1 key.2
       | inr free ↦ unowned free
@@ -631,14 +631,14 @@ module _ (p : Program) (ac : Accept p) (forms : HasPlainForms p) (names : HasSma
     test = constant_test l s.action s.edge named read
 
     constant_made : (q : Place) (o : ℕ) (y : Object) → IsSmall q → is_local q ≡ true → is_made (made_place s.action) q ≡ true → place_value p K fr.method after.locals q ≡ v → root_of K v ≡ Some o
-        → object_at K o ≡ Some y → is_heavy_class p y.class ≡ true → OwesOrHolds p K o y → IsUnowned p K false false frs after q o y
+        → object_at K o ≡ Some y → is_heavy_class p y.class ≡ true → OwesOrHolds p K o y → IsUnowned p K false false old frs after q o y
     constant_made q o y small local' there is root' now heavy owes = go s.action refl read
       where
         by_class : (x : Place) (k : MethodId) (z : Method) (r : ClassId) → s.action ≡ actions.Plain x (plain_values.LibraryConstant k) → k ≡ named → s.edge ≡ edges.Go → m ≡ Some z → z.sig.result ≡ Some (types.Obj r)
-            → IsUnowned p K false false frs after q o y
+            → IsUnowned p K false false old frs after q o y
         by_class x k z r is' it edge named_at result =
-            born_unowned p K false frs after q o y (origin_of p kinds.Read s.pos r None) (fact_at q modes.None no_names true)
-            (born_covers p K fr st next.index s next.here after frs false q o y (origin_of p kinds.Read s.pos r None) modes.None true refl refl small local'
+            born_unowned p K false old frs after q o y (origin_of p kinds.Read s.pos r None) (fact_at q modes.None no_names true)
+            (born_covers p K fr st next.index s next.here after old frs false q o y (origin_of p kinds.Read s.pos r None) modes.None true refl refl small local'
             (ap (λ (a : Action). birth_on p a s.edge s.pos) is' ∙ ap (λ (e : Edge). birth_on p (actions.Plain x (plain_values.LibraryConstant k)) e s.pos) edge
             ∙ ap (λ (u : Option Method). read_birth p x s.pos (returns.result_in u)) (ap (method_at p) it ∙ named_at) ∙ ap (read_birth p x s.pos) result
             ∙ ap (λ (u : Place). Some (origin_of p kinds.Read s.pos r None, fact_at u modes.None no_names true)) (single_place-same x q (ap (λ (a : Action). is_made (made_place a) q) (sym is') ∙ there)))
@@ -655,13 +655,13 @@ module _ (p : Program) (ac : Accept p) (forms : HasPlainForms p) (names : HasSma
         fresh_class z e named_at kind' same = subst (λ (b : Bool). MatchBool b (z.class ≡ e) ((r : ClassId) × (z.sig.result ≡ Some (types.Obj r)) × (fits p e r ≡ true))) (ap is_constructor_kind kind')
             (subst (λ (u : Option Method). FitsMethod p u (conducts.Fresh e)) named_at (subst (FitsMethod p ran) same next.fits))
 
-        by_constant : (x : Place) (k : MethodId) → s.action ≡ actions.Plain x (plain_values.LibraryConstant k) → k ≡ named → IsLibraryConstant p k → IsUnowned p K false false frs after q o y
-        by_constant x k is' it of = given o y root' now heavy owes (IsUnowned p K false false frs after q o y)
+        by_constant : (x : Place) (k : MethodId) → s.action ≡ actions.Plain x (plain_values.LibraryConstant k) → k ≡ named → IsLibraryConstant p k → IsUnowned p K false false old frs after q o y
+        by_constant x k is' it of = given o y root' now heavy owes (IsUnowned p K false false old frs after q o y)
             (λ e same number none edge as' done. (let r = fresh_class of.0 e (ap (method_at p) (itself k it of ∙ sym it) ∙ of.1) of.2 same in by_class x k of.0 r.0 is' it edge (ap (method_at p) (sym it) ∙ of.1) r.1))
             (λ j same edge gives. by_class x k gives.method gives.class is' it edge (ap (method_at p) (sym (itself k it of)) ∙ gives.is) gives.result)
             (λ edge operand. absurd (let t = operand_temp l s.action operand.0 h o operand.2 in no_operand s.action named read operand.0 t.0 t.1))
 
-        go : (a : Action) → s.action ≡ a → IsConstantRead a named → IsUnowned p K false false frs after q o y
+        go : (a : Action) → s.action ≡ a → IsConstantRead a named → IsUnowned p K false false old frs after q o y
         go actions.Skip is' read' = absurd read'
         go (actions.Plain x (plain_values.LibraryConstant k)) is' read' = by_constant x k is' read' (constant x k is')
         go (actions.Plain x (plain_values.Literal z)) is' read' = absurd read'
@@ -678,21 +678,28 @@ module _ (p : Program) (ac : Accept p) (forms : HasPlainForms p) (names : HasSma
     read_goes : OwnersGo p None (fr ∷ frs) at h K
     read_goes = library_owners_go p l s.action (without_reset m) ran d at h no_reset None (fr ∷ frs) at (λ n x before heavy owes g. absurd (nothing_given n x (given_so n x g)))
 
-    read_top : IsCovered p h gives_none renews_none frs fr → LocalsIn h frs → IsCovered p K gives_none renews_none frs after
+    read_apart : LocalsIn h frs → StaysApart p h K frs fr
+    read_apart others = stays_apart p None (fr ∷ frs) at h K library_ways read_goes frs fr (omega arith) (all_keep_gifts p h K roots frs others) tt (λ w none. none.1) (λ w is this. absurd (let never : None ≡ Some w = is in cc))
+
+    read_lasting : LocalsIn h frs → KeepsHeld p h K fr
+    read_lasting others = held_here p None (fr ∷ frs) at h K library_ways read_goes frs fr (omega arith) (all_keep_gifts p h K roots frs others) (λ w none. none.0)
+
+    read_top : IsCovered p h gives_none renews_none old frs fr → LocalsIn h frs → IsCovered p K gives_none renews_none old frs after
     read_top covered others =
-        top_covered p ac h K links carries (but_texts p h K (library_keeps p l s.action (without_reset m) ran at h no_reset links d)) fr st next.index s next.here local_read inside (keeps_roots p h K roots fr inside) v frs gives_none renews_none covered
-        (all_ready p h K (library_unfinished p l s.action (without_reset m) ran at h no_reset links d) fr) (given_kept p h K frs (all_keep_gifts p h K roots frs others))
-        (stays_apart p None (fr ∷ frs) at h K library_finishes read_goes (holders_by read_goes) frs fr (omega arith) (λ w is this. absurd (let never : None ≡ Some w = is in cc)) (λ w none. none.1))
-        (held_here p None (fr ∷ frs) at h K library_finishes read_goes (holders_by read_goes) frs fr (omega arith) (λ w none. none.0))
+        top_covered p ac h K links carries (but_texts p h K (library_keeps p l s.action (without_reset m) ran at h no_reset links d)) fr st next.index s next.here local_read inside (keeps_roots p h K roots fr inside) v old frs gives_none (λ o. false) covered
+        (all_ready p h K (library_unfinished p l s.action (without_reset m) ran at h no_reset links d) fr)
+        (read_apart others) (read_lasting others)
         (λ o f g. Unit {0})
         (λ o x c q is. after_as (GoesAs c.fact (places_after p st.number s.action s.edge c.fact.places) (called_after p st.number s.action s.edge c.fact))
         (λ (g : Fact). GoesAs c.fact (places_after p st.number s.action s.edge c.fact.places) (called_after p st.number s.action s.edge c.fact) g × Unit {0})
         (flow p st.number c.origin s.action s.edge c.fact) (λ g goes. (goes, tt))
         (other_steps p st.number c.origin s.action s.edge c.fact q plain_row (not_null p h fr o c.fact s.action s.edge local_read.small c.places test) is))
-        (λ o x y c before now g more trusted spared old done goes some owes names less was.
+        (λ o x y c before now g more trusted sure stays done goes some owes names less was.
         ap (λ (t : Names). set.is_subset t names) (same_names p st.number s.action s.edge c.fact plain_row (not_null p h fr o c.fact s.action s.edge local_read.small c.places test)) ∙ was)
         (λ o x c before some owes gives. absurd (true≢false (sym gives ∙ row_gives_none p s.action s.edge c.fact.places plain_row)))
         (λ o x y c key before now heavy owes g more own. (refl, (λ done mine. same_owner o x y before now ∙ mine)))
+        (left_out_bears p ac forms h K texts stored links carries (but_texts p h K (library_keeps p l s.action (without_reset m) ran at h no_reset links d)) fr st next.index s next.here local_read inside (keeps_roots p h K roots fr inside) v old frs gives_none (λ o. false) covered (all_ready p h K (library_unfinished p l s.action (without_reset m) ran at h no_reset links d) fr)
+        (read_apart others) (read_lasting others))
         (λ q o y small local' none' there is root' now heavy owes. inr (inl (constant_made q o y small local' there is root' now heavy owes)))
 
   -- ---- all frames
@@ -759,17 +766,29 @@ module _ (p : Program) (ac : Accept p) (forms : HasPlainForms p) (names : HasSma
   pub library_after_unfinished : KeepsUnfinished h K no_other
   library_after_unfinished = library_unfinished p l s.action (without_reset m) ran at h no_reset links d
 
-  all_goes : (called_method s.action ≡ Some named) ⊎ IsConstantRead s.action named → IsCovered p h gives_none renews_none frs fr → OwnersGo p None (fr ∷ frs) at h K
-  all_goes row covered = elim row [ inl called ↦ call_goes called (row_of s.action called) covered | inr read ↦ read_goes read ]
+  -- the owners go on, as it does
+  pub goes_by : (called_method s.action ≡ Some named) ⊎ IsConstantRead s.action named → IsCovered p h gives_none renews_none old frs fr → OwnersGo p None (fr ∷ frs) at h K
+  goes_by row covered = elim row [ inl called ↦ call_goes called (row_of s.action called) covered | inr read ↦ read_goes read ]
 
-  pub library_covered : (called_method s.action ≡ Some named) ⊎ IsConstantRead s.action named → LocalsIn h (fr ∷ frs) → AreCovered p h (fr ∷ frs) → AreCovered p K (after ∷ frs)
-  library_covered row in' covered = (
-    elim row [ inl called ↦ call_top called (row_of s.action called) covered.0 others | inr read ↦ read_top read covered.0 others ],
-    all_wait p h K links roots carries frs (all_keep p h K (library_keeps p l s.action (without_reset m) ran at h no_reset links d) frs)
-        (all_there p h ranges frs others) (frames_ready p h K (library_unfinished p l s.action (without_reset m) ran at h no_reset links d) frs) (all_keep_gifts p h K roots frs others)
-        (owners_kept p None (fr ∷ frs) at h K library_finishes (all_goes row covered.0) (holders_by (all_goes row covered.0)) frs (omega arith) tt (λ w none. none.1)) covered.1,
-    library_below p l s.action (without_reset m) ran d at h no_reset covered.2,
+  pub library_kept : (called_method s.action ≡ Some named) ⊎ IsConstantRead s.action named → LocalsIn h (fr ∷ frs) → IsOld p h frs fr old → IsCovered p h gives_none renews_none old frs fr → AreWaiting p h old frs
+      → OwnersBelow h (length frs + 1) → IsOld p K frs after old × IsCovered p K gives_none renews_none old frs after × AreWaiting p K old frs × OwnersBelow K (length frs + 1)
+  library_kept row in' is covered waits below = (
+    old_as p K old frs fr after refl refl
+        (old_kept p h K old frs fr (stays_apart p None (fr ∷ frs) at h K library_ways (goes_by row covered) frs fr (omega arith) gifts tt (λ w none. none.1) (λ w is' this. absurd (let never : None ≡ Some w = is' in cc)))
+        (ways_go_on p None (fr ∷ frs) at h K library_ways) is),
+    elim row [ inl called ↦ call_top called (row_of s.action called) covered others | inr read ↦ read_top read covered others ],
+    all_wait p h K links roots carries (ways_go_on p None (fr ∷ frs) at h K library_ways) old frs (all_keep p h K (library_keeps p l s.action (without_reset m) ran at h no_reset links d) frs)
+        (all_there p h ranges frs others) (frames_ready p h K (library_unfinished p l s.action (without_reset m) ran at h no_reset links d) frs) gifts
+        (owners_kept p None (fr ∷ frs) at h K library_ways (goes_by row covered) frs (omega arith) gifts tt (λ w none. none.1)) waits,
+    library_below p l s.action (without_reset m) ran d at h no_reset below,
   )
     where
       others : LocalsIn h frs
       others = All-tail (λ (x : Frame). LocalsInRange h x.locals) fr frs in'
+
+      gifts : AllKeepGifts p h K frs
+      gifts = all_keep_gifts p h K roots frs others
+
+  pub library_covered : (called_method s.action ≡ Some named) ⊎ IsConstantRead s.action named → LocalsIn h (fr ∷ frs) → IsOld p h frs fr old → IsCovered p h gives_none renews_none old frs fr → AreWaiting p h old frs
+      → OwnersBelow h (length frs + 1) → AreCovered p K (after ∷ frs)
+  library_covered row in' is covered waits below = let kept = library_kept row in' is covered waits below in (old, kept.0, kept.1, kept.2, kept.3)

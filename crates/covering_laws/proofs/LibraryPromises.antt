@@ -104,7 +104,7 @@ at_position (promised.OfField f) v is = absurd (true≢false (sym is))
 -- ---- a call of the library
 
 module _ (p : Program) (ac : Accept p) (h : HeapContents) (links : HasEarlierLinks h) (fr : Frame) (st : Stands p fr) (arrays : List ArrayObject) (named runs : MethodId) (d : Conduct) (s : Step)
-    (next : IsLibraryMove p h arrays fr.locals (frame_steps p fr) named runs d s) (at : ℕ) (frs : List Frame) (called : called_method s.action ≡ Some named)
+    (next : IsLibraryMove p h arrays fr.locals (frame_steps p fr) named runs d s) (at : ℕ) (old : ℕ → Bool) (frs : List Frame) (called : called_method s.action ≡ Some named)
     (small : IsSmallAction p s.action) (interests : HasSmallInterest (method_at p named)) (leads : LinksLead p h) (inside : LocalsInRange h fr.locals) where
   abbrev m : Option Method
   m = method_at p named
@@ -144,20 +144,20 @@ module _ (p : Program) (ac : Accept p) (h : HeapContents) (links : HasEarlierLin
         let same_method : mine.method ≡ run.0 = (let both : Some mine.method ≡ Some run.0 = sym mine.named ∙ run.1 in (let one : mine.method ≡ run.0 = cc in one)) in
         true≢false (sym in_library ∙ ap (is_library p) (sym own.class ∙ sym (ap (λ (x : Field). x.class) same_field) ∙ mine.class ∙ ap (λ (x : Method). x.class) same_method) ∙ run.2)
 
-    name_called : (o : ℕ) (x y : Object) (c : Covers p h false false frs fr o x) → object_at h o ≡ Some x → object_at K o ≡ Some y → is_heavy_class p x.class ≡ true → OwesOrHolds p h o x → (k : ℕ) → q.target ≡ promised.At k
+    name_called : (o : ℕ) (x y : Object) (c : Covers p h false false old frs fr o x) → object_at h o ≡ Some x → object_at K o ≡ Some y → is_heavy_class p x.class ≡ true → OwesOrHolds p h o x → (k : ℕ) → q.target ≡ promised.At k
         → holds_operand s.action c.fact.places k ≡ true → (n : ℕ) → set.contains q.names n ≡ true → set.contains y.called n ≡ true
     name_called o x y c before now heavy owes k target holds n has =
         let rooted = operand_holds p h fr.method l s.action o k c.fact.places small (operand_has_position p s.action c.fact.places k small holds) c.places holds in
         promised_names_are_called-position p l s.action (without_reset m) ran d at h j q k n o x y links (plain_interest m interests) (says_nothing m) there target has (promised_name_is_small p ac runs its.0 q n its.1 its.2 has) rooted before (way k o x rooted before heavy owes) now
 
-    one_kept : (o : ℕ) (x y : Object) (c : Covers p h false false frs fr o x) → object_at h o ≡ Some x → object_at K o ≡ Some y → is_heavy_class p x.class ≡ true → OwesOrHolds p h o x → (t : Target) → q.target ≡ t
+    one_kept : (o : ℕ) (x y : Object) (c : Covers p h false false old frs fr o x) → object_at h o ≡ Some x → object_at K o ≡ Some y → is_heavy_class p x.class ≡ true → OwesOrHolds p h o x → (t : Target) → q.target ≡ t
         → holds_target p st.number s.action c.fact.places t ≡ true → set.is_subset q.names y.called ≡ true
     one_kept o x y c before now heavy owes (promised.At k) target holds = within_from q.names y.called (λ n has. name_called o x y c before now heavy owes k target holds n has)
     one_kept o x y c before now heavy owes (promised.OfField f) target holds =
         let parts = and_parts (is_this_target s.action) (holds_field p st.number c.fact.places f) holds in
         absurd (no_place f target (and_parts (has_field_place p st.number f) (has c.fact.places (place_of_field p f)) parts.1).0)
 
-  module _ (o : ℕ) (x y : Object) (c : Covers p h false false frs fr o x) (before : object_at h o ≡ Some x) (now : object_at K o ≡ Some y) (heavy : is_heavy_class p x.class ≡ true) (owes : OwesOrHolds p h o x) where
+  module _ (o : ℕ) (x y : Object) (c : Covers p h false false old frs fr o x) (before : object_at h o ≡ Some x) (now : object_at K o ≡ Some y) (heavy : is_heavy_class p x.class ≡ true) (owes : OwesOrHolds p h o x) where
     -- what the named method promises, where it runs itself
     own_kept : AreKept p st.number s.action c.fact.places y.called (promises_by ran d)
     own_kept = all_kept p st.number s.action c.fact.places y.called (promises_by ran d) (λ j q there holds. one_kept j q there o x y c before now heavy owes q.target refl holds)

@@ -1,6 +1,6 @@
 -- What the laws on places ask of a step, of a frame that stands at a reached control of an accepted program of the plain forms.
 use Rattle.std.specs.List.{All}
-use Rattle.std.proofs.Common.{◌≡◌, ℕ, Some, List, [], ◌∷◌, slice_get, subst}
+use Rattle.std.proofs.Common.{◌≡◌, ℕ, Some, List, [], ◌∷◌, slice_get, subst, ◌∙◌}
 use Rattle.std.proofs.lemmas.List.Elements.{All-head, All-tail}
 use Rattle.program_model.specs.declared.program.Program.{Program}
 use Rattle.java_control.specs.Control.{Step}
@@ -14,10 +14,9 @@ use Rattle.value_laws.specs.Agreement.{Stands}
 use Rattle.value_laws.specs.PlainForms.{HasPlainForms}
 use Rattle.value_laws.specs.Ranges.{FieldsInRange, LocalsInRange}
 use Rattle.value_laws.proofs.RangeValues.{place_in_range}
-use Rattle.value_laws.proofs.Ready.{ready, resets_plainly, step_there}
+use Rattle.value_laws.proofs.Ready.{ready, step_there}
 use Rattle.value_laws.specs.Typed.{MovesLocals, NamesMembers}
 use Rattle.value_laws.proofs.Reached.{typed_step}
-use Rattle.covering_laws.proofs.Resets.{resets_elsewhere}
 use Rattle.covering_laws.proofs.TopSteps.{IsLocalStep}
 use Rattle.covering_laws.proofs.Waiting.{AllThere, HoldsThere}
 
@@ -37,7 +36,6 @@ module _ (p : Program) (ac : Accept p) (forms : HasPlainForms p) (fr : Frame) (s
         moves = λ x y is. (subst MovesLocals is typed.0).1;
         makes = λ x v is. subst MovesLocals is typed.0;
         target = r.target;
-        elsewhere = resets_elsewhere p st.number fr.control s.action (resets_plainly p ac forms fr st i s here);
         way = way;
       }
 

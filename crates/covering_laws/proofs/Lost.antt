@@ -22,19 +22,25 @@ use Rattle.ledger_state.specs.declared.value.Value.{Value}
 use Rattle.ledger_state.specs.declared.value.Value.TheVariants as values
 use Rattle.value_laws.specs.Places.{place_value}
 use Rattle.ledger_obligations.specs.Obligations.{with_owner, is_held_by}
-use Rattle.ledger_obligations.specs.Obligations.{end_frame, held_at, holds, is_frame, is_library_owner, is_unmet, lose, lost_object, owner_holds}
+use Rattle.ledger_obligations.specs.Obligations.{end_frame, given_up, given_up_by_frame, held_at, holds, is_frame, is_library_owner, is_unmet, lose, lost_object, owner_holds}
 use Rattle.ledger_steps.specs.LedgerCallsCalls.{operand_of, depth_at}
 use Rattle.value_laws.specs.Configuration.{Frame, held_by}
-use Rattle.value_laws.specs.Heaps.{GoesOn}
+use Rattle.value_laws.specs.Heaps.{GoesOn, IsKeptOr}
+use Rattle.value_laws.proofs.RootLaws.{one_object}
 use Rattle.value_laws.proofs.EndLaws.{changed_back, frame_back, kept_goes_on}
 use Rattle.value_laws.proofs.HeapLaws.{root_of_changed, changed_object_at-object}
-use Rattle.value_laws.specs.PlaceFacts.{AreCovered, AreWaiting, IsCovered, OwnersBelow, gives_none, is_field_of, is_frame_below, is_frame_from, is_given, renews_none, HasOlderHolder, IsHolder}
+use Rattle.value_laws.specs.HeapAnew.{is_field_owner}
+use Rattle.value_laws.specs.Holders.{IsComparable, IsWithin, UnfinishedAreUnowned, by_field, itself}
+use Rattle.value_laws.specs.PlaceFacts.{AreCovered, AreWaiting, EndsBelow, EndsStrictly, IsCovered, IsHolder, IsSpared, OwesOrHolds, OwnersBelow, gives_none, is_frame_below, is_frame_from, is_given, may_owe, renews_none}
+use Rattle.value_laws.specs.FieldContents.{FieldsOwn}
+use Rattle.covering_laws.proofs.FieldOwners.{fields_own_as}
 use Rattle.covering_laws.proofs.Gifts.{gifts_same}
-use Rattle.covering_laws.proofs.Owners.{AllKeepGifts, KeepsGifts, KeepsOwn, KeepsOwners, given_kept, is_field_place, KeepsFinished, keeps_finished}
-use Rattle.covering_laws.proofs.Waiting.{AllHeldBefore, IsCarried, KeepsReady, KeepsUnfinished, given_alike, same_place, stays_covered}
+use Rattle.covering_laws.proofs.OwnerSteps.{frame_is, given_up_free}
+use Rattle.covering_laws.proofs.Owners.{KeepsContents, KeepsGifts, KeepsOwn, KeepsOwners, StaysApart, is_field_place, old_kept}
+use Rattle.covering_laws.proofs.Waiting.{AllGoOn, AllHeldBefore, IsCarried, KeepsReady, KeepsUnfinished, bore_before, given_alike, reread_alike, same_place, stays_covered}
 use Rattle.covering_laws.proofs.LinkedExceptions.{LinkedWere}
 use Rattle.covering_laws.proofs.GivenAway.{at_any}
-use Rattle.value_laws.specs.Renewing.{renews, is_renewed, IsLentFrom}
+use Rattle.value_laws.specs.Renewing.{IsLentFrom, is_field_of, is_renewed, is_reread, renews}
 use Rattle.value_laws.proofs.Readings.{renewed_operand}
 use Rattle.java_control.specs.Control.{Step}
 use Rattle.program_model.specs.declared.kinds.FieldId.{FieldId}
@@ -135,13 +141,9 @@ module _ (p : Program) (k : HeapContents) (held : List (List Value)) where
   apart_still : (i n : ℕ) (x y : Object) → object_at k n ≡ Some x → object_at left n ≡ Some y → is_frame_from i x.owner ≡ false → is_frame_from i y.owner ≡ false
   apart_still i n x y before at none = elim (owner_after n x y before at) [ inl same ↦ ap (is_frame_from i) same ∙ none | inr lost ↦ ap (is_frame_from i) lost.1 ]
 
-  content_still : (n : ℕ) (x y : Object) (v : Value) → object_at k n ≡ Some x → object_at left n ≡ Some y → is_field_of v y.owner ≡ true → is_field_of v x.owner ≡ true
-  content_still n x y v before at own = elim (owner_after n x y before at) [ inl same ↦ ap (is_field_of v) (sym same) ∙ own | inr lost ↦ absurd (true≢false (sym own ∙ ap (is_field_of v) lost.1 ∙ no_field v)) ]
-    where
-      no_field : (u : Value) → is_field_of u owners.Lost ≡ false
-      no_field values.Nothing = refl
-      no_field (values.Object w) = refl
-      no_field u = refl
+  -- what a field owns then it owned, and what it owned it owns
+  owned_before : (n : ℕ) (x y : Object) → object_at k n ≡ Some x → object_at left n ≡ Some y → (w : ℕ) (f : FieldId) → y.owner ≡ owners.Field w f → x.owner ≡ owners.Field w f
+  owned_before n x y before at w f own = elim (owner_after n x y before at) [ inl same ↦ sym same ∙ own | inr lost ↦ absurd (let never : owners.Lost ≡ owners.Field w f = sym lost.1 ∙ own in cc) ]
 
   low_still : (i n : ℕ) (x y : Object) → object_at k n ≡ Some x → object_at left n ≡ Some y → is_frame_below i y.owner ≡ true → is_frame_below i x.owner ≡ true
   low_still i n x y before at low = elim (owner_after n x y before at) [ inl same ↦ ap (is_frame_below i) (sym same) ∙ low | inr lost ↦ absurd (true≢false (sym low ∙ ap (is_frame_below i) lost.1)) ]
@@ -202,28 +204,116 @@ module _ (p : Program) (k : HeapContents) (held : List (List Value)) where
   field_kept : (o : ℕ) (x y : Object) → object_at k o ≡ Some x → object_at left o ≡ Some y → (w : ℕ) (f : FieldId) → x.owner ≡ owners.Field w f → y.owner ≡ x.owner
   field_kept o x y before at w f own = elim (owner_after o x y before at) [ inl same ↦ same | inr lost ↦ absurd (true≢false (sym (ap (λ (a : Owner). owner_holds k held a o) own) ∙ lost.0)) ]
 
-  finishes : KeepsFinished k left
-  finishes = keeps_finished k left (λ n x at done. (lost_object k held n x, changed_object_at-object (lost_object k held) k n ∙ ap (option_map (lost_object k held n)) at, (still n x).finished ∙ done))
+  -- each object is there
+  after : (n : ℕ) (x : Object) → object_at k n ≡ Some x → (y : Object) × (object_at left n ≡ Some y) × GoesOn x y
+  after n x at = (lost_object k held n x, changed_object_at-object (lost_object k held) k n ∙ ap (option_map (lost_object k held n)) at, still n x)
 
-  older_still : (frs : List Frame) (o : ℕ) (x y : Object) → object_at k o ≡ Some x → object_at left o ≡ Some y → HasOlderHolder k frs x.owner → HasOlderHolder left frs y.owner
-  older_still frs o x y before at older w held' = elim (owner_after o x y before at) [
-    | inl same ↦ elim (older w (ap (λ (a : Owner). is_held_by a w) (sym same) ∙ held')) [ inl made ↦ inl (finishes w made) | inr runs ↦ inr runs ]
-    | inr lost ↦ absurd (true≢false (sym held' ∙ ap (λ (a : Owner). is_held_by a w) lost.1))
-  ]
+  goes_on : AllGoOn p k left
+  goes_on n x at = let y = after n x at in (y.0, y.1, y.2.class, λ done. y.2.finished ∙ done)
+
+  -- the object before
+  before_of : (n : ℕ) (x y : Object) → object_at k n ≡ Some x → object_at left n ≡ Some y → GoesOn x y
+  before_of n x y before at = let z = was_there n y at in subst (λ (u : Object). GoesOn u y) (one_object z.0 x (object_at k n) z.1 before) z.2
+
+  -- ---- ways up
+
+  within_still : (o w : ℕ) → IsWithin k o w → IsWithin left o w
+  within_still o w (itself n) = itself o
+  within_still o w (by_field n v u f x at own on) = let y = after o x at in by_field o v w f y.0 y.1 (field_kept o x y.0 at y.1 v f own ∙ own) (within_still v w on)
+
+  within_before : (o w : ℕ) → IsWithin left o w → IsWithin k o w
+  within_before o w (itself n) = itself o
+  within_before o w (by_field n v u f y at own on) = let x = was_there o y at in by_field o v w f x.0 x.1 (owned_before o x.0 y x.1 at v f own) (within_before v w on)
+
+  comparable_then : (a b : ℕ) → IsComparable k a b → IsComparable left a b
+  comparable_then a b (inl within) = inl (within_still a b within)
+  comparable_then a b (inr within) = inr (within_still b a within)
+
+  no_field : (a : Owner) → ((w : ℕ) (f : FieldId) → a ≡ owners.Field w f → ⊥) → is_field_owner a ≡ false
+  no_field (owners.Field w f) none = absurd (none w f refl)
+  no_field (owners.Frame i) none = refl
+  no_field owners.Library none = refl
+  no_field owners.Released none = refl
+  no_field owners.Lost none = refl
+  no_field owners.Unowned none = refl
+
+  held_field : (a : Owner) (w : ℕ) (f : FieldId) → is_field_owner a ≡ false → a ≡ owners.Field w f → ⊥
+  held_field a w f none is = true≢false (sym (ap is_field_owner is) ∙ none)
+
+  ends_still : (frs : List Frame) (o : ℕ) → EndsBelow k frs o → EndsBelow left frs o
+  ends_still frs o ends =
+      let y = after ends.end ends.top.object ends.top.at in
+      record {
+        end = ends.end;
+        top = record {
+          within = within_still o ends.end ends.top.within;
+          object = y.0;
+          at = y.1;
+          unheld = no_field y.0.owner (λ w f own. held_field ends.top.object.owner w f ends.top.unheld (owned_before ends.end ends.top.object y.0 ends.top.at y.1 w f own));
+        };
+        below = apart_still (length frs + 1) ends.end ends.top.object y.0 ends.top.at y.1 ends.below;
+        older = λ open'. ends.older (sym y.2.finished ∙ open');
+      }
+
+  strict_then : (frs : List Frame) (o : ℕ) → EndsStrictly left frs o → EndsStrictly k frs o
+  strict_then frs o ends =
+      let x = was_there ends.end ends.top.object ends.top.at in
+      record {
+        end = ends.end;
+        top = record {
+          within = within_before o ends.end ends.top.within;
+          object = x.0;
+          at = x.1;
+          unheld = no_field x.0.owner (λ w f own. held_field ends.top.object.owner w f ends.top.unheld (field_kept ends.end x.0 ends.top.object x.1 ends.top.at w f own ∙ own));
+        };
+        below = elim ends.below [ inl low ↦ inl (low_still (length frs + 1) ends.end x.0 ends.top.object x.1 ends.top.at low) | inr made ↦ inr (sym x.2.finished ∙ made.0, made.1) ];
+      }
 
   -- so what is lent is not lost
   lent_kept : (frs : List Frame) → AreHeld frs → (o : ℕ) (x y : Object) → object_at k o ≡ Some x → object_at left o ≡ Some y → IsLentFrom p k frs o x.owner → y.owner ≡ x.owner
   lent_kept [] there o x y before at is = absurd is
-  lent_kept (fr ∷ frs) there o x y before at is = elim is.1 [
-    | inl own ↦ elim (owner_after o x y before at) [
-      | inl same ↦ same
-      | inr lost ↦ absurd (true≢false (sym (ap (λ (vs : List Value). holds k vs o) there.0 ∙ holds_renewed fr o is.0) ∙ sym (ap (λ (a : Owner). owner_holds k held a o) own) ∙ lost.0))
-    ]
-    | inr further ↦ elim further [
-      | inl on ↦ lent_kept frs there.1 o x y before at on
-      | inr held' ↦ field_kept o x y before at held'.1.holder held'.1.field held'.1.owns
-    ]
+  lent_kept (fr ∷ frs) there o x y before at (renews', inl own) = elim (owner_after o x y before at) [
+    | inl same ↦ same
+    | inr lost ↦ absurd (true≢false (sym (ap (λ (vs : List Value). holds k vs o) there.0 ∙ holds_renewed fr o renews') ∙ sym (ap (λ (a : Owner). owner_holds k held a o) own) ∙ lost.0))
   ]
+  lent_kept (fr ∷ frs) there o x y before at (renews', inr (inl on)) = lent_kept frs there.1 o x y before at on
+  lent_kept (fr ∷ frs) there o x y before at (renews', inr (inr (inl held'))) = field_kept o x y before at held'.1.holder held'.1.field held'.1.owns
+  lent_kept (fr ∷ frs) there o x y before at (renews', inr (inr (inr held'))) = field_kept o x y before at held'.holder held'.field held'.owns
+
+  same_gifts : (fr : Frame) → KeepsGifts p k left fr
+  same_gifts fr = gifts_same p k left fr (λ i s here n. root_stays (operand_of fr.locals s.action n))
+
+  -- and it is lent still
+  lent_still : (frs : List Frame) → AreHeld frs → (o : ℕ) (owner : Owner) → IsLentFrom p k frs o owner → IsLentFrom p left frs o owner
+  lent_still [] there o owner lent = lent
+  lent_still (fr ∷ frs) there o owner (renews', inl own) = ((same_gifts fr o).1 ∙ renews', inl own)
+  lent_still (fr ∷ frs) there o owner (renews', inr (inl on)) = ((same_gifts fr o).1 ∙ renews', inr (inl (lent_still frs there.1 o owner on)))
+  lent_still (fr ∷ frs) there o owner (renews', inr (inr (inl held'))) = ((same_gifts fr o).1 ∙ renews', inr (inr (inl held')))
+  lent_still (fr ∷ frs) there o owner (renews', inr (inr (inr held'))) =
+      let y = after held'.holder held'.object held'.at in
+      let same = lent_kept frs there.1 held'.holder held'.object y.0 held'.at y.1 held'.lends in (
+        (same_gifts fr o).1 ∙ renews',
+        inr (inr (inr (record {
+          holder = held'.holder;
+          field = held'.field;
+          owns = held'.owns;
+          runs = held'.runs;
+          method = held'.method;
+          object = y.0;
+          at = y.1;
+          finished = y.2.finished ∙ held'.finished;
+          unlinked = y.2.link ∙ held'.unlinked;
+          heavy = ap (is_heavy_class p) y.2.class ∙ held'.heavy;
+          lends = subst (IsLentFrom p left frs held'.holder) (sym same) (lent_still frs there.1 held'.holder held'.object.owner held'.lends);
+        }))),
+      )
+
+  -- what the call spares it spared
+  spared_then : (frs : List Frame) (o : ℕ) → IsSpared p left frs o → IsSpared p k frs o
+  spared_then [] o spared = tt
+  spared_then (fr ∷ frs) o spared = λ u x at heavy comes.
+      let y = after u x at in
+      sym (same_gifts fr u).1 ∙ spared u y.0 y.1 (y.2.finished ∙ heavy.0, ap (is_heavy_class p) y.2.class ∙ heavy.1) (comparable_then u o comes)
 
   -- what a field owns it owned
   holder_was : (w : ℕ) → IsHolder p left w → IsHolder p k w
@@ -232,44 +322,96 @@ module _ (p : Program) (k : HeapContents) (held : List (List Value)) where
     | inr lost ↦ absurd (true≢false (sym held' ∙ ap (λ (a : Owner). is_held_by a w) lost.1))
   ]
 
-  keeps : (gives : ℕ → ClassId → Bool) (frs : List Frame) (fr : Frame) → held_at held (length frs + 1) ≡ locals.held fr.locals → AreHeld frs → KeepsOwners p k left gives frs fr
-  keeps gives frs fr there lower = record {
-    own = not_lost gives (length frs + 1) fr there;
-    others = record {
+  -- what fields hold they own
+  pub lost_owns : FieldsOwn p k → FieldsOwn p left
+  lost_owns = fields_own_as p k left (λ w f own. refl) root_stays
+      (λ o y now. let x = was_there o y now in (x.0, x.1, x.2.class, x.2.finished, (λ owes. bore_before p k left (λ w ready holds. holder_was w holds) o x.0 y x.1 (λ done. (x.2, library_still o x.0 y x.1 now)) owes), (λ w f own. field_kept o x.0 y x.1 now w f own)))
+
+  -- the frame reads anew what it did
+  contents_stay : (fr : Frame) → KeepsContents p k left fr
+  contents_stay fr o x y before at heavy = elim (owner_after o x y before at) [
+    | inl same ↦ ap (is_field_of fr.locals.this) same
+    | inr lost ↦ ap (is_field_of fr.locals.this) lost.1 ∙ none fr.locals.this ∙ sym (unheld fr.locals.this x.owner lost.0)
+  ]
+    where
+      none : (v : Value) → is_field_of v owners.Lost ≡ false
+      none (values.Object w) = refl
+      none v = refl
+
+      unheld : (v : Value) (a : Owner) → owner_holds k held a o ≡ false → is_field_of v a ≡ false
+      unheld (values.Object w) (owners.Field u f) is = absurd (true≢false is)
+      unheld (values.Object w) (owners.Frame i) is = refl
+      unheld (values.Object w) owners.Library is = refl
+      unheld (values.Object w) owners.Released is = refl
+      unheld (values.Object w) owners.Lost is = refl
+      unheld (values.Object w) owners.Unowned is = refl
+      unheld v a is = refl
+
+  module _ (nobody : UnfinishedAreUnowned k) where
+    -- what is not finished nobody owns
+    late_still : (frs : List Frame) (o : ℕ) (y : Object) → object_at left o ≡ Some y → ((x : Object) → object_at k o ≡ Some x → x.finished ≡ true → ⊥) → (is_field_owner y.owner ≡ false) × (is_frame_below (length frs + 1) y.owner ≡ false)
+    late_still frs o y at none = elim (owner_after o x.0 y x.1 at) [
+      | inl same ↦ (ap is_field_owner (same ∙ unowned), ap (is_frame_below (length frs + 1)) (same ∙ unowned))
+      | inr lost ↦ (ap is_field_owner lost.1, ap (is_frame_below (length frs + 1)) lost.1)
+    ]
+      where
+        x : (x : Object) × (object_at k o ≡ Some x) × GoesOn x y
+        x = was_there o y at
+
+        open' : (b : Bool) → x.0.finished ≡ b → x.0.finished ≡ false
+        open' true done = absurd (none x.0 x.1 done)
+        open' false is = is
+
+        unowned : x.0.owner ≡ owners.Unowned
+        unowned = nobody o x.0 x.1 (open' x.0.finished refl)
+
+    apart : (frs : List Frame) (fr : Frame) → AreHeld frs → StaysApart p k left frs fr
+    apart frs fr lower = record {
       apart = λ o x y before at done heavy none. apart_still (length frs + 1) o x y before at none;
       free = λ o x y before at done heavy none. apart_still 0 o x y before at none;
-      content = λ o x y before at done heavy plain own. content_still o x y fr.locals.this before at own;
-      low = λ o x y before at done heavy low. low_still (length frs + 1) o x y before at low;
-      keeps = λ o x y before at done heavy lent. lent_kept frs lower o x y before at lent;
-      older = λ o x y before at done heavy none older. older_still frs o x y before at older;
+      content = λ o x y w f before at done heavy plain this own. owned_before o x y before at w f own;
+      keeps = λ o x y before at done heavy lent. (let same = lent_kept frs lower o x y before at lent in (same, subst (IsLentFrom p left frs o) (sym same) (lent_still frs lower o x.owner lent)));
+      ends = λ o x at heavy ends. ends_still frs o ends;
+      strict = λ o x at heavy ends. strict_then frs o ends;
+      late = λ o y at none. late_still frs o y at none;
+      spared = λ o x at heavy spared. spared_then frs o spared;
       holders = λ w ready holds. holder_was w holds;
-    };
-    held = λ o x y before at done heavy alone own. field_kept o x y before at own.holder own.field own.owns;
-  }
+    }
 
-  same_gifts : (fr : Frame) → KeepsGifts p k left fr
-  same_gifts fr = gifts_same p k left fr (λ i s here n. root_stays (operand_of fr.locals s.action n))
+    keeps : (gives : ℕ → ClassId → Bool) (frs : List Frame) (fr : Frame) → held_at held (length frs + 1) ≡ locals.held fr.locals → AreHeld frs → KeepsOwners p k left gives frs fr
+    keeps gives frs fr there lower = record {
+      own = not_lost gives (length frs + 1) fr there;
+      others = apart frs fr lower;
+      held = λ o x y before at done heavy alone own. field_kept o x y before at own.holder own.field own.owns;
+      reread = contents_stay fr;
+    }
 
-  all_same_gifts : (frs : List Frame) → AllKeepGifts p k left frs
-  all_same_gifts [] = tt
-  all_same_gifts (fr ∷ frs) = (same_gifts fr, all_same_gifts frs)
+    frame_lost : (gives : ℕ → ClassId → Bool) (renewed renewed' : ℕ → Owner → Bool) (old : ℕ → Bool) (frs : List Frame) (fr : Frame) → held_at held (length frs + 1) ≡ locals.held fr.locals → AreHeld frs
+        → ((o : ℕ) (x y : Object) → object_at k o ≡ Some x → object_at left o ≡ Some y → is_heavy_class p x.class ≡ true → renewed' o y.owner ≡ renewed o x.owner) → IsCovered p k gives renewed old frs fr → IsCovered p left gives renewed' old frs fr
+    frame_lost gives renewed renewed' old frs fr there lower alike covered =
+        stays_covered p k left gives renewed renewed' old frs fr (λ q small. root_stays (place_value p k fr.method fr.locals q)) (λ q small. inl (same_place p k left (λ w f own. refl) fr.method fr.locals q))
+        (λ q o y small root at. carried o y at) (ready fr) (keeps gives frs fr there lower) alike covered
 
-  frame_lost : (gives : ℕ → ClassId → Bool) (renewed : ℕ → Bool) (frs : List Frame) (fr : Frame) → held_at held (length frs + 1) ≡ locals.held fr.locals → AreHeld frs → IsCovered p k gives renewed frs fr → IsCovered p left gives renewed frs fr
-  frame_lost gives renewed frs fr there lower covered =
-      stays_covered p k left gives renewed frs fr (λ q small. root_stays (place_value p k fr.method fr.locals q)) (λ q small. inl (same_place p k left (λ w f own. refl) fr.method fr.locals q)) (λ q o y small root at. carried o y at) (ready fr)
-      (given_kept p k left frs (all_same_gifts frs)) (keeps gives frs fr there lower) covered
+    waiting_lost : (above : ℕ → Bool) (frs : List Frame) → AreHeld frs → AreWaiting p k above frs → AreWaiting p left above frs
+    waiting_lost above [] there covered = tt
+    waiting_lost above (fr ∷ frs) there (old, up, is, covered, rest) = (
+      old,
+      up,
+      old_kept p k left old frs fr (apart frs fr there.1) goes_on is,
+      given_alike p left (is_given p k fr) (is_given p left fr) (is_reread p left fr) (is_reread p left fr) old frs fr (λ o. (same_gifts fr o).0) (λ o x at. refl)
+          (frame_lost (is_given p k fr) (is_reread p k fr) (is_reread p left fr) old frs fr there.0 there.1 (reread_alike p k left fr (root_stays fr.locals.this) (same_gifts fr) (contents_stay fr)) covered),
+      waiting_lost old frs there.1 rest,
+    )
 
-  waiting_lost : (frs : List Frame) → AreHeld frs → AreWaiting p k frs → AreWaiting p left frs
-  waiting_lost [] there covered = tt
-  waiting_lost (fr ∷ frs) there covered = (
-    given_alike p left (is_given p k fr) (is_given p left fr) (is_renewed p k fr) (is_renewed p left fr) frs fr (λ o. (same_gifts fr o).0) (λ o. (same_gifts fr o).1)
-        (frame_lost (is_given p k fr) (is_renewed p k fr) frs fr there.0 there.1 covered.0),
-    waiting_lost frs there.1 covered.1,
-  )
-
-  pub all_lost : (frs : List Frame) → AreHeld frs → AreCovered p k frs → AreCovered p left frs
-  all_lost [] there covered = tt
-  all_lost (fr ∷ frs) there covered = (frame_lost gives_none renews_none frs fr there.0 there.1 covered.0, waiting_lost frs there.1 covered.1, lost_below (length frs + 1) covered.2)
+    pub all_lost : (frs : List Frame) → AreHeld frs → AreCovered p k frs → AreCovered p left frs
+    all_lost [] there covered = tt
+    all_lost (fr ∷ frs) there (old, is, covered, waits, below) = (
+      old,
+      old_kept p k left old frs fr (apart frs fr there.1) goes_on is,
+      frame_lost gives_none renews_none renews_none old frs fr there.0 there.1 (λ o x y before at heavy. refl) covered,
+      waiting_lost old frs there.1 waits,
+      lost_below (length frs + 1) below,
+    )
 
 -- the frames of a run hold what they hold
 pub are_held : (p : Program) (k : HeapContents) (frs : List Frame) → AreHeld p k (held_by frs) frs
@@ -299,3 +441,41 @@ frame_linked j h n y l at some =
     let x = frame_back j h n y at in
     let on = kept_goes_on (is_frame x.0.owner j) x.0 y x.2 in
     (x.0, x.1, sym on.link ∙ some, on.class)
+
+-- and what fields hold they own
+module _ (p : Program) (j : ℕ) (h : HeapContents) where
+  ended_link : (n : ℕ) (x : Object) → (given_up_by_frame j n x).link ≡ x.link
+  ended_link n x = go (is_frame x.owner j)
+    where
+      go : (b : Bool) → (if b then given_up x else x).link ≡ x.link
+      go true = refl
+      go false = refl
+
+  ended_root : (v : Value) → root_of (end_frame j h) v ≡ root_of h v
+  ended_root values.Nothing = refl
+  ended_root (values.Object n) = ap Some (root_of_changed (given_up_by_frame j) h n ended_link)
+  ended_root v = refl
+
+  ended_holder : (w : ℕ) → IsHolder p (end_frame j h) w → IsHolder p h w
+  ended_holder w (c, y, now, done, heavy, held') = by (frame_back j h c y now)
+    where
+      by : (x : Object) × (object_at h c ≡ Some x) × IsKeptOr (is_frame x.owner j) x y → IsHolder p h w
+      by (x, before, inl same) = (c, x, before, ap (λ (u : Object). u.finished) (sym same) ∙ done, ap (λ (u : Object). is_heavy_class p u.class) (sym same) ∙ heavy, ap (λ (u : Object). is_held_by u.owner w) (sym same) ∙ held')
+      by (x, before, inr given) = absurd (true≢false (sym held' ∙ (given_up_free x y given.1).1 w))
+
+  ended_owes : (o : ℕ) (x y : Object) → IsKeptOr (is_frame x.owner j) x y → OwesOrHolds p (end_frame j h) o y → OwesOrHolds p h o x
+  ended_owes o x y (inl same) (inl owes) = inl (ap may_owe (sym same) ∙ owes)
+  ended_owes o x y kept (inr holds') = inr (ended_holder o holds')
+  ended_owes o x y (inr given) (inl owes) = inl (ap (λ (a : Owner). not (x.finished && is_library_owner a)) (frame_is x.owner j given.0) ∙ none x.finished)
+    where
+      none : (b : Bool) → not (b && false) ≡ true
+      none true = refl
+      none false = refl
+
+  ended_field : (x y : Object) → IsKeptOr (is_frame x.owner j) x y → (w : ℕ) (f : FieldId) → x.owner ≡ owners.Field w f → y.owner ≡ x.owner
+  ended_field x y (inl same) w f own = ap (λ (u : Object). u.owner) same
+  ended_field x y (inr given) w f own = absurd (true≢false (sym given.0 ∙ ap (λ (a : Owner). is_frame a j) own))
+
+  pub frame_owns : FieldsOwn p h → FieldsOwn p (end_frame j h)
+  frame_owns = fields_own_as p h (end_frame j h) (λ w f own. refl) ended_root
+      (λ o y now. let x = frame_back j h o y now in let on = kept_goes_on (is_frame x.0.owner j) x.0 y x.2 in (x.0, x.1, on.class, on.finished, ended_owes o x.0 y x.2, ended_field x.0 y x.2))

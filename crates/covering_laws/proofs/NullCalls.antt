@@ -1,5 +1,5 @@
 -- A call whose target is null throws before it starts: the library's exception is all that the step makes.
-use Rattle.std.proofs.Common.{List, None, Option, Some, [], ap, arith, false, inl, inr, length, refl, slice_get, subst, sym, true, true≢false, ℕ, ◌+◌, ◌∙◌, ◌∷◌, ◌≡◌}
+use Rattle.std.proofs.Common.{Bool, List, None, Option, Some, ◌≤◌, [], ap, arith, false, inl, inr, length, refl, slice_get, subst, sym, true, true≢false, ℕ, ◌+◌, ◌∙◌, ◌∷◌, ◌≡◌}
 use Rattle.std.proofs.lemmas.List.Elements.{All-head, All-tail}
 use Rattle.program_model.specs.declared.kinds.ClassId.{ClassId}
 use Rattle.program_model.specs.declared.program.Program.{Program}
@@ -34,20 +34,28 @@ use Rattle.value_laws.specs.PlainForms.{HasPlainForms}
 use Rattle.value_laws.specs.Nexts.{IsNullCall}
 use Rattle.value_laws.proofs.Ready.{call_sets}
 use Rattle.value_laws.proofs.Unmet.{way_of_call}
-use Rattle.value_laws.specs.PlaceFacts.{AreCovered, IsUnowned, gives_none, renews_none}
+use Rattle.value_laws.specs.PlaceFacts.{AreCovered, IsUnowned, gives_none}
 use Rattle.value_laws.specs.Ranges.{FieldsInRange, LocalsInRange}
+use Rattle.value_laws.specs.Types.{StoredHoldNone, is_text}
+use Rattle.covering_laws.specs.Texts.{TextsAreLight}
 use Rattle.covering_laws.proofs.CallSteps.{call_covered}
+use Rattle.value_laws.specs.FieldContents.{FieldsOwn}
+use Rattle.covering_laws.proofs.FieldOwners.{fields_own_by}
 use Rattle.covering_laws.proofs.Gifts.{all_keep_gifts}
 use Rattle.covering_laws.proofs.InnerJoins.{exception_class_is}
 use Rattle.covering_laws.proofs.InnerSteps.{no_object, same_goes_on}
 use Rattle.covering_laws.proofs.KnownNames.{AreKept}
 use Rattle.covering_laws.proofs.LightExceptions.{null_pointer_is_light}
 use Rattle.covering_laws.proofs.LocalSteps.{LocalsIn, all_there, holds_there, local_step}
-use Rattle.covering_laws.proofs.Owners.{AllKeepGifts, HoldersWere, given_kept, holders_were, none_unready, owners_kept, stays_apart, KeepsFinished, held_here, keeps_finished}
-use Rattle.covering_laws.proofs.NewOwners.{thrown_births}
+use Rattle.covering_laws.proofs.LeftOut.{left_out_bears}
+use Rattle.covering_laws.proofs.Owners.{AllKeepGifts, KeepsFinished, KeepsHeld, OwnersGo, StaysApart, WaysGo, held_here, holders_were, keeps_finished, old_kept, owners_kept, stays_apart}
+use Rattle.covering_laws.proofs.StepWays.{thrown_births, thrown_unowned, ways_by}
+use Rattle.value_laws.proofs.Counts.{thrown_count}
+use Rattle.value_laws.specs.Chains.{HaveEnds}
+use Rattle.value_laws.specs.Holders.{HoldersAreUnlinked}
 use Rattle.covering_laws.proofs.StoreOwners.{thrown_below, thrown_owners_go, thrown_same}
 use Rattle.covering_laws.proofs.TopSteps.{IsLocalStep}
-use Rattle.covering_laws.proofs.Waiting.{AllHeldBefore, Carries, KeepsFields, KeepsRoots, KeepsUnfinished, all_held_before, all_keep, all_ready, all_wait, but_texts, frames_ready, keeps_roots, linked_roots, new_root, no_other}
+use Rattle.covering_laws.proofs.Waiting.{AllHeldBefore, Carries, HoldsThere, KeepsFields, KeepsRoots, KeepsUnfinished, all_held_before, all_keep, all_ready, all_wait, but_texts, frames_ready, keeps_roots, linked_roots, new_root, no_other, old_as, ways_go_on}
 use Rattle.covering_laws.proofs.LinkedExceptions.{LinkedWere}
 
 -- ---- the heap with an exception
@@ -117,8 +125,8 @@ module _ (p : Program) (ac : Accept p) (forms : HasPlainForms p) (h : HeapConten
   local = local_step p ac forms fr st i s here (call_sets s.action call.row) (way_of_call s call.row)
 
   -- what the step makes is the exception
-  made : (frs : List Frame) (q : Place) (o : ℕ) (y : Object) → place_value p k fr.method after.locals q ≡ v → root_of k v ≡ Some o → object_at k o ≡ Some y → is_heavy_class p y.class ≡ true → IsUnowned p k false false frs after q o y
-  made frs q o y is root' at heavy =
+  made : (old : ℕ → Bool) (frs : List Frame) (q : Place) (o : ℕ) (y : Object) → place_value p k fr.method after.locals q ≡ v → root_of k v ≡ Some o → object_at k o ≡ Some y → is_heavy_class p y.class ≡ true → IsUnowned p k false false old frs after q o y
+  made old frs q o y is root' at heavy =
       let number : next_number h ≡ o = (let both : Some (next_number h) ≡ Some o = sym (ap Some (exception_root p h links npe)) ∙ root' in (let one : next_number h ≡ o = cc in one)) in
       absurd (true≢false (sym heavy ∙ ap (is_heavy_class p) (exception_class_is p npe h y (ap (object_at k) number ∙ at)) ∙ null_pointer_is_light p ac))
 
@@ -132,33 +140,57 @@ module _ (p : Program) (ac : Accept p) (forms : HasPlainForms p) (h : HeapConten
   same_owner : (o : ℕ) (x y : Object) → object_at h o ≡ Some x → object_at k o ≡ Some y → y.owner ≡ x.owner
   same_owner o x y before at = ap (λ (z : Object). z.owner) (thrown_same p (Some npe) h o x y before at)
 
-  holders : (frs : List Frame) → HoldersWere p h k
-  holders frs = holders_were p None (fr ∷ frs) (length frs + 1) h k (thrown_owners_go p (Some npe) h None (fr ∷ frs) (length frs + 1)) (thrown_births p (Some npe) h) (none_unready h)
+  -- what fields hold they own
+  pub null_owns : HaveEnds h → HoldersAreUnlinked (is_heavy_class p) h → FieldsOwn p h → FieldsOwn p k
+  null_owns have unlinked = fields_own_by p None [] 1 h k links ranges have.unfinished (but_texts p h k (thrown_fields p h links npe)) (thrown_carries p h links npe) (holders_were p None [] 1 h k ways goes) (thrown_roots p h links npe) goes
+      (thrown_unfinished p h links npe)
+    where
+      goes : OwnersGo p None [] 1 h k
+      goes = thrown_owners_go p (Some npe) h None [] 1
 
-  pub null_covered : (frs : List Frame) → LocalsIn h (fr ∷ frs) → AreCovered p h (fr ∷ frs) → AreCovered p k (after ∷ frs)
-  null_covered frs in' covered = (
+      ways : WaysGo p None [] 1 h k
+      ways = ways_by p None [] 1 h k have unlinked (thrown_unowned p (Some npe) h have.unfinished) (thrown_count p (Some npe) h) (thrown_carries p h links npe) (thrown_births p (Some npe) 1 h) no_other (thrown_unfinished p h links npe)
+          (λ o never. absurd never) (λ w never. absurd (let no : None ≡ Some w = never in cc))
+
+  pub null_covered : HaveEnds h → HoldersAreUnlinked (is_heavy_class p) h → TextsAreLight p h → StoredHoldNone (is_text p h) p h → (frs : List Frame) → LocalsIn h (fr ∷ frs) → AreCovered p h (fr ∷ frs) → AreCovered p k (after ∷ frs)
+  null_covered have unlinked texts stored frs in' (old, is, covered, waits, below) = (
+    old,
+    old_as p k old frs fr after refl refl (old_kept p h k old frs fr others (ways_go_on p None (fr ∷ frs) (length frs + 1) h k ways) is),
     call_covered p ac h k links (thrown_carries p h links npe) (but_texts p h k (thrown_fields p h links npe)) fr st i s here local
-        (holds_there p h ranges fr (All-head (λ (x : Frame). LocalsInRange h x.locals) fr frs in'))
-        (keeps_roots p h k (thrown_roots p h links npe) fr (holds_there p h ranges fr (All-head (λ (x : Frame). LocalsInRange h x.locals) fr frs in'))) v call.row
-        frs gives_none renews_none (λ o c gives. absurd (true≢false (sym gives))) covered.0 (all_ready p h k (thrown_unfinished p h links npe) fr) (given_kept p h k frs gifts)
-        (stays_apart p None (fr ∷ frs) (length frs + 1) h k finishes (thrown_owners_go p (Some npe) h None (fr ∷ frs) (length frs + 1)) (holders frs) frs fr (omega arith) (λ w none this. no_object_into w none) (λ w none. none.1))
-        (held_here p None (fr ∷ frs) (length frs + 1) h k finishes (thrown_owners_go p (Some npe) h None (fr ∷ frs) (length frs + 1)) (holders frs) frs fr (omega arith) (λ w none. none.0))
+        there (keeps_roots p h k (thrown_roots p h links npe) fr there) v call.row
+        old frs gives_none (λ o. false) (λ o c gives. absurd (true≢false (sym gives))) covered (all_ready p h k (thrown_unfinished p h links npe) fr)
+        others lasting
         (λ o x y before at done heavy kept mine. same_owner o x y before at ∙ mine)
-        (λ o x y n before at root' other interest stays old done goes heavy owes. absurd (no_object h (operand_of fr.locals s.action 0) o call.null root'))
-        (λ o x y c before at g more trusted stays old done goes some owes names less was. none_kept c.fact.places names)
+        (λ o x y c n before at root' other interest sure stays done goes heavy owes. absurd (no_object h (operand_of fr.locals s.action 0) o call.null root'))
+        (λ o x y c before at g more trusted sure stays done goes some owes names less was. none_kept c.fact.places names)
         (λ o x c before some owes gives. absurd (true≢false (sym gives ∙ null_gives_none p s.action s.edge c.fact.places call.target)))
-        (λ q o y small local' none there is root' at heavy owes. inr (inl (made frs q o y is root' at heavy))),
-    all_wait p h k links (thrown_roots p h links npe) (thrown_carries p h links npe) frs (all_keep p h k (thrown_fields p h links npe) frs)
+        (left_out_bears p ac forms h k texts stored links (thrown_carries p h links npe) (but_texts p h k (thrown_fields p h links npe)) fr st i s here local there (keeps_roots p h k (thrown_roots p h links npe) fr there) v
+        old frs gives_none (λ o. false) covered (all_ready p h k (thrown_unfinished p h links npe) fr) others lasting)
+        (λ q o y small local' none there is root' at heavy owes. inr (inl (made old frs q o y is root' at heavy))),
+    all_wait p h k links (thrown_roots p h links npe) (thrown_carries p h links npe) (ways_go_on p None (fr ∷ frs) (length frs + 1) h k ways) old frs (all_keep p h k (thrown_fields p h links npe) frs)
         (all_there p h ranges frs (All-tail (λ (x : Frame). LocalsInRange h x.locals) fr frs in')) (frames_ready p h k (thrown_unfinished p h links npe) frs) gifts
-        (owners_kept p None (fr ∷ frs) (length frs + 1) h k finishes (thrown_owners_go p (Some npe) h None (fr ∷ frs) (length frs + 1)) (holders frs) frs (omega arith) tt (λ w none. none.1)) covered.1,
-    thrown_below p (Some npe) h (length frs + 1) covered.2,
+        (owners_kept p None (fr ∷ frs) (length frs + 1) h k ways goes frs (omega arith) gifts tt (λ w none. none.1)) waits,
+    thrown_below p (Some npe) h (length frs + 1) below,
   )
     where
+      there : HoldsThere p h fr
+      there = holds_there p h ranges fr (All-head (λ (x : Frame). LocalsInRange h x.locals) fr frs in')
+
       gifts : AllKeepGifts p h k frs
       gifts = all_keep_gifts p h k (thrown_roots p h links npe) frs (All-tail (λ (x : Frame). LocalsInRange h x.locals) fr frs in')
 
-      no_object_into : (w : ℕ) → ◌≡◌ {A = Option ℕ} None (Some w) → ⊥
-      no_object_into w none = cc
+      goes : OwnersGo p None (fr ∷ frs) (length frs + 1) h k
+      goes = thrown_owners_go p (Some npe) h None (fr ∷ frs) (length frs + 1)
+
+      ways : WaysGo p None (fr ∷ frs) (length frs + 1) h k
+      ways = ways_by p None (fr ∷ frs) (length frs + 1) h k have unlinked (thrown_unowned p (Some npe) h have.unfinished) (thrown_count p (Some npe) h) (thrown_carries p h links npe) (thrown_births p (Some npe) (length frs + 1) h) no_other (thrown_unfinished p h links npe) (λ o never. absurd never)
+          (λ w never. absurd (let no : None ≡ Some w = never in cc))
+
+      others : StaysApart p h k frs fr
+      others = stays_apart p None (fr ∷ frs) (length frs + 1) h k ways goes frs fr (omega arith) gifts tt (λ w none. none.1) (λ w never this. absurd (let no : None ≡ Some w = never in cc))
+
+      lasting : KeepsHeld p h k fr
+      lasting = held_here p None (fr ∷ frs) (length frs + 1) h k ways goes frs fr (omega arith) gifts (λ w none. none.0)
 
   pub null_held_before : (frs : List Frame) → LocalsIn h frs → AllHeldBefore p h k frs
   null_held_before frs in' = all_held_before p h k (thrown_roots p h links npe) frs (all_keep p h k (thrown_fields p h links npe) frs) (all_there p h ranges frs in')

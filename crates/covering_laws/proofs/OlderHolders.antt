@@ -1,5 +1,5 @@
--- Where a field owns an object with an obligation, the field's object is finished, or its constructor runs.
-use Rattle.std.proofs.Common.{◌≡◌, ◌⊎◌, inl, inr, ℕ, Bool, Some, true, false, true≢false, List, [], ◌∷◌, refl, sym, ap, ◌∙◌, eqb-true}
+-- The object of a field that owns an object with an obligation is there, and where it is not finished, its constructor runs.
+use Rattle.std.proofs.Common.{◌≡◌, inl, inr, ℕ, Bool, Some, true, false, true≢false, List, [], ◌∷◌, refl, sym, ap, ◌∙◌, eqb-true}
 use Rattle.std.proofs.lemmas.Bool.{and_parts, or_right}
 use Rattle.std.specs.Prelude.{◌||◌, ◌&&◌, not}
 use Rattle.program_model.specs.declared.kinds.ClassId.{ClassId}
@@ -8,7 +8,7 @@ use Rattle.program_model.specs.declared.program.Program.{Program}
 use Rattle.program_model.specs.Lookups.{method_at}
 use Rattle.must_call_sets.specs.Bodies.{constructs, is_class_of}
 use Rattle.must_call_sets.specs.MustCallSets.{is_heavy_class}
-use Rattle.ledger_obligations.specs.Obligations.{finished_in, is_held_by, is_unmet}
+use Rattle.ledger_obligations.specs.Obligations.{is_held_by, is_unmet}
 use Rattle.ledger_state.specs.Contents.{HeapContents}
 use Rattle.ledger_state.specs.Heaps.{object_at}
 use Rattle.ledger_state.specs.Values.{number_of}
@@ -20,8 +20,8 @@ use Rattle.ledger_state.specs.declared.value.Value.TheVariants as values
 use Rattle.ledger_steps.specs.LedgerCallsCalls.{is_alias}
 use Rattle.value_laws.specs.Configuration.{Frame}
 use Rattle.value_laws.specs.Choosing.{is_number}
-use Rattle.value_laws.specs.FieldContents.{HaveContents, IsContent, RunOnOthers, is_made_in, makes_holder, makes_object}
-use Rattle.value_laws.specs.PlaceFacts.{HoldersAreOlder, IsHolder, RunsOn}
+use Rattle.value_laws.specs.FieldContents.{HaveContents, RunOnOthers, is_made_in, makes_holder, makes_object}
+use Rattle.value_laws.specs.PlaceFacts.{IsHolder, RunsOn}
 use Rattle.value_laws.specs.Safety.{constructs_object}
 use Rattle.covering_laws.proofs.Owners.{runs_on_none}
 
@@ -48,17 +48,6 @@ makes_on p w c (fr ∷ frs) is = go (makes_holder p w c fr) refl is (makes_on p 
     go true one is' rest = inl (is_object fr.locals.this w (and_parts (constructs (method_at p fr.method)) (is_number w (number_of fr.locals.this))
         (and_parts (constructs_object p w fr) (is_class_of c (method_at p fr.method)) (and_parts (makes_object p w c fr) (not (is_alias (method_at p fr.method))) one).0).0).1)
     go false none is' rest = inr (rest is')
-
--- where a field owns an object with an obligation, the field's object is finished, or one of the frames runs on it
-pub holders_are_older : (p : Program) (frs : List Frame) (h : HeapContents) → HaveContents p frs h → HoldersAreOlder p h frs
-holders_are_older p frs h contents o x at heavy w held =
-    let owner = field_of_owner x.owner w held in
-    let k = contents o x w owner.0 at (or_right (is_unmet x) (is_heavy_class p x.class) heavy) owner.1 in
-    by owner.0 k k.holder.finished refl
-  where
-    by : (f : FieldId) (k : IsContent p frs h o x w f) (b : Bool) → k.holder.finished ≡ b → (finished_in (object_at h w) ≡ true) ⊎ RunsOn w frs
-    by f k true done = inl (ap finished_in k.at ∙ done)
-    by f k false unready = inr (makes_on p w k.field.class frs (k.made unready))
 
 -- the object of a field that owns such an object is there
 pub holder_there : (p : Program) (frs : List Frame) (h : HeapContents) → HaveContents p frs h → (w : ℕ) → IsHolder p h w → (z : Object) × (object_at h w ≡ Some z)

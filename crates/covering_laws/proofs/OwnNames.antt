@@ -44,7 +44,7 @@ use Rattle.value_laws.specs.Leading.{CallsOnField, Leads, by_library, by_program
 use Rattle.value_laws.proofs.HeapLaws.{leading_links-root}
 use Rattle.value_laws.specs.Agreement.{HasMadeClasses, Stands}
 use Rattle.value_laws.specs.PlainForms.{HasPlainForms, run_by}
-use Rattle.covering_laws.specs.Covering.{HoldsHeavy, IsNotGiven}
+use Rattle.covering_laws.specs.Covering.{HoldsHeavy, IsCountedOn}
 use Rattle.value_laws.specs.FieldContents.{IsDispatched, is_chosen_by_class, promised_on}
 use Rattle.value_laws.specs.PlaceFacts.{IsCovered, gives_none, OwesOrHolds, renews_none}
 use Rattle.value_laws.proofs.Names.{of_interest}
@@ -63,11 +63,11 @@ chosen_by_note l a m n noted = go (form_of a) noted
 
 -- ---- the end of the call
 
-module _ (p : Program) (ac : Accept p) (forms' : HasPlainForms p) (h : HeapContents) (links : HasEarlierLinks h) (fr caller : Frame) (rest : List Frame) (st : Stands p fr) (covered : IsCovered p h gives_none renews_none (caller ∷ rest) fr)
+module _ (p : Program) (ac : Accept p) (forms' : HasPlainForms p) (h : HeapContents) (links : HasEarlierLinks h) (fr caller : Frame) (rest : List Frame) (st : Stands p fr) (old : ℕ → Bool) (covered : IsCovered p h gives_none renews_none old (caller ∷ rest) fr)
     (i : ℕ) (s : Step) (q : Completion) (there : slice_get (frame_steps p fr) i ≡ Some s) (is : s.action ≡ actions.End q) (j : ℕ) (t : Step) (waits : slice_get (frame_steps p caller) j ≡ Some t)
     (named : MethodId) (n : Method) (called : called_method t.action ≡ Some named) (named_at : method_at p named ≡ Some n) (dispatched : IsDispatched p h fr caller) (name : NameId)
     (interest : n.sig.interest ≡ Some name) (chosen : is_chosen_by_class (form_of t.action) ≡ true) (o : ℕ) (y : Object) (now : object_at h o ≡ Some y) (heavy : is_heavy_class p y.class ≡ true)
-    (owes : OwesOrHolds p h o y) (done : y.finished ≡ true) (made : HasMadeClasses p h) (spared : IsNotGiven p h (caller ∷ rest) fr o y) where
+    (owes : OwesOrHolds p h o y) (done : y.finished ≡ true) (made : HasMadeClasses p h) (spared : IsCountedOn p h old (caller ∷ rest) fr o y) where
   module _ (k c : ℕ) (x : Object) (f : FieldId) (field : Field) (target : operand_of caller.locals t.action 0 ≡ values.Object k) (at : object_at h k ≡ Some x) (declared : field_at p f ≡ Some field)
       (owning : field.owning ≡ true) (calls : CallsOnField p x.class f) (held : field_value p h k f ≡ values.Object c) (inner : Leads p h c o) (one : is_the_one (must_of p x.class) name ≡ true) where
     abbrev its : IsOwn p x.class name
@@ -112,7 +112,7 @@ module _ (p : Program) (ac : Accept p) (forms' : HasPlainForms p) (h : HeapConte
     }
 
     name_called : set.contains y.called name.0 ≡ true
-    name_called = within_at (promised_on f d) y.called (promises_are_kept_at_end p ac h (caller ∷ rest) fr st covered i s q d f k o y there is method no_constructor place (inr finalizer) holds spared done) name.0
+    name_called = within_at (promised_on f d) y.called (promises_are_kept_at_end p ac h (caller ∷ rest) fr st old covered i s q d f k o y there is method no_constructor place (inr finalizer) holds spared done) name.0
         (ap (λ (us : List Promise). set.contains (promised_names (λ u. is_of_field u f) us) name.0) (sym its.promises) ∙ promised_own p ac forms' x.class f field declared owning calls name one)
 
   -- a name that the link of the receiver stops was called on its root

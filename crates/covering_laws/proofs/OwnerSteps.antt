@@ -14,7 +14,7 @@ use Rattle.ledger_obligations.specs.Obligations.{given_up, is_frame, is_held_by,
 use Rattle.value_laws.specs.Configuration.{Frame}
 use Rattle.value_laws.specs.FieldContents.{RunOnOthers}
 use Rattle.value_laws.specs.PlaceFacts.{is_frame_below, is_frame_from, may_owe}
-use Rattle.covering_laws.proofs.Owners.{OwnerGoes, from_frame, left, passed}
+use Rattle.covering_laws.proofs.Owners.{IsNewTo, OwnerGoes, from_frame, left, passed}
 
 -- a field owns the object
 abbrev pub is_field_owner : Owner → Bool
@@ -106,12 +106,12 @@ field_free owners.Lost is = absurd (true≢false (sym is))
 field_free owners.Unowned is = absurd (true≢false (sym is))
 
 -- a frame gives up what it owned
-pub ended_goes : (into : Option ℕ) (below : List Frame) (j : ℕ) (a b : Owner) → is_frame a j ≡ true → IsFree b → OwnerGoes into below j a b
-ended_goes into below j a b is free = passed (own_frame j a (frame_is a j is)) (λ w held. absurd (true≢false (sym held ∙ free.1 w))) (λ n same. absurd (true≢false (sym (ap (is_frame_from 0) same ∙ from_frame 0 n (omega arith)) ∙ free.0)))
+pub ended_goes : (h : HeapContents) (into : Option ℕ) (below : List Frame) (j : ℕ) (a b : Owner) → is_frame a j ≡ true → IsFree b → OwnerGoes h into below j a b
+ended_goes h into below j a b is free = passed (own_frame j a (frame_is a j is)) (λ w held. absurd (true≢false (sym held ∙ free.1 w))) (λ n same. absurd (true≢false (sym (ap (is_frame_from 0) same ∙ from_frame 0 n (omega arith)) ∙ free.0)))
 
--- and a field of an object on which none of the frames below runs
-pub gave_up : (into : Option ℕ) (below : List Frame) (j : ℕ) (a b : Owner) → is_field_owner a ≡ true → IsFree b → ((w : ℕ) → is_held_by a w ≡ true → RunOnOthers w below) → OwnerGoes into below j a b
-gave_up into below j a b field free others = left (field_free a field) free.0 free.1 others
+-- and a field of an object that is not finished, on which none of the frames below runs
+pub gave_up : (h : HeapContents) (into : Option ℕ) (below : List Frame) (j : ℕ) (a b : Owner) → is_field_owner a ≡ true → IsFree b → ((w : ℕ) → is_held_by a w ≡ true → IsNewTo h below w) → OwnerGoes h into below j a b
+gave_up h into below j a b field free others = left (field_free a field) free.0 free.1 others
 
 -- ---- frames below a position
 

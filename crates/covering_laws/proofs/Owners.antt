@@ -1,7 +1,6 @@
 -- Who owns objects as a step goes, and what the frames were given.
 use Rattle.std.specs.Prelude.{nat_lt}
 use Rattle.std.proofs.Common.{◌≡◌, ◌⊎◌, eq-eqb, ℕ, ◌+◌, ◌<◌, ◌≤◌, Bool, true, false, not, ◌&&◌, ◌||◌, Option, Some, None, List, [], ◌∷◌, length, lt-ltb, ltb-true, refl, sym, ap, ◌∙◌, subst, inl, inr, true≢false, arith}
-use Rattle.std.proofs.lemmas.Bool.{and_from, and_parts, or_left, or_right}
 use Rattle.std.proofs.lemmas.Bool.Decides.{nat_tests}
 use Rattle.program_model.specs.declared.kinds.ClassId.{ClassId}
 use Rattle.program_model.specs.declared.kinds.FieldId.{FieldId}
@@ -25,21 +24,31 @@ use Rattle.ledger_obligations.specs.Obligations.{finished_in, is_held_by}
 use Rattle.value_laws.specs.Places.{place_value}
 use Rattle.value_laws.specs.Configuration.{Frame}
 use Rattle.value_laws.specs.FieldContents.{RunOnOthers}
-use Rattle.value_laws.specs.PlaceFacts.{HasOlderHolder, IsHolder, RunsOn, is_apart, is_content, is_field_of, is_frame_below, is_frame_from, is_given, was_given}
-use Rattle.value_laws.specs.Renewing.{IsHeldBy, IsLentFrom, IsOwnedByThis, is_renewed, makes_alone, was_renewed}
+use Rattle.value_laws.specs.Chains.{HaveEnds}
+use Rattle.value_laws.specs.HeapAnew.{is_field_owner}
+use Rattle.value_laws.specs.Holders.{HoldersAreUnlinked}
+use Rattle.value_laws.specs.PlaceFacts.{EndsBelow, EndsStrictly, IsApart, IsHeavyObject, IsOld, IsSpared, IsHolder, RunsOn, is_frame_below, is_frame_from, is_given}
+use Rattle.value_laws.specs.Renewing.{IsLentFrom, IsOwnedByThis, is_field_of, is_renewed, makes_alone, was_renewed}
+use Rattle.value_laws.proofs.RootLaws.{one_object}
+use Rattle.value_laws.proofs.WaysOverSteps.{KeepsWays, comparable_still, ends_below_still, strict_before, unmade_unheld}
+use Rattle.value_laws.proofs.WaysUp.{top_is_last}
 
 -- ---- the owner of an object, before a step and after it
 
+-- The object is not finished in this heap, and none of these frames runs on it.
+abbrev pub IsNewTo : HeapContents → List Frame → ℕ → Type 0
+IsNewTo h frs w = RunOnOthers w frs × ((z : Object) → object_at h w ≡ Some z → z.finished ≡ false)
+
 -- The owner stays. Or it was a frame at position `j` or above, and where a field owns the object then, it is one of object `into`. Or it was no frame,
--- and then neither a frame nor a field owns the object; where it was a field, none of the frames `below` runs on the field's object.
-pub data OwnerGoes (into : Option ℕ) (below : List Frame) (j : ℕ) (a b : Owner) : Type 0 where
-  stays : b ≡ a → OwnerGoes into below j a b
-  passed : is_frame_from j a ≡ true → ((w : ℕ) → is_held_by b w ≡ true → into ≡ Some w) → ((n : ℕ) → b ≡ owners.Frame n → j ≤ n) → OwnerGoes into below j a b
-  left : is_frame_from 0 a ≡ false → is_frame_from 0 b ≡ false → ((w : ℕ) → is_held_by b w ≡ false) → ((w : ℕ) → is_held_by a w ≡ true → RunOnOthers w below) → OwnerGoes into below j a b
+-- and then neither a frame nor a field owns the object; where it was a field, the field's object is not finished, and none of the frames `below` runs on it.
+pub data OwnerGoes (h : HeapContents) (into : Option ℕ) (below : List Frame) (j : ℕ) (a b : Owner) : Type 0 where
+  stays : b ≡ a → OwnerGoes h into below j a b
+  passed : is_frame_from j a ≡ true → ((w : ℕ) → is_held_by b w ≡ true → into ≡ Some w) → ((n : ℕ) → b ≡ owners.Frame n → j ≤ n) → OwnerGoes h into below j a b
+  left : is_frame_from 0 a ≡ false → is_frame_from 0 b ≡ false → ((w : ℕ) → is_held_by b w ≡ false) → ((w : ℕ) → is_held_by a w ≡ true → IsNewTo h below w) → OwnerGoes h into below j a b
 
 -- so do the owners of all finished objects whose class has an obligation
 abbrev pub OwnersGo : Program → Option ℕ → List Frame → ℕ → HeapContents → HeapContents → Type 0
-OwnersGo p into below j h k = (o : ℕ) (x y : Object) → object_at h o ≡ Some x → object_at k o ≡ Some y → x.finished ≡ true → is_heavy_class p x.class ≡ true → OwnerGoes into below j x.owner y.owner
+OwnersGo p into below j h k = (o : ℕ) (x y : Object) → object_at h o ≡ Some x → object_at k o ≡ Some y → x.finished ≡ true → is_heavy_class p x.class ≡ true → OwnerGoes h into below j x.owner y.owner
 
 -- what was finished is so
 abbrev pub KeepsFinished : HeapContents → HeapContents → Type 0
@@ -67,27 +76,16 @@ pub holders_stay : (p : Program) (h k : HeapContents) → ((o : ℕ) (y : Object
 holders_stay p h k was w (c, y, now, done, heavy, held) =
     let x = was c y now in (c, x.0, x.1, sym x.3 ∙ done, ap (is_heavy_class p) (sym x.2) ∙ heavy, ap (λ (a : Owner). is_held_by a w) (sym x.4) ∙ held)
 
--- what is finished after a step was so before it, or no field owns it
-abbrev pub BirthsAreFree : HeapContents → HeapContents → Type 0
-BirthsAreFree h k = (o : ℕ) (y : Object) → object_at k o ≡ Some y → y.finished ≡ true → ((x : Object) × (object_at h o ≡ Some x) × (x.finished ≡ true) × (y.class ≡ x.class)) ⊎ ((w : ℕ) → is_held_by y.owner w ≡ false)
-
--- the object into which a step moves what a frame owned is not finished
-abbrev pub IsUnready : HeapContents → Option ℕ → Type 0
-IsUnready h into = (w : ℕ) → into ≡ Some w → (z : Object) × (object_at h w ≡ Some z) × (z.finished ≡ false)
-
-pub none_unready : (h : HeapContents) → IsUnready h None
-none_unready h w is = absurd (let never : None ≡ Some w = is in cc)
-
-pub holders_were : (p : Program) (into : Option ℕ) (below : List Frame) (j : ℕ) (h k : HeapContents) → OwnersGo p into below j h k → BirthsAreFree h k → IsUnready h into → HoldersWere p h k
-holders_were p into below j h k go_on births unready w ready (c, y, now, done, heavy, held) = elim (births c y now done) [
-  | inl old ↦ by old.0 old.1 old.2 (ap (is_heavy_class p) (sym old.3) ∙ heavy) (go_on c old.0 y old.1 now old.2 (ap (is_heavy_class p) (sym old.3) ∙ heavy))
-  | inr free ↦ absurd (true≢false (sym held ∙ free w))
-]
-  where
-    by : (x : Object) → object_at h c ≡ Some x → x.finished ≡ true → is_heavy_class p x.class ≡ true → OwnerGoes into below j x.owner y.owner → IsHolder p h w
-    by x before was heavy' (stays same) = (c, x, before, was, heavy', ap (λ (a : Owner). is_held_by a w) (sym same) ∙ held)
-    by x before was heavy' (passed from goes low) = let z = unready w (goes w held) in absurd (true≢false (sym (ready z.0 z.1) ∙ z.2))
-    by x before was heavy' (left none then' fields others) = absurd (true≢false (sym held ∙ fields w))
+-- What else a step makes of objects: the ways up from owned ones end, and those of objects with obligations lead through unlinked ones that have some; objects stay, of the class and linked as they were,
+-- and finished if they were. One that is not finished stays so, and nobody owns it; or none of the frames `below` runs on it, and neither a field owns it nor a frame below position `j`, as with what is made.
+-- Object `into` is not finished.
+pub record WaysGo (p : Program) (into : Option ℕ) (below : List Frame) (j : ℕ) (h k : HeapContents) : Type 0 where
+  pub have : HaveEnds h
+  pub unlinked : HoldersAreUnlinked (is_heavy_class p) h
+  pub objects : (o : ℕ) (x : Object) → object_at h o ≡ Some x → (y : Object) × (object_at k o ≡ Some y) × (y.class ≡ x.class) × (x.finished ≡ true → (y.finished ≡ true) × (y.link ≡ x.link))
+  pub unmade : (o : ℕ) (x y : Object) → object_at h o ≡ Some x → object_at k o ≡ Some y → x.finished ≡ false → ((y.finished ≡ false) × (y.owner ≡ owners.Unowned)) ⊎ (RunOnOthers o below × (is_field_owner y.owner ≡ false) × ((n : ℕ) → n ≤ j → is_frame_below n y.owner ≡ false))
+  pub fresh : (o : ℕ) (y : Object) → object_at h o ≡ None → object_at k o ≡ Some y → (is_field_owner y.owner ≡ false) × ((n : ℕ) → n ≤ j → is_frame_below n y.owner ≡ false)
+  pub unready : (w : ℕ) → into ≡ Some w → (z : Object) × (object_at h w ≡ Some z) × (z.finished ≡ false)
 
 -- ---- what frames own
 
@@ -98,24 +96,29 @@ is_field_place places.This = false
 is_field_place (places.Temp d) = false
 is_field_place places.Super = false
 
--- what is not owned by the frame above these or one above it does not come to be, nor does what no frame owns, nor does a field of `this`, in a frame
--- that runs no constructor, come to own anything; what is lent to the frame keeps its owner; and the holder of what no frame from here on owns is finished, or a frame below
--- runs on it; and what fields own is as said above
+-- What is not owned by the frame above these or one above it does not come to be, nor does what no frame owns, nor does a field of `this`, in a frame
+-- that runs no constructor, come to own anything; what is lent to the frame keeps its owner, and is lent; what ends below this frame does so still, what does so
+-- strictly did so, and what was made or finished by the step no field owns, nor a frame below; what is spared was so; and what fields own is as said above.
 pub record StaysApart (p : Program) (h k : HeapContents) (frs : List Frame) (fr : Frame) : Type 0 where
   pub apart : (o : ℕ) (x y : Object) → object_at h o ≡ Some x → object_at k o ≡ Some y → x.finished ≡ true → is_heavy_class p x.class ≡ true → is_frame_from (length frs + 1) x.owner ≡ false → is_frame_from (length frs + 1) y.owner ≡ false
   pub free : (o : ℕ) (x y : Object) → object_at h o ≡ Some x → object_at k o ≡ Some y → x.finished ≡ true → is_heavy_class p x.class ≡ true → is_frame_from 0 x.owner ≡ false → is_frame_from 0 y.owner ≡ false
-  pub content : (o : ℕ) (x y : Object) → object_at h o ≡ Some x → object_at k o ≡ Some y → x.finished ≡ true → is_heavy_class p x.class ≡ true → constructs (method_at p fr.method) ≡ false
-      → is_field_of fr.locals.this y.owner ≡ true → is_field_of fr.locals.this x.owner ≡ true
-  pub low : (o : ℕ) (x y : Object) → object_at h o ≡ Some x → object_at k o ≡ Some y → x.finished ≡ true → is_heavy_class p x.class ≡ true → is_frame_below (length frs + 1) y.owner ≡ true → is_frame_below (length frs + 1) x.owner ≡ true
-  pub keeps : (o : ℕ) (x y : Object) → object_at h o ≡ Some x → object_at k o ≡ Some y → x.finished ≡ true → is_heavy_class p x.class ≡ true → IsLentFrom p h frs o x.owner → y.owner ≡ x.owner
-  pub older : (o : ℕ) (x y : Object) → object_at h o ≡ Some x → object_at k o ≡ Some y → x.finished ≡ true → is_heavy_class p x.class ≡ true → is_frame_from (length frs + 1) x.owner ≡ false → HasOlderHolder h frs x.owner
-      → HasOlderHolder k frs y.owner
+  pub content : (o : ℕ) (x y : Object) (w : ℕ) (f : FieldId) → object_at h o ≡ Some x → object_at k o ≡ Some y → x.finished ≡ true → is_heavy_class p x.class ≡ true → constructs (method_at p fr.method) ≡ false
+      → fr.locals.this ≡ values.Object w → y.owner ≡ owners.Field w f → x.owner ≡ owners.Field w f
+  pub keeps : (o : ℕ) (x y : Object) → object_at h o ≡ Some x → object_at k o ≡ Some y → x.finished ≡ true → is_heavy_class p x.class ≡ true → IsLentFrom p h frs o x.owner → (y.owner ≡ x.owner) × IsLentFrom p k frs o y.owner
+  pub ends : (o : ℕ) (x : Object) → object_at h o ≡ Some x → is_heavy_class p x.class ≡ true → EndsBelow h frs o → EndsBelow k frs o
+  pub strict : (o : ℕ) (x : Object) → object_at h o ≡ Some x → IsHeavyObject p x → EndsStrictly k frs o → EndsStrictly h frs o
+  pub late : (o : ℕ) (y : Object) → object_at k o ≡ Some y → ((x : Object) → object_at h o ≡ Some x → x.finished ≡ true → ⊥) → (is_field_owner y.owner ≡ false) × (is_frame_below (length frs + 1) y.owner ≡ false)
+  pub spared : (o : ℕ) (x : Object) → object_at h o ≡ Some x → IsHeavyObject p x → IsSpared p k frs o → IsSpared p h frs o
   pub holders : HoldersWere p h k
 
 -- what an owning field of `this` owns it goes on owning, where the frame runs a constructor without an aliased argument
 abbrev pub KeepsHeld : Program → HeapContents → HeapContents → Frame → Type 0
 KeepsHeld p h k fr = (o : ℕ) (x y : Object) → object_at h o ≡ Some x → object_at k o ≡ Some y → x.finished ≡ true → is_heavy_class p x.class ≡ true → makes_alone (method_at p fr.method) ≡ true → IsOwnedByThis p fr x.owner
     → y.owner ≡ x.owner
+
+-- a field of `this` owns what it owned, and nothing else
+abbrev pub KeepsContents : Program → HeapContents → HeapContents → Frame → Type 0
+KeepsContents p h k fr = (o : ℕ) (x y : Object) → object_at h o ≡ Some x → object_at k o ≡ Some y → is_heavy_class p x.class ≡ true → is_field_of fr.locals.this y.owner ≡ is_field_of fr.locals.this x.owner
 
 -- what the frame at this position owns, and a variable, a temp or `this` of it holds, it goes on owning, where it is not given away
 abbrev pub KeepsOwn : Program → HeapContents → HeapContents → (ℕ → ClassId → Bool) → ℕ → Frame → Type 0
@@ -126,6 +129,7 @@ pub record KeepsOwners (p : Program) (h k : HeapContents) (gives : ℕ → Class
   pub own : KeepsOwn p h k gives (length frs + 1) fr
   pub others : StaysApart p h k frs fr
   pub held : KeepsHeld p h k fr
+  pub reread : KeepsContents p h k fr
 
 abbrev pub AllKeepOwners : Program → HeapContents → HeapContents → List Frame → Type 0
 AllKeepOwners p h k [] = Unit {0}
@@ -180,36 +184,29 @@ frame_below i owners.Released is = absurd (true≢false (sym is))
 frame_below i owners.Lost is = absurd (true≢false (sym is))
 frame_below i owners.Unowned is = absurd (true≢false (sym is))
 
--- one of these frames is a constructor that has what it owns in a field of `this`
-abbrev pub IsHeldAmong : Program → List Frame → Owner → Type 0
-IsHeldAmong p [] owner = ⊥
-IsHeldAmong p (fr ∷ frs) owner = IsHeldBy p fr owner ⊎ IsHeldAmong p frs owner
+-- a field of an object on which one of these frames runs owns what has this owner
+pub record IsHeldAmong (frs : List Frame) (owner : Owner) : Type 0 where
+  pub holder : ℕ
+  pub held : is_held_by owner holder ≡ true
+  pub runs : RunsOn holder frs
 
--- what is lent is owned by a frame below, or a constructor below has it in a field
-pub lent_owner : (p : Program) (h : HeapContents) (frs : List Frame) (o : ℕ) (owner : Owner) → IsLentFrom p h frs o owner → (is_frame_below (length frs + 1) owner ≡ true) ⊎ IsHeldAmong p frs owner
+-- what is lent is owned by a frame below, or by such a field
+pub lent_owner : (p : Program) (h : HeapContents) (frs : List Frame) (o : ℕ) (owner : Owner) → IsLentFrom p h frs o owner → (is_frame_below (length frs + 1) owner ≡ true) ⊎ IsHeldAmong frs owner
 lent_owner p h [] o owner is = absurd is
-lent_owner p h (fr ∷ frs) o owner is = elim is.1 [
-  | inl own ↦ inl (as_next (ap (is_frame_below (length frs + 1 + 1)) own ∙ lt-ltb (length frs + 1) (length frs + 1 + 1) (omega arith)))
-  | inr further ↦ elim further [
-    | inl on ↦ elim (lent_owner p h frs o owner on) [
-      | inl low ↦ inl (as_next (higher (length frs + 1) owner low))
-      | inr held ↦ inr (inr held)
-    ]
-    | inr held ↦ inr (inl held)
-  ]
-]
+lent_owner p h (fr ∷ frs) o owner (renews, inl own) = inl (as_next frs fr owner (ap (is_frame_below (length frs + 1 + 1)) own ∙ lt-ltb (length frs + 1) (length frs + 1 + 1) (omega arith)))
   where
-    as_next : is_frame_below (length frs + 1 + 1) owner ≡ true → is_frame_below (length (fr ∷ frs) + 1) owner ≡ true
-    as_next is' = ap (λ (n : ℕ). is_frame_below n owner) (let number : length (fr ∷ frs) + 1 ≡ length frs + 1 + 1 = omega arith in number) ∙ is'
-
+    as_next : (frs : List Frame) (fr : Frame) (owner : Owner) → is_frame_below (length frs + 1 + 1) owner ≡ true → is_frame_below (length (fr ∷ frs) + 1) owner ≡ true
+    as_next frs fr owner is' = ap (λ (n : ℕ). is_frame_below n owner) (let number : length (fr ∷ frs) + 1 ≡ length frs + 1 + 1 = omega arith in number) ∙ is'
+lent_owner p h (fr ∷ frs) o owner (renews, inr (inl on)) = go (lent_owner p h frs o owner on)
+  where
     higher : (n : ℕ) (a : Owner) → is_frame_below n a ≡ true → is_frame_below (n + 1) a ≡ true
     higher n a low = (let low' = frame_below n a low in ap (is_frame_below (n + 1)) low'.1 ∙ lt-ltb low'.0 (n + 1) (let less = low'.2 in omega (arith, less)))
 
--- what a constructor among frames has in a field: the object of the field, on which one of them runs
-pub held_among : (p : Program) (frs : List Frame) (owner : Owner) → IsHeldAmong p frs owner → (w : ℕ) × (is_held_by owner w ≡ true) × RunsOn w frs
-held_among p [] owner held = absurd held
-held_among p (fr ∷ frs) owner (inl held) = (held.1.holder, held_at owner held.1.holder held.1.field held.1.owns, inl held.1.runs)
-held_among p (fr ∷ frs) owner (inr further) = let it = held_among p frs owner further in (it.0, it.1, inr it.2)
+    go : (is_frame_below (length frs + 1) owner ≡ true) ⊎ IsHeldAmong frs owner → (is_frame_below (length (fr ∷ frs) + 1) owner ≡ true) ⊎ IsHeldAmong (fr ∷ frs) owner
+    go (inl low) = inl (ap (λ (n : ℕ). is_frame_below n owner) (let number : length (fr ∷ frs) + 1 ≡ length frs + 1 + 1 = omega arith in number) ∙ higher (length frs + 1) owner low)
+    go (inr held) = inr (record { holder = held.holder; held = held.held; runs = inr held.runs })
+lent_owner p h (fr ∷ frs) o owner (renews, inr (inr (inl held))) = inr (record { holder = held.1.holder; held = held_at owner held.1.holder held.1.field held.1.owns; runs = inl held.1.runs })
+lent_owner p h (fr ∷ frs) o owner (renews, inr (inr (inr held))) = inr (record { holder = held.holder; held = held_at owner held.holder held.field held.owns; runs = inl held.runs })
 
 -- a frame owns it no more than a field does
 pub held_no_frame : (i : ℕ) (owner : Owner) (w : ℕ) → is_held_by owner w ≡ true → is_frame_from i owner ≡ false
@@ -224,7 +221,7 @@ held_no_frame i owners.Unowned w held = refl
 pub lent_not_from : (p : Program) (h : HeapContents) (frs : List Frame) (o : ℕ) (owner : Owner) → IsLentFrom p h frs o owner → is_frame_from (length frs + 1) owner ≡ false
 lent_not_from p h frs o owner lent = elim (lent_owner p h frs o owner lent) [
   | inl low ↦ (let it = frame_below (length frs + 1) owner low in no_frame_at (length frs + 1) owner it.0 it.1 it.2)
-  | inr held ↦ (let it = held_among p frs owner held in held_no_frame (length frs + 1) owner it.0 it.1)
+  | inr held ↦ held_no_frame (length frs + 1) owner held.holder held.held
 ]
   where
     no_frame_at : (i : ℕ) (a : Owner) (n : ℕ) → a ≡ owners.Frame n → n < i → is_frame_from i a ≡ false
@@ -235,6 +232,21 @@ pub runs_on_none : (w : ℕ) (frs : List Frame) → RunOnOthers w frs → RunsOn
 runs_on_none w [] others is = is
 runs_on_none w (fr ∷ frs) others (inl here) = others.0 here
 runs_on_none w (fr ∷ frs) others (inr on) = runs_on_none w frs others.1 on
+
+-- ---- what frames were given, and which obligations the calls that began them create anew
+
+-- the call at which the frame waits gives away what it gave, and it creates those obligations anew that it did
+abbrev pub KeepsGifts : Program → HeapContents → HeapContents → Frame → Type 0
+KeepsGifts p h k fr = (o : ℕ) → ((c : ClassId) → is_given p k fr o c ≡ is_given p h fr o c) × (is_renewed p k fr o ≡ is_renewed p h fr o)
+
+abbrev pub AllKeepGifts : Program → HeapContents → HeapContents → List Frame → Type 0
+AllKeepGifts p h k [] = Unit {0}
+AllKeepGifts p h k (fr ∷ frs) = KeepsGifts p h k fr × AllKeepGifts p h k frs
+
+-- a frame that was not begun so has nothing lent
+pub lent_renewed : (p : Program) (h : HeapContents) (frs : List Frame) (o : ℕ) (owner : Owner) → IsLentFrom p h frs o owner → was_renewed p h frs o ≡ true
+lent_renewed p h [] o owner is = absurd is
+lent_renewed p h (fr ∷ frs) o owner is = is.0
 
 -- ---- the frames below the position from which owners change
 
@@ -250,184 +262,315 @@ none_on : (into : Option ℕ) (fr : Frame) (frs : List Frame) → RunsNoneOn int
 none_on None fr frs others = ((λ w is this. (let never : None ≡ Some w = is in cc)), tt)
 none_on (Some u) fr frs others = ((λ w is this. others.0 (this ∙ ap values.Object (let both : Some u ≡ Some w = is in (let one : w ≡ u = cc in one)))), others.1)
 
-module _ (p : Program) (into : Option ℕ) (leaving : List Frame) (j : ℕ) (h k : HeapContents) (finishes : KeepsFinished h k) (go_on : OwnersGo p into leaving j h k) (holders' : HoldersWere p h k) where
+module _ (p : Program) (into : Option ℕ) (leaving : List Frame) (j : ℕ) (h k : HeapContents) (ways : WaysGo p into leaving j h k) (go_on : OwnersGo p into leaving j h k) where
+  -- what a field owns, but one of an object that was not finished, it owned
+  pub holders_were : HoldersWere p h k
+  holders_were w ready (c, y, now, done, heavy, held) = go (object_at h c) refl
+    where
+      unheld : is_field_owner y.owner ≡ false → ⊥
+      unheld none = true≢false (sym (held_field y.owner held) ∙ none)
+        where
+          held_field : (a : Owner) → is_held_by a w ≡ true → is_field_owner a ≡ true
+          held_field (owners.Field v f) is = refl
+          held_field (owners.Frame n) is = absurd (true≢false (sym is))
+          held_field owners.Library is = absurd (true≢false (sym is))
+          held_field owners.Released is = absurd (true≢false (sym is))
+          held_field owners.Lost is = absurd (true≢false (sym is))
+          held_field owners.Unowned is = absurd (true≢false (sym is))
+
+      by : (x : Object) → object_at h c ≡ Some x → x.finished ≡ true → is_heavy_class p x.class ≡ true → OwnerGoes h into leaving j x.owner y.owner → IsHolder p h w
+      by x before was heavy' (stays same) = (c, x, before, was, heavy', ap (λ (a : Owner). is_held_by a w) (sym same) ∙ held)
+      by x before was heavy' (passed from goes low) = let z = ways.unready w (goes w held) in absurd (true≢false (sym (ready z.0 z.1) ∙ z.2))
+      by x before was heavy' (left none then' fields others) = absurd (true≢false (sym held ∙ fields w))
+
+      old_one : (x : Object) → object_at h c ≡ Some x → (b : Bool) → x.finished ≡ b → IsHolder p h w
+      old_one x before true was =
+          let next = ways.objects c x before in
+          let wide : is_heavy_class p x.class ≡ true = ap (is_heavy_class p) (sym next.2 ∙ ap (λ (u : Object). u.class) (one_object next.0 y (object_at k c) next.1 now)) ∙ heavy in
+          by x before was wide (go_on c x y before now was wide)
+      old_one x before false open' = elim (ways.unmade c x y before now open') [
+        | inl still ↦ absurd (true≢false (sym done ∙ still.0))
+        | inr away ↦ absurd (unheld away.1)
+      ]
+
+      go : (x : Option Object) → object_at h c ≡ x → IsHolder p h w
+      go None before = absurd (unheld (ways.fresh c y before now).0)
+      go (Some x) before = old_one x before x.finished refl
+
   -- what no frame from a position on owns stays so
-  apart_by : (i : ℕ) (a b : Owner) → i ≤ j → OwnerGoes into leaving j a b → is_frame_from i a ≡ false → is_frame_from i b ≡ false
+  apart_by : (i : ℕ) (a b : Owner) → i ≤ j → OwnerGoes h into leaving j a b → is_frame_from i a ≡ false → is_frame_from i b ≡ false
   apart_by i a b below (stays same) none = ap (is_frame_from i) same ∙ none
   apart_by i a b below (passed from goes low) none = absurd (true≢false (sym (frame_from_lower i j a below from) ∙ none))
   apart_by i a b below (left none' then' fields others) none = no_frame_from 0 i b (omega arith) then'
 
-  module _ (frs : List Frame) (fr : Frame) (below : length frs + 1 ≤ j) where
-    abbrev i : ℕ
-    i = length frs + 1
+  -- what is lent to frames keeps its owner, where what a field gives up is one of an object on which none of these runs
+  owner_kept : (frs : List Frame) → length frs + 1 ≤ j → ((w : ℕ) → RunOnOthers w leaving → RunOnOthers w frs) → (o : ℕ) (x y : Object) → object_at h o ≡ Some x → object_at k o ≡ Some y → x.finished ≡ true → is_heavy_class p x.class ≡ true
+      → IsLentFrom p h frs o x.owner → y.owner ≡ x.owner
+  owner_kept frs below spared o x y before at done heavy lent = elim (lent_owner p h frs o x.owner lent) [
+    | inl low ↦ by x.owner y.owner (go_on o x y before at done heavy) (frame_below (length frs + 1) x.owner low)
+    | inr held ↦ of_field x.owner y.owner (go_on o x y before at done heavy) held.holder held.held held.runs
+  ]
+    where
+      by : (a b : Owner) → OwnerGoes h into leaving j a b → (n : ℕ) × (a ≡ owners.Frame n) × (n < length frs + 1) → b ≡ a
+      by a b (stays same) (n, is, less) = same
+      by a b (passed from goes low') (n, is, less) = absurd (owned_below n j a is (omega (arith, below, less)) from)
+      by a b (left none then' fields others) (n, is, less) = absurd (true≢false (sym (ap (is_frame_from 0) is ∙ from_frame 0 n (omega arith)) ∙ none))
 
-    apart_here : (n : ℕ) → n ≤ i → (o : ℕ) (x y : Object) → object_at h o ≡ Some x → object_at k o ≡ Some y → x.finished ≡ true → is_heavy_class p x.class ≡ true → is_frame_from n x.owner ≡ false → is_frame_from n y.owner ≡ false
+      of_field : (a b : Owner) → OwnerGoes h into leaving j a b → (w : ℕ) → is_held_by a w ≡ true → RunsOn w frs → b ≡ a
+      of_field a b (stays same) w held runs = same
+      of_field a b (passed from goes low') w held runs = absurd (true≢false (sym from ∙ held_no_frame j a w held))
+      of_field a b (left none then' fields others) w held runs = absurd (runs_on_none w frs (spared w (others w held).0) runs)
+
+  -- and it is lent still
+  lent_still : (frs : List Frame) → length frs + 1 ≤ j → ((w : ℕ) → RunOnOthers w leaving → RunOnOthers w frs) → AllKeepGifts p h k frs → (o : ℕ) (owner : Owner) → IsLentFrom p h frs o owner → IsLentFrom p k frs o owner
+  lent_still [] below spared gifts o owner lent = lent
+  lent_still (fr ∷ frs) below spared gifts o owner (renews, inl own) = ((gifts.0 o).1 ∙ renews, inl own)
+  lent_still (fr ∷ frs) below spared gifts o owner (renews, inr (inl on)) = ((gifts.0 o).1 ∙ renews, inr (inl (lent_still frs (omega (arith, below)) (λ w none. (spared w none).1) gifts.1 o owner on)))
+  lent_still (fr ∷ frs) below spared gifts o owner (renews, inr (inr (inl held))) = ((gifts.0 o).1 ∙ renews, inr (inr (inl held)))
+  lent_still (fr ∷ frs) below spared gifts o owner (renews, inr (inr (inr held))) =
+      let y = ways.objects held.holder held.object held.at in
+      let same = owner_kept frs (omega (arith, below)) (λ w none. (spared w none).1) held.holder held.object y.0 held.at y.1 held.finished held.heavy held.lends in (
+        (gifts.0 o).1 ∙ renews,
+        inr (inr (inr (record {
+          holder = held.holder;
+          field = held.field;
+          owns = held.owns;
+          runs = held.runs;
+          method = held.method;
+          object = y.0;
+          at = y.1;
+          finished = (y.3 held.finished).0;
+          unlinked = (y.3 held.finished).1 ∙ held.unlinked;
+          heavy = ap (is_heavy_class p) y.2 ∙ held.heavy;
+          lends = subst (IsLentFrom p k frs held.holder) (sym same) (lent_still frs (omega (arith, below)) (λ w none. (spared w none).1) gifts.1 held.holder held.object.owner held.lends);
+        }))),
+      )
+
+  -- the ways up from what ends below a frame at this position or below
+  ways_kept : (frs : List Frame) → length frs + 1 ≤ j → RunsNoneOn into frs → ((w : ℕ) → RunOnOthers w leaving → RunOnOthers w frs) → KeepsWays p h k frs (λ w. RunOnOthers w leaving)
+  ways_kept frs below nowhere spared = record {
+    none = λ w away runs. runs_on_none w frs (spared w away) runs;
+    objects = λ o x at. (let y = ways.objects o x at in (y.0, y.1, y.2, λ done. (y.3 done).0));
+    kept = λ o x y w f before at heavy owned. by_field' x.owner y.owner w f (go_on o x y before at heavy.0 heavy.1) owned;
+    free = λ o x y before at heavy unheld none. (by_free x.owner y.owner (go_on o x y before at heavy.0 heavy.1) unheld none, apart_by (length frs + 1) x.owner y.owner below (go_on o x y before at heavy.0 heavy.1) none);
+    low = λ o x y before at heavy low. by_low x.owner y.owner (go_on o x y before at heavy.0 heavy.1) (frame_below (length frs + 1) y.owner low);
+    unmade = λ o x y before at open'. elim (ways.unmade o x y before at open') [ inl still ↦ inl still | inr away ↦ inr (away.0, away.1, away.2 (length frs + 1) below) ];
+    new = λ o x y w f before at heavy owned. by_new x.owner y.owner w f (go_on o x y before at heavy.0 heavy.1) owned;
+  }
+    where
+      by_field' : (a b : Owner) (w : ℕ) (f : FieldId) → OwnerGoes h into leaving j a b → a ≡ owners.Field w f → (b ≡ owners.Field w f) ⊎ IsNewTo h leaving w
+      by_field' a b w f (stays same) owned = inl (same ∙ owned)
+      by_field' a b w f (passed from goes low) owned = absurd (true≢false (sym from ∙ ap (is_frame_from j) owned))
+      by_field' a b w f (left none then' fields others) owned = inr (others w (held_at a w f owned))
+
+      by_low : (a b : Owner) → OwnerGoes h into leaving j a b → (n : ℕ) × (b ≡ owners.Frame n) × (n < length frs + 1) → is_frame_below (length frs + 1) a ≡ true
+      by_low a b (stays same) (n, is, less) = ap (is_frame_below (length frs + 1)) (sym same ∙ is) ∙ lt-ltb n (length frs + 1) less
+      by_low a b (passed from goes low') (n, is, less) = absurd (let high = low' n is in omega (arith, below, high, less))
+      by_low a b (left none then' fields others) (n, is, less) = absurd (true≢false (sym (ap (is_frame_from 0) is ∙ from_frame 0 n (omega arith)) ∙ then'))
+
+      nobody_on : (i : Option ℕ) (w : ℕ) → i ≡ Some w → RunsNoneOn i frs → RunsOn w frs → ⊥
+      nobody_on None w is none runs = let never : None ≡ Some w = is in cc
+      nobody_on (Some u) w is none runs = runs_on_none u frs none (subst (λ (n : ℕ). RunsOn n frs) (let both : Some u ≡ Some w = is in (let one : w ≡ u = cc in one)) runs)
+
+      by_new : (a b : Owner) (w : ℕ) (f : FieldId) → OwnerGoes h into leaving j a b → b ≡ owners.Field w f → (a ≡ owners.Field w f) ⊎ (((z : Object) × (object_at h w ≡ Some z) × (z.finished ≡ false)) × (RunsOn w frs → ⊥))
+      by_new a b w f (stays same) owned = inl (sym same ∙ owned)
+      by_new a b w f (passed from goes low) owned = inr (ways.unready w (goes w (held_at b w f owned)), λ runs. nobody_on into w (goes w (held_at b w f owned)) nowhere runs)
+      by_new a b w f (left none then' fields others) owned = absurd (true≢false (sym (held_at b w f owned) ∙ fields w))
+
+      no_field : (b : Owner) → ((w : ℕ) → is_held_by b w ≡ false) → is_field_owner b ≡ false
+      no_field (owners.Field w f) none = absurd (true≢false (sym (held_at (owners.Field w f) w f refl) ∙ none w))
+      no_field (owners.Frame i) none = refl
+      no_field owners.Library none = refl
+      no_field owners.Released none = refl
+      no_field owners.Lost none = refl
+      no_field owners.Unowned none = refl
+
+      by_free : (a b : Owner) → OwnerGoes h into leaving j a b → is_field_owner a ≡ false → is_frame_from (length frs + 1) a ≡ false → is_field_owner b ≡ false
+      by_free a b (stays same) unheld none = ap is_field_owner same ∙ unheld
+      by_free a b (passed from goes low) unheld none = absurd (true≢false (sym (frame_from_lower (length frs + 1) j a below from) ∙ none))
+      by_free a b (left none' then' fields others) unheld none = no_field b fields
+
+  -- what is spared was so
+  spared_then : (frs : List Frame) → length frs + 1 ≤ j → RunsNoneOn into frs → ((w : ℕ) → RunOnOthers w leaving → RunOnOthers w frs) → AllKeepGifts p h k frs → (o : ℕ) (x : Object) → object_at h o ≡ Some x → IsHeavyObject p x → IsSpared p k frs o → IsSpared p h frs o
+  spared_then [] below nowhere others gifts o x at heavy spared = tt
+  spared_then (fr ∷ frs) below nowhere others gifts o x at heavy spared = λ u z there heavy' comes.
+      let y = ways.objects u z there in
+      let comes' = comparable_still p h k ways.have ways.unlinked (fr ∷ frs) (λ w. RunOnOthers w leaving) (ways_kept (fr ∷ frs) below nowhere others) u o z x there at heavy' heavy comes in
+      let none = spared u y.0 y.1 ((y.3 heavy'.0).0, ap (is_heavy_class p) y.2 ∙ heavy'.1) comes' in
+      sym (gifts.0 u).1 ∙ none
+
+  module _ (frs : List Frame) (fr : Frame) (below : length frs + 1 ≤ j) (gifts : AllKeepGifts p h k frs) where
+    apart_here : (n : ℕ) → n ≤ length frs + 1 → (o : ℕ) (x y : Object) → object_at h o ≡ Some x → object_at k o ≡ Some y → x.finished ≡ true → is_heavy_class p x.class ≡ true → is_frame_from n x.owner ≡ false → is_frame_from n y.owner ≡ false
     apart_here n under o x y before at done heavy none = apart_by n x.owner y.owner (omega (arith, below, under)) (go_on o x y before at done heavy) none
-
-    -- what a frame below owns it owned
-    low_here : (o : ℕ) (x y : Object) → object_at h o ≡ Some x → object_at k o ≡ Some y → x.finished ≡ true → is_heavy_class p x.class ≡ true → is_frame_below i y.owner ≡ true → is_frame_below i x.owner ≡ true
-    low_here o x y before at done heavy low = by x.owner y.owner (go_on o x y before at done heavy) (frame_below i y.owner low)
-      where
-        by : (a b : Owner) → OwnerGoes into leaving j a b → (n : ℕ) × (b ≡ owners.Frame n) × (n < i) → is_frame_below i a ≡ true
-        by a b (stays same) (n, is, less) = ap (is_frame_below i) (sym same ∙ is) ∙ lt-ltb n i less
-        by a b (passed from goes low') (n, is, less) = absurd (let high = low' n is in omega (arith, below, high, less))
-        by a b (left none then' fields others) (n, is, less) = absurd (true≢false (sym (ap (is_frame_from 0) is ∙ from_frame 0 n (omega arith)) ∙ then'))
-
-    -- what is lent to the frame keeps its owner, where what a field gives up is one of an object on which none of these runs
-    kept_here : ((w : ℕ) → RunOnOthers w leaving → RunOnOthers w frs) → (o : ℕ) (x y : Object) → object_at h o ≡ Some x → object_at k o ≡ Some y → x.finished ≡ true → is_heavy_class p x.class ≡ true → IsLentFrom p h frs o x.owner → y.owner ≡ x.owner
-    kept_here spared o x y before at done heavy lent = elim (lent_owner p h frs o x.owner lent) [
-      | inl low ↦ by x.owner y.owner (go_on o x y before at done heavy) (frame_below i x.owner low)
-      | inr held ↦ (let it = held_among p frs x.owner held in of_field x.owner y.owner (go_on o x y before at done heavy) it.0 it.1 it.2)
-    ]
-      where
-        by : (a b : Owner) → OwnerGoes into leaving j a b → (n : ℕ) × (a ≡ owners.Frame n) × (n < i) → b ≡ a
-        by a b (stays same) (n, is, less) = same
-        by a b (passed from goes low') (n, is, less) = absurd (owned_below n j a is (omega (arith, below, less)) from)
-        by a b (left none then' fields others) (n, is, less) = absurd (true≢false (sym (ap (is_frame_from 0) is ∙ from_frame 0 n (omega arith)) ∙ none))
-
-        of_field : (a b : Owner) → OwnerGoes into leaving j a b → (w : ℕ) → is_held_by a w ≡ true → RunsOn w frs → b ≡ a
-        of_field a b (stays same) w held runs = same
-        of_field a b (passed from goes low') w held runs = absurd (true≢false (sym from ∙ held_no_frame j a w held))
-        of_field a b (left none then' fields others) w held runs = absurd (runs_on_none w frs (spared w (others w held)) runs)
-
-    -- the holder of what no frame from here on owns
-    older_here : (o : ℕ) (x y : Object) → object_at h o ≡ Some x → object_at k o ≡ Some y → x.finished ≡ true → is_heavy_class p x.class ≡ true → is_frame_from i x.owner ≡ false → HasOlderHolder h frs x.owner → HasOlderHolder k frs y.owner
-    older_here o x y before at done heavy none older = by x.owner y.owner (go_on o x y before at done heavy) none older
-      where
-        by : (a b : Owner) → OwnerGoes into leaving j a b → is_frame_from i a ≡ false → HasOlderHolder h frs a → HasOlderHolder k frs b
-        by a b (stays same) none' older' w held = elim (older' w (ap (λ (u : Owner). is_held_by u w) (sym same) ∙ held)) [ inl made ↦ inl (finishes w made) | inr runs ↦ inr runs ]
-        by a b (passed from goes low) none' older' w held = absurd (true≢false (sym (frame_from_lower i j a below from) ∙ none'))
-        by a b (left none'' then' fields others) none' older' w held = absurd (true≢false (sym held ∙ fields w))
 
     -- what a field of `this` owns stays so
     pub held_here : ((w : ℕ) → RunOnOthers w leaving → fr.locals.this ≡ values.Object w → ⊥) → KeepsHeld p h k fr
     held_here spared o x y before at done heavy alone own = by x.owner y.owner (go_on o x y before at done heavy) own.holder (held_at x.owner own.holder own.field own.owns) own.runs
       where
-        by : (a b : Owner) → OwnerGoes into leaving j a b → (w : ℕ) → is_held_by a w ≡ true → fr.locals.this ≡ values.Object w → b ≡ a
+        by : (a b : Owner) → OwnerGoes h into leaving j a b → (w : ℕ) → is_held_by a w ≡ true → fr.locals.this ≡ values.Object w → b ≡ a
         by a b (stays same) w held runs = same
         by a b (passed from goes low) w held runs = absurd (true≢false (sym from ∙ held_no_frame j a w held))
-        by a b (left none then' fields others) w held runs = absurd (spared w (others w held) runs)
+        by a b (left none then' fields others) w held runs = absurd (spared w (others w held).0 runs)
 
-    -- a frame at this position or below
-    pub stays_apart : IsNotInto into fr.locals.this → ((w : ℕ) → RunOnOthers w leaving → RunOnOthers w frs) → StaysApart p h k frs fr
-    stays_apart other spared = record {
-      apart = apart_here i (omega arith);
-      free = apart_here 0 (omega arith);
-      low = low_here;
-      keeps = kept_here spared;
-      older = older_here;
-      holders = holders';
-      content = λ o x y before at done heavy plain own. content_by fr.locals.this refl x.owner y.owner (go_on o x y before at done heavy) own;
-    }
+    -- a field of `this` owns what it owned
+    pub contents_here : IsNotInto into fr.locals.this → RunsNoneOn into frs → ((w : ℕ) → RunOnOthers w leaving → fr.locals.this ≡ values.Object w → ⊥) → ((w : ℕ) → RunOnOthers w leaving → RunOnOthers w frs) → KeepsContents p h k fr
+    contents_here other nowhere spared others o x y before at heavy = by_done x.finished refl
       where
-        content_by : (v : Value) → fr.locals.this ≡ v → (a b : Owner) → OwnerGoes into leaving j a b → is_field_of v b ≡ true → is_field_of v a ≡ true
-        content_by (values.Object w) this a b (stays same) own = ap (λ (u : Owner). is_held_by u w) (sym same) ∙ own
-        content_by (values.Object w) this a b (passed from goes low) own = absurd (other w (goes w own) this)
-        content_by (values.Object w) this a b (left none then' fields others) own = absurd (true≢false (sym own ∙ fields w))
-        content_by values.Nothing this a b goes own = absurd (true≢false (sym own))
-        content_by v this a b goes own = absurd (true≢false (sym own))
+        unowned : (v : Value) (a : Owner) → is_field_owner a ≡ false → is_field_of v a ≡ false
+        unowned (values.Object w) (owners.Field u f) none = absurd (true≢false none)
+        unowned (values.Object w) (owners.Frame i) none = refl
+        unowned (values.Object w) owners.Library none = refl
+        unowned (values.Object w) owners.Released none = refl
+        unowned (values.Object w) owners.Lost none = refl
+        unowned (values.Object w) owners.Unowned none = refl
+        unowned v a none = refl
 
-    -- so does one that runs a constructor
-    pub constructor_apart : constructs (method_at p fr.method) ≡ true → ((w : ℕ) → RunOnOthers w leaving → RunOnOthers w frs) → StaysApart p h k frs fr
-    constructor_apart makes spared = record {
-      apart = apart_here i (omega arith);
-      free = apart_here 0 (omega arith);
-      low = low_here;
-      keeps = kept_here spared;
-      older = older_here;
-      holders = holders';
-      content = λ o x y before at done heavy plain own. absurd (true≢false (sym makes ∙ plain));
-    }
+        none_of : (v : Value) → fr.locals.this ≡ v → (a : Owner) → ((w : ℕ) → is_held_by a w ≡ true → fr.locals.this ≡ values.Object w → ⊥) → is_field_of v a ≡ false
+        none_of (values.Object w) this a none = go (is_held_by a w) refl
+          where
+            go : (b : Bool) → is_held_by a w ≡ b → is_held_by a w ≡ false
+            go true is = absurd (none w is this)
+            go false is = is
+        none_of v this a none = refl
+
+        by : (a b : Owner) → OwnerGoes h into leaving j a b → is_field_of fr.locals.this b ≡ is_field_of fr.locals.this a
+        by a b (stays same) = ap (is_field_of fr.locals.this) same
+        by a b (passed from goes low) =
+            none_of fr.locals.this refl b (λ w held this. other w (goes w held) this) ∙ sym (none_of fr.locals.this refl a (λ w held this. true≢false (sym from ∙ held_no_frame j a w held)))
+        by a b (left none then' fields news) =
+            none_of fr.locals.this refl b (λ w held this. true≢false (sym held ∙ fields w)) ∙ sym (none_of fr.locals.this refl a (λ w held this. spared w (news w held).0 this))
+
+        by_done : (c : Bool) → x.finished ≡ c → is_field_of fr.locals.this y.owner ≡ is_field_of fr.locals.this x.owner
+        by_done true done = by x.owner y.owner (go_on o x y before at done heavy)
+        by_done false open' =
+            unowned fr.locals.this y.owner (unmade_unheld p h k ways.have ways.unlinked frs (λ w. RunOnOthers w leaving) (ways_kept frs below nowhere others) o x y before at open')
+            ∙ sym (unowned fr.locals.this x.owner (ap is_field_owner (ways.have.unfinished o x before open')))
+
+    module _ (nowhere : RunsNoneOn into frs) (spared : (w : ℕ) → RunOnOthers w leaving → RunOnOthers w frs) where
+      keeps_lent : (o : ℕ) (x y : Object) → object_at h o ≡ Some x → object_at k o ≡ Some y → x.finished ≡ true → is_heavy_class p x.class ≡ true → IsLentFrom p h frs o x.owner → (y.owner ≡ x.owner) × IsLentFrom p k frs o y.owner
+      keeps_lent o x y before at done heavy lent =
+          let same = owner_kept frs below spared o x y before at done heavy lent in
+          (same, subst (IsLentFrom p k frs o) (sym same) (lent_still frs below spared gifts o x.owner lent))
+
+      -- what the step made, or finished
+      late_here : (o : ℕ) (y : Object) → object_at k o ≡ Some y → ((x : Object) → object_at h o ≡ Some x → x.finished ≡ true → ⊥) → (is_field_owner y.owner ≡ false) × (is_frame_below (length frs + 1) y.owner ≡ false)
+      late_here o y at none = go (object_at h o) refl
+        where
+          old_one : (x : Object) → object_at h o ≡ Some x → (c : Bool) → x.finished ≡ c → (is_field_owner y.owner ≡ false) × (is_frame_below (length frs + 1) y.owner ≡ false)
+          old_one x before true done = absurd (none x before done)
+          old_one x before false open' = elim (ways.unmade o x y before at open') [
+            | inl still ↦ (ap is_field_owner still.1, ap (is_frame_below (length frs + 1)) still.1)
+            | inr away ↦ (away.1, away.2 (length frs + 1) below)
+          ]
+
+          go : (x : Option Object) → object_at h o ≡ x → (is_field_owner y.owner ≡ false) × (is_frame_below (length frs + 1) y.owner ≡ false)
+          go None before = let made = ways.fresh o y before at in (made.0, made.1 (length frs + 1) below)
+          go (Some x) before = old_one x before x.finished refl
+
+      apart_as : ((o : ℕ) (x y : Object) (w : ℕ) (f : FieldId) → object_at h o ≡ Some x → object_at k o ≡ Some y → x.finished ≡ true → is_heavy_class p x.class ≡ true → constructs (method_at p fr.method) ≡ false
+          → fr.locals.this ≡ values.Object w → y.owner ≡ owners.Field w f → x.owner ≡ owners.Field w f) → StaysApart p h k frs fr
+      apart_as content = record {
+        apart = apart_here (length frs + 1) (omega arith);
+        free = apart_here 0 (omega arith);
+        content = content;
+        keeps = keeps_lent;
+        ends = λ o x at heavy ends'. ends_below_still p h k ways.have ways.unlinked frs (λ w. RunOnOthers w leaving) (ways_kept frs below nowhere spared) o x at heavy ends';
+        strict = λ o x at heavy ends'. strict_before p h k ways.have ways.unlinked frs (λ w. RunOnOthers w leaving) (ways_kept frs below nowhere spared) o x at heavy ends';
+        late = λ o y at none. late_here o y at none;
+        spared = λ o x at heavy is. spared_then frs below nowhere spared gifts o x at heavy is;
+        holders = holders_were;
+      }
+
+      -- a frame at this position or below
+      pub stays_apart : IsNotInto into fr.locals.this → StaysApart p h k frs fr
+      stays_apart other = apart_as (λ o x y w f before at done heavy plain this owned. by x.owner y.owner w f (go_on o x y before at done heavy) this owned)
+        where
+          by : (a b : Owner) (w : ℕ) (f : FieldId) → OwnerGoes h into leaving j a b → fr.locals.this ≡ values.Object w → b ≡ owners.Field w f → a ≡ owners.Field w f
+          by a b w f (stays same) this owned = sym same ∙ owned
+          by a b w f (passed from goes low) this owned = absurd (other w (goes w (held_at b w f owned)) this)
+          by a b w f (left none then' fields others) this owned = absurd (true≢false (sym (held_at b w f owned) ∙ fields w))
+
+      -- so does one that runs a constructor
+      pub constructor_apart : constructs (method_at p fr.method) ≡ true → StaysApart p h k frs fr
+      constructor_apart makes = apart_as (λ o x y w f before at done heavy plain this owned. absurd (true≢false (sym makes ∙ plain)))
 
   -- a frame below it keeps what it owns
   pub keeps_own : (gives : ℕ → ClassId → Bool) (i : ℕ) (fr : Frame) → i < j → KeepsOwn p h k gives i fr
   keeps_own gives i fr below q o x y small part root before at done heavy spared own = by x.owner y.owner (go_on o x y before at done heavy) own
     where
-      by : (a b : Owner) → OwnerGoes into leaving j a b → a ≡ owners.Frame i → b ≡ owners.Frame i
+      by : (a b : Owner) → OwnerGoes h into leaving j a b → a ≡ owners.Frame i → b ≡ owners.Frame i
       by a b (stays same) mine = same ∙ mine
       by a b (passed from goes low) mine = absurd (owned_below i j a mine below from)
       by a b (left none then' fields others) mine = absurd (true≢false (sym (ap (is_frame_from 0) mine ∙ from_frame 0 i (omega arith)) ∙ none))
 
-  pub owners_kept : (frs : List Frame) → length frs < j → RunsNoneOn into frs → ((w : ℕ) → RunOnOthers w leaving → RunOnOthers w frs) → AllKeepOwners p h k frs
-  owners_kept [] below others spared = tt
-  owners_kept (fr ∷ frs) below others spared =
+  pub owners_kept : (frs : List Frame) → length frs < j → AllKeepGifts p h k frs → RunsNoneOn into frs → ((w : ℕ) → RunOnOthers w leaving → RunOnOthers w frs) → AllKeepOwners p h k frs
+  owners_kept [] below gifts others spared = tt
+  owners_kept (fr ∷ frs) below gifts others spared =
       let rest = none_on into fr frs others in (
         record {
           own = keeps_own (is_given p h fr) (length frs + 1) fr (omega (arith, below));
-          others = stays_apart frs fr (omega (arith, below)) rest.0 (λ w none. (spared w none).1);
-          held = held_here frs fr (omega (arith, below)) (λ w none. (spared w none).0);
+          others = stays_apart frs fr (omega (arith, below)) gifts.1 rest.1 (λ w none. (spared w none).1) rest.0;
+          held = held_here frs fr (omega (arith, below)) gifts.1 (λ w none. (spared w none).0);
+          reread = contents_here frs fr (omega (arith, below)) gifts.1 rest.0 rest.1 (λ w none. (spared w none).0) (λ w none. (spared w none).1);
         },
-        owners_kept frs (omega (arith, below)) rest.1 (λ w none. (spared w none).1),
+        owners_kept frs (omega (arith, below)) gifts.1 rest.1 (λ w none. (spared w none).1),
       )
 
--- ---- what frames were given, and which obligations the calls that began them create anew
-
--- the call at which the frame waits gives away what it gave, and it creates those obligations anew that it did
-abbrev pub KeepsGifts : Program → HeapContents → HeapContents → Frame → Type 0
-KeepsGifts p h k fr = (o : ℕ) → ((c : ClassId) → is_given p k fr o c ≡ is_given p h fr o c) × (is_renewed p k fr o ≡ is_renewed p h fr o)
-
-abbrev pub AllKeepGifts : Program → HeapContents → HeapContents → List Frame → Type 0
-AllKeepGifts p h k [] = Unit {0}
-AllKeepGifts p h k (fr ∷ frs) = KeepsGifts p h k fr × AllKeepGifts p h k frs
-
--- a frame above these was given what it was given, and what was lent to it still is, as far as calls tell
-pub record KeepsGiven (p : Program) (h k : HeapContents) (frs : List Frame) : Type 0 where
-  pub given : (o : ℕ) (c : ClassId) → was_given p k frs o c ≡ was_given p h frs o c
-  pub renewed : (o : ℕ) → was_renewed p k frs o ≡ was_renewed p h frs o
-  pub lent : (o : ℕ) (owner : Owner) → IsLentFrom p h frs o owner → IsLentFrom p k frs o owner
-
-pub given_kept : (p : Program) (h k : HeapContents) (frs : List Frame) → AllKeepGifts p h k frs → KeepsGiven p h k frs
-given_kept p h k frs gifts = record { given = given frs gifts; renewed = renewed frs gifts; lent = λ o owner. lent frs gifts o owner }
-  where
-    given : (rest : List Frame) → AllKeepGifts p h k rest → (o : ℕ) (c : ClassId) → was_given p k rest o c ≡ was_given p h rest o c
-    given [] same o c = refl
-    given (fr ∷ rest) same o c = (same.0 o).0 c
-
-    renewed : (rest : List Frame) → AllKeepGifts p h k rest → (o : ℕ) → was_renewed p k rest o ≡ was_renewed p h rest o
-    renewed [] same o = refl
-    renewed (fr ∷ rest) same o = (same.0 o).1
-
-    lent : (rest : List Frame) → AllKeepGifts p h k rest → (o : ℕ) (owner : Owner) → IsLentFrom p h rest o owner → IsLentFrom p k rest o owner
-    lent [] same o owner is = is
-    lent (fr ∷ rest) same o owner is =
-        ((same.0 o).1 ∙ is.0, elim is.1 [ inl own ↦ inl own | inr further ↦ inr (elim further [ inl on ↦ inl (lent rest same.1 o owner on) | inr held ↦ inr held ]) ])
-
--- a frame that was not begun so has nothing lent
-pub lent_renewed : (p : Program) (h : HeapContents) (frs : List Frame) (o : ℕ) (owner : Owner) → IsLentFrom p h frs o owner → was_renewed p h frs o ≡ true
-lent_renewed p h [] o owner is = absurd is
-lent_renewed p h (fr ∷ frs) o owner is = is.0
-
--- what is lent stays so over a step
-pub lent_after : (p : Program) (h k : HeapContents) (frs : List Frame) (o : ℕ) (a b : Owner) → KeepsGiven p h k frs → (IsLentFrom p h frs o a → b ≡ a) → IsLentFrom p h frs o a → IsLentFrom p k frs o b
-lent_after p h k frs o a b gifts same is = subst (IsLentFrom p k frs o) (sym (same is)) (gifts.lent o a is)
+-- ---- what is held apart
 
 -- what is held apart after a step was before it
-pub apart_before : (p : Program) (h k : HeapContents) (frs : List Frame) (fr : Frame) (o : ℕ) (x y : Object) (f g : Fact) → KeepsGiven p h k frs → y.class ≡ x.class → (is_held g.mode ≡ true → is_held f.mode ≡ true)
-    → (constructs (method_at p fr.method) ≡ false → is_field_of fr.locals.this y.owner ≡ true → is_field_of fr.locals.this x.owner ≡ true)
-    → (is_frame_below (length frs + 1) y.owner ≡ true → is_frame_below (length frs + 1) x.owner ≡ true) → is_apart p k frs fr o y g ≡ true → is_apart p h frs fr o x f ≡ true
-apart_before p h k frs fr o x y f g gifts class held content low is =
-    and_from (not (was_renewed p h frs o)) (is_content p fr x.owner f || (not (was_given p h frs o x.class) || is_frame_below (length frs + 1) x.owner)) (ap not (sym (gifts.renewed o)) ∙ parts.0)
-    (either (is_content p fr y.owner g) (not (was_given p k frs o y.class) || is_frame_below (length frs + 1) y.owner) (is_content p fr x.owner f) (not (was_given p h frs o x.class) || is_frame_below (length frs + 1) x.owner) before spared parts.1)
-  where
-    parts : (not (was_renewed p k frs o) ≡ true) × ((is_content p fr y.owner g || (not (was_given p k frs o y.class) || is_frame_below (length frs + 1) y.owner)) ≡ true)
-    parts = and_parts (not (was_renewed p k frs o)) (is_content p fr y.owner g || (not (was_given p k frs o y.class) || is_frame_below (length frs + 1) y.owner)) is
+pub apart_before : (p : Program) (h k : HeapContents) (old : ℕ → Bool) (frs : List Frame) (fr : Frame) (o : ℕ) (x y : Object) (f g : Fact) → StaysApart p h k frs fr → object_at h o ≡ Some x → object_at k o ≡ Some y → x.finished ≡ true
+    → is_heavy_class p x.class ≡ true → (is_held g.mode ≡ true → is_held f.mode ≡ true) → IsApart p k old frs fr o y.owner g → IsApart p h old frs fr o x.owner f
+apart_before p h k old frs fr o x y f g others before at done heavy held (was, spared) = (was, others.spared o x before (done, heavy) spared)
 
-    same : was_given p k frs o y.class ≡ was_given p h frs o x.class
-    same = gifts.given o y.class ∙ ap (was_given p h frs o) class
+-- ---- what was old
 
-    either : (a b c d : Bool) → (a ≡ true → c ≡ true) → (b ≡ true → d ≡ true) → (a || b) ≡ true → (c || d) ≡ true
-    either true b c d one two is' = or_left c d (one refl)
-    either false b c d one two is' = or_right c d (two is')
+-- it was so over a step of this frame or one above
+module _ (p : Program) (h k : HeapContents) (old : ℕ → Bool) (frs : List Frame) (fr : Frame) (others : StaysApart p h k frs fr)
+    (objects : (o : ℕ) (x : Object) → object_at h o ≡ Some x → (y : Object) × (object_at k o ≡ Some y) × (y.class ≡ x.class) × (x.finished ≡ true → y.finished ≡ true)) (is : IsOld p h frs fr old) where
+  -- an object that was finished, or one that the step made or finished
+  was_heavy : (o : ℕ) (y : Object) → object_at k o ≡ Some y → IsHeavyObject p y → ((x : Object) × (object_at h o ≡ Some x) × IsHeavyObject p x) ⊎ ((is_field_owner y.owner ≡ false) × (is_frame_below (length frs + 1) y.owner ≡ false))
+  was_heavy o y at heavy = go (object_at h o) refl
+    where
+      by_done : (x : Object) → object_at h o ≡ Some x → (c : Bool) → x.finished ≡ c → ((x : Object) × (object_at h o ≡ Some x) × IsHeavyObject p x) ⊎ ((is_field_owner y.owner ≡ false) × (is_frame_below (length frs + 1) y.owner ≡ false))
+      by_done x before true done =
+          let now = objects o x before in
+          inl (x, before, (done, ap (is_heavy_class p) (sym now.2 ∙ ap (λ (u : Object). u.class) (one_object now.0 y (object_at k o) now.1 at)) ∙ heavy.1))
+      by_done x before false open' = inr (others.late o y at (λ z there done. true≢false (sym done ∙ ap (λ (u : Object). u.finished) (one_object z x (object_at h o) there before) ∙ open')))
 
-    owned : (b : Bool) → constructs (method_at p fr.method) ≡ b → (not b && is_field_of fr.locals.this y.owner) ≡ true → (not b && is_field_of fr.locals.this x.owner) ≡ true
-    owned true makes one = one
-    owned false makes one = content makes one
+      go : (x : Option Object) → object_at h o ≡ x → ((x : Object) × (object_at h o ≡ Some x) × IsHeavyObject p x) ⊎ ((is_field_owner y.owner ≡ false) × (is_frame_below (length frs + 1) y.owner ≡ false))
+      go None before = inr (others.late o y at (λ z there done. let never : None ≡ Some z = sym before ∙ there in cc))
+      go (Some x) before = by_done x before x.finished refl
 
-    before : is_content p fr y.owner g ≡ true → is_content p fr x.owner f ≡ true
-    before one =
-        let both = and_parts (is_held g.mode) (not (constructs (method_at p fr.method)) && is_field_of fr.locals.this y.owner) one in
-        and_from (is_held f.mode) (not (constructs (method_at p fr.method)) && is_field_of fr.locals.this x.owner) (held both.0) (owned (constructs (method_at p fr.method)) refl both.1)
-
-    spared : (not (was_given p k frs o y.class) || is_frame_below (length frs + 1) y.owner) ≡ true → (not (was_given p h frs o x.class) || is_frame_below (length frs + 1) x.owner) ≡ true
-    spared one = either (not (was_given p k frs o y.class)) (is_frame_below (length frs + 1) y.owner) (not (was_given p h frs o x.class)) (is_frame_below (length frs + 1) x.owner)
-        (λ none. ap not (sym same) ∙ none) low one
+  pub old_kept : IsOld p k frs fr old
+  old_kept = record {
+    there = λ o was. (let x = is.there o was in let now = objects o x.0 x.1 in (now.0, now.1, now.3 x.2));
+    ends = λ o y at heavy was.
+        let x = is.there o was in
+        let now = objects o x.0 x.1 in
+        let wide : is_heavy_class p x.0.class ≡ true = ap (is_heavy_class p) (sym now.2 ∙ ap (λ (u : Object). u.class) (one_object now.0 y (object_at k o) now.1 at)) ∙ heavy.1 in
+        others.ends o x.0 x.1 wide (is.ends o x.0 x.1 (x.2, wide) was);
+    strict = λ o y at heavy ends'. elim (was_heavy o y at heavy) [
+      | inl was ↦ is.strict o was.0 was.1 was.2 (others.strict o was.0 was.1 was.2 ends')
+      | inr late ↦ absurd (not_strict o y at heavy late ends')
+    ];
+    contents = λ o y at heavy content takes. elim (was_heavy o y at heavy) [
+      | inl was ↦ is.contents o was.0 was.1 was.2 (record {
+        holder = content.holder;
+        field = content.field;
+        runs = content.runs;
+        owns = others.content o was.0 y content.holder content.field was.1 at was.2.0 was.2.1 content.method content.runs content.owns;
+        method = content.method;
+      }) takes
+      | inr late ↦ absurd (true≢false (sym (ap is_field_owner content.owns) ∙ late.0))
+    ];
+  }
+    where
+      not_strict : (o : ℕ) (y : Object) → object_at k o ≡ Some y → IsHeavyObject p y → (is_field_owner y.owner ≡ false) × (is_frame_below (length frs + 1) y.owner ≡ false) → EndsStrictly k frs o → ⊥
+      not_strict o y at heavy late ends' =
+          let same = top_is_last k o ends'.end y at late.0 ends'.top.within in
+          let one = one_object ends'.top.object y (object_at k o) (ap (object_at k) same ∙ ends'.top.at) at in
+          elim ends'.below [
+            | inl low ↦ true≢false (sym low ∙ ap (λ (u : Object). is_frame_below (length frs + 1) u.owner) one ∙ late.1)
+            | inr runs ↦ true≢false (sym heavy.0 ∙ sym (ap (λ (u : Object). u.finished) one) ∙ runs.0)
+          ]

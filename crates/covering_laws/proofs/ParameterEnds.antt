@@ -126,7 +126,7 @@ throw_asks p b (completions.Continue pos) throws kind held = absurd (true≢fals
 -- ---- the end of a frame
 
 module _ (p : Program) (ac : Accept p) (h : HeapContents) (fr : Frame) (st : Stands p fr) (i : ℕ) (s : Step) (q : Completion) (here : slice_get (frame_steps p fr) i ≡ Some s) (is : s.action ≡ actions.End q)
-    (frs : List Frame) (o : ℕ) (x : Object) (c : Covers p h false false frs fr o x) (alias : moved_at_return p st.number c.origin (actions.End q) c.fact ≡ moves.Moves → c.fact.mode ≡ modes.Alias) (names : Names) (known : set.is_subset c.fact.called names ≡ true)
+    (old : ℕ → Bool) (frs : List Frame) (o : ℕ) (x : Object) (c : Covers p h false false old frs fr o x) (alias : moved_at_return p st.number c.origin (actions.End q) c.fact ≡ moves.Moves → c.fact.mode ≡ modes.Alias) (names : Names) (known : set.is_subset c.fact.called names ≡ true)
     (xs : List Promise) (asks : AsksFor p st.number q xs) where
   reached : Reach p st.number (relation_of p st.number) c.origin fr.control c.fact
   reached = subst (λ (b : BodyId). Reach p b (relation_of p b) c.origin fr.control c.fact) (same_body c.body st.number (body_id p fr.method) c.id st.id) c.reached

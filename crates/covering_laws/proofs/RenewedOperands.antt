@@ -1,4 +1,5 @@
--- The object whose obligation a call creates anew: the frame that calls owns it, or it is lent to the frame, or a field of what the frame's constructor makes owns it.
+-- The object whose obligation a call creates anew: the frame that calls owns it, or it is lent to the frame, or a field of what the frame's constructor makes owns it, or a field of
+-- `this`, which is lent to the frame.
 use Rattle.java_control.specs.declared.fact.Origin.{Origin}
 use Rattle.java_control.specs.declared.fact.Fact.{Fact}
 use Rattle.program_model.specs.declared.program.Method.{Method}
@@ -6,12 +7,12 @@ use Rattle.ownership_rules.specs.Signatures.{is_present}
 use Rattle.covering_laws.proofs.HeavyFields.{claims_by, held_claims, own_claims}
 use Rattle.covering_laws.proofs.InFields.{held_by_this}
 use Rattle.covering_laws.proofs.Owners.{lent_not_from}
-use Rattle.std.proofs.Common.{Bool, List, None, Option, Some, ap, false, inl, inr, length, not, refl, slice_get, subst, sym, true, true≢false, ℕ, ◌&&◌, ◌+◌, ◌∙◌, ◌≡◌, ◌⊎◌}
-use Rattle.std.proofs.lemmas.Bool.{and_from}
+use Rattle.std.proofs.Common.{Bool, List, Option, Some, ap, false, inl, inr, length, not, refl, slice_get, subst, sym, true, true≢false, ℕ, ◌&&◌, ◌+◌, ◌||◌, ◌∙◌, ◌≡◌, ◌⊎◌}
+use Rattle.std.proofs.lemmas.Bool.{and_from, and_parts}
 use Rattle.program_model.specs.declared.kinds.BodyId.{BodyId}
 use Rattle.program_model.specs.declared.program.Program.{Program}
 use Rattle.program_model.specs.Lookups.{method_at}
-use Rattle.ledger_obligations.specs.Bodies.{alias_in, constructs, reset_in}
+use Rattle.ledger_obligations.specs.Bodies.{alias_in, constructs, reset_in, resets_this}
 use Rattle.ledger_obligations.specs.MustCallSets.{is_heavy_class}
 use Rattle.java_control.specs.Calls.{operand_at}
 use Rattle.java_control.specs.Control.{Step}
@@ -19,7 +20,7 @@ use Rattle.java_control.specs.PlaceNumbers.{IsSmall}
 use Rattle.java_control.specs.declared.fact.Mode.TheVariants as modes
 use Rattle.java_control.specs.declared.place.Place.TheVariants as places
 use Rattle.ownership_rules.specs.Callees.{callee}
-use Rattle.ownership_rules.specs.Facts.{has, has_temp}
+use Rattle.ownership_rules.specs.Facts.{has, has_temp, is_held, is_own}
 use Rattle.ownership_rules.specs.MovesAtCalls.{moved_at_call}
 use Rattle.ownership_rules.specs.declared.moved.Moved.TheVariants as moves
 use Rattle.ownership_rules.specs.SmallActions.{IsSmallTemp}
@@ -37,9 +38,9 @@ use Rattle.value_laws.specs.Configuration.{Frame}
 use Rattle.value_laws.specs.Anew.{IsInHands, MayBeAnew, holds_target, is_target}
 use Rattle.value_laws.specs.Outcomes.{IsCallRow}
 use Rattle.value_laws.specs.Paths.{Reach, move_of, relation_of}
-use Rattle.value_laws.specs.PlainForms.{HasPlainForms, ResetsPlainly}
+use Rattle.value_laws.specs.PlainForms.{HasPlainForms}
 use Rattle.value_laws.specs.PlaceFacts.{Covers, IsCovered, IsKeyed, IsOwned, claims, gives_away, gives_none, OwesOrHolds, owned, renews_none, unowned}
-use Rattle.value_laws.specs.Renewing.{IsHeldBy, IsLentFrom, is_renewed, makes_alone, renews}
+use Rattle.value_laws.specs.Renewing.{HasInHand, IsHeldBy, IsHeldByLent, IsLentFrom, is_renewed, makes_alone, renews}
 use Rattle.value_laws.proofs.ResetTargets.{answered_targets}
 use Rattle.value_laws.proofs.Resetting.{answered_target}
 use Rattle.value_laws.proofs.Readings.{renewed_operand}
@@ -59,11 +60,17 @@ step_renews p h fr i s o here does = any_at (λ (t : Step). renews p h fr.locals
 
 -- ---- its fact
 
--- a fact that may have the target claims the object, or says that it is lent
-pub claims_or_lends : (p : Program) (fr : Frame) (st : Stands p fr) (o : Origin) (f : Fact) → IsInHands p st.number f.mode (is_heavy_class p o.class) → (claims p (method_at p fr.method) o f ≡ true) ⊎ (f.mode ≡ modes.Lent)
+-- the fact is one of what a field of `this` holds, and its class has an obligation, in a method that creates the obligation of `this` anew
+abbrev pub IsHeldAnew : (p : Program) (fr : Frame) → Stands p fr → Origin → Fact → Type 0
+IsHeldAnew p fr st o f = (f.mode ≡ modes.Held) × (is_heavy_class p o.class ≡ true) × (constructs (method_at p fr.method) ≡ false) × (resets_this p st.number ≡ true)
+
+-- a fact that may have the target claims the object, or says that it is lent, or is such a fact
+pub claims_or_lends : (p : Program) (fr : Frame) (st : Stands p fr) (o : Origin) (f : Fact) → IsInHands p st.number f.mode (is_heavy_class p o.class)
+    → (claims p (method_at p fr.method) o f ≡ true) ⊎ ((f.mode ≡ modes.Lent) ⊎ IsHeldAnew p fr st o f)
 claims_or_lends p fr st o f (inl (own, heavy)) = inl (own_claims p (method_at p fr.method) o f own heavy)
-claims_or_lends p fr st o f (inr (inl lent)) = inr lent
-claims_or_lends p fr st o f (inr (inr (held, heavy, makes, single))) = inl (held_claims p (method_at p fr.method) o f alone held heavy)
+claims_or_lends p fr st o f (inr (inl lent)) = inr (inl lent)
+claims_or_lends p fr st o f (inr (inr (held, heavy, inr (other, resets)))) = inr (inr (held, heavy, sym (ap constructs (method_here p fr st)) ∙ other, resets))
+claims_or_lends p fr st o f (inr (inr (held, heavy, inl (makes, single)))) = inl (held_claims p (method_at p fr.method) o f alone held heavy)
   where
     new : constructs (method_at p fr.method) ≡ true
     new = sym (ap constructs (method_here p fr st)) ∙ makes
@@ -74,62 +81,65 @@ claims_or_lends p fr st o f (inr (inr (held, heavy, makes, single))) = inl (held
     alone : makes_alone (method_at p fr.method) ≡ true
     alone = and_from (constructs (method_at p fr.method)) (not (is_present (alias_in (method_at p fr.method)))) new (ap not no_alias)
 
+-- what such a fact is of is in the frame's hand: it is lent, or a field of `this` owns it, which is lent
+abbrev pub HoldsLent : (p : Program) → HeapContents → (ℕ → Bool) → List Frame → (fr : Frame) → Stands p fr → Type 0
+HoldsLent p h old frs fr st = (o : ℕ) (x : Object) → object_at h o ≡ Some x → is_heavy_class p x.class ≡ true → OwesOrHolds p h o x → x.finished ≡ true
+    → (away anew : Bool) (c : Covers p h away anew old frs fr o x) → IsHeldAnew p fr st c.origin c.fact → IsLentFrom p h frs o x.owner ⊎ IsHeldByLent p h (IsLentFrom p h frs) fr x.owner
+
 -- what a fact claims the frame owns, or a field of what its constructor makes
-pub claimed_owner : (p : Program) (h : HeapContents) (away anew : Bool) (frs : List Frame) (fr : Frame) (o : ℕ) (x : Object) (c : Covers p h away anew frs fr o x) → IsOwned p h away anew frs fr o x c → away ≡ false → x.finished ≡ true
+pub claimed_owner : (p : Program) (h : HeapContents) (away anew : Bool) (old : ℕ → Bool) (frs : List Frame) (fr : Frame) (o : ℕ) (x : Object) (c : Covers p h away anew old frs fr o x) → IsOwned p h away anew old frs fr o x c → away ≡ false → x.finished ≡ true
     → (x.owner ≡ owners.Frame (length frs + 1)) ⊎ IsHeldBy p fr x.owner
-claimed_owner p h away anew frs fr o x c key kept done = elim (claims_by p (method_at p fr.method) c.origin c.fact key.owning) [
+claimed_owner p h away anew old frs fr o x c key kept done = elim (claims_by p (method_at p fr.method) c.origin c.fact key.owning) [
   | inl own ↦ inl (key.owner kept own)
-  | inr held ↦ inr (held.1, held_by_this p h away anew frs fr o x c done held.0 held.1)
+  | inr held ↦ inr (held.1, held_by_this p h away anew old frs fr o x c done held.0 held.1 (and_parts (is_heavy_class p c.origin.class) (is_own c.fact.mode || is_held c.fact.mode && makes_alone (method_at p fr.method)) key.owning).0)
 ]
 
-module _ (p : Program) (ac : Accept p) (forms : HasPlainForms p) (h : HeapContents) (fr : Frame) (st : Stands p fr) (frs : List Frame) (i : ℕ) (s : Step) (here : slice_get (frame_steps p fr) i ≡ Some s) (row : IsCallRow s.action)
-    (covered : IsCovered p h gives_none renews_none frs fr) (o : ℕ) (x : Object) (before : object_at h o ≡ Some x) (heavy : is_heavy_class p x.class ≡ true) (owes : OwesOrHolds p h o x) where
+module _ (p : Program) (ac : Accept p) (forms : HasPlainForms p) (h : HeapContents) (fr : Frame) (st : Stands p fr) (old : ℕ → Bool) (frs : List Frame) (i : ℕ) (s : Step) (here : slice_get (frame_steps p fr) i ≡ Some s) (row : IsCallRow s.action)
+    (covered : IsCovered p h gives_none renews_none old frs fr) (holds : HoldsLent p h old frs fr st) (o : ℕ) (x : Object) (before : object_at h o ≡ Some x) (heavy : is_heavy_class p x.class ≡ true) (owes : OwesOrHolds p h o x) where
   module _ (k : ℕ) (position : reset_in (callee p s.action) ≡ Some k) (root : root_of h (operand_of fr.locals s.action k) ≡ Some o) where
-    temp : (n : ℕ) × (operand_at s.action k ≡ Some n) × (operand_of fr.locals s.action k ≡ temp_value fr.locals n)
+    pub temp : (n : ℕ) × (operand_at s.action k ≡ Some n) × (operand_of fr.locals s.action k ≡ temp_value fr.locals n)
     temp = operand_temp fr.locals s.action k h o root
 
-    small : IsSmall (places.Temp temp.0)
+    pub small : IsSmall (places.Temp temp.0)
     small = subst IsSmallTemp temp.1 (operand_has_room p s.action k (small_step p ac fr st i s here))
 
-    module _ (c : Covers p h false false frs fr o x) (in' : has c.fact.places (places.Temp temp.0) ≡ true) where
+    module _ (c : Covers p h false false old frs fr o x) (in' : has c.fact.places (places.Temp temp.0) ≡ true) where
       target : is_target p s.action c.fact.places ≡ true
       target = ap (holds_target s.action c.fact.places) position ∙ ap (has_temp c.fact.places) temp.1 ∙ in'
 
       reached : Reach p st.number (relation_of p st.number) c.origin fr.control c.fact
       reached = subst (λ (b : BodyId). Reach p b (relation_of p b) c.origin fr.control c.fact) (same_body c.body st.number (body_id p fr.method) c.id st.id) c.reached
 
-      answer : (j : ℕ) × (reset_in (callee p s.action) ≡ Some j) × MayBeAnew p st.number c.origin s.action j c.fact × (moved_at_call p c.origin s.action s.edge c.fact ≡ moves.Moves → ⊥)
+      pub answer : (j : ℕ) × (reset_in (callee p s.action) ≡ Some j) × MayBeAnew p st.number c.origin s.action j c.fact × (moved_at_call p c.origin s.action s.edge c.fact ≡ moves.Moves → ⊥)
       answer = elim (answered_target p st.number c.origin s.action s.edge c.fact row target) [
         | inl fault ↦ absurd (breaks_nothing p ac st.number c.origin i (move_of s) c.fact reached (step_there p fr st i s here) fault)
         | inr is ↦ is
       ]
 
-      its_mode : (claims p (method_at p fr.method) c.origin c.fact ≡ true) ⊎ (c.fact.mode ≡ modes.Lent)
-      its_mode = by (forms.resets st.number i (move_of s) st.control (step_there p fr st i s here))
-        where
-          by : ResetsPlainly p st.number fr.control s.action → (claims p (method_at p fr.method) c.origin c.fact ≡ true) ⊎ (c.fact.mode ≡ modes.Lent)
-          by (inl none) = absurd (let never : None ≡ Some k = sym none ∙ position in cc)
-          by (inr plain) =
-              let run = running_method p ac fr st in
-              let of : method_at p st.body.method ≡ Some run.0 = ap (method_at p) st.method ∙ run.1 in
-              claims_or_lends p fr st c.origin c.fact (answered_targets p ac st.number st.body run.0 st.at of (λ u n t. this_elsewhere p forms st.number u n t) (forms.bodies st.number) (λ u n t g e d there is. (forms.stores st.number n t g e d there is).0)
-              c.origin fr.control c.fact reached s.action answer.0 answer.2)
+      pub its_mode : (claims p (method_at p fr.method) c.origin c.fact ≡ true) ⊎ ((c.fact.mode ≡ modes.Lent) ⊎ IsHeldAnew p fr st c.origin c.fact)
+      its_mode =
+          let run = running_method p ac fr st in
+          let of : method_at p st.body.method ≡ Some run.0 = ap (method_at p) st.method ∙ run.1 in
+          claims_or_lends p fr st c.origin c.fact (answered_targets p ac st.number st.body run.0 st.at of (λ aliased u n t. this_elsewhere p forms st.number aliased u n t)
+          c.origin fr.control c.fact reached s.action answer.0 answer.2)
 
       -- what moves is not the target
       moves_not : moved_at_call p c.origin s.action s.edge c.fact ≡ moves.Moves → ⊥
       moves_not = answer.3
 
-    abbrev IsOwnedOrLent : Type 0
-    IsOwnedOrLent = (x.owner ≡ owners.Frame (length frs + 1)) ⊎ (IsLentFrom p h frs o x.owner ⊎ IsHeldBy p fr x.owner)
+    abbrev IsThere : Type 0
+    IsThere = HasInHand p h (IsLentFrom p h frs) (length frs + 1) fr o x.owner
 
-    lent : (c : Covers p h false false frs fr o x) → c.fact.mode ≡ modes.Lent → x.finished ≡ true → IsOwnedOrLent
-    lent c mode done = inr (inl (c.lends mode done).1)
+    -- what the fact of the target says, where it claims nothing
+    unclaimed : (c : Covers p h false false old frs fr o x) → x.finished ≡ true → (c.fact.mode ≡ modes.Lent) ⊎ IsHeldAnew p fr st c.origin c.fact → IsLentFrom p h frs o x.owner ⊎ IsHeldByLent p h (IsLentFrom p h frs) fr x.owner
+    unclaimed c done (inl lent) = inl (c.lends lent done).1
+    unclaimed c done (inr held) = holds o x before heavy owes done false false c held
 
-    by_place : x.finished ≡ true → IsKeyed p h false false frs fr (places.Temp temp.0) o x → IsOwnedOrLent
-    by_place done (owned c in' key) = elim (claimed_owner p h false false frs fr o x c key refl done) [ inl mine ↦ inl mine | inr held ↦ inr (inr held) ]
+    by_place : x.finished ≡ true → IsKeyed p h false false old frs fr (places.Temp temp.0) o x → IsThere
+    by_place done (owned c in' key) = elim (claimed_owner p h false false old frs fr o x c key refl done) [ inl mine ↦ inl mine | inr held ↦ inr (inr (inl held)) ]
     by_place done (unowned u) = elim (its_mode u.covers u.here) [
       | inl claimed ↦ absurd (true≢false (sym claimed ∙ u.unowned))
-      | inr mode ↦ lent u.covers mode done
+      | inr mode ↦ elim (unclaimed u.covers done mode) [ inl lent ↦ inr (inl lent) | inr held ↦ inr (inr (inr held)) ]
     ]
 
     -- it is not given away besides
@@ -137,20 +147,23 @@ module _ (p : Program) (ac : Accept p) (forms : HasPlainForms p) (h : HeapConten
     operand_not_given done gives = by (covered (places.Temp temp.0) o x small (ap (root_of h) (sym temp.2) ∙ root) before heavy owes)
       where
         owner : x.owner ≡ owners.Frame (length frs + 1)
-        owner = away_owner p ac h fr st frs i s here row covered o x before heavy owes gives
+        owner = away_owner p ac h fr st old frs i s here row covered o x before heavy owes gives
 
-        by : IsKeyed p h false false frs fr (places.Temp temp.0) o x → ⊥
-        by (owned c in' key) = moves_not c in' (away_moves p ac h fr st frs i s here row false false o x c key heavy gives)
+        by : IsKeyed p h false false old frs fr (places.Temp temp.0) o x → ⊥
+        by (owned c in' key) = moves_not c in' (away_moves p ac h fr st old frs i s here row false false o x c key heavy gives)
         by (unowned u) = elim (its_mode u.covers u.here) [
           | inl claimed ↦ true≢false (sym claimed ∙ u.unowned)
-          | inr mode ↦ true≢false (sym (own_frame (length frs + 1) x.owner owner) ∙ lent_not_from p h frs o x.owner (u.covers.lends mode done).1)
+          | inr mode ↦ elim (unclaimed u.covers done mode) [
+            | inl lent ↦ true≢false (sym (own_frame (length frs + 1) x.owner owner) ∙ lent_not_from p h frs o x.owner lent)
+            | inr held ↦ (let never : owners.Frame (length frs + 1) ≡ owners.Field held.holder held.field = sym owner ∙ held.owns in cc)
+          ]
         ]
 
-    pub operand_answered : x.finished ≡ true → IsOwnedOrLent
+    pub operand_answered : x.finished ≡ true → IsThere
     operand_answered done = by_place done (covered (places.Temp temp.0) o x small (ap (root_of h) (sym temp.2) ∙ root) before heavy owes)
 
-  -- the frame owns it, or it is lent, or a field of what the constructor makes owns it
-  pub renewed_answered : renews p h fr.locals s.action o ≡ true → x.finished ≡ true → (x.owner ≡ owners.Frame (length frs + 1)) ⊎ (IsLentFrom p h frs o x.owner ⊎ IsHeldBy p fr x.owner)
+  -- the frame has it in hand
+  pub renewed_answered : renews p h fr.locals s.action o ≡ true → x.finished ≡ true → HasInHand p h (IsLentFrom p h frs) (length frs + 1) fr o x.owner
   renewed_answered is done = let k = renewed_operand p h fr.locals s.action o is in operand_answered k.0 k.1 k.2 done
 
   pub renewed_not_given : renews p h fr.locals s.action o ≡ true → x.finished ≡ true → gives_away p h fr.locals s.action o x.class ≡ false

@@ -100,7 +100,7 @@ no_alias : (x : Option ℕ) → is_some x ≡ false → x ≡ None
 no_alias None is = refl
 no_alias (Some k) is = absurd (true≢false is)
 
-module _ (p : Program) (ac : Accept p) (h : HeapContents) (fr : Frame) (frs : List Frame) (st : Stands p fr) (mine' : LocalsInRange h fr.locals) (covered : IsCovered p h gives_none renews_none frs fr)
+module _ (p : Program) (ac : Accept p) (h : HeapContents) (fr : Frame) (old : ℕ → Bool) (frs : List Frame) (st : Stands p fr) (mine' : LocalsInRange h fr.locals) (covered : IsCovered p h gives_none renews_none old frs fr)
     (i : ℕ) (s : Step) (q : Completion) (here : slice_get (frame_steps p fr) i ≡ Some s) (is : s.action ≡ actions.End q) where
   -- the method that ran
   run : (x : Method) × (method_at p fr.method ≡ Some x) × (is_library p x.class ≡ false)
@@ -116,7 +116,7 @@ module _ (p : Program) (ac : Accept p) (h : HeapContents) (fr : Frame) (frs : Li
       room : d < 64
       room = subst (λ (r : Completion). IsSmallTemp (completion_temp r)) end' (subst (IsSmallAction p) is ((ac.fits st.number).steps i (move_of s) st.control (step_there p fr st i s here)))
 
-      is_owning : (c : Covers p h false false frs fr n x) → has c.fact.places (places.Temp d) ≡ true → is_owning_fact p c.origin c.fact ≡ true
+      is_owning : (c : Covers p h false false old frs fr n x) → has c.fact.places (places.Temp d) ≡ true → is_owning_fact p c.origin c.fact ≡ true
       is_owning c has' =
           let mine = result_is_owned p st.number c.origin d pos s.edge c.fact type (ap at_returns.result_in body_method ∙ result) (ap alias_in body_method ∙ plain) (ap owning_result_in body_method ∙ owning) has'
           (or_right (is_heavy_class p c.origin.class) _ (heavy_by_fit p x.class type heavy fit)) fine in
@@ -132,7 +132,7 @@ module _ (p : Program) (ac : Accept p) (h : HeapContents) (fr : Frame) (frs : Li
       of_value : x.owner ≡ owners.Frame (length frs + 1)
       of_value = by (covered (places.Temp d) n x room root before heavy owes)
         where
-          by : IsKeyed p h false false frs fr (places.Temp d) n x → x.owner ≡ owners.Frame (length frs + 1)
+          by : IsKeyed p h false false old frs fr (places.Temp d) n x → x.owner ≡ owners.Frame (length frs + 1)
           by (owned c has' own) = own.owner refl (and_parts (is_heavy_class p c.origin.class) (is_own c.fact.mode) (is_owning c has')).1
           by (unowned u) = absurd (true≢false (sym (is_owning u.covers u.here) ∙ unclaimed_not_owning p (method_at p fr.method) u.covers.origin u.covers.fact u.unowned))
 

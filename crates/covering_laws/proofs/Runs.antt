@@ -37,7 +37,7 @@ use Rattle.value_laws.specs.LedgerRunsOutcomes.{went, ended, stray}
 use Rattle.value_laws.specs.LedgerRunsSteps.{began, end, library_went, main_ended, moved, moved_by, returned, returned_by, step, top_move, within}
 use Rattle.value_laws.specs.Heaps.{HasEarlierLinks}
 use Rattle.value_laws.proofs.CallWays.{one_action}
-use Rattle.value_laws.specs.Agreement.{Agree, Agrees, HasMadeClasses, IsMadeAfter, IsMadeBy, Stands, WaitsFor, RunsItself}
+use Rattle.value_laws.specs.Agreement.{Agree, Agrees, HasMadeClasses, IsMadeAfter, IsMadeBy, Stands, WaitsFor, RunsItself, RunsOnSame}
 use Rattle.value_laws.specs.PlainForms.{HasPlainForms, MayRun}
 use Rattle.value_laws.specs.Nexts.{IsBack, IsBackStep, IsInnerStep, IsLibraryMove, IsNext, IsNullCall, IsOwningStore, IsPlainStep, IsStartMove}
 use Rattle.value_laws.proofs.Cases.{next_is}
@@ -49,8 +49,12 @@ use Rattle.value_laws.specs.Outcomes.{IsCallRow}
 use Rattle.value_laws.specs.Types.{AreCalled, HaveTypes, KeepAll, is_text}
 use Rattle.value_laws.proofs.Moved as typed_moves
 use Rattle.value_laws.proofs.Moved.{IsConstantRead}
-use Rattle.value_laws.specs.FieldContents.{FieldsHold, IsBeingMade, is_new, TopRunsAlone}
-use Rattle.value_laws.specs.PlaceFacts.{AreCovered}
+use Rattle.value_laws.specs.FieldContents.{FieldsHold, FieldsOwn, IsBeingMade, RunOnOthers, is_new, TopRunsAlone}
+use Rattle.value_laws.specs.Chains.{HaveEnds}
+use Rattle.value_laws.specs.Holders.{HoldersAreUnlinked, UnfinishedAreUnowned}
+use Rattle.ledger_obligations.specs.MustCallSets.{is_heavy_class}
+use Rattle.value_laws.specs.PlaceFacts.{AreCovered, gives_none, is_given, renews_none}
+use Rattle.value_laws.specs.Renewing.{is_reread}
 use Rattle.value_laws.specs.Ranges.{AreInRange, FieldsInRange, LocalsInRange}
 use Rattle.covering_laws.specs.Making.{AreBeingMade, HoldNone, IsUnheld}
 use Rattle.covering_laws.specs.Running.{HasPlainRuns}
@@ -58,22 +62,25 @@ use Rattle.covering_laws.specs.Linking.{LinkedAreAliases}
 use Rattle.covering_laws.specs.Sight.{ActsInSight, AllActInSight}
 use Rattle.covering_laws.specs.Throws.{EndsAsDeclared, RaisesExceptions, TopEndsAsDeclared, TopRaisesExceptions}
 use Rattle.covering_laws.proofs.BeingMade.{all_apart, apart_from, making_on}
-use Rattle.covering_laws.proofs.ReturnResets.{returned_apart, returned_covered, returned_held_before, returned_unfinished}
-use Rattle.covering_laws.proofs.InnerJoins.{plain_covered, plain_held_before, plain_linked, plain_unfinished}
-use Rattle.covering_laws.proofs.ResetJoins.{left_covered, left_held_before, left_linked, left_unfinished}
+use Rattle.covering_laws.proofs.ReturnResets.{returned_apart, returned_covered, returned_held_before, returned_owns, returned_unfinished}
+use Rattle.covering_laws.proofs.InnerJoins.{plain_covered, plain_held_before, plain_linked, plain_nobody, plain_owns, plain_unfinished}
+use Rattle.covering_laws.proofs.ResetJoins.{left_covered, left_held_before, left_linked, left_owns, left_unfinished}
 use Rattle.covering_laws.proofs.LocalSteps.{LocalsIn, all_there}
-use Rattle.covering_laws.proofs.Lost.{all_lost, are_held, frame_linked, lost_held_before, lost_linked, lost_unfinished, was_there}
-use Rattle.covering_laws.proofs.NullCalls.{null_covered, null_held_before, thrown_linked, thrown_unfinished}
+use Rattle.covering_laws.proofs.Lost.{all_lost, are_held, frame_linked, frame_owns, lost_held_before, lost_linked, lost_owns, lost_unfinished, was_there}
+use Rattle.covering_laws.proofs.NullCalls.{null_covered, null_held_before, null_owns, thrown_linked, thrown_unfinished}
 use Rattle.covering_laws.proofs.StartHeaps.{new_unfinished}
-use Rattle.covering_laws.proofs.StartJoins.{callee_this, start_covered, start_held_before, started_linked, started_unfinished}
-use Rattle.covering_laws.proofs.StoreJoins.{store_held_before, store_linked, store_unfinished, stores_covered}
+use Rattle.covering_laws.proofs.StartJoins.{callee_this, start_covered, start_held_before, started_linked, started_owns, started_unfinished}
+use Rattle.covering_laws.proofs.StoreJoins.{store_held_before, store_linked, store_nobody, store_owns, store_unfinished, stores_covered}
+use Rattle.covering_laws.proofs.ContentHolders.{contents_have_holders}
+use Rattle.covering_laws.proofs.StepWays.{library_unowned, returned_unowned, start_unowned, thrown_unowned}
 use Rattle.covering_laws.proofs.Waiting.{AllHeldBefore, KeepsUnfinished, held_before_further, next_not_held, no_other, none_held_on}
 use Rattle.covering_laws.proofs.LinkedExceptions.{still_aliases}
 use Rattle.value_laws.specs.Arguments.{HasArguments, HaveArguments}
 use Rattle.covering_laws.specs.Texts.{TextsAreLight}
 use Rattle.value_laws.specs.LibraryClasses.{HasLightTexts}
-use Rattle.covering_laws.proofs.ResetCovers.{are_making}
-use Rattle.covering_laws.proofs.OlderHolders.{holders_are_older}
+use Rattle.covering_laws.proofs.LentHolders.{holds_lent, holds_ready}
+use Rattle.covering_laws.proofs.MadeTargets.{HoldsReady}
+use Rattle.covering_laws.proofs.RenewedOperands.{HoldsLent}
 use Rattle.covering_laws.proofs.Texts.{texts_are_light}
 
 -- a `new` begins on the next object
@@ -83,19 +90,25 @@ new_self l (actions.New m d n) h new = refl
 new_self l a h new = absurd (true≢false (sym new))
 
 abbrev pub AreKept : Program → Config → Type 0
-AreKept p c = AreCovered p c.heap c.frames × AreBeingMade p c.heap c.frames × LinkedAreAliases p c.heap
+AreKept p c = AreCovered p c.heap c.frames × AreBeingMade p c.heap c.frames × LinkedAreAliases p c.heap × FieldsOwn p c.heap
 
 module _ (p : Program) (ac : Accept p) (forms : HasPlainForms p) (runs : HasPlainRuns p) (names : HasSmallInterests p) (texts : HasLightTexts p) (c d : Config) (types : HaveTypes p c) (fr : Frame) (frs : List Frame)
     (agrees : Agrees p (fr ∷ frs) c.heap c.entries) (targets : HaveTargets p (fr ∷ frs)) (keeps : KeepAll (is_text p c.heap) p (fr ∷ frs)) (called : AreCalled p (fr ∷ frs)) (in' : LocalsIn c.heap (fr ∷ frs)) (ranges : FieldsInRange c.heap)
-    (hold : FieldsHold p (fr ∷ frs) c.heap) (making : AreBeingMade p c.heap (fr ∷ frs)) (linked : LinkedAreAliases p c.heap) (covered : AreCovered p c.heap (fr ∷ frs)) (raises : RaisesExceptions p c.heap fr) (sight : ActsInSight p c.heap fr) where
+    (hold : FieldsHold p (fr ∷ frs) c.heap) (making : AreBeingMade p c.heap (fr ∷ frs)) (linked : LinkedAreAliases p c.heap) (owned : FieldsOwn p c.heap) (covered : AreCovered p c.heap (fr ∷ frs)) (raises : RaisesExceptions p c.heap fr) (sight : ActsInSight p c.heap fr) where
   abbrev h : HeapContents
   h = c.heap
 
   light_here : TextsAreLight p c.heap
   light_here = texts_are_light p ac texts c.heap linked
 
-  st : Stands p fr
+  abbrev st : Stands p fr
   st = agrees.standing.0
+
+  have : HaveEnds h
+  have = agrees.ends
+
+  unlinked : HoldersAreUnlinked (is_heavy_class p) h
+  unlinked = contents_have_holders p ac (fr ∷ frs) h hold.contents
 
   links : HasEarlierLinks h
   links = agrees.links
@@ -103,17 +116,28 @@ module _ (p : Program) (ac : Accept p) (forms : HasPlainForms p) (runs : HasPlai
   others_in : LocalsIn h frs
   others_in = All-tail (λ (x : Frame). LocalsInRange h x.locals) fr frs in'
 
+  top : LocalsInRange h fr.locals
+  top = All-head (λ (x : Frame). LocalsInRange h x.locals) fr frs in'
+
+  -- what a field of `this` holds, where the frame's method creates the obligation of `this` anew
+  holds : HoldsLent p h covered.0 frs fr st
+  holds = holds_lent p ac forms h links owned fr top st covered.0 frs gives_none renews_none covered.2 unlinked
+
+  ready : HoldsReady p h covered.0 frs fr st
+  ready = holds_ready p ac forms h links owned fr top st covered.0 frs gives_none renews_none covered.2 have
+
   carried : (x : Config) → went x ≡ went d → AreKept p x → AreKept p d
   carried x is kept = subst (AreKept p) (let same : x ≡ d = cc in same) kept
 
   -- the top frame goes on as another on the same object, and the heap loses what no place holds
-  goes : (k : HeapContents) (after : Frame) → after.locals.this ≡ fr.locals.this → KeepsUnfinished h k no_other → AllHeldBefore p h k frs → LinkedAreAliases p k → AreCovered p k (after ∷ frs)
-      → AreCovered p (lose (held_by (after ∷ frs)) k) (after ∷ frs) × AreBeingMade p (lose (held_by (after ∷ frs)) k) (after ∷ frs) × LinkedAreAliases p (lose (held_by (after ∷ frs)) k)
-  goes k after same unready before apart all = (
-    all_lost p k (held_by (after ∷ frs)) (after ∷ frs) (are_held p k (after ∷ frs)) all,
+  goes : (k : HeapContents) (after : Frame) → after.locals.this ≡ fr.locals.this → KeepsUnfinished h k no_other → AllHeldBefore p h k frs → LinkedAreAliases p k → FieldsOwn p k → UnfinishedAreUnowned k → AreCovered p k (after ∷ frs)
+      → AreCovered p (lose (held_by (after ∷ frs)) k) (after ∷ frs) × AreBeingMade p (lose (held_by (after ∷ frs)) k) (after ∷ frs) × LinkedAreAliases p (lose (held_by (after ∷ frs)) k) × FieldsOwn p (lose (held_by (after ∷ frs)) k)
+  goes k after same unready before apart mine nobody all = (
+    all_lost p k (held_by (after ∷ frs)) nobody (after ∷ frs) (are_held p k (after ∷ frs)) all,
     making_on p h (lose (held_by (after ∷ frs)) k) no_other (lost_unfinished p k (held_by (after ∷ frs)) h no_other unready) fr after frs same in' (all_apart (fr ∷ frs))
         (held_before_further p h k (lose (held_by (after ∷ frs)) k) frs before (lost_held_before p k (held_by (after ∷ frs)) frs)) making,
     still_aliases p k (lose (held_by (after ∷ frs)) k) (lost_linked p k (held_by (after ∷ frs))) apart,
+    lost_owns p k (held_by (after ∷ frs)) mine,
   )
 
   -- ---- steps within the frame
@@ -123,22 +147,27 @@ module _ (p : Program) (ac : Accept p) (forms : HasPlainForms p) (runs : HasPlai
       goes _
       (frame_after p h fr s (thrown_value h e (made_value p h c.arrays c.statics (next_choice c.choices c.used) fr.locals s.action))) refl
       (plain_unfinished p ac forms c texts types links ranges linked fr st keeps.0 raises i s here e next sight.updates) (plain_held_before p ac forms c texts types links ranges linked fr st keeps.0 raises i s here e next sight.updates frs others_in)
-      (plain_linked p ac forms c texts types links ranges linked fr st keeps.0 raises i s here e next sight.updates linked) (plain_covered p ac forms c texts types links ranges linked fr st keeps.0 raises i s here e next sight.updates frs in' covered)
+      (plain_linked p ac forms c texts types links ranges linked fr st keeps.0 raises i s here e next sight.updates linked)
+      (plain_owns p ac forms c texts types links ranges linked fr st keeps.0 raises i s here e next sight.updates have unlinked owned) (plain_nobody p ac forms c texts types links ranges linked fr st keeps.0 raises i s here e next sight.updates have.unfinished)
+      (plain_covered p ac forms c texts types links ranges linked fr st keeps.0 raises i s here e next sight.updates have unlinked frs in' covered)
 
   null_kept : (e : Option ClassId) (s : Step) (i : ℕ) (here : slice_get (frame_steps p fr) i ≡ Some s) → IsNullCall p fr.locals e s → AreKept p (within p c fr frs e s)
   null_kept e s i here next = subst (λ (x : Option ClassId). AreKept p (within p c fr frs x s)) (sym next.thrown)
       (goes (with_exception p p.core.null_pointer_exception h) (frame_after p h fr s (values.Object (next_number h))) refl
       (thrown_unfinished p h links p.core.null_pointer_exception) (null_held_before p ac forms h links ranges fr st i s here e next frs others_in)
-      (still_aliases p h (with_exception p p.core.null_pointer_exception h) (thrown_linked p h links p.core.null_pointer_exception) linked) (null_covered p ac forms h links ranges fr st i s here e next frs in' covered))
+      (still_aliases p h (with_exception p p.core.null_pointer_exception h) (thrown_linked p h links p.core.null_pointer_exception) linked) (null_owns p ac forms h links ranges fr st i s here e next have unlinked owned)
+      (thrown_unowned p (Some p.core.null_pointer_exception) h have.unfinished) (null_covered p ac forms h links ranges fr st i s here e next have unlinked light_here types.fields frs in' covered))
 
   store_kept : (e : Option ClassId) (s : Step) (i : ℕ) (here : slice_get (frame_steps p fr) i ≡ Some s) → IsOwningStore e s → AreKept p (within p c fr frs e s)
   store_kept e s i here next = subst (λ (x : Option ClassId). AreKept p (within p c fr frs x s)) (sym next.normal)
       (goes _
       (frame_after p h fr s made) refl
       (store_unfinished p ac forms h links ranges fr frs st agrees.standing.1 agrees.stacked hold i s here next.field next.temp next.action made)
-      (store_held_before p ac forms h links ranges fr frs st agrees.standing.1 agrees.stacked hold i s here next.field next.temp next.action made in' covered.0)
+      (store_held_before p ac forms h links ranges fr frs st agrees.standing.1 agrees.stacked hold i s here next.field next.temp next.action made in')
       (store_linked p ac forms h links ranges fr frs st agrees.standing.1 agrees.stacked hold i s here next.field next.temp next.action made linked)
-      (stores_covered p ac forms h links ranges fr frs st agrees.standing.1 agrees.stacked hold i s here next.field next.temp next.action made in' covered))
+      (store_owns p ac forms h links ranges fr frs st agrees.standing.1 agrees.stacked hold i s here next.field next.temp next.action made have unlinked covered owned)
+      (store_nobody p ac forms h links ranges fr frs st agrees.standing.1 agrees.stacked hold i s here next.field next.temp next.action made have.unfinished)
+      (stores_covered p ac forms h links ranges fr frs st agrees.standing.1 agrees.stacked hold i s here next.field next.temp next.action made have unlinked in' covered))
     where
       made : Value
       made = made_value p h c.arrays c.statics (next_choice c.choices c.used) fr.locals s.action
@@ -167,43 +196,41 @@ module _ (p : Program) (ac : Accept p) (forms : HasPlainForms p) (runs : HasPlai
     position : length frames ≡ length (fr ∷ frs) + 1
     position = omega arith
 
-    top : LocalsInRange h fr.locals
-    top = All-head (λ (x : Frame). LocalsInRange h x.locals) fr frs in'
-
     abbrev k : HeapContents
     k = began_heap p fr.locals s.action (method_at p named) (length frames) h
 
     later : KeepsUnfinished h (lose held k) no_other
-    later = lost_unfinished p k held h no_other (started_unfinished p ac forms runs h light_here links ranges types.fields fr frs st keeps.0 targets.0 top others_in covered.0 covered.2 (are_making p h (fr ∷ frs) hold.new hold.unfinished) (holders_are_older p (fr ∷ frs) h hold.contents) c.arrays named r a next (length frames) position)
+    later = lost_unfinished p k held h no_other (started_unfinished p ac forms runs h light_here links have ranges types.fields fr frs agrees.standing agrees.stacked keeps.0 targets.0 top others_in covered.0 covered.1 covered.2 covered.4 hold.contents hold.new hold.unfinished making holds ready c.arrays named r a next (length frames) position)
 
     -- the object of a `new` that begins
     begins : IsBeingMade p (lose held k) callee fr
     begins j u w y at new this now =
         let one : u.action ≡ s.action = one_action p st.number fr.control next.index j s u (step_here p fr st next.index s next.here) (step_here p fr st j u at) (call_may s.action (subst IsCallRow (sym next.same) next.row)) in
-        let self : values.Object w ≡ values.Object (next_number h) = sym this ∙ callee_this p ac forms runs h light_here links ranges types.fields fr frs st keeps.0 targets.0 top others_in covered.0 covered.2 (are_making p h (fr ∷ frs) hold.new hold.unfinished) (holders_are_older p (fr ∷ frs) h hold.contents) c.arrays named r a next (length frames) position
+        let self : values.Object w ≡ values.Object (next_number h) = sym this ∙ callee_this p ac forms runs h light_here links have ranges types.fields fr frs agrees.standing agrees.stacked keeps.0 targets.0 top others_in covered.0 covered.1 covered.2 covered.4 hold.contents hold.new hold.unfinished making holds ready c.arrays named r a next (length frames) position
         ∙ new_self fr.locals s.action h (ap is_new (sym one) ∙ new) in
         let z = was_there p k held w y now in
         z.2.finished ∙ new_unfinished p fr.locals s.action (method_at p named) (length frames) h links z.0 (ap (object_at k) (let number : next_number h ≡ w = cc in number) ∙ z.1)
 
     held_before : AllHeldBefore p h (lose held k) (fr ∷ frs)
     held_before = held_before_further p h k (lose held k) (fr ∷ frs)
-        (start_held_before p ac forms runs h light_here links ranges types.fields fr frs st keeps.0 targets.0 top others_in covered.0 covered.2 (are_making p h (fr ∷ frs) hold.new hold.unfinished) (holders_are_older p (fr ∷ frs) h hold.contents) c.arrays named r a next (length frames) position (fr ∷ frs) in') (lost_held_before p k held (fr ∷ frs))
+        (start_held_before p ac forms runs h light_here links have ranges types.fields fr frs agrees.standing agrees.stacked keeps.0 targets.0 top others_in covered.0 covered.1 covered.2 covered.4 hold.contents hold.new hold.unfinished making holds ready c.arrays named r a next (length frames) position (fr ∷ frs) in') (lost_held_before p k held (fr ∷ frs))
 
     -- which no frame holds yet
     unheld : IsUnheld p (lose held k) callee fr frs
     unheld j u w at new this =
         let one : u.action ≡ s.action = one_action p st.number fr.control next.index j s u (step_here p fr st next.index s next.here) (step_here p fr st j u at) (call_may s.action (subst IsCallRow (sym next.same) next.row)) in
-        let self : values.Object w ≡ values.Object (next_number h) = sym this ∙ callee_this p ac forms runs h light_here links ranges types.fields fr frs st keeps.0 targets.0 top others_in covered.0 covered.2 (are_making p h (fr ∷ frs) hold.new hold.unfinished) (holders_are_older p (fr ∷ frs) h hold.contents) c.arrays named r a next (length frames) position
+        let self : values.Object w ≡ values.Object (next_number h) = sym this ∙ callee_this p ac forms runs h light_here links have ranges types.fields fr frs agrees.standing agrees.stacked keeps.0 targets.0 top others_in covered.0 covered.1 covered.2 covered.4 hold.contents hold.new hold.unfinished making holds ready c.arrays named r a next (length frames) position
         ∙ new_self fr.locals s.action h (ap is_new (sym one) ∙ new) in
         subst (λ (n : ℕ). HoldNone p (lose held k) n (fr ∷ frs)) (let number : next_number h ≡ w = cc in number)
         (none_held_on p h (lose held k) (next_number h) (fr ∷ frs) held_before (next_not_held p h links (fr ∷ frs) (all_there p h ranges (fr ∷ frs) in')))
 
     began_kept : AreKept p (began p c fr frs named r a pos)
     began_kept = subst (λ (b : Action). AreKept p (began p c fr frs named r b pos)) next.same (
-      all_lost p k held frames (are_held p k frames) (start_covered p ac forms runs h light_here links ranges types.fields fr frs st keeps.0 targets.0 top others_in covered.0 covered.2 (are_making p h (fr ∷ frs) hold.new hold.unfinished) (holders_are_older p (fr ∷ frs) h hold.contents) c.arrays named r a next (length frames) position in' covered.1),
+      all_lost p k held (start_unowned p fr.locals s.action (method_at p named) (length frames) h links have.unfinished) frames (are_held p k frames) (start_covered p ac forms runs h light_here links have ranges types.fields fr frs agrees.standing agrees.stacked keeps.0 targets.0 top others_in covered.0 covered.1 covered.2 covered.4 hold.contents hold.new hold.unfinished making holds ready c.arrays named r a next (length frames) position in' covered.3),
       (begins, unheld, making_on p h (lose held k) no_other later fr fr frs refl in' (all_apart (fr ∷ frs)) held_before.1 making),
       still_aliases p k (lose held k) (lost_linked p k held)
-          (still_aliases p h k (started_linked p ac forms runs h light_here links ranges types.fields fr frs st keeps.0 targets.0 top others_in covered.0 covered.2 (are_making p h (fr ∷ frs) hold.new hold.unfinished) (holders_are_older p (fr ∷ frs) h hold.contents) c.arrays named r a next (length frames) position) linked),
+          (still_aliases p h k (started_linked p ac forms runs h light_here links have ranges types.fields fr frs agrees.standing agrees.stacked keeps.0 targets.0 top others_in covered.0 covered.1 covered.2 covered.4 hold.contents hold.new hold.unfinished making holds ready c.arrays named r a next (length frames) position) linked),
+      lost_owns p k held (started_owns p ac forms runs h light_here links have ranges types.fields fr frs agrees.standing agrees.stacked keeps.0 targets.0 top others_in covered.0 covered.1 covered.2 covered.4 hold.contents hold.new hold.unfinished making holds ready c.arrays named r a next (length frames) position owned),
     )
 
   -- ---- calls of the library
@@ -213,22 +240,21 @@ module _ (p : Program) (ac : Accept p) (forms : HasPlainForms p) (runs : HasPlai
   library_kept named m x s next row =
       goes (library_heap p fr.locals s.action (method_at p named) (method_at p m) x (length frs + 1) h)
       (frame_after p h fr s (conduct_value count (method_at p m) (positions fr.locals s.action (next_number h) x) (next_number h) x)) refl
-      (left_unfinished p ac forms names h links ranges fr frs st mine c.arrays named m x s next count hold.leads hold.contents)
-      (left_held_before p ac forms names h links ranges fr frs st mine c.arrays named m x s next count hold.leads hold.contents frs others_in)
-      (left_linked p ac forms names h links ranges fr frs st mine c.arrays named m x s next count hold.leads hold.contents linked)
-      (left_covered p ac forms names h links ranges fr frs st mine c.arrays named m x s next count hold.leads hold.contents hold.new hold.unfinished hold.owning sight row in' covered)
+      (left_unfinished p ac forms names h links ranges fr covered.0 frs st top c.arrays named m x s next count hold.leads hold.contents have light_here types.fields)
+      (left_held_before p ac forms names h links ranges fr covered.0 frs st top c.arrays named m x s next count hold.leads hold.contents have light_here types.fields frs others_in)
+      (left_linked p ac forms names h links ranges fr covered.0 frs st top c.arrays named m x s next count hold.leads hold.contents have light_here types.fields linked)
+      (left_owns p ac forms names h links ranges fr covered.0 frs st top c.arrays named m x s next count hold.leads hold.contents have light_here types.fields row covered.2 owned)
+      (library_unowned p fr.locals s.action (method_at p named) (method_at p m) x (length frs + 1) h have.unfinished)
+      (left_covered p ac forms names h links ranges fr covered.0 frs st top c.arrays named m x s next count hold.leads hold.contents have light_here types.fields owned hold.new hold.unfinished hold.owning sight row in' covered.1 covered.2 covered.3 covered.4)
     where
-      mine : LocalsInRange h fr.locals
-      mine = All-head (λ (u : Frame). LocalsInRange h u.locals) fr frs in'
-
       count : ℕ
       count = length (arguments_shared c.arrays fr.locals s.action (method_at p named))
 
 -- ---- ends
 
-module _ (p : Program) (ac : Accept p) (forms : HasPlainForms p) (runs : HasPlainRuns p) (names : HasSmallInterests p) (texts : HasLightTexts p) (c d : Config) (fr caller : Frame) (rest : List Frame)
+module _ (p : Program) (ac : Accept p) (forms : HasPlainForms p) (runs : HasPlainRuns p) (names : HasSmallInterests p) (texts : HasLightTexts p) (c d : Config) (types : HaveTypes p c) (fr caller : Frame) (rest : List Frame)
     (agrees : Agrees p (fr ∷ caller ∷ rest) c.heap c.entries) (targets : HaveTargets p (fr ∷ caller ∷ rest)) (keeps : KeepAll (is_text p c.heap) p (fr ∷ caller ∷ rest)) (called : AreCalled p (fr ∷ caller ∷ rest)) (in' : LocalsIn c.heap (fr ∷ caller ∷ rest))
-    (ranges : FieldsInRange c.heap) (hold : FieldsHold p (fr ∷ caller ∷ rest) c.heap) (making : AreBeingMade p c.heap (fr ∷ caller ∷ rest)) (linked : LinkedAreAliases p c.heap) (covered : AreCovered p c.heap (fr ∷ caller ∷ rest))
+    (ranges : FieldsInRange c.heap) (hold : FieldsHold p (fr ∷ caller ∷ rest) c.heap) (making : AreBeingMade p c.heap (fr ∷ caller ∷ rest)) (linked : LinkedAreAliases p c.heap) (owned : FieldsOwn p c.heap) (covered : AreCovered p c.heap (fr ∷ caller ∷ rest))
     (i : ℕ) (s : Step) (q : Completion) (here : slice_get (frame_steps p fr) i ≡ Some s) (is : s.action ≡ actions.End q) (args : HasArguments p caller fr) (exits : EndsAsDeclared p c.heap fr) (sight : ActsInSight p c.heap caller) (alone : TopRunsAlone p c.heap (fr ∷ caller ∷ rest)) where
   light_at_end : TextsAreLight p c.heap
   light_at_end = texts_are_light p ac texts c.heap linked
@@ -239,11 +265,19 @@ module _ (p : Program) (ac : Accept p) (forms : HasPlainForms p) (runs : HasPlai
   abbrev waits : WaitsFor p c.heap caller fr
   waits = agrees.stacked.0
 
-  below : Stands p caller
+  abbrev below : Stands p caller
   below = agrees.standing.1.0
 
   below_in : LocalsIn c.heap (caller ∷ rest)
   below_in = All-tail (λ (x : Frame). LocalsInRange c.heap x.locals) fr (caller ∷ rest) in'
+
+  unlinked_at_end : HoldersAreUnlinked (is_heavy_class p) c.heap
+  unlinked_at_end = contents_have_holders p ac (fr ∷ caller ∷ rest) c.heap hold.contents
+
+  -- what a field of the caller's `this` holds, where the caller's method creates the obligation of `this` anew
+  holds_at_end : HoldsLent p c.heap covered.3.0 rest caller agrees.standing.1.0
+  holds_at_end = holds_lent p ac forms c.heap agrees.links owned caller (All-head (λ (x : Frame). LocalsInRange c.heap x.locals) caller rest below_in) agrees.standing.1.0 covered.3.0 rest (is_given p c.heap caller) (is_reread p c.heap caller)
+      covered.3.3 unlinked_at_end
 
   module _ (pos : Pos) (t : Step) (named : MethodId) (same : named ≡ waits.named) (back : IsBackStep p (frame_steps p caller) e named t) where
     may : MayRun p named fr.method
@@ -258,6 +292,12 @@ module _ (p : Program) (ac : Accept p) (forms : HasPlainForms p) (runs : HasPlai
 
     itself : RunsItself t.action named fr.method
     itself = subst (λ (a : Action). RunsItself a named fr.method) (sym same_action) (subst (λ (z : MethodId). RunsItself waits.step.action z fr.method) (sym same) waits.itself)
+
+    on_same : RunsOnSame t.action caller.locals.this fr.locals.this
+    on_same = subst (λ (a : Action). RunsOnSame a caller.locals.this fr.locals.this) (sym same_action) waits.on_same
+
+    fresh : (w : ℕ) → is_new t.action ≡ true → fr.locals.this ≡ values.Object w → RunOnOthers w (caller ∷ rest)
+    fresh w new this = hold.fresh.0 back.index t w back.here new this
 
     made_after : IsMadeAfter p caller.locals t.action fr.locals.this
     made_after = subst (λ (a : Action). IsMadeAfter p caller.locals a fr.locals.this) (sym same_action) waits.after
@@ -279,20 +319,20 @@ module _ (p : Program) (ac : Accept p) (forms : HasPlainForms p) (runs : HasPlai
 
     returned_kept : AreKept p (returned p c fr caller rest pos q e named t)
     returned_kept = (
-      all_lost p ended_heap held_after (after ∷ rest) (are_held p ended_heap (after ∷ rest)) (returned_covered p ac forms runs names c.heap light_at_end agrees.links linked ranges fr caller rest agrees.standing.0 below targets.1.0 keeps.0 called.0 hold.dispatched.0 making.0 mine covered.0 i s q here is t named back
-          may makes itself args exits hold.leads agrees.ends made_after agrees.classes making.1 below_in alone hold.contents hold.owning agrees.standing.1.1 covered.1 sight hold.new.1 hold.unfinished.1
-          (λ w new this. hold.fresh.0 back.index t w back.here new this) covered.2),
-      making_on p c.heap (lose held_after ended_heap) apart (lost_unfinished p ended_heap held_after c.heap apart (returned_unfinished p ac forms runs names c.heap light_at_end agrees.links linked ranges fr caller rest agrees.standing.0 below targets.1.0 keeps.0 called.0 hold.dispatched.0 making.0
-          mine covered.0 i s q here is t named back may makes itself args exits hold.leads agrees.ends made_after agrees.classes making.1 below_in alone hold.contents hold.owning agrees.standing.1.1 covered.1 sight hold.new.1 hold.unfinished.1
-          (λ w new this. hold.fresh.0 back.index t w back.here new this))) caller after rest refl below_in
+      all_lost p ended_heap held_after
+          (returned_unowned p (length rest + 1) fr.locals.this caller.locals t.action (method_at p fr.method) (method_at p named) (result_value fr.locals (method_at p fr.method) q) e c.heap agrees.ends agrees.links
+          (λ w x new this there. making.0 back.index t w x back.here new this there)) (after ∷ rest) (are_held p ended_heap (after ∷ rest)) (returned_covered p ac forms runs names c.heap light_at_end agrees.links linked ranges fr caller rest agrees.standing.0 below targets.1.0 keeps.0 called.0 hold.dispatched.0 making.0 mine covered.0 covered.2 i s q here is t named back may makes itself args exits hold.leads agrees.ends made_after agrees.classes making.1 below_in alone hold.contents
+          unlinked_at_end fresh on_same types.fields agrees.standing.1.1 covered.1 covered.3.0 covered.3.1 covered.3.2 covered.3.3 covered.3.4 holds_at_end hold.new.1 hold.unfinished.1 hold.owning sight covered.4),
+      making_on p c.heap (lose held_after ended_heap) apart (lost_unfinished p ended_heap held_after c.heap apart (returned_unfinished p ac forms runs names c.heap light_at_end agrees.links linked ranges fr caller rest agrees.standing.0 below targets.1.0 keeps.0 called.0 hold.dispatched.0 making.0 mine covered.0 covered.2 i s q here is t named back may makes itself args exits hold.leads agrees.ends made_after agrees.classes making.1 below_in alone hold.contents
+          unlinked_at_end fresh on_same types.fields agrees.standing.1.1 covered.1 covered.3.0 covered.3.1 covered.3.2 covered.3.3 covered.3.4 holds_at_end hold.new.1 hold.unfinished.1 hold.owning sight)) caller after rest refl below_in
           (apart_from apart (caller ∷ rest) (λ w other. hold.fresh.0 back.index t w back.here other.1 other.0))
-          (held_before_further p c.heap ended_heap (lose held_after ended_heap) rest (returned_held_before p ac forms runs names c.heap light_at_end agrees.links linked ranges fr caller rest agrees.standing.0 below targets.1.0 keeps.0 called.0 hold.dispatched.0 making.0
-          mine covered.0 i s q here is t named back may makes itself args exits hold.leads agrees.ends made_after agrees.classes making.1 below_in alone hold.contents hold.owning agrees.standing.1.1 covered.1 sight hold.new.1 hold.unfinished.1
-          (λ w new this. hold.fresh.0 back.index t w back.here new this)) (lost_held_before p ended_heap held_after rest)) making.2,
+          (held_before_further p c.heap ended_heap (lose held_after ended_heap) rest (returned_held_before p ac forms runs names c.heap light_at_end agrees.links linked ranges fr caller rest agrees.standing.0 below targets.1.0 keeps.0 called.0 hold.dispatched.0 making.0 mine covered.0 covered.2 i s q here is t named back may makes itself args exits hold.leads agrees.ends made_after agrees.classes making.1 below_in alone hold.contents
+          unlinked_at_end fresh on_same types.fields agrees.standing.1.1 covered.1 covered.3.0 covered.3.1 covered.3.2 covered.3.3 covered.3.4 holds_at_end hold.new.1 hold.unfinished.1 hold.owning sight) (lost_held_before p ended_heap held_after rest)) making.2,
       still_aliases p ended_heap (lose held_after ended_heap) (lost_linked p ended_heap held_after)
-          (returned_apart p ac forms runs names c.heap light_at_end agrees.links linked ranges fr caller rest agrees.standing.0 below targets.1.0 keeps.0 called.0 hold.dispatched.0 making.0 mine covered.0 i s q here is t named back may makes itself args exits
-          hold.leads agrees.ends made_after agrees.classes making.1 below_in alone hold.contents hold.owning agrees.standing.1.1 covered.1 sight hold.new.1 hold.unfinished.1
-          (λ w new this. hold.fresh.0 back.index t w back.here new this)),
+          (returned_apart p ac forms runs names c.heap light_at_end agrees.links linked ranges fr caller rest agrees.standing.0 below targets.1.0 keeps.0 called.0 hold.dispatched.0 making.0 mine covered.0 covered.2 i s q here is t named back may makes itself args exits hold.leads agrees.ends made_after agrees.classes making.1 below_in alone hold.contents
+          unlinked_at_end fresh on_same types.fields agrees.standing.1.1 covered.1 covered.3.0 covered.3.1 covered.3.2 covered.3.3 covered.3.4 holds_at_end hold.new.1 hold.unfinished.1 hold.owning sight),
+      lost_owns p ended_heap held_after (returned_owns p ac forms runs names c.heap light_at_end agrees.links linked ranges fr caller rest agrees.standing.0 below targets.1.0 keeps.0 called.0 hold.dispatched.0 making.0 mine covered.0 covered.2 i s q here is t named back may makes itself args exits hold.leads agrees.ends made_after agrees.classes making.1 below_in alone hold.contents
+          unlinked_at_end fresh on_same types.fields agrees.standing.1.1 covered.1 covered.3.0 covered.3.1 covered.3.2 covered.3.3 covered.3.4 holds_at_end hold.new.1 hold.unfinished.1 hold.owning sight owned),
     )
 
   back_kept : c.frames ≡ fr ∷ caller ∷ rest → (pos : Pos) (r : Return) → IsBack p (frame_steps p caller) e waits.named r → returned_by p c fr caller rest pos q r ≡ went d → AreKept p d
@@ -300,7 +340,7 @@ module _ (p : Program) (ac : Accept p) (forms : HasPlainForms p) (runs : HasPlai
       subst (AreKept p) (let one : returned p c fr caller rest pos q x named t ≡ d = cc in one)
       (subst (λ (z : Option ClassId). AreKept p (returned p c fr caller rest pos q z named t)) (sym back.0) (returned_kept pos t named back.1 (subst (λ (z : MethodId). IsBackStep p (frame_steps p caller) e z t) (sym back.1) back.2)))
   back_kept frames pos (StrayBack x at) back same = absurd (let never : stray x at ≡ went d = same in cc)
-  back_kept frames pos NoWay back same = subst (AreKept p) (let one : c ≡ d = cc in one) (subst (λ (gs : List Frame). AreCovered p c.heap gs × AreBeingMade p c.heap gs × LinkedAreAliases p c.heap) (sym frames) (covered, making, linked))
+  back_kept frames pos NoWay back same = subst (AreKept p) (let one : c ≡ d = cc in one) (subst (λ (gs : List Frame). AreCovered p c.heap gs × AreBeingMade p c.heap gs × LinkedAreAliases p c.heap × FieldsOwn p c.heap) (sym frames) (covered, making, linked, owned))
 
 -- ---- all steps
 
@@ -308,32 +348,32 @@ module _ (p : Program) (ac : Accept p) (forms : HasPlainForms p) (runs : HasPlai
     (given : (fr caller : Frame) (rest : List Frame) → c.frames ≡ fr ∷ caller ∷ rest → HasArguments p caller fr × EndsAsDeclared p c.heap fr)
     (raised : (fr : Frame) (frs : List Frame) → c.frames ≡ fr ∷ frs → RaisesExceptions p c.heap fr) (sight : AllActInSight p c.heap c.frames) (alone : TopRunsAlone p c.heap c.frames) where
   ended_kept : (fr : Frame) (frs : List Frame) → c.frames ≡ fr ∷ frs → Agrees p (fr ∷ frs) c.heap c.entries → HaveTargets p (fr ∷ frs) → KeepAll (is_text p c.heap) p (fr ∷ frs) → AreCalled p (fr ∷ frs) → LocalsIn c.heap (fr ∷ frs) → FieldsInRange c.heap
-      → FieldsHold p (fr ∷ frs) c.heap → AreBeingMade p c.heap (fr ∷ frs) → LinkedAreAliases p c.heap → AreCovered p c.heap (fr ∷ frs) → (pos : Pos) (q : Completion) (i : ℕ) (s : Step) → slice_get (frame_steps p fr) i ≡ Some s → s.action ≡ actions.End q
+      → FieldsHold p (fr ∷ frs) c.heap → AreBeingMade p c.heap (fr ∷ frs) → LinkedAreAliases p c.heap → FieldsOwn p c.heap → AreCovered p c.heap (fr ∷ frs) → (pos : Pos) (q : Completion) (i : ℕ) (s : Step) → slice_get (frame_steps p fr) i ≡ Some s → s.action ≡ actions.End q
       → end p c fr frs pos q ≡ went d → AreKept p d
-  ended_kept fr [] frames agrees targets keeps called in' ranges hold making linked covered pos q i s here is same = subst (AreKept p) (let one : main_ended p c fr pos q ≡ d = cc in one) (tt, tt, still_aliases p c.heap (end_frame 1 c.heap) (frame_linked 1 c.heap) linked)
-  ended_kept fr (caller ∷ rest) frames agrees targets keeps called in' ranges hold making linked covered pos q i s here is same =
-      back_kept p ac forms runs names texts c d fr caller rest agrees targets keeps called in' ranges hold making linked covered i s q here is (given fr caller rest frames).0 (given fr caller rest frames).1 (subst (λ (gs : List Frame). AllActInSight p c.heap gs) frames sight).1.0 (subst (λ (gs : List Frame). TopRunsAlone p c.heap gs) frames alone) frames pos
+  ended_kept fr [] frames agrees targets keeps called in' ranges hold making linked owned covered pos q i s here is same = subst (AreKept p) (let one : main_ended p c fr pos q ≡ d = cc in one) (tt, tt, still_aliases p c.heap (end_frame 1 c.heap) (frame_linked 1 c.heap) linked, frame_owns p 1 c.heap owned)
+  ended_kept fr (caller ∷ rest) frames agrees targets keeps called in' ranges hold making linked owned covered pos q i s here is same =
+      back_kept p ac forms runs names texts c d types fr caller rest agrees targets keeps called in' ranges hold making linked owned covered i s q here is (given fr caller rest frames).0 (given fr caller rest frames).1 (subst (λ (gs : List Frame). AllActInSight p c.heap gs) frames sight).1.0 (subst (λ (gs : List Frame). TopRunsAlone p c.heap gs) frames alone) frames pos
       (return_move p (frame_steps p caller) (exception_class p c.heap (thrown_in fr.locals q)))
       (back_is p caller agrees.standing.1.0 agrees.stacked.0.named agrees.stacked.0.index agrees.stacked.0.step agrees.stacked.0.here agrees.stacked.0.calls (exception_class p c.heap (thrown_in fr.locals q)))
       same
 
   moved_kept : (fr : Frame) (frs : List Frame) → c.frames ≡ fr ∷ frs → Agrees p (fr ∷ frs) c.heap c.entries → HaveTargets p (fr ∷ frs) → KeepAll (is_text p c.heap) p (fr ∷ frs) → AreCalled p (fr ∷ frs) → LocalsIn c.heap (fr ∷ frs) → FieldsInRange c.heap
-      → FieldsHold p (fr ∷ frs) c.heap → AreBeingMade p c.heap (fr ∷ frs) → LinkedAreAliases p c.heap → AreCovered p c.heap (fr ∷ frs) → (mv : Move) → IsNext p c.heap c.arrays fr.method fr.locals (frame_steps p fr) mv
+      → FieldsHold p (fr ∷ frs) c.heap → AreBeingMade p c.heap (fr ∷ frs) → LinkedAreAliases p c.heap → FieldsOwn p c.heap → AreCovered p c.heap (fr ∷ frs) → (mv : Move) → IsNext p c.heap c.arrays fr.method fr.locals (frame_steps p fr) mv
       → typed_moves.IsNext p c.heap c.arrays fr.method fr.locals (frame_steps p fr) mv → moved p c fr frs mv ≡ went d → AreKept p d
-  moved_kept fr frs frames agrees targets keeps called in' ranges hold making linked covered (Inner e s) next typed same =
+  moved_kept fr frs frames agrees targets keeps called in' ranges hold making linked owned covered (Inner e s) next typed same =
       subst (AreKept p) (let one : within p c fr frs e s ≡ d = cc in one)
-      (inner_kept p ac forms runs names texts c d types fr frs agrees targets keeps called in' ranges hold making linked covered (raised fr frs frames) (subst (λ (gs : List Frame). AllActInSight p c.heap gs) frames sight).0 e s next.0 next.1 next.2)
-  moved_kept fr frs frames agrees targets keeps called in' ranges hold making linked covered (Start named r a pos) next typed same =
+      (inner_kept p ac forms runs names texts c d types fr frs agrees targets keeps called in' ranges hold making linked owned covered (raised fr frs frames) (subst (λ (gs : List Frame). AllActInSight p c.heap gs) frames sight).0 e s next.0 next.1 next.2)
+  moved_kept fr frs frames agrees targets keeps called in' ranges hold making linked owned covered (Start named r a pos) next typed same =
       subst (AreKept p) (let one : began p c fr frs named r a pos ≡ d = cc in one)
-      (began_kept p ac forms runs names texts c d types fr frs agrees targets keeps called in' ranges hold making linked covered (raised fr frs frames) (subst (λ (gs : List Frame). AllActInSight p c.heap gs) frames sight).0 named r a pos next)
-  moved_kept fr frs frames agrees targets keeps called in' ranges hold making linked covered (Library named m x s) next typed same =
+      (began_kept p ac forms runs names texts c d types fr frs agrees targets keeps called in' ranges hold making linked owned covered (raised fr frs frames) (subst (λ (gs : List Frame). AllActInSight p c.heap gs) frames sight).0 named r a pos next)
+  moved_kept fr frs frames agrees targets keeps called in' ranges hold making linked owned covered (Library named m x s) next typed same =
       subst (AreKept p) (let one : library_went p c fr frs named m x s ≡ d = cc in one)
-      (library_kept p ac forms runs names texts c d types fr frs agrees targets keeps called in' ranges hold making linked covered (raised fr frs frames) (subst (λ (gs : List Frame). AllActInSight p c.heap gs) frames sight).0 named m x s next typed.row)
-  moved_kept fr frs frames agrees targets keeps called in' ranges hold making linked covered (End pos q) next typed same =
-      ended_kept fr frs frames agrees targets keeps called in' ranges hold making linked covered pos q next.0 next.1 next.2 next.3 same
-  moved_kept fr frs frames agrees targets keeps called in' ranges hold making linked covered (Stray e pos) next typed same = absurd (let never : stray e pos ≡ went d = same in cc)
-  moved_kept fr frs frames agrees targets keeps called in' ranges hold making linked covered Rest next typed same =
-      subst (AreKept p) (let one : c ≡ d = cc in one) (subst (λ (gs : List Frame). AreCovered p c.heap gs × AreBeingMade p c.heap gs × LinkedAreAliases p c.heap) (sym frames) (covered, making, linked))
+      (library_kept p ac forms runs names texts c d types fr frs agrees targets keeps called in' ranges hold making linked owned covered (raised fr frs frames) (subst (λ (gs : List Frame). AllActInSight p c.heap gs) frames sight).0 named m x s next typed.row)
+  moved_kept fr frs frames agrees targets keeps called in' ranges hold making linked owned covered (End pos q) next typed same =
+      ended_kept fr frs frames agrees targets keeps called in' ranges hold making linked owned covered pos q next.0 next.1 next.2 next.3 same
+  moved_kept fr frs frames agrees targets keeps called in' ranges hold making linked owned covered (Stray e pos) next typed same = absurd (let never : stray e pos ≡ went d = same in cc)
+  moved_kept fr frs frames agrees targets keeps called in' ranges hold making linked owned covered Rest next typed same =
+      subst (AreKept p) (let one : c ≡ d = cc in one) (subst (λ (gs : List Frame). AreCovered p c.heap gs × AreBeingMade p c.heap gs × LinkedAreAliases p c.heap × FieldsOwn p c.heap) (sym frames) (covered, making, linked, owned))
 
   -- what comes next, as the laws on types see it
   typed_next : (fr : Frame) (st : Stands p fr) → HasMadeClasses p c.heap → typed_moves.IsNext p c.heap c.arrays fr.method fr.locals (frame_steps p fr)
@@ -347,16 +387,16 @@ module _ (p : Program) (ac : Accept p) (forms : HasPlainForms p) (runs : HasPlai
       same = ap (λ (b : Option BodyId). steps_by p b fr.control) st.id
 
   by_frames : (frs : List Frame) → c.frames ≡ frs → Agrees p frs c.heap c.entries → HaveTargets p frs → KeepAll (is_text p c.heap) p frs → AreCalled p frs → LocalsIn c.heap frs → FieldsInRange c.heap → FieldsHold p frs c.heap → AreBeingMade p c.heap frs
-      → LinkedAreAliases p c.heap → AreCovered p c.heap frs → moved_by p c frs (top_move p c frs) ≡ went d → AreKept p d
-  by_frames [] frames agrees targets keeps called in' ranges hold making linked covered same = absurd (let never : ended c.ended ≡ went d = same in cc)
-  by_frames (fr ∷ frs) frames agrees targets keeps called in' ranges hold making linked covered same =
-      moved_kept fr frs frames agrees targets keeps called in' ranges hold making linked covered (top_move p c (fr ∷ frs)) (next_is p ac forms c.heap c.arrays (next_choice c.choices c.used) fr agrees.standing.0 targets.0 agrees.classes)
+      → LinkedAreAliases p c.heap → FieldsOwn p c.heap → AreCovered p c.heap frs → moved_by p c frs (top_move p c frs) ≡ went d → AreKept p d
+  by_frames [] frames agrees targets keeps called in' ranges hold making linked owned covered same = absurd (let never : ended c.ended ≡ went d = same in cc)
+  by_frames (fr ∷ frs) frames agrees targets keeps called in' ranges hold making linked owned covered same =
+      moved_kept fr frs frames agrees targets keeps called in' ranges hold making linked owned covered (top_move p c (fr ∷ frs)) (next_is p ac forms c.heap c.arrays (next_choice c.choices c.used) fr agrees.standing.0 targets.0 agrees.classes)
       (typed_next fr agrees.standing.0 agrees.classes) same
 
 pub kept_step : (p : Program) → Accept p → HasPlainForms p → HasPlainRuns p → HasSmallInterests p → HasLightTexts p → (c d : Config) → Agree p c → HaveTargets p c.frames → HaveTypes p c → AreInRange c
-    → FieldsHold p c.frames c.heap → AreBeingMade p c.heap c.frames → LinkedAreAliases p c.heap → AreCovered p c.heap c.frames → HaveArguments p c.frames → TopEndsAsDeclared p c.heap c.frames → TopRaisesExceptions p c.heap c.frames → AllActInSight p c.heap c.frames → TopRunsAlone p c.heap c.frames → step p c ≡ went d → AreKept p d
+    → FieldsHold p c.frames c.heap → AreBeingMade p c.heap c.frames → LinkedAreAliases p c.heap → FieldsOwn p c.heap → AreCovered p c.heap c.frames → HaveArguments p c.frames → TopEndsAsDeclared p c.heap c.frames → TopRaisesExceptions p c.heap c.frames → AllActInSight p c.heap c.frames → TopRunsAlone p c.heap c.frames → step p c ≡ went d → AreKept p d
 unfolding step
-kept_step p ac forms runs names texts c d agrees targets types ranges fields making linked covered args exits raises sight alone same =
+kept_step p ac forms runs names texts c d agrees targets types ranges fields making linked owned covered args exits raises sight alone same =
     by_frames p ac forms runs names texts c d types
     (λ fr caller rest frames. ((subst (λ (gs : List Frame). HaveArguments p gs) frames args).0, subst (λ (gs : List Frame). TopEndsAsDeclared p c.heap gs) frames exits))
-    (λ fr frs frames. subst (λ (gs : List Frame). TopRaisesExceptions p c.heap gs) frames raises) sight alone c.frames refl agrees targets types.frames types.called ranges.frames ranges.fields fields making linked covered same
+    (λ fr frs frames. subst (λ (gs : List Frame). TopRaisesExceptions p c.heap gs) frames raises) sight alone c.frames refl agrees targets types.frames types.called ranges.frames ranges.fields fields making linked owned covered same

@@ -1,9 +1,8 @@
 -- A call of a method of the program begins a frame: what its places hold is in facts of the body's entry.
 use Rattle.std.specs.Prelude.{◌-◌, ◌<◌, ◌||◌, ◌&&◌, not, replicate, if◌then◌else◌}
 use Rattle.std.specs.FinSet as set
-use Rattle.std.proofs.Common.{◌≡◌, ◌⊎◌, inl, inr, ℕ, zero, suc, ◌+◌, ◌≤◌, Bool, true, false, not, Option, Some, None, List, [], ◌∷◌, ◌++◌, length, IsSomeAnd, slice_get, nat_le, nat_lt, refl, sym, ap, ◌∙◌, subst, true≢false, eq-eqb, ltb-false, ltb-true, arith}
+use Rattle.std.proofs.Common.{◌≡◌, ◌⊎◌, inl, inr, ℕ, zero, suc, ◌+◌, ◌≤◌, Bool, true, false, not, Option, Some, None, List, [], ◌∷◌, ◌++◌, length, IsSomeAnd, slice_get, refl, sym, ap, ◌∙◌, subst, true≢false, eq-eqb, arith}
 use Rattle.std.proofs.lemmas.Bool.{and_from, and_parts, or_left, or_right}
-use Rattle.std.proofs.lemmas.Bool.Decides.{nat_tests}
 use Rattle.std.proofs.lemmas.List.FromFn.{length-map-range_with_len}
 use Rattle.std.proofs.lemmas.Option.{slice_get-get_or, slice_get_within}
 use Rattle.rlc_base.proofs.SetLaws.{empty_within, within_self}
@@ -26,9 +25,9 @@ use Rattle.program_model.specs.SuperTests.{is_class}
 use Rattle.program_model.specs.Validity.{HasParameters, IsBodyOf, is_class_type}
 use Rattle.ledger_obligations.specs.OverrideCases.{differ}
 use Rattle.ledger_obligations.specs.Bodies.{alias_in, constructs, fields_in, fields_of, fields_of_method, has_field_place, is_class_of, is_constructor_kind, is_field_in, method_in, method_of, reset_in}
-use Rattle.ledger_obligations.specs.MustCallSets.{Names, is_empty, is_heavy_class, must_of, must_of_optional, must_of_type, no_names}
+use Rattle.ledger_obligations.specs.MustCallSets.{is_empty, is_heavy_class, must_of, must_of_optional, must_of_type, no_names}
 use Rattle.ownership_rules.specs.Signatures.{is_present, type_of_field}
-use Rattle.java_control.specs.Calls.{called_method, temp_at}
+use Rattle.java_control.specs.Calls.{called_method}
 use Rattle.java_control.specs.Control.{Step}
 use Rattle.java_control.specs.Owned.{is_owning_field}
 use Rattle.java_control.specs.declared.action.Action.{Action}
@@ -52,27 +51,27 @@ use Rattle.value_laws.specs.Accept.{Accept}
 use Rattle.ledger_state.specs.Contents.{HeapContents}
 use Rattle.ledger_state.specs.Fields.{field_of, field_value}
 use Rattle.ledger_state.specs.Heaps.{next_number, object_at, root_of, root}
-use Rattle.ledger_state.specs.Locals.{temp_in, temp_value, variable_value}
+use Rattle.ledger_state.specs.Locals.{temp_value, variable_value}
 use Rattle.ledger_state.specs.Values.{number_of, value_or_nothing}
 use Rattle.ledger_state.specs.declared.array.ArrayObject.{ArrayObject}
 use Rattle.ledger_state.specs.declared.entry.Owner.TheVariants as owners
 use Rattle.ledger_state.specs.declared.locals.Locals.{Locals}
-use Rattle.ledger_obligations.specs.Obligations.{may_move, is_held_by}
+use Rattle.ledger_obligations.specs.Obligations.{may_move}
 use Rattle.ledger_state.specs.declared.object.Object.{Object}
 use Rattle.ledger_state.specs.declared.value.Value.{Value}
 use Rattle.ledger_state.specs.declared.value.Value.TheVariants as values
 use Rattle.value_laws.specs.Places.{field_place_value, owning_field_beside, place_value}
-use Rattle.ledger_steps.specs.LedgerCallsCalls.{argument_values, begun, body_of, control_in, operand_of, params_in, running, variable_count}
+use Rattle.ledger_steps.specs.LedgerCallsCalls.{argument_values, begun, body_of, operand_of, params_in, running, variable_count}
 use Rattle.value_laws.specs.Configuration.{Frame}
 use Rattle.value_laws.specs.Choosing.{frame_steps, body_id}
 use Rattle.ledger_steps.specs.CallSteps.{began_heap, self_begun}
-use Rattle.value_laws.specs.Heaps.{HasEarlierLinks, IsGiven}
-use Rattle.value_laws.proofs.Begun.{begun_from, begun_given}
+use Rattle.value_laws.specs.Heaps.{HasEarlierLinks}
+use Rattle.value_laws.proofs.Begun.{begun_given}
 use Rattle.value_laws.proofs.FieldPlaces.{IsBeside, place_of_beside}
 use Rattle.value_laws.specs.Naming.{IsOfItsKind}
 use Rattle.value_laws.proofs.NamedReached.{names_what_is_there}
 use Rattle.value_laws.specs.Outcomes.{IsCallRow}
-use Rattle.value_laws.specs.Agreement.{Stands}
+use Rattle.value_laws.specs.Agreement.{AllStand, IsStacked, Stands}
 use Rattle.value_laws.specs.PlainForms.{HasPlainForms, IsPlainAction, calls_constructor, is_lent_parameter}
 use Rattle.value_laws.specs.Nexts.{IsStartMove}
 use Rattle.value_laws.specs.Operands as operand_types
@@ -83,7 +82,7 @@ use Rattle.value_laws.proofs.Unmet.{way_of_call}
 use Rattle.value_laws.specs.Types.{KeepsTypes, StoredHoldNone, is_text}
 use Rattle.value_laws.proofs.ValueTypeFields.{field_is_none}
 use Rattle.value_laws.proofs.ValueTypeLaws.{argument_is_no_object}
-use Rattle.value_laws.specs.PlaceFacts.{AreCovered, AreWaiting, Covers, IsCovered, IsKeyed, IsTrueOf, IsUnowned, OwnersBelow, asked_by, asked_of, claims, fits_field, fits_in, gives_none, is_apart, is_content, is_field_of, is_frame_below, is_frame_from, is_given, is_heavy_field, is_heavy_in, is_lent, OwesOrHolds, owned, unowned, renews_none, HasOlderHolder, HoldersAreOlder}
+use Rattle.value_laws.specs.PlaceFacts.{AreCovered, AreWaiting, Covers, HasOwningField, IsCovered, IsKeyed, IsOld, IsTrueOf, IsUnowned, OwesOrHolds, OwnersBelow, asked_by, asked_of, claims, fits_field, fits_in, gives_none, is_frame_from, is_given, is_heavy_field, is_heavy_in, is_lent, owned, renews_none, unowned}
 use Rattle.covering_laws.proofs.HeavyFields.{asked_here, claims_alone, claims_owned, covered_at}
 use Rattle.value_laws.proofs.KeptFacts.{parameter_unheld}
 use Rattle.value_laws.specs.Ranges.{FieldsInRange, IsInRange, IsNumber, LocalsInRange}
@@ -93,16 +92,15 @@ use Rattle.covering_laws.proofs.Bodies.{body_is_of_program}
 use Rattle.covering_laws.proofs.BegunFrames.{entered_covers, lent_or_none, lent_unowned, not_and, not_held, not_own, parameter_born}
 use Rattle.covering_laws.proofs.EntryBirths.{alike_parameter, argument_or_nothing, of_field, of_parameter, of_this, same_mark, lent_parameter, lent_this, no_parameter, this_unowned, this_born, parameter_at, class_type_is, constructor_kind, element_there}
 use Rattle.covering_laws.proofs.GivenArguments.{given_is_true, given_owner, operand_may_move, operand_owned, two_operands}
-use Rattle.covering_laws.proofs.GivenAway.{given_taken, moved_given, step_gives, taken_given}
+use Rattle.covering_laws.proofs.GivenAway.{moved_given, step_gives}
 use Rattle.covering_laws.proofs.CallResults.{born_unowned}
 use Rattle.covering_laws.proofs.Gifts.{all_keep_gifts}
-use Rattle.covering_laws.proofs.Owners.{HoldersWere, KeepsOwners, OwnersGo, holders_were, none_unready, owners_kept, stays_apart, KeepsGiven, given_kept, KeepsFinished, held_here}
-use Rattle.covering_laws.proofs.NewOwners.{start_births}
-use Rattle.covering_laws.proofs.OwnerSteps.{below_not_from}
-use Rattle.covering_laws.proofs.StartOwners.{below_further, start_below, start_owner, start_owners_go}
+use Rattle.covering_laws.proofs.Owners.{AllKeepGifts, HoldersWere, KeepsOwners, OwnersGo, StaysApart, WaysGo, contents_here, held_here, holders_were, old_kept, owners_kept, stays_apart}
+use Rattle.covering_laws.proofs.StepWays.{start_births, start_unowned, ways_by}
+use Rattle.covering_laws.proofs.StartOwners.{below_further, held_by_lent, start_below, start_owner, start_owners_go}
 use Rattle.covering_laws.proofs.LocalSteps.{LocalsIn, all_there}
 use Rattle.covering_laws.proofs.StartHeaps.{new_holds_nothing, start_carries, start_keeps, start_linked, start_roots, start_unfinished, new_unfinished, new_unlinked}
-use Rattle.covering_laws.proofs.Waiting.{AllHeldBefore, IsCarried, KeepsRoots, KeepsUnfinished, all_held_before, all_keep, all_wait, frames_ready, no_other, numbered, bore_before, Continues, value_root, was_ready, new_root, carries_finish}
+use Rattle.covering_laws.proofs.Waiting.{AllHeldBefore, IsCarried, KeepsRoots, KeepsUnfinished, all_held_before, all_keep, all_wait, but_texts, frames_ready, no_other, numbered, bore_before, Continues, value_root, was_ready, new_root, AllGoOn, ways_go_on}
 use Rattle.covering_laws.proofs.KnownNames.{operand_temp}
 use Rattle.covering_laws.proofs.LinkedExceptions.{LinkedWere}
 use Rattle.covering_laws.proofs.BornTruths.{field_unlent}
@@ -110,48 +108,34 @@ use Rattle.covering_laws.specs.Texts.{TextsAreLight}
 use Rattle.value_laws.proofs.TargetBegun.{finds}
 use Rattle.value_laws.specs.StepTargets.{FindsIt}
 use Rattle.value_laws.specs.Frames.{holds_this, KeepsTargets}
-use Rattle.value_laws.specs.Renewing.{IsLentFrom, is_renewed, renews, makes_alone, IsHeldBy}
-use Rattle.covering_laws.proofs.RenewedOperands.{step_renews, renewed_answered, renewed_not_given}
+use Rattle.value_laws.specs.Renewing.{HasInHand, IsHeldBy, IsLentFrom, is_renewed, makes_alone, renews}
+use Rattle.covering_laws.proofs.RenewedOperands.{HoldsLent, renewed_answered, renewed_not_given, step_renews}
+use Rattle.covering_laws.proofs.MadeTargets.{HoldsReady, first_value, operand_ready}
+use Rattle.covering_laws.proofs.OldAtStarts.{old_then, starts_old}
+use Rattle.covering_laws.proofs.ContentHolders.{contents_have_holders}
+use Rattle.covering_laws.specs.Making.{AreBeingMade}
+use Rattle.value_laws.proofs.OldObjects.{begins_over}
+use Rattle.value_laws.specs.Chains.{HaveEnds}
+use Rattle.value_laws.specs.FieldContents.{AreNew, AreUnfinished, FieldsOwn, HaveContents}
+use Rattle.value_laws.specs.Holders.{HoldersAreUnlinked}
 use Rattle.value_laws.proofs.Readings.{operand_renews}
+use Rattle.covering_laws.proofs.FieldOwners.{fields_own_by}
 use Rattle.covering_laws.proofs.Following.{same_body, method_here}
 use Rattle.value_laws.proofs.FactOrigins.{this_own}
-use Rattle.covering_laws.proofs.ResetCovers.{AreMaking}
 use Rattle.value_laws.proofs.Growth.{began_grows}
-use Rattle.ledger_state.specs.declared.entry.Owner.{Owner}
-use Rattle.covering_laws.proofs.CallersWait.{caller_waits, field_below}
-
--- ---- words
-
-no_number : (k : HeapContents) (v : Value) (o : ℕ) → number_of v ≡ None → root_of k v ≡ Some o → ⊥
-no_number k (values.Object n) o none is = absurd (let never : Some n ≡ None = none in cc)
-no_number k v o none is = cc
-
--- the object that a value is
-pub object_value : (k : HeapContents) (v : Value) (o : ℕ) → root_of k v ≡ Some o → (w : ℕ) × (v ≡ values.Object w)
-object_value k (values.Object n) o is = (n, refl)
-object_value k v o is = absurd (let never : None ≡ Some o = is in cc)
-
--- a fact in such a mode claims nothing
-unclaimed_mode : (p : Program) (k : Option Method) (g : Origin) (q : Place) (m : Mode) (names : Names) (full : Bool) → (is_own m || is_held m) ≡ false → claims p k g (fact_at q m names full) ≡ true → ⊥
-unclaimed_mode p k g q m names full none claimed = true≢false (sym (claims_owned p k g (fact_at q m names full) claimed).1 ∙ none)
-
-locals_of : (p : Program) (x : Option BodyId) (fr : Frame) → (control_in p x fr).locals ≡ fr.locals
-locals_of p None fr = refl
-locals_of p (Some b) fr = refl
-
--- the first operand of a call with a target
-is_first : (d n : ℕ) → 0 < n → d < 64 → (nat_lt 0 n && nat_le (d + 0) 4294967295) ≡ true
-is_first d n some small = grind (arith, nat_tests)
-
-pub first_value : (l : Locals) (d n : ℕ) → 0 < n → d < 64 → temp_in l (temp_at d n 0) ≡ temp_value l d
-first_value l d n some small =
-    ap (λ (t : Bool). temp_in l (if t then Some (d + 0) else None)) (is_first d n some small) ∙ ap (temp_value l) (let same : d + 0 ≡ d = omega arith in same)
+use Rattle.covering_laws.proofs.CallersWait.{caller_waits}
+use Rattle.covering_laws.proofs.StartWords.{locals_of, lt_or, no_number, object_value, unclaimed_mode}
 
 -- ---- the call
 
-module _ (p : Program) (ac : Accept p) (forms' : HasPlainForms p) (plain : HasPlainRuns p) (h : HeapContents) (texts : TextsAreLight p h) (links : HasEarlierLinks h) (ranges : FieldsInRange h) (stored : StoredHoldNone (is_text p h) p h)
-    (fr : Frame) (frs : List Frame) (st : Stands p fr) (keeps : KeepsTypes (is_text p h) p fr) (targets : KeepsTargets p fr) (in' : LocalsInRange h fr.locals) (lower : LocalsIn h frs) (covered : IsCovered p h gives_none renews_none frs fr) (low : OwnersBelow h (length frs + 1)) (making : AreMaking p h (fr ∷ frs)) (older : HoldersAreOlder p h (fr ∷ frs)) (arrays : List ArrayObject) (named runs : MethodId) (a : Action)
+module _ (p : Program) (ac : Accept p) (forms' : HasPlainForms p) (plain : HasPlainRuns p) (h : HeapContents) (texts : TextsAreLight p h) (links : HasEarlierLinks h) (have : HaveEnds h) (ranges : FieldsInRange h) (stored : StoredHoldNone (is_text p h) p h)
+    (fr : Frame) (frs : List Frame) (stand : AllStand p (fr ∷ frs)) (stacked : IsStacked p h (fr ∷ frs)) (keeps : KeepsTypes (is_text p h) p fr) (targets : KeepsTargets p fr) (in' : LocalsInRange h fr.locals) (lower : LocalsIn h frs) (old : ℕ → Bool) (is : IsOld p h frs fr old)
+    (covered : IsCovered p h gives_none renews_none old frs fr) (low : OwnersBelow h (length frs + 1)) (contents : HaveContents p (fr ∷ frs) h) (news : AreNew p (fr ∷ frs)) (unready : AreUnfinished p h (fr ∷ frs)) (making : AreBeingMade p h (fr ∷ frs))
+    (holds : HoldsLent p h old frs fr (stand.0)) (ready' : HoldsReady p h old frs fr (stand.0)) (arrays : List ArrayObject) (named runs : MethodId) (a : Action)
     (next : IsStartMove p h arrays fr.locals (frame_steps p fr) named runs a) (j : ℕ) (position : j ≡ length (fr ∷ frs) + 1) where
+  abbrev st : Stands p fr
+  st = stand.0
+
   abbrev s : Step
   s = next.step
 
@@ -233,80 +217,53 @@ module _ (p : Program) (ac : Accept p) (forms' : HasPlainForms p) (plain : HasPl
   same_callee : callee p s.action ≡ method_at p named
   same_callee = ap (callee_in p) calls'
 
-  -- ---- what is given away
-
-  -- what moves to the callee is given away by the caller
-  gave : (o : ℕ) (x : Object) → IsGiven p (operand_of l s.action) 1 (params_in (method_at p named)) h o x → is_given p K fr o x.class ≡ true
-  gave o x g =
-      let t = given_taken p h l s.action o x.class (moved_given p h l s.action (method_at p named) o x same_callee g) in
-      step_gives p K fr next.index s o x.class next.here
-      (taken_given p K l s.action o x.class t.0 t.2.index t.2.param t.1 t.2.at t.2.owning t.2.fit
-      (value_root h K roots (operand_of l s.action (t.2.index + 1)) (operand_in_range h l in' s.action (t.2.index + 1))
-      ∙ ap (λ (k : ℕ). root_of h (operand_of l s.action k)) (let same : t.2.index + 1 ≡ 0 + t.2.index + 1 = omega arith in same) ∙ t.2.root))
-
-  -- what it was not given no frame from the callee's position on owns
-  not_given : (o : ℕ) (y : Object) → object_at K o ≡ Some y → y.finished ≡ true → is_given p K fr o y.class ≡ false → is_frame_from (length stack + 1) y.owner ≡ false
-  not_given o y at done none = elim (begun_from p l s.action (method_at p named) j h links o y at) [
-    | inl new ↦ absurd (true≢false (sym done ∙ new.unfinished))
-    | inr old ↦ elim (start_owner p l s.action (method_at p named) j h links o old.before y old.at at) [
-      | inl same ↦ ap (is_frame_from (length stack + 1)) same
-          ∙ ap (λ (n : ℕ). is_frame_from n old.before.owner) (let number : length stack + 1 ≡ length frs + 1 + 1 = omega arith in number) ∙ low o old.before old.at
-      | inr given ↦ absurd (true≢false (sym (ap (is_given p K fr o) old.goes_on.class ∙ gave o old.before given.1) ∙ none))
-    ]
-  ]
-
-  -- nor what a field of `this` holds
-  apart_below : (o : ℕ) (y : Object) (f : Fact) → object_at K o ≡ Some y → y.finished ≡ true → is_apart p K stack begun_frame o y f ≡ true → is_frame_from (length stack + 1) y.owner ≡ false
-  apart_below o y f at done apart = go (is_content p begun_frame y.owner f) refl
-    where
-      content : is_content p begun_frame y.owner f ≡ true → is_frame_from (length stack + 1) y.owner ≡ false
-      content is' = field_below begun_frame.locals.this (length stack + 1) y.owner (and_parts (not (constructs (method_at p begun_frame.method))) (is_field_of begun_frame.locals.this y.owner)
-          (and_parts (is_held f.mode) (not (constructs (method_at p begun_frame.method)) && is_field_of begun_frame.locals.this y.owner) is').1).1
-
-      second : (a b : Bool) → a ≡ false → (a || b) ≡ true → b ≡ true
-      second true b off one = absurd (true≢false off)
-      second false b off one = one
-
-      low_or_free : (b : Bool) → is_given p K fr o y.class ≡ b → (not b || is_frame_below (length stack + 1) y.owner) ≡ true → is_frame_from (length stack + 1) y.owner ≡ false
-      low_or_free false none one = not_given o y at done none
-      low_or_free true some one = below_not_from (length stack + 1) y.owner one
-
-      go : (b : Bool) → is_content p begun_frame y.owner f ≡ b → is_frame_from (length stack + 1) y.owner ≡ false
-      go true is' = content is'
-      go false none = low_or_free (is_given p K fr o y.class) refl (second (is_content p begun_frame y.owner f) (not (is_given p K fr o y.class) || is_frame_below (length stack + 1) y.owner) none
-          (and_parts (not (is_renewed p K fr o)) (is_content p begun_frame y.owner f || (not (is_given p K fr o y.class) || is_frame_below (length stack + 1) y.owner)) apart).1)
-
-  -- what was finished is so
-  finishes : KeepsFinished h K
-  finishes = carries_finish h K (began_grows p l s.action (method_at p named) j h).count (start_carries p l s.action (method_at p named) j h links)
-
-  -- who owns what
-  goes : OwnersGo p None stack (length frs + 1) h K
-  goes = start_owners_go p l s.action (method_at p named) j h links None stack (length frs + 1) (omega (arith, position)) (given_owner p ac h fr st frs next.index s next.here row covered (method_at p named) same_callee)
-
-  holders : HoldersWere p h K
-  holders = holders_were p None stack (length frs + 1) h K goes (start_births p l s.action (method_at p named) j h links) (none_unready h)
-
-  bore : (o : ℕ) (x y : Object) → object_at h o ≡ Some x → (x.finished ≡ true → Continues x y) → OwesOrHolds p K o y → OwesOrHolds p h o x
-  bore o x y before goes' owes = bore_before p h K holders o x y before goes' owes
-
-  -- the holder of an object is finished, or a frame runs on it
-  older_here : (o : ℕ) (y : Object) → object_at K o ≡ Some y → is_heavy_class p y.class ≡ true → y.finished ≡ true → HasOlderHolder K stack y.owner
-  older_here o y at heavy done w held = elim (begun_from p l s.action (method_at p named) j h links o y at) [
-    | inl new ↦ absurd (true≢false (sym done ∙ new.unfinished))
-    | inr old ↦ elim (start_owner p l s.action (method_at p named) j h links o old.before y old.at at) [
-      | inl same ↦ elim (older o old.before old.at (ap (is_heavy_class p) (sym old.goes_on.class) ∙ heavy) w (ap (λ (a : Owner). is_held_by a w) (sym same) ∙ held)) [ inl made ↦ inl (finishes w made) | inr runs ↦ inr runs ]
-      | inr given ↦ absurd (true≢false (sym held ∙ ap (λ (a : Owner). is_held_by a w) given.0))
-    ]
-  ]
-
-  -- ---- what is lent to the frame that begins
+  -- ---- what stays
 
   pub started_unfinished : KeepsUnfinished h K no_other
   started_unfinished = start_unfinished p l s.action (method_at p named) j h links
 
-  below_same : KeepsGiven p h K frs
-  below_same = given_kept p h K frs (all_keep_gifts p h K roots frs lower)
+  unlinked : HoldersAreUnlinked (is_heavy_class p) h
+  unlinked = contents_have_holders p ac (fr ∷ frs) h contents
+
+  -- who owns what
+  goes : OwnersGo p None stack (length frs + 1) h K
+  goes = start_owners_go p l s.action (method_at p named) j h links None stack (length frs + 1) (omega (arith, position)) (given_owner p ac h fr st old frs next.index s next.here row covered (method_at p named) same_callee)
+
+  ways : WaysGo p None stack (length frs + 1) h K
+  ways = ways_by p None stack (length frs + 1) h K have unlinked (start_unowned p l s.action (method_at p named) j h links have.unfinished) (began_grows p l s.action (method_at p named) j h).count
+      (start_carries p l s.action (method_at p named) j h links) (start_births p l s.action (method_at p named) j (length frs + 1) h links) no_other started_unfinished (λ o never. absurd never)
+      (λ w never. absurd (let none : None ≡ Some w = never in cc))
+
+  go_on : AllGoOn p h K
+  go_on = ways_go_on p None stack (length frs + 1) h K ways
+
+  holders : HoldersWere p h K
+  holders = holders_were p None stack (length frs + 1) h K ways goes
+
+  gifts : AllKeepGifts p h K frs
+  gifts = all_keep_gifts p h K roots frs lower
+
+  others' : StaysApart p h K frs fr
+  others' = stays_apart p None stack (length frs + 1) h K ways goes frs fr (omega arith) gifts tt (λ w none. none.1) (λ w never this. absurd (let none : None ≡ Some w = never in cc))
+
+  -- what is old for the frame that begins
+  begun_old : ℕ → Bool
+  begun_old = λ o. old o || old_then p l s.action (method_at p named) j h links have stack o
+
+  begun_is_old : IsOld p K stack begun_frame begun_old
+  unfolding begun_old
+  begun_is_old = begins_over p K frs fr begun_frame old (old_then p l s.action (method_at p named) j h links have stack) (old_kept p h K old frs fr others' go_on is)
+      (starts_old p l s.action (method_at p named) j h links have stack unlinked contents next.method run next.named_at next.fit (subst (OwnersBelow h) (let number : length frs + 1 ≡ length stack = omega arith in number) low) begun_frame
+      (ap (method_at p) begun'.method ∙ begun'.named))
+
+  stays_old : (o : ℕ) → old o ≡ true → begun_old o ≡ true
+  unfolding begun_old
+  stays_old o was = or_left (old o) (old_then p l s.action (method_at p named) j h links have stack o) was
+
+  bore : (o : ℕ) (x y : Object) → object_at h o ≡ Some x → (x.finished ≡ true → Continues x y) → OwesOrHolds p K o y → OwesOrHolds p h o x
+  bore o x y before goes' owes = bore_before p h K holders o x y before goes' owes
+
+  -- ---- what is lent to the frame that begins
 
   -- the object of the operand whose obligation the call creates anew is lent to it
   renewed_lent : (k o : ℕ) (y : Object) → next.method.sig.reset ≡ Some k → root_of h (operand_of l s.action k) ≡ Some o → object_at K o ≡ Some y → is_heavy_class p y.class ≡ true → OwesOrHolds p K o y → y.finished ≡ true → IsLentFrom p K stack o y.owner
@@ -322,13 +279,7 @@ module _ (p : Program) (ac : Accept p) (forms' : HasPlainForms p) (plain : HasPl
       does = operand_renews p h fr.locals s.action o k target root
 
       by : IsCarried h o y → IsLentFrom p K stack o y.owner
-      by (x, before, class, goes) = (
-        renewed,
-        elim (renewed_answered p ac forms' h fr st frs next.index s next.here row covered o x before heavy' (bore o x y before goes owes) does done') [
-          | inl own ↦ inl (same ∙ own)
-          | inr other ↦ inr (elim other [ inl lent ↦ inl (subst (IsLentFrom p K frs o) (sym same) (below_same.lent o x.owner lent)) | inr held ↦ inr (subst (IsHeldBy p fr) (sym same) held) ])
-        ],
-      )
+      by (x, before, class, goes) = (renewed, hand (renewed_answered p ac forms' h fr st old frs next.index s next.here row covered holds o x before heavy' (bore o x y before goes owes) does done'))
         where
           heavy' : is_heavy_class p x.class ≡ true
           heavy' = ap (is_heavy_class p) (sym class) ∙ heavy
@@ -339,8 +290,26 @@ module _ (p : Program) (ac : Accept p) (forms' : HasPlainForms p) (plain : HasPl
           same : y.owner ≡ x.owner
           same = elim (start_owner p l s.action (method_at p named) j h links o x y before at) [
             | inl same' ↦ same'
-            | inr given ↦ absurd (true≢false (sym (moved_given p h l s.action (method_at p named) o x same_callee given.1) ∙ renewed_not_given p ac forms' h fr st frs next.index s next.here row covered o x before heavy' (bore o x y before goes owes) does done'))
+            | inr given ↦ absurd (true≢false (sym (moved_given p h l s.action (method_at p named) o x same_callee given.1)
+                ∙ renewed_not_given p ac forms' h fr st old frs next.index s next.here row covered holds o x before heavy' (bore o x y before goes owes) does done'))
           ]
+
+          -- what the caller has in hand it has so
+          hand : HasInHand p h (IsLentFrom p h frs) (length frs + 1) fr o x.owner → HasInHand p K (IsLentFrom p K frs) (length frs + 1) fr o y.owner
+          hand (inl own) = inl (same ∙ own)
+          hand (inr (inl lent)) = inr (inl (others'.keeps o x y before at done' heavy' lent).1)
+          hand (inr (inr (inl held))) = inr (inr (inl (subst (IsHeldBy p fr) (sym same) held)))
+          hand (inr (inr (inr held))) = inr (inr (inr (held_by_lent p h K frs fr others' ways x.owner y.owner same held)))
+
+  -- such an object is finished, where its class has owning fields
+  renewed_ready : (k o : ℕ) (y : Object) → next.method.sig.reset ≡ Some k → root_of h (operand_of l s.action k) ≡ Some o → object_at K o ≡ Some y → is_heavy_class p y.class ≡ true → OwesOrHolds p K o y → HasOwningField p y.class → y.finished ≡ true
+  renewed_ready k o y position root at heavy owes fields = by (was (operand_of l s.action k) o y root (numbered h links (operand_of l s.action k) o root (operand_in_range h l in' s.action k)) at)
+    where
+      by : IsCarried h o y → y.finished ≡ true
+      by (x, before, class, goes) =
+          let done = operand_ready p ac forms' h links fr frs stand stacked making targets next.index s next.here old row covered holds ready' o x before (ap (is_heavy_class p) (sym class) ∙ heavy) (bore o x y before goes owes)
+          (subst (HasOwningField p) class fields) k (ap reset_in (same_callee ∙ next.named_at) ∙ position) root in
+          (goes done).0.finished ∙ done
 
   -- ---- the places of the frame that begins
 
@@ -352,11 +321,11 @@ module _ (p : Program) (ac : Accept p) (forms' : HasPlainForms p) (plain : HasPl
   -- the place is in a fact that says that the frame owns the object, which was an argument, or in one that does not say so
   abbrev Covered : Place → ℕ → Object → Type 0
   Covered q o y =
-      ((c : Covers p K false false stack begun_frame o y) × (has c.fact.places q ≡ true) × (claims p (method_at p begun_frame.method) c.origin c.fact ≡ true) × TakesAt q o) ⊎ IsUnowned p K false false stack begun_frame q o y
+      ((c : Covers p K false false begun_old stack begun_frame o y) × (has c.fact.places q ≡ true) × (claims p (method_at p begun_frame.method) c.origin c.fact ≡ true) × TakesAt q o) ⊎ IsUnowned p K false false begun_old stack begun_frame q o y
 
-  unowned_born : (q : Place) (o : ℕ) (y : Object) (g : Origin) (f : Fact) → (c : Covers p K false false stack begun_frame o y) × (has c.fact.places q ≡ true) × (c.origin ≡ g) × (c.fact ≡ f) → (claims p (method_at p begun_frame.method) g f ≡ true → ⊥)
+  unowned_born : (q : Place) (o : ℕ) (y : Object) (g : Origin) (f : Fact) → (c : Covers p K false false begun_old stack begun_frame o y) × (has c.fact.places q ≡ true) × (c.origin ≡ g) × (c.fact ≡ f) → (claims p (method_at p begun_frame.method) g f ≡ true → ⊥)
       → Covered q o y
-  unowned_born q o y g f c none = inr (born_unowned p K false stack begun_frame q o y g f c (go (claims p (method_at p begun_frame.method) g f) refl))
+  unowned_born q o y g f c none = inr (born_unowned p K false begun_old stack begun_frame q o y g f c (go (claims p (method_at p begun_frame.method) g f) refl))
     where
       go : (b : Bool) → claims p (method_at p begun_frame.method) g f ≡ b → claims p (method_at p begun_frame.method) g f ≡ false
       go true is' = absurd (none is')
@@ -411,15 +380,15 @@ module _ (p : Program) (ac : Accept p) (forms' : HasPlainForms p) (plain : HasPl
             of_parameter p begun'.stands.number begun'.stands.body run begun'.stands.at own_method n.0 ((origin_of p (kinds.Param i) var.0.pos c None), fact_at (places.Var i) (parameter_mode run.sig (i + 1) like.0) like.0.before true) n.1
 
         covers : (claims p (method_at p begun_frame.method) (origin_of p (kinds.Param i) var.0.pos c None) (fact_at (places.Var i) (parameter_mode run.sig (i + 1) like.0) like.0.before true) ≡ true → IsTrueOf p y (origin_of p (kinds.Param i) var.0.pos c None) (fact_at (places.Var i) (parameter_mode run.sig (i + 1) like.0) like.0.before true))
-            → (z : Covers p K false false stack begun_frame o y) × (has z.fact.places (places.Var i) ≡ true) × (z.origin ≡ (origin_of p (kinds.Param i) var.0.pos c None)) × (z.fact ≡ (fact_at (places.Var i) (parameter_mode run.sig (i + 1) like.0) like.0.before true))
-        covers truth = entered_covers p K begun_frame begun'.stands begun'.starts stack (places.Var i) o y (origin_of p (kinds.Param i) var.0.pos c None) (parameter_mode run.sig (i + 1) like.0) like.0.before true birth.0 room birth.1 root truth lent'
+            → (z : Covers p K false false begun_old stack begun_frame o y) × (has z.fact.places (places.Var i) ≡ true) × (z.origin ≡ (origin_of p (kinds.Param i) var.0.pos c None)) × (z.fact ≡ (fact_at (places.Var i) (parameter_mode run.sig (i + 1) like.0) like.0.before true))
+        covers truth = entered_covers p K begun_frame begun'.stands begun'.starts begun_old stack (places.Var i) o y (origin_of p (kinds.Param i) var.0.pos c None) (parameter_mode run.sig (i + 1) like.0) like.0.before true birth.0 room birth.1 root truth lent'
             (λ held. absurd (true≢false (sym held ∙ parameter_unheld run.sig (i + 1) like.0)))
-            (apart_below o y (fact_at (places.Var i) (parameter_mode run.sig (i + 1) like.0) like.0.before true) at)
             (λ held. absurd (true≢false (sym held ∙ parameter_unheld run.sig (i + 1) like.0)))
             (λ mode done. renewed_lent (i + 1) o y (next.fit.reset (i + 1) (lent_parameter run.sig (i + 1) like.0 mode)) operand_root at heavy owes done)
             (λ constructor this. absurd (no_parameter i this))
+            (λ mode other fields. renewed_ready (i + 1) o y (next.fit.reset (i + 1) (lent_parameter run.sig (i + 1) like.0 mode)) operand_root at heavy owes fields)
             (λ k same claimed. absurd (let never : places.Var i ≡ places.Field k = same in cc)) (λ k same heavy'. absurd (let never : places.Var i ≡ places.Field k = same in cc))
-            (λ k same. absurd (let never : places.Var i ≡ places.Field k = same in cc)) (older_here o y at heavy)
+            (λ k same. absurd (let never : places.Var i ≡ places.Field k = same in cc))
           where
             is_lent_here : is_lent p (method_at p begun_frame.method) (kinds.Param i) ≡ is_lent_parameter p (Some like.0)
             is_lent_here = ap (λ (m : Option Method). is_lent p m (kinds.Param i)) (ap (method_at p) begun'.method ∙ begun'.named) ∙ ap (is_lent_parameter p) like.1
@@ -438,9 +407,9 @@ module _ (p : Program) (ac : Accept p) (forms' : HasPlainForms p) (plain : HasPl
         given : like.0.owning ≡ true → is_heavy_class p c ≡ true → IsTrueOf p y (origin_of p (kinds.Param i) var.0.pos c None) (fact_at (places.Var i) modes.Own like.0.before true)
         given owning heavy' =
             let owning' = same_mark like.0.owning param.0.owning like.3 owning in
-            let cover = operand_owned p ac h fr st frs next.index s next.here row covered o carried.0 carried.1 (ap (is_heavy_class p) (sym carried.2) ∙ heavy) (bore o carried.0 y carried.1 carried.3 owes) next.method i param.0
+            let cover = operand_owned p ac h fr st old frs next.index s next.here row covered o carried.0 carried.1 (ap (is_heavy_class p) (sym carried.2) ∙ heavy) (bore o carried.0 y carried.1 carried.3 owes) next.method i param.0
             (same_callee ∙ next.named_at) param_at owning' operand_root (subst (λ (t : VType). not (is_empty (must_of_optional p (Some t))) ≡ true) (sym type) heavy') in
-            given_is_true p ac h fr st frs next.index s next.here row o carried.0 y cover.0 next.method i param.0 (same_callee ∙ next.named_at) param_at owning'
+            given_is_true p ac h fr st old frs next.index s next.here row o carried.0 y cover.0 next.method i param.0 (same_callee ∙ next.named_at) param_at owning'
             (ap (has_temp cover.0.fact.places) (operand_temp l s.action (i + 1) h o operand_root).1 ∙ cover.1) c type heavy' (λ done. (carried.3 done).0) (kinds.Param i) var.0.pos (places.Var i) like.0.before
             (next.fit.asks i like.0 param.0 like.1 param_at)
 
@@ -532,7 +501,7 @@ module _ (p : Program) (ac : Accept p) (forms' : HasPlainForms p) (plain : HasPl
         where
           by : root_of h l.this ≡ Some o → IsCarried h o y → y.finished ≡ false
           by root' (x, before, class, goes) =
-              let cover = covered_at p h false false frs fr places.This o x (covered places.This o x tt root' before (ap (is_heavy_class p) (sym class) ∙ heavy) (bore o x y before goes owes)) in
+              let cover = covered_at p h false false old frs fr places.This o x (covered places.This o x tt root' before (ap (is_heavy_class p) (sym class) ∙ heavy) (bore o x y before goes owes)) in
               let reach = subst (λ (b : BodyId). Reach p b (relation_of p b) cover.0.origin fr.control cover.0.fact) (same_body cover.0.body st.number (body_id p fr.method) cover.0.id st.id) cover.0.reached in
               let caller_makes : constructs (method_at p fr.method) ≡ true =
               ap constructs (sym (method_here p fr st))
@@ -547,24 +516,38 @@ module _ (p : Program) (ac : Accept p) (forms' : HasPlainForms p) (plain : HasPl
           absurd (true≢false (sym (ap (λ (z : MethodId). constructs (method_at p z)) (of_named m (ap called_method it)) ∙ named_makes) ∙ subst (IsOfItsKind p) it kind))
       go b it = absurd (subst IsCallRow it row)
 
-  -- what runs no constructor is lent `this` where it creates its obligation anew
-  this_lent : (o : ℕ) (y : Object) → root_of K begun_frame.locals.this ≡ Some o → object_at K o ≡ Some y → is_heavy_class p y.class ≡ true → OwesOrHolds p K o y → this_mode run.sig run.kind ≡ modes.Lent → y.finished ≡ true → IsLentFrom p K stack o y.owner
-  this_lent o y root at heavy owes mode done = go (is_constructor_kind run.kind) refl
+  -- `this` of what runs no constructor is the call's first operand
+  first_root : is_constructor_kind run.kind ≡ false → (o : ℕ) → root_of K begun_frame.locals.this ≡ Some o → root_of h (operand_of l s.action 0) ≡ Some o
+  first_root other o root = root_before (operand_of l s.action 0) o (operand_in_range h l in' s.action 0) (ap (root_of K) (sym (begun'.this ∙ operand s.action refl)) ∙ root)
     where
       of_call : (m : MethodId) (d n : ℕ) → s.action ≡ actions.New m d n → is_constructor_kind run.kind ≡ true
       of_call m d n it =
           next.fit.makes ∙ sym (ap constructs next.named_at) ∙ ap (λ (z : MethodId). constructs (method_at p z)) (let both : Some named ≡ Some m = sym calls' ∙ ap called_method it in (let one : named ≡ m = cc in one)) ∙ subst (IsOfItsKind p) it kind
 
-      operand : is_constructor_kind run.kind ≡ false → (b : Action) → s.action ≡ b → self_begun l b h ≡ operand_of l b 0
-      operand other actions.Skip it = refl
-      operand other (actions.New m d n) it = absurd (true≢false (sym (of_call m d n it) ∙ other))
-      operand other b it = refl
+      operand : (b : Action) → s.action ≡ b → self_begun l b h ≡ operand_of l b 0
+      operand actions.Skip it = refl
+      operand (actions.New m d n) it = absurd (true≢false (sym (of_call m d n it) ∙ other))
+      operand b it = refl
 
+  -- what runs no constructor is lent `this` where it creates its obligation anew
+  this_lent : (o : ℕ) (y : Object) → root_of K begun_frame.locals.this ≡ Some o → object_at K o ≡ Some y → is_heavy_class p y.class ≡ true → OwesOrHolds p K o y → this_mode run.sig run.kind ≡ modes.Lent → y.finished ≡ true → IsLentFrom p K stack o y.owner
+  this_lent o y root at heavy owes mode done = go (is_constructor_kind run.kind) refl
+    where
       go : (b : Bool) → is_constructor_kind run.kind ≡ b → IsLentFrom p K stack o y.owner
       go true makes = absurd (true≢false (sym done ∙ this_unfinished o y root at heavy owes makes))
-      go false other =
-          let root' : root_of h (operand_of l s.action 0) ≡ Some o = root_before (operand_of l s.action 0) o (operand_in_range h l in' s.action 0) (ap (root_of K) (sym (begun'.this ∙ operand other s.action refl)) ∙ root) in
-          renewed_lent 0 o y (next.fit.reset 0 (lent_this run.sig run.kind other mode)) root' at heavy owes done
+      go false other = renewed_lent 0 o y (next.fit.reset 0 (lent_this run.sig run.kind other mode)) (first_root other o root) at heavy owes done
+
+  -- and it is finished, where its class has owning fields
+  this_ready : (o : ℕ) (y : Object) → root_of K begun_frame.locals.this ≡ Some o → object_at K o ≡ Some y → is_heavy_class p y.class ≡ true → OwesOrHolds p K o y → this_mode run.sig run.kind ≡ modes.Lent
+      → constructs (method_at p begun_frame.method) ≡ false → HasOwningField p y.class → y.finished ≡ true
+  this_ready o y root at heavy owes mode none fields = renewed_ready 0 o y (next.fit.reset 0 (lent_this run.sig run.kind other mode)) (first_root other o root) at heavy owes fields
+    where
+      other : is_constructor_kind run.kind ≡ false
+      other = sym (ap constructs (ap (method_at p) begun'.method ∙ begun'.named)) ∙ none
+
+  constructor_or_not : (b : Bool) → (b && true) ≡ false → b ≡ false
+  constructor_or_not true none = absurd (true≢false none)
+  constructor_or_not false none = refl
 
   this_covered : (o : ℕ) (y : Object) → root_of K begun_frame.locals.this ≡ Some o → object_at K o ≡ Some y → is_heavy_class p y.class ≡ true → OwesOrHolds p K o y → Covered places.This o y
   this_covered o y root at heavy owes =
@@ -573,18 +556,18 @@ module _ (p : Program) (ac : Accept p) (forms' : HasPlainForms p) (plain : HasPl
       let g : Origin = origin_of p kinds.ThisRef run.pos run.class None in
       let n = of_this p begun'.stands.number begun'.stands.body run begun'.stands.at own_method (g, fact_at places.This (this_mode run.sig run.kind) no_names true) born in
       unowned_born places.This o y g (fact_at places.This (this_mode run.sig run.kind) no_names true)
-      (entered_covers p K begun_frame begun'.stands begun'.starts stack places.This o y g (this_mode run.sig run.kind) no_names true n.0 tt n.1 root
+      (entered_covers p K begun_frame begun'.stands begun'.starts begun_old stack places.This o y g (this_mode run.sig run.kind) no_names true n.0 tt n.1 root
       (λ claimed. absurd (unclaimed_mode p (method_at p begun_frame.method) g places.This (this_mode run.sig run.kind) no_names true (this_unowned run.sig run.kind) claimed))
       (λ lent. (
         not_and (is_heavy_class p run.class) (is_own (this_mode run.sig run.kind)) (not_own (is_own (this_mode run.sig run.kind)) (is_held (this_mode run.sig run.kind)) (this_unowned run.sig run.kind)),
         not_held (is_own (this_mode run.sig run.kind)) (is_held (this_mode run.sig run.kind)) (this_unowned run.sig run.kind),
         empty_within (asked_of p (method_at p begun_frame.method) kinds.ThisRef),
       )) (λ held. within_self no_names)
-      (apart_below o y (fact_at places.This (this_mode run.sig run.kind) no_names true) at)
       (λ held. absurd (true≢false (sym (or_right (is_own (this_mode run.sig run.kind)) (is_held (this_mode run.sig run.kind)) held) ∙ this_unowned run.sig run.kind)))
       (this_lent o y root at heavy owes) (λ constructor this. this_unfinished o y root at heavy owes (sym (ap constructs (ap (method_at p) begun'.method ∙ begun'.named)) ∙ constructor))
+      (λ mode other fields. this_ready o y root at heavy owes mode (constructor_or_not (constructs (method_at p begun_frame.method)) other) fields)
       (λ k same claimed. absurd (let never : places.This ≡ places.Field k = same in cc)) (λ k same heavy'. absurd (let never : places.This ≡ places.Field k = same in cc))
-      (λ k same. absurd (let never : places.This ≡ places.Field k = same in cc)) (older_here o y at heavy))
+      (λ k same. absurd (let never : places.This ≡ places.Field k = same in cc)))
       (not_owning g (fact_at places.This (this_mode run.sig run.kind) no_names true) (this_unowned run.sig run.kind))
 
   -- ---- owning fields of `this`
@@ -648,11 +631,12 @@ module _ (p : Program) (ac : Accept p) (forms' : HasPlainForms p) (plain : HasPl
 
     of_field_class : (c : ClassId) → field.field.vtype ≡ types.Obj c → Covered (places.Field n) o y
     of_field_class c type = unowned_born (places.Field n) o y (origin_of p (kinds.FieldAt f) field.field.pos c None) (fact_at (places.Field n) modes.Held no_names true)
-        (entered_covers p K begun_frame begun'.stands begun'.starts stack (places.Field n) o y (origin_of p (kinds.FieldAt f) field.field.pos c None) modes.Held no_names true birth.0 room birth.1
+        (entered_covers p K begun_frame begun'.stands begun'.starts begun_old stack (places.Field n) o y (origin_of p (kinds.FieldAt f) field.field.pos c None) modes.Held no_names true birth.0 room birth.1
         (ap (λ (x : Option FieldId). root_of K (field_place_value p K begun_frame.locals.this x)) beside ∙ root) (λ claimed. absurd (unmade (claims_alone p (method_at p begun_frame.method) (origin_of p (kinds.FieldAt f) field.field.pos c None) (fact_at (places.Field n) modes.Held no_names true) refl claimed)))
         (λ lent. absurd (true≢false (sym lent ∙ field_unlent p f (method_at p begun_frame.method)))) (λ held. within_self no_names)
-        (apart_below o y (fact_at (places.Field n) modes.Held no_names true) at) (λ held. unmade) (λ lent done. absurd (let never : modes.Held ≡ modes.Lent = lent in cc)) (λ constructor this. absurd (true≢false (sym this)))
-        (λ k same wide. subst (λ (j : ℕ). fits_field p begun_frame.method j c ≡ true) (let is : places.Field n ≡ places.Field k = same in (let one : n ≡ k = cc in one)) fits_here) (λ k same heavy'. (refl, sym heavy_here ∙ heavy')) (λ k same. refl) (older_here o y at heavy))
+        (λ held. unmade) (λ lent done. absurd (let never : modes.Held ≡ modes.Lent = lent in cc)) (λ constructor this. absurd (true≢false (sym this)))
+        (λ lent other fields. absurd (let never : modes.Held ≡ modes.Lent = lent in cc))
+        (λ k same wide. subst (λ (j : ℕ). fits_field p begun_frame.method j c ≡ true) (let is : places.Field n ≡ places.Field k = same in (let one : n ≡ k = cc in one)) fits_here) (λ k same heavy'. (refl, sym heavy_here ∙ heavy')) (λ k same. refl))
         (λ is'. unmade (claims_alone p (method_at p begun_frame.method) (origin_of p (kinds.FieldAt f) field.field.pos c None) (fact_at (places.Field n) modes.Held no_names true) refl is'))
       where
         born : field_birth p begun'.stands.number None f ≡ Some ((origin_of p (kinds.FieldAt f) field.field.pos c None), fact_at (places.Field n) modes.Held no_names true)
@@ -721,22 +705,14 @@ module _ (p : Program) (ac : Accept p) (forms' : HasPlainForms p) (plain : HasPl
   not_twice : (q r : Place) (o : ℕ) (y : Object) → object_at K o ≡ Some y → is_heavy_class p y.class ≡ true → OwesOrHolds p K o y → TakesAt q o → TakesAt r o → q ≡ r
   not_twice q r o y at heavy owes (i, q_is, x, x_at, x_owns, x_heavy, x_root) (i', r_is, z, z_at, z_owns, z_heavy, z_root) = by (lt_or i i')
     where
-      old : IsCarried h o y
-      old = was (operand_of l s.action (i + 1)) o y x_root (numbered h links (operand_of l s.action (i + 1)) o x_root (operand_in_range h l in' s.action (i + 1))) at
+      found : IsCarried h o y
+      found = was (operand_of l s.action (i + 1)) o y x_root (numbered h links (operand_of l s.action (i + 1)) o x_root (operand_in_range h l in' s.action (i + 1))) at
 
       never : (m n : ℕ) (u w : ParamSig) → m < n → slice_get next.method.sig.params.items m ≡ Some u → slice_get next.method.sig.params.items n ≡ Some w → u.owning ≡ true → w.owning ≡ true
           → not (is_empty (must_of_optional p (Some u.vtype))) ≡ true → not (is_empty (must_of_optional p (Some w.vtype))) ≡ true → root_of h (operand_of l s.action (m + 1)) ≡ Some o → root_of h (operand_of l s.action (n + 1)) ≡ Some o → ⊥
       never m n u w less u_at w_at u_owns w_owns u_heavy w_heavy u_root w_root =
-          two_operands p ac h fr st frs next.index s next.here row covered o old.0 old.1 (ap (is_heavy_class p) (sym old.2) ∙ heavy) (bore o old.0 y old.1 old.3 owes) next.method m n u w less (same_callee ∙ next.named_at) u_at w_at u_owns w_owns
+          two_operands p ac h fr st old frs next.index s next.here row covered o found.0 found.1 (ap (is_heavy_class p) (sym found.2) ∙ heavy) (bore o found.0 y found.1 found.3 owes) next.method m n u w less (same_callee ∙ next.named_at) u_at w_at u_owns w_owns
           u_heavy w_heavy u_root w_root
-
-      lt_or : (m n : ℕ) → (m < n) ⊎ ((n < m) ⊎ (m ≡ n))
-      lt_or m n = go (nat_lt m n) refl (nat_lt n m) refl
-        where
-          go : (b : Bool) → nat_lt m n ≡ b → (d : Bool) → nat_lt n m ≡ d → (m < n) ⊎ ((n < m) ⊎ (m ≡ n))
-          go true e d e' = inl (ltb-true m n e)
-          go false e true e' = inr (inl (ltb-true n m e'))
-          go false e false e' = let low' = ltb-false m n e in let high = ltb-false n m e' in inr (inr (omega (arith, low', high)))
 
       by : (i < i') ⊎ ((i' < i) ⊎ (i ≡ i')) → q ≡ r
       by (inl less) = absurd (never i i' x z less x_at z_at x_owns z_owns x_heavy z_heavy x_root z_root)
@@ -746,19 +722,19 @@ module _ (p : Program) (ac : Accept p) (forms' : HasPlainForms p) (plain : HasPl
   -- what a parameter takes is the callee's
   taken_owner : (q : Place) (o : ℕ) (y : Object) → object_at K o ≡ Some y → is_heavy_class p y.class ≡ true → OwesOrHolds p K o y → TakesAt q o → (g : Origin) (f : Fact) → IsTrueOf p y g f → y.owner ≡ owners.Frame (length stack + 1)
   taken_owner q o y at heavy owes (i, q_is, x, x_at, x_owns, x_heavy, x_root) g f truth =
-      begun_given p l s.action (method_at p named) j h links i x o old.0 y (ap (λ (m : Option Method). slice_get (params_in m) i) next.named_at ∙ x_at) x_owns
-      (ap (λ (k : ℕ). root_of h (operand_of l s.action k)) (let same : 1 + i ≡ i + 1 = omega arith in same) ∙ x_root) old.1 may at ∙ ap owners.Frame position
+      begun_given p l s.action (method_at p named) j h links i x o found.0 y (ap (λ (m : Option Method). slice_get (params_in m) i) next.named_at ∙ x_at) x_owns
+      (ap (λ (k : ℕ). root_of h (operand_of l s.action k)) (let same : 1 + i ≡ i + 1 = omega arith in same) ∙ x_root) found.1 may at ∙ ap owners.Frame position
     where
-      old : IsCarried h o y
-      old = was (operand_of l s.action (i + 1)) o y x_root (numbered h links (operand_of l s.action (i + 1)) o x_root (operand_in_range h l in' s.action (i + 1))) at
+      found : IsCarried h o y
+      found = was (operand_of l s.action (i + 1)) o y x_root (numbered h links (operand_of l s.action (i + 1)) o x_root (operand_in_range h l in' s.action (i + 1))) at
 
-      may : may_move p x.vtype old.0 ≡ true
-      may = operand_may_move p ac h fr st frs next.index s next.here row covered o old.0 old.1 (ap (is_heavy_class p) (sym old.2) ∙ heavy) (bore o old.0 y old.1 old.3 owes) next.method i x (same_callee ∙ next.named_at) x_at x_owns x_root x_heavy
+      may : may_move p x.vtype found.0 ≡ true
+      may = operand_may_move p ac h fr st old frs next.index s next.here row covered o found.0 found.1 (ap (is_heavy_class p) (sym found.2) ∙ heavy) (bore o found.0 y found.1 found.3 owes) next.method i x (same_callee ∙ next.named_at) x_at x_owns x_root x_heavy
 
-  callee_covered : IsCovered p K gives_none renews_none stack begun_frame
+  callee_covered : IsCovered p K gives_none renews_none begun_old stack begun_frame
   callee_covered q o y small' root at heavy owes = by (placed q o y small' root at heavy owes)
     where
-      by : Covered q o y → IsKeyed p K false false stack begun_frame q o y
+      by : Covered q o y → IsKeyed p K false false begun_old stack begun_frame q o y
       by (inr u) = unowned u
       by (inl (c, here', owning, takes)) = owned c here' (record {
         owning = owning;
@@ -775,22 +751,30 @@ module _ (p : Program) (ac : Accept p) (forms' : HasPlainForms p) (plain : HasPl
   pub started_linked : LinkedWere h K
   started_linked = start_linked p l s.action (method_at p named) j h links
 
+  -- what fields hold they own
+  pub started_owns : FieldsOwn p h → FieldsOwn p K
+  started_owns = fields_own_by p None stack (length frs + 1) h K links ranges have.unfinished (but_texts p h K (start_keeps p l s.action (method_at p named) j h links)) (start_carries p l s.action (method_at p named) j h links) holders roots goes started_unfinished
+
   caller_keeps : KeepsOwners p h K (is_given p h fr) frs fr
   caller_keeps = record {
     own = λ q o x y small' part root before now done heavy spared mine. elim (start_owner p l s.action (method_at p named) j h links o x y before now) [
       | inl same ↦ same ∙ mine
       | inr given ↦ absurd (true≢false (sym (step_gives p h fr next.index s o x.class next.here (moved_given p h l s.action (method_at p named) o x same_callee given.1)) ∙ spared))
     ];
-    others = stays_apart p None stack (length frs + 1) h K finishes goes holders frs fr (omega arith) (λ w is this. absurd (let never : None ≡ Some w = is in cc)) (λ w none. none.1);
-    held = held_here p None stack (length frs + 1) h K finishes goes holders frs fr (omega arith) (λ w none. none.0);
+    others = others';
+    held = held_here p None stack (length frs + 1) h K ways goes frs fr (omega arith) gifts (λ w none. none.0);
+    reread = contents_here p None stack (length frs + 1) h K ways goes frs fr (omega arith) gifts (λ w never this. absurd (let none : None ≡ Some w = never in cc)) tt (λ w none. none.0) (λ w none. none.1);
   }
 
-  pub start_covered : LocalsIn h (fr ∷ frs) → AreWaiting p h frs → AreCovered p K (begun_frame ∷ fr ∷ frs)
+  pub start_covered : LocalsIn h (fr ∷ frs) → AreWaiting p h old frs → AreCovered p K (begun_frame ∷ fr ∷ frs)
   start_covered all waits = (
+    begun_old,
+    begun_is_old,
     callee_covered,
-    all_wait p h K links roots (start_carries p l s.action (method_at p named) j h links) (fr ∷ frs) (all_keep p h K (start_keeps p l s.action (method_at p named) j h links) (fr ∷ frs))
+    all_wait p h K links roots (start_carries p l s.action (method_at p named) j h links) go_on begun_old (fr ∷ frs) (all_keep p h K (start_keeps p l s.action (method_at p named) j h links) (fr ∷ frs))
         (all_there p h ranges (fr ∷ frs) all) (frames_ready p h K started_unfinished (fr ∷ frs)) (all_keep_gifts p h K roots (fr ∷ frs) all)
-        (caller_keeps, owners_kept p None stack (length frs + 1) h K finishes goes holders frs (omega arith) tt (λ w none. none.1)) (caller_waits p ac forms' h fr st frs next.index s next.here row covered making, waits),
+        (caller_keeps, owners_kept p None stack (length frs + 1) h K ways goes frs (omega arith) gifts tt (λ w none. none.1))
+        (old, stays_old, is, caller_waits p ac forms' h have fr st old frs is news unready next.index s next.here row covered holds, waits),
     subst (OwnersBelow K) position (start_below p l s.action (method_at p named) j h links (λ o x at. ap (λ (n : ℕ). is_frame_from n x.owner) (let number : j + 1 ≡ length frs + 1 + 1 + 1 = omega (arith, position) in number)
         ∙ below_further h (length frs + 1) low o x at)),
   )

@@ -18,7 +18,8 @@ use Rattle.value_laws.specs.Heaps.{HasEarlierLinks, IsGiven}
 use Rattle.value_laws.proofs.Begun.{begun_from}
 use Rattle.value_laws.proofs.HeapLaws.{appended_object_at-object, moved_arguments_are_older-older, numbers_are_in_range}
 use Rattle.value_laws.specs.PlaceFacts.{OwnersBelow, is_frame_from, may_owe}
-use Rattle.covering_laws.proofs.Owners.{OwnersGo, passed, stays}
+use Rattle.covering_laws.proofs.Owners.{OwnersGo, StaysApart, WaysGo, passed, stays}
+use Rattle.value_laws.specs.Renewing.{IsHeldByLent, IsLentFrom}
 use Rattle.value_laws.specs.Configuration.{Frame}
 use Rattle.covering_laws.proofs.OwnerSteps.{KeepsLibrary, below_next, movable_owes, never_moved, own_frame, still_below}
 
@@ -77,3 +78,22 @@ module _ (p : Program) (l : Locals) (a : Action) (named : Option Method) (j : �
 -- the frames below a position are those below the next one
 pub below_further : (h : HeapContents) (i : ℕ) → OwnersBelow h i → OwnersBelow h (i + 1)
 below_further h i below n x at = still_below (i + 1) x.owner (below n x at)
+
+-- what a field of `this` owns, which is lent to a frame, is so after a step that keeps its owner
+pub held_by_lent : (p : Program) (h k : HeapContents) (frs : List Frame) (fr : Frame) {into : Option ℕ} {below : List Frame} {j : ℕ} → StaysApart p h k frs fr → WaysGo p into below j h k → (a b : Owner) → b ≡ a
+    → IsHeldByLent p h (IsLentFrom p h frs) fr a → IsHeldByLent p k (IsLentFrom p k frs) fr b
+held_by_lent p h k frs fr others ways a b same held =
+    let y = ways.objects held.holder held.object held.at in
+    record {
+      holder = held.holder;
+      field = held.field;
+      owns = same ∙ held.owns;
+      runs = held.runs;
+      method = held.method;
+      object = y.0;
+      at = y.1;
+      finished = (y.3 held.finished).0;
+      unlinked = (y.3 held.finished).1 ∙ held.unlinked;
+      heavy = ap (is_heavy_class p) y.2 ∙ held.heavy;
+      lends = (others.keeps held.holder held.object y.0 held.at y.1 held.finished held.heavy held.lends).1;
+    }

@@ -1,7 +1,7 @@
 -- The top frame, a constructor, stores into an owning field of the object that its `new` makes.
 use Rattle.std.specs.Prelude.{◌&&◌, is_some, not}
 use Rattle.std.specs.FinSet as set
-use Rattle.std.proofs.Common.{◌≡◌, ◌⊎◌, inl, inr, ℕ, zero, suc, ◌+◌, ◌<◌, Bool, true, false, Option, Some, None, List, [], ◌∷◌, length, slice_get, eq-eqb, refl, sym, ap, ◌∙◌, subst, true≢false, arith}
+use Rattle.std.proofs.Common.{◌≡◌, ◌⊎◌, inl, inr, ℕ, zero, suc, ◌+◌, ◌<◌, Bool, true, false, Option, Some, None, List, [], ◌∷◌, length, slice_get, nat_eq, eq-eqb, eqb-true, refl, sym, ap, ◌∙◌, subst, true≢false, arith}
 use Rattle.std.proofs.lemmas.Bool.{and_from, and_parts}
 use Rattle.std.proofs.lemmas.List.Elements.{All-head, All-tail}
 use Rattle.program_model.specs.declared.kinds.ClassId.{ClassId}
@@ -38,10 +38,14 @@ use Rattle.ledger_obligations.specs.Obligations.{finished_in, is_library_owner, 
 use Rattle.ledger_steps.specs.LedgerCallsCalls as ledger_calls
 use Rattle.ledger_steps.specs.LedgerCallsCalls.{object_by}
 use Rattle.value_laws.specs.Configuration.{Frame}
+use Rattle.value_laws.specs.Places.{class_of_method}
 use Rattle.value_laws.specs.Choosing.{frame_steps}
 use Rattle.value_laws.specs.Frames.{frame_after}
 use Rattle.ledger_steps.specs.InnerSteps.{heap_stored, is_bound, parameter, root_of_number, store_into, store_of, store_unless, thrown_heap}
+use Rattle.value_laws.specs.Chains.{HaveEnds}
 use Rattle.value_laws.specs.Heaps.{HasEarlierLinks}
+use Rattle.value_laws.specs.Holders.{HoldersAreUnlinked, UnfinishedAreUnowned}
+use Rattle.covering_laws.proofs.StepWays.{stored_unowned}
 use Rattle.value_laws.proofs.HeapLaws.{roots_of_links-itself}
 use Rattle.ledger_state.specs.declared.object.Link.{Link}
 use Rattle.value_laws.specs.Naming.{IsOfItsKind}
@@ -52,8 +56,9 @@ use Rattle.value_laws.proofs.Fields.{holds_here, holds_other}
 use Rattle.value_laws.proofs.StoredObjects.{bound_back, stored_back, stored_forward, stored_goes_on, stored_takes, unfinished_stays}
 use Rattle.value_laws.specs.Stores.{IsMovedIn, IsStored}
 use Rattle.value_laws.proofs.Chains.{object_there}
+use Rattle.value_laws.proofs.RootLaws.{one_object}
 use Rattle.value_laws.proofs.Ready.{step_there}
-use Rattle.value_laws.specs.FieldContents.{DeclaresOwning, FieldsHold}
+use Rattle.value_laws.specs.FieldContents.{DeclaresOwning, FieldsHold, FieldsOwn, IsFieldOfClass, RunOnOthers}
 use Rattle.value_laws.specs.PlaceFacts.{AreCovered, Covers, IsCovered, IsKeyed, gives_none, is_frame_from, is_heavy_in, is_owning_fact, OwesOrHolds, may_owe, owned, renews_none, unowned}
 use Rattle.covering_laws.proofs.HeavyFields.{heavy_by_fit, unclaimed_not_owning}
 use Rattle.covering_laws.proofs.KeptArguments.{argument_alone, this_alone}
@@ -61,13 +66,14 @@ use Rattle.covering_laws.proofs.Storing.{small}
 use Rattle.value_laws.specs.Ranges.{FieldsInRange, LocalsInRange}
 use Rattle.covering_laws.specs.Linking.{LinkedAreAliases}
 use Rattle.covering_laws.proofs.LocalSteps.{LocalsIn, all_there, holds_there}
+use Rattle.covering_laws.proofs.FieldOwners.{FieldGoes, carried_as_before, fields_own_on, finished_keep, none_finished}
 use Rattle.covering_laws.proofs.Gifts.{all_keep_gifts}
-use Rattle.covering_laws.proofs.Owners.{AllKeepGifts, HoldersWere, KeepsFinished, OwnersGo, StaysApart, constructor_apart, from_frame, given_kept, holders_were, keeps_finished, owners_kept}
-use Rattle.covering_laws.proofs.NewOwners.{no_births}
+use Rattle.covering_laws.proofs.Owners.{AllKeepGifts, OwnersGo, StaysApart, WaysGo, constructor_apart, from_frame, holders_were, old_kept, owners_kept}
+use Rattle.covering_laws.proofs.OwnerSteps.{movable}
 use Rattle.covering_laws.proofs.StoreOwners.{store_below, store_keeps_library, store_owners_go}
 use Rattle.covering_laws.proofs.StoreSteps.{ArgumentIsLent, FieldTakes, FieldsStay, OwnerStays, others_stay, store_covered, temp_is_taken}
 use Rattle.covering_laws.proofs.Bodies.{argument_is_lent}
-use Rattle.covering_laws.proofs.Waiting.{AllHeldBefore, AllKeep, Carries, KeepsRoots, KeepsUnfinished, all_held_before, all_ready, all_wait, frames_ready, linked_roots, no_other}
+use Rattle.covering_laws.proofs.Waiting.{AllHeldBefore, AllKeep, Carries, KeepsRoots, KeepsUnfinished, all_held_before, all_ready, all_wait, frames_ready, linked_roots, no_other, old_as, ways_go_on}
 use Rattle.ownership_rules.specs.Facts.{has, is_own}
 use Rattle.covering_laws.proofs.LinkedExceptions.{LinkedWere, still_aliases}
 
@@ -99,12 +105,19 @@ unlinked_root h links n x at unfinished = ap Some (roots_of_links-itself h n x a
     none None is = is
     none (Some l) some = absurd (true≢false (sym (links n x l at some).finished ∙ unfinished))
 
--- a constructor that runs for a `new`: `this` is the object
+-- the class of a method
+class_same : (m : Option Method) (c d : ClassId) → is_class_of c m ≡ true → class_of_method m ≡ Some d → c ≡ d
+class_same None c d is of = absurd (true≢false (sym is))
+class_same (Some m) c d is of =
+    ap (λ (n : ℕ). (let z : ClassId = record { 0 = n } in z)) (eqb-true c.0 m.class.0 is) ∙ (let both : Some m.class ≡ Some d = of in (let one : m.class ≡ d = cc in one))
+
+-- a constructor that runs for a `new`: `this` is the object, which is of its class
 pub record RunsForNew (p : Program) (h : HeapContents) (fr : Frame) : Type 0 where
   pub holder : ℕ
   pub this : fr.locals.this ≡ values.Object holder
   pub object : Object
   pub there : object_at h holder ≡ Some object
+  pub class : class_of_method (method_at p fr.method) ≡ Some object.class
 
 module _ (p : Program) (ac : Accept p) (forms : HasPlainForms p) (h : HeapContents) (links : HasEarlierLinks h) (ranges : FieldsInRange h) (fr : Frame) (frs : List Frame) (st : Stands p fr)
     (standing : AllStand p frs) (called : IsCalledFrom p h fr frs) (hold : FieldsHold p (fr ∷ frs) h) (i : ℕ) (s : Step) (here : slice_get (frame_steps p fr) i ≡ Some s) (f : FieldId) (d : ℕ)
@@ -148,6 +161,7 @@ module _ (p : Program) (ac : Accept p) (forms : HasPlainForms p) (h : HeapConten
             this = makes.1;
             object = object.0;
             there = object.1;
+            class = ap (λ (z : MethodId). class_of_method (method_at p z)) (itself ∙ sym (named_is m (ap called_method it))) ∙ makes.3 object.0 object.1;
           }
       go (actions.Super m e n) it itself makes =
           absurd (true≢false (sym owned_here.3 ∙ ap (λ (z : MethodId). is_class_of owned_here.0.class (method_at p z)) itself
@@ -219,9 +233,6 @@ module _ (p : Program) (ac : Accept p) (forms : HasPlainForms p) (h : HeapConten
       let z = stored_back p h w f v bound o y still now in
       (stored_goes_on p h w f v o z.0 y z.2).finished ∙ ap (λ (u : Object). u.finished) (let both : Some z.0 ≡ Some x = sym z.1 ∙ before in (let one : z.0 ≡ x = cc in one)) ∙ none
 
-  stored_finishes : KeepsFinished h stored
-  stored_finishes = keeps_finished h stored (λ n x at done. let y = stored_forward p h w f v bound n x still at in (y.0, y.1, (stored_goes_on p h w f v n x y.0 y.2).finished ∙ done))
-
   stored_linked : LinkedWere h stored
   stored_linked n y l at some =
       let x = stored_back p h w f v bound n y still at in
@@ -234,6 +245,9 @@ module _ (p : Program) (ac : Accept p) (forms : HasPlainForms p) (h : HeapConten
   pub store_linked : LinkedAreAliases p h → LinkedAreAliases p store_heap
   store_linked = still_aliases p h store_heap store_were
 
+  pub store_nobody : UnfinishedAreUnowned h → UnfinishedAreUnowned store_heap
+  store_nobody before = subst UnfinishedAreUnowned (sym heap_is) (stored_unowned p w f v h stored back before)
+
   pub store_unfinished : KeepsUnfinished h store_heap no_other
   store_unfinished = subst (λ (k : HeapContents). KeepsUnfinished h k no_other) (sym heap_is) stored_unfinished
 
@@ -244,6 +258,26 @@ module _ (p : Program) (ac : Accept p) (forms : HasPlainForms p) (h : HeapConten
   was o x y before at =
       let z = back o y at in
       subst (λ (u : Object). IsStored p h w f v o u y) (let both : Some z.0 ≡ Some x = sym z.1 ∙ before in (let one : z.0 ≡ x = cc in one)) z.2
+
+  -- no frame below runs on the object
+  nowhere : RunOnOthers w frs
+  nowhere = hold.new.0 w declared constructor new.this
+
+  -- the ways up go on
+  ways : HaveEnds h → HoldersAreUnlinked (is_heavy_class p) h → WaysGo p (Some w) frs (length frs + 1) h stored
+  ways have unlinked = record {
+    have = have;
+    unlinked = unlinked;
+    objects = λ o x at. (let y = stored_forward p h w f v bound o x still at in let on = stored_goes_on p h w f v o x y.0 y.2 in (y.0, y.1, on.class, λ done. (on.finished ∙ done, on.link)));
+    unmade = λ o x y before now none. inl (stored_unfinished o x y (λ never. never) before now none, nobody o x y before none (was o x y before now));
+    fresh = λ o y none now. (let x = back o y now in absurd (let never : None ≡ Some x.0 = sym none ∙ x.1 in cc));
+    unready = λ u is. (new.object, ap (object_at h) (let both : Some w ≡ Some u = is in (let one : u ≡ w = cc in one)) ∙ new.there, unfinished');
+  }
+    where
+      nobody : (o : ℕ) (x y : Object) → object_at h o ≡ Some x → x.finished ≡ false → IsStored p h w f v o x y → y.owner ≡ owners.Unowned
+      nobody o x y before none (inl same) = ap (λ (z : Object). z.owner) same ∙ have.unfinished o x before none
+      nobody o x y before none (inr (inl gone)) = absurd (let never : owners.Unowned ≡ owners.Field w f = sym (have.unfinished o x before none) ∙ gone.0.owner in cc)
+      nobody o x y before none (inr (inr moved)) = absurd (true≢false (sym (movable p (obligations.type_of_field (field_at p f)) x moved.0.may).0 ∙ none))
 
   -- the field's type
   type_bounds : (c : ClassId) → set.is_subset (must_of p c) (must_of_type p (obligations.type_of_field (field_at p f))) ≡ true → fits_type p c (field_type p f) ≡ true
@@ -268,21 +302,21 @@ module _ (p : Program) (ac : Accept p) (forms : HasPlainForms p) (h : HeapConten
       true≢false (sym (and_parts x.finished (not (is_library_owner x.owner)) (and_parts (x.finished && not (is_library_owner x.owner)) (set.is_subset (must_of p x.class) (must_of_type p (obligations.type_of_field (field_at p f)))) moved.may).0).0
       ∙ ap (λ (z : Object). z.finished) (sym one) ∙ unfinished')
 
-  module _ (covered : IsCovered p h gives_none renews_none frs fr) where
+  module _ (old : ℕ → Bool) (covered : IsCovered p h gives_none renews_none old frs fr) where
     -- where something moves, the constructor has no aliased argument, or that of a parameter
     alias_form : (o : ℕ) (x : Object) → object_at h o ≡ Some x → is_heavy_class p x.class ≡ true → OwesOrHolds p h o x → IsMovedIn p h f v o x → (alias_position p st.number ≡ None) ⊎ ((n : ℕ) × (alias_position p st.number ≡ Some (suc n)))
     alias_form o x before heavy owes moved = by (alias_position p st.number) refl
       where
         by : (a : Option ℕ) → alias_position p st.number ≡ a → (alias_position p st.number ≡ None) ⊎ ((n : ℕ) × (alias_position p st.number ≡ Some (suc n)))
         by None none = inl none
-        by (Some zero) some = absurd (not_this o x before moved (this_alone p ac forms h frs fr st covered i d s f o x here is constructor some (heavy_field o x heavy moved) moved.root before heavy owes))
+        by (Some zero) some = absurd (not_this o x before moved (this_alone p ac forms h old frs fr st covered i d s f o x here is constructor some (heavy_field o x heavy moved) moved.root before heavy owes))
         by (Some (suc n)) some = inr (n, some)
 
     -- in a constructor with an aliased argument nothing else moves to the field, and the argument stays
     stays_bound : (o : ℕ) (x y : Object) → object_at h o ≡ Some x → object_at stored o ≡ Some y → is_heavy_class p x.class ≡ true → OwesOrHolds p h o x → IsMovedIn p h f v o x → (n : ℕ) → alias_position p st.number ≡ Some (suc n)
         → (y ≡ x) ⊎ (x.owner ≡ owners.Field w f)
     stays_bound o x y before at heavy owes moved n alias =
-        let held = argument_alone p ac forms h frs fr st covered i d s f o x n here is constructor alias (heavy_field o x heavy moved) moved.root before heavy owes in
+        let held = argument_alone p ac forms h old frs fr st covered i d s f o x n here is constructor alias (heavy_field o x heavy moved) moved.root before heavy owes in
         let ties : bound ≡ true = bound_when h (method_at p fr.method) fr.locals v n o constructor (sym (ap alias_in body_method) ∙ alias) moved.root held in
         let z = bound_back p h w f v o y (subst (λ (b : Bool). object_at (stored_owning p h w f b v) o ≡ Some y) ties at) in
         let same : z.0 ≡ x = (let both : Some z.0 ≡ Some x = sym z.1 ∙ before in (let one : z.0 ≡ x = cc in one)) in
@@ -294,16 +328,16 @@ module _ (p : Program) (ac : Accept p) (forms : HasPlainForms p) (h : HeapConten
     moves_from o x y before at heavy owes moved now = elim (alias_form o x before heavy owes moved) [ inl none ↦ by none (covered (places.Temp d) o x room moved.root before heavy owes) | inr alias ↦ inr (in_field (stays_bound o x y before at heavy owes moved alias.0 alias.1)) ]
       where
         room : d < 64
-        room = (small p ac forms h frs fr st covered i d s f here is).0
+        room = (small p ac forms h old frs fr st covered i d s f here is).0
 
         in_field : (y ≡ x) ⊎ (x.owner ≡ owners.Field w f) → x.owner ≡ owners.Field w f
         in_field (inl same) = ap (λ (z : Object). z.owner) (sym same ∙ now)
         in_field (inr field) = field
 
-        of_temp : alias_position p st.number ≡ None → (c : Covers p h false false frs fr o x) → has c.fact.places (places.Temp d) ≡ true → (is_owning_fact p c.origin c.fact ≡ true) ⊎ (x.owner ≡ owners.Field w f)
-        of_temp none c in' = temp_is_taken p ac forms h frs fr st covered i d s f here is o x w new.this c in' (heavy_field o x heavy moved) none
+        of_temp : alias_position p st.number ≡ None → (c : Covers p h false false old frs fr o x) → has c.fact.places (places.Temp d) ≡ true → (is_owning_fact p c.origin c.fact ≡ true) ⊎ (x.owner ≡ owners.Field w f)
+        of_temp none c in' = temp_is_taken p ac forms h old frs fr st covered i d s f here is o x w new.this c in' (heavy_field o x heavy moved) none
 
-        by : alias_position p st.number ≡ None → IsKeyed p h false false frs fr (places.Temp d) o x → (x.owner ≡ owners.Frame (length frs + 1)) ⊎ (x.owner ≡ owners.Field w f)
+        by : alias_position p st.number ≡ None → IsKeyed p h false false old frs fr (places.Temp d) o x → (x.owner ≡ owners.Frame (length frs + 1)) ⊎ (x.owner ≡ owners.Field w f)
         by none (owned c in' key) = elim (of_temp none c in') [ inl own ↦ inl (key.owner refl (and_parts (is_heavy_class p c.origin.class) (is_own c.fact.mode) own).1) | inr field ↦ inr field ]
         by none (unowned u) = elim (of_temp none u.covers u.here) [
           | inl own ↦ absurd (true≢false (sym own ∙ unclaimed_not_owning p (method_at p fr.method) u.covers.origin u.covers.fact u.unowned))
@@ -311,11 +345,8 @@ module _ (p : Program) (ac : Accept p) (forms : HasPlainForms p) (h : HeapConten
         ]
 
     owners_go : OwnersGo p (Some w) frs (length frs + 1) h stored
-    owners_go = store_owners_go p h stored w f v back frs (hold.new.0 w declared constructor new.this) (length frs + 1) (λ o x y before now heavy owes moved is. moves_from o x y before now heavy (inl owes) moved is)
-
-    holders : HoldersWere p h stored
-    holders = holders_were p (Some w) frs (length frs + 1) h stored owners_go (no_births h stored (λ o y now. let x = back o y now in let goes = stored_goes_on p h w f v o x.0 y x.2 in (x.0, x.1, goes.finished, goes.class)))
-        (λ u is. (new.object, ap (object_at h) (let both : Some w ≡ Some u = is in (let one : u ≡ w = cc in one)) ∙ new.there, unfinished'))
+    owners_go = store_owners_go p h stored w f v back frs (nowhere, (λ z there. hold.unfinished.0 w z declared constructor new.this there)) (length frs + 1)
+        (λ o x y before now heavy owes moved is. moves_from o x y before now heavy (inl owes) moved is)
 
     -- what a field of the object owns it goes on owning, where another value is not stored into this field
     two_owners : (o : ℕ) (x : Object) (g : FieldId) → x.owner ≡ owners.Field w g → (x.owner ≡ owners.Frame (length frs + 1)) ⊎ (x.owner ≡ owners.Field w f) → g ≡ f
@@ -397,26 +428,51 @@ module _ (p : Program) (ac : Accept p) (forms : HasPlainForms p) (h : HeapConten
   gifts : LocalsIn h (fr ∷ frs) → AllKeepGifts p h stored frs
   gifts in' = all_keep_gifts p h stored stored_roots frs (All-tail (λ (x : Frame). LocalsInRange h x.locals) fr frs in')
 
-  others : LocalsIn h (fr ∷ frs) → IsCovered p h gives_none renews_none frs fr → AllKeep p h stored frs
-  others in' covered =
-      others_stay p ac forms h stored links stored_roots carries frs fr st covered lent i d s f here is w new.this (holds_here p h w f bound v) (holds_other p h w f bound v)
-      (holds_there p h ranges fr (All-head (λ (x : Frame). LocalsInRange h x.locals) fr frs in')) (all_ready p h stored stored_unfinished fr) made (given_kept p h stored frs (gifts in')) (apart covered) field_takes (owner_stays covered) (fields_stay covered) frs
-      (hold.new.0 w declared constructor new.this)
-    where
-      apart : IsCovered p h gives_none renews_none frs fr → StaysApart p h stored frs fr
-      apart cover = constructor_apart p (Some w) frs (length frs + 1) h stored stored_finishes (owners_go cover) (holders cover) frs fr (omega arith) constructor (λ n none. none)
+  others : AllKeep p h stored frs
+  others = others_stay p h stored w f (holds_other p h w f bound v) frs nowhere
 
-  pub store_held_before : LocalsIn h (fr ∷ frs) → IsCovered p h gives_none renews_none frs fr → AllHeldBefore p h store_heap frs
-  store_held_before in' covered = subst (λ (k : HeapContents). AllHeldBefore p h k frs) (sym heap_is)
-      (all_held_before p h stored stored_roots frs (others in' covered) (all_there p h ranges frs (All-tail (λ (x : Frame). LocalsInRange h x.locals) fr frs in')))
+  pub store_held_before : LocalsIn h (fr ∷ frs) → AllHeldBefore p h store_heap frs
+  store_held_before in' =
+      subst (λ (k : HeapContents). AllHeldBefore p h k frs) (sym heap_is) (all_held_before p h stored stored_roots frs others (all_there p h ranges frs (All-tail (λ (x : Frame). LocalsInRange h x.locals) fr frs in')))
 
-  pub stores_covered : LocalsIn h (fr ∷ frs) → AreCovered p h (fr ∷ frs) → AreCovered p store_heap (after ∷ frs)
-  stores_covered in' covered = subst (λ (k : HeapContents). AreCovered p k (after ∷ frs)) (sym heap_is) (
-    store_covered p ac forms h stored links stored_roots carries frs fr st covered.0 lent i d s f here is w new.this (holds_here p h w f bound v) (holds_other p h w f bound v)
-        (holds_there p h ranges fr (All-head (λ (x : Frame). LocalsInRange h x.locals) fr frs in')) (all_ready p h stored stored_unfinished fr) made (given_kept p h stored frs (gifts in'))
-        (constructor_apart p (Some w) frs (length frs + 1) h stored stored_finishes (owners_go covered.0) (holders covered.0) frs fr (omega arith) constructor (λ n none. none)) field_takes (owner_stays covered.0) (fields_stay covered.0),
-    all_wait p h stored links stored_roots carries frs
-        (others in' covered.0) (all_there p h ranges frs (All-tail (λ (x : Frame). LocalsInRange h x.locals) fr frs in')) (frames_ready p h stored stored_unfinished frs) (gifts in')
-        (owners_kept p (Some w) frs (length frs + 1) h stored stored_finishes (owners_go covered.0) (holders covered.0) frs (omega arith) (hold.new.0 w declared constructor new.this) (λ n none. none)) covered.1,
-    store_below p h stored w f v back (length frs + 1) covered.2,
+  pub stores_covered : HaveEnds h → HoldersAreUnlinked (is_heavy_class p) h → LocalsIn h (fr ∷ frs) → AreCovered p h (fr ∷ frs) → AreCovered p store_heap (after ∷ frs)
+  stores_covered have unlinked in' (old, is_old, covered, waits, below) = subst (λ (k : HeapContents). AreCovered p k (after ∷ frs)) (sym heap_is) (
+    old,
+    old_as p stored old frs fr after refl refl (old_kept p h stored old frs fr apart (ways_go_on p (Some w) frs (length frs + 1) h stored goes_up) is_old),
+    store_covered p ac forms h stored links stored_roots carries old frs fr st covered lent i d s f here is w new.this (holds_here p h w f bound v) (holds_other p h w f bound v)
+        (holds_there p h ranges fr (All-head (λ (x : Frame). LocalsInRange h x.locals) fr frs in')) (all_ready p h stored stored_unfinished fr) made apart field_takes (owner_stays old covered) (fields_stay old covered),
+    all_wait p h stored links stored_roots carries (ways_go_on p (Some w) frs (length frs + 1) h stored goes_up) old frs others
+        (all_there p h ranges frs (All-tail (λ (x : Frame). LocalsInRange h x.locals) fr frs in')) (frames_ready p h stored stored_unfinished frs) (gifts in')
+        (owners_kept p (Some w) frs (length frs + 1) h stored goes_up (owners_go old covered) frs (omega arith) (gifts in') nowhere (λ n none. none)) waits,
+    store_below p h stored w f v back (length frs + 1) below,
   )
+    where
+      goes_up : WaysGo p (Some w) frs (length frs + 1) h stored
+      goes_up = ways have unlinked
+
+      apart : StaysApart p h stored frs fr
+      apart = constructor_apart p (Some w) frs (length frs + 1) h stored goes_up (owners_go old covered) frs fr (omega arith) (gifts in') nowhere (λ n none. none) constructor
+
+  -- ---- what fields hold they own
+
+  field_goes : (u : ℕ) (g : FieldId) → is_owning p g ≡ true → FieldGoes p h stored u g
+  field_goes u g own = go (nat_eq u w) refl (nat_eq g.0 f.0) refl
+    where
+      new_one : u ≡ w → g ≡ f → (y : Object) → object_at stored u ≡ Some y → IsFieldOfClass p g y.class × (y.finished ≡ false)
+      new_one here' same y now =
+          let x = back u y now in
+          let goes = stored_goes_on p h w f v u x.0 y x.2 in
+          let one = one_object x.0 new.object (object_at h u) x.1 (ap (object_at h) here' ∙ new.there) in (
+            (owned_here.0, ap (field_at p) same ∙ owned_here.1, class_same (method_at p fr.method) owned_here.0.class new.object.class owned_here.3 new.class ∙ sym (goes.class ∙ ap (λ (z : Object). z.class) one)),
+            goes.finished ∙ ap (λ (z : Object). z.finished) one ∙ unfinished',
+          )
+
+      go : (b : Bool) → nat_eq u w ≡ b → (c : Bool) → nat_eq g.0 f.0 ≡ c → FieldGoes p h stored u g
+      go true here' true same = inr (new_one (eqb-true u w here') (ap (λ (n : ℕ). (let z : FieldId = record { 0 = n } in z)) (eqb-true g.0 f.0 same)))
+      go true here' false other = inl (inl (holds_other p h w f bound v u g (λ is. true≢false (sym (eq-eqb g.0 f.0 (ap (λ (z : FieldId). z.0) is.1)) ∙ other))))
+      go false apart c same = inl (inl (holds_other p h w f bound v u g (λ is. true≢false (sym (eq-eqb u w is.0) ∙ apart))))
+
+  pub store_owns : HaveEnds h → HoldersAreUnlinked (is_heavy_class p) h → AreCovered p h (fr ∷ frs) → FieldsOwn p h → FieldsOwn p store_heap
+  store_owns have unlinked (old, is_old, covered, waits, below) held = subst (FieldsOwn p) (sym heap_is)
+      (fields_own_on p h stored links ranges have.unfinished field_goes (carried_as_before p h stored carries (holders_were p (Some w) frs (length frs + 1) h stored (ways have unlinked) (owners_go old covered))) (inl stored_roots)
+      (finished_keep p (Some w) frs (length frs + 1) h stored have.unfinished (owners_go old covered)) (none_finished p h stored stored_unfinished) held)

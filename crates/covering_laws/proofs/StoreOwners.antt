@@ -16,10 +16,9 @@ use Rattle.ledger_steps.specs.InnerSteps.{thrown_heap}
 use Rattle.value_laws.proofs.HeapLaws.{numbers_are_in_range}
 use Rattle.value_laws.proofs.LibraryCallLaws.{exceptions_are_the_librarys}
 use Rattle.value_laws.specs.Configuration.{Frame}
-use Rattle.value_laws.specs.FieldContents.{RunOnOthers}
 use Rattle.value_laws.specs.Stores.{IsMovedIn, IsStored}
 use Rattle.value_laws.specs.PlaceFacts.{OwnersBelow, is_frame_from, may_owe}
-use Rattle.covering_laws.proofs.Owners.{OwnerGoes, OwnersGo, passed, stays}
+use Rattle.covering_laws.proofs.Owners.{IsNewTo, OwnerGoes, OwnersGo, passed, stays}
 use Rattle.covering_laws.proofs.OwnerSteps.{KeepsLibrary, free_below, gave_up, given_up_free, is_field_owner, movable_owes, never_moved, own_frame}
 
 -- ---- exceptions of operations
@@ -60,16 +59,16 @@ module _ (p : Program) (h k : HeapContents) (w : ℕ) (f : FieldId) (v : Value) 
       go (inr (inr moved)) = absurd (never_moved p (type_of_field (field_at p f)) x moved.0.may is)
 
   -- where the frame owns what moves to the field, or the field does
-  pub store_owners_go : (below : List Frame) → RunOnOthers w below → (j : ℕ)
+  pub store_owners_go : (below : List Frame) → IsNewTo h below w → (j : ℕ)
       → ((o : ℕ) (x y : Object) → object_at h o ≡ Some x → object_at k o ≡ Some y → is_heavy_class p x.class ≡ true → may_owe x ≡ true → IsMovedIn p h f v o x → y ≡ with_owner (owners.Field w f) x
       → (x.owner ≡ owners.Frame j) ⊎ (x.owner ≡ owners.Field w f))
       → OwnersGo p (Some w) below j h k
   store_owners_go below none j mine o x y before now done heavy = go (was o x y before now)
     where
-      go : IsStored p h w f v o x y → OwnerGoes (Some w) below j x.owner y.owner
+      go : IsStored p h w f v o x y → OwnerGoes h (Some w) below j x.owner y.owner
       go (inl same) = stays (ap (λ (z : Object). z.owner) same)
-      go (inr (inl gone)) = gave_up (Some w) below j x.owner y.owner (ap is_field_owner gone.0.owner) (given_up_free x y gone.1)
-          (λ n held. subst (λ (m : ℕ). RunOnOthers m below) (eqb-true w n (sym (ap (λ (u : Owner). is_held_by u n) gone.0.owner) ∙ held)) none)
+      go (inr (inl gone)) = gave_up h (Some w) below j x.owner y.owner (ap is_field_owner gone.0.owner) (given_up_free x y gone.1)
+          (λ n held. subst (IsNewTo h below) (eqb-true w n (sym (ap (λ (u : Owner). is_held_by u n) gone.0.owner) ∙ held)) none)
       go (inr (inr moved)) = elim (mine o x y before now heavy (movable_owes p (type_of_field (field_at p f)) x moved.0.may) moved.0 moved.1) [
         | inl own ↦ passed (own_frame j x.owner own) into_field (λ n same. absurd (let never : owners.Field w f ≡ owners.Frame n = sym (ap (λ (z : Object). z.owner) moved.1) ∙ same in cc))
         | inr field ↦ stays (ap (λ (z : Object). z.owner) moved.1 ∙ sym field)

@@ -47,18 +47,18 @@ use Rattle.value_laws.specs.Agreement.{Stands}
 use Rattle.value_laws.specs.PlainForms.{HasPlainForms}
 use Rattle.value_laws.specs.FactGoing.{ArePlaces, IsLeft, IsTaken, StoresAs, left, taken}
 use Rattle.value_laws.specs.FieldContents.{RunOnOthers}
-use Rattle.value_laws.specs.PlaceFacts.{Covers, HasOlderHolder, IsCovered, IsInField, IsKeyed, IsOwned, IsTrueOf, IsUnowned, asked_of, claims, fits_field, fits_in, gives_none, is_apart, is_content, is_field_of, is_frame_below, is_frame_from, is_heavy_field, is_heavy_in, is_lent, is_owning_fact, OwesOrHolds, owned, tells_calls, unowned, was_given, renews_none}
+use Rattle.value_laws.specs.PlaceFacts.{Covers, HasOwningField, IsApart, IsCovered, IsInField, IsKeyed, IsOwned, IsTrueOf, IsUnowned, asked_of, claims, fits_field, fits_in, gives_none, is_frame_from, is_heavy_field, is_heavy_in, is_lent, is_owning_fact, OwesOrHolds, owned, tells_calls, unowned, renews_none}
 use Rattle.value_laws.proofs.FieldPlaces.{place_of_beside}
 use Rattle.value_laws.proofs.ValuesAfter.{IsFrom, value_is_from}
-use Rattle.covering_laws.proofs.HeavyFields.{HasPlace, apart_low, apart_where, claims_alone, claims_as, claims_owned, heavy_here, held_claims, held_mode, held_tells, known_on, lent_not_alone, lent_tells, own_claims, owning_in_no_field, tells_apart, tells_by, unclaimed_not_owning}
+use Rattle.covering_laws.proofs.HeavyFields.{HasPlace, claims_alone, claims_as, claims_owned, heavy_here, held_claims, held_mode, held_tells, known_on, lent_not_alone, lent_tells, own_claims, owning_in_no_field, tells_apart, tells_by, unclaimed_not_owning}
 use Rattle.covering_laws.proofs.Following.{method_here, step_there}
 use Rattle.covering_laws.proofs.Storing.{Goes, alone_here, goes, now, small, there}
-use Rattle.covering_laws.proofs.Owners.{KeepsGiven, StaysApart, apart_before, from_frame, lent_after}
-use Rattle.covering_laws.proofs.InFields.{declared_by_place, gone_without, held_heavy, held_in_field, in_field_on, in_this, kept_without, one_field, out_of_this, owned_at, owning_out_of_this, owning_place, place_by_number}
+use Rattle.covering_laws.proofs.Owners.{StaysApart, from_frame}
+use Rattle.covering_laws.proofs.InFields.{declared_by_place, gone_without, held_in_field, in_field_on, in_this, kept_without, one_field, out_of_this, owned_at, owning_out_of_this, owning_place, place_by_number}
 use Rattle.covering_laws.proofs.TopSteps.{other_alone}
 use Rattle.covering_laws.proofs.Waiting.{AllKeep, Carries, Continues, HoldsThere, IsCarried, KeepsReady, KeepsRoots, numbered, bore_before, still_true, value_root, stays_unowned, still_unfinished}
 use Rattle.program_model.specs.Lookups.{method_at}
-use Rattle.value_laws.specs.Renewing.{was_renewed, makes_alone}
+use Rattle.value_laws.specs.Renewing.{makes_alone}
 
 not_and : (a b : Bool) → b ≡ false → (a && b) ≡ false
 not_and true b is = is
@@ -94,18 +94,18 @@ pub record FieldsStay (p : Program) (h k : HeapContents) (fr : Frame) (w : ℕ) 
   pub same : (o : ℕ) (x y : Object) → object_at h o ≡ Some x → object_at k o ≡ Some y → root_of h (temp_value fr.locals d) ≡ Some o → x.owner ≡ owners.Field w f → y.owner ≡ x.owner
 
 -- What a fact with t(d) stands for the frame owns, or the field does, where the field's type has an obligation and the constructor has no aliased argument
-pub temp_is_taken : (p : Program) (ac : Accept p) (forms : HasPlainForms p) (h : HeapContents) (frs : List Frame) (fr : Frame) (st : Stands p fr) (covered : IsCovered p h gives_none renews_none frs fr) (i d : ℕ) (s : Step) (f : FieldId)
-    (here : slice_get (frame_steps p fr) i ≡ Some s) (is : s.action ≡ actions.PutOwn f d) (o : ℕ) (x : Object) (w : ℕ) → fr.locals.this ≡ values.Object w → (c : Covers p h false false frs fr o x) → has c.fact.places (places.Temp d) ≡ true → is_heavy_in p (Some f) ≡ true
+pub temp_is_taken : (p : Program) (ac : Accept p) (forms : HasPlainForms p) (h : HeapContents) (old : ℕ → Bool) (frs : List Frame) (fr : Frame) (st : Stands p fr) (covered : IsCovered p h gives_none renews_none old frs fr) (i d : ℕ) (s : Step) (f : FieldId)
+    (here : slice_get (frame_steps p fr) i ≡ Some s) (is : s.action ≡ actions.PutOwn f d) (o : ℕ) (x : Object) (w : ℕ) → fr.locals.this ≡ values.Object w → (c : Covers p h false false old frs fr o x) → has c.fact.places (places.Temp d) ≡ true → is_heavy_in p (Some f) ≡ true
     → alias_position p st.number ≡ None → (is_owning_fact p c.origin c.fact ≡ true) ⊎ (x.owner ≡ owners.Field w f)
-temp_is_taken p ac forms h frs fr st covered i d s f here is o x w this c in' heavy plain =
-    by (goes p ac forms h frs fr st covered i d s f here is o x c (place_of_field p f)
+temp_is_taken p ac forms h old frs fr st covered i d s f here is o x w this c in' heavy plain =
+    by (goes p ac forms h old frs fr st covered i d s f here is o x c (place_of_field p f)
     (has_copied c.fact.places (place_of_field p f) (places.Temp d) (place_of_field p f) room.1 room.1 ∙ rw (eq-eqb (field_number p f) (field_number p f) refl) in'))
   where
     mine : HasPlace p fr f
-    mine = there p ac forms h frs fr st covered i d s f here is
+    mine = there p ac forms h old frs fr st covered i d s f here is
 
     room : IsSmallAction p (actions.PutOwn f d)
-    room = small p ac forms h frs fr st covered i d s f here is
+    room = small p ac forms h old frs fr st covered i d s f here is
 
     not_aliased : is_alias_constructor p st.number ≡ true → ⊥
     not_aliased aliased = true≢false (sym (and_parts (is_constructor p st.number) (is_present (alias_position p st.number)) aliased).1 ∙ ap (λ (a : Option ℕ). is_present a) plain)
@@ -114,29 +114,29 @@ temp_is_taken p ac forms h frs fr st covered i d s f here is o x w this c in' he
     in_field false out light = absurd (light_type p c.origin f (light out) heavy)
     in_field true there' light =
         let was = c.held (field_number p f) mine.small there' (heavy_here p h fr f mine heavy) in
-        let alone = alone_here p ac forms h frs fr st covered i d s f here is plain in
-        let field = held_in_field p h false false frs fr o x c (c.true' (held_claims p (method_at p fr.method) c.origin c.fact alone was.0 was.1) refl).finished (ap is_held was.0) alone in
+        let alone = alone_here p ac forms h old frs fr st covered i d s f here is plain in
+        let field = held_in_field p h false false old frs fr o x c (c.true' (held_claims p (method_at p fr.method) c.origin c.fact alone was.0 was.1) refl).finished (ap is_held was.0) alone was.1 in
         owned_at p fr x.owner w f this field.0 (one_field p fr st ac c.fact.places x.owner field f mine there')
 
-    by : (g : Fact) × Reach p st.number (relation_of p st.number) c.origin s.to g × Goes p ac forms h frs fr st covered i d s f here is o x c g → (is_owning_fact p c.origin c.fact ≡ true) ⊎ (x.owner ≡ owners.Field w f)
+    by : (g : Fact) × Reach p st.number (relation_of p st.number) c.origin s.to g × Goes p ac forms h old frs fr st covered i d s f here is o x c g → (is_owning_fact p c.origin c.fact ≡ true) ⊎ (x.owner ≡ owners.Field w f)
     by (g, reach, (same, taken reset called full t)) = elim t.may [ inl own ↦ inl (and_from (is_heavy_class p c.origin.class) (is_own c.fact.mode) t.heavy (ap is_own own)) | inr alias ↦ absurd (not_aliased alias.0) ]
     by (g, reach, (same, left reset called full l)) = inr (in_field (has c.fact.places (place_of_field p f)) refl (l.light in'))
 
 module _ (p : Program) (ac : Accept p) (forms : HasPlainForms p) (h k : HeapContents) (links : HasEarlierLinks h) (roots : KeepsRoots h k) (carries : Carries h k)
-    (frs : List Frame) (fr : Frame) (st : Stands p fr) (covered : IsCovered p h gives_none renews_none frs fr) (lent' : ArgumentIsLent p fr st)
+    (old : ℕ → Bool) (frs : List Frame) (fr : Frame) (st : Stands p fr) (covered : IsCovered p h gives_none renews_none old frs fr) (lent' : ArgumentIsLent p fr st)
     (i d : ℕ) (s : Step) (f : FieldId) (here : slice_get (frame_steps p fr) i ≡ Some s) (is : s.action ≡ actions.PutOwn f d) (w : ℕ) (this : fr.locals.this ≡ values.Object w)
     (holds_here : field_value p k w f ≡ temp_value fr.locals d)
     (holds_other : (u : ℕ) (g : FieldId) → ((u ≡ w) × (g ≡ f) → ⊥) → field_value p k u g ≡ field_value p h u g)
-    (inside : HoldsThere p h fr) (ready : KeepsReady p h k fr) (v : Value) (gifts : KeepsGiven p h k frs) (others : StaysApart p h k frs fr) (takes : FieldTakes p h k (length frs + 1) fr st w f d)
+    (inside : HoldsThere p h fr) (ready : KeepsReady p h k fr) (v : Value) (others : StaysApart p h k frs fr) (takes : FieldTakes p h k (length frs + 1) fr st w f d)
     (stays : OwnerStays p h k (length frs + 1) fr st f d) (lasting : FieldsStay p h k fr w f d) where
   abbrev after : Frame
   after = frame_after p h fr s v
 
   mine : HasPlace p fr f
-  mine = there p ac forms h frs fr st covered i d s f here is
+  mine = there p ac forms h old frs fr st covered i d s f here is
 
   room : IsSmallAction p (actions.PutOwn f d)
-  room = small p ac forms h frs fr st covered i d s f here is
+  room = small p ac forms h old frs fr st covered i d s f here is
 
   body_here : method_body p fr.method ≡ Some st.body
   body_here = ap (body_by p) st.id ∙ st.at
@@ -218,39 +218,23 @@ module _ (p : Program) (ac : Accept p) (forms : HasPlainForms p) (h k : HeapCont
   alone_or_aliased = by (alias_position p st.number) refl
     where
       by : (a : Option ℕ) → alias_position p st.number ≡ a → (makes_alone (method_at p fr.method) ≡ true) ⊎ (is_alias_constructor p st.number ≡ true)
-      by None none = inl (alone_here p ac forms h frs fr st covered i d s f here is none)
+      by None none = inl (alone_here p ac forms h old frs fr st covered i d s f here is none)
       by (Some n) some = inr (and_from (is_constructor p st.number) (is_present (alias_position p st.number)) (ap constructs (method_here p fr st) ∙ makes) (ap (λ (a : Option ℕ). is_present a) some))
 
-  -- what it has stored is apart only where the frame was not given it, or a frame below owns it
-  not_content : (y : Object) (g : Fact) → is_content p after y.owner g ≡ false
-  not_content y g = silent (is_held g.mode) (constructs (method_at p fr.method)) makes
-    where
-      silent : (b n : Bool) → n ≡ true → (b && (not n && is_field_of after.locals.this y.owner)) ≡ false
-      silent false n new = refl
-      silent true true new = refl
-      silent true false new = absurd (true≢false (sym new))
-
-  other_apart : (o : ℕ) (y : Object) (g : Fact) → is_apart p k frs after o y g ≡ true
-      → (was_renewed p k frs o ≡ false) × ((not (was_given p k frs o y.class) || is_frame_below (length frs + 1) y.owner) ≡ true)
-  other_apart o y g apart = (not-true (was_renewed p k frs o) parts.0, second (is_content p after y.owner g) (not (was_given p k frs o y.class) || is_frame_below (length frs + 1) y.owner) (not_content y g) parts.1)
-    where
-      second : (a b : Bool) → a ≡ false → (a || b) ≡ true → b ≡ true
-      second true b off one = absurd (true≢false off)
-      second false b off one = one
-
-      parts : (not (was_renewed p k frs o) ≡ true) × ((is_content p after y.owner g || (not (was_given p k frs o y.class) || is_frame_below (length frs + 1) y.owner)) ≡ true)
-      parts = and_parts (not (was_renewed p k frs o)) (is_content p after y.owner g || (not (was_given p k frs o y.class) || is_frame_below (length frs + 1) y.owner)) apart
+  -- what is held apart after the store was so before it
+  apart_then : (o : ℕ) (x y : Object) (f' g : Fact) → object_at h o ≡ Some x → x.finished ≡ true → is_heavy_class p x.class ≡ true → IsApart p k old frs after o y.owner g → IsApart p h old frs fr o x.owner f'
+  apart_then o x y f' g before done heavy (was, spared) = (was, others.spared o x before (done, heavy) spared)
 
   -- ---- a fact over the store
 
   -- the frame owns what the field takes
-  abbrev IsTakenFrom : (o : ℕ) (x : Object) → Covers p h false false frs fr o x → Type 0
+  abbrev IsTakenFrom : (o : ℕ) (x : Object) → Covers p h false false old frs fr o x → Type 0
   IsTakenFrom o x c = is_owning_fact p c.origin c.fact ≡ true → x.owner ≡ owners.Frame (length frs + 1)
 
   module _ (o : ℕ) (x y : Object) (before : object_at h o ≡ Some x) (at : object_at k o ≡ Some y) (class : y.class ≡ x.class) (broad : is_heavy_class p x.class ≡ true)
-      (goes_on : x.finished ≡ true → Continues x y) (done : y.finished ≡ true → x.finished ≡ true) (c : Covers p h false false frs fr o x) (owned_by : IsTakenFrom o x c) where
+      (goes_on : x.finished ≡ true → Continues x y) (done : y.finished ≡ true → x.finished ≡ true) (c : Covers p h false false old frs fr o x) (owned_by : IsTakenFrom o x c) where
     abbrev later : PlaceSet
-    later = now p ac forms h frs fr st covered i d s f here is o x c
+    later = now p ac forms h old frs fr st covered i d s f here is o x c
 
     has_later : (q : Place) → IsSmall q → has later q ≡ (if is_place (place_of_field p f) q then has c.fact.places (places.Temp d) else has c.fact.places q)
     has_later q less = has_copied c.fact.places (place_of_field p f) (places.Temp d) q room.1 less
@@ -302,9 +286,9 @@ module _ (p : Program) (ac : Accept p) (forms : HasPlainForms p) (h k : HeapCont
       in_later n in' = sym (same (161 + n)) ∙ in'
 
       abbrev Result : Type 0
-      Result = (e : Covers p k false false frs after o y) × (e.origin ≡ c.origin) × (e.fact ≡ g)
+      Result = (e : Covers p k false false old frs after o y) × (e.origin ≡ c.origin) × (e.fact ≡ g)
 
-      by_taken : g.called ≡ c.fact.called → g.full ≡ c.fact.full → IsTaken p st.number c.origin f d c.fact g → Covers p k false false frs after o y
+      by_taken : g.called ≡ c.fact.called → g.full ≡ c.fact.full → IsTaken p st.number c.origin f d c.fact g → Covers p k false false old frs after o y
       by_taken called full t = record {
         body = st.number;
         id = st.id;
@@ -317,9 +301,10 @@ module _ (p : Program) (ac : Accept p) (forms : HasPlainForms p) (h k : HeapCont
         lent = λ lent. (not_and (is_heavy_class p c.origin.class) (is_own g.mode) (ap is_own t.mode), (λ held. (makes, taken_aliased t.may lent)));
         lends = λ lent done'. absurd (let never : modes.Held ≡ modes.Lent = sym t.mode ∙ lent in cc);
         makes = λ constructor this. still_unfinished x y done (c.makes constructor this);
-        unrenewed = λ done' tells apart. refl;
-        free = λ done' held alone. taken_free t.may alone;
-        known = λ finished' tells apart. taken_known t.may finished' tells apart;
+        complete = λ lent other fields. absurd (let never : modes.Held ≡ modes.Lent = sym t.mode ∙ lent in cc);
+        unrenewed = λ done' tells was spared. refl;
+        free = λ done' held alone heavy. (let is = taken_free t.may alone in (is.0, is.2));
+        known = λ finished' tells apart stays. taken_known t.may finished' tells apart;
         fields = λ n less wide one. elim (was_in (places.Field n) less (in_later n one)) [
           | inl field ↦ same_fit n field.0 ∙ t.fits
           | inr other ↦ c.fields n less t.heavy other.1
@@ -361,7 +346,7 @@ module _ (p : Program) (ac : Accept p) (forms : HasPlainForms p) (h k : HeapCont
             record { field = f; declared = declared_by_place p fr st f (forms.stores st.number i (move_of s) f d st.control (step_there p fr st i s here) is).1; holder = w; runs = this; owns = released own },
             same (number_of (place_of_field p f)) ∙ has_later (place_of_field p f) mine.small ∙ rw (eq-eqb (field_number p f) (field_number p f) refl) t.there,
             out_of_this c.fact.places (without g.places (place_of_field p f)) from
-                (owning_out_of_this p ac h false false frs fr st o x c (and_from (is_heavy_class p c.origin.class) (is_own c.fact.mode) t.heavy (ap is_own own))),
+                (owning_out_of_this p ac h false false old frs fr st o x c (and_from (is_heavy_class p c.origin.class) (is_own c.fact.mode) t.heavy (ap is_own own))),
           )
             where
               from : (q : Place) → IsSmall q → is_local q ≡ false → has (without g.places (place_of_field p f)) q ≡ true → has c.fact.places q ≡ true
@@ -379,34 +364,18 @@ module _ (p : Program) (ac : Accept p) (forms : HasPlainForms p) (h k : HeapCont
           taken_free (inl own) alone = (refl, t.heavy, taken_field own)
           taken_free (inr alias) alone = absurd (not_alone alias.0 alone)
 
-          taken_known : (c.fact.mode ≡ modes.Own) ⊎ ((is_alias_constructor p st.number ≡ true) × (c.fact.mode ≡ modes.Alias)) → y.finished ≡ true → tells_calls p fr.method c.origin g ≡ true → is_apart p k frs after o y g ≡ true
-              → (false ≡ false) × (is_frame_from (length frs + 1) y.owner ≡ false) × (set.is_subset g.called (set.union asked y.called) ≡ true) × HasOlderHolder k frs y.owner
+          taken_known : (c.fact.mode ≡ modes.Own) ⊎ ((is_alias_constructor p st.number ≡ true) × (c.fact.mode ≡ modes.Alias)) → y.finished ≡ true → tells_calls p fr.method c.origin g ≡ true → IsApart p k old frs after o y.owner g
+              → set.is_subset g.called (set.union asked y.called) ≡ true
           taken_known (inl own) finished' tells apart = absurd (elim alone_or_aliased [
             | inl alone ↦ true≢false (sym alone ∙ other_alone (is_held g.mode) (makes_alone (method_at p fr.method)) (ap is_held t.mode) (tells_apart p fr.method c.origin g tells))
             | inr aliased ↦ true≢false (sym (and_from (is_heavy_class p c.origin.class) (is_own c.fact.mode) t.heavy (ap is_own own)) ∙ (c.lent (lent' aliased c.origin.kind (t.alias aliased))).0)
           ])
           taken_known (inr alias) finished' tells apart =
               let is_lent' : is_lent p (method_at p fr.method) c.origin.kind ≡ true = lent' alias.0 c.origin.kind (t.alias alias.0) in
-              let was = c.known (done finished') (lent_tells p fr.method c.origin c.fact (lent_not_alone p h false false frs fr o x c is_lent') is_lent')
-              (split (is_frame_below (length frs + 1) y.owner) refl) in
-              (refl, others.apart o x y before at (done finished') broad was.1, names g called finished' (λ was'. was.2), others.older o x y before at (done finished') broad was.1 was.3)
-            where
-              first : (a b : Bool) → b ≡ false → (a || b) ≡ true → a ≡ true
-              first true b off one = refl
-              first false b off one = absurd (true≢false (sym one ∙ off))
+              names g called finished' (λ was_done. c.known was_done (lent_tells p fr.method c.origin c.fact (lent_not_alone p h false false old frs fr o x c is_lent') is_lent')
+              (apart_then o x y c.fact g before was_done broad apart) refl)
 
-              its : (was_renewed p k frs o ≡ false) × ((not (was_given p k frs o y.class) || is_frame_below (length frs + 1) y.owner) ≡ true)
-              its = other_apart o y g apart
-
-              old : was_renewed p h frs o ≡ false
-              old = sym (gifts.renewed o) ∙ its.0
-
-              split : (b : Bool) → is_frame_below (length frs + 1) y.owner ≡ b → is_apart p h frs fr o x c.fact ≡ true
-              split true low = apart_low p h frs fr o x c.fact old (others.low o x y before at (done finished') broad low)
-              split false high = apart_where p h frs fr o x c.fact old (sym (gifts.given o x.class) ∙ ap (was_given p k frs o) (sym class)
-                  ∙ not-true (was_given p k frs o y.class) (first (not (was_given p k frs o y.class)) (is_frame_below (length frs + 1) y.owner) high its.1))
-
-      by_left : g.called ≡ c.fact.called → g.full ≡ c.fact.full → IsLeft p c.origin f d c.fact g → Covers p k false false frs after o y
+      by_left : g.called ≡ c.fact.called → g.full ≡ c.fact.full → IsLeft p c.origin f d c.fact g → Covers p k false false old frs after o y
       by_left called full l = record {
         body = st.number;
         id = st.id;
@@ -417,18 +386,12 @@ module _ (p : Program) (ac : Accept p) (forms : HasPlainForms p) (h k : HeapCont
         places = λ u less one. holds_later u less (sym (same (number_of u)) ∙ one);
         true' = λ claimed mine'. truth g called full (claims_as p (method_at p fr.method) c.origin c.fact g (l.mode (claims_owned p (method_at p fr.method) c.origin g claimed).1) claimed);
         lent = λ lent. (stays_unowned p c.origin c.fact g l.mode (c.lent lent).0, (λ held. (c.lent lent).1 (held_before held)));
-        lends = λ lent done'. (refl, lent_after p h k frs o x.owner y.owner gifts (others.keeps o x y before at (done done') broad) (c.lends (l.lent lent) (done done')).1);
+        lends = λ lent done'. (refl, (others.keeps o x y before at (done done') broad (c.lends (l.lent lent) (done done')).1).1);
         makes = λ constructor this. still_unfinished x y done (c.makes constructor this);
-        unrenewed = λ done' tells apart. refl;
-        free = λ done' held' alone. (
-          refl,
-          held_heavy p h false false frs fr o x c (done done') (held_before held') alone,
-          left_field (held_mode g.mode held') (held_in_field p h false false frs fr o x c (done done') (held_before held') alone) (held_heavy p h false false frs fr o x c (done done') (held_before held') alone),
-        );
-        known = λ finished' tells apart.
-            let was = c.known (done finished') (told tells)
-            (apart_before p h k frs fr o x y c.fact g gifts class held_before (λ plain own. absurd (true≢false (sym makes ∙ plain))) (λ low. others.low o x y before at (done finished') broad low) apart) in
-            (refl, others.apart o x y before at (done finished') broad was.1, names g called finished' (λ was'. was.2), others.older o x y before at (done finished') broad was.1 was.3);
+        complete = λ lent other fields. (let was = c.complete (l.lent lent) other (subst (HasOwningField p) class fields) in (goes_on was).0.finished ∙ was);
+        unrenewed = λ done' tells was spared. refl;
+        free = λ done' held' alone heavy. (refl, left_field (held_mode g.mode held') (held_in_field p h false false old frs fr o x c (done done') (held_before held') alone heavy) heavy);
+        known = λ finished' tells apart stays. names g called finished' (λ was_done. c.known was_done (told tells) (apart_then o x y c.fact g before was_done broad apart) refl);
         fields = λ n less wide one. elim (was_in (places.Field n) less (in_later n one)) [
           | inl field ↦ field_claimed n less wide field.0 field.1 (has c.fact.places (place_of_field p f)) refl
           | inr other ↦ c.fields n less wide other.1
@@ -445,7 +408,7 @@ module _ (p : Program) (ac : Accept p) (forms : HasPlainForms p) (h k : HeapCont
 
           told : tells_calls p fr.method c.origin g ≡ true → tells_calls p fr.method c.origin c.fact ≡ true
           told tells = elim (tells_by p fr.method c.origin g tells) [
-            | inl lent ↦ lent_tells p fr.method c.origin c.fact (lent_not_alone p h false false frs fr o x c lent) lent
+            | inl lent ↦ lent_tells p fr.method c.origin c.fact (lent_not_alone p h false false old frs fr o x c lent) lent
             | inr held ↦ held_tells p fr.method c.origin c.fact (other_alone (is_held g.mode) (makes_alone (method_at p fr.method)) held (tells_apart p fr.method c.origin g tells)) (held_mode c.fact.mode (held_before held))
           ]
 
@@ -557,7 +520,7 @@ module _ (p : Program) (ac : Accept p) (forms : HasPlainForms p) (h k : HeapCont
         (was, (λ in'. in_field was parts.0 in' (has c.fact.places (place_of_field p f)) refl))
       where
         in_field : is_owning_fact p c.origin c.fact ≡ true → is_heavy_class p c.origin.class ≡ true → has c.fact.places (places.Temp d) ≡ true → (b : Bool) → has c.fact.places (place_of_field p f) ≡ b → ⊥
-        in_field was heavy in' true there' = owning_in_no_field p h false false frs fr o x c was (field_number p f) mine.small there'
+        in_field was heavy in' true there' = owning_in_no_field p h false false old frs fr o x c was (field_number p f) mine.small there'
         in_field was heavy in' false out = light_class p c.origin f (l.light in' out) heavy
 
     -- where the fact claims the object after the store, it did before
@@ -570,12 +533,12 @@ module _ (p : Program) (ac : Accept p) (forms : HasPlainForms p) (h k : HeapCont
 
     -- the fact at the places after the store
     abbrev After : Type 0
-    After = (g : Fact) × (e : Covers p k false false frs after o y) × (e.origin ≡ c.origin) × (e.fact ≡ g) × (ArePlaces g.places later) × (StoresAs p st.number c.origin f d c.fact g)
+    After = (g : Fact) × (e : Covers p k false false old frs after o y) × (e.origin ≡ c.origin) × (e.fact ≡ g) × (ArePlaces g.places later) × (StoresAs p st.number c.origin f d c.fact g)
 
     store_covers : (q : Place) → has later q ≡ true → After
-    store_covers q in' = by (goes p ac forms h frs fr st covered i d s f here is o x c q in')
+    store_covers q in' = by (goes p ac forms h old frs fr st covered i d s f here is o x c q in')
       where
-        by : (g : Fact) × Reach p st.number (relation_of p st.number) c.origin s.to g × Goes p ac forms h frs fr st covered i d s f here is o x c g → After
+        by : (g : Fact) × Reach p st.number (relation_of p st.number) c.origin s.to g × Goes p ac forms h old frs fr st covered i d s f here is o x c g → After
         by (g, reach, (same, row)) = let e = by_row g reach same row in (g, e.0, e.1, e.2, same, row)
 
   -- ---- the top frame
@@ -602,21 +565,21 @@ module _ (p : Program) (ac : Accept p) (forms : HasPlainForms p) (h k : HeapCont
 
   module _ (o : ℕ) (x y : Object) (before : object_at h o ≡ Some x) (at : object_at k o ≡ Some y) (class : y.class ≡ x.class) (broad : is_heavy_class p x.class ≡ true) (owes : OwesOrHolds p h o x)
       (goes_on : x.finished ≡ true → Continues x y) (done : y.finished ≡ true → x.finished ≡ true) where
-    here_after : (c : Covers p h false false frs fr o x) (owned_by : IsTakenFrom o x c) (q : Place) → has (copied c.fact.places (place_of_field p f) (places.Temp d)) q ≡ true → (n : After o x y before at class broad goes_on done c owned_by) → has n.1.fact.places q ≡ true
+    here_after : (c : Covers p h false false old frs fr o x) (owned_by : IsTakenFrom o x c) (q : Place) → has (copied c.fact.places (place_of_field p f) (places.Temp d)) q ≡ true → (n : After o x y before at class broad goes_on done c owned_by) → has n.1.fact.places q ≡ true
     here_after c owned_by q in' n = ap (λ (u : Fact). has u.places q) n.3 ∙ n.4 (number_of q) ∙ in'
 
-    owning_after : (c : Covers p h false false frs fr o x) (owned_by : IsTakenFrom o x c) (n : After o x y before at class broad goes_on done c owned_by)
+    owning_after : (c : Covers p h false false old frs fr o x) (owned_by : IsTakenFrom o x c) (n : After o x y before at class broad goes_on done c owned_by)
         → claims p (method_at p fr.method) n.1.origin n.1.fact ≡ claims p (method_at p fr.method) c.origin n.0
     owning_after c owned_by n = ap (λ (u : Origin). claims p (method_at p fr.method) u n.1.fact) n.2 ∙ ap (claims p (method_at p fr.method) c.origin) n.3
 
     -- a fact that does not own it
-    unowned_on : (z q : Place) → IsUnowned p h false false frs fr z o x → ((held : PlaceSet) → has held z ≡ true → has (copied held (place_of_field p f) (places.Temp d)) q ≡ true) → IsUnowned p k false false frs after q o y
+    unowned_on : (z q : Place) → IsUnowned p h false false old frs fr z o x → ((held : PlaceSet) → has held z ≡ true → has (copied held (place_of_field p f) (places.Temp d)) q ≡ true) → IsUnowned p k false false old frs after q o y
     unowned_on z q u goes_to = by (store_covers o x y before at class broad goes_on done u.covers never q (goes_to u.covers.fact.places u.here))
       where
         never : IsTakenFrom o x u.covers
         never owning = absurd (true≢false (sym owning ∙ unclaimed_not_owning p (method_at p fr.method) u.covers.origin u.covers.fact u.unowned))
 
-        by : After o x y before at class broad goes_on done u.covers never → IsUnowned p k false false frs after q o y
+        by : After o x y before at class broad goes_on done u.covers never → IsUnowned p k false false old frs after q o y
         by n = record {
           covers = n.1;
           here = here_after u.covers never q (goes_to u.covers.fact.places u.here) n;
@@ -628,7 +591,7 @@ module _ (p : Program) (ac : Accept p) (forms : HasPlainForms p) (h k : HeapCont
             not_owning true owning = absurd (true≢false (sym (claimed_before o x y before at class broad goes_on done u.covers never n.0 n.5 owning) ∙ u.unowned))
 
     -- the fact that owns it
-    module _ (c : Covers p h false false frs fr o x) (key : IsOwned p h false false frs fr o x c) where
+    module _ (c : Covers p h false false old frs fr o x) (key : IsOwned p h false false old frs fr o x c) where
       owned_by : IsTakenFrom o x c
       owned_by owning = key.owner refl (and_parts (is_heavy_class p c.origin.class) (is_own c.fact.mode) owning).1
 
@@ -641,7 +604,7 @@ module _ (p : Program) (ac : Accept p) (forms : HasPlainForms p) (h k : HeapCont
         | inl same ↦ same
         | inr moved ↦ absurd (elim (key.others (places.Temp d) room.0 moved.0) [
           | inl in' ↦ was.1 in'
-          | inr u ↦ elim (temp_is_taken p ac forms h frs fr st covered i d s f here is o x w this u.covers u.here moved.2 moved.1) [
+          | inr u ↦ elim (temp_is_taken p ac forms h old frs fr st covered i d s f here is o x w this u.covers u.here moved.2 moved.1) [
             | inl own ↦ true≢false (sym own ∙ unclaimed_not_owning p (method_at p fr.method) u.covers.origin u.covers.fact u.unowned)
             | inr field ↦ true≢false (sym (ap (is_frame_from 0) mine' ∙ from_frame 0 (length frs + 1) (omega arith)) ∙ ap (is_frame_from 0) field)
           ]
@@ -654,10 +617,10 @@ module _ (p : Program) (ac : Accept p) (forms : HasPlainForms p) (h k : HeapCont
           mine' : x.owner ≡ owners.Frame (length frs + 1)
           mine' = owned_by was.0
 
-      keyed_by : (n : Now) (q : Place) → has (copied c.fact.places (place_of_field p f) (places.Temp d)) q ≡ true → IsKeyed p k false false frs after q o y
+      keyed_by : (n : Now) (q : Place) → has (copied c.fact.places (place_of_field p f) (places.Temp d)) q ≡ true → IsKeyed p k false false old frs after q o y
       keyed_by n q in' = go (claims p (method_at p fr.method) c.origin n.0) refl
         where
-          each : (u : Place) → IsSmall u → root_of k (place_value p k after.method after.locals u) ≡ Some o → (has n.1.fact.places u ≡ true) ⊎ IsUnowned p k false false frs after u o y
+          each : (u : Place) → IsSmall u → root_of k (place_value p k after.method after.locals u) ≡ Some o → (has n.1.fact.places u ≡ true) ⊎ IsUnowned p k false false old frs after u o y
           each u less is' =
               let from = origin_of_place u o less is' in
               elim (key.others from.0 from.1 from.2) [ inl in'' ↦ inl (here_after c owned_by u (from.3 c.fact.places in'') n) | inr free ↦ inr (unowned_on from.0 u free from.3) ]
@@ -665,32 +628,33 @@ module _ (p : Program) (ac : Accept p) (forms : HasPlainForms p) (h k : HeapCont
           heavy_now : claims p (method_at p fr.method) c.origin n.0 ≡ true → is_own n.1.fact.mode ≡ true → is_owning_fact p c.origin n.0 ≡ true
           heavy_now claimed own = and_from (is_heavy_class p c.origin.class) (is_own n.0.mode) (claims_owned p (method_at p fr.method) c.origin n.0 claimed).0 (ap (λ (u : Fact). is_own u.mode) (sym n.3) ∙ own)
 
-          go : (b : Bool) → claims p (method_at p fr.method) c.origin n.0 ≡ b → IsKeyed p k false false frs after q o y
+          go : (b : Bool) → claims p (method_at p fr.method) c.origin n.0 ≡ b → IsKeyed p k false false old frs after q o y
           go true owning = owned n.1 (here_after c owned_by q in' n) (record { owning = owning_after c owned_by n ∙ owning; owner = λ mine' own. still_owner n (heavy_now owning own); others = each })
           go false none = unowned (record { covers = n.1; here = here_after c owned_by q in' n; unowned = owning_after c owned_by n ∙ none })
 
-      keyed_on : (q : Place) → has (copied c.fact.places (place_of_field p f) (places.Temp d)) q ≡ true → IsKeyed p k false false frs after q o y
+      keyed_on : (q : Place) → has (copied c.fact.places (place_of_field p f) (places.Temp d)) q ≡ true → IsKeyed p k false false old frs after q o y
       keyed_on q in' = keyed_by (store_covers o x y before at class broad goes_on done c owned_by q in') q in'
 
-    keyed_from : (q : Place) → ComesFrom q o → IsKeyed p k false false frs after q o y
+    keyed_from : (q : Place) → ComesFrom q o → IsKeyed p k false false old frs after q o y
     keyed_from q (z, small', held, goes_to) = by (covered z o x small' held before broad owes)
       where
-        by : IsKeyed p h false false frs fr z o x → IsKeyed p k false false frs after q o y
+        by : IsKeyed p h false false old frs fr z o x → IsKeyed p k false false old frs after q o y
         by (owned c in' key) = keyed_on c key q (goes_to c.fact.places in')
         by (unowned u) = unowned (unowned_on z q u goes_to)
 
-  pub store_covered : IsCovered p k gives_none renews_none frs after
+  pub store_covered : IsCovered p k gives_none renews_none old frs after
   store_covered q o y less root at heavy owes = came (origin_of_place q o less root)
     where
-      came : ComesFrom q o → IsKeyed p k false false frs after q o y
+      came : ComesFrom q o → IsKeyed p k false false old frs after q o y
       came from = by (carries o y at (numbered h links (place_value p h fr.method fr.locals from.0) o from.2 (inside from.0 from.1)).1)
         where
-          by : IsCarried h o y → IsKeyed p k false false frs after q o y
+          by : IsCarried h o y → IsKeyed p k false false old frs after q o y
           by (x, before, class, goes_on) =
               keyed_from o x y before at class (ap (is_heavy_class p) (sym class) ∙ heavy) (bore_before p h k others.holders o x y before goes_on owes) goes_on (ready from.0 o x y from.1 from.2 before at) q from
 
-  -- ---- the frames that wait
+-- ---- the frames that wait
 
+module _ (p : Program) (h k : HeapContents) (w : ℕ) (f : FieldId) (holds_other : (u : ℕ) (g : FieldId) → ((u ≡ w) × (g ≡ f) → ⊥) → field_value p k u g ≡ field_value p h u g) where
   stays_put : (fr' : Frame) → (fr'.locals.this ≡ values.Object w → ⊥) → (q : Place) → place_value p k fr'.method fr'.locals q ≡ place_value p h fr'.method fr'.locals q
   stays_put fr' apart (places.Var j) = refl
   stays_put fr' apart (places.Temp j) = refl

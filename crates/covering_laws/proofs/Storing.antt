@@ -65,7 +65,7 @@ over_faults p b o x d f held unmet out there = go (lacks_reset p b f)
     go true = tt
     go false = rw (out, there, held, unmet) tt
 
-module _ (p : Program) (ac : Accept p) (forms : HasPlainForms p) (h : HeapContents) (frs : List Frame) (fr : Frame) (st : Stands p fr) (covered : IsCovered p h gives_none renews_none frs fr)
+module _ (p : Program) (ac : Accept p) (forms : HasPlainForms p) (h : HeapContents) (old : ℕ → Bool) (frs : List Frame) (fr : Frame) (st : Stands p fr) (covered : IsCovered p h gives_none renews_none old frs fr)
     (i d : ℕ) (s : Step) (f : FieldId) (here : slice_get (frame_steps p fr) i ≡ Some s) (is : s.action ≡ actions.PutOwn f d) where
   in_constructor : (is_constructor p st.number ≡ true) × (has_field_place p st.number f ≡ true)
   in_constructor = forms.stores st.number i (move_of s) f d st.control (step_there p fr st i s here) is
@@ -81,7 +81,7 @@ module _ (p : Program) (ac : Accept p) (forms : HasPlainForms p) (h : HeapConten
   alone_here plain = makes_alone_by (method_at p fr.method) (ap constructs (sym (method_here p fr st)) ∙ in_constructor.0) (ap alias_in (sym (method_here p fr st)) ∙ plain)
 
   -- what a fact of a place becomes
-  module _ (o : ℕ) (x : Object) (c : Covers p h false false frs fr o x) where
+  module _ (o : ℕ) (x : Object) (c : Covers p h false false old frs fr o x) where
     reached : Reach p st.number (relation_of p st.number) c.origin fr.control c.fact
     reached = subst (λ (b : BodyId). Reach p b (relation_of p b) c.origin fr.control c.fact) (same_body c.body st.number (body_id p fr.method) c.id st.id) c.reached
 
@@ -99,10 +99,10 @@ module _ (p : Program) (ac : Accept p) (forms : HasPlainForms p) (h : HeapConten
   pub displaced_is_met : alias_position p st.number ≡ None → (w o : ℕ) (x : Object) → HoldsHeavy p h fr w f o x → (root_of h (temp_value fr.locals d) ≡ Some o → ⊥) → is_unmet x ≡ false
   displaced_is_met plain w o x holds apart = by (is_met c.origin c.fact) refl
     where
-      found : (c : Covers p h false false frs fr o x) × (has c.fact.places (place_of_field p f) ≡ true)
-      found = covers_field p h fr f there frs covered w o x holds
+      found : (c : Covers p h false false old frs fr o x) × (has c.fact.places (place_of_field p f) ≡ true)
+      found = covers_field p h fr f there old frs covered w o x holds
 
-      c : Covers p h false false frs fr o x
+      c : Covers p h false false old frs fr o x
       c = found.0
 
       owned : (c.fact.mode ≡ modes.Held) × (is_heavy_class p c.origin.class ≡ true)

@@ -1,25 +1,25 @@
 -- The top frame takes a step of its own that stores into no owning field, or a step of a call that has ended: what its places hold
 -- stays covered.
-use Rattle.std.proofs.Common.{◌≡◌, ◌⊎◌, inl, inr, ℕ, ◌+◌, ◌<◌, Bool, cond, true, false, ◌&&◌, ◌||◌, Option, Some, None, List, length, slice_get, refl, sym, ap, ◌∙◌, subst, true≢false}
+use Rattle.std.proofs.Common.{◌≡◌, ◌⊎◌, inl, inr, ℕ, ◌+◌, ◌<◌, ◌≤◌, Bool, cond, true, false, ◌&&◌, ◌||◌, Option, Some, None, List, length, slice_get, eqb-true, refl, sym, ap, ◌∙◌, subst, true≢false, arith, eqb}
 use Rattle.std.specs.FinSet as set
 use Rattle.std.proofs.lemmas.Bool.{and_from, and_parts, or_left, or_right}
 use Rattle.program_model.specs.declared.kinds.BodyId.{BodyId}
 use Rattle.program_model.specs.declared.kinds.ClassId.{ClassId}
 use Rattle.program_model.specs.declared.kinds.FieldId.{FieldId}
 use Rattle.program_model.specs.declared.program.Program.{Program}
-use Rattle.ledger_obligations.specs.Bodies.{has_field_place}
-use Rattle.ledger_obligations.specs.MustCallSets.{Names, is_heavy_class, must_of}
+use Rattle.ledger_obligations.specs.MustCallSets.{Names, is_heavy_class, must_of, no_names}
 use Rattle.java_control.specs.Calls.{is_reset_of_this}
 use Rattle.java_control.specs.Control.{Step}
+use Rattle.java_control.specs.Owned.{field_number, place_of_field}
 use Rattle.java_control.specs.PlaceNumbers.{IsSmall, number_of}
-use Rattle.java_control.specs.Sources.{source}
+use Rattle.java_control.specs.Sources.{is_part, source}
 use Rattle.java_control.specs.declared.action.Action.TheVariants as actions
 use Rattle.java_control.specs.declared.action.PlainValue.{PlainValue}
 use Rattle.java_control.specs.declared.fact.Fact.{Fact}
 use Rattle.java_control.specs.declared.fact.Origin.{Origin}
 use Rattle.java_control.specs.declared.place.Place.{Place}
 use Rattle.java_control.specs.declared.place.Place.TheVariants as places
-use Rattle.ownership_rules.specs.Facts.{PlaceSet, has, is_held, is_own}
+use Rattle.ownership_rules.specs.Facts.{PlaceSet, has, is_held, is_own, without}
 use Rattle.ownership_rules.specs.SmallActions.{IsSmallAction}
 use Rattle.value_laws.specs.Aliases.{gives_alias}
 use Rattle.value_laws.specs.PlaceRows.{places_after}
@@ -39,19 +39,20 @@ use Rattle.value_laws.specs.Frames.{frame_after, is_made, made_place}
 use Rattle.value_laws.specs.Heaps.{GoesOn, HasEarlierLinks}
 use Rattle.value_laws.specs.PlacePlaces.{HasTarget, IsWay, SetsLocals, has_source, is_local, takes_alias}
 use Rattle.value_laws.proofs.PlaceLaws.{alias_stands, places_come_from_sources, places_stay_in_range, single_place-same, source_is_small, value_comes_from_source}
+use Rattle.value_laws.specs.HeapAnew.{is_field_owner}
 use Rattle.value_laws.specs.Agreement.{Stands}
 use Rattle.value_laws.specs.Outcomes.{After}
 use Rattle.value_laws.specs.FactGoing.{GoesAs, is_owned_in}
-use Rattle.value_laws.specs.PlaceFacts.{Covers, IsCovered, IsKeyed, IsOwned, IsTrueOf, IsUnowned, asked_of, claims, gives_none, is_lent, is_owning_fact, OwesOrHolds, owned, tells_calls, unowned, is_apart}
+use Rattle.value_laws.specs.PlaceFacts.{Covers, HasOwningField, IsApart, IsCovered, IsKeyed, IsOwned, IsTrueOf, IsUnowned, asked_of, claims, gives_none, is_lent, is_owning_fact, OwesOrHolds, owned, tells_calls, unowned}
 use Rattle.covering_laws.proofs.HeavyFields.{claims_as, claims_by, claims_owned, held_mode, held_tells, known_on, lent_not_alone, lent_tells, tells_apart, tells_by, unclaimed_not_owning}
-use Rattle.covering_laws.proofs.InFields.{held_heavy, held_in_field, held_kept, held_unowned, in_field_on, in_this, held_finished}
+use Rattle.value_laws.proofs.FieldResets.{reset_leaves_this}
+use Rattle.covering_laws.proofs.InFields.{at_place, held_finished, held_in_field, held_kept, held_unowned, in_field_on, in_this, kept_without}
 use Rattle.covering_laws.proofs.OwnerSteps.{own_frame}
 use Rattle.value_laws.proofs.OtherPlaces.{stays_aside, left_aside}
 use Rattle.value_laws.specs.Renewing.{fact_as, makes_alone}
-use Rattle.covering_laws.proofs.Resets.{holds_no_part}
 use Rattle.value_laws.proofs.ValuesAfter.{IsFrom, value_is_from}
 use Rattle.covering_laws.proofs.Following.{followed, same_body, step_there}
-use Rattle.covering_laws.proofs.Owners.{KeepsGiven, KeepsHeld, StaysApart, apart_before, lent_after}
+use Rattle.covering_laws.proofs.Owners.{KeepsHeld, StaysApart, apart_before}
 use Rattle.covering_laws.proofs.RenewedFacts.{true_alike}
 use Rattle.value_laws.proofs.Needs.{origin_needs_all}
 use Rattle.covering_laws.proofs.Waiting.{heavy_stays, kept_root, Carries, Continues, HoldsThere, IsCarried, KeepsFieldsButTexts, KeepsReady, KeepsRootsOf, numbered, bore_before, kept_place, still_true, stays_unowned, still_unfinished}
@@ -83,13 +84,26 @@ pub record IsLocalStep (p : Program) (fr : Frame) (st : Stands p fr) (s : Step) 
   pub moves : (x y : Place) → s.action ≡ actions.Move x y → is_local y ≡ true
   pub makes : (x : Place) (v : PlainValue) → s.action ≡ actions.Plain x v → is_local x ≡ true
   pub target : HasTarget fr.locals s.action
-  pub elsewhere : is_reset_of_this p s.action ≡ true → (f : FieldId) → has_field_place p st.number f ≡ false
   pub way : IsWay s.action s.edge
 
+-- and tells of which outcome it is
+pub after_told : (P : Fact → Type 0) (x y : Outcome) → y ≡ x → After P x → After (λ (g : Fact). P g × (y ≡ Next g)) x
+after_told P (Next g) y same is = (is, same)
+after_told P Gone y same is = is
+after_told P (Fault rule names) y same is = tt
+
+-- `this` is no field's place
+apart_from_field : (k : ℕ) → eqb 160 (161 + k) ≡ false
+apart_from_field k = go (eqb 160 (161 + k)) refl
+  where
+    go : (b : Bool) → eqb 160 (161 + k) ≡ b → eqb 160 (161 + k) ≡ false
+    go false apart = apart
+    go true same = absurd (let one : 160 ≡ 161 + k = eqb-true 160 (161 + k) same in omega (arith, one))
+
 -- no fact of the frame goes on owning the object
-abbrev pub StopsOwning : (p : Program) → HeapContents → Frame → List Frame → (ℕ → ClassId → Bool) → (ℕ → Bool) → (Origin → Fact → Fact → Type 0) → ℕ → Type 0
-StopsOwning p h fr frs gives renewed More o =
-    (x : Object) → object_at h o ≡ Some x → (z : Place) → IsSmall z → root_of h (place_value p h fr.method fr.locals z) ≡ Some o → (c : Covers p h (gives o x.class) (renewed o) frs fr o x) → IsOwned p h (gives o x.class) (renewed o) frs fr o x c
+abbrev pub StopsOwning : (p : Program) → HeapContents → Frame → (ℕ → Bool) → List Frame → (ℕ → ClassId → Bool) → (ℕ → Bool) → (Origin → Fact → Fact → Type 0) → ℕ → Type 0
+StopsOwning p h fr old frs gives renewed More o =
+    (x : Object) → object_at h o ≡ Some x → (z : Place) → IsSmall z → root_of h (place_value p h fr.method fr.locals z) ≡ Some o → (c : Covers p h (gives o x.class) (renewed o) old frs fr o x) → IsOwned p h (gives o x.class) (renewed o) old frs fr o x c
     → (g : Fact) → More c.origin c.fact g → is_own g.mode ≡ false
 
 module _ (p : Program) (ac : Accept p) (h k : HeapContents) (links : HasEarlierLinks h) (carries : Carries h k) (fields : KeepsFieldsButTexts p h k)
@@ -151,14 +165,23 @@ module _ (p : Program) (ac : Accept p) (h k : HeapContents) (links : HasEarlierL
   abbrev pub IsTrusted : Origin → Fact → Type 0
   IsTrusted g f = (is_owned_in f.mode ≡ true) ⊎ (is_lent p (method_at p fr.method) g.kind ≡ true)
 
+  -- The fact claims the object, which is not given away; or it tells of calls, and what it knows was called: the object was old when the frame began, and the call that began it spares it.
+  abbrev pub IsSure : (old : ℕ → Bool) (frs : List Frame) (away anew : Bool) (o : ℕ) (x : Object) → Covers p h away anew old frs fr o x → Type 0
+  IsSure old frs away anew o x c =
+      ((claims p (method_at p fr.method) c.origin c.fact ≡ true) × (away ≡ false)) ⊎ ((tells_calls p fr.method c.origin c.fact ≡ true) × IsApart p h old frs fr o x.owner c.fact)
+
+  -- so it is where the fact is the one that owns the object
+  abbrev pub IsSureOf : (old : ℕ → Bool) (frs : List Frame) (away anew : Bool) (o : ℕ) (x : Object) → Covers p h away anew old frs fr o x → Type 0
+  IsSureOf old frs away anew o x c = (IsOwned p h away anew old frs fr o x c × (away ≡ false)) ⊎ ((tells_calls p fr.method c.origin c.fact ≡ true) × IsApart p h old frs fr o x.owner c.fact)
+
   -- the step lets the fact go on, and what it knows to have been called was
-  module _ (frs : List Frame) (away anew : Bool) (o : ℕ) (x y : Object) (before : object_at h o ≡ Some x) (at : object_at k o ≡ Some y) (class : y.class ≡ x.class) (wide : is_heavy_class p x.class ≡ true)
-      (goes : x.finished ≡ true → Continues x y) (ready : y.finished ≡ true → x.finished ≡ true) (gifts : KeepsGiven p h k frs) (others : StaysApart p h k frs fr) (lasting : KeepsHeld p h k fr) (c : Covers p h away anew frs fr o x)
+  module _ (old : ℕ → Bool) (frs : List Frame) (away anew : Bool) (o : ℕ) (x y : Object) (before : object_at h o ≡ Some x) (at : object_at k o ≡ Some y) (class : y.class ≡ x.class) (wide : is_heavy_class p x.class ≡ true)
+      (goes : x.finished ≡ true → Continues x y) (ready : y.finished ≡ true → x.finished ≡ true) (others : StaysApart p h k frs fr) (lasting : KeepsHeld p h k fr) (c : Covers p h away anew old frs fr o x)
       (More : Fact → Type 0)
       (row : (q : Place) → has (later c.fact.places) q ≡ true
       → After (λ (g : Fact). GoesAs c.fact (later c.fact.places) (called_after p st.number s.action s.edge c.fact) g × More g) (flow p st.number c.origin s.action s.edge c.fact))
       (spared : (g : Fact) → More g → is_own g.mode ≡ true → is_owning_fact p c.origin c.fact ≡ true → away ≡ false)
-      (known : (g : Fact) → More g → IsTrusted c.origin g → away ≡ false → anew ≡ false → x.finished ≡ true → (names : Names) → set.is_subset y.called names ≡ true → set.is_subset c.fact.called names ≡ true
+      (known : (g : Fact) → More g → IsTrusted c.origin g → IsSure old frs away anew o x c → anew ≡ false → x.finished ≡ true → (names : Names) → set.is_subset y.called names ≡ true → set.is_subset c.fact.called names ≡ true
       → set.is_subset (called_after p st.number s.action s.edge c.fact) names ≡ true)
       (alias : GivesIt c.fact.places o) where
     reached : Reach p st.number (relation_of p st.number) c.origin fr.control c.fact
@@ -166,13 +189,18 @@ module _ (p : Program) (ac : Accept p) (h k : HeapContents) (links : HasEarlierL
 
     -- it goes on as this fact
     abbrev pub Goes : Fact → Type 0
-    Goes g = Reach p st.number (relation_of p st.number) c.origin s.to g × (GoesAs c.fact (later c.fact.places) (called_after p st.number s.action s.edge c.fact) g × More g)
+    Goes g =
+        Reach p st.number (relation_of p st.number) c.origin s.to g × (GoesAs c.fact (later c.fact.places) (called_after p st.number s.action s.edge c.fact) g × More g)
+        × (flow p st.number c.origin s.action s.edge c.fact ≡ Next g)
 
     pub gone_on : (q : Place) → has (later c.fact.places) q ≡ true → (g : Fact) × Goes g
-    gone_on q is = by (followed p ac st.number c.origin i (move_of s) c.fact (λ (g : Fact). GoesAs c.fact (later c.fact.places) (called_after p st.number s.action s.edge c.fact) g × More g) reached (step_there p fr st i s here) (row q is))
+    gone_on q is =
+        by (followed p ac st.number c.origin i (move_of s) c.fact
+        (λ (g : Fact). (GoesAs c.fact (later c.fact.places) (called_after p st.number s.action s.edge c.fact) g × More g) × (flow p st.number c.origin s.action s.edge c.fact ≡ Next g)) reached (step_there p fr st i s here)
+        (after_told (λ (g : Fact). GoesAs c.fact (later c.fact.places) (called_after p st.number s.action s.edge c.fact) g × More g) (flow p st.number c.origin s.action s.edge c.fact) (flow p st.number c.origin s.action s.edge c.fact) refl (row q is)))
       where
-        by : (g : Fact) × Reach p st.number (relation_of p st.number) c.origin s.to g × (GoesAs c.fact (later c.fact.places) (called_after p st.number s.action s.edge c.fact) g × More g) → (g : Fact) × Goes g
-        by (g, reach, rest) = (g, (reach, rest))
+        by : (g : Fact) × Reach p st.number (relation_of p st.number) c.origin s.to g × ((GoesAs c.fact (later c.fact.places) (called_after p st.number s.action s.edge c.fact) g × More g) × (flow p st.number c.origin s.action s.edge c.fact ≡ Next g)) → (g : Fact) × Goes g
+        by (g, reach, rest) = (g, (reach, rest.0, rest.1))
 
     module _ (g : Fact) (goes_on : Goes g) where
       on : GoesAs c.fact (later c.fact.places) (called_after p st.number s.action s.edge c.fact) g
@@ -196,6 +224,14 @@ module _ (p : Program) (ac : Accept p) (h k : HeapContents) (links : HasEarlierL
 
       held_before : is_held g.mode ≡ true → is_held c.fact.mode ≡ true
       held_before held = ap is_held (sym (on.mode (or_right (is_own g.mode) (is_held g.mode) held))) ∙ held
+
+      -- behind a call that creates the obligation of `this` anew, no content of what is being made is claimed by what goes on
+      pub not_held_anew : x.finished ≡ true → is_reset_of_this p s.action ≡ true → is_held g.mode ≡ true → makes_alone (method_at p fr.method) ≡ true → is_heavy_class p c.origin.class ≡ true → ⊥
+      not_held_anew was_done resets held alone heavy =
+          let was = held_in_field p h away anew old frs fr o x c was_done (held_before held) alone heavy in
+          let this = left_aside places.This tt refl p st.number s.edge c.fact.places s.action r.small r.sets r.moves r.makes (reset_leaves_this p st.number c.origin s.action s.edge c.fact g r.small resets goes_on.2 held) in
+          true≢false (sym (at_place (without c.fact.places (place_of_field p was.0.field)) places.This tt refl
+          (sym (kept_without c.fact.places (place_of_field p was.0.field) places.This (apart_from_field (field_number p was.0.field))) ∙ this)) ∙ was.2)
 
       stays_owned : is_heavy_class p c.origin.class ≡ true → is_own g.mode ≡ true → away ≡ false
       stays_owned heavy own = spared g more own (owning_before (and_from (is_heavy_class p c.origin.class) (is_own g.mode) heavy own))
@@ -226,7 +262,7 @@ module _ (p : Program) (ac : Accept p) (h k : HeapContents) (links : HasEarlierL
 
           by : (is_own g.mode ≡ true) ⊎ ((is_held g.mode ≡ true) × (makes_alone (method_at p fr.method) ≡ true)) → away ≡ false
           by (inl own) = stays_owned owned.0 own
-          by (inr held) = held_kept p h away anew frs fr o x c (was_true claimed).finished (held_before held.0) held.1
+          by (inr held) = held_kept p h away anew old frs fr o x c (was_true claimed).finished (held_before held.0) held.1 owned.0
 
       truth : claims p (method_at p fr.method) c.origin g ≡ true → IsTrueOf p y c.origin (fact_as anew g)
       truth claimed = as_read anew refl (still_true p x y c.origin (fact_as anew c.fact) (goes (was_true claimed).finished).0 (was_true claimed))
@@ -248,13 +284,13 @@ module _ (p : Program) (ac : Accept p) (h k : HeapContents) (links : HasEarlierL
                 class = still.class;
                 bounded = still.bounded;
                 need = by_full still on.full;
-                called = within_trans g.called (called_after p st.number s.action s.edge c.fact) y.called on.known (known g more (inl owned.1) (not_away claimed) is (was_true claimed).finished y.called (within_self y.called) still.called);
+                called = within_trans g.called (called_after p st.number s.action s.edge c.fact) y.called on.known (known g more (inl owned.1) (inl (claims_before claimed, not_away claimed)) is (was_true claimed).finished y.called (within_self y.called) still.called);
               }
 
       -- what it tells of the object
       tells_before : tells_calls p fr.method c.origin g ≡ true → (tells_calls p fr.method c.origin c.fact ≡ true) × IsTrusted c.origin g
       tells_before tells = elim (tells_by p fr.method c.origin g tells) [
-        | inl lent ↦ (lent_tells p fr.method c.origin c.fact (lent_not_alone p h away anew frs fr o x c lent) lent, inr lent)
+        | inl lent ↦ (lent_tells p fr.method c.origin c.fact (lent_not_alone p h away anew old frs fr o x c lent) lent, inr lent)
         | inr held ↦ (
           held_tells p fr.method c.origin c.fact (other_alone (is_held g.mode) (makes_alone (method_at p fr.method)) held (tells_apart p fr.method c.origin g tells)) (held_mode c.fact.mode (held_before held)),
           inl (or_right (is_own g.mode) (is_held g.mode) held),
@@ -265,10 +301,10 @@ module _ (p : Program) (ac : Accept p) (h k : HeapContents) (links : HasEarlierL
       abbrev asked : Names
       asked = asked_of p (method_at p fr.method) c.origin.kind
 
-      was_apart : x.finished ≡ true → is_apart p k frs after o y g ≡ true → is_apart p h frs fr o x c.fact ≡ true
-      was_apart was_done apart = apart_before p h k frs fr o x y c.fact g gifts class held_before (λ plain own. others.content o x y before at was_done wide plain own) (λ low. others.low o x y before at was_done wide low) apart
+      was_apart : x.finished ≡ true → IsApart p k old frs after o y.owner g → IsApart p h old frs fr o x.owner c.fact
+      was_apart was_done apart = apart_before p h k old frs fr o x y c.fact g others before at was_done wide held_before apart
 
-      pub covers_on : Covers p k false anew frs after o y
+      pub covers_on : Covers p k false anew old frs after o y
       covers_on = record {
         body = st.number;
         id = st.id;
@@ -279,28 +315,24 @@ module _ (p : Program) (ac : Accept p) (h k : HeapContents) (links : HasEarlierL
         places = λ z' small' inside'. still_holds c.fact.places o x before wide c.places alias z' small' (sym (on.places (number_of z')) ∙ inside');
         true' = λ claimed spared'. truth claimed;
         lent = λ lent. (stays_unowned p c.origin c.fact g on.mode (c.lent lent).0, (λ held. (c.lent lent).1 (held_before held)));
-        free = λ done held alone.
-            let was = held_in_field p h away anew frs fr o x c (ready done) (held_before held) alone in (
+        free = λ done held alone heavy.
+            let was = held_in_field p h away anew old frs fr o x c (ready done) (held_before held) alone heavy in (
               refl,
-              held_heavy p h away anew frs fr o x c (ready done) (held_before held) alone,
               in_field_on p fr st ac after refl refl c.fact.places g.places x.owner y.owner (lasting o x y before at (ready done) wide alone was.0)
                   (λ q small out is. on.places (number_of q)
-                  ∙ (stays_aside q small out p st.number s.edge c.fact.places s.action r.small r.sets r.moves r.makes (λ resets. holds_no_part p ac h fr st fr.locals (r.elsewhere resets) q o small (c.places q small is)) ∙ is))
+                  ∙ (stays_aside q small out p st.number s.edge c.fact.places s.action r.small r.sets r.moves r.makes (λ resets. absurd (not_held_anew (ready done) resets held alone heavy)) ∙ is))
                   (λ q small out is. left_aside q small out p st.number s.edge c.fact.places s.action r.small r.sets r.moves r.makes (sym (on.places (number_of q)) ∙ is)) was,
             );
-        lends = λ lent done. (refl, lent_after p h k frs o x.owner y.owner gifts (others.keeps o x y before at (ready done) wide) (c.lends (on.lent lent) (ready done)).1);
+        lends = λ lent done. (refl, (others.keeps o x y before at (ready done) wide (c.lends (on.lent lent) (ready done)).1).1);
         makes = λ constructor this. still_unfinished x y ready (c.makes constructor this);
-        unrenewed = λ done tells apart. c.unrenewed (ready done) (tells_before tells).0 (was_apart (ready done) apart);
-        known = λ done tells apart.
+        complete = λ lent other fields. (let was = c.complete (on.lent lent) other (subst (HasOwningField p) class fields) in (goes was).0.finished ∙ was);
+        unrenewed = λ done tells was is. c.unrenewed (ready done) (tells_before tells).0 was (others.spared o x before (ready done, wide) is);
+        known = λ done tells apart stays.
             let was_done = ready done in
             let told = tells_before tells in
-            let was = c.known was_done told.0 (was_apart was_done apart) in (
-              refl,
-              others.apart o x y before at was_done wide was.1,
-              within_trans g.called (called_after p st.number s.action s.edge c.fact) (set.union asked y.called) on.known
-                  (known g more told.1 was.0 (c.unrenewed was_done told.0 (was_apart was_done apart)) was_done (set.union asked y.called) (within_union_right asked y.called) (known_on c.fact.called asked x.called y.called was.2 (goes was_done).0.called)),
-              others.older o x y before at was_done wide was.1 was.3,
-            );
+            let was = c.known was_done told.0 (was_apart was_done apart) stays in
+            within_trans g.called (called_after p st.number s.action s.edge c.fact) (set.union asked y.called) on.known
+            (known g more told.1 (inr (told.0, was_apart was_done apart)) stays was_done (set.union asked y.called) (within_union_right asked y.called) (known_on c.fact.called asked x.called y.called was (goes was_done).0.called));
         fields = λ n inside' wide' there. c.fields n inside' wide' (aside n inside' (sym (on.places (161 + n)) ∙ there));
         held = λ n inside' there heavy.
             let was = c.held n inside' (aside n inside' (sym (on.places (161 + n)) ∙ there)) heavy in
@@ -316,44 +348,62 @@ module _ (p : Program) (ac : Accept p) (h k : HeapContents) (links : HasEarlierL
   abbrev pub ComesFrom : Place → ℕ → Type 0
   ComesFrom q o = (z : Place) × IsSmall z × (root_of h (place_value p h fr.method fr.locals z) ≡ Some o) × ((held : PlaceSet) → has held z ≡ true → has (later held) q ≡ true)
 
+  -- the place is that of a field of `this`, whose obligation the step creates anew: the facts leave it
+  abbrev pub IsLeftOut : Place → Type 0
+  IsLeftOut q = (is_reset_of_this p s.action ≡ true) × (is_part q ≡ true)
+
+  -- a fact is born there, and where it claims the object, it knows of no calls, and the owning field of the place owns the object
+  abbrev pub IsBornAnew : (ℕ → Bool) → List Frame → (ℕ → Bool) → Place → ℕ → Object → Type 0
+  IsBornAnew old frs renewed q o y =
+      (d : Covers p k false (renewed o) old frs after o y) × (has d.fact.places q ≡ true)
+      × (claims p (method_at p fr.method) d.origin d.fact ≡ true
+      → (is_own d.fact.mode ≡ false) × ((d.fact.called ≡ no_names) × (d.fact.full ≡ true)) × ((f : FieldId) × (w : ℕ) × (y.owner ≡ owners.Field w f) × (place_of_field p f ≡ q)))
+
   -- The step gives the object to the place. A fact is born there, and no fact of the frame goes on owning the object; or a fact that does not own it stands
   -- there; or it comes from another place.
-  abbrev pub IsMadeSo : List Frame → (ℕ → ClassId → Bool) → (ℕ → Bool) → (Origin → Fact → Fact → Type 0) → Place → ℕ → Object → Type 0
-  IsMadeSo frs gives renewed More q o y =
-      ((d : Covers p k false (renewed o) frs after o y) × (has d.fact.places q ≡ true) × (y.owner ≡ owners.Frame (length frs + 1)) × StopsOwning p h fr frs gives renewed More o) ⊎ (IsUnowned p k false (renewed o) frs after q o y ⊎ ComesFrom q o)
+  abbrev pub IsMadeSo : (ℕ → Bool) → List Frame → (ℕ → ClassId → Bool) → (ℕ → Bool) → (Origin → Fact → Fact → Type 0) → Place → ℕ → Object → Type 0
+  IsMadeSo old frs gives renewed More q o y =
+      ((d : Covers p k false (renewed o) old frs after o y) × (has d.fact.places q ≡ true) × (y.owner ≡ owners.Frame (length frs + 1)) × StopsOwning p h fr old frs gives renewed More o) ⊎ (IsUnowned p k false (renewed o) old frs after q o y ⊎ ComesFrom q o)
 
-  -- a fact that says after the step that the frame owns the object said so before it, or no other fact goes on owning it
-  abbrev pub IsOwnedFrom : List Frame → (ℕ → ClassId → Bool) → (ℕ → Bool) → (Origin → Fact → Fact → Type 0) → ℕ → Origin → Fact → Type 0
-  IsOwnedFrom frs gives renewed More o origin g =
-      ((x : Object) × (object_at h o ≡ Some x) × (c : Covers p h (gives o x.class) (renewed o) frs fr o x) × IsOwned p h (gives o x.class) (renewed o) frs fr o x c × (origin ≡ c.origin) × More c.origin c.fact g)
-      ⊎ (StopsOwning p h fr frs gives renewed More o × (is_own g.mode ≡ true))
+  -- a fact that claims the object after the step claimed it before; or it says that the frame owns the object, and no other fact goes on owning it; or it
+  -- knows of no calls, and all that its class asks for is needed
+  abbrev pub IsOwnedFrom : (ℕ → Bool) → List Frame → (ℕ → ClassId → Bool) → (ℕ → Bool) → (Origin → Fact → Fact → Type 0) → ℕ → Origin → Fact → Type 0
+  IsOwnedFrom old frs gives renewed More o origin g =
+      ((x : Object) × (object_at h o ≡ Some x) × (c : Covers p h (gives o x.class) (renewed o) old frs fr o x) × IsOwned p h (gives o x.class) (renewed o) old frs fr o x c × (origin ≡ c.origin) × More c.origin c.fact g)
+      ⊎ ((StopsOwning p h fr old frs gives renewed More o × (is_own g.mode ≡ true)) ⊎ ((g.called ≡ no_names) × (g.full ≡ true)))
 
   -- the place is in a fact that owns the object so, or in one that does not
-  abbrev pub IsKeyedFrom : List Frame → (ℕ → ClassId → Bool) → (ℕ → Bool) → (Origin → Fact → Fact → Type 0) → Place → ℕ → Object → Type 0
-  IsKeyedFrom frs gives renewed More q o y =
-      ((c : Covers p k false (renewed o) frs after o y) × (has c.fact.places q ≡ true) × IsOwned p k false (renewed o) frs after o y c × IsOwnedFrom frs gives renewed More o c.origin c.fact) ⊎ IsUnowned p k false (renewed o) frs after q o y
+  abbrev pub IsKeyedFrom : (ℕ → Bool) → List Frame → (ℕ → ClassId → Bool) → (ℕ → Bool) → (Origin → Fact → Fact → Type 0) → Place → ℕ → Object → Type 0
+  IsKeyedFrom old frs gives renewed More q o y =
+      ((c : Covers p k false (renewed o) old frs after o y) × (has c.fact.places q ≡ true) × IsOwned p k false (renewed o) old frs after o y c × IsOwnedFrom old frs gives renewed More o c.origin c.fact) ⊎ IsUnowned p k false (renewed o) old frs after q o y
 
   -- all that the frame's places hold after the step was held before it, or the step made it
-  module _ (frs : List Frame) (gives : ℕ → ClassId → Bool) (renewed : ℕ → Bool) (covered : IsCovered p h gives renewed frs fr) (ready : KeepsReady p h k fr) (gifts : KeepsGiven p h k frs) (others : StaysApart p h k frs fr) (lasting : KeepsHeld p h k fr)
+  module _ (old : ℕ → Bool) (frs : List Frame) (gives : ℕ → ClassId → Bool) (renewed : ℕ → Bool) (covered : IsCovered p h gives (λ o owner. renewed o) old frs fr) (ready : KeepsReady p h k fr) (others : StaysApart p h k frs fr) (lasting : KeepsHeld p h k fr)
       (More : Origin → Fact → Fact → Type 0)
-      (row : (o : ℕ) (x : Object) (c : Covers p h (gives o x.class) (renewed o) frs fr o x) (q : Place) → has (later c.fact.places) q ≡ true
+      (row : (o : ℕ) (x : Object) (c : Covers p h (gives o x.class) (renewed o) old frs fr o x) (q : Place) → has (later c.fact.places) q ≡ true
       → After (λ (g : Fact). GoesAs c.fact (later c.fact.places) (called_after p st.number s.action s.edge c.fact) g × More c.origin c.fact g) (flow p st.number c.origin s.action s.edge c.fact))
-      (known : (o : ℕ) (x y : Object) (c : Covers p h (gives o x.class) (renewed o) frs fr o x) → object_at h o ≡ Some x → object_at k o ≡ Some y → (g : Fact) → More c.origin c.fact g → IsTrusted c.origin g → gives o x.class ≡ false → renewed o ≡ false → x.finished ≡ true → GoesOn x y
+      (known : (o : ℕ) (x y : Object) (c : Covers p h (gives o x.class) (renewed o) old frs fr o x) → object_at h o ≡ Some x → object_at k o ≡ Some y → (g : Fact) → More c.origin c.fact g → IsTrusted c.origin g → IsSureOf old frs (gives o x.class) (renewed o) o x c → renewed o ≡ false → x.finished ≡ true → GoesOn x y
       → is_heavy_class p x.class ≡ true → OwesOrHolds p h o x → (names : Names) → set.is_subset y.called names ≡ true → set.is_subset c.fact.called names ≡ true → set.is_subset (called_after p st.number s.action s.edge c.fact) names ≡ true)
-      (alias : (o : ℕ) (x : Object) (c : Covers p h (gives o x.class) (renewed o) frs fr o x) → object_at h o ≡ Some x → is_heavy_class p x.class ≡ true → OwesOrHolds p h o x → GivesIt c.fact.places o)
-      (own : (o : ℕ) (x y : Object) (c : Covers p h (gives o x.class) (renewed o) frs fr o x) → IsOwned p h (gives o x.class) (renewed o) frs fr o x c → object_at h o ≡ Some x → object_at k o ≡ Some y → is_heavy_class p x.class ≡ true → OwesOrHolds p h o x
+      (alias : (o : ℕ) (x : Object) (c : Covers p h (gives o x.class) (renewed o) old frs fr o x) → object_at h o ≡ Some x → is_heavy_class p x.class ≡ true → OwesOrHolds p h o x → GivesIt c.fact.places o)
+      (own : (o : ℕ) (x y : Object) (c : Covers p h (gives o x.class) (renewed o) old frs fr o x) → IsOwned p h (gives o x.class) (renewed o) old frs fr o x c → object_at h o ≡ Some x → object_at k o ≡ Some y → is_heavy_class p x.class ≡ true → OwesOrHolds p h o x
       → (g : Fact) → More c.origin c.fact g → is_own g.mode ≡ true → (gives o x.class ≡ false) × (x.finished ≡ true → x.owner ≡ owners.Frame (length frs + 1) → y.owner ≡ owners.Frame (length frs + 1)))
+      (bears : (q : Place) (o : ℕ) (y : Object) → IsSmall q → IsLeftOut q → root_of k (place_value p k fr.method after.locals q) ≡ Some o → object_at k o ≡ Some y → is_heavy_class p y.class ≡ true → OwesOrHolds p k o y
+      → IsBornAnew old frs renewed q o y)
       (made : (q : Place) (o : ℕ) (y : Object) → IsSmall q → is_local q ≡ true → source p st.body s.action s.edge q ≡ None → is_made (made_place s.action) q ≡ true → place_value p k fr.method after.locals q ≡ v → root_of k v ≡ Some o → object_at k o ≡ Some y
-      → is_heavy_class p y.class ≡ true → OwesOrHolds p k o y → IsMadeSo frs gives renewed More q o y) where
+      → is_heavy_class p y.class ≡ true → OwesOrHolds p k o y → IsMadeSo old frs gives renewed More q o y) where
+    -- no fact goes on owning the object, which the frame owns; or a field owns it, and the step creates the obligation of `this` anew
+    abbrev Frees : ℕ → Object → Type 0
+    Frees o y = (StopsOwning p h fr old frs gives renewed More o × (y.owner ≡ owners.Frame (length frs + 1))) ⊎ ((is_reset_of_this p s.action ≡ true) × (is_field_owner y.owner ≡ true))
+
     -- the place takes what the step makes
     abbrev IsMadeAt : Place → Type 0
     IsMadeAt q = (is_local q ≡ true) × (source p st.body s.action s.edge q ≡ None) × (is_made (made_place s.action) q ≡ true) × (place_value p k fr.method after.locals q ≡ v)
 
-    origin_of_place : (q : Place) (o : ℕ) → IsSmall q → root_of k (place_value p k fr.method after.locals q) ≡ Some o → ComesFrom q o ⊎ IsMadeAt q
+    origin_of_place : (q : Place) (o : ℕ) → IsSmall q → root_of k (place_value p k fr.method after.locals q) ≡ Some o → ComesFrom q o ⊎ (IsMadeAt q ⊎ IsLeftOut q)
     origin_of_place q o small held = go (is_local q) refl
       where
-        from : is_local q ≡ true → (z : Option Place) → source p st.body s.action s.edge q ≡ z → IsFrom p h k fr.method st.body fr.locals s.action s.edge v body_here q z → ComesFrom q o ⊎ IsMadeAt q
-        from local None e is = inr (local, e, is.0, is.1)
+        from : is_local q ≡ true → (z : Option Place) → source p st.body s.action s.edge q ≡ z → IsFrom p h k fr.method st.body fr.locals s.action s.edge v body_here q z → ComesFrom q o ⊎ (IsMadeAt q ⊎ IsLeftOut q)
+        from local None e is = inr (inl (local, e, is.0, is.1))
         from local (Some z) e is =
             let small' = source_is_small p st.body s.action s.edge q z r.small small e in
             inl (
@@ -364,14 +414,22 @@ module _ (p : Program) (ac : Accept p) (h k : HeapContents) (links : HasEarlierL
                   ∙ or_right (takes_alias p s.action s.edge held' q) (has_source held' (source p st.body s.action s.edge q)) (ap (has_source held') e ∙ one)),
             )
 
-        go : (b : Bool) → is_local q ≡ b → ComesFrom q o ⊎ IsMadeAt q
-        go true local = from local (source p st.body s.action s.edge q) refl (value_is_from p h k fr.method st.body fr.locals s.action s.edge v body_here q o small local held)
-        go false out = inl (
+        stays : is_local q ≡ false → (is_reset_of_this p s.action ≡ true → is_part q ≡ false) → ComesFrom q o
+        stays out aside = (
           q,
           small,
           root_earlier q o small (ap (root_of k) (sym (other q out ∙ kept_root p h k _ _ o (kept_place p h k fields fr.method fr.locals q) (ap (root_of k) (sym (other q out)) ∙ held))) ∙ held),
-          (λ held' one. stays_aside q small out p st.number s.edge held' s.action r.small r.sets r.moves r.makes (λ resets. holds_no_part p ac k fr st after.locals (r.elsewhere resets) q o small held) ∙ one),
+          (λ held' one. stays_aside q small out p st.number s.edge held' s.action r.small r.sets r.moves r.makes aside ∙ one),
         )
+
+        beside : is_local q ≡ false → (b d : Bool) → is_reset_of_this p s.action ≡ b → is_part q ≡ d → ComesFrom q o ⊎ (IsMadeAt q ⊎ IsLeftOut q)
+        beside out true true resets part = inr (inr (resets, part))
+        beside out true false resets part = inl (stays out (λ is. part))
+        beside out false d none part = inl (stays out (λ is. absurd (true≢false (sym is ∙ none))))
+
+        go : (b : Bool) → is_local q ≡ b → ComesFrom q o ⊎ (IsMadeAt q ⊎ IsLeftOut q)
+        go true local = from local (source p st.body s.action s.edge q) refl (value_is_from p h k fr.method st.body fr.locals s.action s.edge v body_here q o small local held)
+        go false out = beside out (is_reset_of_this p s.action) (is_part q) refl refl
 
     -- an object that was there
     module _ (o : ℕ) (x y : Object) (before : object_at h o ≡ Some x) (at : object_at k o ≡ Some y) (class : y.class ≡ x.class) (wide : is_heavy_class p x.class ≡ true) (owes : OwesOrHolds p h o x) (wide' : is_heavy_class p y.class ≡ true) (owes' : OwesOrHolds p k o y)
@@ -383,61 +441,85 @@ module _ (p : Program) (ac : Accept p) (h k : HeapContents) (links : HasEarlierL
       anew = renewed o
 
       -- a fact that does not own it
-      unowned_on : (z q : Place) → IsUnowned p h away anew frs fr z o x → ((held : PlaceSet) → has held z ≡ true → has (later held) q ≡ true) → IsUnowned p k false (renewed o) frs after q o y
+      unowned_on : (z q : Place) → IsUnowned p h away anew old frs fr z o x → ((held : PlaceSet) → has held z ≡ true → has (later held) q ≡ true) → IsUnowned p k false (renewed o) old frs after q o y
       unfolding covers_on
-      unowned_on z q u goes_to = by (gone_on frs away anew o x y before at class wide goes done gifts others lasting u.covers (More u.covers.origin u.covers.fact) (row o x u.covers) spared trusted (alias o x u.covers before wide owes) q (goes_to u.covers.fact.places u.here))
+      unowned_on z q u goes_to = by (gone_on old frs away anew o x y before at class wide goes done others lasting u.covers (More u.covers.origin u.covers.fact) (row o x u.covers) spared trusted (alias o x u.covers before wide owes) q (goes_to u.covers.fact.places u.here))
         where
           spared : (g : Fact) → More u.covers.origin u.covers.fact g → is_own g.mode ≡ true → is_owning_fact p u.covers.origin u.covers.fact ≡ true → away ≡ false
           spared g its mine owning = absurd (true≢false (sym owning ∙ unclaimed_not_owning p (method_at p fr.method) u.covers.origin u.covers.fact u.unowned))
 
-          trusted : (g : Fact) → More u.covers.origin u.covers.fact g → IsTrusted u.covers.origin g → away ≡ false → anew ≡ false → x.finished ≡ true → (names : Names) → set.is_subset y.called names ≡ true → set.is_subset u.covers.fact.called names ≡ true
+          trusted : (g : Fact) → More u.covers.origin u.covers.fact g → IsTrusted u.covers.origin g → IsSure old frs away anew o x u.covers → anew ≡ false → x.finished ≡ true → (names : Names) → set.is_subset y.called names ≡ true → set.is_subset u.covers.fact.called names ≡ true
               → set.is_subset (called_after p st.number s.action s.edge u.covers.fact) names ≡ true
-          trusted g its trust stays old finished names less was = known o x y u.covers before at g its trust stays old finished (goes finished).0 wide owes names less was
+          trusted g its trust sure stays finished names less was = known o x y u.covers before at g its trust (told sure) stays finished (goes finished).0 wide owes names less was
+            where
+              told : IsSure old frs away anew o x u.covers → IsSureOf old frs away anew o x u.covers
+              told (inl claimed) = absurd (true≢false (sym claimed.0 ∙ u.unowned))
+              told (inr is) = inr is
 
-          by : (g : Fact) × Goes frs away anew o x y before at class wide goes done gifts others lasting u.covers (More u.covers.origin u.covers.fact) (row o x u.covers) spared trusted (alias o x u.covers before wide owes) g → IsUnowned p k false (renewed o) frs after q o y
+          by : (g : Fact) × Goes old frs away anew o x y before at class wide goes done others lasting u.covers (More u.covers.origin u.covers.fact) (row o x u.covers) spared trusted (alias o x u.covers before wide owes) g → IsUnowned p k false (renewed o) old frs after q o y
           by (g, on) = record {
-            covers = covers_on frs away anew o x y before at class wide goes done gifts others lasting u.covers (More u.covers.origin u.covers.fact) (row o x u.covers) spared trusted (alias o x u.covers before wide owes) g on;
-            here = has_on frs away anew o x y before at class wide goes done gifts others lasting u.covers (More u.covers.origin u.covers.fact) (row o x u.covers) spared trusted (alias o x u.covers before wide owes) g on q (goes_to u.covers.fact.places u.here);
+            covers = covers_on old frs away anew o x y before at class wide goes done others lasting u.covers (More u.covers.origin u.covers.fact) (row o x u.covers) spared trusted (alias o x u.covers before wide owes) g on;
+            here = has_on old frs away anew o x y before at class wide goes done others lasting u.covers (More u.covers.origin u.covers.fact) (row o x u.covers) spared trusted (alias o x u.covers before wide owes) g on q (goes_to u.covers.fact.places u.here);
             unowned = not_owning (claims p (method_at p fr.method) u.covers.origin g) refl;
           }
             where
               not_owning : (b : Bool) → claims p (method_at p fr.method) u.covers.origin g ≡ b → claims p (method_at p fr.method) u.covers.origin g ≡ false
               not_owning false none = none
               not_owning true owning =
-                  absurd (true≢false (sym (claims_before frs away anew o x y before at class wide goes done gifts others lasting u.covers (More u.covers.origin u.covers.fact) (row o x u.covers) spared trusted (alias o x u.covers before wide owes) g on owning) ∙ u.unowned))
+                  absurd (true≢false (sym (claims_before old frs away anew o x y before at class wide goes done others lasting u.covers (More u.covers.origin u.covers.fact) (row o x u.covers) spared trusted (alias o x u.covers before wide owes) g on owning) ∙ u.unowned))
 
       -- the fact that owns it
-      module _ (c : Covers p h away anew frs fr o x) (key : IsOwned p h away anew frs fr o x c) (z : Place) (small : IsSmall z) (held : root_of h (place_value p h fr.method fr.locals z) ≡ Some o) where
+      module _ (c : Covers p h away anew old frs fr o x) (key : IsOwned p h away anew old frs fr o x c) (z : Place) (small : IsSmall z) (held : root_of h (place_value p h fr.method fr.locals z) ≡ Some o) where
         spared : (g : Fact) → More c.origin c.fact g → is_own g.mode ≡ true → is_owning_fact p c.origin c.fact ≡ true → away ≡ false
         spared g its mine owning = (own o x y c key before at wide owes g its mine).0
 
-        trusted : (g : Fact) → More c.origin c.fact g → IsTrusted c.origin g → away ≡ false → anew ≡ false → x.finished ≡ true → (names : Names) → set.is_subset y.called names ≡ true → set.is_subset c.fact.called names ≡ true
+        trusted : (g : Fact) → More c.origin c.fact g → IsTrusted c.origin g → IsSure old frs away anew o x c → anew ≡ false → x.finished ≡ true → (names : Names) → set.is_subset y.called names ≡ true → set.is_subset c.fact.called names ≡ true
             → set.is_subset (called_after p st.number s.action s.edge c.fact) names ≡ true
-        trusted g its trust stays old finished names less was = known o x y c before at g its trust stays old finished (goes finished).0 wide owes names less was
+        trusted g its trust sure stays finished names less was = known o x y c before at g its trust (owns sure) stays finished (goes finished).0 wide owes names less was
+          where
+            owns : IsSure old frs away anew o x c → IsSureOf old frs away anew o x c
+            owns (inl claimed) = inl (key, claimed.1)
+            owns (inr is) = inr is
 
         abbrev GoesSo : Fact → Type 0
-        GoesSo g = Goes frs away anew o x y before at class wide goes done gifts others lasting c (More c.origin c.fact) (row o x c) spared trusted (alias o x c before wide owes) g
+        GoesSo g = Goes old frs away anew o x y before at class wide goes done others lasting c (More c.origin c.fact) (row o x c) spared trusted (alias o x c before wide owes) g
 
         goes_so : (q : Place) → has (later c.fact.places) q ≡ true → (g : Fact) × GoesSo g
-        goes_so q is = gone_on frs away anew o x y before at class wide goes done gifts others lasting c (More c.origin c.fact) (row o x c) spared trusted (alias o x c before wide owes) q is
+        goes_so q is = gone_on old frs away anew o x y before at class wide goes done others lasting c (More c.origin c.fact) (row o x c) spared trusted (alias o x c before wide owes) q is
 
         module _ (g : Fact) (on : GoesSo g) where
-          abbrev now : Covers p k false (renewed o) frs after o y
-          now = covers_on frs away anew o x y before at class wide goes done gifts others lasting c (More c.origin c.fact) (row o x c) spared trusted (alias o x c before wide owes) g on
+          abbrev now : Covers p k false (renewed o) old frs after o y
+          now = covers_on old frs away anew o x y before at class wide goes done others lasting c (More c.origin c.fact) (row o x c) spared trusted (alias o x c before wide owes) g on
 
           there : (q : Place) → has (later c.fact.places) q ≡ true → has g.places q ≡ true
-          there q is = has_on frs away anew o x y before at class wide goes done gifts others lasting c (More c.origin c.fact) (row o x c) spared trusted (alias o x c before wide owes) g on q is
+          there q is = has_on old frs away anew o x y before at class wide goes done others lasting c (More c.origin c.fact) (row o x c) spared trusted (alias o x c before wide owes) g on q is
 
           -- where no fact goes on owning it, and the frame owns it, this one claims nothing
-          stops_claiming : StopsOwning p h fr frs gives renewed More o → y.owner ≡ owners.Frame (length frs + 1) → claims p (method_at p fr.method) c.origin g ≡ true → ⊥
+          stops_owning : StopsOwning p h fr old frs gives renewed More o → y.owner ≡ owners.Frame (length frs + 1) → claims p (method_at p fr.method) c.origin g ≡ true → ⊥
           unfolding covers_on
-          stops_claiming ends mine claimed = elim (claims_by p (method_at p fr.method) c.origin g claimed) [
+          stops_owning ends mine claimed = elim (claims_by p (method_at p fr.method) c.origin g claimed) [
             | inl mine' ↦ true≢false (sym mine' ∙ ends x before z small held c key g on.1.1)
-            | inr held' ↦ true≢false (sym (own_frame (length frs + 1) y.owner mine) ∙ held_unowned p k false (renewed o) frs after o y now (now.true' claimed refl).finished held'.0 held'.1 (length frs + 1))
+            | inr held' ↦ true≢false (sym (own_frame (length frs + 1) y.owner mine) ∙ held_unowned p k false (renewed o) old frs after o y now (now.true' claimed refl).finished held'.0 held'.1 (claims_owned p (method_at p fr.method) c.origin g claimed).0 (length frs + 1))
           ]
 
+          -- so it is where a field owns it, and the step creates the obligation of `this` anew
+          stops_claiming : Frees o y → claims p (method_at p fr.method) c.origin g ≡ true → ⊥
+          stops_claiming (inl (ends, mine)) claimed = stops_owning ends mine claimed
+          stops_claiming (inr (resets, field)) claimed = elim (claims_by p (method_at p fr.method) c.origin g claimed) [
+            | inl mine' ↦ (
+                let mine = own o x y c key before at wide owes g on.1.1 mine' in
+                let frame : y.owner ≡ owners.Frame (length frs + 1) =
+                mine.1 (c.true' key.owning (ap (λ (b : Bool). b && is_own c.fact.mode) mine.0)).finished (key.owner mine.0 (ap is_own (sym (on.1.0.mode (or_left (is_own g.mode) (is_held g.mode) mine'))) ∙ mine')) in
+                true≢false (sym field ∙ ap is_field_owner frame))
+            | inr held' ↦ not_held_anew old frs away anew o x y before at class wide goes done others lasting c (More c.origin c.fact) (row o x c) spared trusted (alias o x c before wide owes) g on was_done resets held'.0 held'.1
+                (claims_owned p (method_at p fr.method) c.origin g claimed).0
+          ]
+            where
+              was_done : x.finished ≡ true
+              was_done = (was_true old frs away anew o x y before at class wide goes done others lasting c (More c.origin c.fact) (row o x c) spared trusted (alias o x c before wide owes) g on claimed).finished
+
           -- where it goes on owning it, each other place is in it, or in one that does not
-          still_owned : claims p (method_at p fr.method) c.origin g ≡ true → IsOwned p k false (renewed o) frs after o y now
+          still_owned : claims p (method_at p fr.method) c.origin g ≡ true → IsOwned p k false (renewed o) old frs after o y now
           unfolding covers_on
           still_owned owning = record {
             owning = owning;
@@ -446,59 +528,72 @@ module _ (p : Program) (ac : Accept p) (h k : HeapContents) (links : HasEarlierL
             others = each;
           }
             where
-              comes : (q : Place) → ComesFrom q o → (has g.places q ≡ true) ⊎ IsUnowned p k false (renewed o) frs after q o y
+              comes : (q : Place) → ComesFrom q o → (has g.places q ≡ true) ⊎ IsUnowned p k false (renewed o) old frs after q o y
               comes q (u, less, was, goes_to) = elim (key.others u less was) [ inl in' ↦ inl (there q (goes_to c.fact.places in')) | inr free ↦ inr (unowned_on u q free goes_to) ]
 
-              makes : (q : Place) → IsMadeSo frs gives renewed More q o y → (has g.places q ≡ true) ⊎ IsUnowned p k false (renewed o) frs after q o y
-              makes q (inl (d, has', mine, ends)) = absurd (stops_claiming ends mine owning)
+              makes : (q : Place) → IsMadeSo old frs gives renewed More q o y → (has g.places q ≡ true) ⊎ IsUnowned p k false (renewed o) old frs after q o y
+              makes q (inl (d, has', mine, ends)) = absurd (stops_claiming (inl (ends, mine)) owning)
               makes q (inr (inl free)) = inr free
               makes q (inr (inr from)) = comes q from
 
-              each : (q : Place) → IsSmall q → root_of k (place_value p k after.method after.locals q) ≡ Some o → (has g.places q ≡ true) ⊎ IsUnowned p k false (renewed o) frs after q o y
+              each : (q : Place) → IsSmall q → root_of k (place_value p k after.method after.locals q) ≡ Some o → (has g.places q ≡ true) ⊎ IsUnowned p k false (renewed o) old frs after q o y
               each q less is = elim (origin_of_place q o less is) [
                 | inl from ↦ comes q from
-                | inr new ↦ makes q (made q o y less new.0 new.1 new.2 new.3 (ap (root_of k) (sym new.3) ∙ is) at wide' owes')
+                | inr other' ↦ elim other' [
+                  | inl new ↦ makes q (made q o y less new.0 new.1 new.2 new.3 (ap (root_of k) (sym new.3) ∙ is) at wide' owes')
+                  | inr out ↦ inr (left_out q less out is)
+                ]
               ]
+                where
+                  left_out : (q : Place) → IsSmall q → IsLeftOut q → root_of k (place_value p k fr.method after.locals q) ≡ Some o → IsUnowned p k false (renewed o) old frs after q o y
+                  left_out q less out is = by (bears q o y less out is at wide' owes')
+                    where
+                      by : IsBornAnew old frs renewed q o y → IsUnowned p k false (renewed o) old frs after q o y
+                      by (d, here', if) = none (claims p (method_at p fr.method) d.origin d.fact) refl
+                        where
+                          none : (b : Bool) → claims p (method_at p fr.method) d.origin d.fact ≡ b → IsUnowned p k false (renewed o) old frs after q o y
+                          none false off = record { covers = d; here = here'; unowned = off }
+                          none true claimed = absurd (stops_claiming (inr (out.0, ap is_field_owner (if claimed).2.2)) owning)
 
-          keyed_by : (q : Place) → has (later c.fact.places) q ≡ true → IsKeyedFrom frs gives renewed More q o y
+          keyed_by : (q : Place) → has (later c.fact.places) q ≡ true → IsKeyedFrom old frs gives renewed More q o y
           unfolding covers_on
           keyed_by q is = go (claims p (method_at p fr.method) c.origin g) refl
             where
-              go : (b : Bool) → claims p (method_at p fr.method) c.origin g ≡ b → IsKeyedFrom frs gives renewed More q o y
+              go : (b : Bool) → claims p (method_at p fr.method) c.origin g ≡ b → IsKeyedFrom old frs gives renewed More q o y
               go true owning = inl (now, there q is, still_owned owning, inl (x, before, c, key, refl, on.1.1))
               go false none = inr (record { covers = now; here = there q is; unowned = none })
 
-        keyed_on : (q : Place) → has (later c.fact.places) q ≡ true → IsKeyedFrom frs gives renewed More q o y
+        keyed_on : (q : Place) → has (later c.fact.places) q ≡ true → IsKeyedFrom old frs gives renewed More q o y
         keyed_on q is = let on = goes_so q is in keyed_by on.0 on.1 q is
 
-        -- where no fact goes on owning it, and the frame owns it
-        freed_on : StopsOwning p h fr frs gives renewed More o → y.owner ≡ owners.Frame (length frs + 1) → (q : Place) → has (later c.fact.places) q ≡ true → IsUnowned p k false (renewed o) frs after q o y
+        -- where what goes on claims nothing
+        freed_on : Frees o y → (q : Place) → has (later c.fact.places) q ≡ true → IsUnowned p k false (renewed o) old frs after q o y
         unfolding covers_on
-        freed_on ends mine q is = by (goes_so q is)
+        freed_on why q is = by (goes_so q is)
           where
-            by : (g : Fact) × GoesSo g → IsUnowned p k false (renewed o) frs after q o y
+            by : (g : Fact) × GoesSo g → IsUnowned p k false (renewed o) old frs after q o y
             by (g, on) = record { covers = now g on; here = there g on q is; unowned = none (claims p (method_at p fr.method) c.origin g) refl }
               where
                 none : (b : Bool) → claims p (method_at p fr.method) c.origin g ≡ b → claims p (method_at p fr.method) c.origin g ≡ false
                 none false off = off
-                none true claimed = absurd (stops_claiming g on ends mine claimed)
+                none true claimed = absurd (stops_claiming g on why claimed)
 
       -- a place held it before
-      was_keyed : (z : Place) → IsSmall z → root_of h (place_value p h fr.method fr.locals z) ≡ Some o → IsKeyed p h away anew frs fr z o x
+      was_keyed : (z : Place) → IsSmall z → root_of h (place_value p h fr.method fr.locals z) ≡ Some o → IsKeyed p h away anew old frs fr z o x
       was_keyed z small held = covered z o x small held before wide owes
 
-      keyed_from : (q : Place) → ComesFrom q o → IsKeyedFrom frs gives renewed More q o y
+      keyed_from : (q : Place) → ComesFrom q o → IsKeyedFrom old frs gives renewed More q o y
       keyed_from q (z, small, held, goes_to) = by (was_keyed z small held)
         where
-          by : IsKeyed p h away anew frs fr z o x → IsKeyedFrom frs gives renewed More q o y
+          by : IsKeyed p h away anew old frs fr z o x → IsKeyedFrom old frs gives renewed More q o y
           by (owned c in' key) = keyed_on c key z small held q (goes_to c.fact.places in')
           by (unowned u) = inr (unowned_on z q u goes_to)
 
-      freed_from : StopsOwning p h fr frs gives renewed More o → y.owner ≡ owners.Frame (length frs + 1) → (q : Place) → ComesFrom q o → IsUnowned p k false (renewed o) frs after q o y
-      freed_from ends mine q (z, small, held, goes_to) = by (was_keyed z small held)
+      freed_from : Frees o y → (q : Place) → ComesFrom q o → IsUnowned p k false (renewed o) old frs after q o y
+      freed_from why q (z, small, held, goes_to) = by (was_keyed z small held)
         where
-          by : IsKeyed p h away anew frs fr z o x → IsUnowned p k false (renewed o) frs after q o y
-          by (owned c in' key) = freed_on c key z small held ends mine q (goes_to c.fact.places in')
+          by : IsKeyed p h away anew old frs fr z o x → IsUnowned p k false (renewed o) old frs after q o y
+          by (owned c in' key) = freed_on c key z small held why q (goes_to c.fact.places in')
           by (unowned u) = unowned_on z q u goes_to
 
     -- the object was there where a place held it
@@ -506,56 +601,117 @@ module _ (p : Program) (ac : Accept p) (h k : HeapContents) (links : HasEarlierL
       carried_from : (q : Place) → ComesFrom q o → IsCarried h o y
       carried_from q (z, small, held, goes_to) = carries o y at (numbered h links (place_value p h fr.method fr.locals z) o held (inside z small)).1
 
-      came : (q : Place) → ComesFrom q o → IsKeyedFrom frs gives renewed More q o y
+      came : (q : Place) → ComesFrom q o → IsKeyedFrom old frs gives renewed More q o y
       came q from = by (carried_from q from)
         where
-          by : IsCarried h o y → IsKeyedFrom frs gives renewed More q o y
+          by : IsCarried h o y → IsKeyedFrom old frs gives renewed More q o y
           by (x, before, class, goes) =
               keyed_from o x y before at class (ap (is_heavy_class p) (sym class) ∙ wide') (bore_before p h k others.holders o x y before goes owes') wide' owes' goes (ready from.0 o x y from.1 from.2 before at) q from
 
-      freed : StopsOwning p h fr frs gives renewed More o → y.owner ≡ owners.Frame (length frs + 1) → (q : Place) → ComesFrom q o → IsUnowned p k false (renewed o) frs after q o y
-      freed ends mine q from = by (carried_from q from)
+      freed : Frees o y → (q : Place) → ComesFrom q o → IsUnowned p k false (renewed o) old frs after q o y
+      freed why q from = by (carried_from q from)
         where
-          by : IsCarried h o y → IsUnowned p k false (renewed o) frs after q o y
+          by : IsCarried h o y → IsUnowned p k false (renewed o) old frs after q o y
           by (x, before, class, goes) =
-              freed_from o x y before at class (ap (is_heavy_class p) (sym class) ∙ wide') (bore_before p h k others.holders o x y before goes owes') wide' owes' goes (ready from.0 o x y from.1 from.2 before at) ends mine q from
+              freed_from o x y before at class (ap (is_heavy_class p) (sym class) ∙ wide') (bore_before p h k others.holders o x y before goes owes') wide' owes' goes (ready from.0 o x y from.1 from.2 before at) why q from
 
       -- a step makes one place
       one_made : (m : Option Place) (q z : Place) → is_made m q ≡ true → is_made m z ≡ true → q ≡ z
       one_made None q z one two = absurd (true≢false (sym one))
       one_made (Some u) q z one two = sym (single_place-same u q one) ∙ single_place-same u z two
 
-      makes : (q : Place) → IsSmall q → IsMadeAt q → IsMadeSo frs gives renewed More q o y → IsKeyedFrom frs gives renewed More q o y
+      makes : (q : Place) → IsSmall q → IsMadeAt q → IsMadeSo old frs gives renewed More q o y → IsKeyedFrom old frs gives renewed More q o y
       makes q less new (inr (inl free)) = inr free
       makes q less new (inr (inr from)) = came q from
       makes q less new (inl (d, in', mine, ends)) = go (claims p (method_at p fr.method) d.origin d.fact) refl
         where
-          each : (z : Place) → IsSmall z → root_of k (place_value p k after.method after.locals z) ≡ Some o → (has d.fact.places z ≡ true) ⊎ IsUnowned p k false (renewed o) frs after z o y
+          each : (z : Place) → IsSmall z → root_of k (place_value p k after.method after.locals z) ≡ Some o → (has d.fact.places z ≡ true) ⊎ IsUnowned p k false (renewed o) old frs after z o y
           each z small is = elim (origin_of_place z o small is) [
-            | inl from ↦ inr (freed ends mine z from)
-            | inr also ↦ inl (ap (has d.fact.places) (one_made (made_place s.action) z q also.2 new.2) ∙ in')
+            | inl from ↦ inr (freed (inl (ends, mine)) z from)
+            | inr other' ↦ elim other' [
+              | inl also ↦ inl (ap (has d.fact.places) (one_made (made_place s.action) z q also.2 new.2) ∙ in')
+              | inr out ↦ inr (left_out z small out is)
+            ]
           ]
+            where
+              left_out : (z : Place) → IsSmall z → IsLeftOut z → root_of k (place_value p k fr.method after.locals z) ≡ Some o → IsUnowned p k false (renewed o) old frs after z o y
+              left_out z small out is = by (bears z o y small out is at wide' owes')
+                where
+                  by : IsBornAnew old frs renewed z o y → IsUnowned p k false (renewed o) old frs after z o y
+                  by (e, here', if) = none (claims p (method_at p fr.method) e.origin e.fact) refl
+                    where
+                      none : (b : Bool) → claims p (method_at p fr.method) e.origin e.fact ≡ b → IsUnowned p k false (renewed o) old frs after z o y
+                      none false off = record { covers = e; here = here'; unowned = off }
+                      none true claimed = absurd (true≢false (sym (ap is_field_owner (if claimed).2.2) ∙ ap is_field_owner mine))
 
           -- it says that the frame owns the object, which no field then owns
           owned_so : claims p (method_at p fr.method) d.origin d.fact ≡ true → is_own d.fact.mode ≡ true
           owned_so claimed = elim (claims_by p (method_at p fr.method) d.origin d.fact claimed) [
             | inl own' ↦ own'
             | inr held' ↦ absurd (true≢false (sym (own_frame (length frs + 1) y.owner mine)
-                ∙ held_unowned p k false (renewed o) frs after o y d (held_finished p k false (renewed o) frs after o y d claimed held'.0) held'.0 held'.1 (length frs + 1)))
+                ∙ held_unowned p k false (renewed o) old frs after o y d (held_finished p k false (renewed o) old frs after o y d claimed held'.0) held'.0 held'.1 (claims_owned p (method_at p fr.method) d.origin d.fact claimed).0 (length frs + 1)))
           ]
 
-          go : (b : Bool) → claims p (method_at p fr.method) d.origin d.fact ≡ b → IsKeyedFrom frs gives renewed More q o y
-          go true owning = inl (d, in', record { owning = owning; owner = λ stays own'. mine; others = each }, inr (ends, owned_so owning))
+          go : (b : Bool) → claims p (method_at p fr.method) d.origin d.fact ≡ b → IsKeyedFrom old frs gives renewed More q o y
+          go true owning = inl (d, in', record { owning = owning; owner = λ stays own'. mine; others = each }, inr (inl (ends, owned_so owning)))
           go false none = inr (record { covers = d; here = in'; unowned = none })
 
+      -- the step creates the obligation of `this` anew, and bears the fact for a field
+      anew_at : (q : Place) → IsSmall q → IsLeftOut q → root_of k (place_value p k fr.method after.locals q) ≡ Some o → IsKeyedFrom old frs gives renewed More q o y
+      anew_at q small out held = by (bears q o y small out held at wide' owes')
+        where
+          by : IsBornAnew old frs renewed q o y → IsKeyedFrom old frs gives renewed More q o y
+          by (d, here', if) = go (claims p (method_at p fr.method) d.origin d.fact) refl
+            where
+              go : (b : Bool) → claims p (method_at p fr.method) d.origin d.fact ≡ b → IsKeyedFrom old frs gives renewed More q o y
+              go false none = inr (record { covers = d; here = here'; unowned = none })
+              go true claimed =
+                  inl (d, here', record { owning = claimed; owner = λ stays own'. absurd (true≢false (sym own' ∙ (if claimed).0)); others = each }, inr (inr (if claimed).1))
+                where
+                  field : (f : FieldId) × (w : ℕ) × (y.owner ≡ owners.Field w f) × (place_of_field p f ≡ q)
+                  field = (if claimed).2
+
+                  frees : Frees o y
+                  frees = inr (out.0, ap is_field_owner field.2)
+
+                  makes_other : (z : Place) → IsMadeSo old frs gives renewed More z o y → IsUnowned p k false (renewed o) old frs after z o y
+                  makes_other z (inl (e, in', mine, ends)) = absurd (true≢false (sym (ap is_field_owner field.2) ∙ ap is_field_owner mine))
+                  makes_other z (inr (inl free)) = free
+                  makes_other z (inr (inr from)) = freed frees z from
+
+                  same_field : (f g : FieldId) (v w : ℕ) → owners.Field v f ≡ owners.Field w g → f ≡ g
+                  same_field f g v w both = cc
+
+                  bears_other : (z : Place) → IsBornAnew old frs renewed z o y → (has d.fact.places z ≡ true) ⊎ IsUnowned p k false (renewed o) old frs after z o y
+                  bears_other z (e, in', if') = each' (claims p (method_at p fr.method) e.origin e.fact) refl
+                    where
+                      each' : (b : Bool) → claims p (method_at p fr.method) e.origin e.fact ≡ b → (has d.fact.places z ≡ true) ⊎ IsUnowned p k false (renewed o) old frs after z o y
+                      each' false off = inr (record { covers = e; here = in'; unowned = off })
+                      each' true also =
+                          let other' = (if' also).2 in
+                          let same : other'.0 ≡ field.0 = same_field other'.0 field.0 other'.1 field.1 (sym other'.2 ∙ field.2) in
+                          inl (ap (has d.fact.places) (sym other'.3 ∙ ap (place_of_field p) same ∙ field.3) ∙ here')
+
+                  each : (z : Place) → IsSmall z → root_of k (place_value p k after.method after.locals z) ≡ Some o → (has d.fact.places z ≡ true) ⊎ IsUnowned p k false (renewed o) old frs after z o y
+                  each z small' is = elim (origin_of_place z o small' is) [
+                    | inl from ↦ inr (freed frees z from)
+                    | inr other' ↦ elim other' [
+                      | inl new ↦ inr (makes_other z (made z o y small' new.0 new.1 new.2 new.3 (ap (root_of k) (sym new.3) ∙ is) at wide' owes'))
+                      | inr out' ↦ bears_other z (bears z o y small' out' is at wide' owes')
+                    ]
+                  ]
+
     pub top_from : (q : Place) (o : ℕ) (y : Object) → IsSmall q → root_of k (place_value p k after.method after.locals q) ≡ Some o → object_at k o ≡ Some y → is_heavy_class p y.class ≡ true → OwesOrHolds p k o y
-        → IsKeyedFrom frs gives renewed More q o y
+        → IsKeyedFrom old frs gives renewed More q o y
     top_from q o y small held at heavy owes = elim (origin_of_place q o small held) [
       | inl from ↦ came o y at heavy owes q from
-      | inr new ↦ makes o y at heavy owes q small new (made q o y small new.0 new.1 new.2 new.3 (ap (root_of k) (sym new.3) ∙ held) at heavy owes)
+      | inr other' ↦ elim other' [
+        | inl new ↦ makes o y at heavy owes q small new (made q o y small new.0 new.1 new.2 new.3 (ap (root_of k) (sym new.3) ∙ held) at heavy owes)
+        | inr out ↦ anew_at o y at heavy owes q small out held
+      ]
     ]
 
-    pub top_covered : IsCovered p k gives_none renewed frs after
+    pub top_covered : IsCovered p k gives_none (λ o owner. renewed o) old frs after
     top_covered q o y small held at heavy owes = elim (top_from q o y small held at heavy owes) [
       | inl key ↦ owned key.0 key.1 key.2
       | inr free ↦ unowned free

@@ -1,11 +1,11 @@
--- What a constructor has in a field of `this`: its object is not finished, and no frame below runs on it.
+-- What a constructor has in a field of `this`: its object is not finished.
 use Rattle.covering_laws.proofs.LocalSteps.{LocalsIn}
 use Rattle.value_laws.proofs.Chains.{object_there}
 use Rattle.value_laws.specs.Ranges.{LocalsInRange}
 use Rattle.ledger_state.specs.Values.{number_of}
 use Rattle.program_model.specs.declared.kinds.ClassId.{ClassId}
 use Rattle.std.proofs.lemmas.List.Elements.{All-head, All-tail}
-use Rattle.std.proofs.Common.{List, None, Option, Some, [], ap, eqb-true, false, inl, inr, length, refl, sym, true, true≢false, ℕ, ◌+◌, ◌∙◌, ◌∷◌, ◌≡◌}
+use Rattle.std.proofs.Common.{List, None, Option, Some, [], ap, eqb-true, false, refl, sym, true, true≢false, ℕ, ◌∙◌, ◌∷◌, ◌≡◌}
 use Rattle.std.specs.Prelude.{not}
 use Rattle.std.proofs.lemmas.Bool.{and_parts}
 use Rattle.program_model.specs.declared.kinds.FieldId.{FieldId}
@@ -19,14 +19,11 @@ use Rattle.ledger_obligations.specs.Obligations.{finished_in, is_held_by}
 use Rattle.ledger_state.specs.Contents.{HeapContents}
 use Rattle.ledger_state.specs.Heaps.{object_at, unfinished}
 use Rattle.ledger_state.specs.declared.entry.Owner.{Owner}
-use Rattle.ledger_state.specs.declared.entry.Owner.TheVariants as owners
 use Rattle.ledger_state.specs.declared.object.Object.{Object}
 use Rattle.ledger_state.specs.declared.value.Value.TheVariants as values
 use Rattle.value_laws.specs.Configuration.{Frame}
-use Rattle.value_laws.specs.FieldContents.{AreNew, AreUnfinished, DeclaresOwning, RunOnOthers}
-use Rattle.value_laws.specs.PlaceFacts.{RunsOn, is_frame_below}
-use Rattle.value_laws.specs.Renewing.{IsHeldBy, IsLentFrom, is_declared_beside}
-use Rattle.covering_laws.proofs.Owners.{IsHeldAmong, lent_owner}
+use Rattle.value_laws.specs.FieldContents.{AreUnfinished, DeclaresOwning}
+use Rattle.value_laws.specs.Renewing.{IsHeldBy, is_declared_beside}
 
 declares : (p : Program) (m : MethodId) (f : FieldId) → is_declared_beside p m (field_at p f) ≡ true → DeclaresOwning p m
 declares p m f is = go (field_at p f) refl is
@@ -35,25 +32,12 @@ declares p m f is = go (field_at p f) refl is
     go None at none = absurd (true≢false (sym none))
     go (Some x) at some = let parts = and_parts x.owning (is_class_of x.class (method_at p m)) some in (f, x, at, parts.0, parts.1)
 
--- what a field owns no frame does
-held_not_below : (i : ℕ) (a : Owner) (w : ℕ) → is_held_by a w ≡ true → is_frame_below i a ≡ true → ⊥
-held_not_below i (owners.Field v f) w held low = true≢false (sym low)
-held_not_below i (owners.Frame n) w held low = true≢false (sym held)
-held_not_below i owners.Library w held low = true≢false (sym held)
-held_not_below i owners.Released w held low = true≢false (sym held)
-held_not_below i owners.Lost w held low = true≢false (sym held)
-held_not_below i owners.Unowned w held low = true≢false (sym held)
-
 module _ (p : Program) where
   held_constructs : (fr : Frame) (a : Owner) → IsHeldBy p fr a → constructs (method_at p fr.method) ≡ true
   held_constructs fr a held = (and_parts (constructs (method_at p fr.method)) (not (is_present (alias_in (method_at p fr.method)))) held.0).0
 
   held_runs : (fr : Frame) (a : Owner) (w : ℕ) → is_held_by a w ≡ true → IsHeldBy p fr a → fr.locals.this ≡ values.Object w
   held_runs fr a w is held = held.1.runs ∙ ap values.Object (eqb-true held.1.holder w (sym (ap (λ (o : Owner). is_held_by o w) held.1.owns) ∙ is))
-
-  -- no frame below runs on it
-  pub held_apart : (fr : Frame) (frs : List Frame) (a : Owner) (w : ℕ) → is_held_by a w ≡ true → AreNew p (fr ∷ frs) → IsHeldBy p fr a → RunOnOthers w frs
-  held_apart fr frs a w is news held = news.0 w (declares p fr.method held.1.field held.1.declared) (held_constructs fr a held) (held_runs fr a w is held)
 
   module _ (h : HeapContents) where
     -- the object is not finished
@@ -66,30 +50,6 @@ module _ (p : Program) where
         go : (y : Option Object) → object_at h w ≡ y → finished_in (object_at h w) ≡ false
         go None none = ap finished_in none
         go (Some y) there = ap finished_in there ∙ unready.0 w y (declares p fr.method held.1.field held.1.declared) (held_constructs fr a held) this there
-
-    among_runs : (frs : List Frame) (a : Owner) (w : ℕ) → is_held_by a w ≡ true → IsHeldAmong p frs a → RunsOn w frs
-    among_runs [] a w is held = absurd held
-    among_runs (fr ∷ frs) a w is (inl held) = inl (held_runs fr a w is held)
-    among_runs (fr ∷ frs) a w is (inr further) = inr (among_runs frs a w is further)
-
-    -- a frame below runs on the object of a field that owns what is lent
-    pub lent_runs : (frs : List Frame) (o : ℕ) (a : Owner) (w : ℕ) → is_held_by a w ≡ true → IsLentFrom p h frs o a → RunsOn w frs
-    lent_runs frs o a w is lent = elim (lent_owner p h frs o a lent) [
-      | inl low ↦ absurd (held_not_below (length frs + 1) a w is low)
-      | inr held ↦ among_runs frs a w is held
-    ]
-
-    among_unready : (frs : List Frame) (a : Owner) (w : ℕ) → is_held_by a w ≡ true → AreUnfinished p h frs → IsHeldAmong p frs a → (finished_in (object_at h w) ≡ false) × RunsOn w frs
-    among_unready [] a w is unready held = absurd held
-    among_unready (fr ∷ frs) a w is unready (inl held) = let it = held_unready fr frs a w is unready held in (it.0, inl it.1)
-    among_unready (fr ∷ frs) a w is unready (inr further) = let it = among_unready frs a w is unready.1 further in (it.0, inr it.1)
-
-    -- nor is that of a field that owns what is lent, and a frame below runs on it
-    pub lent_unready : (frs : List Frame) (o : ℕ) (a : Owner) (w : ℕ) → is_held_by a w ≡ true → AreUnfinished p h frs → IsLentFrom p h frs o a → (finished_in (object_at h w) ≡ false) × RunsOn w frs
-    lent_unready frs o a w is unready lent = elim (lent_owner p h frs o a lent) [
-      | inl low ↦ absurd (held_not_below (length frs + 1) a w is low)
-      | inr held ↦ among_unready frs a w is unready held
-    ]
 
 -- the objects of constructors stay unfinished over a step that finishes none
 pub unfinished_kept : (p : Program) (h k : HeapContents) → ((o : ℕ) (x y : Object) → object_at h o ≡ Some x → object_at k o ≡ Some y → x.finished ≡ false → y.finished ≡ false) → (frs : List Frame) → LocalsIn h frs → AreUnfinished p h frs → AreUnfinished p k frs

@@ -7,6 +7,7 @@ use Rattle.program_model.specs.declared.kinds.ClassId.{ClassId}
 use Rattle.program_model.specs.declared.kinds.FieldId.{FieldId}
 use Rattle.program_model.specs.declared.kinds.MethodId.{MethodId}
 use Rattle.program_model.specs.declared.program.Program.{Program}
+use Rattle.ledger_obligations.specs.Bodies.{constructs}
 use Rattle.ledger_obligations.specs.MustCallSets.{Names, fits, is_heavy_class, must_of}
 use Rattle.java_control.specs.Owned.{is_owning}
 use Rattle.java_control.specs.PlaceNumbers.{IsSmall}
@@ -20,6 +21,7 @@ use Rattle.ledger_state.specs.Fields.{field_of, field_value}
 use Rattle.ledger_state.specs.Heaps.{next_number, object_at, root, root_of, unfinished}
 use Rattle.ledger_state.specs.Values.{number_of}
 use Rattle.ledger_state.specs.declared.locals.Locals.{Locals}
+use Rattle.ledger_state.specs.declared.entry.Owner.{Owner}
 use Rattle.ledger_state.specs.declared.object.Object.{Object}
 use Rattle.ledger_state.specs.declared.value.Value.{Value}
 use Rattle.ledger_state.specs.declared.value.Value.TheVariants as values
@@ -30,15 +32,15 @@ use Rattle.java_control.specs.Owned.{fields_in}
 use Rattle.value_laws.specs.Heaps.{GoesOn, HasEarlierLinks, KeepsLinks}
 use Rattle.value_laws.proofs.HeapLaws.{numbers_are_in_range, roots_go_on-number, roots_of_links-absent, roots_of_links-itself, roots_of_links-there}
 use Rattle.ledger_obligations.specs.Obligations.{is_library_owner}
-use Rattle.value_laws.specs.PlaceFacts.{AreWaiting, Covers, IsCovered, IsInField, IsKeyed, IsOwned, IsTrueOf, IsUnowned, OwesOrHolds, asked_of, is_given, is_owning_fact, may_owe, owned, unowned}
+use Rattle.value_laws.specs.PlaceFacts.{AreWaiting, Covers, HasOwningField, IsCovered, IsInField, IsKeyed, IsOld, IsOwned, IsTrueOf, IsUnowned, OwesOrHolds, asked_of, is_given, is_owning_fact, may_owe, owned, takes_nothing, unowned}
 use Rattle.covering_laws.proofs.HeavyFields.{claims_owned, known_on, owning_in_no_field}
-use Rattle.covering_laws.proofs.InFields.{held_heavy, held_in_field, held_kept}
-use Rattle.value_laws.specs.Renewing.{fact_as, is_renewed}
+use Rattle.covering_laws.proofs.InFields.{held_in_field, held_kept}
+use Rattle.value_laws.specs.Renewing.{fact_as, is_reread}
 use Rattle.value_laws.specs.Ranges.{IsInRange, IsNumber}
 use Rattle.covering_laws.specs.Making.{HoldNone}
 use Rattle.covering_laws.specs.TextUpdates.{HoldsOrTakesText, IsLight}
 use Rattle.covering_laws.proofs.TextStores.{light_root, no_root}
-use Rattle.covering_laws.proofs.Owners.{AllKeepGifts, AllKeepOwners, HoldersWere, KeepsGifts, KeepsGiven, KeepsOwners, apart_before, given_kept, is_field_place, lent_after, KeepsFinished, keeps_finished}
+use Rattle.covering_laws.proofs.Owners.{AllKeepGifts, AllKeepOwners, HoldersWere, KeepsContents, KeepsFinished, KeepsGifts, KeepsOwners, WaysGo, apart_before, is_field_place, keeps_finished, old_kept}
 use Rattle.value_laws.proofs.Chains.{object_there}
 use Rattle.value_laws.proofs.FieldPlaces.{passes}
 use Rattle.java_control.specs.declared.fact.Mode.{Mode}
@@ -296,9 +298,10 @@ HoldsThere p h fr = (q : Place) → IsSmall q → IsInRange h (place_value p h f
 abbrev pub KeepsRootsOf : Program → HeapContents → HeapContents → Frame → Type 0
 KeepsRootsOf p h k fr = (q : Place) → IsSmall q → root_of k (place_value p h fr.method fr.locals q) ≡ root_of h (place_value p h fr.method fr.locals q)
 
-module _ (p : Program) (h k : HeapContents) (gives : ℕ → ClassId → Bool) (renewed : ℕ → Bool) (frs : List Frame) (fr : Frame) (roots : KeepsRootsOf p h k fr) (same : KeepsPlaces p h k fr)
+module _ (p : Program) (h k : HeapContents) (gives : ℕ → ClassId → Bool) (renewed renewed' : ℕ → Owner → Bool) (old : ℕ → Bool) (frs : List Frame) (fr : Frame) (roots : KeepsRootsOf p h k fr) (same : KeepsPlaces p h k fr)
     (was : (q : Place) (o : ℕ) (y : Object) → IsSmall q → root_of h (place_value p h fr.method fr.locals q) ≡ Some o → object_at k o ≡ Some y → IsCarried h o y) (ready : KeepsReady p h k fr)
-    (gifts : KeepsGiven p h k frs) (keeps : KeepsOwners p h k gives frs fr) where
+    (keeps : KeepsOwners p h k gives frs fr)
+    (alike : (o : ℕ) (x y : Object) → object_at h o ≡ Some x → object_at k o ≡ Some y → is_heavy_class p x.class ≡ true → renewed' o y.owner ≡ renewed o x.owner) where
   root_before : (q : Place) (o : ℕ) → IsSmall q → root_of k (place_value p k fr.method fr.locals q) ≡ Some o → root_of h (place_value p h fr.method fr.locals q) ≡ Some o
   root_before q o small is = sym (roots q small) ∙ ap (root_of k) (sym (kept_root p h k _ _ o (same q small) is)) ∙ is
 
@@ -309,7 +312,7 @@ module _ (p : Program) (h k : HeapContents) (gives : ℕ → ClassId → Bool) (
   -- a finished object goes on
   module _ (o : ℕ) (x y : Object) (before : object_at h o ≡ Some x) (at : object_at k o ≡ Some y) (class : y.class ≡ x.class) (heavy : is_heavy_class p x.class ≡ true) (goes : x.finished ≡ true → Continues x y)
       (done : y.finished ≡ true → x.finished ≡ true) (away anew : Bool) (spared : away ≡ false → gives o x.class ≡ false) where
-    pub covers_after : Covers p h away anew frs fr o x → Covers p k away anew frs fr o y
+    pub covers_after : Covers p h away anew old frs fr o x → Covers p k away anew old frs fr o y
     covers_after c = record {
       body = c.body;
       id = c.id;
@@ -320,36 +323,30 @@ module _ (p : Program) (h k : HeapContents) (gives : ℕ → ClassId → Bool) (
       places = λ z small' is. root_after z o x small' (c.places z small' is) before heavy;
       true' = λ claimed spared. still_true p x y c.origin (fact_as anew c.fact) (goes (c.true' claimed spared).finished).0 (c.true' claimed spared);
       lent = c.lent;
-      free = λ finished held alone.
-          let was = held_in_field p h away anew frs fr o x c (done finished) held alone in (
-            held_kept p h away anew frs fr o x c (done finished) held alone,
-            held_heavy p h away anew frs fr o x c (done finished) held alone,
+      free = λ finished held alone claims.
+          let was = held_in_field p h away anew old frs fr o x c (done finished) held alone claims in (
+            held_kept p h away anew old frs fr o x c (done finished) held alone claims,
             subst (IsInField p fr c.fact.places) (sym (keeps.held o x y before at (done finished) heavy alone was.0)) was,
           );
-      lends = λ is finished. (let was = c.lends is (done finished) in (was.0, lent_after p h k frs o x.owner y.owner gifts (keeps.others.keeps o x y before at (done finished) heavy) was.1));
+      lends = λ is finished. (let was = c.lends is (done finished) in (was.0, (keeps.others.keeps o x y before at (done finished) heavy was.1).1));
       makes = λ constructor this. still_unfinished x y done (c.makes constructor this);
-      unrenewed = λ finished tells is.
+      complete = λ lent other fields. (let was = c.complete lent other (subst (HasOwningField p) class fields) in (goes was).0.finished ∙ was);
+      unrenewed = λ finished tells was is. c.unrenewed (done finished) tells was (keeps.others.spared o x before (done finished, heavy) is);
+      known = λ finished tells is stays.
           let was_done = done finished in
-          c.unrenewed was_done tells (apart_before p h k frs fr o x y c.fact c.fact gifts class (λ held. held) (λ plain own. keeps.others.content o x y before at was_done heavy plain own) (λ low. keeps.others.low o x y before at was_done heavy low) is);
-      known = λ finished tells is.
-          let was_done = done finished in
-          let known = c.known was_done tells (apart_before p h k frs fr o x y c.fact c.fact gifts class (λ held. held) (λ plain own. keeps.others.content o x y before at was_done heavy plain own) (λ low. keeps.others.low o x y before at was_done heavy low) is) in (
-            known.0,
-            keeps.others.apart o x y before at was_done heavy known.1,
-            known_on c.fact.called (asked_of p (method_at p fr.method) c.origin.kind) x.called y.called known.2 (goes was_done).0.called,
-            keeps.others.older o x y before at was_done heavy known.1 known.3,
-          );
+          known_on c.fact.called (asked_of p (method_at p fr.method) c.origin.kind) x.called y.called
+          (c.known was_done tells (apart_before p h k old frs fr o x y c.fact c.fact keeps.others before at was_done heavy (λ held. held) is) stays) (goes was_done).0.called;
       fields = c.fields;
       held = c.held;
       outside = c.outside;
     }
 
-    unowned_after : (q : Place) → IsUnowned p h away anew frs fr q o x → IsUnowned p k away anew frs fr q o y
+    unowned_after : (q : Place) → IsUnowned p h away anew old frs fr q o x → IsUnowned p k away anew old frs fr q o y
     unfolding covers_after
     unowned_after q u = record { covers = covers_after u.covers; here = u.here; unowned = u.unowned }
 
-    owned_after : (q : Place) → IsSmall q → root_of h (place_value p h fr.method fr.locals q) ≡ Some o → (c : Covers p h away anew frs fr o x) → has c.fact.places q ≡ true → IsOwned p h away anew frs fr o x c
-        → IsOwned p k away anew frs fr o y (covers_after c)
+    owned_after : (q : Place) → IsSmall q → root_of h (place_value p h fr.method fr.locals q) ≡ Some o → (c : Covers p h away anew old frs fr o x) → has c.fact.places q ≡ true → IsOwned p h away anew old frs fr o x c
+        → IsOwned p k away anew old frs fr o y (covers_after c)
     unfolding covers_after
     owned_after q small held c here key = record {
       owning = key.owning;
@@ -359,32 +356,33 @@ module _ (p : Program) (h k : HeapContents) (gives : ℕ → ClassId → Bool) (
     }
       where
         part : is_own c.fact.mode ≡ true → (z : Place) → IsSmall z → has c.fact.places z ≡ true → is_field_place z ≡ false
-        part own (places.Field n) inside there = absurd (owning_in_no_field p h away anew frs fr o x c (and_from (is_heavy_class p c.origin.class) (is_own c.fact.mode) (claims_owned p (method_at p fr.method) c.origin c.fact key.owning).0 own) n inside there)
+        part own (places.Field n) inside there = absurd (owning_in_no_field p h away anew old frs fr o x c (and_from (is_heavy_class p c.origin.class) (is_own c.fact.mode) (claims_owned p (method_at p fr.method) c.origin c.fact key.owning).0 own) n inside there)
         part own (places.Var i) inside there = refl
         part own places.This inside there = refl
         part own (places.Temp d) inside there = refl
         part own places.Super inside there = refl
 
-    pub keyed_after : (q : Place) → IsSmall q → root_of h (place_value p h fr.method fr.locals q) ≡ Some o → IsKeyed p h away anew frs fr q o x → IsKeyed p k away anew frs fr q o y
+    pub keyed_after : (q : Place) → IsSmall q → root_of h (place_value p h fr.method fr.locals q) ≡ Some o → IsKeyed p h away anew old frs fr q o x → IsKeyed p k away anew old frs fr q o y
     unfolding covers_after
     keyed_after q small held (owned c here key) = owned (covers_after c) here (owned_after q small held c here key)
     keyed_after q small held (unowned u) = unowned (unowned_after q u)
 
-  pub stays_covered : IsCovered p h gives renewed frs fr → IsCovered p k gives renewed frs fr
+  pub stays_covered : IsCovered p h gives renewed old frs fr → IsCovered p k gives renewed' old frs fr
   stays_covered covered q o y small root at heavy owes = by (was q o y small (root_before q o small root) at)
     where
-      by : IsCarried h o y → IsKeyed p k (gives o y.class) (renewed o) frs fr q o y
+      by : IsCarried h o y → IsKeyed p k (gives o y.class) (renewed' o y.owner) old frs fr q o y
       by (x, before, class, goes) =
           let heavy' : is_heavy_class p x.class ≡ true = ap (is_heavy_class p) (sym class) ∙ heavy in
           let root' = root_before q o small root in
-          subst (λ (c : ClassId). IsKeyed p k (gives o c) (renewed o) frs fr q o y) (sym class)
-          (keyed_after o x y before at class heavy' goes (ready q o x y small root' before at) (gives o x.class) (renewed o) (λ none. none) q small root' (covered q o x small root' before heavy' (bore_before p h k keeps.others.holders o x y before goes owes)))
+          subst (λ (b : Bool). IsKeyed p k (gives o y.class) b old frs fr q o y) (sym (alike o x y before at heavy'))
+          (subst (λ (c : ClassId). IsKeyed p k (gives o c) (renewed o x.owner) old frs fr q o y) (sym class)
+          (keyed_after o x y before at class heavy' goes (ready q o x y small root' before at) (gives o x.class) (renewed o x.owner) (λ none. none) q small root' (covered q o x small root' before heavy' (bore_before p h k keeps.others.holders o x y before goes owes))))
 
 -- what is covered where these objects are given away, and of these the obligations created anew, is so where the same ones are
-pub given_alike : (p : Program) (h : HeapContents) (f g : ℕ → ClassId → Bool) (d e : ℕ → Bool) (frs : List Frame) (fr : Frame) → ((o : ℕ) (c : ClassId) → g o c ≡ f o c) → ((o : ℕ) → e o ≡ d o) → IsCovered p h f d frs fr
-    → IsCovered p h g e frs fr
-given_alike p h f g d e frs fr same alike covered q o x small root at heavy owes =
-    subst (λ (b : Bool). IsKeyed p h (g o x.class) b frs fr q o x) (sym (alike o)) (subst (λ (b : Bool). IsKeyed p h b (d o) frs fr q o x) (sym (same o x.class)) (covered q o x small root at heavy owes))
+pub given_alike : (p : Program) (h : HeapContents) (f g : ℕ → ClassId → Bool) (d e : ℕ → Owner → Bool) (old : ℕ → Bool) (frs : List Frame) (fr : Frame) → ((o : ℕ) (c : ClassId) → g o c ≡ f o c) → ((o : ℕ) (x : Object) → object_at h o ≡ Some x → e o x.owner ≡ d o x.owner)
+    → IsCovered p h f d old frs fr → IsCovered p h g e old frs fr
+given_alike p h f g d e old frs fr same alike covered q o x small root at heavy owes =
+    subst (λ (b : Bool). IsKeyed p h (g o x.class) b old frs fr q o x) (sym (alike o x at)) (subst (λ (b : Bool). IsKeyed p h b (d o x.owner) old frs fr q o x) (sym (same o x.class)) (covered q o x small root at heavy owes))
 
 abbrev pub AllKeep : Program → HeapContents → HeapContents → List Frame → Type 0
 AllKeep p h k [] = Unit {0}
@@ -422,23 +420,57 @@ all_keep_other_roots p h k w roots (fr ∷ frs) inside none = (
   all_keep_other_roots p h k w roots frs inside.1 none.1,
 )
 
-module _ (p : Program) (h k : HeapContents) (links : HasEarlierLinks h) (carries : Carries h k) where
-  waits_on : (frs : List Frame) (fr : Frame) → KeepsRootsOf p h k fr → KeepsPlaces p h k fr → HoldsThere p h fr → KeepsReady p h k fr → KeepsGifts p h k fr → KeepsGiven p h k frs → KeepsOwners p h k (is_given p h fr) frs fr
-      → IsCovered p h (is_given p h fr) (is_renewed p h fr) frs fr → IsCovered p k (is_given p k fr) (is_renewed p k fr) frs fr
-  waits_on frs fr roots same inside ready mine gifts keeps covered = given_alike p k (is_given p h fr) (is_given p k fr) (is_renewed p h fr) (is_renewed p k fr) frs fr (λ o. (mine o).0) (λ o. (mine o).1)
-      (stays_covered p h k (is_given p h fr) (is_renewed p h fr) frs fr roots same
-      (λ q o y small root at. carries o y at (numbered h links (place_value p h fr.method fr.locals q) o root (inside q small)).1) ready gifts keeps covered)
+-- each object goes on, of its class, and finished if it was
+abbrev pub AllGoOn : Program → HeapContents → HeapContents → Type 0
+AllGoOn p h k = (o : ℕ) (x : Object) → object_at h o ≡ Some x → (y : Object) × (object_at k o ≡ Some y) × (y.class ≡ x.class) × (x.finished ≡ true → y.finished ≡ true)
+
+pub ways_go_on : (p : Program) (into : Option ℕ) (below : List Frame) (j : ℕ) (h k : HeapContents) → WaysGo p into below j h k → AllGoOn p h k
+ways_go_on p into below j h k ways o x at = let y = ways.objects o x at in (y.0, y.1, y.2, λ done. (y.3 done).0)
+
+-- what is old is so for the frame as it goes on
+pub old_as : (p : Program) (k : HeapContents) (old : ℕ → Bool) (frs : List Frame) (fr after : Frame) → after.locals.this ≡ fr.locals.this → after.method ≡ fr.method → IsOld p k frs fr old → IsOld p k frs after old
+old_as p k old frs fr after this method is = record {
+  there = is.there;
+  ends = is.ends;
+  strict = is.strict;
+  contents = λ o x at heavy content takes.
+      is.contents o x at heavy (record {
+        holder = content.holder;
+        field = content.field;
+        runs = sym this ∙ content.runs;
+        owns = content.owns;
+        method = ap (λ (m : MethodId). constructs (method_at p m)) (sym method) ∙ content.method;
+      }) (ap (λ (m : MethodId). takes_nothing p (method_at p m)) (sym method) ∙ takes);
+}
+
+-- the frame reads the same facts anew
+pub reread_alike : (p : Program) (h k : HeapContents) (fr : Frame) → root_of k fr.locals.this ≡ root_of h fr.locals.this → KeepsGifts p h k fr → KeepsContents p h k fr
+    → (o : ℕ) (x y : Object) → object_at h o ≡ Some x → object_at k o ≡ Some y → is_heavy_class p x.class ≡ true → is_reread p k fr o y.owner ≡ is_reread p h fr o x.owner
+reread_alike p h k fr same gifts contents o x y before at heavy = (gifts o).1
+
+module _ (p : Program) (h k : HeapContents) (links : HasEarlierLinks h) (carries : Carries h k) (goes : AllGoOn p h k) where
+  waits_on : (old : ℕ → Bool) (frs : List Frame) (fr : Frame) → KeepsRootsOf p h k fr → KeepsPlaces p h k fr → HoldsThere p h fr → KeepsReady p h k fr → KeepsGifts p h k fr → KeepsOwners p h k (is_given p h fr) frs fr
+      → IsCovered p h (is_given p h fr) (is_reread p h fr) old frs fr → IsCovered p k (is_given p k fr) (is_reread p k fr) old frs fr
+  waits_on old frs fr roots same inside ready mine keeps covered = given_alike p k (is_given p h fr) (is_given p k fr) (is_reread p k fr) (is_reread p k fr) old frs fr (λ o. (mine o).0) (λ o x at. refl)
+      (stays_covered p h k (is_given p h fr) (is_reread p h fr) (is_reread p k fr) old frs fr roots same
+      (λ q o y small root at. carries o y at (numbered h links (place_value p h fr.method fr.locals q) o root (inside q small)).1) ready keeps (reread_alike p h k fr (roots places.This tt) mine keeps.reread) covered)
 
   -- frames that wait stay covered
-  pub all_wait_on : (frs : List Frame) → AllKeepRoots p h k frs → AllKeep p h k frs → AllThere p h frs → AllReady p h k frs → AllKeepGifts p h k frs → AllKeepOwners p h k frs → AreWaiting p h frs → AreWaiting p k frs
-  all_wait_on [] roots same inside ready gifts keeps covered = tt
-  all_wait_on (fr ∷ frs) roots same inside ready gifts keeps covered =
-      (waits_on frs fr roots.0 same.0 inside.0 ready.0 gifts.0 (given_kept p h k frs gifts.1) keeps.0 covered.0, all_wait_on frs roots.1 same.1 inside.1 ready.1 gifts.1 keeps.1 covered.1)
+  pub all_wait_on : (above : ℕ → Bool) (frs : List Frame) → AllKeepRoots p h k frs → AllKeep p h k frs → AllThere p h frs → AllReady p h k frs → AllKeepGifts p h k frs → AllKeepOwners p h k frs → AreWaiting p h above frs
+      → AreWaiting p k above frs
+  all_wait_on above [] roots same inside ready gifts keeps covered = tt
+  all_wait_on above (fr ∷ frs) roots same inside ready gifts keeps (old, up, is, covered, rest) = (
+    old,
+    up,
+    old_kept p h k old frs fr keeps.0.others goes is,
+    waits_on old frs fr roots.0 same.0 inside.0 ready.0 gifts.0 keeps.0 covered,
+    all_wait_on old frs roots.1 same.1 inside.1 ready.1 gifts.1 keeps.1 rest,
+  )
 
-module _ (p : Program) (h k : HeapContents) (links : HasEarlierLinks h) (roots : KeepsRoots h k) (carries : Carries h k) where
+module _ (p : Program) (h k : HeapContents) (links : HasEarlierLinks h) (roots : KeepsRoots h k) (carries : Carries h k) (goes : AllGoOn p h k) where
   -- where all roots stay
-  pub all_wait : (frs : List Frame) → AllKeep p h k frs → AllThere p h frs → AllReady p h k frs → AllKeepGifts p h k frs → AllKeepOwners p h k frs → AreWaiting p h frs → AreWaiting p k frs
-  all_wait frs same inside = all_wait_on p h k links carries frs (all_keep_roots p h k roots frs inside) same inside
+  pub all_wait : (above : ℕ → Bool) (frs : List Frame) → AllKeep p h k frs → AllThere p h frs → AllReady p h k frs → AllKeepGifts p h k frs → AllKeepOwners p h k frs → AreWaiting p h above frs → AreWaiting p k above frs
+  all_wait above frs same inside = all_wait_on p h k links carries goes above frs (all_keep_roots p h k roots frs inside) same inside
 
 -- all frames keep their places where owning fields hold what they held
 pub all_keep_but_texts : (p : Program) (h k : HeapContents) → KeepsFieldsButTexts p h k → (frs : List Frame) → AllKeep p h k frs

@@ -2,7 +2,7 @@
 use Rattle.covering_laws.proofs.OwnerSteps.{own_frame}
 use Rattle.covering_laws.proofs.Owners.{lent_not_from}
 use Rattle.covering_laws.proofs.InFields.{held_by_this}
-use Rattle.covering_laws.proofs.RenewedOperands.{claims_or_lends}
+use Rattle.covering_laws.proofs.RenewedOperands.{HoldsLent, IsHeldAnew, claims_or_lends}
 use Rattle.std.proofs.Common.{Bool, List, None, Option, Some, ap, arith, eqb-true, false, inl, inr, length, refl, slice_get, subst, sym, true, true≢false, ℕ, ◌&&◌, ◌+◌, ◌<◌, ◌||◌, ◌∙◌, ◌≡◌, ◌⊎◌}
 use Rattle.std.specs.FinSet as set
 use Rattle.std.proofs.lemmas.Bool.{and_from, and_parts}
@@ -30,6 +30,7 @@ use Rattle.ownership_rules.specs.declared.moved.Moved.TheVariants as moves
 use Rattle.ownership_rules.proofs.SmallOperands.{operand_has_room}
 use Rattle.ledger_state.specs.Contents.{HeapContents}
 use Rattle.ledger_state.specs.Heaps.{object_at, root_of}
+use Rattle.ledger_state.specs.declared.entry.Owner.{Owner}
 use Rattle.ledger_state.specs.declared.entry.Owner.TheVariants as owners
 use Rattle.ledger_state.specs.declared.object.Object.{Object}
 use Rattle.value_laws.specs.Accept.{Accept}
@@ -43,7 +44,7 @@ use Rattle.value_laws.specs.PlaceFacts.{Covers, IsCovered, IsKeyed, IsOwned, cla
 use Rattle.value_laws.specs.PlacePlaces.{HasPlacesAlone, is_local}
 use Rattle.value_laws.specs.Places.{place_value}
 use Rattle.value_laws.specs.PlainForms.{HasPlainForms}
-use Rattle.value_laws.specs.Renewing.{IsHeldBy, IsLentFrom, fact_as, is_renewed, makes_alone, renews}
+use Rattle.value_laws.specs.Renewing.{IsHeldBy, IsHeldByLent, IsLentFrom, fact_as, is_renewed, is_reread, makes_alone, renews}
 use Rattle.value_laws.specs.Steps.{RootsStay}
 use Rattle.value_laws.proofs.Carried.{local_value}
 use Rattle.value_laws.proofs.CallWays.{one_action}
@@ -72,15 +73,15 @@ own_mode modes.Held is = absurd (true≢false (sym is))
 own_mode modes.Lent is = absurd (true≢false (sym is))
 own_mode modes.Alias is = absurd (true≢false (sym is))
 
-this_kind : (kind : OriginKind) → is_origin_at kind (Some 0) ≡ true → kind ≡ kinds.ThisRef
+pub this_kind : (kind : OriginKind) → is_origin_at kind (Some 0) ≡ true → kind ≡ kinds.ThisRef
 this_kind kinds.ThisRef is = refl
 this_kind (kinds.Param j) is = absurd (let same : j + 1 ≡ 0 = eqb-true (j + 1) 0 is in omega (arith, same))
 this_kind kind is = absurd (true≢false (sym is))
 
 -- ---- a fact that says that the frame owns the object
 
-module _ (p : Program) (ac : Accept p) (h : HeapContents) (fr : Frame) (frs : List Frame) (st : Stands p fr) (away anew : Bool) (o : ℕ) (x : Object)
-    (c : Covers p h away anew frs fr o x) (key : IsOwned p h away anew frs fr o x c) (own : is_own c.fact.mode ≡ true) where
+module _ (p : Program) (ac : Accept p) (h : HeapContents) (fr : Frame) (old : ℕ → Bool) (frs : List Frame) (st : Stands p fr) (away anew : Bool) (o : ℕ) (x : Object)
+    (c : Covers p h away anew old frs fr o x) (key : IsOwned p h away anew old frs fr o x c) (own : is_own c.fact.mode ≡ true) where
   reached : Reach p st.number (relation_of p st.number) c.origin fr.control c.fact
   reached = subst (λ (b : BodyId). Reach p b (relation_of p b) c.origin fr.control c.fact) (same_body c.body st.number (body_id p fr.method) c.id st.id) c.reached
 
@@ -90,7 +91,7 @@ module _ (p : Program) (ac : Accept p) (h : HeapContents) (fr : Frame) (frs : Li
 
   -- no owning field holds it
   no_field : (k : ℕ) → k < 16 → has c.fact.places (places.Field k) ≡ true → ⊥
-  no_field = owning_in_no_field p h away anew frs fr o x c owning'
+  no_field = owning_in_no_field p h away anew old frs fr o x c owning'
 
   -- nor is it `this`, which is lent
   no_this : has c.fact.places places.This ≡ true → ⊥
@@ -109,8 +110,8 @@ module _ (p : Program) (ac : Accept p) (h : HeapContents) (fr : Frame) (frs : Li
   local_places places.Super small is = absurd (let never : None ≡ Some o = c.places places.Super small is in cc)
 
   -- tracks it, unless it is given away
-  pub covered_tracks : away ≡ false → (t : ℕ) → has c.fact.places (places.Temp t) ≡ true → (it : TracksAs p h anew fr o x) × (it.fact ≡ c.fact) × (it.origin ≡ c.origin)
-  covered_tracks kept t there =
+  pub covered_tracks : away ≡ false → (t : ℕ) → has c.fact.places (places.Temp t) ≡ true → (later : Bool) → anew ≡ later → (it : TracksAs p h later fr o x) × (it.fact ≡ c.fact) × (it.origin ≡ c.origin)
+  covered_tracks kept t there later alike =
       let truth = c.true' key.owning (ap (λ (b : Bool). b && is_own c.fact.mode) kept) in
       let same : c.fact.places ≡ (fact_as anew c.fact).places = sym (places_as anew c.fact) in (
         record {
@@ -119,7 +120,7 @@ module _ (p : Program) (ac : Accept p) (h : HeapContents) (fr : Frame) (frs : Li
           origin = c.origin;
           fact = c.fact;
           reached = c.reached;
-          follows = record {
+          follows = subst (λ (b : Bool). Follows p h fr.method fr.locals o x c.origin (fact_as b c.fact)) alike (record {
             own = mode_as anew c.fact ∙ own_mode c.fact.mode own;
             class = truth.class;
             bounded = truth.bounded;
@@ -128,7 +129,7 @@ module _ (p : Program) (ac : Accept p) (h : HeapContents) (fr : Frame) (frs : Li
             some = ap is_nowhere (places_as anew c.fact) ∙ somewhere c.fact.places (places.Temp t) there;
             alone = subst HasPlacesAlone same c.alone;
             places = λ q small is. let in' : has c.fact.places q ≡ true = ap (λ (held : PlaceSet). has held q) same ∙ is in (local_places q small in', c.places q small in');
-          };
+          });
         },
         refl,
         refl,
@@ -136,9 +137,9 @@ module _ (p : Program) (ac : Accept p) (h : HeapContents) (fr : Frame) (frs : Li
 
 -- ---- the fact that has the target
 
-module _ (p : Program) (ac : Accept p) (forms : HasPlainForms p) (h : HeapContents) (fr : Frame) (frs : List Frame) (st : Stands p fr)
+module _ (p : Program) (ac : Accept p) (forms : HasPlainForms p) (h : HeapContents) (fr : Frame) (old : ℕ → Bool) (frs : List Frame) (st : Stands p fr)
     (i : ℕ) (s : Step) (here : slice_get (frame_steps p fr) i ≡ Some s) (row : IsCallRow s.action) where
-  module _ (away anew : Bool) (o : ℕ) (x : Object) (c : Covers p h away anew frs fr o x) (target : is_target p s.action c.fact.places ≡ true) where
+  module _ (away anew : Bool) (o : ℕ) (x : Object) (c : Covers p h away anew old frs fr o x) (target : is_target p s.action c.fact.places ≡ true) where
     target_reached : Reach p st.number (relation_of p st.number) c.origin fr.control c.fact
     target_reached = subst (λ (b : BodyId). Reach p b (relation_of p b) c.origin fr.control c.fact) (same_body c.body st.number (body_id p fr.method) c.id st.id) c.reached
 
@@ -148,13 +149,13 @@ module _ (p : Program) (ac : Accept p) (forms : HasPlainForms p) (h : HeapConten
       | inr is ↦ is
     ]
 
-    -- it claims the object, or says that it is lent
-    pub target_mode : (claims p (method_at p fr.method) c.origin c.fact ≡ true) ⊎ (c.fact.mode ≡ modes.Lent)
+    -- it claims the object, or says that it is lent, or that a field of `this` holds it
+    pub target_mode : (claims p (method_at p fr.method) c.origin c.fact ≡ true) ⊎ ((c.fact.mode ≡ modes.Lent) ⊎ IsHeldAnew p fr st c.origin c.fact)
     target_mode =
         let run = running_method p ac fr st in
         claims_or_lends p fr st c.origin c.fact
-        (answered_targets p ac st.number st.body run.0 st.at (ap (method_at p) st.method ∙ run.1) (λ k n t. this_elsewhere p forms st.number k n t) (forms.bodies st.number)
-        (λ k n t g d comes there is. (forms.stores st.number n t g d comes there is).0) c.origin fr.control c.fact target_reached s.action answer.0 answer.2)
+        (answered_targets p ac st.number st.body run.0 st.at (ap (method_at p) st.method ∙ run.1) (λ aliased k n t. this_elsewhere p forms st.number aliased k n t)
+        c.origin fr.control c.fact target_reached s.action answer.0 answer.2)
 
     -- and it does not move
     pub target_stays : moved_at_call p c.origin s.action s.edge c.fact ≡ moves.Moves → ⊥
@@ -174,6 +175,10 @@ module _ (p : Program) (ac : Accept p) (forms : HasPlainForms p) (h : HeapConten
 
 -- ---- frames that wait
 
+-- an object whose obligation the call creates anew is read so
+pub read_alike : (p : Program) (h : HeapContents) (fr : Frame) (o : ℕ) (owner : Owner) → is_renewed p h fr o ≡ true → is_reread p h fr o owner ≡ is_renewed p h fr o
+read_alike p h fr o owner renewed = refl
+
 -- the call at which the frame waits is that of each of its steps
 pub renewed_at_step : (p : Program) (h : HeapContents) (fr : Frame) → Stands p fr → (i : ℕ) (s : Step) (o : ℕ) → slice_get (frame_steps p fr) i ≡ Some s → IsCallRow s.action → is_renewed p h fr o ≡ true
     → renews p h fr.locals s.action o ≡ true
@@ -183,9 +188,9 @@ renewed_at_step p h fr st i s o here row is =
     ap (λ (a : Action). renews p h fr.locals a o) (sym one) ∙ t.3
 
 -- the frame that waits and owns the object has it in a fact that says so, with the operand
-pub record OwnsTarget (p : Program) (h : HeapContents) (frs : List Frame) (fr : Frame) (o : ℕ) (x : Object) : Type 0 where
-  pub covers : Covers p h (is_given p h fr o x.class) (is_renewed p h fr o) frs fr o x
-  pub key : IsOwned p h (is_given p h fr o x.class) (is_renewed p h fr o) frs fr o x covers
+pub record OwnsTarget (p : Program) (h : HeapContents) (old : ℕ → Bool) (frs : List Frame) (fr : Frame) (o : ℕ) (x : Object) : Type 0 where
+  pub covers : Covers p h (is_given p h fr o x.class) (is_reread p h fr o x.owner) old frs fr o x
+  pub key : IsOwned p h (is_given p h fr o x.class) (is_reread p h fr o x.owner) old frs fr o x covers
   pub temp : ℕ
   pub there : has covers.fact.places (places.Temp temp) ≡ true
   pub own : is_own covers.fact.mode ≡ true
@@ -193,26 +198,26 @@ pub record OwnsTarget (p : Program) (h : HeapContents) (frs : List Frame) (fr : 
   pub target : (i : ℕ) (s : Step) → slice_get (frame_steps p fr) i ≡ Some s → is_target p s.action covers.fact.places ≡ true
   pub stays : (i : ℕ) (s : Step) → slice_get (frame_steps p fr) i ≡ Some s → moved_at_call p covers.origin s.action s.edge covers.fact ≡ moves.Moves → ⊥
 
-module _ (p : Program) (ac : Accept p) (forms : HasPlainForms p) (h : HeapContents) (fr : Frame) (frs : List Frame) (st : Stands p fr)
-    (i : ℕ) (s : Step) (here : slice_get (frame_steps p fr) i ≡ Some s) (row : IsCallRow s.action) (covered : IsCovered p h (is_given p h fr) (is_renewed p h fr) frs fr)
+module _ (p : Program) (ac : Accept p) (forms : HasPlainForms p) (h : HeapContents) (fr : Frame) (old : ℕ → Bool) (frs : List Frame) (st : Stands p fr)
+    (i : ℕ) (s : Step) (here : slice_get (frame_steps p fr) i ≡ Some s) (row : IsCallRow s.action) (covered : IsCovered p h (is_given p h fr) (is_reread p h fr) old frs fr) (holds : HoldsLent p h old frs fr st)
     (o : ℕ) (x : Object) (at : object_at h o ≡ Some x) (heavy : is_heavy_class p x.class ≡ true) (owes : OwesOrHolds p h o x) (done : x.finished ≡ true) (renewed : is_renewed p h fr o ≡ true) where
   abbrev away : Bool
   away = is_given p h fr o x.class
 
   abbrev anew : Bool
-  anew = is_renewed p h fr o
+  anew = is_reread p h fr o x.owner
 
   temp : (t : ℕ) × IsSmall (places.Temp t) × (root_of h (place_value p h fr.method fr.locals (places.Temp t)) ≡ Some o) × ((held : PlaceSet) → has held (places.Temp t) ≡ true → is_target p s.action held ≡ true)
-  temp = target_temp p ac forms h fr frs st i s here row o (renewed_at_step p h fr st i s o here row renewed)
+  temp = target_temp p ac forms h fr old frs st i s here row o (renewed_at_step p h fr st i s o here row renewed)
 
-  -- the object is in a fact that says that the frame owns it, or one that says that it is lent, or a field of what the frame's constructor makes owns it
-  pub owned_or_lent : OwnsTarget p h frs fr o x ⊎ (IsLentFrom p h frs o x.owner ⊎ IsHeldBy p fr x.owner)
+  -- the object is in a fact that says that the frame owns it, or it is lent, or a field of what the frame's constructor makes owns it, or one of `this`, which is lent
+  pub owned_or_lent : OwnsTarget p h old frs fr o x ⊎ (IsLentFrom p h frs o x.owner ⊎ (IsHeldBy p fr x.owner ⊎ IsHeldByLent p h (IsLentFrom p h frs) fr x.owner))
   owned_or_lent = by (covered (places.Temp temp.0) o x temp.1 temp.2 at heavy owes)
     where
-      lent : (c : Covers p h away anew frs fr o x) → c.fact.mode ≡ modes.Lent → IsLentFrom p h frs o x.owner
+      lent : (c : Covers p h away anew old frs fr o x) → c.fact.mode ≡ modes.Lent → IsLentFrom p h frs o x.owner
       lent c mode = (c.lends mode done).1
 
-      owning : (c : Covers p h away anew frs fr o x) → has c.fact.places (places.Temp temp.0) ≡ true → IsOwned p h away anew frs fr o x c → is_own c.fact.mode ≡ true → OwnsTarget p h frs fr o x
+      owning : (c : Covers p h away anew old frs fr o x) → has c.fact.places (places.Temp temp.0) ≡ true → IsOwned p h away anew old frs fr o x c → is_own c.fact.mode ≡ true → OwnsTarget p h old frs fr o x
       owning c in' key own = record {
         covers = c;
         key = key;
@@ -221,7 +226,7 @@ module _ (p : Program) (ac : Accept p) (forms : HasPlainForms p) (h : HeapConten
         own = own;
         kept = none_away away refl;
         target = λ n t there. ap (λ (a : Action). is_target p a c.fact.places) (one n t there) ∙ temp.3 c.fact.places in';
-        stays = λ n t there. target_stays p ac forms h fr frs st n t there (subst IsCallRow (sym (one n t there)) row) away anew o x c (ap (λ (a : Action). is_target p a c.fact.places) (one n t there) ∙ temp.3 c.fact.places in');
+        stays = λ n t there. target_stays p ac forms h fr old frs st n t there (subst IsCallRow (sym (one n t there)) row) away anew o x c (ap (λ (a : Action). is_target p a c.fact.places) (one n t there) ∙ temp.3 c.fact.places in');
       }
         where
           one : (n : ℕ) (t : Step) → slice_get (frame_steps p fr) n ≡ Some t → t.action ≡ s.action
@@ -229,34 +234,40 @@ module _ (p : Program) (ac : Accept p) (forms : HasPlainForms p) (h : HeapConten
 
           none_away : (b : Bool) → away ≡ b → away ≡ false
           none_away false kept = kept
-          none_away true gives = absurd (target_stays p ac forms h fr frs st i s here row away anew o x c (temp.3 c.fact.places in')
-              (away_moves p ac h fr st frs i s here row away anew o x c key heavy (given_at_step p h fr st i s o x.class here row gives)))
+          none_away true gives = absurd (target_stays p ac forms h fr old frs st i s here row away anew o x c (temp.3 c.fact.places in')
+              (away_moves p ac h fr st old frs i s here row away anew o x c key heavy (given_at_step p h fr st i s o x.class here row gives)))
 
-      by : IsKeyed p h away anew frs fr (places.Temp temp.0) o x → OwnsTarget p h frs fr o x ⊎ (IsLentFrom p h frs o x.owner ⊎ IsHeldBy p fr x.owner)
+      by : IsKeyed p h away anew old frs fr (places.Temp temp.0) o x → OwnsTarget p h old frs fr o x ⊎ (IsLentFrom p h frs o x.owner ⊎ (IsHeldBy p fr x.owner ⊎ IsHeldByLent p h (IsLentFrom p h frs) fr x.owner))
       by (owned c in' key) = elim (claims_by p (method_at p fr.method) c.origin c.fact key.owning) [
         | inl own ↦ inl (owning c in' key own)
-        | inr held ↦ inr (inr (held.1, held_by_this p h away anew frs fr o x c done held.0 held.1))
+        | inr held ↦ inr (inr (inl (held.1, held_by_this p h away anew old frs fr o x c done held.0 held.1 (and_parts (is_heavy_class p c.origin.class) (is_own c.fact.mode || is_held c.fact.mode && makes_alone (method_at p fr.method)) key.owning).0)))
       ]
-      by (unowned u) = elim (target_mode p ac forms h fr frs st i s here row away anew o x u.covers (temp.3 u.covers.fact.places u.here)) [
+      by (unowned u) = elim (target_mode p ac forms h fr old frs st i s here row away anew o x u.covers (temp.3 u.covers.fact.places u.here)) [
         | inl claimed ↦ absurd (true≢false (sym claimed ∙ u.unowned))
-        | inr mode ↦ inr (inl (lent u.covers mode))
+        | inr mode ↦ elim mode [
+          | inl lends ↦ inr (inl (lent u.covers lends))
+          | inr anew' ↦ elim (holds o x at heavy owes done away anew u.covers anew') [ inl lends ↦ inr (inl lends) | inr held ↦ inr (inr (inr held)) ]
+        ]
       ]
 
   -- where the frame owns it
-  pub its_owner : x.owner ≡ owners.Frame (length frs + 1) → OwnsTarget p h frs fr o x
+  pub its_owner : x.owner ≡ owners.Frame (length frs + 1) → OwnsTarget p h old frs fr o x
   its_owner mine = elim owned_or_lent [
     | inl is ↦ is
     | inr other ↦ absurd (elim other [
       | inl lent ↦ true≢false (sym (own_frame (length frs + 1) x.owner mine) ∙ lent_not_from p h frs o x.owner lent)
-      | inr held ↦ (let never : owners.Field held.1.holder held.1.field ≡ owners.Frame (length frs + 1) = sym held.1.owns ∙ mine in cc)
+      | inr field ↦ elim field [
+        | inl held ↦ (let never : owners.Field held.1.holder held.1.field ≡ owners.Frame (length frs + 1) = sym held.1.owns ∙ mine in cc)
+        | inr held ↦ (let never : owners.Field held.holder held.field ≡ owners.Frame (length frs + 1) = sym held.owns ∙ mine in cc)
+      ]
     ])
   ]
 
   -- so it tracks it
-  awaits : OwnsTarget p h frs fr o x → Awaits p h fr o x
+  awaits : OwnsTarget p h old frs fr o x → Awaits p h fr o x
   unfolding covered_tracks
   awaits it = record {
-    tracks = (covered_tracks p ac h fr frs st away anew o x it.covers it.key it.own it.kept it.temp it.there).0;
+    tracks = (covered_tracks p ac h fr old frs st away anew o x it.covers it.key it.own it.kept it.temp it.there (is_renewed p h fr o) (read_alike p h fr o x.owner renewed)).0;
     stays = λ n u there moved. it.stays n u there moved;
   }
 

@@ -1,9 +1,7 @@
 -- What an owning field of `this` holds in a frame.
-use Rattle.std.specs.Prelude.{◌≡◌, ◌⊎◌, ℕ, ◌+◌, true, false, Some, List, length}
+use Rattle.std.specs.Prelude.{◌≡◌, ℕ, Bool, true, Some, List}
 use Rattle.program_model.specs.declared.kinds.FieldId.{FieldId}
 use Rattle.program_model.specs.declared.program.Program.{Program}
-use Rattle.program_model.specs.Lookups.{method_at}
-use Rattle.ledger_obligations.specs.Bodies.{constructs}
 use Rattle.ledger_obligations.specs.MustCallSets.{is_heavy_class}
 use Rattle.java_control.specs.Owned.{is_owning}
 use Rattle.ledger_state.specs.Contents.{HeapContents}
@@ -12,8 +10,7 @@ use Rattle.ledger_state.specs.Heaps.{object_at, root_of}
 use Rattle.ledger_state.specs.declared.object.Object.{Object}
 use Rattle.ledger_state.specs.declared.value.Value.TheVariants as values
 use Rattle.value_laws.specs.Configuration.{Frame}
-use Rattle.value_laws.specs.PlaceFacts.{is_field_of, is_frame_below, is_heavy_in, OwesOrHolds, was_given}
-use Rattle.value_laws.specs.Renewing.{was_renewed}
+use Rattle.value_laws.specs.PlaceFacts.{IsSpared, is_heavy_in, OwesOrHolds}
 
 -- the owning field `f` of the object that is `this` of the frame, and whose type has an obligation, holds object `o`, which is `x`, whose
 -- class has one, and which may owe a call, or of which a field owns something
@@ -26,9 +23,6 @@ pub record HoldsHeavy (p : Program) (h : HeapContents) (fr : Frame) (w : ℕ) (f
   pub class : is_heavy_class p x.class ≡ true
   pub owes : OwesOrHolds p h o x
 
--- the frame, above the frames `frs`, did not begin with a call that creates the obligation of object `o`, which is `x`, anew; and it was not given the object,
--- or one of these owns it, or the frame runs no constructor, and a field of `this` owns the object
-abbrev pub IsNotGiven : Program → HeapContents → List Frame → Frame → ℕ → Object → Type 0
-IsNotGiven p h frs fr o x =
-    (was_renewed p h frs o ≡ false) × ((was_given p h frs o x.class ≡ false) ⊎ ((is_frame_below (length frs + 1) x.owner ≡ true)
-    ⊎ ((constructs (method_at p fr.method) ≡ false) × (is_field_of fr.locals.this x.owner ≡ true))))
+-- What the facts of the frame, above the frames `frs`, know to be called on object `o`, which is `x`, was called: it was old when the frame began, and the call that began the frame spares it.
+abbrev pub IsCountedOn : Program → HeapContents → (ℕ → Bool) → List Frame → Frame → ℕ → Object → Type 0
+IsCountedOn p h old frs fr o x = (old o ≡ true) × IsSpared p h frs o

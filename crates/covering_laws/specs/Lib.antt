@@ -31,6 +31,7 @@ pub use Rattle.value_laws.specs.Flow
 pub use Rattle.value_laws.specs.Frames
 pub use Rattle.value_laws.specs.HeapAnew
 pub use Rattle.value_laws.specs.Heaps
+pub use Rattle.value_laws.specs.Holders
 pub use Rattle.value_laws.specs.Leading
 pub use Rattle.value_laws.specs.LedgerFramesFrames
 pub use Rattle.value_laws.specs.LedgerRunsOutcomes

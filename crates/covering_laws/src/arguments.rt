@@ -1,6 +1,6 @@
 //! The aliased argument of a constructor. Each law is the contract of a function that does nothing.
 
-ghost use Rattle.std.specs.Prelude.{◌≡◌, ℕ, List, suc, true, false, Some, slice_get};
+ghost use Rattle.std.specs.Prelude.{◌≡◌, ℕ, Bool, List, suc, true, false, Some, slice_get};
 ghost use Rattle.std.specs.FinSet as set;
 ghost use Rattle.program_model.specs.declared.kinds.FieldId.{FieldId};
 ghost use Rattle.program_model.specs.declared.program.Field.{Field};
@@ -30,7 +30,7 @@ ghost use Rattle.value_laws.specs.PlaceFacts.{IsCovered, gives_none, is_heavy_in
 /// Into an owning field whose type has an obligation such a constructor stores of the objects whose classes have one, and that may owe a call, or of which a
 /// field owns something, its aliased argument alone.
 pub fn argument_alone_is_stored()
-    ensures { (p : Program) → Accept p → HasPlainForms p → (h : HeapContents) (frs : List Frame) (fr : Frame) → (st : Stands p fr) → IsCovered p h gives_none renews_none frs fr → (i d : ℕ) (s : Step) (f : FieldId) (o : ℕ) (x : Object) (v : ℕ)
+    ensures { (p : Program) → Accept p → HasPlainForms p → (h : HeapContents) (old : ℕ → Bool) (frs : List Frame) (fr : Frame) → (st : Stands p fr) → IsCovered p h gives_none renews_none old frs fr → (i d : ℕ) (s : Step) (f : FieldId) (o : ℕ) (x : Object) (v : ℕ)
         → slice_get (frame_steps p fr) i ≡ Some s → s.action ≡ actions.PutOwn f d → constructs (method_at p fr.method) ≡ true → alias_position p st.number ≡ Some (suc v) → is_heavy_in p (Some f) ≡ true
         → root_of h (temp_value fr.locals d) ≡ Some o → object_at h o ≡ Some x → is_heavy_class p x.class ≡ true → OwesOrHolds p h o x → root_of h (variable_value fr.locals v) ≡ Some o }
 {}
@@ -38,7 +38,7 @@ pub fn argument_alone_is_stored()
 /// As such a constructor ends normally, an owning field of `this` holds its aliased argument, where that is of a class with an obligation and may owe a
 /// call, or a field of it owns something. All that the argument's type asks for is asked for by the type of the field.
 pub fn aliased_field_holds_the_argument()
-    ensures { (p : Program) → Accept p → (h : HeapContents) (frs : List Frame) (fr : Frame) → (st : Stands p fr) → IsCovered p h gives_none renews_none frs fr → (i : ℕ) (s : Step) (q : Completion) (v w o : ℕ) (x : Object) (m : Method)
+    ensures { (p : Program) → Accept p → (h : HeapContents) (old : ℕ → Bool) (frs : List Frame) (fr : Frame) → (st : Stands p fr) → IsCovered p h gives_none renews_none old frs fr → (i : ℕ) (s : Step) (q : Completion) (v w o : ℕ) (x : Object) (m : Method)
         → slice_get (frame_steps p fr) i ≡ Some s → s.action ≡ actions.End q → is_throw q ≡ false → method_at p fr.method ≡ Some m → constructs (method_at p fr.method) ≡ true
         → alias_position p st.number ≡ Some (suc v) → fr.locals.this ≡ values.Object w → root_of h (variable_value fr.locals v) ≡ Some o → object_at h o ≡ Some x → is_heavy_class p x.class ≡ true → OwesOrHolds p h o x
         → (f : FieldId) × (field : Field) × (field_at p f ≡ Some field) × (field.owning ≡ true) × (is_class_of field.class (method_at p fr.method) ≡ true)

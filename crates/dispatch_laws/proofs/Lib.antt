@@ -46,6 +46,7 @@ pub use Rattle.agreement.proofs.Returned
 pub use Rattle.agreement.proofs.RootLaws
 pub use Rattle.agreement.proofs.SetLaws
 pub use Rattle.agreement.proofs.StartReached
+pub use Rattle.agreement.proofs.ResetsUp
 pub use Rattle.agreement.proofs.StoredObjects
 pub use Rattle.agreement.proofs.Temps
 pub use Rattle.agreement.proofs.Tests

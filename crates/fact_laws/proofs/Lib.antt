@@ -18,6 +18,10 @@ pub mod Needs
 pub mod ResetBirths
 pub mod Modes
 pub mod ResetTargets
+pub mod FieldResets
+pub mod HeldPlaces
+pub mod LentThis
+pub mod AnnouncedTargets
 pub use Rattle.place_laws.proofs.AssignedReached
 pub use Rattle.place_laws.proofs.AssignedSources
 pub use Rattle.place_laws.proofs.CallNames

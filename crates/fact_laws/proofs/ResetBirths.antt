@@ -115,7 +115,7 @@ module _ (p : Program) (b : BodyId) (m : Method) (Free : Type 0) where
   go_born (actions.Plain x v) pos = constant_born x pos v
   go_born a pos = tt
 
-  on_born : (a : Action) (e : Edge) (pos : Pos) → OnBirth HasPlainMode (birth_on p a e pos)
+  pub on_born : (a : Action) (e : Edge) (pos : Pos) → OnBirth HasPlainMode (birth_on p a e pos)
   on_born a edges.Go pos = go_born a pos
   on_born a edges.Null pos = tt
   on_born a edges.NonNull pos = tt

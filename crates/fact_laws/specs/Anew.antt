@@ -7,7 +7,7 @@ use Rattle.java_control.specs.declared.fact.Fact.{Fact}
 use Rattle.java_control.specs.declared.fact.Mode.{Mode}
 use Rattle.java_control.specs.declared.fact.Mode.TheVariants as modes
 use Rattle.java_control.specs.declared.fact.Origin.{Origin}
-use Rattle.ownership_rules.specs.Bodies.{alias_position, is_alias_constructor, is_constructor, reset_in}
+use Rattle.ownership_rules.specs.Bodies.{alias_position, is_alias_constructor, is_constructor, reset_in, resets_this}
 use Rattle.ownership_rules.specs.Callees.{callee, holds_operand}
 use Rattle.ownership_rules.specs.Facts.{PlaceSet, is_origin_at, mode_at}
 use Rattle.ownership_rules.specs.MustCallSets.{is_heavy_class, no_names}
@@ -35,10 +35,14 @@ pub record MayBeAnew (p : Program) (b : BodyId) (o : Origin) (a : Action) (k : �
   pub shown : is_hidden_this a k o ≡ false
   pub announced : is_unannounced p b f ≡ false
 
--- the frame owns the object, whose class has an obligation, or a constructor without an aliased argument holds it in a field of `this`; or it is lent
+-- what a field of `this` holds is created anew by a constructor without an aliased argument, or by a method that creates the obligation of `this` anew
+abbrev pub MayRenewFields : Program → BodyId → Type 0
+MayRenewFields p b = ((is_constructor p b ≡ true) × (is_alias_constructor p b ≡ false)) ⊎ ((is_constructor p b ≡ false) × (resets_this p b ≡ true))
+
+-- the frame owns the object, whose class has an obligation, or such a body holds it in a field of `this`; or it is lent
 abbrev pub IsInHands : Program → BodyId → Mode → Bool → Type 0
 IsInHands p b m heavy =
-    ((m ≡ modes.Own) × (heavy ≡ true)) ⊎ ((m ≡ modes.Lent) ⊎ ((m ≡ modes.Held) × (heavy ≡ true) × (is_constructor p b ≡ true) × (is_alias_constructor p b ≡ false)))
+    ((m ≡ modes.Own) × (heavy ≡ true)) ⊎ ((m ≡ modes.Lent) ⊎ ((m ≡ modes.Held) × (heavy ≡ true) × MayRenewFields p b))
 
 -- the fact at these places from now on, its obligation created anew: no name was called, and all that its class asks for is needed
 abbrev pub fact_anew : Fact → PlaceSet → Fact

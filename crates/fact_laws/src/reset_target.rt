@@ -10,11 +10,10 @@ ghost use Rattle.program_model.specs.Lookups.{body_at, method_at};
 ghost use Rattle.java_control.specs.Calls.{is_reset_of_this};
 ghost use Rattle.java_control.specs.Remaining.{Todo};
 ghost use Rattle.java_control.specs.declared.action.Action.{Action};
-ghost use Rattle.java_control.specs.declared.action.Action.TheVariants as actions;
 ghost use Rattle.java_control.specs.declared.fact.Fact.{Fact};
 ghost use Rattle.java_control.specs.declared.fact.Mode.TheVariants as modes;
 ghost use Rattle.java_control.specs.declared.fact.Origin.{Origin};
-ghost use Rattle.ownership_rules.specs.Bodies.{has_field_place, is_constructor, resets_this};
+ghost use Rattle.ownership_rules.specs.Bodies.{has_field_place, is_alias_constructor};
 ghost use Rattle.ownership_rules.specs.MustCallSets.{is_heavy_class, must_of};
 ghost use Rattle.place_laws.specs.Accept.{Accept};
 ghost use Rattle.place_laws.specs.Paths.{Comes, Move, Reach, relation_of};
@@ -29,15 +28,12 @@ pub fn lent_facts_are_those_of_targets()
 {}
 
 /// The object whose obligation a call creates anew is in a fact that says that the frame owns it, and its class has an obligation, or in one that says that it is
-/// lent, or, in a constructor without an aliased argument, in one that says that a field of `this` holds it, and its class has an obligation: where neither calls of the
-/// body nor its method create the obligation of `this` anew, or no owning field has a place in it, and owning fields are stored in constructors alone.
+/// lent, or in one that says that a field of `this` holds it, and its class has an obligation: in a constructor without an aliased argument, or in a method that creates the
+/// obligation of `this` anew. (In a constructor with an aliased argument, calls create that of `this` anew only where no owning field has a place.)
 pub fn targets_are_in_hands()
     ensures { (p : Program) → Accept p → (b : BodyId) (x : Body) (m : Method) → body_at p b ≡ Some x → method_at p x.method ≡ Some m
-        → ((c : List Todo) (i : ℕ) (t : Move (List Todo)) → Comes (relation_of p b) c → slice_get ((relation_of p b).next c) i ≡ Some t → is_reset_of_this p t.action ≡ true
-        → (g : FieldId) → has_field_place p b g ≡ false)
-        → (resets_this p b ≡ true → (g : FieldId) → has_field_place p b g ≡ false)
-        → ((c : List Todo) (i : ℕ) (t : Move (List Todo)) (g : FieldId) (d : ℕ) → Comes (relation_of p b) c → slice_get ((relation_of p b).next c) i ≡ Some t
-        → t.action ≡ actions.PutOwn g d → is_constructor p b ≡ true)
+        → (is_alias_constructor p b ≡ true → (c : List Todo) (i : ℕ) (t : Move (List Todo)) → Comes (relation_of p b) c → slice_get ((relation_of p b).next c) i ≡ Some t
+        → is_reset_of_this p t.action ≡ true → (g : FieldId) → has_field_place p b g ≡ false)
         → (o : Origin) (k : List Todo) (f : Fact) → Reach p b (relation_of p b) o k f → (a : Action) (j : ℕ) → MayBeAnew p b o a j f
         → IsInHands p b f.mode (is_heavy_class p o.class) }
 {}

@@ -40,6 +40,9 @@ pub use Rattle.fact_laws.proofs.AliasFacts
 pub use Rattle.fact_laws.proofs.CallWays
 pub use Rattle.fact_laws.proofs.Ending
 pub use Rattle.fact_laws.proofs.EntryFacts
+pub use Rattle.fact_laws.proofs.FieldResets
+pub use Rattle.fact_laws.proofs.HeldPlaces
+pub use Rattle.fact_laws.proofs.LentThis
 pub use Rattle.fact_laws.proofs.Ends as FactEnds
 pub use Rattle.fact_laws.proofs.Origins as FactOrigins
 pub use Rattle.fact_laws.proofs.Flows
@@ -55,3 +58,13 @@ pub use Rattle.fact_laws.proofs.PlaceLaws
 pub use Rattle.fact_laws.proofs.ResetTargets
 pub use Rattle.fact_laws.proofs.Resetting
 pub use Rattle.fact_laws.proofs.Storing
+pub use Rattle.agreement.proofs.WaysUp
+pub use Rattle.agreement.proofs.ReachedRoots
+pub use Rattle.agreement.proofs.ResetsUp
+pub use Rattle.agreement.proofs.Tops
+pub use Rattle.agreement.proofs.Spared
+pub use Rattle.agreement.proofs.SparingCalls
+pub use Rattle.agreement.proofs.SparingEnds
+pub use Rattle.agreement.proofs.SparingStays
+pub use Rattle.agreement.proofs.WaysOverSteps
+pub use Rattle.agreement.proofs.OldObjects

@@ -15,6 +15,7 @@ pub use Rattle.agreement.specs.Fitting
 pub use Rattle.fact_laws.specs.Flow
 pub use Rattle.agreement.specs.HeapAnew
 pub use Rattle.agreement.specs.Heaps
+pub use Rattle.agreement.specs.Holders
 pub use Rattle.agreement.specs.LedgerRunsOutcomes
 pub use Rattle.agreement.specs.LedgerRunsSteps
 pub use Rattle.agreement.specs.LibraryCalls

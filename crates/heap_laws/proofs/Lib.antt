@@ -28,6 +28,9 @@ pub mod Returned
 pub mod EndLinks
 pub mod ResetHeaps
 pub mod EndResets
+pub mod WaysUp
+pub mod ReachedRoots
+pub mod ResetsUp
 pub mod Conducts
 pub use Rattle.ledger_steps.proofs.Elements
 pub use Rattle.ledger_steps.proofs.Walks

@@ -15,7 +15,7 @@ sums_le f g zero each = omega arith
 sums_le f g (suc n) each = let here = each n in let more = sums_le f g n each in omega (arith, here, more)
 
 -- one of the parts is smaller
-sums_lt : (f g : ℕ → ℕ) (n c : ℕ) → ((i : ℕ) → f i ≤ g i) → c < n → f c < g c → sum_below f n < sum_below g n
+pub sums_lt : (f g : ℕ → ℕ) (n c : ℕ) → ((i : ℕ) → f i ≤ g i) → c < n → f c < g c → sum_below f n < sum_below g n
 sums_lt f g zero c each below less = absurd (omega (arith, below))
 sums_lt f g (suc n) c each below less = elim (cases_lt c n) [
   | inl before ↦ (let here = each n in let more = sums_lt f g n c each before less in omega (arith, here, more))
@@ -40,18 +40,18 @@ abbrev pub bit : Bool → ℕ
 bit true = 1
 bit false = 0
 
-bit_le : (b c : Bool) → (b ≡ true → c ≡ true) → bit b ≤ bit c
+pub bit_le : (b c : Bool) → (b ≡ true → c ≡ true) → bit b ≤ bit c
 bit_le true true on = omega arith
 bit_le true false on = absurd (true≢false (sym (on refl)))
 bit_le false true on = omega arith
 bit_le false false on = omega arith
 
-bit_lt : (b c : Bool) → b ≡ false → c ≡ true → bit b < bit c
+pub bit_lt : (b c : Bool) → b ≡ false → c ≡ true → bit b < bit c
 bit_lt true c none one = absurd (true≢false none)
 bit_lt false true none one = omega arith
 bit_lt false false none one = absurd (true≢false (sym one))
 
-bit_small : (b : Bool) → bit b ≤ 1
+pub bit_small : (b : Bool) → bit b ≤ 1
 bit_small true = omega arith
 bit_small false = omega arith
 

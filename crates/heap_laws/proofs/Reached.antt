@@ -65,7 +65,7 @@ of_positions l (actions.New m e n) made (conducts.Throws c) zero w is = inl is
 of_positions l (actions.New m e n) made d zero w is = inr (let both : Some made ≡ Some w = is in (let one : w ≡ made = cc in one))
 of_positions l a made d zero w is = inl is
 
-target_position : (l : Locals) (a : Action) (named : Option Method) (made : ℕ) (d : Conduct) (w : ℕ) → reset_target (positions l a made d) named ≡ Some w
+pub target_position : (l : Locals) (a : Action) (named : Option Method) (made : ℕ) (d : Conduct) (w : ℕ) → reset_target (positions l a made d) named ≡ Some w
     → (reset_target (operand_of l a) named ≡ Some w) ⊎ (w ≡ made)
 target_position l a named made d w is = go (reset_position named) is
   where

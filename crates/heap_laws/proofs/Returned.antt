@@ -209,6 +209,7 @@ made_own p i self a named argument n notes z new is plain = record {
   link = rw plain refl;
   must = rw plain refl;
   owner = rw plain refl;
+  called = rw plain refl;
 }
 
 -- and of one that is

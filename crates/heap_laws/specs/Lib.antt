@@ -2,6 +2,7 @@ pub mod Heaps
 pub mod Leading
 pub mod Stores
 pub mod Anew
+pub mod Holders
 pub mod LibraryCalls
 pub mod ProgramCalls
 pub mod Fitting

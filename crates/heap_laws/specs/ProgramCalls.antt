@@ -62,7 +62,7 @@ abbrev pub is_new : Action → Bool
 is_new (actions.New m d n) = true
 is_new a = false
 
--- a `new` ends normally whose constructor has no aliased argument, and object `n`, here `y`, is the one that it ran on, which was `x`
+-- a `new` ends normally whose constructor has no aliased argument, and object `n`, here `y`, is the one that it ran on, which was `x`: nothing was called on it
 pub record IsFinished (p : Program) (i : ℕ) (this : Value) (a : Action) (named : Option Method) (e : Option ClassId) (n : ℕ) (x y : Object) : Type 0 where
   pub normal : e ≡ None
   pub new : is_new a ≡ true
@@ -73,6 +73,7 @@ pub record IsFinished (p : Program) (i : ℕ) (this : Value) (a : Action) (named
   pub link : y.link ≡ x.link
   pub must : y.must ≡ must_of p x.class
   pub owner : y.owner ≡ owners.Frame i
+  pub called : y.called ≡ set.empty
 
 -- The object `x` is linked as `y` by a constructor to the argument with this number, which then has the obligation: its owner stays. An alias of null is
 -- the library's, and nothing must be called on it.

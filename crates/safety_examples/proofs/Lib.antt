@@ -160,3 +160,4 @@ pub mod ReconnectingClosePaths
 pub mod ReconnectingMainPaths
 pub mod ReconnectingReached
 pub mod ReconnectingAccepted
+pub mod ReconnectingPlain

@@ -7,7 +7,7 @@ use Rattle.java_control.specs.Remaining.{Todo}
 use Rattle.java_control.specs.declared.action.Action.{Action}
 use Rattle.java_control.specs.declared.action.Action.TheVariants as actions
 use Rattle.soundness_laws.specs.Paths.{Comes, Move, relation_of}
-use Rattle.soundness_laws.proofs.CreatingNothing.{no_body_creates, no_call_creates}
+use Rattle.soundness_laws.proofs.CreatingNothing.{no_call_creates}
 use Rattle.soundness_laws.specs.Plain.{IsPlain}
 use Rattle.soundness_laws.specs.AgreementConditions.{MeetsFileConditions}
 use Rattle.soundness_laws.proofs.Tests.{meets_by_tests}
@@ -56,7 +56,6 @@ mild_step b k i t comes at = reached IsMild all_mild b.0 k i t comes at
 pub holding_plain : IsPlain holding
 holding_plain = record {
   stores = λ b {k} i t f d comes at is. sym (ap (is_mild b) is) ∙ mild_step b k i t comes at;
-  bodies = no_body_creates holding refl;
   calls = no_call_creates holding refl;
 }
 

@@ -1,7 +1,6 @@
 -- The program is plain.
-use Rattle.std.proofs.Common.{◌≡◌, ℕ, zero, suc, Bool, true, false, true≢false, Some, List, slice_get, refl, sym, ap, ◌∙◌, All}
+use Rattle.std.proofs.Common.{◌≡◌, ℕ, Bool, true, false, true≢false, Some, List, slice_get, refl, sym, ap, ◌∙◌, All}
 use Rattle.program_model.specs.declared.kinds.BodyId.{BodyId}
-use Rattle.must_call_sets.specs.Bodies.{resets_this}
 use Rattle.java_control.specs.Calls.{is_reset_of_this}
 use Rattle.java_control.specs.Control.{next_of}
 use Rattle.java_control.specs.Remaining.{Todo}
@@ -52,18 +51,10 @@ mild_step b k i t comes at = reached IsMild all_mild b.0 k i t comes at
 
 -- ---- the program
 
--- no method creates the obligation of `this` anew
-silent : (n : ℕ) → resets_this reopening (record { 0 = n }) ≡ false
-silent zero = refl
-silent (suc zero) = refl
-silent (suc (suc n)) = refl
-
--- the program declares no owning field
 pub reopening_plain : IsPlain reopening
 reopening_plain = record {
   stores = λ b {k} i t f d comes at is. absurd (true≢false (sym (mild_step b k i t comes at).0 ∙ ap is_mild is));
-  bodies = λ b says f. absurd (true≢false (sym says ∙ silent b.0));
-  calls = λ b {k} i t comes at this f. absurd (true≢false (sym this ∙ (mild_step b k i t comes at).1));
+  calls = λ b {k} i t comes at makes this f. absurd (true≢false (sym this ∙ (mild_step b k i t comes at).1));
 }
 
 -- it has what every program of files has

@@ -7,7 +7,7 @@ use Rattle.java_control.specs.Remaining.{Todo}
 use Rattle.java_control.specs.declared.action.Action.{Action}
 use Rattle.java_control.specs.declared.action.Action.TheVariants as actions
 use Rattle.soundness_laws.specs.Paths.{Comes, Move, relation_of}
-use Rattle.soundness_laws.proofs.CreatingNothing.{no_body_creates, no_call_creates}
+use Rattle.soundness_laws.proofs.CreatingNothing.{no_call_creates}
 use Rattle.soundness_laws.specs.Plain.{IsPlain}
 use Rattle.soundness_laws.specs.AgreementConditions.{MeetsFileConditions}
 use Rattle.soundness_laws.proofs.Tests.{meets_by_tests}
@@ -52,7 +52,6 @@ mild_step (suc n) k i t comes at = absurd (no_step n i k t at)
 pub streaming_plain : IsPlain streaming
 streaming_plain = record {
   stores = λ b {k} i t f d comes at is. absurd (true≢false (sym (mild_step b.0 k i t comes at) ∙ ap is_mild is));
-  bodies = no_body_creates streaming refl;
   calls = no_call_creates streaming refl;
 }
 

@@ -9,7 +9,7 @@ use Rattle.soundness_laws.specs.Paths.{Comes, Move, relation_of}
 use Rattle.soundness_laws.specs.Plain.{IsPlain}
 use Rattle.soundness_laws.specs.AgreementConditions.{MeetsFileConditions}
 use Rattle.soundness_laws.proofs.Tests.{meets_by_tests}
-use Rattle.soundness_laws.proofs.CreatingNothing.{no_body_creates, no_call_creates}
+use Rattle.soundness_laws.proofs.CreatingNothing.{no_call_creates}
 use Rattle.safety_examples.proofs.ThrowingValid.{valid_program}
 use Rattle.safety_examples.specs.ThrowingControls.{main_controls, shut_controls}
 use Rattle.safety_examples.specs.ThrowingPrograms.{throwing, main_body, shut_body}
@@ -50,7 +50,6 @@ mild_step b k i t comes at = reached IsMild all_mild b.0 k i t comes at
 pub throwing_plain : IsPlain throwing
 throwing_plain = record {
   stores = λ b {k} i t f d comes at is. absurd (true≢false (sym (mild_step b k i t comes at) ∙ ap is_mild is));
-  bodies = no_body_creates throwing refl;
   calls = no_call_creates throwing refl;
 }
 

@@ -10,7 +10,7 @@ use Rattle.soundness_laws.specs.Paths.{Comes, Move, relation_of}
 use Rattle.soundness_laws.specs.Plain.{IsPlain}
 use Rattle.soundness_laws.specs.AgreementConditions.{MeetsFileConditions}
 use Rattle.soundness_laws.proofs.Tests.{meets_by_tests}
-use Rattle.soundness_laws.proofs.CreatingNothing.{no_body_creates, no_call_creates}
+use Rattle.soundness_laws.proofs.CreatingNothing.{no_call_creates}
 use Rattle.safety_examples.proofs.WrappingValid.{valid_program}
 use Rattle.safety_examples.specs.WrappingControls.{close_controls, constructor_controls, main_controls}
 use Rattle.safety_examples.specs.WrappingPrograms.{close_body, constructor_body, main_body, wrapping}
@@ -56,7 +56,6 @@ mild_step b k i t comes at = reached IsMild all_mild b.0 k i t comes at
 pub wrapping_plain : IsPlain wrapping
 wrapping_plain = record {
   stores = λ b {k} i t f d comes at is. sym (ap (is_mild b) is) ∙ mild_step b k i t comes at;
-  bodies = no_body_creates wrapping refl;
   calls = no_call_creates wrapping refl;
 }
 

@@ -22,8 +22,8 @@
 //!   lends it to such a method, whose body does nothing, and ends, by which the socket leaks.
 //! - A program that shows that what is said of accepted plain programs speaks of obligations that a constructor creates anew on what its owning field holds: it makes a
 //!   socket, on which nothing must be called, stores it, and connects it there.
-//! - A program that shows that the rules accept methods that create the obligation of an object with an owning field anew: `connect` of a holder connects what its field
-//!   holds, and `main` closes the holder, connects it, and closes it again.
+//! - A program that shows that what is said of accepted plain programs speaks of methods that create the obligation of an object with an owning field anew: `connect` of a
+//!   holder connects what its field holds, and `main` closes the holder, connects it, and closes it again.
 //! - A program that shows that what is said of accepted plain programs speaks of promises that hold where a method throws: `shut` closes its argument by a call
 //!   that may throw, as both its annotations say, and `main` makes a socket and has it closed so.
 #![tactic(auto)]
@@ -58,7 +58,9 @@ pub use laws::{
     careful_run_ends, careless_is_not_safe,
 };
 pub use lending::{lending_has_main, lending_is_accepted, lending_is_plain, lending_is_safe};
-pub use reconnecting::{reconnecting_has_main, reconnecting_is_accepted};
+pub use reconnecting::{
+    reconnecting_has_main, reconnecting_is_accepted, reconnecting_is_plain, reconnecting_is_safe,
+};
 pub use reopening::{
     reopening_has_main, reopening_is_accepted, reopening_is_plain, reopening_is_safe,
 };

@@ -1,9 +1,10 @@
 -- A frame ends, and with it the call at which the frame below waits.
 use Rattle.content_laws.proofs.Owners.{runs_on_none}
 use Rattle.program_model.specs.declared.kinds.FieldId.{FieldId}
-use Rattle.soundness_laws.proofs.HeldTargets.{gone_field, low_stays}
-use Rattle.std.proofs.Common.{Bool, List, None, Option, Some, [], ap, arith, eq-eqb, eqb-true, false, inl, inr, length, nat_eq, not, option_map, refl, slice_get, subst, sym, true, true≢false, ℕ, ◌++◌, ◌+◌, ◌<◌, ◌∙◌, ◌∷◌, ◌≡◌, ◌≤◌, ◌⊎◌}
+use Rattle.soundness_laws.proofs.HeldTargets.{frame_holds_none, gone_keeps_owner, held_by_number}
+use Rattle.std.proofs.Common.{Bool, List, None, Option, Some, ap, arith, eq-eqb, eqb-true, false, inl, inr, length, nat_eq, not, option_map, refl, slice_get, subst, sym, true, true≢false, ℕ, ◌++◌, ◌+◌, ◌<◌, ◌∙◌, ◌∷◌, ◌≡◌, ◌≤◌, ◌⊎◌}
 use Rattle.std.specs.FinSet as set
+use Rattle.std.specs.List.{All}
 use Rattle.std.specs.Prelude.{MatchBool}
 use Rattle.rlc_base.specs.declared.name_id.NameId.{NameId}
 use Rattle.rlc_base.specs.declared.place.Pos.{Pos}
@@ -78,11 +79,12 @@ use Rattle.content_laws.specs.HeapAnew.{is_anew_at_end}
 use Rattle.content_laws.specs.Sight.{ActsInSight}
 use Rattle.content_laws.specs.Nexts.{IsBackStep}
 use Rattle.content_laws.specs.Ranges.{LocalsInRange}
-use Rattle.content_laws.specs.Renewing.{IsLentFrom, is_renewed}
+use Rattle.content_laws.specs.Holders.{HoldersAreUnlinked}
+use Rattle.content_laws.specs.Renewing.{HasInHand, IsLentFrom, is_renewed, is_reread}
 use Rattle.content_laws.specs.PlainForms.{HasPlainForms, IsPlainAction}
 use Rattle.content_laws.specs.FieldContents as fields
-use Rattle.content_laws.specs.FieldContents.{AreUnfinished, IsBeingMade, LinksLead, OwningFieldsOwn, TopRunsAlone}
-use Rattle.content_laws.specs.PlaceFacts.{AreWaiting, IsCovered, RunsOn, gives_none, is_given, may_owe, renews_none}
+use Rattle.content_laws.specs.FieldContents.{AreUnfinished, FieldsOwn, IsBeingMade, LinksLead, OwningFieldsOwn, TopRunsAlone}
+use Rattle.content_laws.specs.PlaceFacts.{AreWaiting, IsCovered, IsHeavyObject, RunsOn, Spares, gives_none, is_given, may_owe, renews_none}
 use Rattle.content_laws.specs.Outcomes.{IsFault}
 use Rattle.content_laws.proofs.FactEnds.{end_row}
 use Rattle.content_laws.proofs.OwedFacts.{owed}
@@ -94,13 +96,16 @@ use Rattle.soundness_laws.proofs.KeptPromises.{GivesRoot, ReturnsAlias, ShowsOpe
 use Rattle.content_laws.specs.Steps.{RootsStay}
 use Rattle.content_laws.proofs.Carried.{still_awaited, still_bounded}
 use Rattle.content_laws.proofs.Emptied.{plain_note}
-use Rattle.content_laws.proofs.EndOwners.{end_keeps_library, end_keeps_own, end_owners_go, same_new}
+use Rattle.content_laws.proofs.EndLaws.{is_held}
+use Rattle.content_laws.proofs.EndOwners.{end_keeps_library, same_new}
 use Rattle.content_laws.proofs.EndResets.{plain_alias_position}
-use Rattle.content_laws.proofs.EndTargets.{as_turned, reset_of}
+use Rattle.content_laws.proofs.EndTargets.{IsTurnedUp, as_turned, reset_of, target_heavy}
+use Rattle.content_laws.proofs.LentHolders.{holds_lent}
+use Rattle.content_laws.proofs.RenewedOperands.{HoldsLent}
 use Rattle.content_laws.proofs.Renewed.{says_nothing, without_reset}
 use Rattle.content_laws.proofs.ResetHeaps.{IsResetOf, reset_back, reset_root, reset_stays, reset_was}
 use Rattle.content_laws.proofs.ResultOwners.{returned_owner}
-use Rattle.content_laws.proofs.WaitingTargets.{OwnsTarget, covered_tracks, its_owner, owned_or_lent}
+use Rattle.content_laws.proofs.WaitingTargets.{OwnsTarget, covered_tracks, its_owner, owned_or_lent, read_alike}
 use Rattle.content_laws.proofs.FrameFollowing.{breaks_nothing}
 use Rattle.content_laws.proofs.Chains.{IsLastOwned, IsSame, ends_on, object_there}
 use Rattle.content_laws.proofs.Landing.{landed}
@@ -111,19 +116,21 @@ use Rattle.content_laws.proofs.Stacks.{KeepsClasses, below_top, called_on, track
 use Rattle.content_laws.proofs.TargetTracks.{target_or_not, tracks_target}
 use Rattle.content_laws.proofs.Tracking.{same_body, tracks_call}
 use Rattle.content_laws.proofs.Unmet.{owner_of, may_go, unmet_before, way_of_call}
-use Rattle.soundness_laws.proofs.LentTargets.{lent_awaited, lent_owner}
+use Rattle.soundness_laws.proofs.AnsweredTargets.{target_answered, target_owes, target_there}
 use Rattle.soundness_laws.proofs.LibrarySteps.{same_alias}
-use Rattle.soundness_laws.proofs.Supporting.{object_of_number}
+use Rattle.soundness_laws.proofs.Supporting.{not_true, object_of_number}
 use Rattle.soundness_laws.proofs.Answered.{IsAnswered, finished_tracks, returned_tracks}
 use Rattle.soundness_laws.proofs.EndedNames.{name_called}
-use Rattle.soundness_laws.proofs.EndedObjects.{IsKept, answers_library, finished_as, gone_owner, last_as, none_present, not_next, owned_by_frame, owning_same, result_same, target_renews}
+use Rattle.soundness_laws.proofs.EndedObjects.{IsKept, answers_library, finished_as, gone_owner, kept_object, last_as, none_present, not_next, owned_by_frame, owning_same, result_same, target_renews}
 
 module _ (p : Program) (ac : Accept p) (forms : HasPlainForms p) (names : HasSmallInterests p) (fr caller : Frame) (frs : List Frame) (h : HeapContents) (es : List Entry)
     (agrees : Agrees p (fr ∷ caller ∷ frs) h es) (i : ℕ) (s : Step) (here : slice_get (frame_steps p fr) i ≡ Some s) (q : Completion) (is : s.action ≡ actions.End q)
     (j : ℕ) (t : Step) (there : slice_get (frame_steps p caller) j ≡ Some t) (named : MethodId) (answer : IsAnswered p h fr caller q t named) (sup : Supports p h fr) (making : IsBeingMade p h fr caller)
-    (shows : ShowsOperands p h fr caller (length frs + 1)) (led : LinksLead p h) (covered : IsCovered p h gives_none renews_none (caller ∷ frs) fr) (dispatched : fields.IsDispatched p h fr caller)
-    (waiting : AreWaiting p h (caller ∷ frs)) (owning : OwningFieldsOwn p h) (sight : ActsInSight p h caller) (mine' : LocalsInRange h fr.locals) (ranges : LocalsInRange h caller.locals)
-    (back : IsBackStep p (frame_steps p caller) (exception_class p h (thrown_in fr.locals q)) named t) (alone : TopRunsAlone p h (fr ∷ caller ∷ frs)) (unready : AreUnfinished p h (caller ∷ frs)) where
+    (shows : ShowsOperands p h fr caller (length frs + 1)) (led : LinksLead p h) (was_old : ℕ → Bool) (covered : IsCovered p h gives_none renews_none was_old (caller ∷ frs) fr) (dispatched : fields.IsDispatched p h fr caller)
+    (waiting : AreWaiting p h was_old (caller ∷ frs)) (owning : OwningFieldsOwn p h) (sight : ActsInSight p h caller) (mine' : LocalsInRange h fr.locals) (ranges : LocalsInRange h caller.locals)
+    (back : IsBackStep p (frame_steps p caller) (exception_class p h (thrown_in fr.locals q)) named t) (alone : TopRunsAlone p h (fr ∷ caller ∷ frs)) (unready : AreUnfinished p h (caller ∷ frs))
+    (lower : All (λ (f : Frame). LocalsInRange h f.locals) frs) (held : FieldsOwn p h) (holders : HoldersAreUnlinked (is_heavy_class p) h)
+    (apart' : (o : ℕ) (x : Object) → object_at h o ≡ Some x → IsHeavyObject p x → x.owner ≡ owners.Frame (length frs + 1) → is_renewed p h caller o ≡ false → (was_old o ≡ true) × Spares p h caller o) where
   st : Stands p fr
   st = agrees.standing.0
 
@@ -173,7 +180,7 @@ module _ (p : Program) (ac : Accept p) (forms : HasPlainForms p) (names : HasSma
   roots = returned_roots p caller.locals t.action (method_at p named) gone
 
   reset_is : IsResetOf p called roots kept_heap heap
-  reset_is = reset_of p ac forms h agrees.links fr caller frs below sight dispatched making e v t named back agrees.ends answer.later ranges owning waiting.0
+  reset_is = reset_of p ac forms h agrees.links fr caller frs below sight dispatched making e v t named back agrees.ends answer.later ranges owning
 
   was_kept : (n : ℕ) (y : Object) → object_at heap n ≡ Some y → (z : Object) × (object_at kept_heap n ≡ Some z) × (y.class ≡ z.class) × (y.link ≡ z.link) × (y.finished ≡ z.finished) × (y.owner ≡ z.owner)
   was_kept = reset_was p called roots kept_heap heap reset_is
@@ -398,25 +405,7 @@ module _ (p : Program) (ac : Accept p) (forms : HasPlainForms p) (names : HasSma
       let goes : GoesOn x y = subst (GoesOn x) noted (notes_add_names-object (all_notes p gone (receiver_note caller.locals t.action plain)) n x) in
       let unmet' = unmet_before x y goes unmet in
       let there' = nothing_unmet_goes p at fr.locals.this runs v e h none free n x now unmet' in
-      let same : x.owner ≡ y.owner = ap (λ (u : Object). u.owner) noted in
-      by goes unmet' there' same (result_back p at runs v h e n x there')
-    where
-      by : GoesOn x y → is_unmet x ≡ true → object_at moved n ≡ Some x → x.owner ≡ y.owner → IsOlderAtResult p at runs v e h n x → IsOld n y
-      by goes unmet' there' same old = record {
-        before = old.before;
-        there = old.at;
-        goes_on = goes_on_further old.before x y old.goes_on goes;
-        between = x;
-        present = there';
-        remains = now;
-        unmet = unmet';
-        owned = same;
-        noted = noted;
-        owner = elim old.owner [
-          | inl kept' ↦ inl (sym same ∙ kept')
-          | inr given ↦ inr (record { normal = given.normal; owning = given.owning; own = given.own; type = given.type; result = given.result; root = given.root; may = given.may; owner = sym same ∙ given.owner })
-        ];
-      }
+      kept_object p at runs v e h moved gone all n x y there' now goes unmet' noted (ap (λ (u : Object). u.owner) noted) (result_back p at runs v h e n x there')
 
   -- ---- the alias that the call gives
 
@@ -458,6 +447,9 @@ module _ (p : Program) (ac : Accept p) (forms : HasPlainForms p) (names : HasSma
 
   -- ---- the object whose obligation the call creates anew
 
+  holds : HoldsLent p h waiting.0 frs caller below
+  holds = holds_lent p ac forms h agrees.links held caller ranges below waiting.0 frs (is_given p h caller) (is_reread p h caller) waiting.3 holders
+
   -- the frame that goes on owns it
   renewed_here : (n : ℕ) (x y : Object) → object_at h n ≡ Some x → x.finished ≡ true → is_heavy_class p x.class ≡ true → may_owe x ≡ true → x.owner ≡ owners.Frame at → is_renewed p h caller n ≡ true → y.class ≡ x.class
       → set.is_subset y.must (must_of p y.class) ≡ true → is_unmet y ≡ true → Tracks p heap after n y
@@ -466,11 +458,11 @@ module _ (p : Program) (ac : Accept p) (forms : HasPlainForms p) (names : HasSma
       (ap (λ (f : Fact). is_target p t.action f.places) tr.1 ∙ it.target j t there)
       (λ gives. given_root n x before done (gives_normally tr.0.fact.places gives) (shown gives))
     where
-      it : OwnsTarget p h frs caller n x
-      it = its_owner p ac forms h caller frs below j t there answer.row waiting.0 n x before heavy (inl owes) done renewed mine
+      it : OwnsTarget p h waiting.0 frs caller n x
+      it = its_owner p ac forms h caller waiting.0 frs below j t there answer.row waiting.3 holds n x before heavy (inl owes) done renewed mine
 
       tr : (w : TracksAs p h (is_renewed p h caller n) caller n x) × (w.fact ≡ it.covers.fact) × (w.origin ≡ it.covers.origin)
-      tr = covered_tracks p ac h caller frs below (is_given p h caller n x.class) (is_renewed p h caller n) n x it.covers it.key it.own it.kept it.temp it.there
+      tr = covered_tracks p ac h caller waiting.0 frs below (is_given p h caller n x.class) (is_reread p h caller n x.owner) n x it.covers it.key it.own it.kept it.temp it.there (is_renewed p h caller n) (read_alike p h caller n x.owner renewed)
 
       still : moved_at_call p tr.0.origin t.action t.edge tr.0.fact ≡ moves.Moves → ⊥
       still moved = it.stays j t there (ap (λ (f : Fact). moved_at_call p it.covers.origin t.action t.edge f) (sym tr.1) ∙ ap (λ (g : Origin). moved_at_call p g t.action t.edge tr.0.fact) (sym tr.2) ∙ moved)
@@ -517,7 +509,7 @@ module _ (p : Program) (ac : Accept p) (forms : HasPlainForms p) (names : HasSma
 
         noted : (name : NameId) → holds_receiver t.action tr.fact.places ≡ true → interest_in (callees.callee p t.action) ≡ Some name → set.contains y.called name.0 ≡ true
         noted name receives interest =
-            name_called p ac forms names fr caller frs st h agrees.links agrees.classes i s here q is j t there named answer led covered dispatched n y old unmet mine heavy name
+            name_called p ac forms names fr caller frs st h agrees.links agrees.classes i s here q is j t there named answer led was_old covered dispatched apart' n y old unmet mine heavy name
             (plain_receiver (subst (λ (m : Option Method). IsReceiver h caller.locals t.action m n name) (ap (callee_in p) answer.calls)
             (noted_receiver p ac h caller.method caller.locals t.action n tr.fact.places name form small_call tr.follows.places receives interest))) interest out
           where
@@ -582,8 +574,12 @@ module _ (p : Program) (ac : Accept p) (forms : HasPlainForms p) (names : HasSma
       by (inr (inl alias)) = (alias.0, alias.1, unlinked aliased alias.0 alias.2.linked)
       by (inr (inr noted)) = (noted.0, noted.1, ap (λ (u : Object). u.link) noted.2 ∙ free')
 
+  -- the object is the target, or the target is within it
+  abbrev IsTurned : ℕ → Type 0
+  IsTurned n = IsTurnedUp p ac forms h agrees.links fr caller frs below sight dispatched making e v t named back agrees.ends answer.later ranges owning holders n
+
   abbrev IsSettled : ℕ → Object → Type 0
-  IsSettled n y = (object_at kept_heap n ≡ Some y) ⊎ ((is_renewed p h caller n ≡ true) × (y.must ≡ must_of p y.class) × ((x : Object) → object_at h n ≡ Some x → x.finished ≡ true))
+  IsSettled n y = (object_at kept_heap n ≡ Some y) ⊎ (IsTurned n × (y.must ≡ must_of p y.class))
 
   settled : (n : ℕ) (y : Object) → object_at heap n ≡ Some y → y.link ≡ None → IsSettled n y
   unfolding is_anew_at_end
@@ -608,23 +604,23 @@ module _ (p : Program) (ac : Accept p) (forms : HasPlainForms p) (names : HasSma
 
       go : (b : Bool) → is_anew_at_end p caller.locals t.action (method_at p named) gone n ≡ b → IsSettled n y
       go false out = inl (reset_stays p called roots kept_heap heap reset_is n y out now)
-      go true anew = elim (as_turned p ac forms h agrees.links fr caller frs below sight dispatched making e v t named back agrees.ends answer.later ranges owning waiting.0 unready n y (values.Object n)
+      go true anew = elim (as_turned p ac forms h agrees.links fr caller frs below sight dispatched making e v t named back agrees.ends answer.later ranges owning holders n y (values.Object n)
           (ap Some (roots_of_links-itself heap n y now free')) now true anew z.0 z.1) [
             | inl same ↦ inl (z.1 ∙ ap Some (sym same))
-            | inr turned ↦ inr (turned.1, all_must anew, turned.2)
+            | inr turned ↦ inr (turned.1, all_must anew)
           ]
 
   -- the frame owned its result
   result_owner : (n : ℕ) (x u : Object) → object_at h n ≡ Some x → is_heavy_class p x.class ≡ true → may_owe x ≡ true → IsReturned p at runs v e h n x u → x.owner ≡ owners.Frame (at + 1)
   result_owner n x u before heavy owes r =
-      returned_owner p ac h fr (caller ∷ frs) st mine' covered i s q here is at n x u before heavy owes r ∙ ap owners.Frame (let number : length (caller ∷ frs) + 1 ≡ at + 1 = omega arith in number)
+      returned_owner p ac h fr was_old (caller ∷ frs) st mine' covered i s q here is at n x u before heavy owes r ∙ ap owners.Frame (let number : length (caller ∷ frs) + 1 ≡ at + 1 = omega arith in number)
 
   unmade : (w : ℕ) (x : Object) → fields.is_new t.action ≡ true → fr.locals.this ≡ values.Object w → object_at h w ≡ Some x → x.finished ≡ false
   unmade w x new this before = making j t w x there new this before
 
   -- an object whose obligation is created anew is that of a frame, which tracks it, or that of a field
   module _ (n : ℕ) (y : Object) (now : object_at heap n ≡ Some y) (unmet : is_unmet y ≡ true) (stays' : is_library_owner y.owner ≡ false)
-      (renewed : is_renewed p h caller n ≡ true) (must : y.must ≡ must_of p y.class) (made : (x : Object) → object_at h n ≡ Some x → x.finished ≡ true) where
+      (turned : IsTurned n) (must : y.must ≡ must_of p y.class) where
     x : (x : Object) × (object_at h n ≡ Some x) × (y.class ≡ x.class)
     x = class_was n y now
 
@@ -638,7 +634,7 @@ module _ (p : Program) (ac : Accept p) (forms : HasPlainForms p) (names : HasSma
     heavy = ap (is_heavy_class p) (sym x.2) ∙ heavy_by_unmet p y.class y unmet bounded
 
     finished : x.0.finished ≡ true
-    finished = made x.0 x.1
+    finished = turned.3 x.0 x.1
 
     still_owes : may_owe x.0 ≡ true
     still_owes = not_the_librarys_owes x.0 (by (is_library_owner x.0.owner) refl)
@@ -650,39 +646,45 @@ module _ (p : Program) (ac : Accept p) (forms : HasPlainForms p) (names : HasSma
     abbrev IsSomeones : Type 0
     IsSomeones = ((k : ℕ) × (y.owner ≡ owners.Frame k) × IsTracked p heap (after ∷ frs) n y k) ⊎ ((w : ℕ) × (f : FieldId) × (y.owner ≡ owners.Field w f))
 
-    -- a field of what the caller makes, or a frame below, goes on owning it
-    still_field : (w : ℕ) (f : FieldId) → x.0.owner ≡ owners.Field w f → RunsOn w (caller ∷ frs) → y.owner ≡ owners.Field w f
-    still_field w f mine on = z.5 ∙ by (from n z.0 z.1)
+    -- it stays with a frame below, or the one that goes on, or with a field of an object on which one of them runs
+    still_owned : is_frame x.0.owner (at + 1) ≡ false → (constructs runs ≡ true → (u : Object) → u.owner ≡ x.0.owner → is_held (number_of fr.locals.this) u ≡ true → ⊥) → y.owner ≡ x.0.owner
+    still_owned apart other = z.5 ∙ by (from n z.0 z.1)
       where
         not_made : is_new t.action ≡ true → number_of fr.locals.this ≡ Some n → ⊥
         not_made new self = true≢false (sym finished ∙ being_made n x.0 new self x.1)
 
-        by : IsFrom p at fr.locals.this caller.locals t.action plain gone says_none e n z.0 → z.0.owner ≡ owners.Field w f
+        no_result : (u : Object) → IsReturned p at runs v e h n x.0 u → ⊥
+        no_result u r = true≢false (sym (ap (λ (o : Owner). is_frame o (at + 1)) (result_owner n x.0 u x.1 heavy still_owes r) ∙ eq-eqb (at + 1) (at + 1) refl) ∙ apart)
+
+        by : IsFrom p at fr.locals.this caller.locals t.action plain gone says_none e n z.0 → z.0.owner ≡ x.0.owner
         by (inl made') = absurd (not_made made'.2.new made'.2.self)
         by (inr (inl alias)) = absurd (not_made alias.2.new alias.2.self)
-        by (inr (inr noted)) = sym (ap (λ (u : Object). u.owner) noted.2)
-            ∙ gone_field p at fr.locals.this runs v e h n w f x.0 x.1 mine (λ u r. (let never : owners.Field w f ≡ owners.Frame (at + 1) = sym mine ∙ result_owner n x.0 u x.1 heavy still_owes r in cc))
-            (λ new self. runs_on_none w (caller ∷ frs) (alone n x.0 w f new (object_of_number fr.locals.this w self) x.1 heavy mine) on) noted.0 noted.1
+        by (inr (inr noted)) = sym (ap (λ (u : Object). u.owner) noted.2) ∙ gone_keeps_owner p at fr.locals.this runs v e h n x.0 x.1 no_result apart other noted.0 noted.1
 
-    callers : OwnsTarget p h frs caller n x.0 → IsSomeones
-    callers it =
-        let mine = it.key.owner it.kept it.own in inl (
-          at,
-          z.5 ∙ end_keeps_own p at fr.locals.this caller.locals t.action runs plain v e h says_none unmade result_owner n x.0 z.0 x.1 z.1 finished heavy mine,
-          rw (eq-eqb (length frs + 1) at refl) (renewed_here n x.0 y x.1 finished heavy still_owes mine renewed x.2 bounded unmet),
-        )
+    still_frame : (k : ℕ) → k ≤ at → x.0.owner ≡ owners.Frame k → y.owner ≡ owners.Frame k
+    still_frame k low mine = still_owned (not_true (is_frame x.0.owner (at + 1)) (λ frame. (let same = eqb-true k (at + 1) (sym (ap (λ (o : Owner). is_frame o (at + 1)) mine) ∙ frame) in omega (arith, same, low))))
+        (λ new u owner held'. frame_holds_none (number_of fr.locals.this) k u (owner ∙ mine) held') ∙ mine
 
-    lenders : IsLentFrom p h frs n x.0.owner → IsSomeones
-    lenders lent = elim (lent_owner p h frs n x.0.owner lent) [
-      | inl it ↦ (let low' = it.2 in
-          let kept_owner' : z.0.owner ≡ x.0.owner =
-          low_stays at x.0.owner z.0.owner (end_owners_go p at fr.locals.this caller.locals t.action runs plain v e h says_none unmade [] (λ k u there' wide w new this held. tt) result_owner None n x.0 z.0 x.1 z.1 finished heavy) it.0 it.1 (omega (arith, low')) in inl (
-            it.0,
-            z.5 ∙ kept_owner' ∙ it.1,
-            below_caller it.0 it.2 (lent_awaited p ac forms h heap n x.0 y x.1 heavy still_owes finished (stays n x.0 x.1 finished) x.2 bounded caller frs agrees.standing.1.1 agrees.stacked.1 waiting.1 it.0 it.1 lent),
-          ))
-      | inr field ↦ inr (field.0, field.1, still_field field.0 field.1 field.2 (inr field.3))
-    ]
+    still_field : (w : ℕ) (f : FieldId) → x.0.owner ≡ owners.Field w f → RunsOn w (caller ∷ frs) → y.owner ≡ owners.Field w f
+    still_field w f mine on = still_owned (ap (λ (o : Owner). is_frame o (at + 1)) mine)
+        (λ new u owner held'. runs_on_none w (caller ∷ frs) (alone n x.0 w f new (object_of_number fr.locals.this w (held_by_number (number_of fr.locals.this) w f u (owner ∙ mine) held')) x.1 heavy mine) on) ∙ mine
+
+    target : (u : Object) × (object_at h turned.0 ≡ Some u)
+    target = target_there h turned.0 n x.0 x.1 turned.2
+
+    ready_target : (target.0.finished ≡ true) × (is_heavy_class p target.0.class ≡ true)
+    ready_target = (
+      turned.1.1 target.0 target.1,
+      target_heavy p ac forms h agrees.links fr caller frs below sight dispatched making e v t named back agrees.ends answer.later ranges owning holders n turned.0 x.0 target.0 turned.1 turned.2 x.1 heavy target.1,
+    )
+
+    hand : HasInHand p h (IsLentFrom p h frs) at caller turned.0 target.0.owner
+    hand = elim (owned_or_lent p ac forms h caller waiting.0 frs below j t there answer.row waiting.3 holds turned.0 target.0 target.1 ready_target.1
+        (target_owes p h turned.0 n target.0 x.0 target.1 x.1 turned.2 still_owes) ready_target.0 turned.1.0) [ inl it ↦ inl (it.key.owner it.kept it.own) | inr other ↦ inr other ]
+
+    someones : IsSomeones
+    someones = by (target_answered p ac forms h heap agrees.ends agrees.links held holders n x.0 y x.1 heavy finished (stays n x.0 x.1 finished) x.2 bounded caller frs agrees.standing.1.1 lower agrees.stacked.1 waiting.0 waiting.4 unready
+        turned.0 target.0 target.1 turned.2 hand)
       where
         below_caller : (k : ℕ) → k ≤ length frs → IsAwaited p heap frs n y k → IsTracked p heap (after ∷ frs) n y k
         below_caller k low w = go (nat_eq (length frs + 1) k) refl
@@ -691,11 +693,13 @@ module _ (p : Program) (ac : Accept p) (forms : HasPlainForms p) (names : HasSma
             go true here' = absurd (let same = eqb-true (length frs + 1) k here' in omega (arith, same, low))
             go false other = w
 
-    someones : IsSomeones
-    someones = elim (owned_or_lent p ac forms h caller frs below j t there answer.row waiting.0 n x.0 x.1 heavy (inl still_owes) finished renewed) [
-      | inl it ↦ callers it
-      | inr other ↦ elim other [ inl lent ↦ lenders lent | inr held ↦ inr (held.1.holder, held.1.field, still_field held.1.holder held.1.field held.1.owns (inl held.1.runs)) ]
-    ]
+        by : ((turned.0 ≡ n) × (x.0.owner ≡ owners.Frame at)) ⊎ (((k : ℕ) × (x.0.owner ≡ owners.Frame k) × (k ≤ length frs) × IsAwaited p heap frs n y k) ⊎ ((w : ℕ) × (f : FieldId) × (x.0.owner ≡ owners.Field w f) × RunsOn w (caller ∷ frs)))
+            → IsSomeones
+        by (inl (same, mine)) =
+            let renewed = subst (λ (m : ℕ). is_renewed p h caller m ≡ true) same turned.1.0 in
+            inl (at, still_frame at (omega arith) mine, rw (eq-eqb (length frs + 1) at refl) (renewed_here n x.0 y x.1 finished heavy still_owes mine renewed x.2 bounded unmet))
+        by (inr (inl (k, mine, low, awaits))) = inl (k, still_frame k (omega (arith, low)) mine, below_caller k low awaits)
+        by (inr (inr (w, f, mine, on))) = inr (w, f, still_field w f mine on)
 
   -- a frame owns nothing that is linked
   owned_free : (n k : ℕ) (y : Object) → object_at heap n ≡ Some y → y.owner ≡ owners.Frame k → y.link ≡ None
@@ -708,7 +712,7 @@ module _ (p : Program) (ac : Accept p) (forms : HasPlainForms p) (names : HasSma
   tracked : (n : ℕ) (y : Object) (k : ℕ) → object_at heap n ≡ Some y → is_unmet y ≡ true → y.owner ≡ owners.Frame k → IsTracked p heap (after ∷ frs) n y k
   tracked n y k now unmet owner = elim (settled n y now (owned_free n k y now owner)) [
     | inl there' ↦ by there' (from n y there')
-    | inr anew ↦ elim (someones n y now unmet (ap is_library_owner owner) anew.0 anew.1 anew.2) [
+    | inr anew ↦ elim (someones n y now unmet (ap is_library_owner owner) anew.0 anew.1) [
       | inl it ↦ subst (λ (c : ℕ). IsTracked p heap (after ∷ frs) n y c) (let both : owners.Frame it.0 ≡ owners.Frame k = sym it.1 ∙ owner in (let one : it.0 ≡ k = cc in one)) it.2
       | inr field ↦ absurd (let never : owners.Field field.0 field.1 ≡ owners.Frame k = sym field.2 ∙ owner in cc)
     ]
@@ -732,9 +736,9 @@ module _ (p : Program) (ac : Accept p) (forms : HasPlainForms p) (names : HasSma
   answers : (n : ℕ) (y : Object) → object_at heap n ≡ Some y → y.link ≡ None → is_unmet y ≡ true → is_answering y.owner ≡ true
   answers n y now free' unmet = elim (settled n y now free') [ inl there' ↦ by_from (from n y there') | inr anew ↦ by_owner (is_library_owner y.owner) refl anew ]
     where
-      by_owner : (b : Bool) → is_library_owner y.owner ≡ b → (is_renewed p h caller n ≡ true) × (y.must ≡ must_of p y.class) × ((x : Object) → object_at h n ≡ Some x → x.finished ≡ true) → is_answering y.owner ≡ true
+      by_owner : (b : Bool) → is_library_owner y.owner ≡ b → IsTurned n × (y.must ≡ must_of p y.class) → is_answering y.owner ≡ true
       by_owner true library anew = answers_library y.owner library
-      by_owner false other anew = elim (someones n y now unmet other anew.0 anew.1 anew.2) [ inl frame ↦ ap is_answering frame.1 | inr field ↦ ap is_answering field.2 ]
+      by_owner false other anew = elim (someones n y now unmet other anew.0 anew.1) [ inl frame ↦ ap is_answering frame.1 | inr field ↦ ap is_answering field.2 ]
 
       by : IsOld n y → is_answering y.owner ≡ true
       by old = elim old.owner [

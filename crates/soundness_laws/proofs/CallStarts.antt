@@ -99,7 +99,7 @@ first_value l d n some small =
     ap (λ (t : Bool). temp_in l (if t then Some (d + 0) else None)) (is_there d n some small) ∙ ap (temp_value l) (let same : d + 0 ≡ d = omega arith in same)
 
 module _ (p : Program) (ac : Accept p) (forms : HasPlainForms p) (fr callee : Frame) (frs : List Frame) (h : HeapContents) (es : List Entry) (agrees : Agrees p (fr ∷ frs) h es)
-    (i : ℕ) (s : Step) (here : slice_get (frame_steps p fr) i ≡ Some s) (named runs : MethodId) (start : IsStarted p fr callee h s named runs) (sup : Supports p h fr) (targets : KeepsTargets p fr) (ranges : LocalsInRange h fr.locals) (covered : IsCovered p h gives_none renews_none frs fr) where
+    (i : ℕ) (s : Step) (here : slice_get (frame_steps p fr) i ≡ Some s) (named runs : MethodId) (start : IsStarted p fr callee h s named runs) (sup : Supports p h fr) (targets : KeepsTargets p fr) (ranges : LocalsInRange h fr.locals) (old : ℕ → Bool) (covered : IsCovered p h gives_none renews_none old frs fr) where
   abbrev frames : List Frame
   frames = callee ∷ fr ∷ frs
 
@@ -207,7 +207,7 @@ module _ (p : Program) (ac : Accept p) (forms : HasPlainForms p) (fr callee : Fr
           let here_root : root_of h (operand_of fr.locals s.action (g.index + 1)) ≡ Some o = ap (λ (k : ℕ). root_of h (operand_of fr.locals s.action k)) (let same : g.index + 1 ≡ 1 + g.index = omega arith in same) ∙ g.root in
           within_trans q.before g.param.before y.called (start.fit.asks g.index q g.param q_at at)
           (within_trans g.param.before x.called y.called
-          (asked_of_operand p ac h fr agrees.standing.0 frs i s here start.row covered o x before (heavy_by_unmet p x.class x unmet' bound) (inl owes) start.method g.index g.param (same_callee ∙ start.named_at) at g.owning here_root c type heavy) goes.called)
+          (asked_of_operand p ac h fr agrees.standing.0 old frs i s here start.row covered o x before (heavy_by_unmet p x.class x unmet' bound) (inl owes) start.method g.index g.param (same_callee ∙ start.named_at) at g.owning here_root c type heavy) goes.called)
 
       count : (k : ℕ) (q : ParamSig) → slice_get (params_in (method_at p named)) k ≡ Some q → k < length (params_in (method_at p named))
       count k q at = slice_get_within (params_in (method_at p named)) k q at

@@ -8,14 +8,12 @@ use Rattle.program_model.specs.declared.kinds.FieldId.{FieldId}
 use Rattle.program_model.specs.declared.kinds.MethodId.{MethodId}
 use Rattle.program_model.specs.declared.program.Method.{Method}
 use Rattle.program_model.specs.declared.program.Program.{Program}
-use Rattle.program_model.specs.declared.tree.Body.{Body}
-use Rattle.program_model.specs.Lookups.{body_at, method_at}
-use Rattle.ledger_obligations.specs.Bodies.{has_field_place, method_in, method_of, reset_in, resets_this}
+use Rattle.program_model.specs.Lookups.{method_at}
+use Rattle.ledger_obligations.specs.Bodies.{has_field_place, is_constructor}
 use Rattle.java_control.specs.Calls.{is_receiver, is_reset_of_this, is_this_form, resets_receiver}
 use Rattle.java_control.specs.Remaining.{Todo}
 use Rattle.java_control.specs.declared.action.Action.{Action}
 use Rattle.java_control.specs.declared.action.Action.TheVariants as actions
-use Rattle.ledger_obligations.specs.Signatures.{is_position}
 use Rattle.content_laws.specs.Paths.{Comes, Move, relation_of}
 use Rattle.soundness_laws.specs.Plain.{creates_nothing}
 
@@ -40,22 +38,7 @@ module _ (p : Program) (nothing : creates_nothing p ≡ true) where
   no_reset : (m : MethodId) (n : Method) → method_at p m ≡ Some n → n.sig.reset ≡ None
   no_reset m n at = none_there n.sig.reset (all_at (λ (x : Method). not (is_some x.sig.reset)) p.methods.items m.0 n nothing at)
 
-  -- nor does the method of a body
-  none_of : (b : BodyId) → reset_in (method_of p b) ≡ None
-  none_of b = of (body_at p b)
-    where
-      method : (x : Option Method) (m : MethodId) → method_at p m ≡ x → reset_in x ≡ None
-      method None m at = refl
-      method (Some n) m at = no_reset m n at
-
-      of : (x : Option Body) → reset_in (method_in p x) ≡ None
-      of None = refl
-      of (Some x) = method (method_at p x.method) x.method refl
-
-  pub no_body_creates : (b : BodyId) → resets_this p b ≡ true → (f : FieldId) → has_field_place p b f ≡ false
-  no_body_creates b says f = absurd (true≢false (sym says ∙ ap (λ (r : Option ℕ). is_position r 0) (none_of b)))
-
-  -- nor does a call
+  -- no call creates one
   no_receiver : (m : MethodId) (x : Option Method) → method_at p m ≡ x → resets_receiver x ≡ false
   no_receiver m None at = refl
   no_receiver m (Some n) at = ap is_receiver (no_reset m n at)
@@ -65,6 +48,6 @@ module _ (p : Program) (nothing : creates_nothing p ≡ true) where
   silent (actions.Call m d n form) = and_false (is_this_form form) (resets_receiver (method_at p m)) (no_receiver m (method_at p m) refl)
   silent a = refl
 
-  pub no_call_creates : (b : BodyId) {k : List Todo} (i : ℕ) (t : Move (List Todo)) → Comes (relation_of p b) k → slice_get ((relation_of p b).next k) i ≡ Some t → is_reset_of_this p t.action ≡ true
-      → (f : FieldId) → has_field_place p b f ≡ false
-  no_call_creates b {k} i t comes there this f = absurd (true≢false (sym this ∙ silent t.action))
+  pub no_call_creates : (b : BodyId) {k : List Todo} (i : ℕ) (t : Move (List Todo)) → Comes (relation_of p b) k → slice_get ((relation_of p b).next k) i ≡ Some t → is_constructor p b ≡ true
+      → is_reset_of_this p t.action ≡ true → (f : FieldId) → has_field_place p b f ≡ false
+  no_call_creates b {k} i t comes there makes this f = absurd (true≢false (sym this ∙ silent t.action))

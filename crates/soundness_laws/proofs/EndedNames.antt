@@ -1,5 +1,5 @@
 -- The name that a call counts for was called on the object of its receiver, when the frame of the call has ended.
-use Rattle.std.proofs.Common.{◌≡◌, inl, inr, ℕ, ◌+◌, ◌<◌, Bool, true, false, not, Option, Some, List, ◌∷◌, length, option_map, slice_get, refl, sym, ap, ◌∙◌, arith, lt-ltb}
+use Rattle.std.proofs.Common.{◌≡◌, inl, inr, ℕ, ◌+◌, ◌<◌, Bool, true, false, not, Option, Some, List, ◌∷◌, length, option_map, slice_get, refl, sym, ap, ◌∙◌}
 use Rattle.std.specs.FinSet as set
 use Rattle.rlc_base.specs.declared.name_id.NameId.{NameId}
 use Rattle.std.proofs.lemmas.Bool.{and_parts}
@@ -41,7 +41,7 @@ use Rattle.content_laws.specs.Renewing.{is_renewed}
 use Rattle.content_laws.specs.PlainForms.{HasPlainForms}
 use Rattle.content_laws.specs.FieldContents as fields
 use Rattle.content_laws.specs.FieldContents.{LinksLead}
-use Rattle.content_laws.specs.PlaceFacts.{IsCovered, gives_none, is_frame_below, OwesOrHolds, renews_none}
+use Rattle.content_laws.specs.PlaceFacts.{IsCovered, IsHeavyObject, OwesOrHolds, Spares, gives_none, renews_none}
 use Rattle.content_laws.proofs.Growth.{gone_grows}
 use Rattle.content_laws.proofs.CallNames.{IsReceiver, same_interest, small_name}
 use Rattle.content_laws.proofs.EndHeaps.{small_notes}
@@ -54,7 +54,8 @@ use Rattle.soundness_laws.proofs.EndedObjects.{IsKept, plain_interest}
 
 module _ (p : Program) (ac : Accept p) (forms : HasPlainForms p) (names : HasSmallInterests p) (fr caller : Frame) (frs : List Frame) (st : Stands p fr) (h : HeapContents) (links : HasEarlierLinks h) (classes : HasMadeClasses p h)
     (i : ℕ) (s : Step) (here : slice_get (frame_steps p fr) i ≡ Some s) (q : Completion) (is : s.action ≡ actions.End q) (j : ℕ) (t : Step) (there : slice_get (frame_steps p caller) j ≡ Some t) (named : MethodId)
-    (answer : IsAnswered p h fr caller q t named) (led : LinksLead p h) (covered : IsCovered p h gives_none renews_none (caller ∷ frs) fr) (dispatched : fields.IsDispatched p h fr caller) where
+    (answer : IsAnswered p h fr caller q t named) (led : LinksLead p h) (old : ℕ → Bool) (covered : IsCovered p h gives_none renews_none old (caller ∷ frs) fr) (dispatched : fields.IsDispatched p h fr caller)
+    (apart : (o : ℕ) (x : Object) → object_at h o ≡ Some x → IsHeavyObject p x → x.owner ≡ owners.Frame (length frs + 1) → is_renewed p h caller o ≡ false → (old o ≡ true) × Spares p h caller o) where
   abbrev e : Option ClassId
   e = exception_class p h (thrown_in fr.locals q)
 
@@ -79,24 +80,23 @@ module _ (p : Program) (ac : Accept p) (forms : HasPlainForms p) (names : HasSma
   abbrev all : ℕ → Object → Object
   all = noted_object (all_notes p gone (receiver_note caller.locals t.action plain))
 
-  module _ (n : ℕ) (y : Object) (old : IsKept p at runs v e h moved gone all n y) (unmet : is_unmet y ≡ true) (mine : old.before.owner ≡ owners.Frame at) (heavy : is_heavy_class p old.before.class ≡ true) (name : NameId)
+  module _ (n : ℕ) (y : Object) (was : IsKept p at runs v e h moved gone all n y) (unmet : is_unmet y ≡ true) (mine : was.before.owner ≡ owners.Frame at) (heavy : is_heavy_class p was.before.class ≡ true) (name : NameId)
       (r : IsReceiver h caller.locals t.action plain n name) (interest : interest_in (callees.callee p t.action) ≡ Some name)
       (unrenewed : is_renewed p h caller n ≡ false) where
-    was_unmet : is_unmet old.before ≡ true
-    was_unmet = unmet_before old.before y old.goes_on unmet
+    was_unmet : is_unmet was.before ≡ true
+    was_unmet = unmet_before was.before y was.goes_on unmet
 
-    owes : OwesOrHolds p h n old.before
-    owes = inl (not_the_librarys_owes old.before (ap is_library_owner mine))
+    done : was.before.finished ≡ true
+    done = (and_parts was.before.finished (not (set.is_subset was.before.must was.before.called)) was_unmet).0
 
-    -- the caller, a frame below, owns the object
-    low : is_frame_below (length (caller ∷ frs) + 1) old.before.owner ≡ true
-    low = ap (is_frame_below (length (caller ∷ frs) + 1)) mine ∙ lt-ltb at (length (caller ∷ frs) + 1) (omega arith)
+    owes : OwesOrHolds p h n was.before
+    owes = inl (not_the_librarys_owes was.before (ap is_library_owner mine))
 
     first : (x : Object) × (object_at h r.object ≡ Some x)
-    first = has_object h r.object n old.before r.root old.there
+    first = has_object h r.object n was.before r.root was.there
 
     way : Leads p h r.object n
-    way = led r.object n first.0 old.before first.1 r.root old.there heavy owes
+    way = led r.object n first.0 was.before first.1 r.root was.there heavy owes
 
     same_callee : callees.callee p t.action ≡ method_at p named
     same_callee = ap (callee_in p) answer.calls
@@ -115,15 +115,15 @@ module _ (p : Program) (ac : Accept p) (forms : HasPlainForms p) (names : HasSma
         noted_names_reach_roots p (receiver_note caller.locals t.action plain) gone its n now.0 y (small_notes caller.locals t.action plain small) r.noted now.1
         (passed_on p its first.0 now.0 now.2 ∙ passed)
         (leading_links-on p h gone r.object n links on (unchanged_fields_keep_contents p h gone (gone_grows p at fr.locals.this runs v e h).fields) way)
-        (changed_object_at-object all gone n ∙ ap (option_map (all n)) old.remains ∙ ap Some old.noted)
+        (changed_object_at-object all gone n ∙ ap (option_map (all n)) was.remains ∙ ap Some was.noted)
 
     -- or the class's own method ran, which has called it
     own_called : is_passed_on p its first.0 ≡ false → set.contains y.called name.0 ≡ true
     own_called stopped =
-        within_at old.before.called y.called old.goes_on.called name.0
-        (own_name_called p ac forms h links fr caller frs st covered i s q here is j t there named answer.method answer.calls answer.named_at dispatched name
-        (ap interest_in (sym (same_callee ∙ answer.named_at)) ∙ interest) (chosen_by_note caller.locals t.action plain its r.noted) n old.before old.there heavy owes
-        (and_parts old.before.finished (not (set.is_subset old.before.must old.before.called)) was_unmet).0 classes (unrenewed, inr (inl low)) r.object first.0 r.value first.1 way stopped)
+        within_at was.before.called y.called was.goes_on.called name.0
+        (own_name_called p ac forms h links fr caller frs st old covered i s q here is j t there named answer.method answer.calls answer.named_at dispatched name
+        (ap interest_in (sym (same_callee ∙ answer.named_at)) ∙ interest) (chosen_by_note caller.locals t.action plain its r.noted) n was.before was.there heavy owes
+        done classes (apart n was.before was.there (done, heavy) mine unrenewed) r.object first.0 r.value first.1 way stopped)
 
     pub name_called : set.contains y.called name.0 ≡ true
     name_called = go (is_passed_on p its first.0) refl

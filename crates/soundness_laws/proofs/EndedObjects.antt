@@ -27,6 +27,7 @@ use Rattle.content_laws.specs.Configuration.{Frame}
 use Rattle.content_laws.specs.Choosing.{frame_steps}
 use Rattle.ledger_steps.specs.Ends.{constructor_ended, frame_ended, frame_gone, result_moved}
 use Rattle.content_laws.specs.Heaps.{GoesOn, IsKeptOr}
+use Rattle.content_laws.proofs.ObjectLaws.{goes_on_further}
 use Rattle.content_laws.specs.ProgramCalls.{IsFinished, IsOlderAtResult, IsReturned}
 use Rattle.content_laws.proofs.Returned.{finished_by, result_back}
 use Rattle.content_laws.specs.Chains.{HaveEnds, IsLast}
@@ -107,6 +108,7 @@ finished_as p i self a e n x y (Some m) it = record {
   link = it.link;
   must = it.must;
   owner = it.owner;
+  called = it.called;
 }
 
 -- an unmet object that no `new` has just finished: it was there before, when the result had moved and when the frame had gone, and the call was
@@ -122,6 +124,25 @@ pub record IsKept (p : Program) (i : ℕ) (runs : Option Method) (v : Value) (e 
   pub owned : between.owner ≡ y.owner
   pub noted : noted_as n between ≡ y
   pub owner : (y.owner ≡ before.owner) ⊎ IsReturned p i runs v e h n before y
+
+-- so it is with an unmet object that was there when the result had moved
+pub kept_object : (p : Program) (i : ℕ) (runs : Option Method) (v : Value) (e : Option ClassId) (h k g : HeapContents) (noted_as : ℕ → Object → Object) (n : ℕ) (x y : Object) → object_at k n ≡ Some x → object_at g n ≡ Some x → GoesOn x y → is_unmet x ≡ true
+    → noted_as n x ≡ y → x.owner ≡ y.owner → IsOlderAtResult p i runs v e h n x → IsKept p i runs v e h k g noted_as n y
+kept_object p i runs v e h k g noted_as n x y there now goes unmet noted same old = record {
+  before = old.before;
+  there = old.at;
+  goes_on = goes_on_further old.before x y old.goes_on goes;
+  between = x;
+  present = there;
+  remains = now;
+  unmet = unmet;
+  owned = same;
+  noted = noted;
+  owner = elim old.owner [
+    | inl kept ↦ inl (sym same ∙ kept)
+    | inr given ↦ inr (record { normal = given.normal; owning = given.owning; own = given.own; type = given.type; result = given.result; root = given.root; may = given.may; owner = sym same ∙ given.owner })
+  ];
+}
 
 -- ---- owners
 

@@ -18,6 +18,8 @@ pub mod StoredFacts
 pub mod Holders
 pub mod HeldTargets
 pub mod LentTargets
+pub mod OwnedTargets
+pub mod AnsweredTargets
 pub mod LibrarySteps
 pub mod CallStarts
 pub mod Answered
@@ -27,6 +29,7 @@ pub mod CallEnds
 pub mod MainEnds
 pub mod Steps
 pub mod Supporting
+pub mod SparedOwned
 pub mod PromisedOperands
 pub mod Starts
 pub mod Safe

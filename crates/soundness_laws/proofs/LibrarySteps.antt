@@ -1,7 +1,8 @@
 -- A call of the library begins and ends in one step.
-use Rattle.content_laws.proofs.ResetCovers.{are_making}
 use Rattle.program_model.specs.declared.kinds.FieldId.{FieldId}
-use Rattle.std.specs.Prelude.{MatchBool}
+use Rattle.std.specs.Prelude.{MatchBool, not}
+use Rattle.std.specs.List.{All}
+use Rattle.std.proofs.lemmas.Bool.{and_parts}
 use Rattle.std.proofs.Common.{◌≡◌, ◌⊎◌, inl, inr, ℕ, ◌+◌, ◌≤◌, nat_eq, eqb-true, Bool, true, false, true≢false, Option, Some, None, List, ◌∷◌, ◌++◌, length, slice_get, refl, sym, ap, ◌∙◌, subst, if◌then◌else◌, arith, eq-eqb}
 use Rattle.std.specs.FinSet as set
 use Rattle.rlc_base.specs.declared.name_id.NameId.{NameId}
@@ -50,7 +51,7 @@ use Rattle.content_laws.specs.PlacePlaces.{IsWay}
 use Rattle.content_laws.specs.Chains.{HaveEnds, IsLast}
 use Rattle.content_laws.specs.LibraryClasses.{GivesLibraryClasses, ThrowsMadeClasses}
 use Rattle.content_laws.specs.Agreement.{Agrees, HasMadeClasses, IsAwaited, IsTracked, Stands, Tracks, is_answering}
-use Rattle.content_laws.specs.PlainForms.{HasPlainForms, IsAnsweredBy, IsPlainAction, IsPlainReset, may_be_made}
+use Rattle.content_laws.specs.PlainForms.{HasPlainForms, IsAnsweredBy, IsPlainAction, may_be_made}
 use Rattle.content_laws.specs.Fitting.{FitsMethod}
 use Rattle.content_laws.proofs.LibraryCallLaws.{roots_go_on-value, roots_of_links-itself}
 use Rattle.content_laws.proofs.RootLaws.{has_object}
@@ -70,7 +71,7 @@ use Rattle.content_laws.proofs.LibraryRuns.{one_alias}
 use Rattle.content_laws.proofs.Births.{heavy_by_unmet, made_tracks}
 use Rattle.content_laws.proofs.LibraryNames.{library_name_goes_on}
 use Rattle.content_laws.proofs.Goes.{not_the_librarys_owes}
-use Rattle.content_laws.specs.FieldContents.{AreNew, AreUnfinished, LinksLead, OwningFieldsOwn}
+use Rattle.content_laws.specs.FieldContents.{AreUnfinished, FieldsOwn, LinksLead, OwningFieldsOwn}
 use Rattle.content_laws.specs.Sight.{ActsInSight}
 use Rattle.content_laws.specs.Nexts.{IsConstantRead}
 use Rattle.content_laws.specs.Ranges.{LocalsInRange}
@@ -96,12 +97,18 @@ use Rattle.java_control.specs.declared.fact.Fact.{Fact}
 use Rattle.java_control.specs.declared.place.Place.TheVariants as places
 use Rattle.ownership_rules.specs.Facts.{has, is_own}
 use Rattle.content_laws.specs.Anew.{is_target}
-use Rattle.content_laws.specs.PlaceFacts.{AreWaiting, Covers, IsCovered, IsOwned, gives_none, renews_none}
-use Rattle.content_laws.specs.Renewing.{IsHeldBy, IsLentFrom}
-use Rattle.content_laws.proofs.ResetJoins.{hands_of, no_holder, renewed_in_hands, still_held}
+use Rattle.content_laws.specs.PlaceFacts.{AreWaiting, Covers, IsCovered, IsOwned, RunsOn, gives_none, may_owe, renews_none}
+use Rattle.content_laws.specs.Renewing.{renews}
+use Rattle.content_laws.specs.Holders.{HoldersAreUnlinked}
+use Rattle.content_laws.proofs.AnewAtEnds.{IsRisen}
+use Rattle.content_laws.proofs.ClassArguments.{target_is_instance}
+use Rattle.content_laws.proofs.LentHolders.{holds_lent}
+use Rattle.content_laws.proofs.LibraryTargets.{risen}
+use Rattle.content_laws.proofs.RenewedOperands.{HoldsLent, renewed_answered}
 use Rattle.content_laws.proofs.TargetTracks.{target_or_not, tracks_target}
 use Rattle.content_laws.proofs.WaitingTargets.{covered_tracks}
-use Rattle.soundness_laws.proofs.LentTargets.{lent_awaited, lent_owner}
+use Rattle.soundness_laws.proofs.AnsweredTargets.{target_answered, target_owes}
+use Rattle.soundness_laws.proofs.OwnedTargets.{owned_target}
 use Rattle.content_laws.proofs.Ready.{plain_step, ready, resets_plainly}
 use Rattle.content_laws.proofs.Tracking.{stack_tracks, tracks_call, tracks_plain}
 
@@ -180,8 +187,8 @@ pub record IsLibraryStep (p : Program) (h : HeapContents) (arrays : List ArrayOb
 module _ (p : Program) (ac : Accept p) (forms : HasPlainForms p) (names : HasSmallInterests p) (fr : Frame) (frs : List Frame) (h : HeapContents)
     (es : List Entry) (agrees : Agrees p (fr ∷ frs) h es) (i : ℕ) (s : Step) (here : slice_get (frame_steps p fr) i ≡ Some s) (named m : MethodId) (d : Conduct) (v : Value)
     (arrays : List ArrayObject) (step : IsLibraryStep p h arrays fr.locals s named m d v) (ranges : LocalsInRange h fr.locals) (led : LinksLead p h)
-    (covered : IsCovered p h gives_none renews_none frs fr) (waiting : AreWaiting p h frs) (owning : OwningFieldsOwn p h) (sight : ActsInSight p h fr)
-    (news : AreNew p (fr ∷ frs)) (unready : AreUnfinished p h (fr ∷ frs)) where
+    (old : ℕ → Bool) (covered : IsCovered p h gives_none renews_none old frs fr) (waiting : AreWaiting p h old frs) (owning : OwningFieldsOwn p h) (sight : ActsInSight p h fr)
+    (unready : AreUnfinished p h (fr ∷ frs)) (lower : All (λ (f : Frame). LocalsInRange h f.locals) frs) (held : FieldsOwn p h) (holders : HoldersAreUnlinked (is_heavy_class p) h) where
   abbrev after : Frame
   after = frame_after p h fr s v
 
@@ -248,9 +255,16 @@ module _ (p : Program) (ac : Accept p) (forms : HasPlainForms p) (names : HasSma
 
   -- an object whose obligation is created anew, and that may owe a call, is that of a frame, which tracks it
   module _ (o : ℕ) (y : Object) (at : object_at heap o ≡ Some y) (free : y.link ≡ None) (is : anew o ≡ true) (unmet : is_unmet y ≡ true) (stays : is_library_owner y.owner ≡ false) where
-    before : (x : Object) × (object_at h o ≡ Some x) × (x.link ≡ None)
+    before : (x : Object) × (object_at h o ≡ Some x) × (x.link ≡ None) × (y.class ≡ x.class) × (y.finished ≡ x.finished) × (y.owner ≡ x.owner)
     before = elim (was_there o y at) [
-      | inl old ↦ (old.before, old.at, sym old.goes_on.link ∙ free)
+      | inl older ↦ (
+        older.before,
+        older.at,
+        sym older.goes_on.link ∙ free,
+        older.goes_on.class,
+        older.goes_on.finished,
+        elim older.owner [ inl same ↦ same | inr given ↦ absurd (true≢false (sym (ap is_library_owner given) ∙ stays)) ],
+      )
       | inr new ↦ absurd (new_stays o new.0 is)
     ]
 
@@ -281,44 +295,58 @@ module _ (p : Program) (ac : Accept p) (forms : HasPlainForms p) (names : HasSma
     someones = elim step.row [
       | inl call ↦ elim (resets_plainly p ac forms fr agrees.standing.0 i s here) [
         | inl none ↦ absurd (none_anew o (sym (same_reset (method_at p named)) ∙ ap reset_in (sym (ap (callee_in p) call.1)) ∙ none) is)
-        | inr plain ↦ by call.0 call.1 plain
+        | inr plain ↦ by call.0 call.1
       ]
       | inr constant ↦ absurd (constant_stays constant o before.0 before.1 is)
     ]
       where
-        by : IsCallRow s.action → called_method s.action ≡ Some named → IsPlainReset p agrees.standing.0.number fr.control s.action → IsSomeones
-        by row called plain =
-            let r = renewed_in_hands p ac forms h agrees.links fr frs agrees.standing.0 ranges named m d i s here called row plain covered h
-            (hands_of p h h fr frs (are_making p h (fr ∷ frs) news unready) (λ n w lent. lent))
-            (no_holder p ac forms h agrees.links fr frs agrees.standing.0 ranges named m d i s here called row plain covered unready owning sight arrays (step.ran called).1)
-            (still_held p ac forms h agrees.links fr frs agrees.standing.0 ranges named m d i s here called row plain covered)
-            o y at free is wide (inl (not_the_librarys_owes y stays)) in
-            in_hands r
+        by : IsCallRow s.action → called_method s.action ≡ Some named → IsSomeones
+        by row called = in_hand (target_answered p ac forms h heap agrees.ends agrees.links held holders o x y before.1 heavy done (roots_stay o x before.1) before.3 bounded fr frs agrees.standing.1 lower agrees.stacked old waiting unready
+            target.target target.object target.at target.within
+            (renewed_answered p ac forms h fr agrees.standing.0 old frs i s here row covered holds target.target target.object target.at target.heavy.1
+            (target_owes p h target.target o target.object x target.at before.1 target.within owes) target.renews target.heavy.0))
           where
+            x : Object
+            x = before.0
+
             small : IsSmallAction p s.action
             small = (ready p ac forms fr agrees.standing.0 i s here (way_of_call s row)).small
 
-            in_hands : (x : Object) × (object_at h o ≡ Some x) × (x.finished ≡ true) × (y.class ≡ x.class) × (y.owner ≡ x.owner)
-                × (((x.owner ≡ owners.Frame (length frs + 1)) × ((c : Covers p h false false frs fr o x) × IsOwned p h false false frs fr o x c × (is_own c.fact.mode ≡ true) × (is_target p s.action c.fact.places ≡ true) × ((t : ℕ) × (has c.fact.places (places.Temp t) ≡ true))))
-                ⊎ (IsLentFrom p h frs o x.owner ⊎ IsHeldBy p fr x.owner)) → IsSomeones
-            in_hands (x, was, done, class, owner, inl (mine, (c, key, own, target, (t, there')))) =
-                let tr = covered_tracks p ac h fr frs agrees.standing.0 false false o x c key own refl t there' in
-                top_owns (owner ∙ mine)
-                (tracks_target p ac forms h heap fr agrees.standing.0 i s here (way_of_call s row) v o x y (roots_stay o x was) class bounded unmet false tr.0 row
-                (ap (λ (f : Fact). is_target p s.action f.places) tr.1 ∙ target)
-                (λ gives. ap (root_of heap) step.value
-                ∙ library_alias p ac h agrees.links arrays fr.locals s.action s.edge tr.0.fact.places named m (method_at p named) d (length frs + 1) step.count o small (plain_step p ac forms fr agrees.standing.0 i s here)
-                (ap (callee_in p) called) step.answers there step.by step.thrown (λ k near held. operand_of_fact p h fr.method fr.locals s.action o k tr.0.fact.places small near tr.0.follows.places held) gives))
-            in_hands (x, was, done, class, owner, inr (inr held)) = inr (held.1.holder, held.1.field, owner ∙ held.1.owns)
-            in_hands (x, was, done, class, owner, inr (inl lent)) = elim (lent_owner p h frs o x.owner lent) [
-              | inr field ↦ inr (field.0, field.1, owner ∙ field.2)
-              | inl lender ↦ inl (
-                lender.0,
-                owner ∙ lender.1,
-                lent_tracked lender.0 lender.2 (lent_awaited p ac forms h heap o x y was (ap (is_heavy_class p) (sym class) ∙ wide) (not_the_librarys_owes x (ap is_library_owner (sym owner) ∙ stays)) done
-                    (roots_stay o x was) class bounded fr frs agrees.standing.1 agrees.stacked waiting lender.0 lender.1 lent),
-              )
-            ]
+            heavy : is_heavy_class p x.class ≡ true
+            heavy = ap (is_heavy_class p) (sym before.3) ∙ wide
+
+            done : x.finished ≡ true
+            done = sym before.4 ∙ (and_parts y.finished (not (set.is_subset y.must y.called)) unmet).0
+
+            owes : may_owe x ≡ true
+            owes = not_the_librarys_owes x (ap is_library_owner (sym before.5) ∙ stays)
+
+            holds : HoldsLent p h old frs fr agrees.standing.0
+            holds = holds_lent p ac forms h agrees.links held fr ranges agrees.standing.0 old frs gives_none renews_none covered holders
+
+            -- the target of the reset, within which the object is, or that is within the object
+            target : IsRisen p h fr.locals s.action o
+            target = risen p h agrees.links fr named m d i s here called (target_is_instance p h arrays fr.locals s.action (method_at p named) (step.ran called).1) owning sight holders o x before.1 before.2 is heavy
+
+            own_target : target.target ≡ o → x.owner ≡ owners.Frame (length frs + 1) → Tracks p heap after o y
+            own_target same mine =
+                tracked_by (owned_target p ac forms h fr old frs agrees.standing.0 i s here row covered holds o x before.1 heavy (inl owes) done (subst (λ (n : ℕ). renews p h fr.locals s.action n ≡ true) same target.renews) mine)
+              where
+                tracked_by : (c : Covers p h false false old frs fr o x) × IsOwned p h false false old frs fr o x c × (is_own c.fact.mode ≡ true) × (is_target p s.action c.fact.places ≡ true) × ((t : ℕ) × (has c.fact.places (places.Temp t) ≡ true))
+                    → Tracks p heap after o y
+                tracked_by (c, key, own, has_it, (t, there')) =
+                    let tr = covered_tracks p ac h fr old frs agrees.standing.0 false false o x c key own refl t there' false refl in
+                    tracks_target p ac forms h heap fr agrees.standing.0 i s here (way_of_call s row) v o x y (roots_stay o x before.1) before.3 bounded unmet false tr.0 row
+                    (ap (λ (f : Fact). is_target p s.action f.places) tr.1 ∙ has_it)
+                    (λ gives. ap (root_of heap) step.value
+                    ∙ library_alias p ac h agrees.links arrays fr.locals s.action s.edge tr.0.fact.places named m (method_at p named) d (length frs + 1) step.count o small (plain_step p ac forms fr agrees.standing.0 i s here)
+                    (ap (callee_in p) called) step.answers there step.by step.thrown (λ k near has'. operand_of_fact p h fr.method fr.locals s.action o k tr.0.fact.places small near tr.0.follows.places has') gives)
+
+            in_hand : ((target.target ≡ o) × (x.owner ≡ owners.Frame (length frs + 1)))
+                ⊎ (((j : ℕ) × (x.owner ≡ owners.Frame j) × (j ≤ length frs) × IsAwaited p heap frs o y j) ⊎ ((w : ℕ) × (f : FieldId) × (x.owner ≡ owners.Field w f) × RunsOn w (fr ∷ frs))) → IsSomeones
+            in_hand (inl mine) = top_owns (before.5 ∙ mine.1) (own_target mine.0 mine.1)
+            in_hand (inr (inl lender)) = inl (lender.0, before.5 ∙ lender.1, lent_tracked lender.0 lender.2 lender.3)
+            in_hand (inr (inr field)) = inr (field.0, field.1, before.5 ∙ field.2)
 
   owner_answers : (a : Action) (j : ℕ) → is_answering (result_owner a (method_at p m) j) ≡ true
   owner_answers (actions.New m k n) j = refl

@@ -144,6 +144,5 @@ module _ (p : Program) (ac : Accept p) where
       updates = text_updates p ac files plain;
       parents = parents;
       own = own_methods p ac;
-      bodies = plain.bodies;
-      resets = λ b {k} i t comes there. inr (record { other = plain.calls b i t comes there });
+      resets = λ b {k} i t comes there. inr (record { constructor = plain.calls b i t comes there });
     }

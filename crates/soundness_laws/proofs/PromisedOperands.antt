@@ -1,7 +1,7 @@
 -- As a frame ends, what its method promises was called on the objects that the caller owns and has lent: on a parameter or on `this`, where the
 -- callee's own fact knows the names, as the rule `ensures` asks at the end of a body. And a result that is an alias is the object that the caller has
 -- at the aliased position.
-use Rattle.std.proofs.Common.{◌≡◌, inl, inr, ℕ, zero, suc, ◌+◌, ◌<◌, Bool, true, false, not, Option, Some, None, List, [], ◌∷◌, length, lt-ltb, slice_get, refl, sym, ap, ◌∙◌, subst, true≢false, if◌then◌else◌, arith}
+use Rattle.std.proofs.Common.{◌≡◌, inl, inr, ℕ, zero, suc, ◌+◌, ◌<◌, Bool, true, false, not, Option, Some, None, List, [], ◌∷◌, length, slice_get, refl, sym, ap, ◌∙◌, subst, true≢false, if◌then◌else◌, arith}
 use Rattle.std.specs.Option.{IsSomeAnd}
 use Rattle.std.specs.List.{All}
 use Rattle.std.specs.FinSet as set
@@ -71,7 +71,7 @@ use Rattle.content_laws.specs.Renewing.{fact_as, is_renewed}
 use Rattle.content_laws.proofs.Carried.{HoldIt}
 use Rattle.content_laws.proofs.Readings.{places_as}
 use Rattle.content_laws.specs.PlainForms.{HasPlainForms, IsPlainAction, IsKeptBy, IsPlainCall, KeepsPromises, is_lent_parameter}
-use Rattle.content_laws.specs.PlaceFacts.{Covers, IsCovered, asked_by, asked_of, gives_none, renews_none, is_frame_below, is_lent, OwesOrHolds}
+use Rattle.content_laws.specs.PlaceFacts.{Covers, IsCovered, IsHeavyObject, OwesOrHolds, Spares, asked_by, asked_of, gives_none, is_lent, renews_none}
 use Rattle.content_laws.specs.Arguments.{HasArguments}
 use Rattle.content_laws.proofs.FactOrigins.{parameters_own, this_own}
 use Rattle.content_laws.proofs.SignedPromises.{Promises}
@@ -87,7 +87,7 @@ use Rattle.content_laws.proofs.Ready.{named_gives_none, plain_call, plain_step, 
 use Rattle.content_laws.proofs.Unmet.{call_may, row_of}
 use Rattle.content_laws.proofs.Goes.{not_the_librarys_owes}
 use Rattle.content_laws.proofs.Following.{breaks_nothing, same_body}
-use Rattle.content_laws.proofs.HeavyFields.{apart_low, asked_here, covered_at, lent_not_alone, lent_tells}
+use Rattle.content_laws.proofs.HeavyFields.{asked_here, covered_at, lent_not_alone, lent_tells}
 use Rattle.content_laws.specs.Naming.{IsOfItsKind}
 use Rattle.content_laws.proofs.NamedReached.{names_what_is_there}
 use Rattle.soundness_laws.proofs.KeptPromises.{GivesRoot, ReturnsAlias}
@@ -101,8 +101,9 @@ each_of P [] k x all at = absurd (let never : None ≡ Some x = at in cc)
 each_of P (y ∷ ys) zero x all at = subst P (let both : Some y ≡ Some x = at in (let same : y ≡ x = cc in same)) (All-head P y ys all)
 each_of P (y ∷ ys) (suc k) x all at = each_of P ys k x (All-tail P y ys all) at
 
-module _ (p : Program) (ac : Accept p) (forms : HasPlainForms p) (h : HeapContents) (fr caller : Frame) (rest : List Frame) (st : Stands p fr) (wait : WaitsFor p h caller fr) (covered : IsCovered p h gives_none renews_none (caller ∷ rest) fr)
-    (args : HasArguments p caller fr) (exits : EndsByException p h fr) (below : Stands p caller) (i j : ℕ) (s t : Step) (q : Completion) (here : slice_get (frame_steps p fr) i ≡ Some s) (is : s.action ≡ actions.End q)
+module _ (p : Program) (ac : Accept p) (forms : HasPlainForms p) (h : HeapContents) (fr caller : Frame) (rest : List Frame) (st : Stands p fr) (wait : WaitsFor p h caller fr) (old : ℕ → Bool) (covered : IsCovered p h gives_none renews_none old (caller ∷ rest) fr)
+    (args : HasArguments p caller fr) (apart : (o : ℕ) (x : Object) → object_at h o ≡ Some x → IsHeavyObject p x → x.owner ≡ owners.Frame (length rest + 1) → is_renewed p h caller o ≡ false → (old o ≡ true) × Spares p h caller o)
+    (exits : EndsByException p h fr) (below : Stands p caller) (i j : ℕ) (s t : Step) (q : Completion) (here : slice_get (frame_steps p fr) i ≡ Some s) (is : s.action ≡ actions.End q)
     (there : slice_get (frame_steps p caller) j ≡ Some t) (row : IsCallRow t.action) (normal : exception_class p h (thrown_in fr.locals q) ≡ None → t.edge ≡ edges.Go)
     (thrown : (c : ClassId) → exception_class p h (thrown_in fr.locals q) ≡ Some c → (k : ClassId) × (t.edge ≡ edges.Throws k)) where
   abbrev named : MethodId
@@ -173,10 +174,6 @@ module _ (p : Program) (ac : Accept p) (forms : HasPlainForms p) (h : HeapConten
     owes : OwesOrHolds p h o x
     owes = inl (not_the_librarys_owes x (ap is_library_owner mine))
 
-    -- the caller, a frame below, owns the object
-    low : is_frame_below (length (caller ∷ rest) + 1) x.owner ≡ true
-    low = ap (is_frame_below (length (caller ∷ rest) + 1)) mine ∙ lt-ltb (length rest + 1) (length (caller ∷ rest) + 1) (omega arith)
-
     wide : is_heavy_class p w.origin.class ≡ true
     wide = ap not (not_true (is_empty (must_of p w.origin.class)) (λ light.
         true≢false (sym (within_trans (must_of p x.class) (must_of p w.origin.class) no_names w.follows.class light) ∙ not-true (is_empty (must_of p x.class)) heavy)))
@@ -196,7 +193,7 @@ module _ (p : Program) (ac : Accept p) (forms : HasPlainForms p) (h : HeapConten
     fine = breaks_nothing p ac below.number w.origin j (move_of t) w.fact reached (step_there p caller below j t there)
 
     -- where the call does not create its obligation anew
-    module _ (y : Object) (goes : GoesOn x y) (old : is_renewed p h caller o ≡ false) (as_it_is : anew ≡ false) where
+    module _ (y : Object) (goes : GoesOn x y) (unrenewed : is_renewed p h caller o ≡ false) (as_it_is : anew ≡ false) where
       known_before : set.is_subset w.fact.called x.called ≡ true
       known_before = ap (λ (b : Bool). set.is_subset (fact_as b w.fact).called x.called) (sym as_it_is) ∙ w.follows.called
 
@@ -204,20 +201,20 @@ module _ (p : Program) (ac : Accept p) (forms : HasPlainForms p) (h : HeapConten
           (promises : Promises r u) where
         -- what is lent shows its names, but for those that are asked for before
         of_lent : (place : Place) (v : ℕ) (f : OriginKind) → IsSmall place → root_of h (place_value p h fr.method fr.locals place) ≡ Some o → u.target ≡ promised.At v → is_lent p (Some r) f ≡ true → set.is_subset (asked_of p (Some r) f) x.called ≡ true
-            → ((cover : Covers p h false false (caller ∷ rest) fr o x) → has cover.fact.places place ≡ true → (is_origin_at cover.origin.kind (Some v) ≡ true) × (cover.origin.kind ≡ f)) → set.is_subset u.names y.called ≡ true
+            → ((cover : Covers p h false false old (caller ∷ rest) fr o x) → has cover.fact.places place ≡ true → (is_origin_at cover.origin.kind (Some v) ≡ true) × (cover.origin.kind ≡ f)) → set.is_subset u.names y.called ≡ true
         of_lent place v f room root target lent asked its =
-            let found = covered_at p h false false (caller ∷ rest) fr place o x (covered place o x room root before heavy owes) in
-            let cover : Covers p h false false (caller ∷ rest) fr o x = found.0 in
+            let found = covered_at p h false false old (caller ∷ rest) fr place o x (covered place o x room root before heavy owes) in
+            let cover : Covers p h false false old (caller ∷ rest) fr o x = found.0 in
             let origin = its cover found.1 in
             let lent' : is_lent p (method_at p fr.method) cover.origin.kind ≡ true = ap (is_lent p (method_at p fr.method)) origin.1 ∙ ap (λ (m : Option Method). is_lent p m f) own_method ∙ lent in
             let asks' : asked_of p (method_at p fr.method) cover.origin.kind ≡ asked_of p (Some r) f = ap (asked_of p (method_at p fr.method)) origin.1 ∙ ap (λ (m : Option Method). asked_of p m f) own_method in
             within_trans u.names x.called y.called
             (within_trans u.names (set.union (asked_of p (method_at p fr.method) cover.origin.kind) x.called) x.called
-            (shown_on_position p ac h fr st i s q here is (caller ∷ rest) o x cover (unowned_moves p st.number cover.origin cover.fact (cover.lent lent').0 q) (set.union (asked_of p (method_at p fr.method) cover.origin.kind) x.called)
-            (cover.known done (lent_tells p fr.method cover.origin cover.fact (lent_not_alone p h false false (caller ∷ rest) fr o x cover lent') lent') (apart_low p h (caller ∷ rest) fr o x cover.fact old low)).2 xs asks v k u at target origin.0)
+            (shown_on_position p ac h fr st i s q here is old (caller ∷ rest) o x cover (unowned_moves p st.number cover.origin cover.fact (cover.lent lent').0 q) (set.union (asked_of p (method_at p fr.method) cover.origin.kind) x.called)
+            (cover.known done (lent_tells p fr.method cover.origin cover.fact (lent_not_alone p h false false old (caller ∷ rest) fr o x cover lent') lent') (apart o x before (done, heavy) mine unrenewed) refl) xs asks v k u at target origin.0)
             (union_within (asked_of p (method_at p fr.method) cover.origin.kind) x.called x.called (ap (λ (z : Names). set.is_subset z x.called) asks' ∙ asked) (within_self x.called))) goes.called
 
-        reached_here : (cover : Covers p h false false (caller ∷ rest) fr o x) → Reach p st.number (relation_of p st.number) cover.origin fr.control cover.fact
+        reached_here : (cover : Covers p h false false old (caller ∷ rest) fr o x) → Reach p st.number (relation_of p st.number) cover.origin fr.control cover.fact
         reached_here cover = subst (λ (b : BodyId). Reach p b (relation_of p b) cover.origin fr.control cover.fact) (same_body cover.body st.number (body_id p fr.method) cover.id st.id) cover.reached
 
         on_receiver : u.target ≡ promised.At 0 → holds_operand t.action w.fact.places 0 ≡ true → set.is_subset u.names y.called ≡ true
@@ -392,7 +389,7 @@ module _ (p : Program) (ac : Accept p) (forms : HasPlainForms p) (h : HeapConten
         result : constructs (method_at p fr.method) ≡ false → root_of h (result_value fr.locals (method_at p fr.method) q) ≡ Some o
         result other =
             ap (λ (m : Option Method). root_of h (result_value fr.locals m q)) run.running_at
-            ∙ argument_is_result p ac h fr caller rest st args covered i s q here is (returns given.1) run.running run.running_at given.0.position alias
+            ∙ argument_is_result p ac h fr caller old rest st args covered i s q here is (returns given.1) run.running run.running_at given.0.position alias
             (ap constructs (sym run.running_at) ∙ other) j t there o x before heavy owes aliased_root
 
         kind : IsOfItsKind p t.action
@@ -418,4 +415,4 @@ module _ (p : Program) (ac : Accept p) (forms : HasPlainForms p) (h : HeapConten
 
     pub operands_shown : ((y : Object) → GoesOn x y → is_renewed p h caller o ≡ false → anew ≡ false → AreKept p below.number t.action w.fact.places y.called (promises_at p t.action t.edge))
         × ReturnsAlias p h fr caller t.action t.edge w.fact.places q o
-    operands_shown = ((λ y goes old as_it_is. operands_kept y goes old as_it_is), alias_given)
+    operands_shown = ((λ y goes unrenewed as_it_is. operands_kept y goes unrenewed as_it_is), alias_given)

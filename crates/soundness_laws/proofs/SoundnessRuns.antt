@@ -1,7 +1,7 @@
 -- What is accepted is safe: in each configuration of a run all invariants hold.
 use Rattle.std.proofs.Common.{◌≡◌, ℕ, zero, suc, true, Option, Some, None, List, [], ◌∷◌, slice_get, refl, sym, ap, ◌∙◌, subst, true≢false}
 use Rattle.std.specs.List.{All}
-use Rattle.std.proofs.lemmas.List.Elements.{All-head}
+use Rattle.std.proofs.lemmas.List.Elements.{All-head, All-tail}
 use Rattle.program_model.specs.declared.kinds.ClassId.{ClassId}
 use Rattle.program_model.specs.declared.kinds.MethodId.{MethodId}
 use Rattle.program_model.specs.declared.kinds.VType.TheVariants as types
@@ -35,7 +35,7 @@ use Rattle.content_laws.specs.Safety.{IsMain, IsSafe}
 use Rattle.content_laws.specs.LibraryClasses.{GivesLibraryClasses, ThrowsMadeClasses}
 use Rattle.content_laws.specs.Agreement.{Agree, Agrees, AllStand}
 use Rattle.content_laws.specs.PlainForms.{HasPlainForms}
-use Rattle.content_laws.specs.FieldContents.{FieldsHold, IsBeingMade}
+use Rattle.content_laws.specs.FieldContents.{FieldsHold, FieldsOwn, IsBeingMade}
 use Rattle.content_laws.specs.PlaceFacts.{AreCovered}
 use Rattle.content_laws.specs.Ranges.{AreInRange, LocalsInRange}
 use Rattle.content_laws.specs.Sight.{AllActInSight}
@@ -49,7 +49,7 @@ use Rattle.content_laws.specs.Types.{TopHoldsWhatIsThere}
 use Rattle.content_laws.proofs.CoveringLaws.{types_at_start, types_step}
 use Rattle.content_laws.proofs.CoveringLaws.{ranges_at_start, ranges_step}
 use Rattle.content_laws.proofs.Runs.{fields_hold_at_start, fields_hold_step}
-use Rattle.content_laws.proofs.CoveringLaws.{being_made_at_start, being_made_step, covered_at_start, covered_step, linked_are_aliases_at_start, linked_are_aliases_step}
+use Rattle.content_laws.proofs.CoveringLaws.{being_made_at_start, being_made_step, covered_at_start, covered_step, fields_own_at_start, fields_own_step, linked_are_aliases_at_start, linked_are_aliases_step}
 use Rattle.content_laws.proofs.Chains.{object_there}
 use Rattle.content_laws.proofs.NameCounts.{accepted_names}
 use Rattle.java_control.specs.Control.{Step}
@@ -82,6 +82,7 @@ use Rattle.content_laws.proofs.ThrownLaws.{ends_by_exception, raised_values_are_
 use Rattle.soundness_laws.proofs.Holders.{top_runs_alone}
 use Rattle.soundness_laws.proofs.KeptPromises.{TopShowsOperands}
 use Rattle.soundness_laws.proofs.PromisedOperands.{operands_shown}
+use Rattle.soundness_laws.proofs.SparedOwned.{apart_at_end}
 use Rattle.soundness_laws.proofs.Steps.{step_agrees}
 use Rattle.soundness_laws.proofs.Supporting.{supported}
 
@@ -91,24 +92,25 @@ agree_at_start p ac gives main choices is = start_agrees p ac main gives choices
 top_supported : (p : Program) (ac : Accept p) (forms : HasPlainForms p) (h : HeapContents) (es : List Entry) (frs : List Frame) → Agrees p frs h es → FieldsHold p frs h → AreCovered p h frs → AreFilled p h frs → IsSupported p h frs
 top_supported p ac forms h es [] agrees fields covered filled = tt
 top_supported p ac forms h es (fr ∷ frs) agrees fields covered filled = (
-  supported p ac forms h fr frs agrees.standing.0 agrees.standing.1 agrees.stacked fields.contents covered.0 fields.unfinished fields.new filled.1,
+  supported p ac forms h fr frs agrees.standing.0 agrees.standing.1 agrees.stacked fields.contents covered.0 covered.2 fields.unfinished fields.new filled.1,
   top_runs_alone p ac forms h (fr ∷ frs) agrees.standing agrees.stacked fields.contents fields.new filled,
 )
 
 -- what the end of the top frame shows of what the one below has lent
-top_shows : (p : Program) (ac : Accept p) (forms : HasPlainForms p) (h : HeapContents) (es : List Entry) (frs : List Frame) → Agrees p frs h es → AreCovered p h frs → HaveArguments p frs
+top_shows : (p : Program) (ac : Accept p) (forms : HasPlainForms p) (h : HeapContents) (es : List Entry) (frs : List Frame) → Agrees p frs h es → FieldsHold p frs h → AreCovered p h frs → All (λ (f : Frame). LocalsInRange h f.locals) frs → FieldsOwn p h → HaveArguments p frs
     → TopEndsByException p h frs → TopShowsOperands p h frs
-top_shows p ac forms h es [] agrees covered given exits = tt
-top_shows p ac forms h es (fr ∷ []) agrees covered given exits = tt
-top_shows p ac forms h es (fr ∷ caller ∷ frs) agrees covered given exits =
+top_shows p ac forms h es [] agrees fields covered ranges owned given exits = tt
+top_shows p ac forms h es (fr ∷ []) agrees fields covered ranges owned given exits = tt
+top_shows p ac forms h es (fr ∷ caller ∷ frs) agrees fields covered ranges owned given exits =
     λ below i j s t q o x anew w here is there row normal thrown before done heavy mine stays.
-    operands_shown p ac forms h fr caller frs agrees.standing.0 agrees.stacked.0 covered.0 given.0 exits below i j s t q here is there row normal thrown o x anew w before done heavy mine stays
+    operands_shown p ac forms h fr caller frs agrees.standing.0 agrees.stacked.0 covered.0 covered.2 given.0
+    (apart_at_end p ac forms h es fr caller frs agrees fields covered (All-head (λ (f : Frame). LocalsInRange h f.locals) caller frs (All-tail (λ (f : Frame). LocalsInRange h f.locals) fr (caller ∷ frs) ranges)) owned) exits below i j s t q here is there row normal thrown o x anew w before done heavy mine stays
 
 pub agree_step : (p : Program) → Accept p → HasPlainForms p → GivesLibraryClasses p → ThrowsMadeClasses p → (c d : Config) → Agree p c → HaveTargets p c.frames → FieldsHold p c.frames c.heap → AllActInSight p c.heap c.frames → AreCovered p c.heap c.frames → AreInRange c
-    → AreBeingMade p c.heap c.frames → HaveArguments p c.frames → TopEndsByException p c.heap c.frames → AreFilled p c.heap c.frames → step p c ≡ went d → Agree p d
-agree_step p ac forms gives throws c d agrees targets fields sight covered ranges making given exits filled is =
+    → AreBeingMade p c.heap c.frames → HaveArguments p c.frames → TopEndsByException p c.heap c.frames → AreFilled p c.heap c.frames → FieldsOwn p c.heap → step p c ≡ went d → Agree p d
+agree_step p ac forms gives throws c d agrees targets fields sight covered ranges making given exits filled owned is =
     step_agrees p ac forms (accepted_names p ac) gives throws c d agrees targets fields sight covered (top_supported p ac forms c.heap c.entries c.frames agrees fields covered filled) ranges making
-    (top_shows p ac forms c.heap c.entries c.frames agrees covered given exits) is
+    (top_shows p ac forms c.heap c.entries c.frames agrees fields covered ranges.frames owned given exits) owned is
 
 -- an exception by which the top frame ends has a class
 top_exits : (p : Program) (ac : Accept p) (h : HeapContents) (frs : List Frame) → AllStand p frs → All (λ (fr : Frame). LocalsInRange h fr.locals) frs → HaveThrown p frs → TopEndsByException p h frs
@@ -177,16 +179,17 @@ holds_step p ac files plain c d holds is =
     let sight = acts_in_sight p ac files.light_texts files.text_fields c.heap c.frames holds.agree.links (λ bound own. (holds.values bound own).frames) holds.types.frames holds.aliases holds.reached
     (all_update_texts p ac forms files.texts files.light_texts c.heap c.frames (holds.values p.core.throwable files.texts).frames holds.types.frames holds.types.fields holds.aliases) in
     let alone = top_runs_alone p ac forms c.heap c.frames holds.agree.standing holds.agree.stacked holds.fields.contents holds.fields.new holds.filled in
-    let agree' = agree_step p ac forms files.given files.exceptions c d holds.agree holds.targets holds.fields sight holds.covered holds.ranges holds.making holds.arguments exits holds.filled is in record {
+    let agree' = agree_step p ac forms files.given files.exceptions c d holds.agree holds.targets holds.fields sight holds.covered holds.ranges holds.making holds.arguments exits holds.filled holds.owned is in record {
       agree = agree';
       targets = targets_step p ac c d holds.targets is;
       types = types_step p ac forms files.given.string c d holds.agree.classes (top_there c.heap c.frames holds.ranges.frames) holds.types is;
       ranges = ranges_step p ac forms c d holds.agree holds.targets holds.ranges is;
-      covered = covered_step p ac forms alike (accepted_names p ac) files.light_texts c d holds.agree holds.targets holds.types holds.ranges holds.fields holds.making holds.aliases holds.covered holds.arguments declared raises sight alone is;
-      making = being_made_step p ac forms alike (accepted_names p ac) files.light_texts c d holds.agree holds.targets holds.types holds.ranges holds.fields holds.making holds.aliases holds.covered holds.arguments declared raises sight alone is;
-      aliases = linked_are_aliases_step p ac forms alike (accepted_names p ac) files.light_texts c d holds.agree holds.targets holds.types holds.ranges holds.fields holds.making holds.aliases holds.covered holds.arguments declared raises sight alone is;
+      covered = covered_step p ac forms alike (accepted_names p ac) files.light_texts c d holds.agree holds.targets holds.types holds.ranges holds.fields holds.making holds.aliases holds.owned holds.covered holds.arguments declared raises sight alone is;
+      making = being_made_step p ac forms alike (accepted_names p ac) files.light_texts c d holds.agree holds.targets holds.types holds.ranges holds.fields holds.making holds.aliases holds.owned holds.covered holds.arguments declared raises sight alone is;
+      aliases = linked_are_aliases_step p ac forms alike (accepted_names p ac) files.light_texts c d holds.agree holds.targets holds.types holds.ranges holds.fields holds.making holds.aliases holds.owned holds.covered holds.arguments declared raises sight alone is;
       fields = fields_hold_step p ac forms c d holds.agree holds.targets holds.ranges holds.covered holds.fields
           (λ fr caller rest frames. top_making p c.heap c.frames fr caller rest frames holds.making) sight agree'.links holds.arguments (top_ends_by_class p c.heap c.frames exits) is;
+      owned = fields_own_step p ac forms alike (accepted_names p ac) files.light_texts c d holds.agree holds.targets holds.types holds.ranges holds.fields holds.making holds.aliases holds.owned holds.covered holds.arguments declared raises sight alone is;
       arguments = arguments_step p ac forms c d holds.agree.classes holds.agree.standing holds.targets holds.arguments is;
       reached = links_reach_aliased_step p ac forms files.light_texts c d holds.agree holds.targets holds.ranges holds.fields holds.making holds.values holds.reached is;
       values = classes_step p ac forms (plain_results p ac files plain) c d holds.agree holds.targets exits holds.values is;
@@ -209,6 +212,7 @@ module _ (p : Program) (ac : Accept p) (gives : GivesLibraryClasses p) (main : M
         making = being_made_at_start p main choices;
         aliases = linked_are_aliases_at_start p main choices;
         fields = fields_hold_at_start p main m choices at (ap is_constructor_kind (static_main m main'));
+        owned = fields_own_at_start p main choices;
         arguments = arguments_at_start p main choices;
         reached = links_reach_aliased_at_start p main choices;
         values = classes_at_start p ac main m choices at body;

@@ -90,7 +90,7 @@ throws_by p h l (completions.Break pos) c is = absurd (let never : None ≡ Some
 throws_by p h l (completions.Continue pos) c is = absurd (let never : None ≡ Some c = is in cc)
 
 module _ (p : Program) (ac : Accept p) (forms : HasPlainForms p) (h : HeapContents) (fr : Frame) (frs : List Frame) (st : Stands p fr) (rest : AllStand p frs) (called : IsCalledFrom p h fr frs)
-    (contents : HaveContents p (fr ∷ frs) h) (covered : IsCovered p h gives_none renews_none frs fr) (unmade : AreUnfinished p h (fr ∷ frs)) (news : AreNew p (fr ∷ frs)) (filled : AreFilled p h frs) where
+    (contents : HaveContents p (fr ∷ frs) h) (old : ℕ → Bool) (covered : IsCovered p h gives_none renews_none old frs fr) (unmade : AreUnfinished p h (fr ∷ frs)) (news : AreNew p (fr ∷ frs)) (filled : AreFilled p h frs) where
   body_alias : alias_position p st.number ≡ alias_in (method_at p fr.method)
   body_alias = ap alias_in (body_method p ac forms fr st)
 
@@ -166,7 +166,7 @@ module _ (p : Program) (ac : Accept p) (forms : HasPlainForms p) (h : HeapConten
         displaced_met : (w n : ℕ) (y : Object) → fr.locals.this ≡ values.Object w → (o : Object) → object_at h w ≡ Some o → object_at h n ≡ Some y → IsDisplaced p h w f v n y → is_unmet y ≡ true → ⊥
         displaced_met w n y this o there there' gone unmet = elim (alias_form (method_at p fr.method)) [
           | inl none ↦ true≢false (sym unmet ∙
-              overwritten_is_met p ac forms h frs fr st (body_alias ∙ none) covered i d s f w n y here is (heavy_content n y w f there' unmet gone.owner this) gone.other)
+              overwritten_is_met p ac forms h frs fr st (body_alias ∙ none) old covered i d s f w n y here is (heavy_content n y w f there' unmet gone.owner this) gone.other)
           | inr alias ↦ owns_nothing alias.0 w n y f new alias.1 this declares o there (content_of n y w f there' unmet gone.owner)
         ]
 
@@ -201,7 +201,7 @@ module _ (p : Program) (ac : Accept p) (forms : HasPlainForms p) (h : HeapConten
       let place : has_field_place p st.number owner.0 ≡ true =
       ap (is_field_in p st.number) k.declared ∙ ap (λ (b : Bool). b && is_class_of k.field.class (method_of p st.number)) k.owning ∙ ap (is_class_of k.field.class) (body_method p ac forms fr st) ∙ class in
       elim (alias_form (method_at p fr.method)) [
-        | inl none ↦ true≢false (sym unmet ∙ contents_are_met_at_throw p ac h frs fr st covered i s q owner.0 w n x here is (body_alias ∙ none) (throws_by p h fr.locals q c thrown) new place
+        | inl none ↦ true≢false (sym unmet ∙ contents_are_met_at_throw p ac h frs fr st old covered i s q owner.0 w n x here is (body_alias ∙ none) (throws_by p h fr.locals q c thrown) new place
             (heavy_content n x w owner.0 at unmet owner.1 this))
         | inr alias ↦ owns_nothing alias.0 w n x owner.0 new alias.1 this (owner.0, k.field, k.declared, k.owning, class) k.holder k.at k
       ]

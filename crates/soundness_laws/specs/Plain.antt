@@ -5,7 +5,7 @@ use Rattle.program_model.specs.declared.kinds.BodyId.{BodyId}
 use Rattle.program_model.specs.declared.kinds.FieldId.{FieldId}
 use Rattle.program_model.specs.declared.program.Program.{Program}
 use Rattle.program_model.specs.declared.program.Method.{Method}
-use Rattle.ledger_obligations.specs.Bodies.{is_constructor, has_field_place, resets_this}
+use Rattle.ledger_obligations.specs.Bodies.{has_field_place, is_constructor}
 use Rattle.java_control.specs.Calls.{is_reset_of_this}
 use Rattle.java_control.specs.Remaining.{Todo}
 use Rattle.java_control.specs.declared.action.Action.TheVariants as actions
@@ -15,13 +15,11 @@ use Rattle.content_laws.specs.Paths.{Comes, Move, relation_of}
 abbrev pub creates_nothing : Program → Bool
 creates_nothing p = list_all (λ (m : Method). not (is_some m.sig.reset)) p.methods.items
 
--- A plain program: owning fields are stored by constructors alone, and in classes with owning fields nothing creates the obligation of `this` anew.
+-- A plain program: owning fields are stored by constructors alone, and a constructor of a class with owning fields calls nothing that creates the obligation of `this` anew.
 pub record IsPlain (p : Program) : Type 0 where
   -- owning fields are stored by constructors alone
   pub stores : (b : BodyId) {k : List Todo} (i : ℕ) (t : Move (List Todo)) (f : FieldId) (d : ℕ) → Comes (relation_of p b) k
       → slice_get ((relation_of p b).next k) i ≡ Some t → t.action ≡ actions.PutOwn f d → is_constructor p b ≡ true
-  -- no method or constructor of a class with owning fields, if it has a body, creates the obligation of `this` anew
-  pub bodies : (b : BodyId) → resets_this p b ≡ true → (f : FieldId) → has_field_place p b f ≡ false
-  -- nor does such a body call a method that creates the obligation of `this` anew
+  -- no constructor calls what creates the obligation of `this` anew, if its class has owning fields
   pub calls : (b : BodyId) {k : List Todo} (i : ℕ) (t : Move (List Todo)) → Comes (relation_of p b) k
-      → slice_get ((relation_of p b).next k) i ≡ Some t → is_reset_of_this p t.action ≡ true → (f : FieldId) → has_field_place p b f ≡ false
+      → slice_get ((relation_of p b).next k) i ≡ Some t → is_constructor p b ≡ true → is_reset_of_this p t.action ≡ true → (f : FieldId) → has_field_place p b f ≡ false

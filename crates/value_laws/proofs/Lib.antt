@@ -54,6 +54,9 @@ pub use Rattle.dispatch_laws.proofs.ResetHeaps
 pub use Rattle.frame_laws.proofs.Ending
 pub use Rattle.frame_laws.proofs.Entries
 pub use Rattle.frame_laws.proofs.EntryFacts
+pub use Rattle.frame_laws.proofs.FieldResets
+pub use Rattle.frame_laws.proofs.HeldPlaces
+pub use Rattle.frame_laws.proofs.LentThis
 pub use Rattle.frame_laws.proofs.FactEnds
 pub use Rattle.frame_laws.proofs.FactOrigins
 pub use Rattle.dispatch_laws.proofs.FieldPlaces
@@ -104,6 +107,7 @@ pub use Rattle.frame_laws.proofs.SignedPromises
 pub use Rattle.frame_laws.proofs.Stacks
 pub use Rattle.dispatch_laws.proofs.StartReached
 pub use Rattle.frame_laws.proofs.Steps
+pub use Rattle.dispatch_laws.proofs.ResetsUp
 pub use Rattle.dispatch_laws.proofs.StoredObjects
 pub use Rattle.frame_laws.proofs.Stores
 pub use Rattle.frame_laws.proofs.Storing
@@ -115,3 +119,13 @@ pub use Rattle.frame_laws.proofs.Tracking
 pub use Rattle.frame_laws.proofs.TrackingGiven
 pub use Rattle.frame_laws.proofs.Unmet
 pub use Rattle.dispatch_laws.proofs.ValuesAfter
+pub use Rattle.frame_laws.proofs.WaysUp
+pub use Rattle.frame_laws.proofs.ReachedRoots
+pub use Rattle.frame_laws.proofs.ResetsUp
+pub use Rattle.frame_laws.proofs.Tops
+pub use Rattle.frame_laws.proofs.Spared
+pub use Rattle.frame_laws.proofs.SparingCalls
+pub use Rattle.frame_laws.proofs.SparingEnds
+pub use Rattle.frame_laws.proofs.SparingStays
+pub use Rattle.frame_laws.proofs.WaysOverSteps
+pub use Rattle.frame_laws.proofs.OldObjects

@@ -30,6 +30,7 @@ pub use Rattle.frame_laws.specs.Flow
 pub use Rattle.frame_laws.specs.Frames
 pub use Rattle.frame_laws.specs.HeapAnew
 pub use Rattle.frame_laws.specs.Heaps
+pub use Rattle.frame_laws.specs.Holders
 pub use Rattle.dispatch_laws.specs.Leading
 pub use Rattle.ledger_moves.specs.LedgerFramesFrames
 pub use Rattle.frame_laws.specs.LedgerRunsOutcomes

@@ -24,8 +24,8 @@ use Rattle.must_call_sets.specs.Signatures.{has_name, is_must_call_method, is_of
 use Rattle.rlc_base.specs.declared.code.Code.TheVariants as refused
 use Rattle.rlc_base.specs.declared.faults.Refusal.{Refusal}
 use Rattle.refusal_order.specs.Refusals.{refused_at, where_true}
-use Rattle.covering_laws.specs.Accept.{Accept}
-use Rattle.covering_laws.specs.FieldContents.{promised_on}
+use Rattle.value_laws.specs.Accept.{Accept}
+use Rattle.value_laws.specs.FieldContents.{promised_on}
 
 -- ---- lists
 
@@ -42,7 +42,7 @@ none_at f [] n x is at = absurd (no_element n x at)
 none_at f (y ∷ ys) zero x is at = let same : y ≡ x = (let both : Some y ≡ Some x = at in cc) in ap f (sym same) ∙ (parts_empty (f y) (flat_map f ys) is).0
 none_at f (y ∷ ys) (suc n) x is at = none_at f ys n x (parts_empty (f y) (flat_map f ys) is).1 at
 
-numbered : (n i : ℕ) → i < n → slice_get (range_with_len 0 n) i ≡ Some i
+pub numbered : (n i : ℕ) → i < n → slice_get (range_with_len 0 n) i ≡ Some i
 numbered n i small =
     let long = length-range_with_len 0 n in
     let inside : i < length (range_with_len 0 n) = omega (arith, long, small) in

@@ -1,0 +1,115 @@
+-- A step that creates the obligation of `this` anew leaves the fields of `this` out of the facts that go on: what one of them holds is in a fact that the step bears for it.
+use Rattle.std.proofs.Common.{◌≡◌, ℕ, Bool, true, false, ◌&&◌, true≢false, Option, Some, None, List, slice_get, refl, sym, ap, ◌∙◌, subst}
+use Rattle.std.proofs.lemmas.Bool.{and_from}
+use Rattle.program_model.specs.declared.kinds.ClassId.{ClassId}
+use Rattle.program_model.specs.declared.kinds.FieldId.{FieldId}
+use Rattle.program_model.specs.declared.kinds.VType.{VType}
+use Rattle.program_model.specs.declared.kinds.VType.TheVariants as types
+use Rattle.program_model.specs.declared.program.Field.{Field}
+use Rattle.program_model.specs.declared.program.Program.{Program}
+use Rattle.program_model.specs.Lookups.{method_at}
+use Rattle.program_model.specs.Validity.{is_class_type}
+use Rattle.ledger_obligations.specs.Bodies.{alias_in, constructs, is_alias_constructor}
+use Rattle.ledger_obligations.specs.MustCallSets.{is_heavy_class}
+use Rattle.ownership_rules.specs.Signatures.{is_present}
+use Rattle.java_control.specs.Calls.{is_reset_of_this}
+use Rattle.java_control.specs.Control.{Step}
+use Rattle.java_control.specs.PlaceNumbers.{IsSmall}
+use Rattle.java_control.specs.Sources.{is_part}
+use Rattle.java_control.specs.declared.place.Place.{Place}
+use Rattle.java_control.specs.declared.place.Place.TheVariants as places
+use Rattle.value_laws.specs.Accept.{Accept}
+use Rattle.ledger_state.specs.Contents.{HeapContents}
+use Rattle.ledger_state.specs.Fields.{field_of}
+use Rattle.ledger_state.specs.Heaps.{object_at, root_of}
+use Rattle.ledger_state.specs.declared.object.Object.{Object}
+use Rattle.ledger_state.specs.declared.value.Value.{Value}
+use Rattle.value_laws.specs.Agreement.{Stands}
+use Rattle.value_laws.specs.Choosing.{frame_steps}
+use Rattle.value_laws.specs.Configuration.{Frame}
+use Rattle.value_laws.specs.Frames.{frame_after}
+use Rattle.value_laws.specs.Heaps.{HasEarlierLinks}
+use Rattle.value_laws.specs.Operands as operand_types
+use Rattle.value_laws.specs.Operands.{NoObject}
+use Rattle.value_laws.specs.PlaceFacts.{IsCovered, OwesOrHolds}
+use Rattle.value_laws.specs.Places.{field_place_value, owning_field_beside, place_value}
+use Rattle.value_laws.specs.PlainForms.{HasPlainForms}
+use Rattle.value_laws.specs.Renewing.{makes_alone}
+use Rattle.value_laws.specs.Types.{StoredHoldNone, is_text}
+use Rattle.value_laws.proofs.FieldPlaces.{IsBeside}
+use Rattle.value_laws.proofs.Ready.{resets_plainly}
+use Rattle.value_laws.proofs.ValueTypeFields.{field_of_none}
+use Rattle.covering_laws.specs.Texts.{TextsAreLight}
+use Rattle.covering_laws.proofs.BirthsAnew.{born_anew, field, has_place, ran}
+use Rattle.covering_laws.proofs.Following.{method_here}
+use Rattle.covering_laws.proofs.Owners.{KeepsHeld, StaysApart}
+use Rattle.covering_laws.proofs.Resets.{resets_elsewhere}
+use Rattle.covering_laws.proofs.TopSteps.{IsBornAnew, IsLocalStep}
+use Rattle.covering_laws.proofs.Waiting.{Carries, HoldsThere, IsCarried, KeepsFieldsButTexts, KeepsReady, KeepsRootsOf, bore_before, kept_place, kept_root, numbered}
+
+module _ (p : Program) (ac : Accept p) (forms : HasPlainForms p) (h k : HeapContents) (texts : TextsAreLight p h) (stored : StoredHoldNone (is_text p h) p h) (links : HasEarlierLinks h) (carries : Carries h k)
+    (fields : KeepsFieldsButTexts p h k) (fr : Frame) (st : Stands p fr) (i : ℕ) (s : Step) (here : slice_get (frame_steps p fr) i ≡ Some s) (r : IsLocalStep p fr st s) (inside : HoldsThere p h fr)
+    (roots : KeepsRootsOf p h k fr) (v : Value) (old : ℕ → Bool) (frs : List Frame) (gives : ℕ → ClassId → Bool) (renewed : ℕ → Bool) (covered : IsCovered p h gives (λ o owner. renewed o) old frs fr)
+    (ready : KeepsReady p h k fr) (others : StaysApart p h k frs fr) (lasting : KeepsHeld p h k fr) where
+  abbrev after : Frame
+  after = frame_after p h fr s v
+
+  abbrev Born : Place → ℕ → Object → Type 0
+  Born q o y = IsBornAnew p ac h k links carries fields fr st i s here r inside roots v old frs renewed q o y
+
+  -- in a constructor with an aliased argument, no owning field has a place
+  module _ (resets : is_reset_of_this p s.action ≡ true) (n : ℕ) (room : IsSmall (places.Field n)) (f : FieldId) (beside : owning_field_beside p fr.method n ≡ Some f) (o : ℕ) (y : Object)
+      (root : root_of k (place_value p k fr.method after.locals (places.Field n)) ≡ Some o) (at : object_at k o ≡ Some y) (heavy : is_heavy_class p y.class ≡ true) (owes : OwesOrHolds p k o y) where
+    placed : is_alias_constructor p st.number ≡ true → ⊥
+    placed aliased = true≢false (sym (has_place p ac k fr st i s here resets after old frs refl refl n room f beside)
+        ∙ resets_elsewhere p st.number fr.control s.action (resets_plainly p ac forms fr st i s here) aliased resets f)
+
+    alone : constructs (method_at p fr.method) ≡ true → makes_alone (method_at p fr.method) ≡ true
+    alone makes = go (is_present (alias_in (method_at p fr.method))) refl
+      where
+        go : (b : Bool) → is_present (alias_in (method_at p fr.method)) ≡ b → makes_alone (method_at p fr.method) ≡ true
+        go true some = absurd (placed (and_from _ _ (ap constructs (method_here p fr st) ∙ makes) (ap (λ m. is_present (alias_in m)) (method_here p fr st) ∙ some)))
+        go false none = rw (makes, none) refl
+
+    -- the field held the object before
+    was : root_of h (place_value p h fr.method fr.locals (places.Field n)) ≡ Some o
+    was = sym (roots (places.Field n) room) ∙ sym (ap (root_of k) (kept_root p h k _ _ o (kept_place p h k fields fr.method fr.locals (places.Field n)) root)) ∙ root
+
+    before : IsCarried h o y
+    before = carries o y at (numbered h links (place_value p h fr.method fr.locals (places.Field n)) o was (inside (places.Field n) room)).1
+
+    wide : is_heavy_class p before.0.class ≡ true
+    wide = ap (is_heavy_class p) (sym before.2) ∙ heavy
+
+    abbrev declared : IsBeside p (ran p ac k fr st i s here resets after old frs refl refl n room f beside) n f
+    declared = field p ac k fr st i s here resets after old frs refl refl n room f beside
+
+    of_class : (c : ClassId) → declared.field.vtype ≡ types.Obj c → Born (places.Field n) o y
+    of_class c type = born_anew p ac k fr st i s here resets after old frs refl refl n room f beside c type h refl gives renewed covered lasting others alone o before.0 y before.1 at wide
+        (bore_before p h k others.holders o before.0 y before.1 before.3 owes) (λ done. (before.3 done).0) (ready (places.Field n) o before.0 y room was before.1 at) was root
+
+    of_no_class : is_class_type declared.field.vtype ≡ false → ⊥
+    of_no_class none =
+        true≢false (sym wide ∙ texts (field_of p h fr.locals.this f) o before.0
+        (field_of_none (is_text p h) p h fr.locals.this f stored (subst (λ (x : Option Field). NoObject (operand_types.type_of_field x)) (sym declared.at) none))
+        (ap (λ (x : Option FieldId). root_of h (field_place_value p h fr.locals.this x)) (sym beside) ∙ was) before.1)
+
+    by_type : (t : VType) → declared.field.vtype ≡ t → Born (places.Field n) o y
+    by_type (types.Obj c) type = of_class c type
+    by_type (types.Primitive u) type = absurd (of_no_class (ap is_class_type type))
+    by_type types.Str type = absurd (of_no_class (ap is_class_type type))
+    by_type (types.Arr u) type = absurd (of_no_class (ap is_class_type type))
+    by_type types.NullType type = absurd (of_no_class (ap is_class_type type))
+
+  -- what a step that creates the obligation of `this` anew leaves out is born anew
+  pub left_out_bears : (q : Place) (o : ℕ) (y : Object) → IsSmall q → (is_reset_of_this p s.action ≡ true) × (is_part q ≡ true) → root_of k (place_value p k fr.method after.locals q) ≡ Some o → object_at k o ≡ Some y
+      → is_heavy_class p y.class ≡ true → OwesOrHolds p k o y → Born q o y
+  left_out_bears (places.Var j) o y small out root at heavy owes = absurd (true≢false (sym out.1))
+  left_out_bears (places.Temp d) o y small out root at heavy owes = absurd (true≢false (sym out.1))
+  left_out_bears places.This o y small out root at heavy owes = absurd (true≢false (sym out.1))
+  left_out_bears places.Super o y small out root at heavy owes = absurd (let never : None ≡ Some o = root in cc)
+  left_out_bears (places.Field n) o y small out root at heavy owes = go (owning_field_beside p fr.method n) refl
+    where
+      go : (x : Option FieldId) → owning_field_beside p fr.method n ≡ x → Born (places.Field n) o y
+      go None e = absurd (let never : None ≡ Some o = sym (ap (λ (x : Option FieldId). root_of k (field_place_value p k fr.locals.this x)) e) ∙ root in cc)
+      go (Some f) e = by_type out.0 n small f e o y root at heavy owes (declared out.0 n small f e o y root at heavy owes).field.vtype refl

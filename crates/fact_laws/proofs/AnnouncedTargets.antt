@@ -1,0 +1,58 @@
+-- What a field of `this` holds, as the target of a call that creates an obligation anew, and stores into owning fields: both stand in a constructor, or in a body that creates the
+-- obligation of `this` anew.
+use Rattle.std.specs.Prelude.{◌&&◌, ◌||◌}
+use Rattle.std.proofs.Common.{◌≡◌, ◌⊎◌, inl, inr, refl, sym, ap, ◌∙◌, ℕ, Bool, true, false, true≢false, not}
+use Rattle.program_model.specs.declared.kinds.BodyId.{BodyId}
+use Rattle.program_model.specs.declared.kinds.FieldId.{FieldId}
+use Rattle.program_model.specs.declared.program.Program.{Program}
+use Rattle.java_control.specs.declared.action.Action.{Action}
+use Rattle.java_control.specs.declared.action.Action.TheVariants as actions
+use Rattle.java_control.specs.declared.action.Edge.{Edge}
+use Rattle.java_control.specs.declared.fact.Fact.{Fact}
+use Rattle.java_control.specs.declared.fact.Mode.{Mode}
+use Rattle.java_control.specs.declared.fact.Mode.TheVariants as modes
+use Rattle.java_control.specs.declared.fact.Origin.{Origin}
+use Rattle.java_control.specs.declared.place.Place.TheVariants as places
+use Rattle.ownership_rules.specs.Bodies.{is_constructor, resets_this}
+use Rattle.ownership_rules.specs.Facts.{has, is_held}
+use Rattle.ownership_rules.specs.MustCallSets.{is_heavy_class}
+use Rattle.place_laws.specs.Flow.{flow}
+use Rattle.place_laws.specs.OwningFieldsStores.{lacks_reset}
+use Rattle.fact_laws.specs.Anew.{IsAnswered, MayBeAnew}
+use Rattle.fact_laws.specs.Outcomes.{IsFault}
+
+-- the body is a constructor's, or its method creates the obligation of `this` anew
+abbrev pub MayReset : Program → BodyId → Type 0
+MayReset p b = (is_constructor p b ≡ true) ⊎ (resets_this p b ≡ true)
+
+one_of : (c d : Bool) → not (c || d) ≡ false → (c ≡ true) ⊎ (d ≡ true)
+one_of true d is = inl refl
+one_of false true is = inr refl
+one_of false false is = absurd (true≢false is)
+
+-- what a field of `this` holds may be such a target in these bodies alone, and its class has an obligation
+pub held_target : (p : Program) (b : BodyId) (o : Origin) (a : Action) (k : ℕ) (f : Fact) → MayBeAnew p b o a k f → f.mode ≡ modes.Held → (is_heavy_class p o.class ≡ true) × MayReset p b
+held_target p b o a k f may held = (heavy may.answered, one_of (is_constructor p b) (resets_this p b) (sym (ap (λ (m : Mode). is_held m && not (is_constructor p b || resets_this p b)) held) ∙ may.announced))
+  where
+    heavy : IsAnswered f.mode (is_heavy_class p o.class) → is_heavy_class p o.class ≡ true
+    heavy (inl lent) = absurd (let never : modes.Held ≡ modes.Lent = sym held ∙ lent in cc)
+    heavy (inr owned) = owned.0
+
+-- The object whose obligation a call creates anew is in a fact that says that the frame owns it, and its class has an obligation; or that it is lent; or that a field of `this` holds it,
+-- and its class has an obligation, in such a body.
+pub target_is_answered : (p : Program) (b : BodyId) (o : Origin) (a : Action) (k : ℕ) (f : Fact) → MayBeAnew p b o a k f
+    → ((f.mode ≡ modes.Own) × (is_heavy_class p o.class ≡ true)) ⊎ ((f.mode ≡ modes.Lent) ⊎ ((f.mode ≡ modes.Held) × (is_heavy_class p o.class ≡ true) × MayReset p b))
+target_is_answered p b o a k f may = go may.answered
+  where
+    go : IsAnswered f.mode (is_heavy_class p o.class) → ((f.mode ≡ modes.Own) × (is_heavy_class p o.class ≡ true)) ⊎ ((f.mode ≡ modes.Lent) ⊎ ((f.mode ≡ modes.Held) × (is_heavy_class p o.class ≡ true) × MayReset p b))
+    go (inl lent) = inr (inl lent)
+    go (inr (heavy, inl own)) = inl (own, heavy)
+    go (inr (heavy, inr held)) = let is = held_target p b o a k f may held in inr (inr (held, is.0, is.1))
+
+-- a store into an owning field stands in such a body, where `this` is in the fact, or a rule is broken
+pub store_is_announced : (p : Program) (b : BodyId) (o : Origin) (g : FieldId) (d : ℕ) (e : Edge) (f : Fact) → has f.places places.This ≡ true → IsFault (flow p b o (actions.PutOwn g d) e f) ⊎ MayReset p b
+store_is_announced p b o g d e f this = go (not (is_constructor p b || resets_this p b)) refl
+  where
+    go : (c : Bool) → not (is_constructor p b || resets_this p b) ≡ c → IsFault (flow p b o (actions.PutOwn g d) e f) ⊎ MayReset p b
+    go true is = inl (let lacks : lacks_reset p b f ≡ true = rw (this, is) refl in rw lacks tt)
+    go false is = inr (one_of (is_constructor p b) (resets_this p b) is)
