@@ -4,6 +4,8 @@ pub mod SparingCalls
 pub mod SparingStays
 pub mod WaysOverSteps
 pub mod OldObjects
+pub mod SettledFrames
+pub mod StoreWays
 pub mod SparingEnds
 pub mod Tests
 pub use Rattle.place_laws.proofs.Alike
@@ -43,6 +45,7 @@ pub use Rattle.place_laws.proofs.SignedTables
 pub use Rattle.place_laws.proofs.StartReached
 pub use Rattle.heap_laws.proofs.ResetsUp
 pub use Rattle.heap_laws.proofs.StoredObjects
+pub use Rattle.heap_laws.proofs.StoreResets
 pub use Rattle.place_laws.proofs.Temps
 pub use Rattle.heap_laws.proofs.Traces
 pub use Rattle.place_laws.proofs.TypeItems

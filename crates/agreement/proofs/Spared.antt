@@ -95,7 +95,7 @@ module _ (p : Program) (h : HeapContents) (have : HaveEnds h) (below : List Fram
 
   -- the way from what is lent to a frame from there on, where what is lent to the last of these is none of this
   module _ (rest : (o : ℕ) (x : Object) → IsWithin h t o → object_at h o ≡ Some x → IsHeavyObject p x → IsLentFrom p h below o x.owner → ⊥) where
-    lent_above : (mid : List Frame) → AreNew p (mid ++ below) → AreUnfinished p h (mid ++ below) → (o : ℕ) (x : Object) → IsWithin h t o → object_at h o ≡ Some x → IsHeavyObject p x → IsLentFrom p h (mid ++ below) o x.owner → ⊥
+    pub lent_above : (mid : List Frame) → AreNew p (mid ++ below) → AreUnfinished p h (mid ++ below) → (o : ℕ) (x : Object) → IsWithin h t o → object_at h o ≡ Some x → IsHeavyObject p x → IsLentFrom p h (mid ++ below) o x.owner → ⊥
     lent_above [] new unfinished o x up at heavy lent = rest o x up at heavy lent
     lent_above (fr ∷ mid) new unfinished o x up at heavy (renewed, inl owner) = owned_above (length (mid ++ below)) o x (length_both mid below) up at owner
     lent_above (fr ∷ mid) new unfinished o x up at heavy (renewed, inr (inl lent)) = lent_above mid new.1 unfinished.1 o x up at heavy lent

@@ -113,7 +113,7 @@ module _ (p : Program) (h : HeapContents) (have : HaveEnds h) where
   tops_meet a b d e (inr down) first second = one_top h a d e first (within_top h b a e second down)
 
   -- no frame from this one on owns the end
-  no_frame_end : (frs : List Frame) (o u : ℕ) (x : Object) → EndsBelow h frs o → object_at h u ≡ Some x → x.owner ≡ owners.Frame (length frs + 1) → HasTop h o u → ⊥
+  pub no_frame_end : (frs : List Frame) (o u : ℕ) (x : Object) → EndsBelow h frs o → object_at h u ≡ Some x → x.owner ≡ owners.Frame (length frs + 1) → HasTop h o u → ⊥
   no_frame_end frs o u x ends at owner top =
       let same = one_top h o ends.end u ends.top top in
       let one = one_object ends.top.object x (object_at h u) (ap (object_at h) (sym same) ∙ ends.top.at) at in

@@ -1,6 +1,9 @@
--- A call spares what its frame may count on: what the frame owns or makes, where the call does not create its obligation anew; and what the call spared that began the frame.
+-- A call spares what its frame may count on: what the frame owns or makes, where the call does not create its obligation anew; what the call spared that began the frame;
+-- and what a field of `this` owns that is lent, where the call creates neither obligation anew.
 use Rattle.std.proofs.Common.{◌≡◌, ◌⊎◌, inl, inr, ℕ, ◌+◌, Bool, true, false, not, ◌&&◌, None, Some, List, ◌∷◌, length, refl, sym, ap, ◌∙◌, subst, true≢false, eq-eqb, arith, lt-ltb}
 use Rattle.std.proofs.lemmas.Bool.{and_parts}
+use Rattle.program_model.specs.declared.kinds.FieldId.{FieldId}
+use Rattle.program_model.specs.Lookups.{method_at}
 use Rattle.program_model.specs.declared.program.Program.{Program}
 use Rattle.ledger_state.specs.Contents.{HeapContents}
 use Rattle.ledger_state.specs.Heaps.{object_at}
@@ -17,17 +20,19 @@ use Rattle.ownership_rules.specs.MustCallSets.{is_heavy_class}
 use Rattle.ledger_runs.specs.Configuration.{Frame}
 use Rattle.agreement.specs.Chains.{HaveEnds}
 use Rattle.agreement.specs.FieldContents.{AreNew, AreUnfinished}
-use Rattle.agreement.specs.PlaceFacts.{EndsBelow, EndsStrictly, IsHeavyObject, IsHolder, IsSpared, OwesOrHolds, Spares, is_frame_below}
-use Rattle.agreement.specs.Renewing.{HasInHand, IsHeldBy, IsLentFrom, is_renewed}
-use Rattle.agreement.proofs.SparingCalls.{constructor_of, lent_ends_below, made_top, not_made_here, owned_apart, spared_apart, tops_meet, unmade}
+use Rattle.agreement.specs.PlaceFacts.{EndsBelow, IsHeavyObject, IsHolder, IsOwnedBelow, IsSpared, OwesOrHolds, Spares, is_frame_below}
+use Rattle.agreement.specs.Renewing.{HasInHand, IsHeldBy, IsLentFrom, IsOwnedByThis, answers_for_fields, is_renewed, lends_this}
+use Rattle.agreement.proofs.Spared.{KeepsContent}
+use Rattle.agreement.proofs.SparingCalls.{constructor_of, content_apart, lent_ends_below, made_top, not_made_here, owned_apart, spared_apart, tops_meet, unmade}
 use Rattle.agreement.proofs.Tops.{no_way_round}
 
 -- The frame may count on what was called on the object: it owns the object, or a constructor that it runs has it in a field of what it makes; or the call that began the frame spared the
--- object, whose way up ends below.
+-- object, whose way up ends below; or a field of `this` owns it, which is lent, and whose obligation the call does not create anew.
 pub data CountsOn (p : Program) (h : HeapContents) (c : Frame) (below : List Frame) (o : ℕ) (x : Object) : Type 0 where
   counts_as_owned : x.owner ≡ owners.Frame (length below + 1) → CountsOn p h c below o x
   counts_as_made : IsHeldBy p c x.owner → CountsOn p h c below o x
   counts_as_spared : IsSpared p h below o → EndsBelow h below o → CountsOn p h c below o x
+  counts_as_content : (w : ℕ) (f : FieldId) → KeepsContent p h c below w f o x → EndsBelow h below o → CountsOn p h c below o x
 
 module _ (p : Program) (h : HeapContents) (have : HaveEnds h) (c : Frame) (below : List Frame) (new : AreNew p (c ∷ below)) (unfinished : AreUnfinished p h (c ∷ below)) where
   abbrev InHand : ℕ → Owner → Type 0
@@ -63,24 +68,13 @@ module _ (p : Program) (h : HeapContents) (have : HaveEnds h) (c : Frame) (below
           sibling (inr down) = elim (on_from_holder h o w u (held.1).field x at (held.1).owns down) [ inl same ↦ sym same | inr round ↦ absurd (no_way_round h have u w (other.1).field y there owns round) ]
       by (inr (inr (inr lends))) = absurd (true≢false (sym (constructor_of p h have c x.owner held) ∙ lends.method))
 
-  -- the way up from what the frame owns ends strictly below the frame above it
-  pub owned_ends_strictly : (o : ℕ) (x : Object) → object_at h o ≡ Some x → x.owner ≡ owners.Frame (length below + 1) → EndsStrictly h (c ∷ below) o
-  owned_ends_strictly o x at owner = record {
-    end = o;
-    top = record { within = itself o; object = x; at = at; unheld = ap is_field_owner owner };
-    below = inl (ap (is_frame_below (length (c ∷ below) + 1)) owner ∙ lt-ltb (length below + 1) (length (c ∷ below) + 1) (omega arith));
-  }
+  -- what the frame owns is owned below the frame above it
+  pub owned_is_below : (a : Owner) → a ≡ owners.Frame (length below + 1) → IsOwnedBelow p (c ∷ below) a
+  owned_is_below a owner = inl (ap (is_frame_below (length (c ∷ below) + 1)) owner ∙ lt-ltb (length below + 1) (length (c ∷ below) + 1) (omega arith))
 
-  -- so does that from what its constructor has in a field of what it makes
-  pub made_ends_strictly : (o : ℕ) (x : Object) → object_at h o ≡ Some x → IsHeldBy p c x.owner → EndsStrictly h (c ∷ below) o
-  made_ends_strictly o x at held =
-      let by = held.1 in
-      let w = unmade p h have c below unfinished o x at held in
-      record {
-        end = by.holder;
-        top = record { within = by_field o by.holder by.holder by.field x at by.owns (itself by.holder); object = w.object; at = w.at; unheld = ap is_field_owner w.unowned };
-        below = inr (w.unfinished, inl by.runs);
-      }
+  -- so is what a field of its `this` owns, where the frame answers for it, and does not lend `this`
+  pub held_is_below : (a : Owner) → answers_for_fields (method_at p c.method) ≡ true → lends_this p c ≡ false → IsOwnedByThis p c a → IsOwnedBelow p (c ∷ below) a
+  held_is_below a answers keeps by = inr (answers, keeps, by)
 
   -- what the frame renews while it waits, on the way of object `o`, is in its hands, and it does not renew that object
   pub counted_is_spared : (o : ℕ) (x : Object) → object_at h o ≡ Some x → ((u : ℕ) (y : Object) → object_at h u ≡ Some y → IsHeavyObject p y → IsComparable h u o → is_renewed p h c u ≡ true → InHand u y.owner)
@@ -94,6 +88,7 @@ module _ (p : Program) (h : HeapContents) (have : HaveEnds h) (c : Frame) (below
       never renews (counts_as_owned owner) = same_as (owned_apart p h have c below new unfinished o u x y at owner there (hands u y there heavy comes renews) comes) renews
       never renews (counts_as_made held) = same_as (made_apart o u x y at held there (hands u y there heavy comes renews) comes) renews
       never renews (counts_as_spared spares ends) = spared_apart p h have c below new unfinished o u y spares ends there heavy (hands u y there heavy comes renews) comes
+      never renews (counts_as_content w f keeps ends) = content_apart p h have c below new unfinished w f o u x y keeps ends there renews (hands u y there heavy comes renews) comes
 
       unrenewed : (b : Bool) → is_renewed p h c u ≡ b → is_renewed p h c u ≡ false
       unrenewed true is = absurd (never is counts)
@@ -138,7 +133,7 @@ module _ (p : Program) (h : HeapContents) (have : HaveEnds h) (unlinked : Holder
 
       by : IsComparable h u o → is_field_owner y.owner ≡ false → OwesOrHolds p h u y
       by (inl up) free = same_bears (sym (top_is_last h u o y there free up))
-      by (inr down) free = elim (holds_within o u x at heavy down) [ inl same ↦ same_bears same | inr holds ↦ inr holds ]
+      by (inr down) free = elim (holds_within o u x at heavy down) [ inl same ↦ same_bears same | inr holds ↦ inr (inl holds) ]
 
       go : (b : Bool) → (y.finished && is_library_owner y.owner) ≡ b → OwesOrHolds p h u y
       go false none = inl (ap not none)

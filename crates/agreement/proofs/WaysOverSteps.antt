@@ -1,6 +1,6 @@
 -- The ways up over a step: what fields owned they own still, but those of objects that are not finished, and new to what frames below know; and what a field owns besides was owned by a frame from a
 -- position on, and its holder is not finished. So ways up from finished objects with obligations that end below stay, and what is on them was on them.
-use Rattle.std.proofs.Common.{◌≡◌, ◌⊎◌, inl, inr, ℕ, ◌+◌, Bool, true, false, Option, Some, None, List, length, refl, sym, ap, ◌∙◌, subst, true≢false}
+use Rattle.std.proofs.Common.{◌≡◌, ◌⊎◌, inl, inr, ℕ, ◌+◌, Bool, true, false, Option, Some, None, List, [], ◌∷◌, length, refl, sym, ap, ◌∙◌, subst, true≢false}
 use Rattle.program_model.specs.declared.kinds.ClassId.{ClassId}
 use Rattle.program_model.specs.declared.kinds.FieldId.{FieldId}
 use Rattle.program_model.specs.declared.program.Program.{Program}
@@ -13,10 +13,12 @@ use Rattle.ledger_state.specs.declared.object.Object.{Object}
 use Rattle.heap_laws.specs.Anew.{is_field_owner}
 use Rattle.heap_laws.specs.Holders.{HasTop, HoldersAreUnlinked, IsComparable, IsWithin, by_field, itself}
 use Rattle.heap_laws.proofs.RootLaws.{one_object}
-use Rattle.heap_laws.proofs.WaysUp.{StepsUp, ends, goes, steps_up, top_is_last, within_top}
+use Rattle.heap_laws.proofs.WaysUp.{StepsUp, ends, goes, one_top, steps_up, top_is_last, within_top}
 use Rattle.ledger_runs.specs.Configuration.{Frame}
 use Rattle.agreement.specs.Chains.{HaveEnds}
-use Rattle.agreement.specs.PlaceFacts.{EndsBelow, EndsStrictly, IsHeavyObject, RunsOn, is_frame_below, is_frame_from}
+use Rattle.agreement.specs.PlaceFacts.{EndsBelow, IsAnswered, IsHeavyObject, IsInFieldBelow, IsOwnedBelow, RunsOn, is_frame_below, is_frame_from, is_given_up}
+use Rattle.agreement.specs.Renewing.{IsOwnedByThis}
+use Rattle.agreement.proofs.Tops.{has_top}
 
 -- What is known of a step, from the heap `h` to the heap `k`, at frames `frs`: `apart` holds of objects on which none of these frames runs.
 pub record KeepsWays (p : Program) (h k : HeapContents) (frs : List Frame) (apart : ℕ → Type 0) : Type 0 where
@@ -36,6 +38,17 @@ pub record KeepsWays (p : Program) (h k : HeapContents) (frs : List Frame) (apar
   -- what a field owns besides is that of an object that was not finished, on which none of these frames runs
   pub new : (o : ℕ) (x y : Object) (w : ℕ) (f : FieldId) → object_at h o ≡ Some x → object_at k o ≡ Some y → IsHeavyObject p x → y.owner ≡ owners.Field w f
       → (x.owner ≡ owners.Field w f) ⊎ (((z : Object) × (object_at h w ≡ Some z) × (z.finished ≡ false)) × (RunsOn w frs → ⊥))
+  -- what was given up is given up
+  pub gone : (o : ℕ) (x y : Object) → object_at h o ≡ Some x → object_at k o ≡ Some y → IsHeavyObject p x → is_given_up x.owner ≡ true → is_given_up y.owner ≡ true
+
+-- no field owns what is given up
+given_up_unheld : (a : Owner) → is_given_up a ≡ true → is_field_owner a ≡ false
+given_up_unheld owners.Released is = refl
+given_up_unheld owners.Lost is = refl
+given_up_unheld (owners.Frame i) is = absurd (true≢false (sym is))
+given_up_unheld (owners.Field v f) is = absurd (true≢false (sym is))
+given_up_unheld owners.Library is = absurd (true≢false (sym is))
+given_up_unheld owners.Unowned is = absurd (true≢false (sym is))
 
 module _ (p : Program) (h k : HeapContents) (have : HaveEnds h) (unlinked : HoldersAreUnlinked (is_heavy_class p) h) (frs : List Frame) (apart : ℕ → Type 0) (keeps : KeepsWays p h k frs apart) where
   -- what a field owns is finished
@@ -137,76 +150,42 @@ module _ (p : Program) (h k : HeapContents) (have : HaveEnds h) (unlinked : Hold
   comparable_was a b x y at there first second (inl up) = inl (way_was a b x y at first.1 there second.0 up)
   comparable_was a b x y at there first second (inr down) = inr (way_was b a y x there second.1 at first.0 down)
 
-  -- a way up after the step, from an object that was finished, to one that no field owns then: it was there before, or leads to an object that was not finished, on which none of these frames runs
-  way_or_unmade : (a b : ℕ) (x : Object) → object_at h a ≡ Some x → IsHeavyObject p x → IsWithin k a b
-      → (IsWithin h a b × ((z : Object) × (object_at h b ≡ Some z) × (is_heavy_class p z.class ≡ true))) ⊎ (((z : Object) × (object_at h b ≡ Some z) × (z.finished ≡ false)) × (RunsOn b frs → ⊥))
-  way_or_unmade _ _ x at heavy (itself o) = inl (itself o, (x, at, heavy.1))
-  way_or_unmade _ _ x at heavy (by_field o v b f y at' owned rest) = elim (keeps.new o x y v f at at' heavy owned) [
-    | inl was ↦ on was (unlinked o x v f at heavy.1 was) (λ z there made. way_or_unmade v b z there made rest)
-    | inr new ↦ inr (here (steps_up k v b rest) new)
-  ]
+  -- what a frame below owns, or a field of `this` of the one that stands last, was owned so
+  pub below_before : (o : ℕ) (x y : Object) → object_at h o ≡ Some x → object_at k o ≡ Some y → IsHeavyObject p x → IsOwnedBelow p frs y.owner → IsOwnedBelow p frs x.owner
+  below_before o x y at there heavy (inl low) = inl (keeps.low o x y at there heavy low)
+  below_before o x y at there heavy (inr held) = inr (in_field frs held (λ w f owns. keeps.new o x y w f at there heavy owns))
     where
-      -- no field owns then what was not finished
-      here : StepsUp k v b → (((z : Object) × (object_at h v ≡ Some z) × (z.finished ≡ false)) × (RunsOn v frs → ⊥)) → (((z : Object) × (object_at h b ≡ Some z) × (z.finished ≡ false)) × (RunsOn b frs → ⊥))
-      here (ends same) new = ((new.0.0, ap (object_at h) (sym same) ∙ new.0.1, new.0.2), λ runs. new.1 (subst (λ (n : ℕ). RunsOn n frs) (sym same) runs))
-      here (goes u g w at'' owned' more) new = absurd (true≢false (sym (ap is_field_owner owned') ∙ unmade_unheld v new.0.0 w new.0.1 at'' new.0.2))
+      in_field : (gs : List Frame) → IsInFieldBelow p gs y.owner
+          → ((w : ℕ) (f : FieldId) → y.owner ≡ owners.Field w f → (x.owner ≡ owners.Field w f) ⊎ (((z : Object) × (object_at h w ≡ Some z) × (z.finished ≡ false)) × (RunsOn w gs → ⊥))) → IsInFieldBelow p gs x.owner
+      in_field [] never new = absurd never
+      in_field (g ∷ gs) (answers, keeps', by) new = elim (new by.holder by.field by.owns) [
+        | inl was ↦ (answers, keeps', subst (IsOwnedByThis p g) (by.owns ∙ sym was) by)
+        | inr other ↦ absurd (other.1 (inl by.runs))
+      ]
 
-      on : x.owner ≡ owners.Field v f → (w : Object) × (object_at h v ≡ Some w) × (w.link ≡ None) × (is_heavy_class p w.class ≡ true)
-          → ((z : Object) → object_at h v ≡ Some z → IsHeavyObject p z → (IsWithin h v b × ((z' : Object) × (object_at h b ≡ Some z') × (is_heavy_class p z'.class ≡ true))) ⊎ (((z' : Object) × (object_at h b ≡ Some z') × (z'.finished ≡ false)) × (RunsOn b frs → ⊥)))
-          → (IsWithin h o b × ((z : Object) × (object_at h b ≡ Some z) × (is_heavy_class p z.class ≡ true))) ⊎ (((z : Object) × (object_at h b ≡ Some z) × (z.finished ≡ false)) × (RunsOn b frs → ⊥))
-      on was (w, there, none, wide) further = by_done w.finished refl
+  -- what was given up is given up
+  pub answered_before : (o : ℕ) (x : Object) → object_at h o ≡ Some x → is_heavy_class p x.class ≡ true → IsAnswered k o → IsAnswered h o
+  answered_before o x at heavy answered = go (has_top h have o x at)
+    where
+      go : (e : ℕ) × HasTop h o e → IsAnswered h o
+      go (e, top) = by (is_given_up top.object.owner) refl
         where
-          by_done : (c : Bool) → w.finished ≡ c → (IsWithin h o b × ((z : Object) × (object_at h b ≡ Some z) × (is_heavy_class p z.class ≡ true))) ⊎ (((z : Object) × (object_at h b ≡ Some z) × (z.finished ≡ false)) × (RunsOn b frs → ⊥))
-          by_done true made = elim (further w there (made, wide)) [
-            | inl up ↦ inl (by_field o v b f x at was up.0, up.1)
-            | inr new ↦ inr new
-          ]
-          by_done false open' = inl (last (steps_up k v b rest))
-            where
-              last : StepsUp k v b → IsWithin h o b × ((z : Object) × (object_at h b ≡ Some z) × (is_heavy_class p z.class ≡ true))
-              last (ends same) = (by_field o v b f x at was (subst (IsWithin h v) same (itself v)), (w, ap (object_at h) (sym same) ∙ there, wide))
-              last (goes u g y' at'' owned' more) = absurd (true≢false (sym (ap is_field_owner owned') ∙ unmade_unheld v w y' there at'' open'))
+          z : (y : Object) × (object_at k e ≡ Some y) × (y.class ≡ top.object.class) × (top.object.finished ≡ true → y.finished ≡ true)
+          z = keeps.objects e top.object top.at
 
-  -- what ends strictly below did so
-  pub strict_before : (o : ℕ) (x : Object) → object_at h o ≡ Some x → IsHeavyObject p x → EndsStrictly k frs o → EndsStrictly h frs o
-  strict_before o x at heavy ends' = go (way_or_unmade o ends'.end x at heavy ends'.top.within)
-    where
-      nobody : (a : Owner) → is_frame_below (length frs + 1) a ≡ true → is_field_owner a ≡ false
-      nobody (owners.Frame i) is = refl
-      nobody (owners.Field w f) is = absurd (true≢false (sym is))
-      nobody owners.Library is = refl
-      nobody owners.Released is = refl
-      nobody owners.Lost is = refl
-      nobody owners.Unowned is = refl
+          never_open : is_given_up top.object.owner ≡ true → (y : Object) → object_at h e ≡ Some y → y.finished ≡ false → ⊥
+          never_open gone y there open' =
+              true≢false (sym gone ∙ ap is_given_up (ap (λ (u : Object). u.owner) (one_object top.object y (object_at h e) top.at there) ∙ have.unfinished e y there open'))
 
-      -- the end was not finished
-      open_end : (z : Object) → object_at h ends'.end ≡ Some z → z.finished ≡ false → RunsOn ends'.end frs
-      open_end z there open' = elim ends'.below [
-        | inl low ↦ elim (keeps.unmade ends'.end z ends'.top.object there ends'.top.at open') [
-          | inl still ↦ absurd (true≢false (sym low ∙ ap (is_frame_below (length frs + 1)) still.1))
-          | inr away ↦ absurd (true≢false (sym low ∙ away.2))
-        ]
-        | inr runs ↦ runs.1
-      ]
+          made : (b : Bool) → top.object.finished ≡ b → is_given_up top.object.owner ≡ true → top.object.finished ≡ true
+          made true done gone = done
+          made false open' gone = absurd (never_open gone top.object top.at open')
 
-      finished_end : IsWithin h o ends'.end → (z : Object) → object_at h ends'.end ≡ Some z → IsHeavyObject p z → EndsStrictly h frs o
-      finished_end up z there heavy' = elim ends'.below [
-        | inl low ↦
-            (let was = keeps.low ends'.end z ends'.top.object there ends'.top.at heavy' low in
-            record { end = ends'.end; top = record { within = up; object = z; at = there; unheld = nobody z.owner was }; below = inl was })
-        | inr runs ↦
-            (let now = keeps.objects ends'.end z there in
-            absurd (true≢false (sym (now.3 heavy'.0) ∙ ap (λ (u : Object). u.finished) (one_object now.0 ends'.top.object (object_at k ends'.end) now.1 ends'.top.at) ∙ runs.0)))
-      ]
-
-      by_end : IsWithin h o ends'.end → (z : Object) → object_at h ends'.end ≡ Some z → is_heavy_class p z.class ≡ true → (c : Bool) → z.finished ≡ c → EndsStrictly h frs o
-      by_end up z there wide true made = finished_end up z there (made, wide)
-      by_end up z there wide false open' = record {
-        end = ends'.end;
-        top = record { within = up; object = z; at = there; unheld = ap is_field_owner (have.unfinished ends'.end z there open') };
-        below = inr (open', open_end z there open');
-      }
-
-      go : (IsWithin h o ends'.end × ((z : Object) × (object_at h ends'.end ≡ Some z) × (is_heavy_class p z.class ≡ true))) ⊎ (((z : Object) × (object_at h ends'.end ≡ Some z) × (z.finished ≡ false)) × (RunsOn ends'.end frs → ⊥)) → EndsStrictly h frs o
-      go (inl (up, (z, there, wide))) = by_end up z there wide z.finished refl
-      go (inr ((z, there, open'), apart')) = absurd (apart' (open_end z there open'))
+          by : (b : Bool) → is_given_up top.object.owner ≡ b → IsAnswered h o
+          by false answers = (e, top, answers)
+          by true gone =
+              let way = way_stays o e x at heavy (λ away y there open'. never_open gone y there open') top.within in
+              let still = keeps.gone e top.object z.0 top.at z.1 (made top.object.finished refl gone, end_heavy o e x top.object at heavy top.at top.within) gone in
+              let end = one_top k o e answered.0 (record { within = way; object = z.0; at = z.1; unheld = given_up_unheld z.0.owner still }) answered.1 in
+              let one = one_object z.0 answered.1.object (object_at k answered.0) (ap (object_at k) (sym end) ∙ z.1) answered.1.at in
+              absurd (true≢false (sym still ∙ ap (λ (u : Object). is_given_up u.owner) one ∙ answered.2))

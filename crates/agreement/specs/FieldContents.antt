@@ -22,7 +22,7 @@ use Rattle.ledger_state.specs.Heaps.{object_at, root, root_of}
 use Rattle.ledger_state.specs.declared.entry.Owner.TheVariants as owners
 use Rattle.ledger_state.specs.declared.object.Object.{Object}
 use Rattle.ledger_state.specs.declared.value.Value.TheVariants as values
-use Rattle.place_laws.specs.Obligations.{is_unmet}
+use Rattle.place_laws.specs.Obligations.{is_library_owner, is_unmet}
 use Rattle.java_control.specs.Calls.{called_method}
 use Rattle.java_control.specs.Control.{Step}
 use Rattle.java_control.specs.Owned.{is_owning}
@@ -62,7 +62,7 @@ abbrev pub is_made_in : Program → ℕ → ClassId → List Frame → Bool
 is_made_in p w c frs = list_any (makes_holder p w c) frs
 
 -- Field `f` of object `w` owns object `o`, which is `x`: the class of the holder, one of the program, declares the field, which holds the object and whose
--- type bounds the obligation of its class, and, where it is unmet, its own; the holder is linked to none; where it is finished, what was called on it was done to
+-- type bounds the obligation of its class, and this its own; the holder is linked to none; where it is finished, and the object is unmet, all that its class asks for must be called on it, and what was called on it was done to
 -- the object, and where it is not, its constructor runs, which makes no alias.
 pub record IsContent (p : Program) (frs : List Frame) (h : HeapContents) (o : ℕ) (x : Object) (w : ℕ) (f : FieldId) : Type 0 where
   pub holder : Object
@@ -74,10 +74,10 @@ pub record IsContent (p : Program) (frs : List Frame) (h : HeapContents) (o : �
   pub owning : field.owning ≡ true
   pub held : root_of h (field_value p h w f) ≡ Some o
   pub bounded : set.is_subset (must_of p x.class) (must_of_type p field.vtype) ≡ true
-  pub own : is_unmet x ≡ true → set.is_subset x.must (must_of p x.class) ≡ true
-  pub whole : holder.finished ≡ true → holder.must ≡ must_of p holder.class
+  pub own : set.is_subset x.must (must_of p x.class) ≡ true
+  pub whole : holder.finished ≡ true → is_unmet x ≡ true → holder.must ≡ must_of p holder.class
   pub unlinked : holder.link ≡ None
-  pub kept : holder.finished ≡ true → IsKept p holder f x
+  pub kept : holder.finished ≡ true → is_unmet x ≡ true → IsKept p holder f x
   pub made : holder.finished ≡ false → is_made_in p w field.class frs ≡ true
 
 -- something must be called on the object, or its class asks for it
@@ -93,10 +93,10 @@ abbrev pub IsFieldOfClass : Program → FieldId → ClassId → Type 0
 IsFieldOfClass p f c = (field : Field) × (field_at p f ≡ Some field) × (field.class ≡ c)
 
 -- Where an owning field whose type has an obligation holds an object whose class has one, the class of the field's object declares the field; and where this is finished, and the object may owe a call,
--- or a field of it owns something, the field owns it, or the field's object is linked to it.
+-- or a field of it owns something, the field owns it, or the field's object is linked to it, or is an alias of null that the library owns, and it is that object.
 abbrev pub FieldsOwn : Program → HeapContents → Type 0
 FieldsOwn p h = (w : ℕ) (y : Object) (f : FieldId) (o : ℕ) (x : Object) → object_at h w ≡ Some y → is_owning p f ≡ true → is_heavy_in p (Some f) ≡ true → root_of h (field_value p h w f) ≡ Some o
-    → object_at h o ≡ Some x → is_heavy_class p x.class ≡ true → IsFieldOfClass p f y.class × (y.finished ≡ true → OwesOrHolds p h o x → (x.owner ≡ owners.Field w f) ⊎ (root h w ≡ o))
+    → object_at h o ≡ Some x → is_heavy_class p x.class ≡ true → IsFieldOfClass p f y.class × (y.finished ≡ true → OwesOrHolds p h o x → (x.owner ≡ owners.Field w f) ⊎ ((root h w ≡ o) × (y.link ≡ None → is_library_owner y.owner ≡ true)))
 
 -- what fields own owning fields own, and it is followed
 abbrev pub OwningFieldsOwn : Program → HeapContents → Type 0

@@ -13,9 +13,10 @@ use Rattle.program_model.specs.declared.program.Method.{Method}
 use Rattle.program_model.specs.declared.program.ParamSig.{ParamSig}
 use Rattle.program_model.specs.declared.program.Program.{Program}
 use Rattle.program_model.specs.Lookups.{field_at, method_at}
-use Rattle.ownership_rules.specs.Bodies.{constructs}
+use Rattle.program_model.specs.Overrides.{is_library}
+use Rattle.ownership_rules.specs.Bodies.{alias_in, constructs, reset_in}
 use Rattle.ownership_rules.specs.MustCallSets.{Names, fits, fits_type, is_empty, is_heavy_class, must_of, must_of_optional, no_names}
-use Rattle.ownership_rules.specs.Signatures.{field_type}
+use Rattle.ownership_rules.specs.Signatures.{field_type, is_present}
 use Rattle.java_control.specs.PlaceNumbers.{IsSmall}
 use Rattle.java_control.specs.Owned.{place_of_field}
 use Rattle.java_control.specs.declared.action.Action.{Action}
@@ -31,6 +32,7 @@ use Rattle.ownership_rules.specs.Facts.{PlaceSet, has, is_held, is_own, is_this_
 use Rattle.place_laws.specs.Paths.{Reach, relation_of}
 use Rattle.ledger_state.specs.Contents.{HeapContents}
 use Rattle.ledger_state.specs.Heaps.{object_at, root_of, same_root}
+use Rattle.ledger_state.specs.Values.{number_of}
 use Rattle.ledger_state.specs.declared.entry.Owner.{Owner}
 use Rattle.ledger_state.specs.declared.entry.Owner.TheVariants as owners
 use Rattle.ledger_state.specs.declared.locals.Locals.{Locals}
@@ -46,7 +48,7 @@ use Rattle.place_laws.specs.Places.{HasPlacesAlone}
 use Rattle.agreement.specs.PlainForms.{is_lent_parameter}
 use Rattle.fact_laws.specs.Going.{is_in_this}
 use Rattle.heap_laws.specs.Holders.{HasTop, IsComparable}
-use Rattle.agreement.specs.Renewing.{IsLentFrom, IsOwnedByThis, fact_as, is_renewed, is_reread, makes_alone}
+use Rattle.agreement.specs.Renewing.{IsLentFrom, IsOwnedByThis, answers_for_fields, fact_as, is_of_heavy_class, is_renewed, is_reread, lends_this, makes_alone, reopens}
 
 -- the object is not finished yet, or the library does not own it. (What the library owns it owns for ever. An alias of null is the library's.)
 abbrev pub may_owe : Object → Bool
@@ -56,15 +58,27 @@ may_owe x = not (x.finished && is_library_owner x.owner)
 abbrev pub IsHolder : Program → HeapContents → ℕ → Type 0
 IsHolder p h w = (c : ℕ) × (y : Object) × (object_at h c ≡ Some y) × (y.finished ≡ true) × (is_heavy_class p y.class ≡ true) × (is_held_by y.owner w ≡ true)
 
--- the object may owe a call, or a field of it owns an object with an obligation
-abbrev pub OwesOrHolds : Program → HeapContents → ℕ → Object → Type 0
-OwesOrHolds p h o x = (may_owe x ≡ true) ⊎ IsHolder p h o
+-- the class declares an owning field
+abbrev pub HasOwningField : Program → ClassId → Type 0
+HasOwningField p c = (f : FieldId) × (field : Field) × (field_at p f ≡ Some field) × (field.owning ≡ true) × (field.class ≡ c)
 
--- The fact says that the object is owned, and that it has an obligation: the frame owns it, or, in a constructor without an aliased argument, a
--- field of `this`. (Elsewhere a field may hold what it does not own, such as an aliased argument that a constructor has kept.) A fact whose class
+-- no constructor of the class makes an alias
+abbrev pub MakesNoAlias : Program → ClassId → Type 0
+MakesNoAlias p c = (m : MethodId) (d : Method) → method_at p m ≡ Some d → d.class ≡ c → constructs (Some d) ≡ true → alias_in (Some d) ≡ None
+
+-- The class of the program declares an owning field, and makes no alias: so its methods may store into the field.
+abbrev pub MayStore : Program → ClassId → Type 0
+MayStore p c = (is_library p c ≡ false) × HasOwningField p c × MakesNoAlias p c
+
+-- the object may owe a call, or a field of it owns an object with an obligation, or may come to own one
+abbrev pub OwesOrHolds : Program → HeapContents → ℕ → Object → Type 0
+OwesOrHolds p h o x = (may_owe x ≡ true) ⊎ (IsHolder p h o ⊎ MayStore p x.class)
+
+-- The fact says that the object is owned, and that it has an obligation: the frame owns it, or, in a constructor without an aliased argument or a method that creates the obligation of `this` anew, a
+-- field of `this`. (Elsewhere a field may hold what it does not own, such as an aliased argument that a constructor has kept; or nothing need be known of it.) A fact whose class
 -- has none counts as not owned.
 abbrev pub claims : Program → Option Method → Origin → Fact → Bool
-claims p m o f = is_heavy_class p o.class && (is_own f.mode || is_held f.mode && makes_alone m)
+claims p m o f = is_heavy_class p o.class && (is_own f.mode || is_held f.mode && answers_for_fields m)
 
 -- what such a fact says is true of the object: it is finished, it is of the class as far as obligations go, all that must be called on
 -- it is needed by the fact, and all that the fact knows was called
@@ -127,9 +141,9 @@ asked_of p None kind = no_names
 asked_of p (Some m) kind = asked_in p m kind
 
 -- The fact is that of a lent parameter, or of `this`, or it says that a field of `this` holds the object. (In a constructor without an aliased
--- argument such a fact claims that the field owns the object, and says more.)
+-- argument, and in a method that creates the obligation of `this` anew, such a fact claims that the field owns the object, and says more.)
 abbrev pub tells_calls : Program → MethodId → Origin → Fact → Bool
-tells_calls p m o f = (is_lent p (method_at p m) o.kind || is_held f.mode) && not (is_held f.mode && makes_alone (method_at p m))
+tells_calls p m o f = (is_lent p (method_at p m) o.kind || is_held f.mode) && not (is_held f.mode && answers_for_fields (method_at p m))
 
 -- ---- what is given to a frame
 
@@ -190,11 +204,27 @@ pub record EndsBelow (h : HeapContents) (frs : List Frame) (o : ℕ) : Type 0 wh
   pub below : is_frame_from (length frs + 1) top.object.owner ≡ false
   pub older : top.object.finished ≡ false → RunsOn end frs
 
--- So it does, and one of the frames below owns its end, or this is not finished, and one of them runs on it.
-pub record EndsStrictly (h : HeapContents) (frs : List Frame) (o : ℕ) : Type 0 where
-  pub end : ℕ
-  pub top : HasTop h o end
-  pub below : (is_frame_below (length frs + 1) top.object.owner ≡ true) ⊎ ((top.object.finished ≡ false) × RunsOn end frs)
+-- nobody answers for what has this owner any more: it was given up
+abbrev pub is_given_up : Owner → Bool
+is_given_up owners.Released = true
+is_given_up owners.Lost = true
+is_given_up (owners.Frame i) = false
+is_given_up (owners.Field w f) = false
+is_given_up owners.Library = false
+is_given_up owners.Unowned = false
+
+-- the end of the way up from the object was not given up
+abbrev pub IsAnswered : HeapContents → ℕ → Type 0
+IsAnswered h o = (end : ℕ) × (top : HasTop h o end) × (is_given_up top.object.owner ≡ false)
+
+-- a field of `this` of the top one of these frames owns what has this owner, and the frame answers for it, and does not lend `this`
+abbrev pub IsInFieldBelow : Program → List Frame → Owner → Type 0
+IsInFieldBelow p [] owner = ⊥
+IsInFieldBelow p (fr ∷ frs) owner = (answers_for_fields (method_at p fr.method) ≡ true) × (lends_this p fr ≡ false) × IsOwnedByThis p fr owner
+
+-- one of these frames owns what has this owner, or so a field does
+abbrev pub IsOwnedBelow : Program → List Frame → Owner → Type 0
+IsOwnedBelow p frs owner = (is_frame_below (length frs + 1) owner ≡ true) ⊎ IsInFieldBelow p frs owner
 
 -- ---- what a call spares
 
@@ -221,26 +251,62 @@ pub record IsContentOfThis (p : Program) (fr : Frame) (owner : Owner) : Type 0 w
 
 -- ---- what is known of an object
 
--- the class declares an owning field
-abbrev pub HasOwningField : Program → ClassId → Type 0
-HasOwningField p c = (f : FieldId) × (field : Field) × (field_at p f ≡ Some field) × (field.owning ≡ true) × (field.class ≡ c)
-
 -- the method, where there is one, takes no obligation by its parameters
 abbrev pub takes_nothing : Program → Option Method → Bool
 takes_nothing p None = true
 takes_nothing p (Some m) = list_all (λ x. is_lent_parameter p (Some x)) m.sig.params.items
 
--- What was old when the frame began, of finished objects whose class has an obligation: their ways up end below the frame that stands on these still. What one of the frames below owns or makes, or has
--- within what it does, was old; and so was what a field of `this` owns, in a method that takes no obligation.
+-- The frame is that of a method that takes no obligation and creates none anew, and is no constructor.
+abbrev pub leaves_all : Program → Option Method → Bool
+leaves_all p m = not (constructs m) && takes_nothing p m && not (is_present (reset_in m))
+
+-- both run on one object
+abbrev pub run_on_one : Frame → Frame → Bool
+run_on_one fr caller = same_root (number_of fr.locals.this) (number_of caller.locals.this)
+
+-- While the frame runs, which stands on these, nothing is stored into the fields of `this`: it leaves all as it is; or it runs on the `this` of the frame that waits for it, which does not lend this to it,
+-- and runs a constructor, or a method that creates the obligation of `this` anew, or is such a frame.
+abbrev pub is_settled : Program → Frame → List Frame → Bool
+is_settled p fr [] = leaves_all p (method_at p fr.method)
+is_settled p fr (caller ∷ frs) =
+    leaves_all p (method_at p fr.method)
+    || run_on_one fr caller && not (lends_this p caller) && (constructs (method_at p caller.method) || (reopens (method_at p caller.method) || is_settled p caller frs))
+
+-- The fact says that a field of `this` holds its object, in a method that does not answer for the fields of `this`, into which something may be stored while the frame runs: so nothing is said of the object.
+abbrev pub is_idle : Program → List Frame → Frame → Fact → Bool
+is_idle p frs fr f =
+    is_held f.mode && not (constructs (method_at p fr.method)) && not (reopens (method_at p fr.method)) && is_of_heavy_class p (method_at p fr.method) && not (is_settled p fr frs)
+
+-- the place is that of an owning field of `this`
+abbrev pub is_field_place : Place → Bool
+is_field_place (place.Field k) = true
+is_field_place (place.Var i) = false
+is_field_place place.This = false
+is_field_place (place.Temp d) = false
+is_field_place place.Super = false
+
+-- into the field of the place others may store until the call ends at which the frame stands
+abbrev pub is_lent_place : Program → Frame → Place → Bool
+is_lent_place p fr q = is_field_place q && lends_this p fr
+
+-- each of the fact's places of which something is said holds object `o`
+abbrev pub HoldAsSaid : Program → HeapContents → List Frame → Frame → ℕ → Fact → Type 0
+HoldAsSaid p h frs fr o f =
+    is_idle p frs fr f ≡ false → (q : Place) → IsSmall q → is_lent_place p fr q ≡ false → has f.places q ≡ true → root_of h (place_value p h fr.method fr.locals q) ≡ Some o
+
+-- What was old when the frame began, of finished objects whose class has an obligation: their ways up end below the frame that stands on these still. What one of the frames below owns was old, and what a
+-- field of `this` of the one that waits for it owns, which answers for it and does not lend `this`; so was what a field of `this` owns, in a method that leaves all as it is, and `this`, where nothing is
+-- stored into its fields.
 pub record IsOld (p : Program) (h : HeapContents) (frs : List Frame) (fr : Frame) (old : ℕ → Bool) : Type 0 where
   pub there : (o : ℕ) → old o ≡ true → (x : Object) × (object_at h o ≡ Some x) × (x.finished ≡ true)
   pub ends : (o : ℕ) (x : Object) → object_at h o ≡ Some x → IsHeavyObject p x → old o ≡ true → EndsBelow h frs o
-  pub strict : (o : ℕ) (x : Object) → object_at h o ≡ Some x → IsHeavyObject p x → EndsStrictly h frs o → old o ≡ true
-  pub contents : (o : ℕ) (x : Object) → object_at h o ≡ Some x → IsHeavyObject p x → IsContentOfThis p fr x.owner → takes_nothing p (method_at p fr.method) ≡ true → old o ≡ true
+  pub below : (o : ℕ) (x : Object) → object_at h o ≡ Some x → IsHeavyObject p x → IsOwnedBelow p frs x.owner → old o ≡ true
+  pub contents : (o : ℕ) (x : Object) → object_at h o ≡ Some x → IsHeavyObject p x → IsContentOfThis p fr x.owner → leaves_all p (method_at p fr.method) ≡ true → old o ≡ true
+  pub self : (w : ℕ) (y : Object) → fr.locals.this ≡ values.Object w → object_at h w ≡ Some y → IsHeavyObject p y → y.link ≡ None → is_settled p fr frs ≡ true → old w ≡ true
 
--- The object was old when the frame began, and the call that began it spares it.
+-- The object was old when the frame began, and the call that began it spares it; the end of its way up was not given up, and something is said of it in the fact.
 abbrev pub IsApart : Program → HeapContents → (ℕ → Bool) → List Frame → Frame → ℕ → Owner → Fact → Type 0
-IsApart p h old frs fr o owner f = (old o ≡ true) × IsSpared p h frs o
+IsApart p h old frs fr o owner f = (old o ≡ true) × IsSpared p h frs o × IsAnswered h o × (is_idle p frs fr f ≡ false)
 
 -- an owning field of `this` owns the object, and of `this`, its parts and its fields that field's place alone is among these
 abbrev pub IsInField : Program → Frame → PlaceSet → Owner → Type 0
@@ -251,19 +317,21 @@ IsInField p fr held owner =
 abbrev pub is_owning_fact : Program → Origin → Fact → Bool
 is_owning_fact p o f = is_heavy_class p o.class && is_own f.mode
 
--- A fact that a path brings to the frame's control stands for object `o`, which is `x`: all places of the fact hold the object. `frs` are the
+-- A fact that a path brings to the frame's control stands for object `o`, which is `x`: all places of the fact hold the object, but for those of fields while the frame lends `this`; and nothing is said of
+-- what is idle. `frs` are the
 -- frames below, `away` says that the call at which the frame waits gives the object away, `anew` that what the frame knows of it is read as after its obligation was created anew, and `old` what was old
 -- for the frame when it began.
--- Where the fact says that the object is owned, that is true, as the fact is read while the frame waits, unless the frame owned it and it is given away. Where it says
--- in a constructor without an aliased argument that a field holds a finished object, and its class has an obligation, it is not given away, and one of its places is that of the owning field that owns the
+-- Where the fact says that the object is owned, that is true, as the fact is read while the frame waits, unless the frame owned it and it is given away, or a field does while the frame lends `this`. Where it says
+-- in a frame that answers for the fields of `this`, and does not lend it, that a field holds a finished object, and its class has an obligation, it is not given away, and one of its places is that of the owning field
+-- that owns the
 -- object, the one place of it that is `this`'s. Where it says that the object is lent, the call that began the frame creates the object's obligation anew,
 -- and the way leads to a frame that waits for such a call and has the object in hand; it is not given away. Where it is the fact of `this` in a constructor, the object is not finished; else what is lent
 -- is finished, if its class has owning fields.
 -- Where the fact is that of a lent parameter, or of `this`, it says never that the frame owns an object with an obligation, and that a field holds it in a
--- constructor with an aliased argument alone. What it then knows of a finished object to be called was called, or was asked for before, as the fact is read while the frame waits, where the object was old and the call
--- that began the frame spares it; then the call at which the frame waits does not create its obligation anew.
--- Where its class has an obligation, it is in owning fields alone whose types bound this. Where it is in an owning field whose type has one, or outside
--- constructors in any, it says that the field holds it.
+-- constructor with an aliased argument alone. What it then knows of a finished object to be called was called, or was asked for before, as the fact is read while the frame waits, where the object was old, the call
+-- that began the frame spares it, and it was not given up; then the call at which the frame waits does not create its obligation anew.
+-- Where its class has an obligation, it is in owning fields alone whose types bound this. Where it is in an owning field whose type has one, or in any in a method
+-- that does not create the obligation of `this` anew, it says that the field holds it.
 pub record Covers (p : Program) (h : HeapContents) (away anew : Bool) (old : ℕ → Bool) (frs : List Frame) (fr : Frame) (o : ℕ) (x : Object) : Type 0 where
   pub body : BodyId
   pub id : body_id p fr.method ≡ Some body
@@ -271,22 +339,22 @@ pub record Covers (p : Program) (h : HeapContents) (away anew : Bool) (old : ℕ
   pub fact : Fact
   pub reached : Reach p body (relation_of p body) origin fr.control fact
   pub alone : HasPlacesAlone fact.places
-  pub places : AllHold p h fr.method fr.locals o fact.places
-  pub true' : claims p (method_at p fr.method) origin fact ≡ true → (away && is_own fact.mode) ≡ false → IsTrueOf p x origin (fact_as (anew) fact)
+  pub places : HoldAsSaid p h frs fr o fact
+  pub true' : claims p (method_at p fr.method) origin fact ≡ true → (away && is_own fact.mode) ≡ false → (is_held fact.mode && lends_this p fr) ≡ false → IsTrueOf p x origin (fact_as (anew) fact)
   pub lent : is_lent p (method_at p fr.method) origin.kind ≡ true → (is_owning_fact p origin fact ≡ false)
       × (is_held fact.mode ≡ true → (constructs (method_at p fr.method) ≡ true) × (makes_alone (method_at p fr.method) ≡ false))
-  pub free : x.finished ≡ true → is_held fact.mode ≡ true → makes_alone (method_at p fr.method) ≡ true → is_heavy_class p origin.class ≡ true
+  pub free : x.finished ≡ true → is_held fact.mode ≡ true → answers_for_fields (method_at p fr.method) ≡ true → lends_this p fr ≡ false → is_heavy_class p origin.class ≡ true
       → (away ≡ false) × IsInField p fr fact.places x.owner
   pub lends : fact.mode ≡ modes.Lent → x.finished ≡ true → (away ≡ false) × IsLentFrom p h frs o x.owner
   pub makes : constructs (method_at p fr.method) ≡ true → is_this_origin origin.kind ≡ true → x.finished ≡ false
   pub complete : fact.mode ≡ modes.Lent → (constructs (method_at p fr.method) && is_this_origin origin.kind) ≡ false → HasOwningField p x.class → x.finished ≡ true
-  pub unrenewed : x.finished ≡ true → tells_calls p fr.method origin fact ≡ true → old o ≡ true → IsSpared p h frs o → anew ≡ false
+  pub unrenewed : x.finished ≡ true → tells_calls p fr.method origin fact ≡ true → IsApart p h old frs fr o x.owner fact → anew ≡ false
   pub known : x.finished ≡ true → tells_calls p fr.method origin fact ≡ true → IsApart p h old frs fr o x.owner fact → anew ≡ false
       → set.is_subset fact.called (set.union (asked_of p (method_at p fr.method) origin.kind) x.called) ≡ true
   pub fields : (k : ℕ) → k < 16 → is_heavy_class p origin.class ≡ true → has fact.places (place.Field k) ≡ true → fits_field p fr.method k origin.class ≡ true
   pub held : (k : ℕ) → k < 16 → has fact.places (place.Field k) ≡ true → is_heavy_field p fr.method (place.Field k) ≡ true
       → (fact.mode ≡ modes.Held) × (is_heavy_class p origin.class ≡ true)
-  pub outside : constructs (method_at p fr.method) ≡ false → (k : ℕ) → k < 16 → has fact.places (place.Field k) ≡ true → fact.mode ≡ modes.Held
+  pub outside : constructs (method_at p fr.method) ≡ false → reopens (method_at p fr.method) ≡ false → (k : ℕ) → k < 16 → has fact.places (place.Field k) ≡ true → fact.mode ≡ modes.Held
 
 -- the place, which holds the object, is in a fact that claims nothing of it
 pub record IsUnowned (p : Program) (h : HeapContents) (away anew : Bool) (old : ℕ → Bool) (frs : List Frame) (fr : Frame) (q : Place) (o : ℕ) (x : Object) : Type 0 where
@@ -299,7 +367,7 @@ pub record IsUnowned (p : Program) (h : HeapContents) (away anew : Bool) (old : 
 pub record IsOwned (p : Program) (h : HeapContents) (away anew : Bool) (old : ℕ → Bool) (frs : List Frame) (fr : Frame) (o : ℕ) (x : Object) (c : Covers p h away anew old frs fr o x) : Type 0 where
   pub owning : claims p (method_at p fr.method) c.origin c.fact ≡ true
   pub owner : away ≡ false → is_own c.fact.mode ≡ true → x.owner ≡ owners.Frame (length frs + 1)
-  pub others : (q : Place) → IsSmall q → root_of h (place_value p h fr.method fr.locals q) ≡ Some o → (has c.fact.places q ≡ true) ⊎ IsUnowned p h away anew old frs fr q o x
+  pub others : (q : Place) → IsSmall q → is_lent_place p fr q ≡ false → root_of h (place_value p h fr.method fr.locals q) ≡ Some o → (has c.fact.places q ≡ true) ⊎ IsUnowned p h away anew old frs fr q o x
 
 -- the place is in such a fact
 pub data IsKeyed (p : Program) (h : HeapContents) (away anew : Bool) (old : ℕ → Bool) (frs : List Frame) (fr : Frame) (q : Place) (o : ℕ) (x : Object) : Type 0 where
@@ -309,7 +377,7 @@ pub data IsKeyed (p : Program) (h : HeapContents) (away anew : Bool) (old : ℕ 
 -- each place of the frame that holds an object whose class has an obligation, and that may owe a call, or of which a field owns something, is so. `gives` says which objects
 -- are given away, and `renewed` which are read as objects whose obligation is created anew
 abbrev pub IsCovered : Program → HeapContents → (ℕ → ClassId → Bool) → (ℕ → Owner → Bool) → (ℕ → Bool) → List Frame → Frame → Type 0
-IsCovered p h gives renewed old frs fr = (q : Place) (o : ℕ) (x : Object) → IsSmall q → root_of h (place_value p h fr.method fr.locals q) ≡ Some o → object_at h o ≡ Some x
+IsCovered p h gives renewed old frs fr = (q : Place) (o : ℕ) (x : Object) → IsSmall q → is_lent_place p fr q ≡ false → root_of h (place_value p h fr.method fr.locals q) ≡ Some o → object_at h o ≡ Some x
     → is_heavy_class p x.class ≡ true → OwesOrHolds p h o x → IsKeyed p h (gives o x.class) (renewed o x.owner) old frs fr q o x
 
 -- the top frame gives nothing away

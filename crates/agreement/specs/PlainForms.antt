@@ -23,8 +23,8 @@ use Rattle.program_model.specs.Lookups.{body_at, field_at, method_at}
 use Rattle.program_model.specs.Overrides.{are_types, is_abstract, is_library}
 use Rattle.program_model.specs.SuperTests.{has_class, is_under}
 use Rattle.program_model.specs.Validity.{is_class_type}
-use Rattle.ownership_rules.specs.Bodies.{alias_in, constructs, has_field_place, is_class_of, is_constructor, is_constructor_kind, reset_in}
-use Rattle.ownership_rules.specs.MustCallSets.{Names, is_empty, must_of, must_of_type}
+use Rattle.ownership_rules.specs.Bodies.{alias_in, constructs, has_field_place, is_class_of, is_constructor, is_constructor_kind, method_of, reset_in}
+use Rattle.ownership_rules.specs.MustCallSets.{Names, is_empty, must_of, must_of_optional, must_of_type}
 use Rattle.must_call_sets.specs.OwningCases.{gives_as_alias}
 use Rattle.ownership_rules.specs.OverrideCases.{has_other_owning, has_other_result, has_wider_result}
 use Rattle.ownership_rules.specs.Signatures.{is_at, promised_names}
@@ -43,6 +43,7 @@ use Rattle.place_laws.specs.Obligations.{is_library_method}
 use Rattle.place_laws.specs.ClassOperands.{field_type}
 use Rattle.place_laws.specs.Places.{SetsLocals}
 use Rattle.fact_laws.specs.Storing.{HasStored}
+use Rattle.agreement.specs.Renewing.{is_of_heavy_class, reopens}
 
 -- ---- calls
 
@@ -165,9 +166,23 @@ ResetsPlainly p b k a = (reset_in (callee p a) ≡ None) ⊎ IsPlainReset p b k 
 abbrev pub IsTextUpdate : Program → Body → FieldId → Bool → Type 0
 IsTextUpdate p b f through_this = (through_this ≡ true) × (declares_field p b f ≡ true) × (field_type p f ≡ Some types.Str)
 
--- Each step that a control of a body can reach has one of the plain forms; owning fields are stored by `=` in constructors of the class that
--- declares them, and otherwise by `+=` on texts alone; no super constructor is called behind such a store; no class with owning fields is the one whose constructor is called so; and
--- objects with owning fields run their own must-call methods. Where bodies call what creates an obligation anew, they do so plainly.
+-- Owning fields may be stored in the body: it is that of a constructor, or of a method, of a class with an obligation, that creates the obligation of `this` anew.
+abbrev pub StoresFields : Program → BodyId → Type 0
+StoresFields p b = (is_constructor p b ≡ true) ⊎ ((reopens (method_of p b) ≡ true) × (is_of_heavy_class p (method_of p b) ≡ true))
+
+-- The body is that of a constructor, or of a method of a class with an obligation that creates the obligation of `this` anew, and the field's type has an obligation, too.
+abbrev pub StoresPlainly : Program → BodyId → FieldId → Type 0
+StoresPlainly p b f =
+    (is_constructor p b ≡ true)
+    ⊎ ((reopens (method_of p b) ≡ true) × (is_of_heavy_class p (method_of p b) ≡ true) × (not (is_empty (must_of_optional p (field_type p f))) ≡ true))
+
+-- outside constructors an owning field is stored only where its type has an obligation
+abbrev pub StoresObligations : Program → BodyId → FieldId → Type 0
+StoresObligations p b f = (is_constructor p b ≡ true) ⊎ (not (is_empty (must_of_optional p (field_type p f))) ≡ true)
+
+-- Each step that a control of a body can reach has one of the plain forms; owning fields are stored by `=` in such bodies of the class that
+-- declares them, and otherwise by `+=` on texts alone; no super constructor is called behind such a store; no class with owning fields is the one whose constructor is called so, nor has it another one under it; and
+-- objects with owning fields run their own must-call methods. All classes above one of the library are the library's, and so is the class of what a method of it gives. Where bodies call what creates an obligation anew, they do so plainly.
 pub record HasPlainForms (p : Program) : Type 0 where
   pub steps : (b : BodyId) {k : List Todo} (i : ℕ) (t : Move (List Todo)) → Comes (relation_of p b) k
       → slice_get ((relation_of p b).next k) i ≡ Some t → IsPlainAction p t.action
@@ -176,12 +191,17 @@ pub record HasPlainForms (p : Program) : Type 0 where
   pub super_calls : (b : BodyId) {k : List Todo} (i : ℕ) (t : Move (List Todo)) → Comes (relation_of p b) k
       → slice_get ((relation_of p b).next k) i ≡ Some t → calls_constructor p t.action ≡ true → is_constructor p b ≡ true
   pub stores : (b : BodyId) {k : List Todo} (i : ℕ) (t : Move (List Todo)) (f : FieldId) (d : ℕ) → Comes (relation_of p b) k
-      → slice_get ((relation_of p b).next k) i ≡ Some t → t.action ≡ actions.PutOwn f d → (is_constructor p b ≡ true) × (has_field_place p b f ≡ true)
+      → slice_get ((relation_of p b).next k) i ≡ Some t → t.action ≡ actions.PutOwn f d → StoresFields p b × (has_field_place p b f ≡ true)
+  pub obligations : (b : BodyId) {k : List Todo} (i : ℕ) (t : Move (List Todo)) (f : FieldId) (d : ℕ) → Comes (relation_of p b) k
+      → slice_get ((relation_of p b).next k) i ≡ Some t → t.action ≡ actions.PutOwn f d → StoresObligations p b f
   pub updates : (b : BodyId) (x : Body) {k : List Todo} (i : ℕ) (t : Move (List Todo)) (f : FieldId) (d : ℕ) (through_this : Bool) → body_at p b ≡ Some x → Comes (relation_of p b) k
       → slice_get ((relation_of p b).next k) i ≡ Some t → t.action ≡ actions.Put f d through_this → is_owning p f ≡ true → IsTextUpdate p x f through_this
   pub parents : (b : BodyId) {k : List Todo} (i : ℕ) (t : Move (List Todo)) (m : MethodId) (f : FieldId) (x : Field) → Comes (relation_of p b) k
       → slice_get ((relation_of p b).next k) i ≡ Some t → calls_constructor p t.action ≡ true → called_method t.action ≡ Some m → field_at p f ≡ Some x → x.owning ≡ true
       → is_class_of x.class (method_at p m) ≡ false
   pub own : RunsOwnMethods p
+  pub library : (c d : ClassId) → is_under p c d ≡ true → is_library p c ≡ true → is_library p d ≡ true
+  pub given : (m : MethodId) (x : Method) (c : ClassId) → method_at p m ≡ Some x → is_library p x.class ≡ true → x.sig.result ≡ Some (types.Obj c) → is_library p c ≡ true
+  pub alone : (c : ClassId) (f : FieldId) (x : Field) → field_at p f ≡ Some x → x.owning ≡ true → is_under p c x.class ≡ true → c ≡ x.class
   pub resets : (b : BodyId) {k : List Todo} (i : ℕ) (t : Move (List Todo)) → Comes (relation_of p b) k
       → slice_get ((relation_of p b).next k) i ≡ Some t → ResetsPlainly p b k t.action

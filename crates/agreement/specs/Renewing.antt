@@ -1,6 +1,6 @@
 -- Calls that create an obligation anew, while they go on: whose obligation they create anew, how the facts of a frame that waits for such a call
 -- are read, and where the owner of an object is that a frame has in such a call's hands.
-use Rattle.std.specs.Prelude.{◌≡◌, ◌⊎◌, ℕ, ◌+◌, Bool, true, false, not, ◌&&◌, Option, Some, None, List, [], ◌∷◌, length}
+use Rattle.std.specs.Prelude.{◌≡◌, ◌⊎◌, ℕ, ◌+◌, Bool, true, false, not, ◌&&◌, ◌||◌, Option, Some, None, List, [], ◌∷◌, length}
 use Rattle.std.specs.List.{list_any}
 use Rattle.program_model.specs.declared.kinds.FieldId.{FieldId}
 use Rattle.program_model.specs.declared.kinds.MethodId.{MethodId}
@@ -9,9 +9,10 @@ use Rattle.program_model.specs.declared.program.Method.{Method}
 use Rattle.program_model.specs.declared.program.Program.{Program}
 use Rattle.program_model.specs.Lookups.{field_at, method_at}
 use Rattle.ownership_rules.specs.Bodies.{alias_in, constructs, is_class_of, reset_in}
-use Rattle.ownership_rules.specs.Signatures.{is_present}
+use Rattle.ownership_rules.specs.Signatures.{is_position, is_present}
 use Rattle.ownership_rules.specs.Callees.{callee}
 use Rattle.ownership_rules.specs.MustCallSets.{is_heavy_class, no_names}
+use Rattle.java_control.specs.Calls.{is_reset_of_this}
 use Rattle.java_control.specs.declared.action.Action.{Action}
 use Rattle.java_control.specs.declared.fact.Fact.{Fact}
 use Rattle.ledger_state.specs.Contents.{HeapContents}
@@ -70,6 +71,23 @@ fact_as false f = f
 -- the method is a constructor without an aliased argument
 abbrev pub makes_alone : Option Method → Bool
 makes_alone m = constructs m && not (is_present (alias_in m))
+
+-- it is a method that creates the obligation of `this` anew
+abbrev pub reopens : Option Method → Bool
+reopens m = not (constructs m) && is_position (reset_in m) 0
+
+-- the method's class has an obligation
+abbrev pub is_of_heavy_class : Program → Option Method → Bool
+is_of_heavy_class p None = false
+is_of_heavy_class p (Some m) = is_heavy_class p m.class
+
+-- Its frames answer for what the owning fields of `this` own: a constructor without an aliased argument, or a method that creates the obligation of `this` anew
+abbrev pub answers_for_fields : Option Method → Bool
+answers_for_fields m = makes_alone m || reopens m
+
+-- The frame stands at a call that creates the obligation of `this` anew, and names it so: until the call ends, others may store into the fields of `this`.
+abbrev pub lends_this : Program → Frame → Bool
+lends_this p fr = list_any (λ s. is_reset_of_this p s.action) (frame_steps p fr)
 
 -- it is an owning field of the method's class
 abbrev pub is_declared_beside : Program → MethodId → Option Field → Bool

@@ -1,14 +1,12 @@
 -- The store into an owning field of `this`.
 use Rattle.covering_laws.proofs.OlderHolders.{field_of_owner}
-use Rattle.covering_laws.proofs.Owners.{HoldersWere}
-use Rattle.std.specs.Prelude.{is_some, not, ◌&&◌}
-use Rattle.std.proofs.lemmas.Bool.{and_parts, not-true}
+use Rattle.std.specs.Prelude.{is_some, not, ◌&&◌, ◌||◌}
+use Rattle.std.proofs.lemmas.Bool.{and_from, and_parts, not-true, or_right}
 use Rattle.std.specs.FinSet as set
-use Rattle.std.proofs.Common.{◌≡◌, ◌⊎◌, ℕ, zero, suc, Bool, true, false, true≢false, Option, Some, None, List, [], ◌∷◌, slice_get, nat_eq, refl, sym, ap, ◌∙◌, subst, inl, inr, IsSomeAnd, eqb-true, eq-eqb}
+use Rattle.std.proofs.Common.{◌≡◌, ◌⊎◌, ℕ, zero, suc, Bool, true, false, true≢false, Option, Some, None, List, ◌∷◌, slice_get, nat_eq, refl, sym, ap, ◌∙◌, subst, inl, inr, IsSomeAnd, eqb-true, eq-eqb}
 use Rattle.program_model.specs.NameSets.{Names}
 use Rattle.program_model.specs.declared.kinds.ClassId.{ClassId}
 use Rattle.program_model.specs.declared.kinds.FieldId.{FieldId}
-use Rattle.program_model.specs.declared.kinds.MethodId.{MethodId}
 use Rattle.program_model.specs.declared.kinds.VType.{VType}
 use Rattle.program_model.specs.declared.program.Field.{Field}
 use Rattle.program_model.specs.declared.program.Method.{Method}
@@ -19,18 +17,17 @@ use Rattle.program_model.specs.SuperTests.{is_class}
 use Rattle.program_model.specs.Validity.{MayHaveBody}
 use Rattle.program_model.specs.declared.program.Class.{Class}
 use Rattle.ledger_steps.specs.LedgerCallsCalls.{alias_position as alias_of, body_of, object_by}
-use Rattle.must_call_sets.specs.Bodies.{alias_in, alias_position, constructs, has_field_place, is_class_of, is_constructor_kind, is_field_in, method_in, method_of}
+use Rattle.must_call_sets.specs.Bodies.{alias_in, alias_position, constructs, has_field_place, is_alias_constructor, is_class_of, is_constructor, is_constructor_kind, is_field_in, method_in, method_of, reset_in}
+use Rattle.must_call_sets.specs.Signatures.{is_position, is_present}
 use Rattle.must_call_sets.specs.MustCallSets.{is_heavy_class, must_of, must_of_type}
-use Rattle.java_control.specs.Calls.{called_method}
 use Rattle.java_control.specs.Control.{Step}
 use Rattle.java_control.specs.Owned.{is_owning, is_owning_field}
-use Rattle.java_control.specs.declared.action.Action.{Action}
 use Rattle.java_control.specs.declared.action.Action.TheVariants as actions
 use Rattle.covering_laws.specs.Accept.{Accept}
 use Rattle.covering_laws.specs.Paths.{move_of}
 use Rattle.ledger_state.specs.Contents.{HeapContents}
 use Rattle.ledger_state.specs.Fields.{field_of, field_value}
-use Rattle.ledger_state.specs.Heaps.{object_at, root, root_of, same_root}
+use Rattle.ledger_state.specs.Heaps.{object_at, put_field, root, root_of, same_root}
 use Rattle.ledger_state.specs.Locals.{temp_value, variable_value}
 use Rattle.ledger_state.specs.Values.{number_of}
 use Rattle.ledger_state.specs.declared.entry.Owner.TheVariants as owners
@@ -39,35 +36,37 @@ use Rattle.ledger_state.specs.declared.object.Link.{Link}
 use Rattle.ledger_state.specs.declared.object.Object.{Object}
 use Rattle.ledger_state.specs.declared.value.Value.{Value}
 use Rattle.ledger_state.specs.declared.value.Value.TheVariants as values
-use Rattle.ledger_obligations.specs.Obligations.{finished_in, is_library_owner, is_unmet, may_move, resets_holder, stored_owning, type_of_field, with_owner}
+use Rattle.ledger_obligations.specs.Obligations.{finished_in, given_up, is_held_by, is_library_owner, is_unmet, is_unmet_in, is_unmet_root, may_move, may_move_in, may_move_root, moved_in, moves_in, resets_holder, stored_owning, type_of_field, with_owner}
 use Rattle.covering_laws.specs.Configuration.{Frame}
 use Rattle.ledger_steps.specs.InnerSteps.{is_bound, parameter, root_of_number}
 use Rattle.covering_laws.specs.Choosing.{frame_steps}
-use Rattle.covering_laws.specs.Agreement.{AllStand, IsCalledFrom, IsMadeBy, RunsItself, Stands}
-use Rattle.covering_laws.specs.PlainForms.{HasPlainForms, calls_constructor}
-use Rattle.covering_laws.specs.Places.{class_of_method}
-use Rattle.covering_laws.specs.Naming.{IsOfItsKind}
-use Rattle.covering_laws.proofs.NamedReached.{names_what_is_there}
-use Rattle.rlc_base.proofs.SetLaws.{within_self}
+use Rattle.covering_laws.specs.Agreement.{Stands}
+use Rattle.covering_laws.specs.PlainForms.{HasPlainForms}
+use Rattle.rlc_base.proofs.SetLaws.{member_of-empty, within_self}
 use Rattle.covering_laws.specs.Heaps.{Evolves, GoesOn, HasEarlierLinks}
-use Rattle.covering_laws.proofs.HeapLaws.{roots_go_on-root, roots_of_links-absent}
+use Rattle.covering_laws.proofs.HeapLaws.{roots_go_on-root, roots_of_links-absent, roots_of_links-itself}
 use Rattle.covering_laws.specs.Stores.{IsMovedIn, IsStored}
 use Rattle.covering_laws.proofs.Fields.{holds_here, holds_other}
-use Rattle.covering_laws.proofs.StoredObjects.{bound_back, stored_back, stored_forward, stored_gives_up, stored_goes_on, unfinished_stays}
+use Rattle.covering_laws.proofs.StoredObjects.{displaced_back, moved_back, moved_gives, moved_links, stored_goes_on}
+use Rattle.covering_laws.proofs.StoreResets.{moves_on}
+use Rattle.covering_laws.proofs.StoringThis.{IsReopened}
+use Rattle.covering_laws.specs.Holders.{HoldersAreUnlinked}
 use Rattle.covering_laws.proofs.Ready.{step_there}
 use Rattle.covering_laws.proofs.Unmet.{may_lies}
-use Rattle.covering_laws.specs.FieldContents.{FieldsHold, HaveContents, IsContent, LinksLead, OwningFieldsOwn, has_obligation, is_made_in}
-use Rattle.covering_laws.specs.PlaceFacts.{IsCovered, gives_none, renews_none, IsHolder}
+use Rattle.covering_laws.specs.FieldContents.{FieldsHold, FieldsOwn, HaveContents, IsContent, IsKept, LinksLead, OwningFieldsOwn, has_obligation, is_made_in, promised_on}
+use Rattle.covering_laws.specs.PlaceFacts.{IsCovered, MayStore, OwesOrHolds, gives_none, may_owe, renews_none}
 use Rattle.covering_laws.specs.Renewable.{IsFollowed}
 use Rattle.covering_laws.specs.Sight.{ActsInSight}
 use Rattle.covering_laws.proofs.KeptArguments.{argument_alone, this_alone}
-use Rattle.covering_laws.proofs.StoreJoins.{unlinked_root}
+use Rattle.covering_laws.proofs.StoreMoves.{unlinked_root}
 use Rattle.content_laws.proofs.Ends.{heavy_field_by}
 use Rattle.content_laws.proofs.Goes.{content_goes_on, led_there, not_the_librarys_owes, obligation_is_heavy, root_stays, roots_by_links}
 use Rattle.content_laws.proofs.Leading.{HoldsOn}
+use Rattle.content_laws.proofs.Renewals.{Renews, StaysAside, content_then, field_before, leads_renewed, owning_renewed, same_unmet, value_roots}
+use Rattle.content_laws.proofs.StoreRenews.{anew, holder_anew, store_renews, whole_links}
 use Rattle.content_laws.proofs.LinkSteps.{leads_stay}
 use Rattle.content_laws.proofs.Leaves.{given_no_field}
-use Rattle.content_laws.specs.Going.{IsDone, KeepsLibrary, KeepsRoots, NoName, PromisesItsOwn}
+use Rattle.content_laws.specs.Going.{IsDone, KeepsRoots, NoName, PromisesItsOwn}
 
 -- the names that were called stay
 same_called : (p : Program) (h : HeapContents) (w : ℕ) (f : FieldId) (v : Value) (n : ℕ) (x y : Object) → IsStored p h w f v n x y → y.called ≡ x.called
@@ -87,6 +86,9 @@ one_field w u f g = go (nat_eq u w) refl (nat_eq g.0 f.0) refl
     go true one true two = inl (eqb-true u w one, ap (λ (n : ℕ). (let z : FieldId = record { 0 = n } in z)) (eqb-true g.0 f.0 two))
     go true one false two = inr (λ same. true≢false (sym (eq-eqb g.0 f.0 (ap (λ (z : FieldId). z.0) same.1)) ∙ two))
     go false one b two = inr (λ same. true≢false (sym (eq-eqb u w same.0) ∙ one))
+
+owner_parts : (w u : ℕ) (f g : FieldId) → owners.Field w f ≡ owners.Field u g → (w ≡ u) × (f ≡ g)
+owner_parts w u f g same = ((let one : w ≡ u = cc in one), (let one : f ≡ g = cc in one))
 
 root_is : (r : Option ℕ) (o : ℕ) → (r ≡ Some o) ⊎ (r ≡ Some o → ⊥)
 root_is None o = inr (λ (is : None ≡ Some o). cc)
@@ -130,7 +132,7 @@ number_root h (values.Object k) = refl
 number_root h v = refl
 
 -- what may move is not the library's
-may_library : (p : Program) (t : VType) (x : Object) → may_move p t x ≡ true → is_library_owner x.owner ≡ false
+pub may_library : (p : Program) (t : VType) (x : Object) → may_move p t x ≡ true → is_library_owner x.owner ≡ false
 may_library p t x may =
     not-true (is_library_owner x.owner) (and_parts x.finished (not (is_library_owner x.owner))
     (and_parts (x.finished && not (is_library_owner x.owner)) (set.is_subset (must_of p x.class) (must_of_type p t)) may).0).1
@@ -146,6 +148,9 @@ all_true false b c x y z = absurd (true≢false (sym x))
 all_true true false c x y z = absurd (true≢false (sym y))
 all_true true true false x y z = absurd (true≢false (sym z))
 
+all_four : (a b c d : Bool) → a ≡ true → b ≡ true → c ≡ true → d ≡ true → (a && b && c && d) ≡ true
+all_four a b c d x y z u = and_from (a && b && c) d (all_true a b c x y z) u
+
 bound_when : (h : HeapContents) (m : Option Method) (l : Locals) (u : Value) (v o : ℕ) → constructs m ≡ true → alias_in m ≡ Some (suc v) → root_of h u ≡ Some o → root_of h (variable_value l v) ≡ Some o
     → is_bound h m l u ≡ true
 bound_when h None l u v o new alias root argument = absurd (true≢false (sym new))
@@ -156,8 +161,11 @@ bound_when h (Some m) l u v o new alias root argument =
 
 module _ (p : Program) (ac : Accept p) (forms' : HasPlainForms p) (h : HeapContents) (fr : Frame) (frs : List Frame) (st : Stands p fr) (links : HasEarlierLinks h) (old : ℕ → Bool) (covered : IsCovered p h gives_none renews_none old frs fr)
     (hold : FieldsHold p (fr ∷ frs) h) (i : ℕ) (s : Step) (here : slice_get (frame_steps p fr) i ≡ Some s) (f : FieldId) (d : ℕ) (is : s.action ≡ actions.PutOwn f d) (w : ℕ)
-    (this : fr.locals.this ≡ values.Object w) (self : Object) (self_at : object_at h w ≡ Some self) (standing : AllStand p frs) (called : IsCalledFrom p h fr frs)
-    (bounded : (o : ℕ) (x : Object) → object_at h o ≡ Some x → x.link ≡ None → is_unmet x ≡ true → (t : VType) → may_move p t x ≡ true → set.is_subset x.must (must_of p x.class) ≡ true) where
+    (this : fr.locals.this ≡ values.Object w) (self : Object) (self_at : object_at h w ≡ Some self)
+    (bounded : (o : ℕ) (x : Object) → object_at h o ≡ Some x → x.link ≡ None → is_unmet x ≡ true → (t : VType) → may_move p t x ≡ true → set.is_subset x.must (must_of p x.class) ≡ true)
+    (owned : FieldsOwn p h) (holders : HoldersAreUnlinked (is_heavy_class p) h) (of_class : (field : Field) → field_at p f ≡ Some field → self.class ≡ field.class)
+    (storing : ((self.finished ≡ false) × (constructs (method_at p fr.method) ≡ true)) ⊎ IsReopened p h frs fr w self)
+    (heavy_bounded : is_alias_constructor p st.number ≡ false → (o : ℕ) (x : Object) → object_at h o ≡ Some x → IsMovedIn p h f (temp_value fr.locals d) o x → is_heavy_class p x.class ≡ true → set.is_subset x.must (must_of p x.class) ≡ true) where
   abbrev v : Value
   v = temp_value fr.locals d
 
@@ -165,8 +173,50 @@ module _ (p : Program) (ac : Accept p) (forms' : HasPlainForms p) (h : HeapConte
   abbrev bound : Bool
   bound = is_bound h (method_at p fr.method) fr.locals v
 
+  -- a constructor makes the holder where it is not finished
+  young : self.finished ≡ false → constructs (method_at p fr.method) ≡ true
+  young open' = elim storing [
+    | inl makes ↦ makes.1
+    | inr reopened ↦ absurd (true≢false (sym reopened.heavy.0 ∙ open'))
+  ]
+
+  -- the frame's method creates its obligation anew where it is
+  reopened : self.finished ≡ true → IsReopened p h frs fr w self
+  reopened done = elim storing [
+    | inl makes ↦ absurd (true≢false (sym done ∙ makes.0))
+    | inr is ↦ is
+  ]
+
+  pub reset_ready : self.finished ≡ true → (self.link ≡ None) × (is_heavy_class p self.class ≡ true)
+  reset_ready done = let it = reopened done in (it.single, it.heavy.1)
+
+  -- what is linked is finished
+  free : self.link ≡ None
+  free = go self.finished refl
+    where
+      no_link : self.finished ≡ false → (l : Option Link) → self.link ≡ l → self.link ≡ None
+      no_link open' None none = none
+      no_link open' (Some l) some = absurd (true≢false (sym (links w self l self_at some).finished ∙ open'))
+
+      go : (b : Bool) → self.finished ≡ b → self.link ≡ None
+      go true done = (reopened done).single
+      go false open' = no_link open' self.link refl
+
+  -- the heap that the store would leave without its reset, and the one that it leaves
   abbrev k : HeapContents
-  k = stored_owning p h w f bound v
+  k = put_field w f v (moved_in p h w f bound v)
+
+  abbrev pub left : HeapContents
+  left = stored_owning p h w f bound v
+
+  abbrev pub is_anew : ℕ → Bool
+  is_anew n = anew p h w f bound v links holders self self_at reset_ready n
+
+  pub renews : Renews p is_anew k left
+  renews = store_renews p h w f bound v links holders self self_at reset_ready
+
+  pub left_links : HasEarlierLinks left
+  left_links = whole_links p h w f bound v links holders self self_at reset_ready
 
   -- the field is one of the class of the body
   place : has_field_place p st.number f ≡ true
@@ -196,17 +246,15 @@ module _ (p : Program) (ac : Accept p) (forms' : HasPlainForms p) (h : HeapConte
   in_class : is_class_of field.class (method_at p fr.method) ≡ true
   in_class = ap (is_class_of field.class) (sym body_method) ∙ declared.3
 
-  constructor : constructs (method_at p fr.method) ≡ true
-  constructor = ap constructs (sym body_method) ∙ (forms'.stores st.number i (move_of s) f d st.control (step_there p fr st i s here) is).0
-
-  unfinished : self.finished ≡ false
-  unfinished = hold.unfinished.0 w self (f, field, declared.1, declared.2, in_class) constructor this self_at
-
-  pub still : (b : Bool) → resets_holder p h w f b (field_of p h (values.Object w) f) v ≡ false
-  still b = unfinished_stays p h w f v b (field_of p h (values.Object w) f) (ap finished_in self_at ∙ unfinished)
+  -- an object after the store was there
+  back : (n : ℕ) (y : Object) → object_at k n ≡ Some y → (x : Object) × (object_at h n ≡ Some x) × IsStored p h w f v n x y
+  back n y at = moved_back p h w f v bound n y at
 
   pub store_forth : Evolves h k
-  store_forth n x at = let y = stored_forward p h w f v bound n x (still bound) at in (y.0, y.1, stored_goes_on p h w f v n x y.0 y.2)
+  store_forth n x at = moves_on p h w f bound v n x at
+
+  pub plain_links : HasEarlierLinks k
+  plain_links = moved_links p h w f bound v links
 
   store_roots : KeepsRoots h k
   store_roots = roots_by_links h k links store_forth
@@ -221,7 +269,7 @@ module _ (p : Program) (ac : Accept p) (forms' : HasPlainForms p) (h : HeapConte
 
       go : (x : Option Object) → object_at h n ≡ x → (z : Option Object) → object_at k n ≡ z → root_of h (values.Object n) ≡ Some o
       go (Some x) before z now = ap Some (sym (store_roots n x before) ∙ same)
-      go None before (Some z) now = absurd (let x = stored_back p h w f v bound n z (still bound) now in let never : None ≡ Some x.0 = sym before ∙ x.1 in cc)
+      go None before (Some z) now = absurd (let x = back n z now in let never : None ≡ Some x.0 = sym before ∙ x.1 in cc)
       go None before None now = absurd (let never : None ≡ Some y = sym now ∙ ap (object_at k) (sym (roots_of_links-absent k n now) ∙ same) ∙ at in cc)
   store_root_before u o y is' at = absurd (let never : None ≡ Some o = is' in cc)
 
@@ -229,42 +277,17 @@ module _ (p : Program) (ac : Accept p) (forms' : HasPlainForms p) (h : HeapConte
   Named n = (x : Object) → object_at h n ≡ Some x → (y : Object) × (object_at k n ≡ Some y) × GoesOn x y × ((j : ℕ) → set.contains y.called j ≡ true → (set.contains x.called j ≡ true) ⊎ (NoName n j ⊎ IsDone p h k n j))
 
   named : (n : ℕ) → Named n
-  named n x at = let y = stored_forward p h w f v bound n x (still bound) at in
-      (y.0, y.1, stored_goes_on p h w f v n x y.0 y.2, λ j has. inl (ap (λ (u : Names). set.contains u j) (sym (same_called p h w f v n x y.0 y.2)) ∙ has))
+  named n x at =
+      let y = store_forth n x at in
+      let was = back n y.0 y.1 in
+      let one : was.0 ≡ x = (let both : Some was.0 ≡ Some x = sym was.1 ∙ at in cc) in
+      (y.0, y.1, y.2, λ j has. inl (ap (λ (u : Names). set.contains u j) (sym (same_called p h w f v n was.0 y.0 was.2 ∙ ap (λ (u : Object). u.called) one)) ∙ has))
 
   value_held : (o : ℕ) (x : Object) → root_of h v ≡ Some o → object_at h o ≡ Some x → root_of k (field_value p k w f) ≡ Some o
   value_held o x root at = ap (root_of k) (holds_here p h w f bound v) ∙ root_stays h k store_roots v o x root at
 
-  -- the object that a constructor of the class makes is of the class
-  class_of_self : (frs : List Frame) → AllStand p frs → IsCalledFrom p h fr frs → self.class ≡ field.class
-  class_of_self [] standing' called' = absurd (true≢false (sym constructor ∙ called'.1))
-  class_of_self (caller ∷ rest) standing' called' = go called'.0.step.action refl called'.0.itself called'.0.makes
-    where
-      same_class : (m : Option Method) → is_class_of field.class m ≡ true → (c : ClassId) → class_of_method m ≡ Some c → field.class ≡ c
-      same_class None absent c at = absurd (true≢false (sym absent))
-      same_class (Some m) in' c at =
-          ap (λ (n : ℕ). (let z : ClassId = record { 0 = n } in z)) (eqb-true field.class.0 m.class.0 in') ∙ (let both : Some m.class ≡ Some c = at in (let one : m.class ≡ c = cc in one))
-
-      named_one : (m : MethodId) → called_method called'.0.step.action ≡ Some m → m ≡ called'.0.named
-      named_one m it = let both : Some m ≡ Some called'.0.named = sym it ∙ called'.0.calls in (let one : m ≡ called'.0.named = cc in one)
-
-      go : (a : Action) → called'.0.step.action ≡ a → RunsItself a called'.0.named fr.method → IsMadeBy p h a fr.locals.this → self.class ≡ field.class
-      go actions.Skip it itself makes = absurd (let never : None ≡ Some called'.0.named = sym (ap called_method it) ∙ called'.0.calls in cc)
-      go (actions.New m e n) it itself makes =
-          let number : makes.0 ≡ w = (let both : values.Object makes.0 ≡ values.Object w = sym makes.1 ∙ this in (let one : makes.0 ≡ w = cc in one)) in
-          sym (same_class (method_at p fr.method) in_class self.class
-          (ap (λ (z : MethodId). class_of_method (method_at p z)) (itself ∙ sym (named_one m (ap called_method it))) ∙ makes.3 self (ap (object_at h) number ∙ self_at)))
-      go (actions.Super m e n) it itself makes =
-          absurd (true≢false (sym in_class ∙ ap (λ (z : MethodId). is_class_of field.class (method_at p z)) itself
-          ∙ forms'.parents standing'.0.number called'.0.index (move_of called'.0.step) called'.0.named f field standing'.0.control (step_there p caller standing'.0 called'.0.index called'.0.step called'.0.here)
-          (ap (calls_constructor p) it ∙ ap (λ (z : MethodId). constructs (method_at p z)) (named_one m (ap called_method it) ∙ sym itself) ∙ constructor)
-          called'.0.calls declared.1 declared.2))
-      go (actions.Call m e n form) it itself makes =
-          let kind = subst (IsOfItsKind p) it
-          (names_what_is_there p ac.well_formed.valid.typed standing'.0.number standing'.0.body caller.control called'.0.index (move_of called'.0.step) standing'.0.at standing'.0.control
-          (step_there p caller standing'.0 called'.0.index called'.0.step called'.0.here)).1 in
-          absurd (true≢false (sym constructor ∙ called'.0.kind ∙ ap (λ (z : MethodId). constructs (method_at p z)) (sym (named_one m (ap called_method it))) ∙ kind))
-      go a it itself makes = absurd (let never : None ≡ Some called'.0.named = sym (ap called_method it) ∙ called'.0.calls in cc)
+  self_class : self.class ≡ field.class
+  self_class = of_class field declared.1
 
   form : IsAliasForm (method_at p fr.method)
   form = alias_form (method_at p fr.method)
@@ -284,8 +307,8 @@ module _ (p : Program) (ac : Accept p) (forms' : HasPlainForms p) (h : HeapConte
   type_bound o x moved = ap (λ (t : VType). set.is_subset (must_of p x.class) (must_of_type p t)) (sym (ap type_of_field declared.1)) ∙ may_lies p (type_of_field (field_at p f)) x moved.may
 
   -- a constructor of an alias takes no object with an obligation, but its argument, which is bound
-  pub heavy_is_bound : (a : ℕ) → alias_in (method_at p fr.method) ≡ Some a → (o : ℕ) (x : Object) → object_at h o ≡ Some x → is_heavy_class p x.class ≡ true → IsMovedIn p h f v o x → bound ≡ true
-  heavy_is_bound zero alias o x at heavy moved =
+  heavy_is_bound : constructs (method_at p fr.method) ≡ true → self.finished ≡ false → (a : ℕ) → alias_in (method_at p fr.method) ≡ Some a → (o : ℕ) (x : Object) → object_at h o ≡ Some x → is_heavy_class p x.class ≡ true → IsMovedIn p h f v o x → bound ≡ true
+  heavy_is_bound constructor unfinished zero alias o x at heavy moved =
       let root : root_of h fr.locals.this ≡ Some o =
       this_alone p ac forms' h old frs fr st covered i d s f o x here is constructor (alias_is ∙ alias)
       (heavy_field_by p f field declared.1 x.class heavy (type_bound o x moved))
@@ -293,7 +316,7 @@ module _ (p : Program) (ac : Accept p) (forms' : HasPlainForms p) (h : HeapConte
       let same : w ≡ o = (let both : Some w ≡ Some o = sym (ap (root_of h) this ∙ unlinked_root h links w self self_at unfinished) ∙ root in (let one : w ≡ o = cc in one)) in
       let one : self ≡ x = (let both : Some self ≡ Some x = sym self_at ∙ ap (object_at h) same ∙ at in (let it : self ≡ x = cc in it)) in
       absurd (true≢false (sym (may_finished p (type_of_field (field_at p f)) x moved.may) ∙ ap (λ (z : Object). z.finished) (sym one) ∙ unfinished))
-  heavy_is_bound (suc a) alias o x at heavy moved =
+  heavy_is_bound constructor unfinished (suc a) alias o x at heavy moved =
       bound_when h (method_at p fr.method) fr.locals v a o constructor alias moved.root
       (argument_alone p ac forms' h old frs fr st covered i d s f o x a here is constructor (alias_is ∙ alias)
       (heavy_field_by p f field declared.1 x.class heavy (type_bound o x moved))
@@ -304,7 +327,7 @@ module _ (p : Program) (ac : Accept p) (forms' : HasPlainForms p) (h : HeapConte
     old_content : (o : ℕ) (x : Object) (u : ℕ) (g : FieldId) → object_at h o ≡ Some x → object_at k o ≡ Some x → has_obligation p x ≡ true → x.owner ≡ owners.Field u g → IsContent p (after ∷ frs) k o x u g
     old_content o x u g at now has owner =
         content_goes_on p own' h k NoName (fr ∷ frs) (after ∷ frs) o x x u g content at now (record { class = refl; link = refl; finished = refl; must = refl; called = within_self x.called })
-        (named u content.holder content.at) held (led_there p h hold.leads (field_value p h u g) o x content.held at (obligation_is_heavy p x has content.own) (inl (not_the_librarys_owes x (ap is_library_owner owner)))) (λ m e n fin there class interest must never. absurd never) (λ un' made. same_makes u content.field.class ∙ made)
+        (named u content.holder content.at) held (led_there p h hold.leads (field_value p h u g) o x content.held at (obligation_is_heavy p x has (λ unmet. content.own)) (inl (not_the_librarys_owes x (ap is_library_owner owner)))) (λ m e n fin there class interest must never. absurd never) (λ un' made. same_makes u content.field.class ∙ made)
       where
         content : IsContent p (fr ∷ frs) h o x u g
         content = hold.contents o x u g at has owner
@@ -317,7 +340,7 @@ module _ (p : Program) (ac : Accept p) (forms' : HasPlainForms p) (h : HeapConte
         not_displaced same other =
             let mine : x.owner ≡ owners.Field w f = owner ∙ ap (λ (z : ℕ). owners.Field z g) same.0 ∙ ap (owners.Field w) same.1 in
             let here' : root_of h (field_value p h w f) ≡ Some o = sym (ap (λ (z : ℕ). root_of h (field_value p h z g)) same.0 ∙ ap (λ (z : FieldId). root_of h (field_value p h w z)) same.1) ∙ content.held in
-            let gone = stored_gives_up p h w f v bound o x x (still bound) at (record { owner = mine; held = here'; other = other }) now in
+            let gone = moved_gives p h w f v bound o x x at (record { owner = mine; held = here'; other = other }) now in
             given_no_field x w f (ap (λ (z : Object). z.owner) (sym gone) ∙ mine)
 
         held : root_of k (field_value p k u g) ≡ Some o
@@ -330,96 +353,258 @@ module _ (p : Program) (ac : Accept p) (forms' : HasPlainForms p) (h : HeapConte
               ])))
         ]
 
-    new_content : alias_in (method_at p fr.method) ≡ None → (o : ℕ) (x : Object) → object_at h o ≡ Some x → IsMovedIn p h f v o x
-        → IsContent p (after ∷ frs) k o (with_owner (owners.Field w f) x) w f
-    new_content none o x at moved = record {
-      holder = holder.0;
-      at = holder.1;
-      field = field;
-      declared = declared.1;
-      class = holder.2.class ∙ self_class;
-      program = own_class;
-      owning = declared.2;
-      held = value_held o x moved.root at;
-      bounded = type_bound o x moved;
-      own = λ unmet. own_bound o x at unmet moved;
-      whole = λ fin. absurd (true≢false (sym fin ∙ holder.2.finished ∙ unfinished));
-      unlinked = holder.2.link ∙ free self.link refl;
-      kept = λ fin. absurd (true≢false (sym fin ∙ holder.2.finished ∙ unfinished));
-      made = λ un'. same_makes w field.class ∙ making;
-    }
-      where
-        holder : (z : Object) × (object_at k w ≡ Some z) × GoesOn self z
-        holder = store_forth w self self_at
+    -- what moves in is content of the field
+    module _ (o : ℕ) (x y : Object) (at : object_at h o ≡ Some x) (moved : IsMovedIn p h f v o x) (there : object_at k o ≡ Some (with_owner (owners.Field w f) x)) (now : object_at left o ≡ Some y)
+        (stays : StaysAside p (is_anew o) (with_owner (owners.Field w f) x) y) (heavy : is_heavy_class p x.class ≡ true) (not_bound : bound ≡ false) where
+      free_value : x.link ≡ None
+      free_value = roots_go_on-root h v o x links moved.root at
 
-        -- what is linked is finished
-        free : (l : Option Link) → self.link ≡ l → self.link ≡ None
-        free None none = none
-        free (Some l) some = absurd (true≢false (sym (links w self l self_at some).finished ∙ unfinished))
+      -- the holder, without the reset and with it
+      holder : (z : Object) × (object_at k w ≡ Some z) × GoesOn self z
+      holder = store_forth w self self_at
 
-        self_class : self.class ≡ field.class
-        self_class = class_of_self frs standing called
+      holder_called : holder.0.called ≡ self.called
+      holder_called =
+          let was = back w holder.0 holder.1 in
+          let one : was.0 ≡ self = (let both : Some was.0 ≡ Some self = sym was.1 ∙ self_at in cc) in
+          same_called p h w f v w was.0 holder.0 was.2 ∙ ap (λ (u : Object). u.called) one
 
-        own_class : is_library p field.class ≡ false
-        own_class = body_is_of_program p ac fr st field.class in_class
+      left_holder : (u : Object) × (object_at left w ≡ Some u) × StaysAside p (is_anew w) holder.0 u
+      left_holder = renews.forth w holder.0 holder.1
 
-        making : is_made_in p w field.class (fr ∷ frs) ≡ true
-        making = rw (constructor, in_class, this, eq-eqb w w refl, same_alias (method_at p fr.method), none) refl
+      is_done : left_holder.0.finished ≡ self.finished
+      is_done = left_holder.2.finished ∙ holder.2.finished
 
-    kept_content : (o : ℕ) (y : Object) (u : ℕ) (g : FieldId) → object_at k o ≡ Some y → has_obligation p y ≡ true → y.owner ≡ owners.Field u g → (x : Object) → object_at h o ≡ Some x → y ≡ x → IsContent p (after ∷ frs) k o y u g
-    kept_content o y u g at has owner x before same =
-        subst (λ (z : Object). IsContent p (after ∷ frs) k o z u g) (sym same)
-        (old_content o x u g before (at ∙ ap Some same) (ap (has_obligation p) (sym same) ∙ has) (ap (λ (z : Object). z.owner) (sym same) ∙ owner))
+      making : self.finished ≡ false → is_made_in p w field.class (fr ∷ frs) ≡ true
+      making open' = elim form [
+        | inl none ↦ rw (young open', in_class, this, eq-eqb w w refl, same_alias (method_at p fr.method), none) refl
+        | inr alias ↦ absurd (true≢false (sym (heavy_is_bound (young open') open' alias.0 alias.1 o x at heavy moved) ∙ not_bound))
+      ]
 
-    pub stored_contents : HaveContents p (after ∷ frs) k
-    stored_contents o y u g at has owner = go bound refl at
-      where
-        taken_content : bound ≡ false → (x : Object) → object_at h o ≡ Some x → IsMovedIn p h f v o x → y ≡ with_owner (owners.Field w f) x → IsContent p (after ∷ frs) k o y u g
-        taken_content free x before moved taken =
-            let field_is : owners.Field w f ≡ owners.Field u g = ap (λ (z : Object). z.owner) (sym taken) ∙ owner in
-            let same_object : w ≡ u = cc in
-            let same_one : f ≡ g = cc in
-            let had : has_obligation p x ≡ true = ap (has_obligation p) (sym taken) ∙ has in
-            let heavy = obligation_is_heavy p x had (λ unmet. own_bound o x before unmet moved) in
-            subst (λ (z : ℕ). IsContent p (after ∷ frs) k o y z g) same_object
-            (subst (λ (z : FieldId). IsContent p (after ∷ frs) k o y w z) same_one
-            (subst (λ (z : Object). IsContent p (after ∷ frs) k o z w f) (sym taken)
-            (new_content (elim form [ inl none ↦ none | inr alias ↦ absurd (true≢false (sym (heavy_is_bound alias.0 alias.1 o x before heavy moved) ∙ free)) ]) o x before moved)))
-
-        go : (b : Bool) → bound ≡ b → object_at (stored_owning p h w f b v) o ≡ Some y → IsContent p (after ∷ frs) k o y u g
-        go true tied at' = let x = bound_back p h w f v o y at' in elim x.2 [
-          | inl same ↦ kept_content o y u g at has owner x.0 x.1 same
-          | inr gone ↦ absurd (given_no_field x.0 u g (ap (λ (z : Object). z.owner) (sym gone.1) ∙ owner))
-        ]
-        go false free at' = let x = stored_back p h w f v false o y (still false) at' in elim x.2 [
-          | inl same ↦ kept_content o y u g at has owner x.0 x.1 same
-          | inr more ↦ elim more [
-            | inl gone ↦ absurd (given_no_field x.0 u g (ap (λ (z : Object). z.owner) (sym gone.1) ∙ owner))
-            | inr taken ↦ taken_content free x.0 x.1 taken.0 taken.1
+      -- so the frame runs no constructor with an aliased argument
+      no_alias : is_alias_constructor p st.number ≡ false
+      no_alias = go (is_alias_constructor p st.number) refl
+        where
+          go : (b : Bool) → is_alias_constructor p st.number ≡ b → b ≡ false
+          go false none = refl
+          go true aliased = elim form [
+            | inl none ↦ absurd (true≢false (sym parts.1 ∙ ap (λ (a : Option ℕ). is_present a) (alias_is ∙ none)))
+            | inr alias ↦ absurd (by_self self.finished refl alias.0 alias.1)
           ]
-        ]
+            where
+              parts : (is_constructor p st.number ≡ true) × (is_present (alias_position p st.number) ≡ true)
+              parts = and_parts (is_constructor p st.number) (is_present (alias_position p st.number)) aliased
+
+              makes : constructs (method_at p fr.method) ≡ true
+              makes = sym (ap constructs body_method) ∙ parts.0
+
+              by_self : (b' : Bool) → self.finished ≡ b' → (a : ℕ) → alias_in (method_at p fr.method) ≡ Some a → ⊥
+              by_self false open' a alias = true≢false (sym (heavy_is_bound makes open' a alias o x at heavy moved) ∙ not_bound)
+              by_self true done a alias = true≢false (sym (and_parts (not (constructs (method_at p fr.method))) (is_position (reset_in (method_at p fr.method)) 0) (reopened done).opens).0 ∙ ap not makes)
+
+      own : set.is_subset y.must (must_of p y.class) ≡ true
+      own = go (is_anew o) stays
+        where
+          go : (b : Bool) → StaysAside p b (with_owner (owners.Field w f) x) y → set.is_subset y.must (must_of p y.class) ≡ true
+          go true goes = ap (λ (s : Names). set.is_subset s (must_of p y.class)) ((goes.emptied refl).1 (goes.link ∙ free_value)) ∙ within_self (must_of p y.class)
+          go false goes = ap (λ (s : Names). set.is_subset s (must_of p y.class)) (goes.same refl).0 ∙ ap (λ (c : ClassId). set.is_subset x.must (must_of p c)) goes.class ∙ heavy_bounded no_alias o x at moved heavy
+
+      not_librarys : is_library_owner x.owner ≡ false
+      not_librarys = may_library p (type_of_field (field_at p f)) x moved.may
+
+      -- where the value was in the field of a finished holder, that owned it
+      was_content : self.finished ≡ true → root_of h (field_value p h w f) ≡ Some o → IsContent p (fr ∷ frs) h o x w f
+      was_content done held' = hold.contents o x w f at (or_right (is_unmet x) (is_heavy_class p x.class) heavy)
+          (elim ((owned w self f o x self_at (ap is_owning_field declared.1 ∙ declared.2) (heavy_field_by p f field declared.1 x.class heavy (type_bound o x moved)) held' at heavy).1 done (inl (not_the_librarys_owes x not_librarys))) [
+            | inl mine ↦ mine
+            | inr alias ↦ absurd (
+                let same : w ≡ o = sym (unlinked_root_number) ∙ alias.0 in
+                let one : self ≡ x = (let both : Some self ≡ Some x = sym self_at ∙ ap (object_at h) same ∙ at in cc) in
+                true≢false (sym (alias.1 free) ∙ ap (λ (u : Object). is_library_owner u.owner) one ∙ not_librarys))
+          ])
+        where
+          unlinked_root_number : root h w ≡ w
+          unlinked_root_number = roots_of_links-itself h w self self_at free
+
+      abbrev IsFine : Object → Type 0
+      IsFine u = (u.must ≡ must_of p u.class) × IsKept p u f y
+
+      -- on a holder on which nothing was called, all that was called was done
+      uncalled : (u : Object) → u.called ≡ set.empty → IsKept p u f y
+      uncalled u none m d n at' class interest must has = absurd (true≢false (sym has ∙ ap (λ (s : Names). set.contains s n.0) none ∙ member_of-empty n.0))
+
+      -- where the holder is finished, and what moves in unmet, the holder's obligation is created anew, or the value was in the field
+      fine : left_holder.0.finished ≡ true → is_unmet y ≡ true → IsFine left_holder.0
+      fine done unmet = go (is_anew w) refl left_holder.2 (is_anew o) refl stays
+        where
+          self_done : self.finished ≡ true
+          self_done = sym is_done ∙ done
+
+          by_content : StaysAside p false holder.0 left_holder.0 → StaysAside p false (with_owner (owners.Field w f) x) y → IsContent p (fr ∷ frs) h o x w f → IsFine left_holder.0
+          by_content stay goes content =
+              let unmet' : is_unmet x ≡ true = same_unmet p is_anew k left renews (with_owner (owners.Field w f) x) y goes ∙ unmet in
+              let one : content.holder ≡ self = (let both : Some content.holder ≡ Some self = sym content.at ∙ self_at in cc) in
+              let done' : content.holder.finished ≡ true = ap (λ (u : Object). u.finished) one ∙ self_done in
+              let class' : left_holder.0.class ≡ content.holder.class = stay.class ∙ holder.2.class ∙ ap (λ (u : Object). u.class) (sym one) in (
+                (stay.same refl).0 ∙ holder.2.must ∙ ap (λ (u : Object). u.must) (sym one) ∙ content.whole done' unmet' ∙ ap (must_of p) (sym class'),
+                λ m d n at' class interest must has.
+                    ap (set.is_subset (promised_on f d)) (goes.same refl).1
+                    ∙ content.kept done' unmet' m d n at' (class ∙ class') interest (ap (λ (c : ClassId). set.contains (must_of p c) n.0) (sym class') ∙ must)
+                    (ap (λ (s : Names). set.contains s n.0) (sym ((stay.same refl).1 ∙ holder_called ∙ ap (λ (u : Object). u.called) (sym one))) ∙ has),
+              )
+
+          go : (a : Bool) → is_anew w ≡ a → StaysAside p a holder.0 left_holder.0 → (b : Bool) → is_anew o ≡ b → StaysAside p b (with_owner (owners.Field w f) x) y → IsFine left_holder.0
+          go true is stay b other goes = ((stay.emptied refl).1 (stay.link ∙ holder.2.link ∙ free), uncalled left_holder.0 (stay.emptied refl).0)
+          go false out stay true is goes = elim (renews.up o (with_owner (owners.Field w f) x) w f there is free_value heavy refl) [
+            | inl open' ↦ absurd (true≢false (sym (ap finished_in holder.1 ∙ holder.2.finished ∙ self_done) ∙ open'))
+            | inr more ↦ elim more [
+              | inl up ↦ absurd (true≢false (sym up ∙ out))
+              | inr none ↦ (let it = none holder.0 holder.1 in ((stay.same refl).0 ∙ it.1 ∙ ap (must_of p) (sym stay.class), uncalled left_holder.0 ((stay.same refl).1 ∙ it.0)))
+            ]
+          ]
+          go false out stay false still goes = elim (root_is (root_of h (field_value p h w f)) o) [
+            | inl held' ↦ by_content stay goes (was_content self_done held')
+            | inr other ↦ absurd (true≢false (sym (holder_anew p h w f bound v links holders self self_at reset_ready (resets self_done (same_unmet p is_anew k left renews (with_owner (owners.Field w f) x) y goes ∙ unmet) other)) ∙ out))
+          ]
+            where
+              apart : (r : Option ℕ) → (r ≡ Some o → ⊥) → not (same_root r (Some o)) ≡ true
+              apart None none = refl
+              apart (Some n) none = by (nat_eq n o) refl
+                where
+                  by : (b : Bool) → nat_eq n o ≡ b → not b ≡ true
+                  by true same = absurd (none (ap Some (eqb-true n o same)))
+                  by false out' = refl
+
+              resets : self.finished ≡ true → is_unmet x ≡ true → (root_of h (field_value p h w f) ≡ Some o → ⊥) → resets_holder p h w f bound (field_of p h (values.Object w) f) v ≡ true
+              resets done' unmet' other =
+                  let moves : moves_in p h f bound v ≡ true = ap (λ (b : Bool). not b && may_move_root p h (type_of_field (field_at p f)) (root_of h v)) not_bound
+                  ∙ ap (may_move_root p h (type_of_field (field_at p f))) moved.root ∙ ap (may_move_in p (type_of_field (field_at p f))) at ∙ moved.may in
+                  all_four (moves_in p h f bound v) (is_unmet_root h (root_of h v)) (not (same_root (root_of h (field_of p h (values.Object w) f)) (root_of h v))) (finished_in (object_at h w)) moves
+                  (ap (is_unmet_root h) moved.root ∙ ap is_unmet_in at ∙ unmet')
+                  (ap (λ (r : Option ℕ). not (same_root (root_of h (field_value p h w f)) r)) moved.root ∙ apart (root_of h (field_value p h w f)) other) (ap finished_in self_at ∙ done')
+
+      new_content : IsContent p (after ∷ frs) left o y w f
+      new_content = record {
+        holder = left_holder.0;
+        at = left_holder.1;
+        field = field;
+        declared = declared.1;
+        class = left_holder.2.class ∙ holder.2.class ∙ self_class;
+        program = body_is_of_program p ac fr st field.class in_class;
+        owning = declared.2;
+        held = value_roots k left renews.roots (field_value p left w f) ∙ value_held o x moved.root at;
+        bounded = ap (λ (c : ClassId). set.is_subset (must_of p c) (must_of_type p field.vtype)) stays.class ∙ type_bound o x moved;
+        own = own;
+        whole = λ done unmet. (fine done unmet).0;
+        unlinked = left_holder.2.link ∙ holder.2.link ∙ free;
+        kept = λ done unmet. (fine done unmet).1;
+        made = λ open'. same_makes w field.class ∙ making (sym is_done ∙ open');
+      }
+
+    pub stored_contents : HaveContents p (after ∷ frs) left
+    stored_contents o y u g at has owner = by_plain (renews.back o y at)
+      where
+        by_plain : (z : Object) × (object_at k o ≡ Some z) × StaysAside p (is_anew o) z y → IsContent p (after ∷ frs) left o y u g
+        by_plain (z, plain_at, stays) = by_store (back o z plain_at)
+          where
+            owned_so : z.owner ≡ owners.Field u g
+            owned_so = field_before p (is_anew o) z y u g stays owner
+
+            by_old : (x : Object) → object_at h o ≡ Some x → z ≡ x → IsContent p (after ∷ frs) left o y u g
+            by_old x before same = content_then p is_anew k left renews left_links (after ∷ frs) o y u g (λ z' at' has' owner'. by_object z' at' has' owner' (let both : Some z' ≡ Some z = sym at' ∙ plain_at in (let one : z' ≡ z = cc in one ∙ same))) at has owner
+              where
+                by_object : (z' : Object) → object_at k o ≡ Some z' → has_obligation p z' ≡ true → z'.owner ≡ owners.Field u g → z' ≡ x → IsContent p (after ∷ frs) k o z' u g
+                by_object z' at' has' owner' one = subst (λ (t : Object). IsContent p (after ∷ frs) k o t u g) (sym one)
+                    (old_content o x u g before (at' ∙ ap Some one) (ap (has_obligation p) (sym one) ∙ has') (ap (λ (t : Object). t.owner) (sym one) ∙ owner'))
+
+            -- what may have moved has an obligation by its class
+            heavy_of : (x : Object) → object_at h o ≡ Some x → IsMovedIn p h f v o x → z ≡ with_owner (owners.Field w f) x → is_heavy_class p x.class ≡ true
+            heavy_of x before moved taken = go (is_anew o) refl stays
+              where
+                zclass : y.class ≡ x.class
+                zclass = stays.class ∙ ap (λ (t : Object). t.class) taken
+
+                go : (b : Bool) → is_anew o ≡ b → StaysAside p b z y → is_heavy_class p x.class ≡ true
+                go true is goes = ap (is_heavy_class p) (sym zclass) ∙ obligation_is_heavy p y has (λ unmet. (ap (λ (s : Names). set.is_subset s (must_of p y.class))
+                    ((goes.emptied refl).1 (goes.link ∙ ap (λ (t : Object). t.link) taken ∙ roots_go_on-root h v o x links moved.root before)) ∙ within_self (must_of p y.class)))
+                go false out goes = obligation_is_heavy p x
+                    (ap (has_obligation p) (sym taken') ∙ ap (λ (b : Bool). b || is_heavy_class p z.class) (same_unmet p is_anew k left renews z y goes) ∙ ap (λ (c : ClassId). is_unmet y || is_heavy_class p c) (sym goes.class) ∙ has)
+                    (λ unmet. own_bound o x before unmet moved)
+                  where
+                    taken' : z ≡ with_owner (owners.Field w f) x
+                    taken' = taken
+
+            by_store : (x : Object) × (object_at h o ≡ Some x) × IsStored p h w f v o x z → IsContent p (after ∷ frs) left o y u g
+            by_store (x, before, inl same) = by_old x before same
+            by_store (x, before, inr (inl gone)) = absurd (given_no_field x u g (ap (λ (t : Object). t.owner) (sym gone.1) ∙ owned_so))
+            by_store (x, before, inr (inr (moved, taken))) = by_bound bound refl
+              where
+                field_is : owners.Field w f ≡ owners.Field u g
+                field_is = ap (λ (t : Object). t.owner) (sym taken) ∙ owned_so
+
+                same_object : w ≡ u
+                same_object = (owner_parts w u f g field_is).0
+
+                same_one : f ≡ g
+                same_one = (owner_parts w u f g field_is).1
+
+                by_bound : (b : Bool) → bound ≡ b → IsContent p (after ∷ frs) left o y u g
+                by_bound true tied = elim (bound_back' tied) [
+                  | inl same ↦ by_old x before same
+                  | inr gone ↦ absurd (given_no_field x u g (ap (λ (t : Object). t.owner) (sym gone) ∙ owned_so))
+                ]
+                  where
+                    bound_back' : bound ≡ true → (z ≡ x) ⊎ (z ≡ given_up x)
+                    bound_back' tied' =
+                        let it = displaced_back p h w f v o z (subst (λ (b : Bool). object_at (moved_in p h w f b v) o ≡ Some z) tied' plain_at) in
+                        let one : it.0 ≡ x = (let both : Some it.0 ≡ Some x = sym it.1 ∙ before in (let one' : it.0 ≡ x = cc in one')) in
+                        elim it.2 [ inl same ↦ inl (same ∙ one) | inr gone ↦ inr (gone.1 ∙ ap given_up one) ]
+                by_bound false untied = subst (λ (t : ℕ). IsContent p (after ∷ frs) left o y t g) same_object
+                    (subst (λ (t : FieldId). IsContent p (after ∷ frs) left o y w t) same_one
+                    (new_content o x y before moved (plain_at ∙ ap Some taken) at (subst (λ (t : Object). StaysAside p (is_anew o) t y) taken stays) (heavy_of x before moved taken) untied))
 
   -- ---- where links lead
 
-  -- the field of an object that is not finished has changed, so none of one that is linked
+  -- the field of an object that is linked to none has changed, so none of one that is linked
   stored_fields : HoldsOn p h k
   stored_fields n x l g own_field at link declared' owning = holds_other p h w f bound v n g (λ same.
-      true≢false (sym (ap (λ (z : Object). z.finished) (let both : Some x ≡ Some self = sym at ∙ ap (object_at h) same.0 ∙ self_at in (let one : x ≡ self = cc in sym one)) ∙ (links n x l at link).finished) ∙ unfinished))
+      let one : x ≡ self = (let both : Some x ≡ Some self = sym at ∙ ap (object_at h) same.0 ∙ self_at in (let it : x ≡ self = cc in it)) in
+      let never : Some l ≡ None = sym link ∙ ap (λ (z : Object). z.link) one ∙ free in cc)
 
-  -- what the library owns stays so
-  store_library : KeepsLibrary h k
-  store_library n x y before at is =
-      let z = stored_back p h w f v bound n y (still bound) at in
-      by z.0 (ap (λ (u : Object). is_library_owner u.owner) (let both : Some z.0 ≡ Some x = sym z.1 ∙ before in (let one : z.0 ≡ x = cc in one)) ∙ is) z.2
+  -- what may owe a call, or holds something, did so
+  store_bore : (o : ℕ) (x y : Object) → object_at h o ≡ Some x → object_at k o ≡ Some y → OwesOrHolds p k o y → OwesOrHolds p h o x
+  store_bore o x y before at owes = let z = back o y at in by (subst (λ (u : Object). IsStored p h w f v o u y) (let both : Some z.0 ≡ Some x = sym z.1 ∙ before in (let one : z.0 ≡ x = cc in one)) z.2) owes
     where
-      by : (u : Object) → is_library_owner u.owner ≡ true → IsStored p h w f v n u y → is_library_owner y.owner ≡ true
-      by u library (inl same) = ap (λ (r : Object). is_library_owner r.owner) same ∙ library
-      by u library (inr (inl gone)) = absurd (true≢false (sym library ∙ ap is_library_owner gone.0.owner))
-      by u library (inr (inr moved)) = absurd (true≢false (sym library ∙ may_library p (type_of_field (field_at p f)) u moved.0.may))
+      -- the object that the holder is may owe a call, or holds something
+      holder_bore : w ≡ o → OwesOrHolds p h o x
+      holder_bore same = go self.finished refl
+        where
+          one : self ≡ x
+          one = let both : Some self ≡ Some x = sym self_at ∙ ap (object_at h) same ∙ before in (let it : self ≡ x = cc in it)
+
+          go : (b : Bool) → self.finished ≡ b → OwesOrHolds p h o x
+          go true done = inr (inr (subst (λ (u : Object). MayStore p u.class) one (reopened done).stores))
+          go false open' = inl (ap (λ (b : Bool). not (b && is_library_owner x.owner)) (ap (λ (u : Object). u.finished) (sym one) ∙ open'))
+
+      by : IsStored p h w f v o x y → OwesOrHolds p k o y → OwesOrHolds p h o x
+      by stored (inr (inr may)) = inr (inr (subst (MayStore p) (stored_goes_on p h w f v o x y stored).class may))
+      by stored (inr (inl (c, y', now, done, heavy, held))) = by_content (back c y' now)
+        where
+          own : (g : FieldId) × (y'.owner ≡ owners.Field o g)
+          own = field_of_owner y'.owner o held
+
+          by_content : (x' : Object) × (object_at h c ≡ Some x') × IsStored p h w f v c x' y' → OwesOrHolds p h o x
+          by_content (x', there, inl same) =
+              inr (inl (c, x', there, ap (λ (u : Object). u.finished) (sym same) ∙ done, ap (λ (u : Object). is_heavy_class p u.class) (sym same) ∙ heavy, ap (λ (u : Object). is_held_by u.owner o) (sym same) ∙ held))
+          by_content (x', there, inr (inl gone)) = absurd (given_no_field x' o own.0 (ap (λ (u : Object). u.owner) (sym gone.1) ∙ own.1))
+          by_content (x', there, inr (inr moved)) = holder_bore (let same : owners.Field w f ≡ owners.Field o own.0 = ap (λ (u : Object). u.owner) (sym moved.1) ∙ own.1 in cc)
+      by (inl same) (inl owes') = inl (ap may_owe (sym same) ∙ owes')
+      by (inr (inl gone)) (inl owes') = inl (not_the_librarys_owes x (ap is_library_owner gone.0.owner))
+      by (inr (inr moved)) (inl owes') = inl (not_the_librarys_owes x (may_library p (type_of_field (field_at p f)) x moved.0.may))
 
   -- what fields own owning fields own, and what is stored is followed
-  pub store_owning : ActsInSight p h fr → OwningFieldsOwn p k
-  store_owning sight o y u g at owner = let z = stored_back p h w f v bound o y (still bound) at in by z.0 z.1 z.2
+  plain_owning : ActsInSight p h fr → OwningFieldsOwn p k
+  plain_owning sight o y u g at owner = let z = back o y at in by z.0 z.1 z.2
     where
       by : (x : Object) → object_at h o ≡ Some x → IsStored p h w f v o x y → (is_owning p g ≡ true) × IsFollowed p y.class
       by x before (inl same) =
@@ -433,20 +618,11 @@ module _ (p : Program) (ac : Accept p) (forms' : HasPlainForms p) (h : HeapConte
             subst (IsFollowed p) (sym (ap (λ (z : Object). z.class) moved.1)) (sight.stores i s f declared.0 d o x here is declared.1 declared.2 moved.0.root before),
           )
 
-  -- what a field of another object owns it owned
-  stored_holders : HoldersWere p h k
-  stored_holders u ready (c, y, now, done, heavy, held) = by (stored_back p h w f v bound c y (still bound) now)
-    where
-      own : (g : FieldId) × (y.owner ≡ owners.Field u g)
-      own = field_of_owner y.owner u held
+  pub store_owning : ActsInSight p h fr → OwningFieldsOwn p left
+  store_owning sight = owning_renewed p is_anew k left renews (plain_owning sight)
 
-      by : (x : Object) × (object_at h c ≡ Some x) × IsStored p h w f v c x y → IsHolder p h u
-      by (x, before, inl same) = (c, y, before ∙ ap Some (sym same), done, heavy, held)
-      by (x, before, inr (inl gone)) = absurd (given_no_field x u own.0 (ap (λ (z : Object). z.owner) (sym gone.1) ∙ own.1))
-      by (x, before, inr (inr moved)) =
-          let same : owners.Field w f ≡ owners.Field u own.0 = ap (λ (z : Object). z.owner) (sym moved.1) ∙ own.1 in
-          let one : w ≡ u = cc in
-          absurd (true≢false (sym (ready self (ap (object_at h) (sym one) ∙ self_at)) ∙ unfinished))
+  plain_leads : LinksLead p k
+  plain_leads = leads_stay p h k store_forth stored_fields links store_bore hold.leads (λ n y at. (let x = back n y at in (x.0, x.1)))
 
-  pub stored_leads : LinksLead p k
-  stored_leads = leads_stay p h k store_forth stored_fields links store_library stored_holders hold.leads (λ n y at. (let x = stored_back p h w f v bound n y (still bound) at in (x.0, x.1)))
+  pub stored_leads : LinksLead p left
+  stored_leads = leads_renewed p is_anew k left renews plain_leads

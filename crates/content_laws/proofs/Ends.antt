@@ -2,12 +2,13 @@
 use Rattle.covering_laws.specs.Renewing.{is_renewed, renews_at}
 use Rattle.covering_laws.specs.Outcomes.{IsCallRow}
 use Rattle.covering_laws.specs.Callees.{callee_in}
+use Rattle.covering_laws.proofs.SaidFacts.{finalizer_keeps}
 use Rattle.covering_laws.proofs.WaitingTargets.{renewed_at_step}
 use Rattle.content_laws.proofs.MustCallMethods.{must_call_resets_none}
-use Rattle.std.specs.Prelude.{not}
+use Rattle.std.specs.Prelude.{◌&&◌, not}
 use Rattle.std.specs.FinSet as set
 use Rattle.std.specs.List.{list_all}
-use Rattle.std.proofs.Common.{inl, ◌≡◌, ℕ, Bool, true, false, true≢false, Option, Some, None, IsSomeAnd, Contains, List, ◌∷◌, slice_get, refl, sym, ap, ◌∙◌, inr, eq-eqb}
+use Rattle.std.proofs.Common.{inl, ◌≡◌, ℕ, Bool, true, false, true≢false, Option, Some, None, IsSomeAnd, Contains, List, ◌∷◌, slice_get, refl, sym, ap, ◌∙◌, inr, eq-eqb, subst}
 use Rattle.rlc_base.proofs.SetLaws.{within_trans}
 use Rattle.rlc_base.specs.declared.name_id.NameId.{NameId}
 use Rattle.program_model.specs.declared.kinds.ClassId.{ClassId}
@@ -22,7 +23,9 @@ use Rattle.program_model.specs.Lookups.{class_at, field_at, method_at}
 use Rattle.program_model.specs.SuperTests.{is_class, is_under}
 use Rattle.must_call_sets.specs.Bodies.{constructs, has_field_place, is_constructor_kind, is_field_in, is_finalizer, is_finalizer_in, method_in, method_of, reset_in}
 use Rattle.must_call_sets.specs.MustCallSets.{is_empty, is_heavy_class, must_of, must_of_optional, must_of_type, no_names}
-use Rattle.must_call_sets.specs.Signatures.{has_name, type_of_field}
+use Rattle.must_call_sets.specs.Signatures.{has_name, is_present, type_of_field}
+use Rattle.program_model.specs.Hierarchy.{itself as itself_under}
+use Rattle.program_model.proofs.HierarchyLaws.{is_under_law}
 use Rattle.java_control.specs.Calls.{called_method}
 use Rattle.java_control.specs.Control.{Step}
 use Rattle.java_control.specs.Owned.{is_owning_field}
@@ -48,7 +51,7 @@ use Rattle.covering_laws.specs.Covering.{HoldsHeavy}
 use Rattle.covering_laws.proofs.CoveredFieldLaws.{promises_are_kept_at_end}
 use Rattle.covering_laws.proofs.Names.{of_interest}
 use Rattle.covering_laws.specs.FieldContents.{IsContent, IsDispatched, promised_on}
-use Rattle.covering_laws.specs.PlaceFacts.{IsCovered, IsOld, IsSpared, gives_none, is_heavy_in, renews_none, takes_nothing}
+use Rattle.covering_laws.specs.PlaceFacts.{IsAnswered, IsCovered, IsOld, IsSpared, gives_none, is_heavy_in, leaves_all, renews_none, takes_nothing}
 use Rattle.content_laws.proofs.Goes.{not_the_librarys_owes}
 use Rattle.content_laws.specs.Going.{IsNotedBy}
 
@@ -91,12 +94,12 @@ module _ (p : Program) (ac : Accept p) (forms' : HasPlainForms p) (h : HeapConte
     (named : MethodId) (n : Method) (called : called_method t.action ≡ Some named) (named_at : method_at p named ≡ Some n) (dispatched : IsDispatched p h fr caller) (made : HasMadeClasses p h) where
   pub promise_is_kept : (o : ℕ) (x y : Object) (w : ℕ) (f : FieldId) → object_at h o ≡ Some x → is_heavy_class p x.class ≡ true → x.finished ≡ true → GoesOn x y → x.owner ≡ owners.Field w f → (content : IsContent p (fr ∷ caller ∷ frs) h o x w f)
       → (m : MethodId) (d : Method) (name : NameId) → method_at p m ≡ Some d → d.class ≡ content.holder.class → d.sig.interest ≡ Some name
-      → set.contains (must_of p content.holder.class) name.0 ≡ true → IsNotedBy caller.locals t.action (Some n) w name.0 → set.is_subset (promised_on f d) y.called ≡ true
-  promise_is_kept o x y w f at heavy done goes owner content m d name there' class interest must noted =
+      → set.contains (must_of p content.holder.class) name.0 ≡ true → IsNotedBy caller.locals t.action (Some n) w name.0 → IsAnswered h o → set.is_subset (promised_on f d) y.called ≡ true
+  promise_is_kept o x y w f at heavy done goes owner content m d name there' class interest must noted answered =
       within_trans (promised_on f d) x.called y.called
       (promises_are_kept_at_end p ac h (caller ∷ frs) fr st old covered i s q d f w o x here is method no_constructor place (inr finalizer) (holds_heavy p h (fr ∷ caller ∷ frs) fr o x w f content at heavy owner run.2)
-      (was_old, spared)
-      done)
+      (was_old, spared, answered)
+      (finalizer_keeps p ac (caller ∷ frs) fr m d name there' interest method) done)
       goes.called
     where
       target : operand_of caller.locals t.action 0 ≡ values.Object w
@@ -123,14 +126,6 @@ module _ (p : Program) (ac : Accept p) (forms' : HasPlainForms p) (h : HeapConte
       no_constructor : constructs (method_at p fr.method) ≡ false
       no_constructor = ap constructs method ∙ ap is_constructor_kind (of_interest p ac.well_formed m d name there' interest).instance
 
-      takes : takes_nothing p (method_at p fr.method) ≡ true
-      takes = ap (takes_nothing p) method ∙ ap (list_all (λ (a : ParamSig). is_lent_parameter p (Some a))) (of_interest p ac.well_formed m d name there' interest).bare
-
-      -- so what the field owns was old when the method began
-      was_old : old o ≡ true
-      was_old = aged.contents o x at (done, heavy) (record { holder = w; field = f; runs = run.2; owns = owner; method = no_constructor }) takes
-
-      -- and the call creates nothing anew
       class_there : (k : Class) × (class_at p content.holder.class ≡ Some k)
       class_there = go (class_at p d.class) refl (ac.well_formed.valid.typed.methods m d there').listed
         where
@@ -138,6 +133,22 @@ module _ (p : Program) (ac : Accept p) (forms' : HasPlainForms p) (h : HeapConte
           go None none listed = absurd listed
           go (Some z) some listed = (z, ap (class_at p) (sym class) ∙ some)
 
+      -- and it creates nothing anew: it leaves all as it is
+      leaves : leaves_all p (method_at p fr.method) ≡ true
+      leaves =
+          let about = of_interest p ac.well_formed m d name there' interest in
+          let own_under : is_under p content.holder.class d.class ≡ true = subst (λ (c : ClassId). is_under p content.holder.class c ≡ true) (sym class) ((is_under_law p ac.well_formed.valid.typed.hierarchy content.holder.class content.holder.class).1 (itself_under content.holder.class)) in
+          let none : d.sig.reset ≡ None = must_call_resets_none p ac m d content.holder.class class_there.0 there' class_there.1 own_under (ap (has_name (must_of p content.holder.class)) interest ∙ must) in
+          ap (leaves_all p) method
+          ∙ ap (λ (b : Bool). not b && takes_nothing p (Some d) && not (is_present d.sig.reset)) (ap is_constructor_kind about.instance)
+          ∙ ap (λ (qs : List ParamSig). list_all (λ (a : ParamSig). is_lent_parameter p (Some a)) qs && not (is_present d.sig.reset)) about.bare
+          ∙ ap (λ (r : Option ℕ). not (is_present r)) none
+
+      -- so what the field owns was old when the method began
+      was_old : old o ≡ true
+      was_old = aged.contents o x at (done, heavy) (record { holder = w; field = f; runs = run.2; owns = owner; method = no_constructor }) leaves
+
+      -- and the call creates nothing anew
       resets_none : n.sig.reset ≡ None
       resets_none = must_call_resets_none p ac named n content.holder.class class_there.0 named_at class_there.1 run.1 (ap (has_name (must_of p content.holder.class)) named_interest ∙ must)
 

@@ -1,6 +1,7 @@
 -- The frames over one step: the one that takes it, those that wait, and the one that begins.
 use Rattle.std.proofs.Common.{◌≡◌, ◌⊎◌, inl, inr, ℕ, true, false, true≢false, Option, Some, None, List, [], ◌∷◌, slice_get, refl, sym, ap, ◌∙◌, subst}
 use Rattle.std.specs.List.{All}
+use Rattle.std.proofs.lemmas.List.Elements.{All-head, All-tail}
 use Rattle.std.proofs.lemmas.Bool.{and_parts}
 use Rattle.program_model.specs.declared.kinds.BodyId.{BodyId}
 use Rattle.program_model.specs.declared.kinds.FieldId.{FieldId}
@@ -8,15 +9,17 @@ use Rattle.program_model.specs.declared.kinds.MethodId.{MethodId}
 use Rattle.program_model.specs.declared.program.Field.{Field}
 use Rattle.program_model.specs.declared.program.Program.{Program}
 use Rattle.program_model.specs.Lookups.{field_at, method_at}
-use Rattle.must_call_sets.specs.Bodies.{constructs, has_field_place, is_class_of, is_field_in, method_in, method_of}
+use Rattle.must_call_sets.specs.Bodies.{constructs, is_class_of, is_field_in, method_in, method_of}
 use Rattle.java_control.specs.Control.{Step}
 use Rattle.java_control.specs.declared.action.Action.{Action}
 use Rattle.covering_laws.specs.Paths.{move_of}
 use Rattle.covering_laws.specs.Accept.{Accept}
 use Rattle.ledger_state.specs.Contents.{HeapContents}
 use Rattle.ledger_state.specs.Fields.{field_value}
+use Rattle.ledger_state.specs.Heaps.{object_at}
 use Rattle.ledger_state.specs.declared.array.ArrayObject.{ArrayObject}
 use Rattle.ledger_state.specs.Values.{number_of}
+use Rattle.ledger_state.specs.declared.object.Object.{Object}
 use Rattle.ledger_state.specs.declared.value.Value.{Value}
 use Rattle.ledger_state.specs.declared.value.Value.TheVariants as values
 use Rattle.ledger_steps.specs.LedgerCallsCalls.{argument_values, begun}
@@ -29,11 +32,12 @@ use Rattle.covering_laws.specs.PlainForms.{HasPlainForms}
 use Rattle.covering_laws.specs.Storing.{HasStored, onward, stored}
 use Rattle.covering_laws.specs.Nexts.{IsStartMove}
 use Rattle.covering_laws.proofs.Ready.{step_there}
-use Rattle.covering_laws.specs.FieldContents.{AreNew, DeclaresOwning, RunOnOthers}
+use Rattle.covering_laws.specs.FieldContents.{AreNew, AreUnfinished, DeclaresOwning, RunOnOthers}
 use Rattle.covering_laws.specs.Ranges.{FieldsInRange, LocalsInRange}
 use Rattle.content_laws.proofs.ContentFrames.{constructor_new, new_object}
 use Rattle.content_laws.specs.Filled.{AreFilled, IsFilled}
 use Rattle.content_laws.proofs.FilledStores.{IsStore, new_holds_none}
+use Rattle.content_laws.proofs.Goes.{there}
 
 no_object : {v : Value} (c : ℕ) → v ≡ values.Object c → number_of v ≡ None → ⊥
 no_object c is none = let never : Some c ≡ None = sym (ap number_of is) ∙ none in cc
@@ -42,10 +46,14 @@ no_object c is none = let never : Some c ≡ None = sym (ap number_of is) ∙ no
 abbrev pub KeepsOwning : Program → HeapContents → HeapContents → Type 0
 KeepsOwning p h k = (u : ℕ) (g : FieldId) (x : Field) → field_at p g ≡ Some x → x.owning ≡ true → field_value p k u g ≡ field_value p h u g
 
+-- a step of the frame stores it: a constructor runs, or the object is finished
+abbrev pub IsReadyStore : Program → HeapContents → Frame → Action → ℕ → FieldId → Type 0
+IsReadyStore p h fr a u g = IsStore fr.locals a u g × ((constructs (method_at p fr.method) ≡ true) ⊎ ((y : Object) → object_at h u ≡ Some y → y.finished ≡ true))
+
 -- or the step of the frame stores it, or it holds no object
 abbrev pub StoresOwning : Program → HeapContents → HeapContents → Frame → Action → Type 0
 StoresOwning p h k fr a = (u : ℕ) (g : FieldId) (x : Field) → field_at p g ≡ Some x → x.owning ≡ true
-    → (field_value p k u g ≡ field_value p h u g) ⊎ (IsStore fr.locals a u g ⊎ (number_of (field_value p k u g) ≡ None))
+    → (field_value p k u g ≡ field_value p h u g) ⊎ (IsReadyStore p h fr a u g ⊎ (number_of (field_value p k u g) ≡ None))
 
 pub keeps_stores : (p : Program) (h k : HeapContents) (fr : Frame) (a : Action) → KeepsOwning p h k → StoresOwning p h k fr a
 keeps_stores p h k fr a keeps u g x declared owning = inl (keeps u g x declared owning)
@@ -66,42 +74,45 @@ module _ (p : Program) (forms : HasPlainForms p) (h k : HeapContents) (fr : Fram
     | inl same ↦ subst (λ (n : BodyId). HasStored p n s.to) (sym (same_body b id))
         (onward i (move_of s) (filled st.number w c f x st.id new this declared owning class (sym same ∙ value)) (step_there p fr st i s here))
     | inr new ↦ elim new [
-      | inl store ↦ subst (λ (n : BodyId). HasStored p n s.to) (sym (same_body b id)) (stored i (move_of s) f store.0 st.control (step_there p fr st i s here) store.1)
+      | inl (store, ready) ↦ subst (λ (n : BodyId). HasStored p n s.to) (sym (same_body b id)) (stored i (move_of s) f store.0 st.control (step_there p fr st i s here) store.1)
       | inr none ↦ absurd (no_object c value none)
     ]
   ]
 
-  -- a constructor of the class that declares the field stores it
-  storing : (u : ℕ) (g : FieldId) → IsStore fr.locals s.action u g → DeclaresOwning p fr.method × (constructs (method_at p fr.method) ≡ true)
-  storing u g store = by (field_at p g) refl form.1
+  -- a method of the class that declares the field stores it
+  storing : (u : ℕ) (g : FieldId) → IsStore fr.locals s.action u g → DeclaresOwning p fr.method
+  storing u g store = by (field_at p g) refl (forms.stores st.number i (move_of s) g store.0 st.control (step_there p fr st i s here) store.1).1
     where
-      form : (constructs (method_of p st.number) ≡ true) × (has_field_place p st.number g ≡ true)
-      form = forms.stores st.number i (move_of s) g store.0 st.control (step_there p fr st i s here) store.1
-
       method : method_of p st.number ≡ method_at p fr.method
       method = ap (method_in p) st.at ∙ ap (method_at p) st.method
 
-      by : (x : Option Field) → field_at p g ≡ x → is_field_in p st.number x ≡ true → DeclaresOwning p fr.method × (constructs (method_at p fr.method) ≡ true)
+      by : (x : Option Field) → field_at p g ≡ x → is_field_in p st.number x ≡ true → DeclaresOwning p fr.method
       by None at place = absurd (true≢false (sym place))
       by (Some x) at place =
           let parts = and_parts x.owning (is_class_of x.class (method_of p st.number)) place in
-          ((g, x, at, parts.0, sym (ap (is_class_of x.class) method) ∙ parts.1), sym (ap constructs method) ∙ form.0)
+          (g, x, at, parts.0, sym (ap (is_class_of x.class) method) ∙ parts.1)
 
-  -- those that wait run on other objects, where it stores
-  waiting : (gs : List Frame) → ((u : ℕ) (g : FieldId) → IsStore fr.locals s.action u g → RunOnOthers u gs) → AreFilled p h gs → AreFilled p k gs
-  waiting [] others all = tt
-  waiting (y ∷ ys) others all = (
+  -- those that wait run on other objects, where a constructor stores; and where the object is finished, they run no constructor of such a class on it
+  waiting : (gs : List Frame) → All (λ (y : Frame). LocalsInRange h y.locals) gs → AreUnfinished p h gs
+      → ((u : ℕ) (g : FieldId) → IsStore fr.locals s.action u g → constructs (method_at p fr.method) ≡ true → RunOnOthers u gs) → AreFilled p h gs → AreFilled p k gs
+  waiting [] in' open' others all = tt
+  waiting (y ∷ ys) in' open' others all = (
     λ b w c f x id new this declared owning class value. elim (stores w f x declared owning) [
       | inl same ↦ all.0 b w c f x id new this declared owning class (sym same ∙ value)
-      | inr new' ↦ elim new' [ inl store ↦ absurd ((others w f store).0 this) | inr none ↦ absurd (no_object c value none) ]
+      | inr new' ↦ elim new' [
+        | inl (store, inl makes) ↦ absurd ((others w f store makes).0 this)
+        | inl (store, inr done) ↦ (let z = there h w ((All-head (λ (x : Frame). LocalsInRange h x.locals) y ys in').this w (ap number_of this)) in
+            absurd (true≢false (sym (done z.0 z.1) ∙ open'.0 w z.0 (f, x, declared, owning, class) new this z.1)))
+        | inr none ↦ absurd (no_object c value none)
+      ]
     ],
-    waiting ys (λ u g store. (others u g store).1) all.1,
+    waiting ys (All-tail (λ (x : Frame). LocalsInRange h x.locals) y ys in') open'.1 (λ u g store makes. (others u g store makes).1) all.1,
   )
 
-  pub went_filled : (v : Value) (frs : List Frame) → AreNew p (fr ∷ frs) → AreFilled p h (fr ∷ frs) → AreFilled p k (frame_after p h fr s v ∷ frs)
-  went_filled v frs new all = (
+  pub went_filled : (v : Value) (frs : List Frame) → All (λ (y : Frame). LocalsInRange h y.locals) frs → AreUnfinished p h frs → AreNew p (fr ∷ frs) → AreFilled p h (fr ∷ frs) → AreFilled p k (frame_after p h fr s v ∷ frs)
+  went_filled v frs in' open' new all = (
     top_filled v all.0,
-    waiting frs (λ u g store. (let its = storing u g store in new.0 u its.0 its.1 store.2)) all.1,
+    waiting frs in' open' (λ u g store makes. new.0 u (storing u g store) makes store.2) all.1,
   )
 
 -- ---- the frame that begins

@@ -176,9 +176,9 @@ module _ (p : Program) (j : HeapContents) (i w : ℕ) where
           held = held;
           bounded = content.bounded;
           own = content.own;
-          whole = λ is. refl;
+          whole = λ is unmet. refl;
           unlinked = content.unlinked;
-          kept = λ is m d n at' class interest must called. absurd (true≢false (sym called ∙ member_of-empty n.0));
+          kept = λ is unmet m d n at' class interest must called. absurd (true≢false (sym called ∙ member_of-empty n.0));
           made = λ is. absurd (true≢false is);
         }
         go false other = record {

@@ -55,7 +55,7 @@ use Rattle.content_laws.proofs.Leading.{goes_hold, leads_forth}
 use Rattle.content_laws.specs.Going.{Goes, IsBorn, IsDone, IsNotedBy, KeepsRoots, PromisesItsOwn}
 
 -- an object that goes on was unmet if it is
-unmet_then : (x y : Object) → GoesOn x y → is_unmet y ≡ true → is_unmet x ≡ true
+pub unmet_then : (x y : Object) → GoesOn x y → is_unmet y ≡ true → is_unmet x ≡ true
 unmet_then x y goes unmet = go x.finished refl (set.is_subset x.must x.called) refl
   where
     go : (b : Bool) → x.finished ≡ b → (c : Bool) → set.is_subset x.must x.called ≡ c → is_unmet x ≡ true
@@ -172,7 +172,7 @@ module _ (p : Program) (own : PromisesItsOwn p) (h k : HeapContents) (noted : �
     (held : root_of k (field_value p k w f) ≡ Some o)
     (leads : (c : ℕ) × (field_value p h w f ≡ values.Object c) × Leads p h c o)
     (keeps : (m : MethodId) (d : Method) (n : NameId) → content.holder.finished ≡ true → method_at p m ≡ Some d → d.class ≡ content.holder.class → d.sig.interest ≡ Some n
-    → set.contains (must_of p content.holder.class) n.0 ≡ true → noted w n.0 → set.is_subset (promised_on f d) y.called ≡ true)
+    → set.contains (must_of p content.holder.class) n.0 ≡ true → noted w n.0 → is_unmet y ≡ true → set.is_subset (promised_on f d) y.called ≡ true)
     (made : content.holder.finished ≡ false → is_made_in p w content.field.class frs ≡ true → is_made_in p w content.field.class gs ≡ true) where
   done : next.0.finished ≡ true → content.holder.finished ≡ true
   done is = sym next.2.finished ∙ is
@@ -185,14 +185,14 @@ module _ (p : Program) (own : PromisesItsOwn p) (h k : HeapContents) (noted : �
       all content.holder x y f leads.0 o i content.at (owning_by p f content.field content.declared content.owning) leads.1 leads.2 before now
       (subst (λ (c : ClassId). set.contains (promised_names (λ t. is_of_field t f) (own_promises p c n)) i ≡ true) same mine.0) mine.1))
 
-  kept : next.0.finished ≡ true → IsKept p next.0 f y
-  kept is m d n at class interest must called =
+  kept : next.0.finished ≡ true → is_unmet y ≡ true → IsKept p next.0 f y
+  kept is unmet m d n at class interest must called =
       let same : d.class ≡ content.holder.class = class ∙ next.2.class in
       let has : set.contains (must_of p content.holder.class) n.0 ≡ true = ap (λ (c : ClassId). set.contains (must_of p c) n.0) (sym next.2.class) ∙ must in
       elim (next.3 n.0 called) [
-        | inl old ↦ within_trans (promised_on f d) x.called y.called (content.kept (done is) m d n at same interest has old) on.called
+        | inl old ↦ within_trans (promised_on f d) x.called y.called (content.kept (done is) (unmet_then x y on unmet) m d n at same interest has old) on.called
         | inr new ↦ elim new [
-          | inl named ↦ keeps m d n (done is) at same interest has named
+          | inl named ↦ keeps m d n (done is) at same interest has named unmet
           | inr all ↦ by_own m d n at same interest has all
         ]
       ]
@@ -208,8 +208,8 @@ module _ (p : Program) (own : PromisesItsOwn p) (h k : HeapContents) (noted : �
     owning = content.owning;
     held = held;
     bounded = ap (λ (c : ClassId). set.is_subset (must_of p c) (must_of_type p content.field.vtype)) on.class ∙ content.bounded;
-    own = λ unmet. ap (λ (s : Names). set.is_subset s (must_of p y.class)) on.must ∙ ap (λ (c : ClassId). set.is_subset x.must (must_of p c)) on.class ∙ content.own (unmet_then x y on unmet);
-    whole = λ is. next.2.must ∙ content.whole (done is) ∙ ap (must_of p) (sym next.2.class);
+    own = ap (λ (s : Names). set.is_subset s (must_of p y.class)) on.must ∙ ap (λ (c : ClassId). set.is_subset x.must (must_of p c)) on.class ∙ content.own;
+    whole = λ is unmet. next.2.must ∙ content.whole (done is) (unmet_then x y on unmet) ∙ ap (must_of p) (sym next.2.class);
     unlinked = next.2.link ∙ content.unlinked;
     kept = kept;
     made = λ is. made (sym next.2.finished ∙ is) (content.made (sym next.2.finished ∙ is));
@@ -222,7 +222,7 @@ module _ (p : Program) (h k : HeapContents) (noted : ℕ → ℕ → Type 0) (go
   pub contents_go_on : PromisesItsOwn p → LinksLead p h → (frs gs : List Frame) → HaveContents p frs h
       → ((o : ℕ) (x y : Object) (w : ℕ) (f : FieldId) → object_at h o ≡ Some x → object_at k o ≡ Some y → is_heavy_class p y.class ≡ true → GoesOn x y → x.owner ≡ owners.Field w f → (content : IsContent p frs h o x w f)
       → (m : MethodId) (d : Method) (n : NameId) → content.holder.finished ≡ true → method_at p m ≡ Some d → d.class ≡ content.holder.class → d.sig.interest ≡ Some n
-      → set.contains (must_of p content.holder.class) n.0 ≡ true → noted w n.0 → set.is_subset (promised_on f d) y.called ≡ true)
+      → set.contains (must_of p content.holder.class) n.0 ≡ true → noted w n.0 → is_unmet y ≡ true → set.is_subset (promised_on f d) y.called ≡ true)
       → ((o : ℕ) (x y : Object) (w : ℕ) (f : FieldId) (content : IsContent p frs h o x w f) → object_at k o ≡ Some y → y.owner ≡ owners.Field w f → content.holder.finished ≡ false
       → is_made_in p w content.field.class frs ≡ true → is_made_in p w content.field.class gs ≡ true)
       → HaveContents p gs k
@@ -230,7 +230,7 @@ module _ (p : Program) (h k : HeapContents) (noted : ℕ → ℕ → Type 0) (go
       let was = goes.back o y w f at owner in
       let had = obligation_then p was.0 y was.2 has in
       let content = have o was.0 w f was.1 had was.3 in
-      let heavy = obligation_is_heavy p was.0 had content.own in
+      let heavy = obligation_is_heavy p was.0 had (λ unmet. content.own) in
       content_goes_on p own h k noted frs gs o was.0 y w f content was.1 at was.2 (goes.forth w content.holder content.at)
       (ap (root_of k) (goes.fields w f (owning_by p f content.field content.declared content.owning)) ∙ root_stays h k goes.roots (field_value p h w f) o was.0 content.held was.1)
       (led_there p h led (field_value p h w f) o was.0 content.held was.1 heavy (inl (not_the_librarys_owes was.0 (ap is_library_owner was.3))))

@@ -20,6 +20,7 @@ use Rattle.program_model.specs.declared.program.ParamSig.{ParamSig}
 use Rattle.program_model.specs.declared.program.Program.{Program}
 use Rattle.program_model.specs.Hierarchy.{itself}
 use Rattle.program_model.specs.Lookups.{class_at, field_at, method_at}
+use Rattle.program_model.specs.Overrides.{is_library}
 use Rattle.program_model.specs.SuperTests.{classes_above, has_class, is_class, is_under}
 use Rattle.program_model.specs.Typing.{IsDeclarable}
 use Rattle.program_model.specs.Validity.{IsTypedProgram}
@@ -48,7 +49,9 @@ use Rattle.covering_laws.specs.Accept.{Accept}
 use Rattle.covering_laws.specs.AgreementConditions.{OwnsNoRenewedText, may_be_text, may_renew_text}
 use Rattle.covering_laws.specs.Choosing.{frame_steps}
 use Rattle.covering_laws.specs.Configuration.{Frame}
-use Rattle.covering_laws.specs.ClassOperands.{IsNotAboveString, IsOfClass, OfClass, type_of_field}
+use Rattle.covering_laws.specs.ClassOperands.{IsNotAboveString, IsOfClass, OfClass, own_type, type_of_field}
+use Rattle.covering_laws.proofs.Bodies.{running_method}
+use Rattle.covering_laws.specs.Agreement.{AllStand, Stands}
 use Rattle.covering_laws.specs.ClassValues.{FrameFitsClass, FramesFitClass, IsOnInstance}
 use Rattle.covering_laws.specs.HeapAnew.{finished_root, target_root}
 use Rattle.covering_laws.specs.Heaps.{HasEarlierLinks}
@@ -58,10 +61,10 @@ use Rattle.covering_laws.specs.Objects.{object_class}
 use Rattle.covering_laws.specs.Operands as operands
 use Rattle.covering_laws.specs.Operands.{NoObject, params_of}
 use Rattle.covering_laws.specs.Renewable.{IsFollowed, IsRenewable, renews_each, takes_each}
-use Rattle.covering_laws.specs.Sight.{ActsInSight, AllActInSight}
+use Rattle.covering_laws.specs.Sight.{ActsInSight, AllActInSight, IsOnObject, RunOnObjects}
 use Rattle.covering_laws.specs.TextUpdates.{AllUpdateTexts, UpdatesTexts}
 use Rattle.covering_laws.specs.Types.{IsNoObjectButText, KeepAll, KeepsTypes, is_text}
-use Rattle.covering_laws.specs.Values.{FitsClass}
+use Rattle.covering_laws.specs.Values.{FitsClass, HasClassUnder}
 use Rattle.covering_laws.proofs.AliasConducts.{argument_has_names}
 use Rattle.covering_laws.proofs.Cases.{same_class}
 use Rattle.covering_laws.proofs.ClassArguments.{IsUnderAt, class_of_fit, parameter_fits, receiver_under, stored_fits}
@@ -656,14 +659,66 @@ module _ (p : Program) (ac : Accept p) where
         by_type (types.Arr e) type = absurd (true≢false (sym class_type ∙ ap is_class_type type))
         by_type types.NullType type = absurd (true≢false (sym class_type ∙ ap is_class_type type))
 
-    pub frame_in_sight : UpdatesTexts p h fr → ActsInSight p h fr
-    frame_in_sight updates = record { renews = renews; stores = stores; updates = updates }
+    -- `this` is of the class of the method that runs: it is the program's, and `String` the library's
+    stands : ((c d : ClassId) → is_under p c d ≡ true → is_library p c ≡ true → is_library p d ≡ true) → is_library p p.core.string ≡ true → Stands p fr
+        → (w : ℕ) (self : Object) (m : Method) → fr.locals.this ≡ values.Object w → object_at h w ≡ Some self → method_at p fr.method ≡ Some m → is_under p self.class m.class ≡ true
+    stands library string st w self m this at method =
+        subst (HasClassUnder p m.class) (ap class_in at) (subst (FitsClass p m.class h) this (fits.this (subst (λ (d : Option Method). OfClass p m.class (own_type d)) (sym (ap (method_at p) fits.method ∙ method)) (under_itself m.class))))
+      where
+        run : (d : Method) × (method_at p fr.method ≡ Some d) × (is_library p d.class ≡ false)
+        run = running_method p ac fr st
+
+        own : IsNotAboveString p m.class
+        own = by (is_under p p.core.string m.class) refl
+          where
+            one : run.0 ≡ m
+            one = let both : Some run.0 ≡ Some m = sym run.1 ∙ method in (let same : run.0 ≡ m = cc in same)
+
+            by : (b : Bool) → is_under p p.core.string m.class ≡ b → is_under p p.core.string m.class ≡ false
+            by true above = absurd (true≢false (sym (library p.core.string m.class above string) ∙ ap (λ (d : Method). is_library p d.class) (sym one) ∙ run.2))
+            by false apart = apart
+
+        fits : FrameFitsClass p m.class h fr
+        fits = keeps m.class own
+
+    -- `this` as the receiver of a method that creates its obligation anew is of the method's class
+    receives : ((c d : ClassId) → is_under p c d ≡ true → is_library p c ≡ true → is_library p d ≡ true) → is_library p p.core.string ≡ true → Stands p fr
+        → (i : ℕ) (s : Step) (named : MethodId) (n : Method) (w : ℕ) (self : Object) → slice_get (frame_steps p fr) i ≡ Some s → called_method s.action ≡ Some named → method_at p named ≡ Some n → n.sig.reset ≡ Some 0
+        → IsOnInstance p h fr.locals s.action (method_at p named) → operand_of fr.locals s.action 0 ≡ values.Object w → fr.locals.this ≡ values.Object w → object_at h w ≡ Some self → is_under p self.class n.class ≡ true
+    receives library string st i s named n w self here called named_at reset instance operand this at = by (is_under p p.core.string n.class) refl
+      where
+        type : type_at n.sig 0 ≡ Some (types.Obj n.class)
+        type = ap Some ((typed.methods named n named_at).receiver ∙ go (is_class n.class p.core.string) refl)
+          where
+            go : (b : Bool) → is_class n.class p.core.string ≡ b → (if is_class n.class p.core.string then types.Str else types.Obj n.class) ≡ types.Obj n.class
+            go true text =
+                absurd (true≢false (sym (and_from (is_class n.class p.core.string) (is_receiver n.sig.reset) text (ap is_receiver reset)) ∙ none_passes (renews_own_text p) p.methods.items named.0 n light.resets named_at))
+            go false other = ap (λ (b : Bool). if b then types.Str else types.Obj n.class) other
+
+        by : (b : Bool) → is_under p p.core.string n.class ≡ b → is_under p self.class n.class ≡ true
+        by true above =
+            let run = running_method p ac fr st in
+            let k = own_class (class_at p (run.0).class) refl (typed.methods fr.method run.0 run.1).listed in
+            let z = in_table p self.class (run.0).class k.0 k.1 (stands library string st w self run.0 this at run.1) in
+            ap (is_under p self.class) (above_object p ac light n.class (position_no_string named n 0 n.class named_at type) above) ∙ under_object self.class z.0 z.1
+          where
+            own_class : (x : Option Class) → class_at p (running_method p ac fr st).0.class ≡ x → IsSomeAnd x (λ (j : Class). Contains j.methods.items fr.method) → (k : Class) × (class_at p (running_method p ac fr st).0.class ≡ Some k)
+            own_class None none listed = absurd listed
+            own_class (Some j) some listed = (j, some)
+        by false own =
+            let u = operand_under h fr n.class own (keeps n.class own) i s named n 0 here called named_at instance type w operand in
+            let same : self.class ≡ u.0 = (let both : Some self.class ≡ Some u.0 = sym (ap class_in at) ∙ u.1 in cc) in
+            ap (λ (e : ClassId). is_under p e n.class) same ∙ u.2
+
+    pub frame_in_sight : ((c d : ClassId) → is_under p c d ≡ true → is_library p c ≡ true → is_library p d ≡ true) → is_library p p.core.string ≡ true → Stands p fr → UpdatesTexts p h fr → IsOnObject p fr → ActsInSight p h fr
+    frame_in_sight library string st updates on = record { renews = renews; stores = stores; updates = updates; stands = stands library string st; on = on; receives = receives library string st }
 
 -- the next step of each frame is seen
-pub acts_in_sight : (p : Program) → Accept p → HasLightTexts p → OwnsNoRenewedText p → (h : HeapContents) (frs : List Frame) → HasEarlierLinks h → ((bound : ClassId) → IsNotAboveString p bound → FramesFitClass p bound h frs) → KeepAll (is_text p h) p frs
-    → LinkedAreAliases p h → LinksReachAliased p h → AllUpdateTexts p h frs → AllActInSight p h frs
-acts_in_sight p ac light fields h [] links keeps types' aliases reached updates = tt
-acts_in_sight p ac light fields h (fr ∷ frs) links keeps types' aliases reached updates = (
-  frame_in_sight p ac light fields h links aliases reached fr (λ bound own. (keeps bound own).0) types'.0 updates.0,
-  acts_in_sight p ac light fields h frs links (λ bound own. (keeps bound own).1) types'.1 aliases reached updates.1,
+pub acts_in_sight : (p : Program) → Accept p → HasLightTexts p → OwnsNoRenewedText p → ((c d : ClassId) → is_under p c d ≡ true → is_library p c ≡ true → is_library p d ≡ true) → is_library p p.core.string ≡ true
+    → (h : HeapContents) (frs : List Frame) → AllStand p frs → HasEarlierLinks h → ((bound : ClassId) → IsNotAboveString p bound → FramesFitClass p bound h frs) → KeepAll (is_text p h) p frs
+    → LinkedAreAliases p h → LinksReachAliased p h → AllUpdateTexts p h frs → RunOnObjects p frs → AllActInSight p h frs
+acts_in_sight p ac light fields library string h [] standing links keeps types' aliases reached updates on = tt
+acts_in_sight p ac light fields library string h (fr ∷ frs) standing links keeps types' aliases reached updates on = (
+  frame_in_sight p ac light fields h links aliases reached fr (λ bound own. (keeps bound own).0) types'.0 library string standing.0 updates.0 on.0,
+  acts_in_sight p ac light fields library string h frs standing.1 links (λ bound own. (keeps bound own).1) types'.1 aliases reached updates.1 on.1,
 )

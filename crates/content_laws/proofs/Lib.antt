@@ -9,6 +9,7 @@ pub mod Linked
 pub mod InSight
 pub mod LinkTargets
 pub mod MustCallMethods
+pub mod UnmetHolders
 pub mod Promised
 pub mod Ends
 pub mod AliasConstructors
@@ -19,6 +20,8 @@ pub mod Renewals
 pub mod ResetRenews
 pub mod LibraryResets
 pub mod LibraryNotes
+pub mod StoreRenews
+pub mod StoredLinks
 pub mod ContentStores
 pub mod TopSteps
 pub mod Returns
@@ -49,6 +52,7 @@ pub use Rattle.covering_laws.proofs.Constructors
 pub use Rattle.covering_laws.proofs.Counts
 pub use Rattle.covering_laws.proofs.CoveredArguments
 pub use Rattle.covering_laws.proofs.CoveringLaws
+pub use Rattle.covering_laws.proofs.SaidFacts
 pub use Rattle.covering_laws.proofs.Storing as CoveringStoring
 pub use Rattle.covering_laws.proofs.DispatchOwners
 pub use Rattle.covering_laws.proofs.Emptied
@@ -119,6 +123,7 @@ pub use Rattle.covering_laws.proofs.SignedPromises
 pub use Rattle.covering_laws.proofs.Stacks
 pub use Rattle.covering_laws.proofs.StartReached
 pub use Rattle.covering_laws.proofs.StoredObjects
+pub use Rattle.covering_laws.proofs.StoreResets
 pub use Rattle.covering_laws.proofs.TextStores
 pub use Rattle.covering_laws.proofs.UpdatedTexts
 pub use Rattle.covering_laws.proofs.Stores
@@ -141,3 +146,8 @@ pub use Rattle.covering_laws.proofs.SparingEnds
 pub use Rattle.covering_laws.proofs.SparingStays
 pub use Rattle.covering_laws.proofs.WaysOverSteps
 pub use Rattle.covering_laws.proofs.OldObjects
+pub use Rattle.covering_laws.proofs.Made
+pub use Rattle.covering_laws.proofs.ThisOperands
+pub use Rattle.covering_laws.proofs.StoreSteps
+pub use Rattle.covering_laws.proofs.StoringThis
+pub use Rattle.covering_laws.proofs.UnlinkedThis

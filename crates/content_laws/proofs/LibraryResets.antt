@@ -174,7 +174,7 @@ module _ (p : Program) (l : Locals) (a : Action) (m r : Option Method) (d : Cond
     roots = λ n. root_of_changed (lost_object whole held) whole n (λ k x. (lost_stays k x (is_unmet x && not (owner_holds whole held x.owner k)) refl).link)
         ∙ (let both : Some (root whole n) ≡ Some (root plain n) = same_root p l a m r d i h (values.Object n) in (let one : root whole n ≡ root plain n = cc in one));
     fields = λ w f own. grown_fields p h whole (library_grows p l a m r d i h) w f own ∙ sym (grown_fields p h plain (library_grows p l a (without_reset m) r d i h) w f own);
-    up = λ n x w f at is none owner. elim tops [
+    up = λ n x w f at is none heavy owner. elim tops [
       | inl tested ↦ elim (rises tested n w f x at is none owner) [ inl unready ↦ inl unready | inr up ↦ inr (inl up) ]
       | inr free ↦ inl (no_holder_of n x at free is none w f owner)
     ];

@@ -28,7 +28,7 @@ use Rattle.ledger_obligations.specs.Obligations.{all_notes, end_frame, lose, not
 use Rattle.ledger_steps.specs.CallSteps.{began_heap, library_heap, self_begun}
 use Rattle.ledger_steps.specs.Conducts.{arguments_shared, conduct_value, positions}
 use Rattle.ledger_steps.specs.Ends.{answered, exception_class, frame_gone, result_value, returned_called, returned_heap, returned_roots, thrown_in}
-use Rattle.ledger_steps.specs.InnerSteps.{thrown_value, with_exception}
+use Rattle.ledger_steps.specs.InnerSteps.{heap_stored, store_of, thrown_value, with_exception}
 use Rattle.ledger_steps.specs.LedgerCallsCalls.{alias_position, alias_target, argument_values, begun, form_of, object_by, operand_of, position_object, position_of, receiver_note, reset_position}
 use Rattle.covering_laws.specs.Accept.{Accept}
 use Rattle.covering_laws.specs.Agreement.{Agree, AllStand, HasMadeClasses, IsCalledFrom, IsStacked, Stands, WaitsFor}
@@ -73,9 +73,9 @@ use Rattle.covering_laws.proofs.Renewed.{says_nothing, without_reset}
 use Rattle.covering_laws.proofs.Returned.{end_back, gone_back, result_back}
 use Rattle.covering_laws.proofs.Returns.{back_is}
 use Rattle.covering_laws.proofs.StartHeaps.{start_linked}
-use Rattle.covering_laws.proofs.StoreJoins.{store_heap, store_were}
 use Rattle.covering_laws.proofs.ClassArguments.{target_is_instance}
 use Rattle.content_laws.proofs.InSight.{aliased_operand}
+use Rattle.content_laws.proofs.StoredLinks.{stored_were}
 
 -- ---- links
 
@@ -226,12 +226,12 @@ module _ (p : Program) (ac : Accept p) (forms : HasPlainForms p) (light : HasLig
 
       module _ (next : IsOwningStore e s) where
         abbrev stored_heap : HeapContents
-        stored_heap = store_heap p ac forms h links ranges fr frs st standing stacked hold i s here next.field next.temp next.action made
+        stored_heap = heap_stored p (method_at p fr.method) fr.locals (store_of fr.locals s.action) h
 
         store_from : LinksComeFrom p h (within p c fr frs e s).heap
         store_from = subst (λ (x : Option ClassId). LinksComeFrom p h (within p c fr frs x s).heap) (sym next.normal)
             (come_further p h stored_heap (lose (held None) stored_heap) (lost_linked p stored_heap (held None))
-            (come_from p h stored_heap (store_were p ac forms h links ranges fr frs st standing stacked hold i s here next.field next.temp next.action made)))
+            (come_from p h stored_heap (stored_were p h (method_at p fr.method) fr.locals (store_of fr.locals s.action))))
 
       inner_from : IsInnerStep p h c.arrays fr.method fr.locals e s → LinksComeFrom p h (within p c fr frs e s).heap
       inner_from next = elim next [

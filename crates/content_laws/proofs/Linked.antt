@@ -85,7 +85,7 @@ module _ (p : Program) (j : HeapContents) (w : ℕ) (change : Object → Object)
             subst (Leads p k n) (sym here'.0) (leads_through p j k w (keeps p j w change free) w new n o old here'.0))
         | inr other ↦
             leads_elsewhere p j k w (keeps p j w change free) n o
-            (led n o x'.0 y'.0 x'.1 before y'.1 (ap (λ (u : Object). is_heavy_class p u.class) (sym other.1) ∙ heavy) (bears_before p j k stay o y'.0 y (ap (λ (u : Object). u.finished) other.1) (ap (λ (u : Object). u.owner) other.1) owes)) other.0
+            (led n o x'.0 y'.0 x'.1 before y'.1 (ap (λ (u : Object). is_heavy_class p u.class) (sym other.1) ∙ heavy) (bears_before p j k stay o y'.0 y (ap (λ (u : Object). u.class) other.1) (ap (λ (u : Object). u.finished) other.1) (ap (λ (u : Object). u.owner) other.1) owes)) other.0
       ]
 
 -- ---- the object is linked to the argument
@@ -179,7 +179,7 @@ module _ (p : Program) (j : HeapContents) (w a : ℕ) (earlier : (0 < a) × (a <
           go : (b : Bool) → nat_eq (root j n) w ≡ b → Leads p g n o
           go true same =
               let through = eqb-true (root j n) w same in
-              leads_through p j g w stays o (from_object o y apart (sym (over.0 through) ∙ root') there' heavy (bears_before p j g stay o y y refl refl owes)) n w
+              leads_through p j g w stays o (from_object o y apart (sym (over.0 through) ∙ root') there' heavy (bears_before p j g stay o y y refl refl refl owes)) n w
               (led n w x'.0 object x'.1 through present heavy_object (inl (unfinished_owes object unfinished))) refl
           go false other = leads_elsewhere p j g w stays n o
-              (led n o x'.0 y x'.1 (sym (over.1 (λ same. true≢false (sym (eq-eqb (root j n) w same) ∙ other))) ∙ root') there' heavy (bears_before p j g stay o y y refl refl owes)) apart
+              (led n o x'.0 y x'.1 (sym (over.1 (λ same. true≢false (sym (eq-eqb (root j n) w same) ∙ other))) ∙ root') there' heavy (bears_before p j g stay o y y refl refl refl owes)) apart

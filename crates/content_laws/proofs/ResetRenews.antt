@@ -15,7 +15,7 @@ use Rattle.ledger_state.specs.declared.entry.Owner.TheVariants as owners
 use Rattle.ledger_state.specs.declared.object.Object.{Object}
 use Rattle.ledger_state.specs.declared.value.Value.{Value}
 use Rattle.ledger_obligations.specs.Obligations.{emptied, finished_in, is_library_owner, is_unmet, lose, lost_object, owner_holds, reset_in, with_owner}
-use Rattle.must_call_sets.specs.MustCallSets.{must_of}
+use Rattle.must_call_sets.specs.MustCallSets.{is_heavy_class, must_of}
 use Rattle.covering_laws.proofs.HeapLaws.{root_of_changed}
 use Rattle.covering_laws.proofs.ObjectLaws.{changed_at}
 use Rattle.covering_laws.proofs.Renewed.{reset_keeps}
@@ -25,8 +25,8 @@ use Rattle.content_laws.proofs.Renewals.{Renews, StaysAside}
 module _ (p : Program) (c : HeapContents) (roots : List ℕ) (plain whole : HeapContents) (it : IsResetOf p c roots plain whole) (held : List (List Value))
     (itself : (n : ℕ) (x : Object) → object_at plain n ≡ Some x → is_reached c roots n ≡ true → x.link ≡ None
     → (root c n ≡ n)
-    × ((w : ℕ) (f : FieldId) → x.owner ≡ owners.Field w f
-    → (finished_in (object_at plain w) ≡ false) ⊎ ((is_reached c roots w ≡ true) ⊎ ((z : Object) → object_at plain w ≡ Some z → z.called ≡ set.empty))))
+    × ((w : ℕ) (f : FieldId) → is_heavy_class p x.class ≡ true → x.owner ≡ owners.Field w f
+    → (finished_in (object_at plain w) ≡ false) ⊎ ((is_reached c roots w ≡ true) ⊎ ((z : Object) → object_at plain w ≡ Some z → (z.called ≡ set.empty) × (z.must ≡ must_of p z.class)))))
     (fields : (w : ℕ) (f : FieldId) → is_owning p f ≡ true → field_value p whole w f ≡ field_value p plain w f) where
   abbrev turned : ℕ → Object → Object
   turned n x = reset_in p c roots n x
@@ -111,5 +111,5 @@ module _ (p : Program) (c : HeapContents) (roots : List ℕ) (plain whole : Heap
     back = λ n y at. (let x = back_at n y at in (x.0, x.1, subst (StaysAside p (anew n) x.0) x.2 (stays n x.0 x.1)));
     roots = λ n. root_of_changed (lost_object whole held) whole n (λ k x. (lost_stays k x (is_unmet x && not (owner_holds whole held x.owner k)) refl).link) ∙ reset_number p c roots plain whole it n;
     fields = λ w f own. fields w f own;
-    up = λ n x w f at is none owner. (itself n x at is none).1 w f owner;
+    up = λ n x w f at is none heavy owner. (itself n x at is none).1 w f heavy owner;
   }

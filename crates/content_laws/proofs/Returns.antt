@@ -6,7 +6,7 @@ pub use Rattle.covering_laws.proofs.Returns.{back_is}
 use Rattle.std.specs.Prelude.{◌<◌, ◌||◌, ◌&&◌, is_some, not}
 use Rattle.std.specs.FinSet as set
 use Rattle.std.proofs.Common.{◌≡◌, ◌⊎◌, ℕ, zero, suc, ◌+◌, Bool, true, false, true≢false, Option, Some, None, List, ◌∷◌, length, slice_get, refl, sym, ap, ◌∙◌, subst, if◌then◌else◌, inl, inr, eqb-true, eq-eqb, arith}
-use Rattle.std.proofs.lemmas.Bool.{and_parts}
+use Rattle.std.proofs.lemmas.Bool.{and_parts, or_right}
 use Rattle.std.proofs.lemmas.List.Elements.{All-head, All-tail}
 use Rattle.rlc_base.specs.declared.name_id.NameId.{NameId}
 use Rattle.rlc_base.specs.declared.place.Pos.{Pos}
@@ -42,7 +42,7 @@ use Rattle.ledger_state.specs.declared.object.Link.{Link}
 use Rattle.ledger_state.specs.declared.object.Object.{Object}
 use Rattle.ledger_state.specs.declared.value.Value.{Value}
 use Rattle.ledger_state.specs.declared.value.Value.TheVariants as values
-use Rattle.ledger_obligations.specs.Obligations.{alias_born, end_holder, finished, lose}
+use Rattle.ledger_obligations.specs.Obligations.{alias_born, end_holder, finished, is_unmet, lose}
 use Rattle.ledger_steps.specs.LedgerCallsCalls.{alias_position, alias_target, interest_in, is_alias, object_by, operand_of, reset_position}
 use Rattle.covering_laws.specs.Configuration.{Config, Frame, held_by}
 use Rattle.covering_laws.specs.Choosing.{frame_steps, is_number}
@@ -75,7 +75,7 @@ use Rattle.covering_laws.specs.Renewable.{IsFollowed}
 use Rattle.covering_laws.specs.PlaceFacts.{IsCovered, IsOld, gives_none, OwesOrHolds, renews_none}
 use Rattle.covering_laws.specs.Sight.{ActsInSight}
 use Rattle.covering_laws.proofs.EndResets.{plain_alias_position}
-use Rattle.covering_laws.proofs.EndTargets.{left_links, reached_rises, reset_of, same_fields}
+use Rattle.covering_laws.proofs.EndTargets.{AliasHoldsNone, left_links, reached_rises, reset_of, same_fields}
 use Rattle.covering_laws.proofs.HeapLaws.{links_stay-lost}
 use Rattle.covering_laws.proofs.Renewed.{says_nothing, without_reset}
 use Rattle.content_laws.proofs.LibraryResets.{same_interest}
@@ -84,8 +84,9 @@ use Rattle.content_laws.proofs.ResetRenews.{reset_renews}
 use Rattle.covering_laws.specs.Ranges.{LocalsInRange}
 use Rattle.content_laws.proofs.AliasConstructors.{alias_class_is_heavy, calls_on_field}
 use Rattle.content_laws.proofs.Ends.{promise_is_kept, receiver_object}
-use Rattle.content_laws.proofs.Finished.{changed_dispatched, changed_unfinished, linked_contents, made, made_contents, one_back}
-use Rattle.content_laws.proofs.Goes.{contents_go_on, dispatched_on, goes_forth, led_there, holders_go, there, unfinished_on}
+use Rattle.content_laws.proofs.UnmetHolders.{content_is_answered}
+use Rattle.content_laws.proofs.Finished.{alias_makes_none, made_by_none, changed_dispatched, changed_unfinished, linked_contents, made, made_contents, one_back}
+use Rattle.content_laws.proofs.Goes.{contents_go_on, unmet_then, dispatched_on, goes_forth, led_there, holders_go, there, unfinished_on}
 use Rattle.content_laws.proofs.Heaps.{after_goes, end_goes}
 use Rattle.content_laws.proofs.Leading.{goes_hold, leads_forth}
 use Rattle.content_laws.proofs.Leaves.{holder_owns_nothing}
@@ -225,21 +226,22 @@ module _ (p : Program) (ac : Accept p) (forms' : HasPlainForms p) (c d : Config)
     some_method : (n : Method) → method_at p named ≡ Some n → (o : ℕ) (x y : Object) (w : ℕ) (f : FieldId) → object_at h o ≡ Some x → object_at reset o ≡ Some y → is_heavy_class p y.class ≡ true → GoesOn x y → x.owner ≡ owners.Field w f
         → (content : IsContent p (fr ∷ caller ∷ rest) h o x w f) → (m : MethodId) (d' : Method) (name : NameId) → content.holder.finished ≡ true → method_at p m ≡ Some d' → d'.class ≡ content.holder.class
         → d'.sig.interest ≡ Some name → set.contains (must_of p content.holder.class) name.0 ≡ true → IsNotedBy caller.locals t.action (method_at p named) w name.0
-        → set.is_subset (promised_on f d') y.called ≡ true
-    some_method n named_at o x y w f there' now heavy on owner content m d' name fin at' class interest must noted =
+        → is_unmet y ≡ true → set.is_subset (promised_on f d') y.called ≡ true
+    some_method n named_at o x y w f there' now heavy on owner content m d' name fin at' class interest must noted unmet =
         promise_is_kept p ac forms' h fr caller rest agrees.standing.0 standing'.0 old aged covered i s q here is back.index t back.here back.row named n back.calls named_at hold.dispatched.0 agrees.classes o x y w f there'
         (ap (is_heavy_class p) (sym on.class) ∙ heavy) (owned_is_finished o x w f there' owner) on owner content m d' name at' class interest must (subst (λ (z : Option Method). IsNotedBy caller.locals t.action z w name.0) named_at noted)
+        (content_is_answered p ac (fr ∷ caller ∷ rest) h links agrees.ends hold.contents agrees.answered o x w f there' owner (unmet_then x y on unmet))
 
     keeps : (o : ℕ) (x y : Object) (w : ℕ) (f : FieldId) → object_at h o ≡ Some x → object_at reset o ≡ Some y → is_heavy_class p y.class ≡ true → GoesOn x y → x.owner ≡ owners.Field w f
         → (content : IsContent p (fr ∷ caller ∷ rest) h o x w f) → (m : MethodId) (d' : Method) (name : NameId) → content.holder.finished ≡ true → method_at p m ≡ Some d' → d'.class ≡ content.holder.class
         → d'.sig.interest ≡ Some name → set.contains (must_of p content.holder.class) name.0 ≡ true → IsNotedBy caller.locals t.action (method_at p named) w name.0
-        → set.is_subset (promised_on f d') y.called ≡ true
+        → is_unmet y ≡ true → set.is_subset (promised_on f d') y.called ≡ true
     keeps = go (method_at p named) refl
       where
         go : (z : Option Method) → method_at p named ≡ z → (o : ℕ) (x y : Object) (w : ℕ) (f : FieldId) → object_at h o ≡ Some x → object_at reset o ≡ Some y → is_heavy_class p y.class ≡ true → GoesOn x y → x.owner ≡ owners.Field w f
             → (content : IsContent p (fr ∷ caller ∷ rest) h o x w f) → (m : MethodId) (d' : Method) (name : NameId) → content.holder.finished ≡ true → method_at p m ≡ Some d' → d'.class ≡ content.holder.class
             → d'.sig.interest ≡ Some name → set.contains (must_of p content.holder.class) name.0 ≡ true → IsNotedBy caller.locals t.action (method_at p named) w name.0
-            → set.is_subset (promised_on f d') y.called ≡ true
+            → is_unmet y ≡ true → set.is_subset (promised_on f d') y.called ≡ true
         go None none' o x y w f there' now heavy on owner content m d' name fin at' class interest must noted =
             absurd (let never : None ≡ Some noted.name = sym (ap interest_in none') ∙ noted.interest in cc)
         go (Some n) named_at o x y w f there' now heavy on owner content m d' name fin at' class interest must noted =
@@ -537,7 +539,7 @@ module _ (p : Program) (ac : Accept p) (forms' : HasPlainForms p) (c d : Config)
                     on : (u : Object) × (object_at reset o ≡ Some u) × GoesOn z u → (x : Object) × IsRootBefore o x
                     on (u, now', next) =
                         let same' : GoesOn z y = subst (GoesOn z) (let both : Some u ≡ Some y = sym now' ∙ at in (let one : u ≡ y = cc in one)) next in
-                        (z, (ap (object_at h) (sym was) ∙ there', ap (is_heavy_class p) (sym same'.class) ∙ heavy, bore_before p h reset (λ u ready holds. holders_go p h reset _ goes u holds) o z y (ap (object_at h) (sym was) ∙ there') (λ done. (same', goes.library o z y (ap (object_at h) (sym was) ∙ there') at)) owes, ap (root_of h) held_by_parameter ∙ ap Some was))
+                        (z, (ap (object_at h) (sym was) ∙ there', ap (is_heavy_class p) (sym same'.class) ∙ heavy, bore_before p h reset (λ u ready holds. inl (holders_go p h reset _ goes u holds)) o z y (ap (object_at h) (sym was) ∙ there') (λ done. (same', goes.library o z y (ap (object_at h) (sym was) ∙ there') at)) owes, ap (root_of h) held_by_parameter ∙ ap Some was))
 
         -- the field that holds it
         abbrev IsKeptIn : ℕ → FieldId → Field → Type 0
@@ -685,13 +687,37 @@ module _ (p : Program) (ac : Accept p) (forms' : HasPlainForms p) (c d : Config)
     abbrev gone_heap : HeapContents
     gone_heap = frame_gone p position fr.locals.this (method_at p fr.method) v e h
 
+    -- a `new` runs the named constructor
+    runs_named : is_new waits.step.action ≡ true → fr.method ≡ named
+    runs_named new = go waits.step.action new waits.itself
+      where
+        go : (a : Action) → is_new a ≡ true → RunsItself a waits.named fr.method → fr.method ≡ named
+        go actions.Skip new' itself = absurd (true≢false (sym new'))
+        go (actions.New m d n) new' itself = itself ∙ sym named_one
+        go a new' itself = absurd (true≢false (sym new'))
+
     -- the holders of what fields own are linked to none
     holders : HoldersAreUnlinked (is_heavy_class p) h
     holders = contents_have_holders p ac (fr ∷ caller ∷ rest) h hold.contents
 
+    -- no field of an alias that the `new` makes owns an object with an obligation
+    alias_holds_none : AliasHoldsNone p ac forms' h links fr caller rest standing'.0 sight hold.dispatched.0 making e v t named back agrees.ends made_after' caller_in hold.owning holders
+    alias_holds_none k w z f at heavy owner new alias self =
+        made_by_none p w content.field.class (caller ∷ rest) (hold.fresh.0 waits.index waits.step w waits.here (made_new new) this)
+        (sym (ap (λ (b : Bool). b || is_made_in p w content.field.class (caller ∷ rest)) (alias_makes_none p w fr w content.field.class its_alias)) ∙ content.made (making waits.index waits.step w content.holder waits.here (made_new new) this content.at))
+      where
+        content : IsContent p (fr ∷ caller ∷ rest) h k z w f
+        content = hold.contents k z w f at (or_right (is_unmet z) (is_heavy_class p z.class) heavy) owner
+
+        this : fr.locals.this ≡ values.Object w
+        this = receiver_object w fr.locals.this self
+
+        its_alias : is_alias (method_at p fr.method) ≡ true
+        its_alias = ap (λ (u : MethodId). is_alias (method_at p u)) (runs_named (made_new new)) ∙ ap is_some (sym (plain_alias_position (method_at p named))) ∙ alias
+
     renews : Renews p (is_reached (returned_called p caller.locals t.action (method_at p named) gone_heap) (returned_roots p caller.locals t.action (method_at p named) gone_heap)) heap (lose (held_by (after ∷ rest)) whole)
     renews = reset_renews p (returned_called p caller.locals t.action (method_at p named) gone_heap) (returned_roots p caller.locals t.action (method_at p named) gone_heap) heap whole (reset_of p ac forms' h links fr caller rest standing'.0 sight hold.dispatched.0 making e v t named back agrees.ends made_after' caller_in hold.owning) (held_by (after ∷ rest))
-        (reached_rises p ac forms' h links fr caller rest standing'.0 sight hold.dispatched.0 making e v t named back agrees.ends made_after' caller_in hold.owning holders) (λ w f owning. same_fields p ac forms' h links fr caller rest standing'.0 sight hold.dispatched.0 making e v t named back agrees.ends made_after' caller_in hold.owning w f owning)
+        (reached_rises p ac forms' h links fr caller rest standing'.0 sight hold.dispatched.0 making e v t named back agrees.ends made_after' caller_in hold.owning holders alias_holds_none) (λ w f owning. same_fields p ac forms' h links fr caller rest standing'.0 sight hold.dispatched.0 making e v t named back agrees.ends made_after' caller_in hold.owning w f owning)
 
     returned_hold : (pos : Pos) → Done (returned p c fr caller rest pos q e named t)
     returned_hold pos =

@@ -30,11 +30,12 @@ use Rattle.covering_laws.specs.LedgerRunsSteps.{began, end, library_went, main_e
 use Rattle.covering_laws.specs.Agreement.{Agree, Agrees}
 use Rattle.covering_laws.specs.PlainForms.{HasPlainForms}
 use Rattle.covering_laws.specs.Heaps.{HasEarlierLinks}
-use Rattle.covering_laws.specs.Frames.{HaveTargets}
+use Rattle.covering_laws.specs.Frames.{HaveTargets, KeepsTargets}
+use Rattle.covering_laws.specs.Linking.{LinkedAreAliases}
 use Rattle.covering_laws.specs.Nexts.{IsNext}
 use Rattle.covering_laws.proofs.Cases.{next_is}
 use Rattle.covering_laws.proofs.Returns.{back_is}
-use Rattle.covering_laws.specs.FieldContents.{FieldsHold, IsBeingMade, is_made_in}
+use Rattle.covering_laws.specs.FieldContents.{FieldsHold, FieldsOwn, IsBeingMade, is_made_in}
 use Rattle.covering_laws.specs.PlaceFacts.{AreCovered, IsCovered, IsOld, gives_none, renews_none}
 use Rattle.covering_laws.specs.Ranges.{AreInRange, FieldsInRange}
 use Rattle.content_laws.proofs.ContentFrames.{begun_method}
@@ -44,12 +45,13 @@ use Rattle.content_laws.proofs.LinkSteps.{leads_go_on}
 use Rattle.content_laws.proofs.Promised.{promises_its_own}
 use Rattle.content_laws.proofs.Steps.{LocalsIn}
 use Rattle.content_laws.specs.Going.{Goes, NoName}
+use Rattle.content_laws.specs.Filled.{TopStoresReadily}
 use Rattle.content_laws.specs.Exits.{EndsByClass, TopEndsByClass}
 use Rattle.covering_laws.specs.Arguments.{HaveArguments}
 use Rattle.content_laws.proofs.Returns.{back_hold}
 use Rattle.covering_laws.specs.Sight.{AllActInSight}
 use Rattle.content_laws.proofs.Steps.{owning_on}
-use Rattle.content_laws.proofs.TopSteps.{began_hold, inner_step, library_creates, library_hold}
+use Rattle.content_laws.proofs.TopSteps.{began_hold, inner_step, library_creates, library_hold, stores_readily}
 
 module _ (p : Program) (ac : Accept p) (c : Config) (fr : Frame) (agrees : Agrees p (fr ∷ []) c.heap c.entries) (hold : FieldsHold p (fr ∷ []) c.heap) where
   abbrev h : HeapContents
@@ -74,7 +76,7 @@ module _ (p : Program) (ac : Accept p) (c : Config) (fr : Frame) (agrees : Agree
       no_constructor w c' made' = true≢false (sym made' ∙ rw agrees.stacked.1 refl)
 
 module _ (p : Program) (ac : Accept p) (forms' : HasPlainForms p) (c d : Config)
-    (making : (fr caller : Frame) (rest : List Frame) → c.frames ≡ fr ∷ caller ∷ rest → IsBeingMade p c.heap fr caller) (sight : AllActInSight p c.heap c.frames) (now : HasEarlierLinks d.heap) where
+    (making : (fr caller : Frame) (rest : List Frame) → c.frames ≡ fr ∷ caller ∷ rest → IsBeingMade p c.heap fr caller) (sight : AllActInSight p c.heap c.frames) (owned : FieldsOwn p c.heap) (aliases : LinkedAreAliases p c.heap) (now : HasEarlierLinks d.heap) where
   links_then : (x : Config) → went x ≡ went d → HasEarlierLinks x.heap
   links_then x is = subst (λ (y : Config). HasEarlierLinks y.heap) (let same : x ≡ d = cc in sym same) now
 
@@ -93,30 +95,39 @@ module _ (p : Program) (ac : Accept p) (forms' : HasPlainForms p) (c d : Config)
       same
 
   moved_hold : (fr : Frame) (frs : List Frame) (agrees : Agrees p (fr ∷ frs) c.heap c.entries) (old : ℕ → Bool) (aged : IsOld p c.heap frs fr old) (covered : IsCovered p c.heap gives_none renews_none old frs fr) (in' : LocalsIn c.heap (fr ∷ frs)) (ranges : FieldsInRange c.heap)
-      (hold : FieldsHold p (fr ∷ frs) c.heap) → HaveArguments p (fr ∷ frs) → EndsByClass p c.heap fr → c.frames ≡ fr ∷ frs → (mv : Move) → IsNext p c.heap c.arrays fr.method fr.locals (frame_steps p fr) mv → moved p c fr frs mv ≡ went d
+      (hold : FieldsHold p (fr ∷ frs) c.heap) → KeepsTargets p fr → HaveArguments p (fr ∷ frs) → EndsByClass p c.heap fr → c.frames ≡ fr ∷ frs → (mv : Move) → IsNext p c.heap c.arrays fr.method fr.locals (frame_steps p fr) mv → moved p c fr frs mv ≡ went d
       → FieldsHold p d.frames d.heap
-  moved_hold fr frs agrees old aged covered in' ranges hold given exits frames (Inner e s) next same =
-      carried (within p c fr frs e s) same (inner_step p ac forms' c fr frs agrees old covered in' ranges hold (subst (λ (gs : List Frame). AllActInSight p c.heap gs) frames sight).0 e s next.0 next.1 next.2 (links_then (within p c fr frs e s) same))
-  moved_hold fr frs agrees old aged covered in' ranges hold given exits frames (Start named runs a pos) next same =
+  moved_hold fr frs agrees old aged covered in' ranges hold targets given exits frames (Inner e s) next same =
+      carried (within p c fr frs e s) same (inner_step p ac forms' c fr frs agrees old covered in' ranges hold (subst (λ (gs : List Frame). AllActInSight p c.heap gs) frames sight).0 targets owned aliases e s next.0 next.1 next.2 (links_then (within p c fr frs e s) same))
+  moved_hold fr frs agrees old aged covered in' ranges hold targets given exits frames (Start named runs a pos) next same =
       carried (began p c fr frs named runs a pos) same (began_hold p ac forms' c fr frs agrees old covered in' ranges hold named runs a pos next (links_then (began p c fr frs named runs a pos) same))
-  moved_hold fr frs agrees old aged covered in' ranges hold given exits frames (Library named m x s) next same =
+  moved_hold fr frs agrees old aged covered in' ranges hold targets given exits frames (Library named m x s) next same =
       carried (library_went p c fr frs named m x s) same (library_hold p ac forms' c fr frs agrees old covered in' ranges hold named m x s next (library_creates p ac forms' c fr frs agrees old covered in' ranges hold (subst (λ (gs : List Frame). AllActInSight p c.heap gs) frames sight).0 named m x s next) (links_then (library_went p c fr frs named m x s) same))
-  moved_hold fr frs agrees old aged covered in' ranges hold given exits frames (End pos q) next same = ended_hold fr frs agrees old aged covered in' ranges hold given exits frames pos q next.0 next.1 next.2 next.3 same
-  moved_hold fr frs agrees old aged covered in' ranges hold given exits frames (Stray e pos) next same = absurd (let never : stray e pos ≡ went d = same in cc)
-  moved_hold fr frs agrees old aged covered in' ranges hold given exits frames Rest next same = subst (λ (x : Config). FieldsHold p x.frames x.heap) (let one : c ≡ d = cc in one) (subst (λ (gs : List Frame). FieldsHold p gs c.heap) (sym frames) hold)
+  moved_hold fr frs agrees old aged covered in' ranges hold targets given exits frames (End pos q) next same = ended_hold fr frs agrees old aged covered in' ranges hold given exits frames pos q next.0 next.1 next.2 next.3 same
+  moved_hold fr frs agrees old aged covered in' ranges hold targets given exits frames (Stray e pos) next same = absurd (let never : stray e pos ≡ went d = same in cc)
+  moved_hold fr frs agrees old aged covered in' ranges hold targets given exits frames Rest next same = subst (λ (x : Config). FieldsHold p x.frames x.heap) (let one : c ≡ d = cc in one) (subst (λ (gs : List Frame). FieldsHold p gs c.heap) (sym frames) hold)
 
   by_frames : (frs : List Frame) → c.frames ≡ frs → Agrees p frs c.heap c.entries → HaveTargets p frs → LocalsIn c.heap frs → FieldsInRange c.heap → AreCovered p c.heap frs → FieldsHold p frs c.heap → HaveArguments p frs → TopEndsByClass p c.heap frs
       → moved_by p c frs (top_move p c frs) ≡ went d → FieldsHold p d.frames d.heap
   by_frames [] frames agrees targets in' ranges covered hold given exits same = absurd (let never : ended c.ended ≡ went d = same in cc)
   by_frames (fr ∷ frs) frames agrees targets in' ranges covered hold given exits same =
-      moved_hold fr frs agrees covered.0 covered.1 covered.2 in' ranges hold given exits frames (top_move p c (fr ∷ frs)) (next_is p ac forms' c.heap c.arrays (next_choice c.choices c.used) fr agrees.standing.0 targets.0 agrees.classes) same
+      moved_hold fr frs agrees covered.0 covered.1 covered.2 in' ranges hold targets.0 given exits frames (top_move p c (fr ∷ frs)) (next_is p ac forms' c.heap c.arrays (next_choice c.choices c.used) fr agrees.standing.0 targets.0 agrees.classes) same
 
-pub fields_hold_step : (p : Program) → Accept p → HasPlainForms p → (c d : Config) → Agree p c → HaveTargets p c.frames → AreInRange c → AreCovered p c.heap c.frames → FieldsHold p c.frames c.heap
+pub fields_hold_step : (p : Program) → Accept p → HasPlainForms p → (c d : Config) → Agree p c → HaveTargets p c.frames → AreInRange c → AreCovered p c.heap c.frames → FieldsHold p c.frames c.heap → FieldsOwn p c.heap → LinkedAreAliases p c.heap
     → ((fr caller : Frame) (rest : List Frame) → c.frames ≡ fr ∷ caller ∷ rest → IsBeingMade p c.heap fr caller) → AllActInSight p c.heap c.frames → HasEarlierLinks d.heap → HaveArguments p c.frames → TopEndsByClass p c.heap c.frames → step p c ≡ went d
     → FieldsHold p d.frames d.heap
 unfolding step
-fields_hold_step p ac forms' c d agrees targets in' covered hold making sight now given exits same =
-    by_frames p ac forms' c d making sight now c.frames refl agrees targets in'.frames in'.fields covered hold given exits same
+fields_hold_step p ac forms' c d agrees targets in' covered hold owned aliases making sight now given exits same =
+    by_frames p ac forms' c d making sight owned aliases now c.frames refl agrees targets in'.frames in'.fields covered hold given exits same
+
+-- where the top frame stores into an owning field of `this`, it runs a constructor, or `this` is finished
+pub top_stores_readily : (p : Program) → Accept p → HasPlainForms p → (c : Config) → Agree p c → HaveTargets p c.frames → AreInRange c → AreCovered p c.heap c.frames → FieldsHold p c.frames c.heap → FieldsOwn p c.heap → LinkedAreAliases p c.heap
+    → AllActInSight p c.heap c.frames → TopStoresReadily p c.heap c.frames
+top_stores_readily p ac forms c agrees targets in' covered hold owned aliases sight = by c.frames agrees targets in'.frames covered hold sight
+  where
+    by : (frs : List Frame) → Agrees p frs c.heap c.entries → HaveTargets p frs → LocalsIn c.heap frs → AreCovered p c.heap frs → FieldsHold p frs c.heap → AllActInSight p c.heap frs → TopStoresReadily p c.heap frs
+    by [] agrees' targets' ranges covered' hold' sight' = tt
+    by (fr ∷ frs) agrees' targets' ranges covered' hold' sight' = stores_readily p ac forms c fr frs agrees' covered'.0 covered'.2 ranges in'.fields hold' sight'.0 targets'.0 owned aliases
 
 pub fields_hold_at_start : (p : Program) (main : MethodId) (m : Method) (choices : Choices) → method_at p main ≡ Some m → constructs (Some m) ≡ false
     → FieldsHold p (start_config p main choices).frames (start_config p main choices).heap

@@ -18,17 +18,17 @@ use Rattle.ledger_state.specs.Heaps.{object_at}
 use Rattle.ledger_state.specs.declared.entry.Owner.TheVariants as owners
 use Rattle.ledger_state.specs.declared.object.Object.{Object}
 use Rattle.ledger_state.specs.declared.value.Value.{Value}
-use Rattle.ledger_obligations.specs.Obligations.{lose}
+use Rattle.ledger_obligations.specs.Obligations.{is_unmet, lose}
 use Rattle.covering_laws.specs.Configuration.{Frame}
 use Rattle.covering_laws.specs.Frames.{frame_after}
 use Rattle.covering_laws.specs.Heaps.{GoesOn, HasEarlierLinks}
 use Rattle.covering_laws.specs.FieldContents.{AreDispatched, AreFresh, AreNew, AreUnfinished, DeclaresOwning, FieldsHold, IsContent, OwningFieldsOwn, is_made_in, promised_on}
 use Rattle.covering_laws.specs.Renewable.{IsFollowed}
 use Rattle.covering_laws.specs.Ranges.{IsInRange, LocalsInRange}
-use Rattle.content_laws.proofs.Goes.{contents_go_on, dispatched_on, goes_forth, lose_goes, unfinished_on, holders_go}
+use Rattle.content_laws.proofs.Goes.{contents_go_on, dispatched_on, goes_forth, lose_goes, unfinished_on}
 use Rattle.content_laws.proofs.Leading.{goes_hold}
 use Rattle.content_laws.proofs.Leaves.{lost_from}
-use Rattle.content_laws.proofs.LinkSteps.{leads_go_on, leads_stay}
+use Rattle.content_laws.proofs.LinkSteps.{bore, leads_go_on, leads_stay}
 use Rattle.content_laws.specs.Going.{Goes, NoName, PromisesItsOwn}
 
 -- ---- the top frame takes a step of its own, or begins a frame: the frames that were there stay
@@ -84,7 +84,7 @@ owning_on p h k noted goes own o y w f at owner =
 pub stepped : (p : Program) → PromisesItsOwn p → (h k : HeapContents) (noted : ℕ → ℕ → Type 0) → HasEarlierLinks h → HasEarlierLinks k → (goes : Goes p h k noted) (fr after : Frame) (frs : List Frame) → IsSameFrame fr after → LocalsIn h (fr ∷ frs)
     → ((o : ℕ) (x y : Object) (w : ℕ) (f : FieldId) → object_at h o ≡ Some x → object_at k o ≡ Some y → is_heavy_class p y.class ≡ true → GoesOn x y → x.owner ≡ owners.Field w f → (content : IsContent p (fr ∷ frs) h o x w f)
     → (m : MethodId) (d : Method) (n : NameId) → content.holder.finished ≡ true → method_at p m ≡ Some d → d.class ≡ content.holder.class → d.sig.interest ≡ Some n
-    → set.contains (must_of p content.holder.class) n.0 ≡ true → noted w n.0 → set.is_subset (promised_on f d) y.called ≡ true)
+    → set.contains (must_of p content.holder.class) n.0 ≡ true → noted w n.0 → is_unmet y ≡ true → set.is_subset (promised_on f d) y.called ≡ true)
     → FieldsHold p (fr ∷ frs) h → FieldsHold p (after ∷ frs) k
 stepped p own h k noted links now goes fr after frs same in' keeps hold = record {
   contents = contents_go_on p h k noted goes own hold.leads (fr ∷ frs) (after ∷ frs) hold.contents keeps
@@ -107,7 +107,7 @@ lost p own k links held fr frs in' this hold = record {
   contents = contents_go_on p k (lose held k) NoName goes own hold.leads (fr ∷ frs) (fr ∷ frs) hold.contents (λ o x y w f at now unmet on owner content m d n fin there' class interest must never. absurd never)
       (λ o x y w f content at owner un' made'. made');
   owning = owning_on p k (lose held k) NoName goes hold.owning;
-  leads = leads_stay p k (lose held k) (goes_forth p k (lose held k) NoName goes) (goes_hold p k (lose held k) NoName goes) links goes.library (λ w ready holds. holders_go p k (lose held k) NoName goes w holds) hold.leads (λ n y at. (let x = lost_from held k n y at in (x.0, x.1)));
+  leads = leads_stay p k (lose held k) (goes_forth p k (lose held k) NoName goes) (goes_hold p k (lose held k) NoName goes) links (bore p k (lose held k) NoName goes links hold.leads) hold.leads (λ n y at. (let x = lost_from held k n y at in (x.0, x.1)));
   new = hold.new;
   fresh = hold.fresh;
   unfinished = unfinished_on p k (lose held k) (goes_forth p k (lose held k) NoName goes) (fr ∷ frs) (All-cons (λ (x : Frame). IsInRange k x.locals.this) fr frs this (this_in k frs in')) hold.unfinished;

@@ -85,7 +85,7 @@ module _ (p : Program) (h k : HeapContents) (links : HasEarlierLinks h) (forward
       leads_on n o y'.0 (led n o x'.0 y'.0 x'.1 (sym (text_roots n x'.0 x'.1) ∙ root') y'.1 heavy' (might_owe y'.0 y y'.2 heavy' owes)) y'.1 heavy'
     where
       might_owe : (u v : Object) → IsLeftByText p u v → is_heavy_class p u.class ≡ true → OwesOrHolds p k o v → OwesOrHolds p h o u
-      might_owe u v (inl same) heavy' owes' = bears_before p h k text_holders o u v (ap (λ (z : Object). z.finished) same) (ap (λ (z : Object). z.owner) same) owes'
+      might_owe u v (inl same) heavy' owes' = bears_before p h k text_holders o u v (ap (λ (z : Object). z.class) same) (ap (λ (z : Object). z.finished) same) (ap (λ (z : Object). z.owner) same) owes'
       might_owe u v (inr gone) heavy' owes' = absurd (true≢false (sym heavy' ∙ gone.1))
 
   -- ---- contents
@@ -140,7 +140,7 @@ module _ (p : Program) (h k : HeapContents) (links : HasEarlierLinks h) (forward
             held_on : (x : Object) (content : IsContent p frs h o x w f) → has_obligation p x ≡ true → object_at h o ≡ Some x → root_of k (field_value p k w f) ≡ Some o
             held_on x content owed before = elim (fields w f (ap is_owning_field content.declared ∙ content.owning)) [
               | inl same ↦ ap (root_of k) same ∙ root_stays h k text_roots (field_value p h w f) o x content.held before
-              | inr text ↦ absurd (true≢false (sym (obligation_is_heavy p x owed content.own) ∙ light_root p h (field_value p h w f) o x text.0 content.held before))
+              | inr text ↦ absurd (true≢false (sym (obligation_is_heavy p x owed (λ unmet. content.own)) ∙ light_root p h (field_value p h w f) o x text.0 content.held before))
             ]
 
   text_owning : OwningFieldsOwn p h → OwningFieldsOwn p k

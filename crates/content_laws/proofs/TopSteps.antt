@@ -3,7 +3,7 @@ use Rattle.covering_laws.proofs.ClassArguments.{target_is_instance}
 use Rattle.covering_laws.proofs.ContentHolders.{contents_have_holders}
 use Rattle.covering_laws.proofs.LibraryTargets.{tops}
 use Rattle.covering_laws.specs.Holders.{HoldersAreUnlinked}
-use Rattle.std.proofs.lemmas.Bool.{or_left}
+use Rattle.std.proofs.lemmas.Bool.{or_left, and_parts}
 use Rattle.std.specs.Prelude.{◌<◌, ◌≤◌, ◌||◌, ◌&&◌, not}
 use Rattle.std.specs.FinSet as set
 use Rattle.std.proofs.Common.{Bool, List, None, Option, Some, ap, arith, false, if◌then◌else◌, inl, inr, length, refl, slice_get, subst, sym, true, true≢false, ℕ, ◌+◌, ◌∙◌, ◌∷◌, ◌≡◌, ◌⊎◌}
@@ -18,12 +18,15 @@ use Rattle.program_model.specs.declared.program.Field.{Field}
 use Rattle.program_model.specs.declared.program.Method.{Method}
 use Rattle.program_model.specs.declared.program.Program.{Program}
 use Rattle.program_model.specs.Lookups.{field_at, method_at}
-use Rattle.must_call_sets.specs.Bodies.{is_field_in, reset_in}
+use Rattle.must_call_sets.specs.Bodies.{is_field_in, reset_in, constructs, is_alias_constructor}
 use Rattle.must_call_sets.specs.MustCallSets.{is_heavy_class, must_of, must_of_type}
 use Rattle.java_control.specs.Control.{Step}
 use Rattle.java_control.specs.Owned.{is_owning, is_owning_field}
 use Rattle.java_control.specs.declared.action.Action.{Action}
 use Rattle.java_control.specs.declared.action.Action.TheVariants as actions
+use Rattle.java_control.specs.declared.fact.Mode.{Mode}
+use Rattle.java_control.specs.declared.fact.Mode.TheVariants as modes
+use Rattle.java_control.specs.declared.place.Place.TheVariants as places
 use Rattle.covering_laws.specs.Accept.{Accept}
 use Rattle.covering_laws.specs.Paths.{move_of}
 use Rattle.covering_laws.specs.Outcomes.{IsPlainRow}
@@ -37,13 +40,13 @@ use Rattle.ledger_state.specs.declared.entry.Owner.TheVariants as owners
 use Rattle.ledger_state.specs.declared.object.Object.{Object}
 use Rattle.ledger_state.specs.declared.value.Value.{Value}
 use Rattle.ledger_state.specs.declared.value.Value.TheVariants as values
-use Rattle.ledger_obligations.specs.Obligations.{is_library_owner, is_unmet, lose, may_move, stored_owning}
+use Rattle.ledger_obligations.specs.Obligations.{is_library_owner, is_unmet, lose, may_move, stored_owning, moved_in, type_of_field}
 use Rattle.covering_laws.specs.Operations.{made_value, next_choice}
 use Rattle.ledger_steps.specs.LedgerCallsCalls.{argument_values, begun, interest_in, object_by, reset_target}
 use Rattle.ledger_steps.specs.Conducts.{arguments_shared, conduct_value, positions}
 use Rattle.covering_laws.specs.Configuration.{Config, Frame, held_by}
 use Rattle.covering_laws.specs.Choosing.{frame_steps}
-use Rattle.covering_laws.specs.Frames.{frame_after}
+use Rattle.covering_laws.specs.Frames.{frame_after, KeepsTargets}
 use Rattle.ledger_steps.specs.CallSteps.{began_heap, library_heap, self_begun}
 use Rattle.ledger_steps.specs.InnerSteps.{heap_stored, is_bound, store_into, store_of, store_unless, thrown_heap, thrown_value}
 use Rattle.ledger_steps.specs.declared.store.Store.{Store}
@@ -51,22 +54,33 @@ use Rattle.covering_laws.specs.LedgerRunsSteps.{began, library_went, within}
 use Rattle.covering_laws.specs.Heaps.{Evolves, HasEarlierLinks}
 use Rattle.covering_laws.specs.Agreement.{Agrees, Stands, is_answering}
 use Rattle.covering_laws.specs.PlainForms.{HasPlainForms}
-use Rattle.covering_laws.proofs.StoredObjects.{stored_links}
 use Rattle.covering_laws.specs.Nexts.{IsInnerStep, IsLibraryMove, IsStartMove}
 use Rattle.covering_laws.proofs.NameCounts.{accepted_names}
 use Rattle.covering_laws.proofs.Ready.{step_there}
 use Rattle.covering_laws.proofs.Stacks.{tracked_bounded}
-use Rattle.covering_laws.specs.FieldContents.{FieldsHold, is_made_in, makes_holder}
-use Rattle.covering_laws.specs.PlaceFacts.{IsCovered, gives_none, renews_none}
+use Rattle.covering_laws.specs.FieldContents.{FieldsHold, is_made_in, makes_holder, FieldsOwn}
+use Rattle.covering_laws.specs.PlaceFacts.{IsCovered, gives_none, renews_none, Covers, IsKeyed, is_heavy_in, owned as is_owned_key, unowned}
+use Rattle.covering_laws.specs.Renewing.{lends_this}
 use Rattle.covering_laws.specs.Ranges.{FieldsInRange, LocalsInRange}
 use Rattle.covering_laws.proofs.Configs.{frames_stay}
 use Rattle.covering_laws.proofs.Steps.{IsFuller, owning_fuller}
 use Rattle.covering_laws.proofs.RangeValues.{value_stays}
+use Rattle.covering_laws.proofs.StoringThis.{IsItsField, IsReopened, its_class, its_field, storing_this}
+use Rattle.covering_laws.proofs.UnlinkedThis.{unlinked_this}
+use Rattle.covering_laws.proofs.StoreSteps.{temp_is_taken}
+use Rattle.covering_laws.proofs.Storing.{small}
+use Rattle.covering_laws.proofs.HeavyFields.{own_claims}
+use Rattle.covering_laws.proofs.Unmet.{may_lies}
+use Rattle.covering_laws.specs.Stores.{IsMovedIn}
+use Rattle.covering_laws.specs.Linking.{LinkedAreAliases}
+use Rattle.program_model.specs.SuperTests.{is_under}
+use Rattle.covering_laws.specs.Facts.{has, is_held, is_own}
+use Rattle.content_laws.proofs.Ends.{heavy_field_by}
 use Rattle.content_laws.proofs.ContentFrames.{callee_dispatched, callee_fresh, callee_new, callee_unfinished}
-use Rattle.content_laws.proofs.Goes.{contents_go_on, dispatched_on, goes_forth, goes_further, lose_goes, self_goes, there, unfinished_on}
+use Rattle.content_laws.proofs.Goes.{contents_go_on, dispatched_on, goes_forth, goes_further, lose_goes, self_goes, there, unfinished_on, not_the_librarys_owes}
 use Rattle.content_laws.proofs.Heaps.{call_stores_nothing, inner_goes, library_goes_by, start_goes}
 use Rattle.content_laws.proofs.TextContents.{text_holds}
-use Rattle.content_laws.proofs.Renewals.{CreatesAnew, linked_before, renewed_hold}
+use Rattle.content_laws.proofs.Renewals.{CreatesAnew, linked_before, renewed_hold, Renews, dispatched_renewed, unfinished_renewed}
 use Rattle.content_laws.proofs.LibraryResets.{library_renews, position_none, read_resets_nothing, same_interest}
 use Rattle.covering_laws.proofs.Renewed.{says_nothing, without_reset}
 use Rattle.covering_laws.specs.HeapAnew.{is_anew}
@@ -78,8 +92,9 @@ use Rattle.content_laws.proofs.Leaves.{lost_from}
 use Rattle.content_laws.proofs.LinkSteps.{leads_go_on}
 use Rattle.content_laws.proofs.Steps.{lost, owning_on, same_after, IsSameFrame, LocalsIn, same_dispatched, same_fresh, same_makes, same_new, same_unfinished, stepped, this_in}
 use Rattle.content_laws.proofs.LibraryNotes.{no_library_note}
-use Rattle.content_laws.proofs.ContentStores.{still, store_forth, stored_contents, store_owning, stored_leads}
+use Rattle.content_laws.proofs.ContentStores.{is_anew as is_anew_at, left_links, may_library, renews, store_forth, store_owning, stored_contents, stored_leads}
 use Rattle.content_laws.proofs.Promised.{promises_its_own}
+use Rattle.content_laws.specs.Filled.{StoresReadily}
 use Rattle.content_laws.specs.Going.{Goes, IsNotedBy, NoName, PromisesItsOwn}
 
 -- the name of the call is one of the table
@@ -100,6 +115,13 @@ library_stays p t x may is = go x.finished (sym (ap (λ (o : Owner). x.finished 
     go : (b : Bool) → (b && false && set.is_subset (must_of p x.class) (must_of_type p t)) ≡ true → ⊥
     go true same = true≢false (sym same)
     go false same = true≢false (sym same)
+
+own_mode : (m : Mode) → is_own m ≡ true → m ≡ modes.Own
+own_mode modes.Own is = refl
+own_mode modes.Alias is = absurd (true≢false (sym is))
+own_mode modes.Held is = absurd (true≢false (sym is))
+own_mode modes.Lent is = absurd (true≢false (sym is))
+own_mode modes.None is = absurd (true≢false (sym is))
 
 module _ (p : Program) (ac : Accept p) (forms' : HasPlainForms p) (c : Config) (fr : Frame) (frs : List Frame) (agrees : Agrees p (fr ∷ frs) c.heap c.entries) (old : ℕ → Bool) (covered : IsCovered p c.heap gives_none renews_none old frs fr)
     (in' : LocalsIn c.heap (fr ∷ frs)) (ranges : FieldsInRange c.heap) (hold : FieldsHold p (fr ∷ frs) c.heap) where
@@ -182,14 +204,19 @@ module _ (p : Program) (ac : Accept p) (forms' : HasPlainForms p) (c : Config) (
     where
       go : (w : Owner) → x.owner ≡ w → is_answering x.owner ≡ true → set.is_subset x.must (must_of p x.class) ≡ true
       go (owners.Frame j) is answers = tracked_bounded p h (fr ∷ frs) o x j (agrees.tracked o x j at unmet is)
-      go (owners.Field w f) is answers = (hold.contents o x w f at (or_left (is_unmet x) (is_heavy_class p x.class) unmet) is).own unmet
+      go (owners.Field w f) is answers = (hold.contents o x w f at (or_left (is_unmet x) (is_heavy_class p x.class) unmet) is).own
       go owners.Library is answers = absurd (library_stays p t x may is)
       go owners.Released is answers = absurd (true≢false (sym answers ∙ ap is_answering is))
       go owners.Lost is answers = absurd (true≢false (sym answers ∙ ap is_answering is))
       go owners.Unowned is answers = absurd (true≢false (sym answers ∙ ap is_answering is))
 
+  -- what owns something of a class with an obligation is linked to none
+  unlinked : HoldersAreUnlinked (is_heavy_class p) h
+  unlinked = contents_have_holders p ac (fr ∷ frs) h hold.contents
+
   -- a store into an owning field of `this`
-  module _ (sight : ActsInSight p h fr) (i : ℕ) (s : Step) (here : slice_get (frame_steps p fr) i ≡ Some s) (f : FieldId) (t : ℕ) (is : s.action ≡ actions.PutOwn f t) where
+  module _ (sight : ActsInSight p h fr) (targets : KeepsTargets p fr) (owned : FieldsOwn p h) (aliases : LinkedAreAliases p h) (i : ℕ) (s : Step) (here : slice_get (frame_steps p fr) i ≡ Some s) (f : FieldId) (t : ℕ)
+      (is : s.action ≡ actions.PutOwn f t) where
     abbrev v : Value
     v = thrown_value h None (made_value p h c.arrays c.statics (next_choice c.choices c.used) fr.locals s.action)
 
@@ -226,32 +253,81 @@ module _ (p : Program) (ac : Accept p) (forms' : HasPlainForms p) (c : Config) (
     abbrev tied : Bool
     tied = is_bound h (method_at p fr.method) fr.locals (temp_value fr.locals t)
 
-    store_held : (w : ℕ) → fr.locals.this ≡ values.Object w → IsHeld (stored_owning p h w f tied (temp_value fr.locals t))
-    store_held w this = (
-      (full.fields, full.count),
-      stored_links p h w f tied (temp_value fr.locals t) links (still p ac forms' h fr frs st links old covered hold i s here f t is w this self.0 self.1 agrees.standing.1 agrees.stacked bounded tied),
-      record {
-        contents = stored_contents p ac forms' h fr frs st links old covered hold i s here f t is w this self.0 self.1 agrees.standing.1 agrees.stacked bounded own after (same_makes p fr after frs same);
-        owning = store_owning p ac forms' h fr frs st links old covered hold i s here f t is w this self.0 self.1 agrees.standing.1 agrees.stacked bounded sight;
-        leads = stored_leads p ac forms' h fr frs st links old covered hold i s here f t is w this self.0 self.1 agrees.standing.1 agrees.stacked bounded;
-        new = same_new p fr after frs same hold.new;
-        fresh = same_fresh p fr after frs same hold.fresh;
-        unfinished = same_unfinished p fr after frs same (stored_owning p h w f tied (temp_value fr.locals t)) (unfinished_on p h (stored_owning p h w f tied (temp_value fr.locals t)) forth (fr ∷ frs) (this_in h (fr ∷ frs) in') hold.unfinished);
-        dispatched = same_dispatched p fr after frs same (stored_owning p h w f tied (temp_value fr.locals t)) (dispatched_on p h (stored_owning p h w f tied (temp_value fr.locals t)) forth fr frs below hold.dispatched);
-      },
-    )
-      where
-        same : IsSameFrame fr after
-        same = same_after p h fr s v
+    module _ (w : ℕ) (this : fr.locals.this ≡ values.Object w) where
+      self : (x : Object) × (object_at h w ≡ Some x)
+      self = there h w (top.this w (ap number_of this))
 
-        self : (x : Object) × (object_at h w ≡ Some x)
-        self = there h w (top.this w (ap number_of this))
+      under : (m : Method) → method_at p fr.method ≡ Some m → is_under p (self.0).class m.class ≡ true
+      under m at = sight.stands w self.0 m this self.1 at
 
-        forth : Evolves h (stored_owning p h w f tied (temp_value fr.locals t))
-        forth = store_forth p ac forms' h fr frs st links old covered hold i s here f t is w this self.0 self.1 agrees.standing.1 agrees.stacked bounded
+      storing : (((self.0).finished ≡ false) × (constructs (method_at p fr.method) ≡ true)) ⊎ IsReopened p h frs fr w self.0
+      storing = storing_this p ac forms' h links owned fr top st old frs targets covered hold.unfinished i s here f t is w this self.0 self.1 under (λ opens. unlinked_this p ac forms' h aliases fr st w self.0 self.1 under opens)
 
-        full : IsFuller h (stored_owning p h w f tied (temp_value fr.locals t))
-        full = owning_fuller p h w f tied (temp_value fr.locals t) (top.this w (ap number_of this)) (top.temps t) ranges
+      abbrev its : IsItsField p ac forms' h links owned fr top st old frs targets covered hold.unfinished i s here f t is w this self.0 self.1 under (λ opens. unlinked_this p ac forms' h aliases fr st w self.0 self.1 under opens)
+      its = its_field p ac forms' h links owned fr top st old frs targets covered hold.unfinished i s here f t is w this self.0 self.1 under (λ opens. unlinked_this p ac forms' h aliases fr st w self.0 self.1 under opens)
+
+      of_class : (field : Field) → field_at p f ≡ Some field → (self.0).class ≡ field.class
+      of_class field at =
+          its_class p ac forms' h links owned fr top st old frs targets covered hold.unfinished i s here f t is w this self.0 self.1 under (λ opens. unlinked_this p ac forms' h aliases fr st w self.0 self.1 under opens)
+          ∙ ap (λ (x : Field). x.class) (let both : Some its.field ≡ Some field = sym its.known ∙ at in (let one : its.field ≡ field = cc in one))
+
+      -- what the frame owns and stores has its obligation within that of its class; so has what the field owns
+      heavy_bounded : is_alias_constructor p st.number ≡ false → (o : ℕ) (x : Object) → object_at h o ≡ Some x → IsMovedIn p h f (temp_value fr.locals t) o x → is_heavy_class p x.class ≡ true
+          → set.is_subset x.must (must_of p x.class) ≡ true
+      heavy_bounded plain o x at moved heavy =
+          by (covered (places.Temp t) o x (small p ac forms' h old frs fr st covered i t s f here is).0 refl moved.root at heavy (inl (not_the_librarys_owes x (may_library p (type_of_field (field_at p f)) x moved.may))))
+        where
+          wide : is_heavy_in p (Some f) ≡ true
+          wide = heavy_field_by p f its.field its.known x.class heavy
+              (ap (λ (t' : VType). set.is_subset (must_of p x.class) (must_of_type p t')) (sym (ap type_of_field its.known)) ∙ may_lies p (type_of_field (field_at p f)) x moved.may)
+
+          of_cover : (c : Covers p h false false old frs fr o x) → has c.fact.places (places.Temp t) ≡ true → set.is_subset x.must (must_of p x.class) ≡ true
+          of_cover c in' = elim (temp_is_taken p ac forms' h old frs fr st covered i t s f here is o x w this c in' wide plain) [
+            | inl own ↦ (let parts = and_parts (is_heavy_class p c.origin.class) (is_own c.fact.mode) own in
+                let mode = own_mode c.fact.mode parts.1 in
+                (c.true' (own_claims p (method_at p fr.method) c.origin c.fact mode parts.0) refl (ap (λ (m : Mode). is_held m && lends_this p fr) mode)).bounded)
+            | inr held ↦ (hold.contents o x w f at (or_right (is_unmet x) (is_heavy_class p x.class) heavy) held).own
+          ]
+
+          by : IsKeyed p h false false old frs fr (places.Temp t) o x → set.is_subset x.must (must_of p x.class) ≡ true
+          by (is_owned_key c in' mine) = of_cover c in'
+          by (unowned u) = of_cover u.covers u.here
+
+      same : IsSameFrame fr after
+      same = same_after p h fr s v
+
+      abbrev plain : HeapContents
+      plain = put_field w f (temp_value fr.locals t) (moved_in p h w f tied (temp_value fr.locals t))
+
+      abbrev whole : HeapContents
+      whole = stored_owning p h w f tied (temp_value fr.locals t)
+
+      forth : Evolves h plain
+      forth = store_forth p ac forms' h fr frs st links old covered hold i s here f t is w this self.0 self.1 bounded owned unlinked of_class storing heavy_bounded
+
+      abbrev anew : ℕ → Bool
+      anew = is_anew_at p ac forms' h fr frs st links old covered hold i s here f t is w this self.0 self.1 bounded owned unlinked of_class storing heavy_bounded
+
+      turned : Renews p anew plain whole
+      turned = renews p ac forms' h fr frs st links old covered hold i s here f t is w this self.0 self.1 bounded owned unlinked of_class storing heavy_bounded
+
+      full : IsFuller h whole
+      full = owning_fuller p h w f tied (temp_value fr.locals t) (top.this w (ap number_of this)) (top.temps t) ranges
+
+      store_held : IsHeld whole
+      store_held = (
+        (full.fields, full.count),
+        left_links p ac forms' h fr frs st links old covered hold i s here f t is w this self.0 self.1 bounded owned unlinked of_class storing heavy_bounded,
+        record {
+          contents = stored_contents p ac forms' h fr frs st links old covered hold i s here f t is w this self.0 self.1 bounded owned unlinked of_class storing heavy_bounded own after (same_makes p fr after frs same);
+          owning = store_owning p ac forms' h fr frs st links old covered hold i s here f t is w this self.0 self.1 bounded owned unlinked of_class storing heavy_bounded sight;
+          leads = stored_leads p ac forms' h fr frs st links old covered hold i s here f t is w this self.0 self.1 bounded owned unlinked of_class storing heavy_bounded;
+          new = same_new p fr after frs same hold.new;
+          fresh = same_fresh p fr after frs same hold.fresh;
+          unfinished = same_unfinished p fr after frs same whole (unfinished_renewed p anew plain whole turned (fr ∷ frs) (unfinished_on p h plain forth (fr ∷ frs) (this_in h (fr ∷ frs) in') hold.unfinished));
+          dispatched = same_dispatched p fr after frs same whole (dispatched_renewed p anew plain whole turned (fr ∷ frs) (dispatched_on p h plain forth fr frs below hold.dispatched));
+        },
+      )
 
     by_this : (u : Value) → fr.locals.this ≡ u → IsHeld (Stored (number_of u))
     by_this values.Nothing this = no_store
@@ -266,13 +342,21 @@ module _ (p : Program) (ac : Accept p) (forms' : HasPlainForms p) (c : Config) (
         kept : IsHeld (Stored (number_of fr.locals.this))
         kept = by_this fr.locals.this refl
 
-  pub inner_step : ActsInSight p h fr → (e : Option ClassId) (s : Step) (i : ℕ) → slice_get (frame_steps p fr) i ≡ Some s → IsInnerStep p h c.arrays fr.method fr.locals e s → HasEarlierLinks (within p c fr frs e s).heap
+  -- where the frame stores into an owning field of `this`, it runs a constructor, or `this` is finished
+  pub stores_readily : ActsInSight p h fr → KeepsTargets p fr → FieldsOwn p h → LinkedAreAliases p h → StoresReadily p h fr
+  stores_readily sight targets owned aliases i s f d w here is this = elim (storing sight targets owned aliases i s here f d is w this) [
+    | inl makes ↦ inl makes.1
+    | inr opens ↦ inr (λ y at. (let x = self sight targets owned aliases i s here f d is w this in
+        ap (λ (u : Object). u.finished) (let both : Some y ≡ Some x.0 = sym at ∙ x.1 in (let one : y ≡ x.0 = cc in one)) ∙ opens.heavy.0))
+  ]
+
+  pub inner_step : ActsInSight p h fr → KeepsTargets p fr → FieldsOwn p h → LinkedAreAliases p h → (e : Option ClassId) (s : Step) (i : ℕ) → slice_get (frame_steps p fr) i ≡ Some s → IsInnerStep p h c.arrays fr.method fr.locals e s → HasEarlierLinks (within p c fr frs e s).heap
       → Done (within p c fr frs e s)
-  inner_step sight e s i here next now = elim next [
+  inner_step sight targets owned aliases e s i here next now = elim next [
     | inl plain ↦ row_hold sight.updates e i s here plain.row now
     | inr more ↦ elim more [
       | inl null ↦ inner_hold e i s here (nothing_stored e (call_stores_nothing fr.locals s.action null.row)) now
-      | inr store ↦ subst (λ (x : Option ClassId). Done (within p c fr frs x s)) (sym store.normal) (store_hold sight i s here store.field store.temp store.action)
+      | inr store ↦ subst (λ (x : Option ClassId). Done (within p c fr frs x s)) (sym store.normal) (store_hold sight targets owned aliases i s here store.field store.temp store.action)
     ]
   ]
 
@@ -319,9 +403,6 @@ module _ (p : Program) (ac : Accept p) (forms' : HasPlainForms p) (c : Config) (
   CreatesPlainly named m x s =
       (reset_target (positions fr.locals s.action (next_number h) x) (method_at p named) ≡ None)
       ⊎ CreatesAnew p fr.locals s.action (method_at p named) (method_at p m) x (length frs + 1) h (called_heap named m x s)
-
-  unlinked : HoldersAreUnlinked (is_heavy_class p) h
-  unlinked = contents_have_holders p ac (fr ∷ frs) h hold.contents
 
   -- what a step creates anew it creates plainly
   pub library_creates : ActsInSight p h fr → (named m : MethodId) (x : Conduct) (s : Step) → IsLibraryMove p h c.arrays fr.locals (frame_steps p fr) named m x s → CreatesPlainly named m x s

@@ -1,16 +1,20 @@
 -- Where an owning field of the object that a constructor makes holds an object, the constructor has stored it.
-use Rattle.std.specs.Prelude.{◌≡◌, ℕ, true, Some, List, [], ◌∷◌}
+use Rattle.std.specs.Prelude.{◌≡◌, ◌⊎◌, ℕ, true, Some, List, [], ◌∷◌, slice_get}
 use Rattle.program_model.specs.declared.kinds.BodyId.{BodyId}
 use Rattle.program_model.specs.declared.kinds.FieldId.{FieldId}
 use Rattle.program_model.specs.declared.program.Field.{Field}
 use Rattle.program_model.specs.declared.program.Program.{Program}
 use Rattle.program_model.specs.Lookups.{field_at, method_at}
 use Rattle.must_call_sets.specs.Bodies.{constructs, is_class_of}
+use Rattle.java_control.specs.Control.{Step}
+use Rattle.java_control.specs.declared.action.Action.TheVariants as actions
 use Rattle.ledger_state.specs.Contents.{HeapContents}
 use Rattle.ledger_state.specs.Fields.{field_value}
+use Rattle.ledger_state.specs.Heaps.{object_at}
+use Rattle.ledger_state.specs.declared.object.Object.{Object}
 use Rattle.ledger_state.specs.declared.value.Value.TheVariants as values
 use Rattle.covering_laws.specs.Configuration.{Frame}
-use Rattle.covering_laws.specs.Choosing.{body_id}
+use Rattle.covering_laws.specs.Choosing.{body_id, frame_steps}
 use Rattle.covering_laws.specs.Storing.{HasStored}
 
 -- The frame runs no constructor of the class that declares the owning field; or, where the field of `this` holds an object, a path through the body to the
@@ -22,3 +26,13 @@ IsFilled p h fr = (b : BodyId) (w c : ℕ) (f : FieldId) (x : Field) → body_id
 abbrev pub AreFilled : Program → HeapContents → List Frame → Type 0
 AreFilled p h [] = Unit {0}
 AreFilled p h (fr ∷ frs) = IsFilled p h fr × AreFilled p h frs
+
+-- where the frame stores into an owning field of `this`, it runs a constructor, or `this` is finished
+abbrev pub StoresReadily : Program → HeapContents → Frame → Type 0
+StoresReadily p h fr = (i : ℕ) (s : Step) (f : FieldId) (d w : ℕ) → slice_get (frame_steps p fr) i ≡ Some s → s.action ≡ actions.PutOwn f d → fr.locals.this ≡ values.Object w
+    → (constructs (method_at p fr.method) ≡ true) ⊎ ((y : Object) → object_at h w ≡ Some y → y.finished ≡ true)
+
+-- so does the top one of these frames
+abbrev pub TopStoresReadily : Program → HeapContents → List Frame → Type 0
+TopStoresReadily p h [] = Unit {0}
+TopStoresReadily p h (fr ∷ frs) = StoresReadily p h fr

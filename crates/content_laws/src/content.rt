@@ -15,10 +15,11 @@ ghost use Rattle.covering_laws.specs.LedgerRunsSteps.{step};
 ghost use Rattle.covering_laws.specs.Frames.{HaveTargets};
 ghost use Rattle.covering_laws.specs.Agreement.{Agree};
 ghost use Rattle.covering_laws.specs.PlainForms.{HasPlainForms};
-ghost use Rattle.covering_laws.specs.FieldContents.{FieldsHold, IsBeingMade};
+ghost use Rattle.covering_laws.specs.FieldContents.{FieldsHold, FieldsOwn, IsBeingMade};
 ghost use Rattle.covering_laws.specs.PlaceFacts.{AreCovered};
 ghost use Rattle.covering_laws.specs.Ranges.{AreInRange};
 ghost use Rattle.covering_laws.specs.Heaps.{HasEarlierLinks};
+ghost use Rattle.covering_laws.specs.Linking.{LinkedAreAliases};
 ghost use Rattle.covering_laws.specs.Arguments.{HaveArguments};
 ghost use Rattle.covering_laws.specs.Sight.{AllActInSight};
 ghost use Rattle.content_laws.specs.Exits.{TopEndsByClass};
@@ -34,6 +35,6 @@ pub fn fields_hold_at_start()
 /// not finished. Where its constructor has an aliased argument, one of its fields holds this as the constructor ends.)
 pub fn fields_hold_step()
     ensures { (p : Program) → Accept p → HasPlainForms p → (c d : Config) → Agree p c → HaveTargets p c.frames → AreInRange c → AreCovered p c.heap c.frames
-        → FieldsHold p c.frames c.heap → ((fr caller : Frame) (rest : List Frame) → c.frames ≡ fr ∷ caller ∷ rest → IsBeingMade p c.heap fr caller)
+        → FieldsHold p c.frames c.heap → FieldsOwn p c.heap → LinkedAreAliases p c.heap → ((fr caller : Frame) (rest : List Frame) → c.frames ≡ fr ∷ caller ∷ rest → IsBeingMade p c.heap fr caller)
         → AllActInSight p c.heap c.frames → HasEarlierLinks d.heap → HaveArguments p c.frames → TopEndsByClass p c.heap c.frames → step p c ≡ went d → FieldsHold p d.frames d.heap }
 {}

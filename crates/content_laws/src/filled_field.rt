@@ -12,10 +12,10 @@ ghost use Rattle.covering_laws.specs.LedgerRunsSteps.{step};
 ghost use Rattle.covering_laws.specs.Agreement.{AllStand, HasMadeClasses};
 ghost use Rattle.covering_laws.specs.PlainForms.{HasPlainForms};
 ghost use Rattle.covering_laws.specs.Frames.{HaveTargets};
-ghost use Rattle.covering_laws.specs.FieldContents.{AreNew};
+ghost use Rattle.covering_laws.specs.FieldContents.{AreNew, AreUnfinished};
 ghost use Rattle.covering_laws.specs.Ranges.{AreInRange};
 ghost use Rattle.covering_laws.specs.Sight.{AllActInSight};
-ghost use Rattle.content_laws.specs.Filled.{AreFilled};
+ghost use Rattle.content_laws.specs.Filled.{AreFilled, TopStoresReadily};
 
 /// No field holds an object as a run begins.
 pub fn fields_filled_at_start()
@@ -23,8 +23,9 @@ pub fn fields_filled_at_start()
 {}
 
 /// Each step that is not stray leaves frames whose constructors have stored what the owning fields of their objects hold, in an accepted program of the
-/// plain forms: a field of a new object holds no object, and the constructors of the class that declares an owning field alone store one there.
+/// plain forms: a field of a new object holds no object, and the constructors of the class that declares an owning field alone store one there,
+/// while the object is not finished.
 pub fn fields_filled_step()
     ensures { (p : Program) → Accept p → HasPlainForms p → (c d : Config) → HasMadeClasses p c.heap → AllStand p c.frames → HaveTargets p c.frames → AreInRange c → AreNew p c.frames
-        → AreFilled p c.heap c.frames → AllActInSight p c.heap c.frames → step p c ≡ went d → AreFilled p d.heap d.frames }
+        → AreFilled p c.heap c.frames → AllActInSight p c.heap c.frames → AreUnfinished p c.heap c.frames → TopStoresReadily p c.heap c.frames → step p c ≡ went d → AreFilled p d.heap d.frames }
 {}

@@ -18,7 +18,7 @@ ghost use Rattle.ledger_state.specs.declared.entry.Owner.TheVariants as owners;
 ghost use Rattle.ledger_state.specs.declared.locals.Locals.{Locals};
 ghost use Rattle.ledger_state.specs.declared.object.Object.{Object};
 ghost use Rattle.ledger_state.specs.declared.value.Value.{Value};
-ghost use Rattle.ledger_obligations.specs.Obligations.{lose};
+ghost use Rattle.ledger_obligations.specs.Obligations.{is_unmet, lose};
 ghost use Rattle.ledger_steps.specs.LedgerCallsCalls.{interest_in, reset_position};
 ghost use Rattle.covering_laws.specs.Configuration.{Frame};
 ghost use Rattle.ledger_steps.specs.CallSteps.{began_heap, library_heap};
@@ -55,13 +55,13 @@ pub fn call_end_goes_on()
 {}
 
 /// What owning fields own they own on over a call, where for its name, noted on a finished holder, all that the holder's method promises
-/// was called, and the constructors of holders that are not finished go on. (Where a name reaches the holder through a link, or a method of
+/// was called on what is still unmet, and the constructors of holders that are not finished go on. (Where a name reaches the holder through a link, or a method of
 /// the library promises it, the machine itself does what the holder's own method promises.)
 pub fn contents_go_on()
     ensures { (p : Program) (h k : HeapContents) (l : Locals) (a : Action) (named : Option Method) → Goes p h k (IsNotedBy l a named) → PromisesItsOwn p → LinksLead p h → (frs gs : List Frame) → HaveContents p frs h
         → ((o : ℕ) (x y : Object) (w : ℕ) (f : FieldId) → object_at h o ≡ Some x → object_at k o ≡ Some y → is_heavy_class p y.class ≡ true → GoesOn x y → x.owner ≡ owners.Field w f → (content : IsContent p frs h o x w f)
         → (m : MethodId) (d : Method) (n : NameId) → content.holder.finished ≡ true → method_at p m ≡ Some d → d.class ≡ content.holder.class → d.sig.interest ≡ Some n
-        → set.contains (must_of p content.holder.class) n.0 ≡ true → IsNotedBy l a named w n.0 → set.is_subset (promised_on f d) y.called ≡ true)
+        → set.contains (must_of p content.holder.class) n.0 ≡ true → IsNotedBy l a named w n.0 → is_unmet y ≡ true → set.is_subset (promised_on f d) y.called ≡ true)
         → ((o : ℕ) (x y : Object) (w : ℕ) (f : FieldId) (content : IsContent p frs h o x w f) → object_at k o ≡ Some y → y.owner ≡ owners.Field w f → content.holder.finished ≡ false
         → is_made_in p w content.field.class frs ≡ true → is_made_in p w content.field.class gs ≡ true)
         → HaveContents p gs k }

@@ -1,5 +1,5 @@
 -- The facts of the operand of which the result of a call is an alias have the result's temp after the call.
-use Rattle.std.proofs.Common.{◌≡◌, ◌∙◌, ℕ, true, true≢false, Option, Some, None, refl, sym, ap, subst}
+use Rattle.std.proofs.Common.{◌≡◌, ◌∙◌, ℕ, true, true≢false, Option, Some, None, false, refl, sym, ap, subst}
 use Rattle.std.proofs.lemmas.Bool.{and_from, or_left}
 use Rattle.program_model.specs.declared.program.Program.{Program}
 use Rattle.ledger_obligations.specs.Bodies.{alias_in}
@@ -24,6 +24,7 @@ use Rattle.value_laws.specs.Places.{place_value}
 use Rattle.ledger_steps.specs.LedgerCallsCalls.{operand_of}
 use Rattle.value_laws.specs.Configuration.{Frame}
 use Rattle.value_laws.specs.Frames.{is_made, made_place}
+use Rattle.value_laws.specs.PlaceFacts.{is_lent_place}
 use Rattle.value_laws.specs.PlacePlaces.{has_source, is_local, takes_alias}
 use Rattle.value_laws.proofs.PlaceLaws.{places_come_from_sources}
 use Rattle.value_laws.specs.Agreement.{Stands}
@@ -33,7 +34,7 @@ use Rattle.covering_laws.proofs.TopSteps.{IsLocalStep}
 -- a place held the object before the step, whose facts have the other place after it
 abbrev pub IsFromPlace : (p : Program) → HeapContents → (fr : Frame) → Stands p fr → Step → Place → ℕ → Type 0
 IsFromPlace p h fr st s q o =
-    (z : Place) × IsSmall z × (root_of h (place_value p h fr.method fr.locals z) ≡ Some o) × ((held : PlaceSet) → has held z ≡ true → has (places_after p st.number s.action s.edge held) q ≡ true)
+    (z : Place) × IsSmall z × (is_lent_place p fr z ≡ false) × (root_of h (place_value p h fr.method fr.locals z) ≡ Some o) × ((held : PlaceSet) → has held z ≡ true → has (places_after p st.number s.action s.edge held) q ≡ true)
 
 -- the result comes from the aliased operand
 pub from_operand : (p : Program) (h : HeapContents) (fr : Frame) (st : Stands p fr) (s : Step) (local : IsLocalStep p fr st s) (q : Place) (o : ℕ) → IsSmall q → is_local q ≡ true → is_made (made_place s.action) q ≡ true
@@ -43,6 +44,7 @@ from_operand p h fr st s local q o small local' there edge k some is =
     let alias : alias_operand p s.action ≡ Some t.0 = ap (aliases.operand_of s.action) some ∙ t.1 in (
       places.Temp t.0,
       subst IsSmallTemp t.1 (operand_has_room p s.action k local.small),
+      refl,
       ap (root_of h) (sym t.2) ∙ is,
       λ held one.
           places_come_from_sources p st.number st.body s.action s.edge held q st.at local.small small local' local.way

@@ -33,7 +33,7 @@ use Rattle.java_control.specs.declared.fact.Rule.TheVariants as rules
 use Rattle.java_control.specs.PlaceNumbers.{IsSmall}
 use Rattle.java_control.specs.declared.place.Place.{Place}
 use Rattle.java_control.specs.declared.place.Place.TheVariants as places
-use Rattle.ownership_rules.specs.Facts.{has, has_field, is_alias, is_origin_at, missing, owes}
+use Rattle.ownership_rules.specs.Facts.{has, has_field, is_alias, is_origin_at, missing, owes, is_held}
 use Rattle.ownership_rules.specs.SmallActions.{IsSmallAction, IsSmallTemp}
 use Rattle.value_laws.specs.Promises.{broken_promise}
 use Rattle.ownership_rules.specs.MovesAtReturns.{heavy_result, kept_alias, moved_at_return, owned_result, owning_result_in, result_type, returned}
@@ -62,7 +62,8 @@ use Rattle.value_laws.proofs.AliasFacts.{aliased_is_spoken, parameter_class, par
 use Rattle.value_laws.proofs.FactOrigins.{parameters_own, this_own}
 use Rattle.value_laws.proofs.AliasConducts.{argument_has_names, gives_object}
 use Rattle.value_laws.proofs.CallNames.{object_with_root}
-use Rattle.value_laws.specs.PlaceFacts.{Covers, IsCovered, gives_none, OwesOrHolds, renews_none}
+use Rattle.value_laws.specs.PlaceFacts.{Covers, IsCovered, gives_none, OwesOrHolds, renews_none, is_idle, is_lent_place}
+use Rattle.covering_laws.proofs.SaidFacts.{said_by}
 use Rattle.covering_laws.proofs.HeavyFields.{covered_at}
 use Rattle.covering_laws.proofs.Following.{breaks_nothing, same_body, step_there}
 use Rattle.covering_laws.proofs.EndNames.{element_there, parameter_origin, parameters_fit, zero_origin}
@@ -143,8 +144,8 @@ module _ (p : Program) (ac : Accept p) (h : HeapContents) (fr caller : Frame) (o
   some_names = argument_has_names p ac.well_formed fr.method x runs k alias
 
   -- the fact of a place
-  cover : (place : Place) → IsSmall place → root_of h (place_value p h fr.method fr.locals place) ≡ Some o → (c : Covers p h false false old (caller ∷ rest) fr o y) × (has c.fact.places place ≡ true)
-  cover place small root = covered_at p h false false old (caller ∷ rest) fr place o y (covered place o y small root at heavy owes')
+  cover : (place : Place) → IsSmall place → is_lent_place p fr place ≡ false → root_of h (place_value p h fr.method fr.locals place) ≡ Some o → (c : Covers p h false false old (caller ∷ rest) fr o y) × (has c.fact.places place ≡ true)
+  cover place small kept root = covered_at p h false false old (caller ∷ rest) fr place o y (covered place o y small kept root at heavy owes')
 
   module _ (c : Covers p h false false old (caller ∷ rest) fr o y) where
     reached : Reach p st.number (relation_of p st.number) c.origin fr.control c.fact
@@ -157,9 +158,31 @@ module _ (p : Program) (ac : Accept p) (h : HeapContents) (fr caller : Frame) (o
     ended_as : (m : Moved) → moved_at_return p st.number c.origin (actions.End q) c.fact ≡ m → IsFault (after_return p st.number c.origin q c.fact m) → ⊥
     ended_as m moved fault = fine (subst (λ (u : Moved). IsFault (after_return p st.number c.origin q c.fact u)) (sym moved) fault)
 
+  -- of such a fact something is said
+  said : (c : Covers p h false false old (caller ∷ rest) fr o y) → c.fact.mode ≡ modes.Alias → is_idle p (caller ∷ rest) fr c.fact ≡ false
+  said c mode = said_by p (caller ∷ rest) fr c.fact (inl (ap is_held mode))
+
   -- the temp of the result is a place of the frame
   room : (d : ℕ) (pos : Pos) → q ≡ completions.ReturnValue d pos → d < 64
   room d pos end' = subst (λ (r : Completion). IsSmallTemp (completion_temp r)) end' (subst (IsSmallAction p) is ((ac.fits st.number).steps i (move_of s) st.control (step_there p fr st i s here)))
+
+  -- a fact in the result's temp is in mode Alias
+  is_aliased : (d : ℕ) (pos : Pos) → q ≡ completions.ReturnValue d pos → (c : Covers p h false false old (caller ∷ rest) fr o y) → has c.fact.places (places.Temp d) ≡ true → c.fact.mode ≡ modes.Alias
+  is_aliased d pos end' c in' = alias_mode c.fact.mode (by (is_alias c.fact.mode) refl)
+    where
+      result_heavy : is_heavy_as p c.origin.class (result_type p st.number) ≡ true
+      result_heavy = elim (gives_object p ac.well_formed fr.method x runs k alias) [
+        | inl made ↦ absurd (true≢false (sym made.0 ∙ plain))
+        | inr gives ↦ or_right (is_heavy_class p c.origin.class) (not (is_empty (must_of_optional p (result_type p st.number))))
+            (ap (λ (u : Option VType). not (is_empty (must_of_optional p u))) (ap at_returns.result_in body_method ∙ gives.1.1) ∙ gives.1.2)
+      ]
+
+      kept : moved_at_return p st.number c.origin (actions.End q) c.fact ≡ kept_alias c.fact
+      kept = ap (λ (r : Completion). moved_at_return p st.number c.origin (actions.End r) c.fact) end' ∙ kept_there p st.number c.origin d c.fact k position in' result_heavy
+
+      by : (b : Bool) → is_alias c.fact.mode ≡ b → is_alias c.fact.mode ≡ true
+      by true one = one
+      by false none = absurd (ended_as c (moves.Bad rules.AliasKept) (kept ∙ ap (λ (b : Bool). if b then moves.Moves else moves.Bad rules.AliasKept) none) tt)
 
   -- ---- the argument is the result
 
@@ -176,7 +199,9 @@ module _ (p : Program) (ac : Accept p) (h : HeapContents) (fr caller : Frame) (o
 
       moves_there : (r : Completion) → q ≡ r → moved_at_return p st.number c.origin (actions.End r) c.fact ≡ moves.Moves → root_of h (result_value fr.locals (Some x) r) ≡ Some o
       moves_there (completions.Break pos) end' moved = absurd (let never' : moves.Stays ≡ moves.Moves = moved in cc)
-      moves_there (completions.ReturnValue d pos) end' moved = c.places (places.Temp d) (room d pos end') (moved_there p st.number c.origin d c.fact moved)
+      moves_there (completions.ReturnValue d pos) end' moved =
+          let in' = moved_there p st.number c.origin d c.fact moved in
+          c.places (said c (is_aliased d pos end' c in')) (places.Temp d) (room d pos end') refl in'
       moves_there (completions.Continue pos) end' moved = absurd (let never' : moves.Stays ≡ moves.Moves = moved in cc)
       moves_there (completions.Return pos) end' moved = absurd (let never' : moves.Stays ≡ moves.Moves = moved in cc)
       moves_there (completions.Throw d e pos) end' moved = absurd (let never' : moves.Stays ≡ moves.Moves = moved in cc)
@@ -190,7 +215,7 @@ module _ (p : Program) (ac : Accept p) (h : HeapContents) (fr caller : Frame) (o
   of_this zero' root =
       let w = object_with_root h (operand_of caller.locals t.action 0) o root in
       let this : fr.locals.this ≡ values.Object w.0 = args.receiver j t w.0 there w.1 in
-      let found = cover places.This tt (ap (root_of h) this ∙ ap Some w.2) in
+      let found = cover places.This tt refl (ap (root_of h) this ∙ ap Some w.2) in
       let c : Covers p h false false old (caller ∷ rest) fr o y = found.0 in
       let own = this_own p ac st.number st.body st.at c.origin fr.control c.fact (reached c) found.1 in
       moves_as_result c (ap (λ (n : ℕ). is_origin_at c.origin.kind (Some n)) zero' ∙ own)
@@ -216,7 +241,7 @@ module _ (p : Program) (ac : Accept p) (h : HeapContents) (fr caller : Frame) (o
 
     of_parameter : root_of h (operand_of caller.locals t.action (suc v)) ≡ Some o → root_of h (result_value fr.locals (Some x) q) ≡ Some o
     of_parameter root =
-        let found = cover (places.Var v) variable_small (ap (root_of h) given ∙ root) in
+        let found = cover (places.Var v) variable_small refl (ap (root_of h) given ∙ root) in
         let c : Covers p h false false old (caller ∷ rest) fr o y = found.0 in
         let own = parameters_own p ac st.number st.body x v st.at in_body spoken c.origin fr.control c.fact (reached c) found.1 in
         let param = element_there x.sig.params.items v (omega (arith, inside)) in
@@ -235,29 +260,11 @@ module _ (p : Program) (ac : Accept p) (h : HeapContents) (fr caller : Frame) (o
 
   -- ---- the result is the argument
 
-  -- a fact in the result's temp is in mode Alias
-  is_aliased : (d : ℕ) (pos : Pos) → q ≡ completions.ReturnValue d pos → (c : Covers p h false false old (caller ∷ rest) fr o y) → has c.fact.places (places.Temp d) ≡ true → c.fact.mode ≡ modes.Alias
-  is_aliased d pos end' c in' = alias_mode c.fact.mode (by (is_alias c.fact.mode) refl)
-    where
-      result_heavy : is_heavy_as p c.origin.class (result_type p st.number) ≡ true
-      result_heavy = elim (gives_object p ac.well_formed fr.method x runs k alias) [
-        | inl made ↦ absurd (true≢false (sym made.0 ∙ plain))
-        | inr gives ↦ or_right (is_heavy_class p c.origin.class) (not (is_empty (must_of_optional p (result_type p st.number))))
-            (ap (λ (u : Option VType). not (is_empty (must_of_optional p u))) (ap at_returns.result_in body_method ∙ gives.1.1) ∙ gives.1.2)
-      ]
-
-      kept : moved_at_return p st.number c.origin (actions.End q) c.fact ≡ kept_alias c.fact
-      kept = ap (λ (r : Completion). moved_at_return p st.number c.origin (actions.End r) c.fact) end' ∙ kept_there p st.number c.origin d c.fact k position in' result_heavy
-
-      by : (b : Bool) → is_alias c.fact.mode ≡ b → is_alias c.fact.mode ≡ true
-      by true one = one
-      by false none = absurd (ended_as c (moves.Bad rules.AliasKept) (kept ∙ ap (λ (b : Bool). if b then moves.Moves else moves.Bad rules.AliasKept) none) tt)
-
   from_result : has_receiver t.action ≡ true → (d : ℕ) (pos : Pos) → q ≡ completions.ReturnValue d pos → root_of h (temp_value fr.locals d) ≡ Some o → root_of h (operand_of caller.locals t.action k) ≡ Some o
   from_result receives d pos end' root = by k refl
     where
       found : (c : Covers p h false false old (caller ∷ rest) fr o y) × (has c.fact.places (places.Temp d) ≡ true)
-      found = cover (places.Temp d) (room d pos end') root
+      found = cover (places.Temp d) (room d pos end') refl root
 
       mode : found.0.fact.mode ≡ modes.Alias
       mode = is_aliased d pos end' found.0 found.1
@@ -265,10 +272,10 @@ module _ (p : Program) (ac : Accept p) (h : HeapContents) (fr caller : Frame) (o
       by : (n : ℕ) → k ≡ n → root_of h (operand_of caller.locals t.action k) ≡ Some o
       by zero same =
           ap (λ (m : ℕ). root_of h (operand_of caller.locals t.action m)) same ∙ ap (root_of h) (sym (args.target j t there receives))
-          ∙ found.0.places places.This tt (this_holds p ac st.number st.body x st.at in_body (alias ∙ ap Some same) found.0.origin fr.control found.0.fact (reached found.0) mode)
+          ∙ found.0.places (said found.0 mode) places.This tt refl (this_holds p ac st.number st.body x st.at in_body (alias ∙ ap Some same) found.0.origin fr.control found.0.fact (reached found.0) mode)
       by (suc v) same =
           ap (λ (m : ℕ). root_of h (operand_of caller.locals t.action m)) same ∙ ap (root_of h) (sym (given v same))
-          ∙ found.0.places (places.Var v) (variable_small v same)
+          ∙ found.0.places (said found.0 mode) (places.Var v) (variable_small v same) refl
           (parameter_holds p ac st.number st.body x v st.at in_body (alias ∙ ap Some same) found.0.origin fr.control found.0.fact (reached found.0) mode)
 
   -- the aliased argument is the result of the call

@@ -1,6 +1,6 @@
 -- Two heaps whose objects differ in what was called on them and what must be called alone, as before and after obligations are created anew: ways up, ends, what was old and what is
 -- spared are the same in both.
-use Rattle.std.proofs.Common.{◌≡◌, inl, inr, ℕ, ◌+◌, Bool, Some, List, [], ◌∷◌, length, sym, ap, ◌∙◌}
+use Rattle.std.proofs.Common.{◌≡◌, inl, inr, ℕ, ◌+◌, Bool, Some, List, [], ◌∷◌, length, sym, ap, ◌∙◌, subst}
 use Rattle.program_model.specs.declared.program.Program.{Program}
 use Rattle.ledger_obligations.specs.MustCallSets.{is_heavy_class}
 use Rattle.ledger_state.specs.Contents.{HeapContents}
@@ -9,7 +9,7 @@ use Rattle.ledger_state.specs.declared.object.Object.{Object}
 use Rattle.value_laws.specs.Configuration.{Frame}
 use Rattle.value_laws.specs.HeapAnew.{is_field_owner}
 use Rattle.value_laws.specs.Holders.{FieldsGoOnOwning, HasTop, IsComparable, IsWithin}
-use Rattle.value_laws.specs.PlaceFacts.{EndsBelow, EndsStrictly, IsHeavyObject, IsOld, IsSpared, is_frame_below, is_frame_from}
+use Rattle.value_laws.specs.PlaceFacts.{EndsBelow, IsAnswered, IsHeavyObject, IsOld, IsOwnedBelow, IsSpared, is_frame_from, is_given_up}
 use Rattle.value_laws.specs.Renewing.{is_renewed}
 use Rattle.value_laws.proofs.WaysUp.{within_goes_on}
 use Rattle.covering_laws.proofs.Owners.{HoldersStay, KeepsFinished, holders_stay, keeps_finished}
@@ -66,10 +66,9 @@ module _ (h k : HeapContents) (alike : AreAlike h k) where
       let now = top_alike o ends.end ends.top in
       record { end = ends.end; top = now.0; below = ap (is_frame_from (length frs + 1)) now.1.owner ∙ ends.below; older = λ open'. ends.older (sym now.1.finished ∙ open') }
 
-  strict_alike : (frs : List Frame) (o : ℕ) → EndsStrictly h frs o → EndsStrictly k frs o
-  strict_alike frs o ends =
-      let now = top_alike o ends.end ends.top in
-      record { end = ends.end; top = now.0; below = elim ends.below [ inl low ↦ inl (ap (is_frame_below (length frs + 1)) now.1.owner ∙ low) | inr runs ↦ inr (now.1.finished ∙ runs.0, runs.1) ] }
+  -- ends that were not given up
+  pub answered_alike : (o : ℕ) → IsAnswered h o → IsAnswered k o
+  answered_alike o (e, top, kept) = let now = top_alike o e top in (e, now.0, ap is_given_up now.1.owner ∙ kept)
 
 -- what the call that began the frame spares in the one heap it spares in the other, where it creates the same obligations anew
 pub spared_alike : (p : Program) (h k : HeapContents) → AreAlike h k → ((fr : Frame) (o : ℕ) → is_renewed p k fr o ≡ is_renewed p h fr o) → (frs : List Frame) (o : ℕ) → IsSpared p h frs o → IsSpared p k frs o
@@ -83,10 +82,11 @@ pub old_alike : (p : Program) (h k : HeapContents) → AreAlike h k → (frs : L
 old_alike p h k alike frs fr old is = record {
   there = λ o was. (let x = is.there o was in let y = alike.forth o x.0 x.1 in (y.0, y.1, y.2.finished ∙ x.2));
   ends = λ o y at heavy was. (let x = alike.back o y at in ends_alike h k alike frs o (is.ends o x.0 x.1 (before o y x.0 x.2 heavy) was));
-  strict = λ o y at heavy ends. (let x = alike.back o y at in is.strict o x.0 x.1 (before o y x.0 x.2 heavy) (strict_alike k h (alike_turned h k alike) frs o ends));
+  below = λ o y at heavy owned. (let x = alike.back o y at in is.below o x.0 x.1 (before o y x.0 x.2 heavy) (subst (IsOwnedBelow p frs) x.2.owner owned));
   contents = λ o y at heavy content takes.
       let x = alike.back o y at in
       is.contents o x.0 x.1 (before o y x.0 x.2 heavy) (record { holder = content.holder; field = content.field; runs = content.runs; owns = sym x.2.owner ∙ content.owns; method = content.method }) takes;
+  self = λ w y this at heavy single settled. (let x = alike.back w y at in is.self w x.0 this x.1 (before w y x.0 x.2 heavy) (sym x.2.link ∙ single) settled);
 }
   where
     before : (o : ℕ) (y x : Object) → IsAlike x y → IsHeavyObject p y → IsHeavyObject p x

@@ -1,16 +1,16 @@
 -- The step by which a call ends that creates an obligation anew, of the program or of the library: the obligations of the target and of what it is within are created anew. Of each such object the facts
 -- of the frame that called know nothing that a reset changes, but for the fact of the target, which goes on anew; and so it is with the frames that wait below.
-use Rattle.std.proofs.Common.{◌≡◌, ◌⊎◌, inl, inr, ℕ, ◌+◌, ◌<◌, Bool, true, false, true≢false, not, ◌&&◌, None, Some, List, [], ◌∷◌, length, slice_get, refl, sym, ap, ◌∙◌, subst}
+use Rattle.std.proofs.Common.{◌≡◌, ◌⊎◌, inl, inr, ℕ, ◌+◌, ◌<◌, Bool, true, false, true≢false, not, ◌&&◌, None, Some, List, [], ◌∷◌, length, slice_get, refl, sym, ap, ◌∙◌, subst, arith}
 use Rattle.std.specs.FinSet as set
 use Rattle.program_model.specs.declared.kinds.BodyId.{BodyId}
 use Rattle.program_model.specs.declared.kinds.ClassId.{ClassId}
 use Rattle.program_model.specs.declared.kinds.FieldId.{FieldId}
 use Rattle.program_model.specs.declared.kinds.MethodId.{MethodId}
 use Rattle.program_model.specs.declared.program.Program.{Program}
-use Rattle.program_model.specs.Lookups.{method_at}
+use Rattle.program_model.specs.Lookups.{method_at, field_at}
 use Rattle.ledger_obligations.specs.Bodies.{reset_in}
 use Rattle.ledger_obligations.specs.MustCallSets.{Names, is_heavy_class, no_names}
-use Rattle.ledger_obligations.specs.Obligations.{is_library_owner}
+use Rattle.ledger_obligations.specs.Obligations.{is_library_owner, is_unmet}
 use Rattle.java_control.specs.Control.{Step}
 use Rattle.java_control.specs.PlaceNumbers.{IsSmall}
 use Rattle.java_control.specs.declared.action.Action.{Action}
@@ -20,7 +20,7 @@ use Rattle.java_control.specs.declared.fact.Origin.{Origin}
 use Rattle.java_control.specs.declared.place.Place.{Place}
 use Rattle.java_control.specs.declared.place.Place.TheVariants as places
 use Rattle.ownership_rules.specs.Callees.{callee}
-use Rattle.ownership_rules.specs.Facts.{PlaceSet, has, is_own, mode_at, need}
+use Rattle.ownership_rules.specs.Facts.{PlaceSet, has, is_own, mode_at, need, is_held}
 use Rattle.ownership_rules.specs.MovesAtCalls.{moved_at_call}
 use Rattle.ownership_rules.specs.declared.moved.Moved.TheVariants as moves
 use Rattle.java_control.specs.declared.fact.Mode.{Mode}
@@ -31,6 +31,7 @@ use Rattle.ledger_state.specs.declared.entry.Owner.TheVariants as owners
 use Rattle.ledger_state.specs.declared.locals.Locals.{Locals}
 use Rattle.ledger_state.specs.declared.object.Object.{Object}
 use Rattle.ledger_state.specs.declared.value.Value.{Value}
+use Rattle.ledger_state.specs.declared.value.Value.TheVariants as values
 use Rattle.value_laws.specs.Accept.{Accept}
 use Rattle.value_laws.specs.Agreement.{Stands}
 use Rattle.value_laws.specs.Anew.{GoesAnew, MayBeAnew, fact_anew, is_target}
@@ -38,37 +39,40 @@ use Rattle.value_laws.specs.Chains.{HaveEnds}
 use Rattle.value_laws.specs.Choosing.{body_id, frame_steps}
 use Rattle.value_laws.specs.Configuration.{Frame}
 use Rattle.value_laws.specs.FactGoing.{is_owned_in}
-use Rattle.value_laws.specs.FieldContents.{AreNew, AreUnfinished}
+use Rattle.value_laws.specs.FieldContents.{AreNew, AreUnfinished, HaveContents}
 use Rattle.value_laws.specs.HeapAnew.{IsEmptied}
 use Rattle.value_laws.specs.Holders.{IsWithin, by_field, itself}
 use Rattle.value_laws.specs.Outcomes.{IsCallRow}
 use Rattle.value_laws.specs.Paths.{Reach, move_of, relation_of}
-use Rattle.value_laws.specs.PlaceFacts.{AreCovered, AreWaiting, Covers, IsCovered, IsHeavyObject, IsKeyed, IsOld, IsOwned, IsTrueOf, IsUnowned, OwesOrHolds, OwnersBelow, claims, gives_away, gives_none, is_frame_from, owned, renews_none, unowned}
+use Rattle.value_laws.specs.PlaceFacts.{AreCovered, AreWaiting, Covers, IsCovered, IsHeavyObject, IsKeyed, IsOld, IsOwned, IsTrueOf, IsUnowned, OwesOrHolds, OwnersBelow, claims, gives_away, gives_none, is_frame_from, owned, renews_none, unowned, HasOwningField, is_lent_place}
 use Rattle.value_laws.specs.PlaceRows.{places_after}
 use Rattle.value_laws.specs.Places.{place_value}
 use Rattle.value_laws.specs.PlainForms.{HasPlainForms}
-use Rattle.value_laws.specs.Renewing.{HasInHand, IsHeldBy, IsHeldByLent, IsLentFrom, fact_as, renews}
+use Rattle.value_laws.specs.Renewing.{HasInHand, IsHeldBy, IsLentFrom, fact_as, renews, IsOwnedByThis, answers_for_fields, is_declared_beside, is_renewed, lends_this, makes_alone, reopens}
 use Rattle.value_laws.proofs.FrameFollowing.{breaks_nothing}
 use Rattle.value_laws.proofs.HeapLaws.{numbers_are_in_range}
 use Rattle.value_laws.proofs.Needs.{origin_needs_all}
 use Rattle.value_laws.proofs.Ready.{step_there}
 use Rattle.value_laws.proofs.Resetting.{answered_target}
 use Rattle.value_laws.proofs.RootLaws.{one_object}
-use Rattle.value_laws.proofs.SparingCalls.{constructor_of, lent_ends_below, made_top, not_made_here, owned_apart}
+use Rattle.value_laws.proofs.SparingCalls.{lent_ends_below, made_top, not_made_here, owned_apart}
 use Rattle.value_laws.proofs.SparingEnds.{made_apart}
 use Rattle.value_laws.proofs.Tracking.{same_body}
 use Rattle.value_laws.proofs.WaysUp.{StepsUp, ends, finished_on_the_way, goes, steps_up}
 use Rattle.covering_laws.proofs.AlikeHeaps.{AreAlike, IsAlike, alike_holders, old_alike}
 use Rattle.covering_laws.proofs.GivenArguments.{away_moves}
-use Rattle.covering_laws.proofs.HeavyFields.{claims_by, claims_owned}
+use Rattle.covering_laws.proofs.HeavyFields.{claims_by, claims_owned, answers_by}
 use Rattle.covering_laws.proofs.InFields.{held_by_this}
-use Rattle.covering_laws.proofs.Owners.{HoldersStay, KeepsGifts, KeepsHeld, OwnerGoes, OwnersGo, StaysApart, WaysGo, held_at, left, passed, stays}
-use Rattle.covering_laws.proofs.ReachedAbove.{IsReachedBy}
-use Rattle.covering_laws.proofs.RenewedOperands.{HoldsLent, claimed_owner, step_renews}
+use Rattle.covering_laws.proofs.Owners.{HoldersStay, KeepsGifts, OwnerGoes, OwnersGo, StaysApart, WaysGo, held_at, left, passed, stays, AllKeepGifts, IsNewTo, from_frame}
+use Rattle.covering_laws.proofs.ReachedAbove.{IsReachedBy, AllRenewIt, IsOwnedHere, all_renew_it, content_in_hand}
+use Rattle.covering_laws.proofs.RenewedOperands.{HoldsLent, step_renews, IsHeldOrLent}
 use Rattle.covering_laws.proofs.ResetCovers.{IsRenewed, Turns, bears_before, keyed_same, keyed_unmade, not_lent, owned_anew, same_held, true_anew, unowned_anew, waiting_anew}
 use Rattle.covering_laws.proofs.TopSteps.{StopsOwning}
 use Rattle.covering_laws.proofs.Waiting.{Carries, KeepsFields, KeepsReady, bore_before}
 use Rattle.covering_laws.proofs.WaitingTargets.{target_mode, target_stays, target_temp}
+use Rattle.value_laws.proofs.SettledFrames.{AllRenewInHand}
+use Rattle.value_laws.proofs.Tops.{no_way_round}
+use Rattle.std.proofs.lemmas.Bool.{or_right}
 
 -- what a field owns may owe a call
 pub field_owes : (x : Object) (w : ℕ) (f : FieldId) → x.owner ≡ owners.Field w f → not (x.finished && is_library_owner x.owner) ≡ true
@@ -92,18 +96,46 @@ as_it_is p g f x none true truth = record {
     need_of : Bool → Names
     need_of b = need g (record f { full = b })
 
--- ---- over a step without its reset
+-- the class of an object whose field owns another one declares an owning field
+pub content_declares : (p : Program) (frs : List Frame) (h : HeapContents) → HaveContents p frs h → (o : ℕ) (x : Object) (w : ℕ) (f : FieldId) (y : Object) → object_at h o ≡ Some x → is_heavy_class p x.class ≡ true → x.owner ≡ owners.Field w f
+    → object_at h w ≡ Some y → HasOwningField p y.class
+content_declares p frs h contents o x w f y at heavy own there =
+    let c = contents o x w f at (or_right (is_unmet x) (is_heavy_class p x.class) heavy) own in
+    (f, c.field, c.declared, c.owning, sym c.class ∙ ap (λ (u : Object). u.class) (one_object c.holder y (object_at h w) c.at there))
 
-module _ (p : Program) (below : List Frame) (n : ℕ) (h k : HeapContents) (ways : WaysGo p None below n h k) (go_on : OwnersGo p None below n h k) where
-  -- a field of an object that was finished goes on owning what it owned
+-- ---- over a step without its reset, of the frame `fr`, which stands on `frs`
+
+module _ (p : Program) (fr : Frame) (frs : List Frame) (h k : HeapContents) (ways : WaysGo p None (fr ∷ frs) (length frs + 1) h k) (go_on : OwnersGo p None (fr ∷ frs) (length frs + 1) h k) where
+  -- a field goes on owning what it owned, where its object was finished, or one of these frames runs on it
+  field_by : (a b : Owner) (w : ℕ) (f : FieldId) → a ≡ owners.Field w f → OwnerGoes h None (fr ∷ frs) (length frs + 1) a b → (IsNewTo h (fr ∷ frs) w → ⊥) → b ≡ a
+  field_by a b w f is (stays same) other = same
+  field_by a b w f is (passed from to low) other = absurd (true≢false (sym from ∙ ap (is_frame_from (length frs + 1)) is))
+  field_by a b w f is (left held then' fields news) other = absurd (other (news w (held_at a w f is)))
+
   pub field_stays : (o : ℕ) (x y : Object) (w : ℕ) (f : FieldId) → object_at h o ≡ Some x → object_at k o ≡ Some y → IsHeavyObject p x → x.owner ≡ owners.Field w f → (z : Object) → object_at h w ≡ Some z → z.finished ≡ true
       → y.owner ≡ x.owner
-  field_stays o x y w f before now heavy own z there done = by x.owner y.owner own (go_on o x y before now heavy.0 heavy.1)
+  field_stays o x y w f before now heavy own z there done = field_by x.owner y.owner w f own (go_on o x y before now heavy.0 heavy.1) (λ new. true≢false (sym done ∙ new.1 z there))
+
+  pub held_stays : (o : ℕ) (x y : Object) → object_at h o ≡ Some x → object_at k o ≡ Some y → IsHeavyObject p x → IsOwnedByThis p fr x.owner → y.owner ≡ x.owner
+  held_stays o x y before now heavy held = field_by x.owner y.owner held.holder held.field held.owns (go_on o x y before now heavy.0 heavy.1) (λ new. new.0.0 held.runs)
+
+  -- what a field owns then it owned
+  pub field_was : (o : ℕ) (x y : Object) (w : ℕ) (f : FieldId) → object_at h o ≡ Some x → object_at k o ≡ Some y → IsHeavyObject p x → y.owner ≡ owners.Field w f → x.owner ≡ owners.Field w f
+  field_was o x y w f before now heavy own = by x.owner y.owner own (go_on o x y before now heavy.0 heavy.1)
     where
-      by : (a b : Owner) → a ≡ owners.Field w f → OwnerGoes h None below n a b → b ≡ a
-      by a b is (stays same) = same
-      by a b is (passed from to low) = absurd (true≢false (sym from ∙ ap (is_frame_from n) is))
-      by a b is (left none then' fields news) = absurd (true≢false (sym done ∙ (news w (held_at a w f is)).1 z there))
+      by : (a b : Owner) → b ≡ owners.Field w f → OwnerGoes h None (fr ∷ frs) (length frs + 1) a b → a ≡ owners.Field w f
+      by a b is (stays same) = sym same ∙ is
+      by a b is (passed from to low) = absurd (let never : None ≡ Some w = to w (held_at b w f is) in cc)
+      by a b is (left held then' fields news) = absurd (true≢false (sym (held_at b w f is) ∙ fields w))
+
+  -- so it is with what a frame below owns
+  pub frame_was : (o : ℕ) (x y : Object) (i : ℕ) → object_at h o ≡ Some x → object_at k o ≡ Some y → IsHeavyObject p x → i < length frs + 1 → y.owner ≡ owners.Frame i → x.owner ≡ owners.Frame i
+  frame_was o x y i before now heavy less own = by x.owner y.owner own (go_on o x y before now heavy.0 heavy.1)
+    where
+      by : (a b : Owner) → b ≡ owners.Frame i → OwnerGoes h None (fr ∷ frs) (length frs + 1) a b → a ≡ owners.Frame i
+      by a b is (stays same) = sym same ∙ is
+      by a b is (passed from to low) = absurd (let high = low i is in omega (arith, high, less))
+      by a b is (left held then' fields news) = absurd (true≢false (sym (ap (is_frame_from 0) is ∙ from_frame 0 i (omega arith)) ∙ then'))
 
   -- what is within a finished object stays so, where its class has an obligation
   pub within_stays : (a b : ℕ) (x z : Object) → object_at h a ≡ Some x → is_heavy_class p x.class ≡ true → object_at h b ≡ Some z → z.finished ≡ true → IsWithin h a b → IsWithin k a b
@@ -116,6 +148,18 @@ module _ (p : Program) (below : List Frame) (n : ℕ) (h k : HeapContents) (ways
       let finished' = finished_on_the_way h o b x' z ways.have.unfinished (by_field o v b f x' at' own rest) at' there done in
       let holder = finished_on_the_way h v b w.0 z ways.have.unfinished rest w.1 there done in
       by_field o v b f y.0 y.1 (field_stays o x' y.0 v f at' y.1 (finished', heavy') own w.0 w.1 holder ∙ own) (within_stays v b w.0 z w.1 w.3 there done rest)
+
+  -- the frames that wait renew the object in the heap then, where each does so that owned it before
+  pub renew_it_then : (o : ℕ) (x y : Object) → object_at h o ≡ Some x → object_at k o ≡ Some y → IsHeavyObject p x → (gs : List Frame) → length gs < length frs + 1 → AllKeepGifts p h k gs → AllRenewIt p h gs o x.owner → AllRenewIt p k gs o y.owner
+  renew_it_then o x y before now heavy [] less gifts all = tt
+  renew_it_then o x y before now heavy (g ∷ gs) less gifts all = (
+    λ owned. (gifts.0 o).1 ∙ all.0 (was owned),
+    renew_it_then o x y before now heavy gs (omega (arith, less)) gifts.1 all.1,
+  )
+    where
+      was : IsOwnedHere p gs g y.owner → IsOwnedHere p gs g x.owner
+      was (inl own) = inl (frame_was o x y (length gs + 1) before now heavy (omega (arith, less)) own)
+      was (inr (answers, keeps, c)) = inr (answers, keeps, record { field = c.field; declared = c.declared; holder = c.holder; runs = c.runs; owns = field_was o x y c.holder c.field before now heavy c.owns })
 
 -- ---- the reset
 
@@ -147,11 +191,16 @@ module _ (p : Program) (ac : Accept p) (forms : HasPlainForms p) (h k j : HeapCo
     (gives : ℕ → ClassId → Bool) (renewed : ℕ → Bool) (old : ℕ → Bool) (at_step : (o : ℕ) (c : ClassId) → gives o c ≡ true → gives_away p h fr.locals t.action o c ≡ true)
     (read : (o : ℕ) → renewed o ≡ true → (renews p h fr.locals t.action o ≡ true) × (o < next_number h))
     (covered : IsCovered p h gives (λ o owner. renewed o) old frs fr) (holds : HoldsLent p h old frs fr st)
-    (below : List Frame) (n : ℕ) (ways : WaysGo p None below n h k) (go_on : OwnersGo p None below n h k) (others : StaysApart p h k frs fr) (lasting : KeepsHeld p h k fr) (gift : KeepsGifts p h k fr)
+    (ways : WaysGo p None (fr ∷ frs) (length frs + 1) h k) (go_on : OwnersGo p None (fr ∷ frs) (length frs + 1) h k) (others : StaysApart p h k frs fr) (gift : KeepsGifts p h k fr) (gifts : AllKeepGifts p h k frs)
     (carries : Carries h k) (ready : KeepsReady p h k fr)
     (mine : (o : ℕ) (x y : Object) → object_at h o ≡ Some x → object_at k o ≡ Some y → x.finished ≡ true → is_heavy_class p x.class ≡ true → gives_away p h fr.locals t.action o x.class ≡ false
     → x.owner ≡ owners.Frame (length frs + 1) → y.owner ≡ owners.Frame (length frs + 1))
-    (later : HaveEnds k) (new : AreNew p (fr ∷ frs)) (unready : AreUnfinished p h (fr ∷ frs)) (unready' : AreUnfinished p k (fr ∷ frs)) (aged : IsOld p k frs after old) (after_method : after.method ≡ fr.method) where
+    (later : HaveEnds k) (new : AreNew p (fr ∷ frs)) (unready : AreUnfinished p h (fr ∷ frs)) (unready' : AreUnfinished p k (fr ∷ frs)) (aged : IsOld p k frs after old)
+    (opened : reopens (method_at p fr.method) ≡ true → (w : ℕ) (y : Object) → fr.locals.this ≡ values.Object w → object_at h w ≡ Some y → is_heavy_class p y.class ≡ true → OwesOrHolds p h w y → y.link ≡ None → HasOwningField p y.class
+    → (y.finished ≡ true) × IsLentFrom p h frs w y.owner)
+    (renews' : AllRenewInHand p h frs)
+    (declares : (o : ℕ) (x : Object) (w : ℕ) (f : FieldId) (y : Object) → object_at h o ≡ Some x → is_heavy_class p x.class ≡ true → x.owner ≡ owners.Field w f → object_at h w ≡ Some y → HasOwningField p y.class)
+    (after_method : after.method ≡ fr.method) (after_this : after.locals.this ≡ fr.locals.this) where
   abbrev at : ℕ
   at = length frs + 1
 
@@ -206,6 +255,9 @@ module _ (p : Program) (ac : Accept p) (forms : HasPlainForms p) (h k j : HeapCo
         go (ends one) = subst (λ (m : ℕ). OwesOrHolds p h m risen.object) (sym one) (subst (OwesOrHolds p h o) (one_object x risen.object (object_at h o) before (ap (object_at h) (sym one) ∙ risen.at)) owes)
         go (goes v f y there own rest) = inl (field_owes risen.object v f (ap (λ (u : Object). u.owner) (one_object risen.object y (object_at h goal) risen.at there) ∙ own))
 
+    renews_goal : is_renewed p h fr goal ≡ true
+    renews_goal = step_renews p h fr index t goal here risen.renews
+
     pub temp : (d : ℕ) × IsSmall (places.Temp d) × (root_of h (place_value p h fr.method fr.locals (places.Temp d)) ≡ Some goal) × ((held : PlaceSet) → has held (places.Temp d) ≡ true → is_target p t.action held ≡ true)
     temp = target_temp p ac forms h fr old frs st index t here row goal risen.renews
 
@@ -215,26 +267,19 @@ module _ (p : Program) (ac : Accept p) (forms : HasPlainForms p) (h k j : HeapCo
         × IsOwned p h (gives goal risen.object.class) (renewed goal) old frs fr goal risen.object c × (is_own c.fact.mode ≡ true)
 
     -- the target is in the frame's hand
-    pub hand : OwnsHere ⊎ (IsLentFrom p h frs goal risen.object.owner ⊎ (IsHeldBy p fr risen.object.owner ⊎ IsHeldByLent p h (IsLentFrom p h frs) fr risen.object.owner))
-    hand = by (covered (places.Temp temp.0) goal risen.object temp.1 temp.2 risen.at risen.heavy.1 owes_goal)
+    pub hand : OwnsHere ⊎ IsHeldOrLent p h frs fr goal risen.object.owner
+    hand = by (covered (places.Temp temp.0) goal risen.object temp.1 refl temp.2 risen.at risen.heavy.1 owes_goal)
       where
-        by : IsKeyed p h (gives goal risen.object.class) (renewed goal) old frs fr (places.Temp temp.0) goal risen.object
-            → OwnsHere ⊎ (IsLentFrom p h frs goal risen.object.owner ⊎ (IsHeldBy p fr risen.object.owner ⊎ IsHeldByLent p h (IsLentFrom p h frs) fr risen.object.owner))
+        by : IsKeyed p h (gives goal risen.object.class) (renewed goal) old frs fr (places.Temp temp.0) goal risen.object → OwnsHere ⊎ IsHeldOrLent p h frs fr goal risen.object.owner
         by (owned c in' key) = elim (claims_by p (method_at p fr.method) c.origin c.fact key.owning) [
           | inl own ↦ inl (c, in', key, own)
-          | inr held ↦ inr (inr (inl (
-            held.1,
-            held_by_this p h (gives goal risen.object.class) (renewed goal) old frs fr goal risen.object c risen.heavy.0 held.0 held.1
-                (claims_owned p (method_at p fr.method) c.origin c.fact key.owning).0,
-          )))
+          | inr held ↦ inr (holds goal risen.object risen.at risen.heavy.1 owes_goal risen.heavy.0 renews_goal (gives goal risen.object.class) (renewed goal) c held.0 held.1
+              (claims_owned p (method_at p fr.method) c.origin c.fact key.owning).0)
         ]
         by (unowned u) =
             elim (target_mode p ac forms h fr old frs st index t here row (gives goal risen.object.class) (renewed goal) goal risen.object u.covers (temp.3 u.covers.fact.places u.here)) [
               | inl claimed ↦ absurd (true≢false (sym claimed ∙ u.unowned))
-              | inr mode ↦ elim mode [
-                | inl lends ↦ inr (inl (u.covers.lends lends risen.heavy.0).1)
-                | inr anew' ↦ elim (holds goal risen.object risen.at risen.heavy.1 owes_goal risen.heavy.0 (gives goal risen.object.class) (renewed goal) u.covers anew') [ inl lends ↦ inr (inl lends) | inr held ↦ inr (inr (inr held)) ]
-              ]
+              | inr lends ↦ inr (inl (u.covers.lends lends risen.heavy.0).1)
             ]
 
     -- what the frame owns so is not given away
@@ -257,6 +302,10 @@ module _ (p : Program) (ac : Accept p) (forms : HasPlainForms p) (h k j : HeapCo
     pub in_hand : HasInHand p h (IsLentFrom p h frs) at fr goal risen.object.owner
     in_hand = elim hand [ inl owns ↦ inl (its_owner owns) | inr other ↦ inr other ]
 
+    reached_here : IsReachedBy p h frs o
+    reached_here =
+        record { mid = fr ∷ []; target = goal; object = risen.object; at = risen.at; heavy = risen.heavy; lent = (renews_goal, in_hand); within = risen.within; new = new; unfinished = unready }
+
     -- ---- the target in the heap that the step would leave
 
     next : (y : Object) × (object_at k goal ≡ Some y) × (y.class ≡ risen.object.class) × (risen.object.finished ≡ true → (y.finished ≡ true) × (y.link ≡ risen.object.link))
@@ -265,13 +314,17 @@ module _ (p : Program) (ac : Accept p) (forms : HasPlainForms p) (h k j : HeapCo
     heavy_next : IsHeavyObject p next.0
     heavy_next = ((next.3 risen.heavy.0).0, ap (is_heavy_class p) next.2 ∙ risen.heavy.1)
 
-    lends_next : IsHeldByLent p h (IsLentFrom p h frs) fr risen.object.owner → (next.0.owner ≡ risen.object.owner) × IsHeldByLent p k (IsLentFrom p k frs) fr next.0.owner
-    lends_next held =
+    -- what the frame does not own keeps its owner
+    other_next : IsHeldOrLent p h frs fr goal risen.object.owner → (next.0.owner ≡ risen.object.owner) × IsHeldOrLent p k frs fr goal next.0.owner
+    other_next (inl lent) = let kept = others.keeps goal risen.object next.0 risen.at next.1 risen.heavy.0 risen.heavy.1 lent in (kept.0, inl kept.1)
+    other_next (inr (inl held)) =
+        let stay = held_stays p fr frs h k ways go_on goal risen.object next.0 risen.at next.1 risen.heavy held.1 in (stay, inr (inl (subst (IsHeldBy p fr) (sym stay) held)))
+    other_next (inr (inr held)) =
         let y = ways.objects held.holder held.object held.at in
         let kept = others.keeps held.holder held.object y.0 held.at y.1 held.finished held.heavy held.lends in
-        let stay = field_stays p below n h k ways go_on goal risen.object next.0 held.holder held.field risen.at next.1 risen.heavy held.owns held.object held.at held.finished in (
+        let stay = field_stays p fr frs h k ways go_on goal risen.object next.0 held.holder held.field risen.at next.1 risen.heavy held.owns held.object held.at held.finished in (
           stay,
-          record {
+          inr (inr (record {
             holder = held.holder;
             field = held.field;
             owns = stay ∙ held.owns;
@@ -283,23 +336,17 @@ module _ (p : Program) (ac : Accept p) (forms : HasPlainForms p) (h k j : HeapCo
             unlinked = (y.3 held.finished).1 ∙ held.unlinked;
             heavy = ap (is_heavy_class p) y.2 ∙ held.heavy;
             lends = kept.1;
-          },
+          })),
         )
 
     in_hand_next : HasInHand p k (IsLentFrom p k frs) at fr goal next.0.owner
     in_hand_next = elim hand [
       | inl owns ↦ inl (mine goal risen.object next.0 risen.at next.1 risen.heavy.0 risen.heavy.1 (not_given owns) (its_owner owns))
-      | inr other ↦ elim other [
-        | inl lent ↦ inr (inl (others.keeps goal risen.object next.0 risen.at next.1 risen.heavy.0 risen.heavy.1 lent).1)
-        | inr field ↦ elim field [
-          | inl held ↦ inr (inr (inl (subst (IsHeldBy p fr) (sym (lasting goal risen.object next.0 risen.at next.1 risen.heavy.0 risen.heavy.1 held.0 held.1)) held)))
-          | inr held ↦ inr (inr (inr (lends_next held).1))
-        ]
-      ]
+      | inr other ↦ inr (other_next other).1
     ]
 
     within_next : IsWithin k goal o
-    within_next = within_stays p below n h k ways go_on goal o risen.object x risen.at risen.heavy.1 before done risen.within
+    within_next = within_stays p fr frs h k ways go_on goal o risen.object x risen.at risen.heavy.1 before done risen.within
 
     reached : IsReachedBy p k frs o
     reached = record {
@@ -308,105 +355,157 @@ module _ (p : Program) (ac : Accept p) (forms : HasPlainForms p) (h k j : HeapCo
       object = next.0;
       at = next.1;
       heavy = heavy_next;
-      lent = ((gift goal).1 ∙ step_renews p h fr index t goal here risen.renews, in_hand_next);
+      lent = ((gift goal).1 ∙ renews_goal, in_hand_next);
       within = within_next;
       new = new;
       unfinished = unready';
     }
 
+    -- each frame below that owns the object renews it
+    renewed_below : (z : Object) → object_at k o ≡ Some z → AllRenewIt p k frs o z.owner
+    renewed_below z now =
+        renew_it_then p fr frs h k ways go_on o x z before now (done, heavy) frs (omega arith) gifts
+        (all_renew_it p h ways.have ways.unlinked o x before (done, heavy) (λ w f y own there. declares o x w f y before heavy own there) frs reached_here renews')
+
     -- ---- the fact that claims the object
 
-    held_not_lent : IsHeldBy p fr x.owner → IsLentFrom p h frs o x.owner → ⊥
-    held_not_lent held lent =
-        not_made_here p h ways.have fr frs new unready o o x (lent_ends_below p h ways.have frs unready.1 o x before lent) before held (made_top p h ways.have fr frs unready o x before held)
-
-    -- it has the target
-    has_target : (c : Covers p h (gives o x.class) anew old frs fr o x) → IsOwned p h (gives o x.class) anew old frs fr o x c → gives o x.class ≡ false → is_target p t.action c.fact.places ≡ true
-    has_target c key kept = elim (claimed_owner p h (gives o x.class) anew old frs fr o x c key kept done) [
-      | inl own ↦ at_goal (owned_apart p h ways.have fr frs new unready o goal x risen.object before own risen.at in_hand (inl risen.within)) (λ lent. not_lent p h frs o x.owner own lent)
-          (λ held. (let never : owners.Field held.holder held.field ≡ owners.Frame at = sym held.owns ∙ own in cc))
-      | inr held ↦ at_goal (made_apart p h ways.have fr frs new unready o goal x risen.object before held risen.at in_hand (inl risen.within)) (λ lent. held_not_lent held lent)
-          (λ lends. true≢false (sym (constructor_of p h ways.have fr x.owner held) ∙ lends.method))
+    -- where the object is the target, and it is not lent, a fact that claims it has the target
+    has_target : goal ≡ o → (IsLentFrom p h frs o x.owner → ⊥) → (c : Covers p h (gives o x.class) anew old frs fr o x) → IsOwned p h (gives o x.class) anew old frs fr o x c → is_target p t.action c.fact.places ≡ true
+    has_target one no_lent c key = elim (key.others (places.Temp temp.0) temp.1 refl (temp.2 ∙ ap Some one)) [
+      | inl in' ↦ temp.3 c.fact.places in'
+      | inr u ↦ absurd (elim (target_mode p ac forms h fr old frs st index t here row (gives o x.class) anew o x u.covers (temp.3 u.covers.fact.places u.here)) [
+        | inl claimed ↦ true≢false (sym claimed ∙ u.unowned)
+        | inr lends ↦ no_lent (u.covers.lends lends done).1
+      ])
     ]
-      where
-        at_goal : goal ≡ o → (IsLentFrom p h frs o x.owner → ⊥) → (IsHeldByLent p h (IsLentFrom p h frs) fr x.owner → ⊥) → is_target p t.action c.fact.places ≡ true
-        at_goal one no_lent no_held = elim (key.others (places.Temp temp.0) temp.1 (temp.2 ∙ ap Some one)) [
-          | inl in' ↦ temp.3 c.fact.places in'
-          | inr u ↦ absurd (elim (target_mode p ac forms h fr old frs st index t here row (gives o x.class) anew o x u.covers (temp.3 u.covers.fact.places u.here)) [
-            | inl claimed ↦ true≢false (sym claimed ∙ u.unowned)
-            | inr mode ↦ elim mode [
-              | inl lends ↦ no_lent (u.covers.lends lends done).1
-              | inr anew' ↦ elim (holds o x before heavy owes done (gives o x.class) anew u.covers anew') [ inl lends ↦ no_lent lends | inr held ↦ no_held held ]
-            ]
-          ])
-        ]
 
     own_after : (m : Mode) (held : PlaceSet) → is_own m ≡ true → is_own (mode_at m held) ≡ true
     own_after modes.Own held own = refl
     own_after m held own = absurd (true≢false (sym own))
 
-    -- where the frame owns the object after the call, a fact goes on owning it
-    goes_on : (z : Object) → object_at k o ≡ Some z → z.owner ≡ owners.Frame at → StopsOwning p h fr old frs gives renewed Goes o → ⊥
-    goes_on z now own stops = elim hand [
-      | inl owns ↦ still (subst (λ (m : ℕ). StopsOwning p h fr old frs gives renewed Goes m) (sym one) stops) owns
-      | inr other ↦ elim other [
-        | inl lent ↦ not_lent p h frs goal risen.object.owner (sym (others.keeps goal risen.object next.0 risen.at next.1 risen.heavy.0 risen.heavy.1 lent).0 ∙ its) lent
-        | inr field ↦ elim field [
-          | inl held ↦ (let never : owners.Field held.1.holder held.1.field ≡ owners.Frame at =
-              sym held.1.owns ∙ sym (lasting goal risen.object next.0 risen.at next.1 risen.heavy.0 risen.heavy.1 held.0 held.1) ∙ its in cc)
-          | inr held ↦ (let never : owners.Field held.holder held.field ≡ owners.Frame at = sym held.owns ∙ sym (lends_next held).0 ∙ its in cc)
-        ]
+    -- where the frame owns the object after the call, it is the target
+    module _ (z : Object) (now : object_at k o ≡ Some z) (own : z.owner ≡ owners.Frame at) where
+      owned_goal : goal ≡ o
+      owned_goal = owned_apart p k later fr frs new unready' o goal z next.0 now own next.1 in_hand_next (inl within_next)
+
+      owned_next : next.0.owner ≡ owners.Frame at
+      owned_next = ap (λ (u : Object). u.owner) (one_object next.0 z (object_at k o) (ap (object_at k) (sym owned_goal) ∙ next.1) now) ∙ own
+
+      owned_not_lent : IsLentFrom p h frs o x.owner → ⊥
+      owned_not_lent lent = not_lent p h frs o x.owner (sym (others.keeps o x z before now done heavy lent).0 ∙ own) lent
+
+      -- a fact goes on owning it
+      goes_on : StopsOwning p h fr old frs gives renewed Goes o → ⊥
+      goes_on stops = elim hand [
+        | inl owns ↦ still (subst (λ (m : ℕ). StopsOwning p h fr old frs gives renewed Goes m) (sym owned_goal) stops) owns
+        | inr other ↦ not_own (sym (other_next other).0 ∙ owned_next) other
       ]
+        where
+          not_own : risen.object.owner ≡ owners.Frame at → IsHeldOrLent p h frs fr goal risen.object.owner → ⊥
+          not_own its (inl lent) = not_lent p h frs goal risen.object.owner its lent
+          not_own its (inr (inl held)) = let never : owners.Field held.1.holder held.1.field ≡ owners.Frame at = sym held.1.owns ∙ its in cc
+          not_own its (inr (inr held)) = let never : owners.Field held.holder held.field ≡ owners.Frame at = sym held.owns ∙ its in cc
+
+          still : StopsOwning p h fr old frs gives renewed Goes goal → OwnsHere → ⊥
+          still ends' (c, in', key, own') =
+              true≢false (sym (own_after c.fact.mode (held_after c.fact.places) own')
+              ∙ ends' risen.object risen.at (places.Temp temp.0) temp.1 temp.2 c key own' (fact_anew c.fact (held_after c.fact.places))
+              ((λ moved. absurd (stays' moved)), (λ is. record { position = answer'.0; target = answer'.1; may = answer'.2; anew = refl })))
+            where
+              stays' : moved_at_call p c.origin t.action t.edge c.fact ≡ moves.Moves → ⊥
+              stays' = target_stays p ac forms h fr old frs st index t here row (gives goal risen.object.class) (renewed goal) goal risen.object c (temp.3 c.fact.places in')
+
+              answer' : (m : ℕ) × (reset_in (callee p t.action) ≡ Some m) × MayBeAnew p st.number c.origin t.action m c.fact × (moved_at_call p c.origin t.action t.edge c.fact ≡ moves.Moves → ⊥)
+              answer' = answer (gives goal risen.object.class) (renewed goal) goal risen.object c (temp.3 c.fact.places in')
+
+    -- so it is where a field of `this` owns it, for which the frame answers
+    module _ (answers : answers_for_fields (method_at p fr.method) ≡ true) (held : IsOwnedByThis p fr x.owner) where
+      held_not_lent : makes_alone (method_at p fr.method) ≡ true → IsLentFrom p h frs o x.owner → ⊥
+      held_not_lent alone lent =
+          not_made_here p h ways.have fr frs new unready o o x (lent_ends_below p h ways.have frs unready.1 o x before lent) before (alone, held) (made_top p h ways.have fr frs unready o x before (alone, held))
+
+      module _ (opens : reopens (method_at p fr.method) ≡ true) where
+        this : (y : Object) × (object_at h held.holder ≡ Some y) × (y.link ≡ None) × (is_heavy_class p y.class ≡ true)
+        this = ways.unlinked o x held.holder held.field before heavy held.owns
+
+        bears : OwesOrHolds p h held.holder this.0
+        bears = inr (inl (o, x, before, done, heavy, held_at x.owner held.holder held.field held.owns))
+
+        lends : (this.0.finished ≡ true) × IsLentFrom p h frs held.holder this.0.owner
+        lends = opened opens held.holder this.0 held.runs this.1 this.3 bears this.2 (declares o x held.holder held.field this.0 before heavy held.owns this.1)
+
+        content_goal : goal ≡ o
+        content_goal =
+            content_in_hand p h ways.have fr frs o x before ways.unlinked held.holder held.field held.owns held.runs this.0 this.1 (lends.0, this.3) this.2 bears opens lends.1 goal risen.object risen.at risen.within renews' in_hand
+
+        -- one object is lent
+        content_not_lent : IsLentFrom p h frs o x.owner → ⊥
+        content_not_lent lent = no_way_round h ways.have o held.holder held.field x before held.owns (subst (λ (m : ℕ). IsWithin h m o) (lent_once frs renews' lent lends.1) (itself o))
+          where
+            lent_once : (gs : List Frame) → AllRenewInHand p h gs → IsLentFrom p h gs o x.owner → IsLentFrom p h gs held.holder this.0.owner → o ≡ held.holder
+            lent_once [] all never second = absurd never
+            lent_once (c ∷ gs) all first second = (all.0).one o held.holder first.0 second.0
+
+      held_goal : (goal ≡ o) × (IsLentFrom p h frs o x.owner → ⊥)
+      held_goal = elim (answers_by (method_at p fr.method) answers) [
+        | inl alone ↦ (made_apart p h ways.have fr frs new unready o goal x risen.object before (alone, held) risen.at in_hand (inl risen.within), held_not_lent alone)
+        | inr opens ↦ (content_goal opens, content_not_lent opens)
+      ]
+
+    -- what goes on of a fact that claims the object knows no names, and needs all
+    module _ (one : goal ≡ o) (no_lent : IsLentFrom p h frs o x.owner → ⊥) where
+      goes_emptied : (origin : Origin) (g : Fact)
+          → (w : Object) × (object_at h o ≡ Some w) × (d : Covers p h (gives o w.class) anew old frs fr o w) × IsOwned p h (gives o w.class) anew old frs fr o w d × (origin ≡ d.origin) × Goes d.origin d.fact g
+          → (g.called ≡ no_names) × (g.full ≡ true)
+      goes_emptied origin g (w, there, d, own, same', goes') = (ap (λ (f : Fact). f.called) is, ap (λ (f : Fact). f.full) is)
+        where
+          target : is_target p t.action d.fact.places ≡ true
+          target =
+              subst (λ (u : Object). (e : Covers p h (gives o u.class) anew old frs fr o u) → IsOwned p h (gives o u.class) anew old frs fr o u e → is_target p t.action e.fact.places ≡ true)
+              (one_object x w (object_at h o) before there) (has_target one no_lent) d own
+
+          is : g ≡ fact_anew d.fact (held_after d.fact.places)
+          is = (goes'.1 target).anew
+
+    -- what claims the object after the call, but for what is lent with `this`
+    emptied : (z : Object) → object_at k o ≡ Some z → (c : Covers p k false anew old frs after o z) → IsOwned p k false anew old frs after o z c → (is_held c.fact.mode && lends_this p after) ≡ false → IsFromOwned o c.origin c.fact
+        → (c.fact.called ≡ no_names) × (c.fact.full ≡ true)
+    emptied z now c key keeps from = elim (claims_by p (method_at p after.method) c.origin c.fact key.owning) [
+      | inl own ↦ by_own own from
+      | inr held ↦ by_held held.0 held.1 from
     ]
       where
-        one : goal ≡ o
-        one = owned_apart p k later fr frs new unready' o goal z next.0 now own next.1 in_hand_next (inl within_next)
+        by_own : is_own c.fact.mode ≡ true → IsFromOwned o c.origin c.fact → (c.fact.called ≡ no_names) × (c.fact.full ≡ true)
+        by_own own (inl was) = goes_emptied (owned_goal z now (key.owner refl own)) (owned_not_lent z now (key.owner refl own)) c.origin c.fact was
+        by_own own (inr (inl (stops, own'))) = absurd (goes_on z now (key.owner refl own) stops)
+        by_own own (inr (inr none)) = none
 
-        its : next.0.owner ≡ owners.Frame at
-        its = ap (λ (u : Object). u.owner) (one_object next.0 z (object_at k o) (ap (object_at k) (sym one) ∙ next.1) now) ∙ own
-
-        still : StopsOwning p h fr old frs gives renewed Goes goal → OwnsHere → ⊥
-        still ends' (c, in', key, own') =
-            true≢false (sym (own_after c.fact.mode (held_after c.fact.places) own')
-            ∙ ends' risen.object risen.at (places.Temp temp.0) temp.1 temp.2 c key (fact_anew c.fact (held_after c.fact.places))
-            ((λ moved. absurd (stays' moved)), (λ is. record { position = answer'.0; target = answer'.1; may = answer'.2; anew = refl })))
+        by_held : is_held c.fact.mode ≡ true → answers_for_fields (method_at p after.method) ≡ true → IsFromOwned o c.origin c.fact → (c.fact.called ≡ no_names) × (c.fact.full ≡ true)
+        by_held held answers (inr (inl (stops, own'))) = absurd (not_both c.fact.mode held own')
           where
-            stays' : moved_at_call p c.origin t.action t.edge c.fact ≡ moves.Moves → ⊥
-            stays' = target_stays p ac forms h fr old frs st index t here row (gives goal risen.object.class) (renewed goal) goal risen.object c (temp.3 c.fact.places in')
-
-            answer' : (m : ℕ) × (reset_in (callee p t.action) ≡ Some m) × MayBeAnew p st.number c.origin t.action m c.fact × (moved_at_call p c.origin t.action t.edge c.fact ≡ moves.Moves → ⊥)
-            answer' = answer (gives goal risen.object.class) (renewed goal) goal risen.object c (temp.3 c.fact.places in')
-
-    -- what claims the object after the call knows no names, and needs all
-    emptied : (z : Object) → object_at k o ≡ Some z → (c : Covers p k false anew old frs after o z) → IsOwned p k false anew old frs after o z c → claims p (method_at p fr.method) c.origin c.fact ≡ true → IsFromOwned o c.origin c.fact
-        → (c.fact.called ≡ no_names) × (c.fact.full ≡ true)
-    emptied z now c key claimed (inl (w, there, d, own, origin, goes')) = by w there d own goes'
-      where
-        by : (w : Object) → object_at h o ≡ Some w → (d : Covers p h (gives o w.class) anew old frs fr o w) → IsOwned p h (gives o w.class) anew old frs fr o w d → Goes d.origin d.fact c.fact
-            → (c.fact.called ≡ no_names) × (c.fact.full ≡ true)
-        by w there d own goes' = (ap (λ (f : Fact). f.called) is, ap (λ (f : Fact). f.full) is)
+            not_both : (m : Mode) → is_held m ≡ true → is_own m ≡ true → ⊥
+            not_both modes.Own is own = true≢false (sym is)
+            not_both m is own = true≢false (sym own)
+        by_held held answers (inr (inr none)) = none
+        by_held held answers (inl was) = let its = held_goal answers' in_field in goes_emptied its.0 its.1 c.origin c.fact was
           where
-            one : x ≡ w
-            one = one_object x w (object_at h o) before there
+            answers' : answers_for_fields (method_at p fr.method) ≡ true
+            answers' = ap (λ (m : MethodId). answers_for_fields (method_at p m)) (sym after_method) ∙ answers
 
-            kept : gives o w.class ≡ false
-            kept = go (gives o w.class) refl
-              where
-                go : (b : Bool) → gives o w.class ≡ b → gives o w.class ≡ false
-                go false none = none
-                go true gives' =
-                    absurd (true≢false (sym (claims_owned p (method_at p fr.method) c.origin c.fact claimed).1
-                    ∙ goes'.0 (away_moves p ac h fr st old frs index t here row (gives o w.class) anew o w d own (ap (λ (u : Object). is_heavy_class p u.class) (sym one) ∙ heavy) (at_step o w.class gives'))))
+            done' : z.finished ≡ true
+            done' = let w = ways.objects o x before in ap (λ (u : Object). u.finished) (one_object z w.0 (object_at k o) now w.1) ∙ (w.3 done).0
 
-            target : is_target p t.action d.fact.places ≡ true
-            target =
-                subst (λ (u : Object). (e : Covers p h (gives o u.class) anew old frs fr o u) → IsOwned p h (gives o u.class) anew old frs fr o u e → gives o u.class ≡ false → is_target p t.action e.fact.places ≡ true) one
-                has_target d own kept
+            by_this : IsOwnedByThis p after z.owner
+            by_this = held_by_this p k false anew old frs after o z c done' held answers (ap (λ (b : Bool). b && lends_this p after) (sym held) ∙ keeps) (claims_owned p (method_at p after.method) c.origin c.fact key.owning).0
 
-            is : c.fact ≡ fact_anew d.fact (held_after d.fact.places)
-            is = (goes'.1 target).anew
-    emptied z now c key claimed (inr (inl (stops, own'))) = absurd (goes_on z now (key.owner refl own') stops)
-    emptied z now c key claimed (inr (inr none)) = none
+            in_field : IsOwnedByThis p fr x.owner
+            in_field = record {
+              field = by_this.field;
+              declared = ap (λ (m : MethodId). is_declared_beside p m (field_at p by_this.field)) (sym after_method) ∙ by_this.declared;
+              holder = by_this.holder;
+              runs = sym after_this ∙ by_this.runs;
+              owns = field_was p fr frs h k ways go_on o x z by_this.holder by_this.field before now (done, heavy) by_this.owns;
+            }
 
     -- the frame's place after the reset
     keyed_anew : (q : Place) (z y : Object) → object_at k o ≡ Some z → IsAlike z y → (y ≡ z) ⊎ IsEmptied p z y → IsKeyedAfter q o z → IsKeyed p j false false old frs after q o y
@@ -419,16 +518,10 @@ module _ (p : Program) (ac : Accept p) (forms : HasPlainForms p) (h k j : HeapCo
         by (inr u) = unowned (unowned_anew p k j same fields alike later false anew false old frs after aged o z y now wide like.class like.finished like.owner reached q u)
         by (inl (c, in', key', from)) =
             owned_anew p k j same fields alike later false anew false old frs after aged o z y now wide like.class like.finished like.owner reached q c in' key'
-            (λ claimed apart. true_after (as_it_is p c.origin c.fact z none anew (c.true' claimed apart)))
+            (λ claimed apart keeps. true_after (emptied z now c key' keeps from) (as_it_is p c.origin c.fact z (emptied z now c key' keeps from) anew (c.true' claimed apart keeps)))
           where
-            method : claims p (method_at p fr.method) c.origin c.fact ≡ claims p (method_at p after.method) c.origin c.fact
-            method = ap (λ (m : MethodId). claims p (method_at p m) c.origin c.fact) (sym after_method)
-
-            none : (c.fact.called ≡ no_names) × (c.fact.full ≡ true)
-            none = emptied z now c key' (method ∙ key'.owning) from
-
-            true_after : IsTrueOf p z c.origin c.fact → IsTrueOf p y c.origin c.fact
-            true_after truth = elim turn [
+            true_after : (c.fact.called ≡ no_names) × (c.fact.full ≡ true) → IsTrueOf p z c.origin c.fact → IsTrueOf p y c.origin c.fact
+            true_after none truth = elim turn [
               | inl it ↦ subst (λ (u : Object). IsTrueOf p u c.origin c.fact) (sym it) truth
               | inr em ↦ true_anew p c.origin c.fact z y (origin_needs_all p c.body c.origin after.control c.fact c.reached) none like.class like.finished em.called em.must truth
             ]
@@ -440,9 +533,9 @@ module _ (p : Program) (ac : Accept p) (forms : HasPlainForms p) (h k j : HeapCo
     stay = alike_holders p k j alike
 
     -- the frame that called
-    pub covered_anew : ((q : Place) (o : ℕ) (y : Object) → IsSmall q → root_of k (place_value p k after.method after.locals q) ≡ Some o → object_at k o ≡ Some y → is_heavy_class p y.class ≡ true → OwesOrHolds p k o y → IsKeyedAfter q o y)
+    pub covered_anew : ((q : Place) (o : ℕ) (y : Object) → IsSmall q → is_lent_place p after q ≡ false → root_of k (place_value p k after.method after.locals q) ≡ Some o → object_at k o ≡ Some y → is_heavy_class p y.class ≡ true → OwesOrHolds p k o y → IsKeyedAfter q o y)
         → IsCovered p j gives_none renews_none old frs after
-    covered_anew from q o y small held now heavy owes = by (renewed o) refl
+    covered_anew from q o y small open' held now heavy owes = by (renewed o) refl
       where
         turned : (z : Object) × (object_at k o ≡ Some z) × IsAlike z y × ((y ≡ z) ⊎ IsTurnedAnew p h fr.locals t.action o z y)
         turned = turns o y (place_value p j after.method after.locals q) held now
@@ -451,13 +544,13 @@ module _ (p : Program) (ac : Accept p) (forms : HasPlainForms p) (h k j : HeapCo
         like = turned.2
 
         owes' : OwesOrHolds p k o turned.0
-        owes' = bears_before p k j stay o turned.0 y like.finished like.owner owes
+        owes' = bears_before p k j stay o turned.0 y like.class like.finished like.owner owes
 
         heavy' : is_heavy_class p turned.0.class ≡ true
         heavy' = ap (is_heavy_class p) (sym like.class) ∙ heavy
 
         key : IsKeyedAfter q o turned.0
-        key = from q o turned.0 small (sym (same_held p k j same fields alike after.method after.locals q) ∙ held) turned.1 heavy' owes'
+        key = from q o turned.0 small open' (sym (same_held p k j same fields alike after.method after.locals q) ∙ held) turned.1 heavy' owes'
 
         as_keyed : IsKeyed p k false (renewed o) old frs after q o turned.0
         as_keyed = elim key [ inl is ↦ owned is.0 is.1 is.2 | inr u ↦ unowned u ]
@@ -476,7 +569,7 @@ module _ (p : Program) (ac : Accept p) (forms : HasPlainForms p) (h k j : HeapCo
             place = target_temp p ac forms h fr old frs st index t here row o (read o is).0
 
             by_made : (b : Bool) → turned.0.finished ≡ b → IsKeyed p j false false old frs after q o y
-            by_made true made = absurd (true≢false (sym (ready (places.Temp place.0) o w turned.0 place.1 place.2 before turned.1 made) ∙ unmade))
+            by_made true made = absurd (true≢false (sym (ready (places.Temp place.0) o w turned.0 place.1 place.2 before turned.1 (ap (is_heavy_class p) (sym class) ∙ heavy') made) ∙ unmade))
             by_made false still = keyed_unmade p k j same fields alike (renewed o) false old frs after q o turned.0 y like.class like.finished like.owner still as_keyed
 
         by : (b : Bool) → renewed o ≡ b → IsKeyed p j false false old frs after q o y
@@ -509,11 +602,12 @@ module _ (p : Program) (ac : Accept p) (forms : HasPlainForms p) (h k j : HeapCo
               reached = λ heavy owes.
                   let heavy' : is_heavy_class p turned.0.class ≡ true = ap (is_heavy_class p) (sym turned.2.class) ∙ heavy in
                   let w = ways.objects o em.was em.before in
-                  reached o em.was em.before em.done (ap (is_heavy_class p) (sym (ap (λ (u : Object). u.class) (one_object turned.0 w.0 (object_at k o) turned.1 w.1) ∙ w.2)) ∙ heavy')
-                  (bore o em.was turned.0 em.before turned.1 owes) (em.risen heavy');
+                  let wide : is_heavy_class p em.was.class ≡ true = ap (is_heavy_class p) (sym (ap (λ (u : Object). u.class) (one_object turned.0 w.0 (object_at k o) turned.1 w.1) ∙ w.2)) ∙ heavy' in
+                  let bears' = bore o em.was turned.0 em.before turned.1 owes in
+                  (reached o em.was em.before em.done wide bears' (em.risen heavy'), renewed_below o em.was em.before em.done wide bears' (em.risen heavy') turned.0 turned.1);
             }
 
     -- all of them
-    pub all_anew : ((q : Place) (o : ℕ) (y : Object) → IsSmall q → root_of k (place_value p k after.method after.locals q) ≡ Some o → object_at k o ≡ Some y → is_heavy_class p y.class ≡ true → OwesOrHolds p k o y → IsKeyedAfter q o y)
+    pub all_anew : ((q : Place) (o : ℕ) (y : Object) → IsSmall q → is_lent_place p after q ≡ false → root_of k (place_value p k after.method after.locals q) ≡ Some o → object_at k o ≡ Some y → is_heavy_class p y.class ≡ true → OwesOrHolds p k o y → IsKeyedAfter q o y)
         → AreWaiting p k old frs → OwnersBelow j (length frs + 1) → AreCovered p j (after ∷ frs)
     all_anew from waits low = (old, old_alike p k j alike frs after old aged, covered_anew from, rest_anew waits, low)

@@ -31,14 +31,14 @@ use Rattle.value_laws.specs.Configuration.{Frame}
 use Rattle.value_laws.proofs.PlaceLaws.{single_place-alone}
 use Rattle.value_laws.specs.Agreement.{Stands}
 use Rattle.value_laws.specs.PlainForms.{is_lent_parameter}
-use Rattle.value_laws.specs.PlaceFacts.{Covers, HasOwningField, IsTrueOf, asked_of, claims, fits_field, is_heavy_field, is_lent, is_owning_fact}
+use Rattle.value_laws.specs.PlaceFacts.{Covers, HasOwningField, IsInField, IsTrueOf, asked_of, claims, fits_field, is_heavy_field, is_lent, is_owning_fact}
 use Rattle.covering_laws.proofs.HeavyFields.{tells_by}
 use Rattle.covering_laws.proofs.Births.{at_itself, at_one}
 use Rattle.rlc_base.proofs.SetLaws.{empty_within, within_trans, within_union_left}
 use Rattle.ownership_rules.specs.Facts.{has, is_held, is_own, is_this_origin}
 use Rattle.std.specs.Prelude.{◌||◌, if◌then◌else◌}
 use Rattle.ledger_obligations.specs.Bodies.{constructs}
-use Rattle.value_laws.specs.Renewing.{IsLentFrom, makes_alone}
+use Rattle.value_laws.specs.Renewing.{IsLentFrom, answers_for_fields, lends_this, reopens}
 
 pub not_own : (a b : Bool) → (a || b) ≡ false → a ≡ false
 not_own true b is = is
@@ -80,17 +80,18 @@ module _ (p : Program) (k : HeapContents) (fr : Frame) (st : Stands p fr) (start
   -- held, and its class has an obligation where the field's type has one.
   pub entered_covers : (q : Place) (o : ℕ) (y : Object) (g : Origin) (mode : Mode) (names : Names) (full : Bool) (n : ℕ) → IsSmall q
       → slice_get (births_at_entry p st.number) n ≡ Some (g, fact_at q mode names full) → root_of k (place_value p k fr.method fr.locals q) ≡ Some o
-      → (claims p (method_at p fr.method) g (fact_at q mode names full) ≡ true → IsTrueOf p y g (fact_at q mode names full))
+      → (claims p (method_at p fr.method) g (fact_at q mode names full) ≡ true → (is_held mode && lends_this p fr) ≡ false → IsTrueOf p y g (fact_at q mode names full))
       → (is_lent p (method_at p fr.method) g.kind ≡ true
       → (is_owning_fact p g (fact_at q mode names full) ≡ false) × (is_held mode ≡ false) × (set.is_subset names (asked_of p (method_at p fr.method) g.kind) ≡ true)) → (is_held mode ≡ true → is_empty names ≡ true)
-      → (is_held mode ≡ true → makes_alone (method_at p fr.method) ≡ true → ⊥) → (mode ≡ modes.Lent → y.finished ≡ true → IsLentFrom p k frs o y.owner)
+      → (y.finished ≡ true → is_held mode ≡ true → answers_for_fields (method_at p fr.method) ≡ true → lends_this p fr ≡ false → is_heavy_class p g.class ≡ true → IsInField p fr (fact_at q mode names full).places y.owner)
+      → (mode ≡ modes.Lent → y.finished ≡ true → IsLentFrom p k frs o y.owner)
       → (constructs (method_at p fr.method) ≡ true → is_this_origin g.kind ≡ true → y.finished ≡ false)
       → (mode ≡ modes.Lent → (constructs (method_at p fr.method) && is_this_origin g.kind) ≡ false → HasOwningField p y.class → y.finished ≡ true)
       → ((j : ℕ) → q ≡ places.Field j → is_heavy_class p g.class ≡ true → fits_field p fr.method j g.class ≡ true)
       → ((j : ℕ) → q ≡ places.Field j → is_heavy_field p fr.method q ≡ true → (mode ≡ modes.Held) × (is_heavy_class p g.class ≡ true))
-      → ((j : ℕ) → q ≡ places.Field j → mode ≡ modes.Held)
+      → (reopens (method_at p fr.method) ≡ false → (j : ℕ) → q ≡ places.Field j → mode ≡ modes.Held)
       → (c : Covers p k false false old frs fr o y) × (has c.fact.places q ≡ true) × (c.origin ≡ g) × (c.fact ≡ fact_at q mode names full)
-  entered_covers q o y g mode names full n small birth root truth lent' none unmade lends makes complete wide held field =
+  entered_covers q o y g mode names full n small birth root truth lent' none in_field lends makes complete wide held field =
       let covers : Covers p k false false old frs fr o y = record {
         body = st.number;
         id = st.id;
@@ -98,14 +99,14 @@ module _ (p : Program) (k : HeapContents) (fr : Frame) (st : Stands p fr) (start
         fact = fact_at q mode names full;
         reached = subst (λ (t : List Todo). Reach p st.number (relation_of p st.number) g t (fact_at q mode names full)) (sym starts) (entered n birth);
         alone = single_place-alone q small;
-        places = λ z small' is. subst (λ (u : Place). root_of k (place_value p k fr.method fr.locals u) ≡ Some o) (at_one q small mode names full z small' is) root;
-        true' = λ claimed mine. truth claimed;
-        free = λ done held' alone heavy. absurd (unmade held' alone);
+        places = λ said z small' keeps is. subst (λ (u : Place). root_of k (place_value p k fr.method fr.locals u) ≡ Some o) (at_one q small mode names full z small' is) root;
+        true' = λ claimed mine kept. truth claimed kept;
+        free = λ done held' answers keeps heavy. (refl, in_field done held' answers keeps heavy);
         lent = λ lent. (let is = lent' lent in (is.0, λ held'. absurd (true≢false (sym held' ∙ is.1))));
         lends = λ lent done. (refl, lends lent done);
         makes = makes;
         complete = complete;
-        unrenewed = λ done tells was is. refl;
+        unrenewed = λ done tells apart. refl;
         known = λ done tells apart stays.
             elim (tells_by p fr.method g (fact_at q mode names full) tells) [
               | inl lent ↦ within_trans names (asked_of p (method_at p fr.method) g.kind) (set.union (asked_of p (method_at p fr.method) g.kind) y.called) (lent' lent).2 (within_union_left (asked_of p (method_at p fr.method) g.kind) y.called)
@@ -115,7 +116,7 @@ module _ (p : Program) (k : HeapContents) (fr : Frame) (st : Stands p fr) (start
         held = λ j inside is heavy.
             let same : q ≡ places.Field j = at_one q small mode names full (places.Field j) inside is in
             held j same (subst (λ (u : Place). is_heavy_field p fr.method u ≡ true) (sym same) heavy);
-        outside = λ plain j inside is. field j (at_one q small mode names full (places.Field j) inside is);
+        outside = λ plain other j inside is. field other j (at_one q small mode names full (places.Field j) inside is);
       } in
       (covers, at_itself q small mode names full, refl, refl)
 

@@ -65,18 +65,18 @@ module _ (p : Program) (k : HeapContents) (fr : Frame) (st : Stands p fr) (i : �
         fact = fact_at q mode no_names full;
         reached = there;
         alone = single_place-alone q small;
-        places = λ z small' is. subst (λ (u : Place). root_of k (place_value p k after.method after.locals u) ≡ Some o) (at_one q small mode no_names full z small' is) root;
-        true' = λ claimed mine. true_as p anew y g (fact_at q mode no_names full) (origin_needs_all p st.number g after.control (fact_at q mode no_names full) there) (truth claimed);
+        places = λ kept z small' lent is. subst (λ (u : Place). root_of k (place_value p k after.method after.locals u) ≡ Some o) (at_one q small mode no_names full z small' is) root;
+        true' = λ claimed mine keeps. true_as p anew y g (fact_at q mode no_names full) (origin_needs_all p st.number g after.control (fact_at q mode no_names full) there) (truth claimed);
         lends = λ lent done. absurd (alone' lent);
         makes = λ constructor this. absurd (true≢false (sym this ∙ aside));
         complete = λ lent other fields. absurd (alone' lent);
-        unrenewed = λ done tells was is. absurd (silent tells);
+        unrenewed = λ done tells apart. absurd (silent tells);
         lent = λ lent. absurd (true≢false (sym lent ∙ unlent (method_at p after.method)));
-        free = λ done held alone heavy. absurd (true≢false (sym held ∙ unheld));
+        free = λ done held answers keeps heavy. absurd (true≢false (sym held ∙ unheld));
         known = λ done tells apart stays. absurd (silent tells);
         fields = λ n inside wide is. absurd (no_field q small mode no_names full local n inside is);
         held = λ n inside is heavy. absurd (no_field q small mode no_names full local n inside is);
-        outside = λ plain n inside is. absurd (no_field q small mode no_names full local n inside is);
+        outside = λ plain other n inside is. absurd (no_field q small mode no_names full local n inside is);
       } in
       (covers, at_itself q small mode no_names full, refl, refl)
     where

@@ -26,6 +26,8 @@ use Rattle.ledger_state.specs.Locals.{temp_in}
 use Rattle.value_laws.specs.PlainForms.{IsPlainAction}
 use Rattle.value_laws.specs.Outcomes.{IsCallRow}
 use Rattle.value_laws.proofs.CallNames.{IsReceiver, object_with_root}
+use Rattle.value_laws.proofs.Renewed.{without_reset}
+use Rattle.value_laws.specs.FieldContents.{is_new}
 
 -- a constructor counts for no name
 no_instance : (k : MethodKind) → is_constructor_kind k ≡ true → is_instance_kind k ≡ false
@@ -46,6 +48,17 @@ note_there k n = rw (eq-eqb k k refl, eq-eqb n.0 n.0 refl) refl
 
 no_root : (h : HeapContents) (l : Locals) (o : ℕ) → root_of h (temp_in l None) ≡ Some o → ⊥
 no_root h l o root = let never : None ≡ Some o = root in cc
+
+-- a `new` has no receiver
+pub no_receiver : (h : HeapContents) (l : Locals) (a : Action) (o : ℕ) → root_of h (operand_of l a 0) ≡ Some o → is_new a ≡ true → ⊥
+no_receiver h l actions.Skip o root new = true≢false (sym new)
+no_receiver h l (actions.New m d n) o root new = let never : None ≡ Some o = root in cc
+no_receiver h l a o root new = true≢false (sym new)
+
+-- a signature without its reset has the same name of interest
+pub plain_interest_in : (m : Option Method) → calls.interest_in (without_reset m) ≡ calls.interest_in m
+plain_interest_in None = refl
+plain_interest_in (Some m) = refl
 
 module _ (p : Program) (ac : Accept p) (h : HeapContents) (l : Locals) (o : ℕ) (n : NameId) where
   noted_by : (k : ℕ) (a : Action) → IsPlainAction p a → IsCallRow a → is_super_target a ≡ false → root_of h (operand_of l a 0) ≡ Some o → calls.interest_in (callee p a) ≡ Some n

@@ -21,7 +21,7 @@ use Rattle.java_control.specs.declared.fact.Origin.{Origin}
 use Rattle.java_control.specs.declared.fact.OriginKind.TheVariants as kinds
 use Rattle.java_control.specs.declared.place.Place.{Place}
 use Rattle.java_control.specs.declared.place.Place.TheVariants as places
-use Rattle.ownership_rules.specs.Facts.{has, is_own}
+use Rattle.ownership_rules.specs.Facts.{has, is_own, is_held}
 use Rattle.ownership_rules.specs.Births.{birth_on, fact_at, new_birth, origin_of, result_birth, result_fact}
 use Rattle.ledger_state.specs.Contents.{HeapContents}
 use Rattle.ledger_state.specs.Heaps.{root_of}
@@ -65,9 +65,9 @@ not_lent_own is = let never : modes.Own ≡ modes.Lent = is in cc
 pub not_lent_none : modes.None ≡ modes.Lent → ⊥
 not_lent_none is = let never : modes.None ≡ modes.Lent = is in cc
 
--- the place is in a fact for which this is so, or in one that does not say that the frame owns the object
+-- the place is in a fact for which this is so, and which does not say that a field holds the object, or in one that does not say that the frame owns it
 abbrev pub IsBornSo : Program → HeapContents → Bool → (ℕ → Bool) → List Frame → Frame → Place → ℕ → Object → Type 0 → Type 0
-IsBornSo p k anew old frs fr q o y A = ((c : Covers p k false anew old frs fr o y) × (has c.fact.places q ≡ true) × A) ⊎ IsUnowned p k false anew old frs fr q o y
+IsBornSo p k anew old frs fr q o y A = ((c : Covers p k false anew old frs fr o y) × (has c.fact.places q ≡ true) × (is_held c.fact.mode ≡ false) × A) ⊎ IsUnowned p k false anew old frs fr q o y
 
 -- what is born is in a fact that does not say so
 pub born_unowned : (p : Program) (k : HeapContents) (anew : Bool) (old : ℕ → Bool) (frs : List Frame) (fr : Frame) (q : Place) (o : ℕ) (y : Object) (g : Origin) (f : Fact)
@@ -108,7 +108,7 @@ module _ (p : Program) (h k : HeapContents) (fr : Frame) (st : Stands p fr) (i :
               (result_unlent p s.pos r x.sig.first) refl not_lent_own (result_is_other p s.pos r x.sig.first) (λ claimed. truth own (ap (is_heavy_class p) (sym class) ∙ heavy_of _ _ claimed))
 
           by_class : (b : Bool) → is_heavy_class p r ≡ b → IsBornSo p k anew old frs (frame_after p h fr s v) (places.Temp d) o y ((x.sig.owning_result ≡ true) × (is_heavy_class p r ≡ true))
-          by_class true heavy = inl (born_here.0, born_here.1, (own, heavy))
+          by_class true heavy = inl (born_here.0, born_here.1, ap (λ (f : Fact). is_held f.mode) born_here.3, (own, heavy))
           by_class false light = inr (born_unowned p k anew old frs (frame_after p h fr s v) (places.Temp d) o y (origin_of p kinds.Result s.pos r x.sig.first) (fact_at (places.Temp d) modes.Own no_names false) born_here
               (ap (λ (b : Bool). b && true) (ap (is_heavy_class p) class ∙ light)))
       by false own =
@@ -120,9 +120,9 @@ module _ (p : Program) (h k : HeapContents) (fr : Frame) (st : Stands p fr) (i :
 
   -- the object of a `new`
   pub new_covers : (c : ℕ) → s.action ≡ actions.New m d c → is_heavy_class p x.class ≡ true
-      → IsTrueOf p y (origin_of p kinds.New s.pos x.class x.sig.first) (fact_at (places.Temp d) modes.Own no_names false) → (z : Covers p k false anew old frs (frame_after p h fr s v) o y) × (has z.fact.places (places.Temp d) ≡ true)
+      → IsTrueOf p y (origin_of p kinds.New s.pos x.class x.sig.first) (fact_at (places.Temp d) modes.Own no_names false) → (z : Covers p k false anew old frs (frame_after p h fr s v) o y) × (has z.fact.places (places.Temp d) ≡ true) × (is_held z.fact.mode ≡ false)
   new_covers c is heavy truth =
       let z = born_covers p k fr st i s here (frame_after p h fr s v) old frs anew (places.Temp d) o y (origin_of p kinds.New s.pos x.class x.sig.first) modes.Own false refl refl small refl
       (ap (λ (a : Action). birth_on p a s.edge s.pos) is ∙ ap (λ (f : Edge). birth_on p (actions.New m d c) f s.pos) edge ∙ ap (new_birth p d s.pos) named ∙ new_birth_is p d s.pos x alias heavy)
       root (new_unlent p s.pos x.class x.sig.first) refl not_lent_own (new_is_other p s.pos x.class x.sig.first) (λ claimed. truth) in
-      (z.0, z.1)
+      (z.0, z.1, ap (λ (f : Fact). is_held f.mode) z.3)

@@ -12,7 +12,7 @@ use Rattle.java_control.specs.Sources.{source}
 use Rattle.java_control.specs.declared.place.Place.{Place}
 use Rattle.ownership_rules.specs.Callees.{callee, is_super_target}
 use Rattle.value_laws.specs.Aliases.{gives_alias}
-use Rattle.value_laws.specs.CalledRows.{interest_in, promises_at, called_after}
+use Rattle.value_laws.specs.CalledRows.{interest_in, is_emptied, promises_at, called_after}
 use Rattle.value_laws.specs.Accept.{Accept}
 use Rattle.ledger_state.specs.Contents.{HeapContents}
 use Rattle.ledger_state.specs.Heaps.{object_at, root_of}
@@ -32,13 +32,14 @@ use Rattle.value_laws.specs.Anew.{GoesAnew, is_target}
 use Rattle.value_laws.proofs.Going.{moves_away}
 use Rattle.ledger_obligations.specs.MustCallSets.{Names}
 use Rattle.value_laws.proofs.Resetting.{call_goes_so}
-use Rattle.value_laws.specs.PlaceFacts.{Covers, IsCovered, IsOwned, gives_away, gives_none, is_lent, OwesOrHolds, owned, unowned}
+use Rattle.value_laws.specs.PlaceFacts.{Covers, IsCovered, IsOwned, gives_away, gives_none, is_idle, is_lent, OwesOrHolds, owned, unowned, IsOld}
 use Rattle.ownership_rules.specs.Facts.{has, is_held, is_own}
 use Rattle.covering_laws.proofs.GivenArguments.{away_moves}
 use Rattle.covering_laws.proofs.Owners.{KeepsHeld, StaysApart}
 use Rattle.rlc_base.proofs.SetLaws.{within_at}
-use Rattle.covering_laws.proofs.KnownNames.{AreKept, known_after_call, operand_holds, receiver_is_operand}
-use Rattle.covering_laws.proofs.TopSteps.{IsBornAnew, IsKeyedFrom, IsLeftOut, IsLocalStep, IsMadeSo, IsSureOf, after_as, after_both, top_from}
+use Rattle.covering_laws.proofs.KnownNames.{AreKept, known_unless_emptied, operand_holds, receiver_is_operand}
+use Rattle.covering_laws.proofs.SaidFacts.{claimed_is_said, said_apart}
+use Rattle.covering_laws.proofs.TopSteps.{IsBornAnew, IsKeyedFrom, IsLeftOut, IsLocalStep, IsMadeSo, IsSureOf, StaysIdle, after_as, after_both, top_from}
 use Rattle.covering_laws.proofs.Waiting.{Carries, HoldsThere, KeepsFieldsButTexts, KeepsReady, KeepsRootsOf}
 use Rattle.value_laws.specs.FactGoing.{GoesAs, is_owned_in}
 use Rattle.program_model.specs.Lookups.{method_at}
@@ -74,19 +75,26 @@ module _ (p : Program) (ac : Accept p) (h k : HeapContents) (links : HasEarlierL
       go false none = none
       go true gives = absurd (true≢false (sym (or_left (is_own g.mode) (is_held g.mode) own) ∙ more.0 (away_moves p ac h fr st old frs i s here row away anew o x c key heavy gives)))
 
+  -- something is said of the object of a fact that is sure
+  pub sure_is_said : (old : ℕ → Bool) (frs : List Frame) (away anew : Bool) (o : ℕ) (x : Object) (c : Covers p h away anew old frs fr o x) → IsSureOf p ac h k links carries fields fr st i s here r inside roots v old frs away anew o x c → is_idle p frs fr c.fact ≡ false
+  sure_is_said old frs away anew o x c (inl owns) = claimed_is_said p frs fr c.origin c.fact (owns.0).owning
+  sure_is_said old frs away anew o x c (inr told) = (told.1).3
+
   -- `at_step`: what is given away is given by this call. `owner`: what is not, the frame goes on owning. `noted`: the call is noted on its receiver.
   -- `kept`: what the signature promises at the places of a fact was done. `alias`: an alias of the object of a fact has that object for its root. `bears`: where it
   -- creates the obligation of `this` anew, it bears the facts of fields. `made`: what the call gives is covered, or comes from an operand
   module _ (old : ℕ → Bool) (frs : List Frame) (gives : ℕ → ClassId → Bool) (renewed : ℕ → Bool)
       (at_step : (o : ℕ) (c : ClassId) → gives o c ≡ true → gives_away p h fr.locals s.action o c ≡ true)
       (covered : IsCovered p h gives (λ o owner. renewed o) old frs fr)
+      (aged : IsOld p h frs fr old)
+      (idle : StaysIdle p ac h k links carries fields fr st i s here r inside roots v frs)
       (ready : KeepsReady p h k fr)
       (others : StaysApart p h k frs fr)
       (lasting : KeepsHeld p h k fr)
       (owner : (o : ℕ) (x y : Object) → object_at h o ≡ Some x → object_at k o ≡ Some y → x.finished ≡ true → is_heavy_class p x.class ≡ true → gives_away p h fr.locals s.action o x.class ≡ false → x.owner ≡ owners.Frame (length frs + 1) → y.owner ≡ owners.Frame (length frs + 1))
-      (noted : (o : ℕ) (x y : Object) (c : Covers p h (gives o x.class) (renewed o) old frs fr o x) (n : NameId) → object_at h o ≡ Some x → object_at k o ≡ Some y → root_of h (operand_of fr.locals s.action 0) ≡ Some o → is_super_target s.action ≡ false → interest_in (callee p s.action) ≡ Some n → IsSureOf p ac h k links carries fields fr st i s here r inside roots v old frs (gives o x.class) (renewed o) o x c → renewed o ≡ false → x.finished ≡ true → GoesOn x y → is_heavy_class p x.class ≡ true → OwesOrHolds p h o x → set.contains y.called n.0 ≡ true)
-      (kept : (o : ℕ) (x y : Object) (c : Covers p h (gives o x.class) (renewed o) old frs fr o x) → object_at h o ≡ Some x → object_at k o ≡ Some y → (g : Fact) → IsGivenOr c.origin c.fact g → IsTrustedIn c.origin g → IsSureOf p ac h k links carries fields fr st i s here r inside roots v old frs (gives o x.class) (renewed o) o x c → renewed o ≡ false → x.finished ≡ true → GoesOn x y → is_heavy_class p x.class ≡ true → OwesOrHolds p h o x → (names : Names) → set.is_subset y.called names ≡ true → set.is_subset c.fact.called names ≡ true → AreKept p st.number s.action c.fact.places names (promises_at p s.action s.edge))
-      (alias : (o : ℕ) (x : Object) (c : Covers p h (gives o x.class) (renewed o) old frs fr o x) → object_at h o ≡ Some x → is_heavy_class p x.class ≡ true → OwesOrHolds p h o x → gives_alias p s.action s.edge c.fact.places ≡ true → root_of k v ≡ Some o)
+      (noted : (o : ℕ) (x y : Object) (c : Covers p h (gives o x.class) (renewed o) old frs fr o x) (n : NameId) → object_at h o ≡ Some x → object_at k o ≡ Some y → root_of h (operand_of fr.locals s.action 0) ≡ Some o → is_super_target s.action ≡ false → interest_in (callee p s.action) ≡ Some n → IsSureOf p ac h k links carries fields fr st i s here r inside roots v old frs (gives o x.class) (renewed o) o x c → is_emptied p s.action c.fact.places ≡ false → renewed o ≡ false → x.finished ≡ true → GoesOn x y → is_heavy_class p x.class ≡ true → OwesOrHolds p h o x → set.contains y.called n.0 ≡ true)
+      (kept : (o : ℕ) (x y : Object) (c : Covers p h (gives o x.class) (renewed o) old frs fr o x) → object_at h o ≡ Some x → object_at k o ≡ Some y → (g : Fact) → IsGivenOr c.origin c.fact g → IsTrustedIn c.origin g → IsSureOf p ac h k links carries fields fr st i s here r inside roots v old frs (gives o x.class) (renewed o) o x c → is_emptied p s.action c.fact.places ≡ false → renewed o ≡ false → x.finished ≡ true → GoesOn x y → is_heavy_class p x.class ≡ true → OwesOrHolds p h o x → (names : Names) → set.is_subset y.called names ≡ true → set.is_subset c.fact.called names ≡ true → AreKept p st.number s.action c.fact.places names (promises_at p s.action s.edge))
+      (alias : (o : ℕ) (x : Object) (c : Covers p h (gives o x.class) (renewed o) old frs fr o x) → object_at h o ≡ Some x → is_heavy_class p x.class ≡ true → OwesOrHolds p h o x → is_idle p frs fr c.fact ≡ false → gives_alias p s.action s.edge c.fact.places ≡ true → root_of k v ≡ Some o)
       (bears : (q : Place) (o : ℕ) (y : Object) → IsSmall q → IsLeftOut p ac h k links carries fields fr st i s here r inside roots v q → root_of k (place_value p k fr.method after.locals q) ≡ Some o → object_at k o ≡ Some y → is_heavy_class p y.class ≡ true → OwesOrHolds p k o y → IsBornAnew p ac h k links carries fields fr st i s here r inside roots v old frs renewed q o y)
       (made : (q : Place) (o : ℕ) (y : Object) → IsSmall q → is_local q ≡ true → source p st.body s.action s.edge q ≡ None → is_made (made_place s.action) q ≡ true → place_value p k fr.method after.locals q ≡ v → root_of k v ≡ Some o → object_at k o ≡ Some y → is_heavy_class p y.class ≡ true → OwesOrHolds p k o y → IsMadeSo p ac h k links carries fields fr st i s here r inside roots v old frs gives renewed IsGivenOr q o y) where
     not_given : (b : Bool) {d : Bool} → (b ≡ true → d ≡ true) → d ≡ false → b ≡ false
@@ -112,15 +120,16 @@ module _ (p : Program) (ac : Accept p) (h k : HeapContents) (links : HasEarlierL
     -- each place after the call is in a fact that comes from one before it, or was born
     pub call_from : (q : Place) (o : ℕ) (y : Object) → IsSmall q → root_of k (place_value p k fr.method after.locals q) ≡ Some o → object_at k o ≡ Some y → is_heavy_class p y.class ≡ true → OwesOrHolds p k o y
         → IsKeyedFrom p ac h k links carries fields fr st i s here r inside roots v old frs gives renewed IsGivenOr q o y
-    call_from = top_from p ac h k links carries fields fr st i s here r inside roots v old frs gives renewed covered ready others lasting
+    call_from = top_from p ac h k links carries fields fr st i s here r inside roots v old frs gives renewed covered aged idle ready others lasting
         IsGivenOr
         call_row
         (λ o x y c before at g more trusted sure stays done goes some owes names less was.
-        known_after_call p st.number s.action s.edge c.fact names row was
-        (λ n receives interest.
-        let operand = receiver_is_operand p h fr.method fr.locals o s.action c.fact.places c.places receives in
-        within_at y.called names less n.0 (noted o x y c n before at (operand_holds p h fr.method fr.locals s.action o 0 c.fact.places r.small (omega arith) c.places operand.1) operand.0 interest sure stays done goes some owes))
-        (kept o x y c before at g more trusted sure stays done goes some owes names less was))
+        known_unless_emptied p st.number s.action s.edge c.fact names row was
+        (λ none n receives interest.
+        let hold = said_apart p h frs fr o c.fact c.places (sure_is_said old frs (gives o x.class) (renewed o) o x c sure) in
+        let operand = receiver_is_operand p h fr.method fr.locals o s.action c.fact.places hold receives in
+        within_at y.called names less n.0 (noted o x y c n before at (operand_holds p h fr.method fr.locals s.action o 0 c.fact.places r.small (omega arith) hold operand.1) operand.0 interest sure none stays done goes some owes))
+        (λ none. kept o x y c before at g more trusted sure none stays done goes some owes names less was))
         alias
         (λ o x y c key before at heavy owes g more own.
         let stays = stays_here old frs (gives o x.class) (renewed o) o x c key heavy g more own in (
@@ -131,7 +140,7 @@ module _ (p : Program) (ac : Accept p) (h k : HeapContents) (links : HasEarlierL
         made
 
     pub call_covered : IsCovered p k gives_none (λ o owner. renewed o) old frs after
-    call_covered q o y small held at heavy owes = elim (call_from q o y small held at heavy owes) [
+    call_covered q o y small lent held at heavy owes = elim (call_from q o y small held at heavy owes) [
       | inl key ↦ owned key.0 key.1 key.2
       | inr free ↦ unowned free
     ]

@@ -67,14 +67,14 @@ module _ (p : Program) (ac : Accept p) (forms : HasPlainForms p) (h : HeapConten
       reached = c.reached;
       alone = c.alone;
       places = c.places;
-      true' = λ claimed spared. true_as p anew x c.origin c.fact (origin_needs_all p c.body c.origin fr.control c.fact c.reached) (c.true' claimed refl);
+      true' = λ claimed spared kept. true_as p anew x c.origin c.fact (origin_needs_all p c.body c.origin fr.control c.fact c.reached) (c.true' claimed refl kept);
       lends = λ mode done. (let lent = (c.lends mode done).1 in (known_kept o x there heavy owes (lent_not_from p h frs o x.owner lent), lent));
       makes = c.makes;
       complete = c.complete;
-      unrenewed = λ done tells was spared. not_renewed done was spared;
-      free = λ done held alone claims'. (
-        known_kept o x there heavy owes (held_unowned p h false false old frs fr o x c done held alone claims' (length frs + 1)),
-        held_in_field p h false false old frs fr o x c done held alone claims',
+      unrenewed = λ done tells apart. not_renewed done apart.0 apart.1;
+      free = λ done held answers keeps claims'. (
+        known_kept o x there heavy owes (held_unowned p h false false old frs fr o x c done held answers keeps claims' (length frs + 1)),
+        held_in_field p h false false old frs fr o x c done held answers keeps claims',
       );
       lent = c.lent;
       known = λ done tells apart stays. c.known done tells apart refl;
@@ -93,8 +93,8 @@ module _ (p : Program) (ac : Accept p) (forms : HasPlainForms p) (h : HeapConten
     keyed_waits q (owned c there' own) = owned (waiting c) there' (record {
       owning = own.owning;
       owner = λ spared mine. own.owner refl mine;
-      others = λ r small' root'. elim (own.others r small' root') [ inl in'' ↦ inl in'' | inr u ↦ inr (unowned_waits r u) ];
+      others = λ r small' keeps root'. elim (own.others r small' keeps root') [ inl in'' ↦ inl in'' | inr u ↦ inr (unowned_waits r u) ];
     })
 
   pub caller_waits : IsCovered p h (is_given p h fr) (is_reread p h fr) old frs fr
-  caller_waits q o x small' root at heavy owes = keyed_waits o x at heavy owes q (covered q o x small' root at heavy owes)
+  caller_waits q o x small' keeps root at heavy owes = keyed_waits o x at heavy owes q (covered q o x small' keeps root at heavy owes)

@@ -1,5 +1,5 @@
 -- A frame that runs a constructor with an aliased argument.
-use Rattle.std.proofs.Common.{Bool, ◌≡◌, ℕ, zero, suc, ◌+◌, ◌<◌, ◌≤◌, true, false, true≢false, not, arith, Option, Some, None, List, [], ◌∷◌, length, slice_get, refl, sym, ap, ◌∙◌, subst, IsSomeAnd}
+use Rattle.std.proofs.Common.{Bool, inr, inl, ◌≡◌, ℕ, zero, suc, ◌+◌, ◌<◌, ◌≤◌, true, false, true≢false, not, arith, Option, Some, None, List, [], ◌∷◌, length, slice_get, refl, sym, ap, ◌∙◌, subst, IsSomeAnd}
 use Rattle.std.proofs.lemmas.Bool.{and_from}
 use Rattle.program_model.specs.declared.kinds.BodyId.{BodyId}
 use Rattle.program_model.specs.declared.kinds.ClassId.{ClassId}
@@ -23,6 +23,7 @@ use Rattle.java_control.specs.declared.place.Place.TheVariants as places
 use Rattle.ownership_rules.specs.Facts.{is_origin_at}
 use Rattle.ownership_rules.specs.Room.{variable_count, variables_in}
 use Rattle.value_laws.specs.Paths.{Reach, relation_of}
+use Rattle.covering_laws.proofs.SaidFacts.{said_by}
 use Rattle.value_laws.specs.Accept.{Accept}
 use Rattle.ledger_state.specs.Contents.{HeapContents}
 use Rattle.ledger_state.specs.Heaps.{root_of}
@@ -97,7 +98,7 @@ module _ (p : Program) (ac : Accept p) (fr : Frame) (st : Stands p fr) (m : Meth
     -- the parameter holds its object
     pub parameter_holds : is_origin_at c.origin.kind (alias_position p st.number) ≡ true → root_of h (variable_value fr.locals v) ≡ Some o
     parameter_holds is =
-        c.places (places.Var v) variable_small (parameter_stays p ac st.number st.body m v st.at in_body spoken c.origin fr.control c.fact reached (at_parameter c.origin.kind is))
+        c.places (said_by p frs fr c.fact (inr (inl makes))) (places.Var v) variable_small refl (parameter_stays p ac st.number st.body m v st.at in_body spoken c.origin fr.control c.fact reached (at_parameter c.origin.kind is))
 
     -- its class is that of the parameter's type
     pub type_here : is_origin_at c.origin.kind (Some (v + 1)) ≡ true → type_at m.sig (suc v) ≡ Some (types.Obj c.origin.class)

@@ -1,5 +1,5 @@
 -- A frame ends, and with it the call at which the frame below waits.
-use Rattle.std.proofs.Common.{Bool, List, None, Option, Some, ap, arith, false, inl, length, not, refl, slice_get, subst, sym, true, true≢false, ℕ, ◌+◌, ◌<◌, ◌∙◌, ◌∷◌, ◌≡◌, ◌⊎◌, inr, eqb-true}
+use Rattle.std.proofs.Common.{Bool, List, None, Option, Some, ap, arith, false, inl, length, not, refl, slice_get, subst, sym, true, true≢false, ℕ, ◌+◌, ◌<◌, ◌∙◌, ◌∷◌, ◌≡◌, ◌⊎◌, inr}
 use Rattle.std.proofs.lemmas.Bool.{and_from}
 use Rattle.rlc_base.proofs.SetLaws.{within_at}
 use Rattle.std.specs.Prelude.{is_some}
@@ -12,21 +12,20 @@ use Rattle.program_model.specs.declared.program.Method.{Method}
 use Rattle.program_model.specs.declared.program.Program.{Program}
 use Rattle.program_model.specs.Lookups.{method_at}
 use Rattle.ledger_obligations.specs.WellFormed.{HasSmallInterests}
-use Rattle.java_control.specs.Calls.{called_method}
+use Rattle.java_control.specs.Calls.{called_method, is_reset_of_this}
 use Rattle.java_control.specs.Control.{Step}
 use Rattle.java_control.specs.PlaceNumbers.{IsSmall}
 use Rattle.java_control.specs.declared.action.Action.{Action}
 use Rattle.java_control.specs.declared.action.Action.TheVariants as actions
 use Rattle.java_control.specs.declared.action.Completion.{Completion}
 use Rattle.ownership_rules.specs.Callees.{callee, callee_in, is_super_target}
-use Rattle.value_laws.specs.CalledRows.{interest_in}
+use Rattle.value_laws.specs.CalledRows.{interest_in, is_emptied}
 use Rattle.value_laws.specs.Accept.{Accept}
 use Rattle.ledger_state.specs.Contents.{HeapContents}
 use Rattle.ledger_state.specs.Heaps.{next_number, object_at, root, root_of, unfinished}
 use Rattle.ledger_state.specs.declared.entry.Owner.{Owner}
 use Rattle.ledger_state.specs.declared.entry.Owner.TheVariants as owners
 use Rattle.ledger_state.specs.declared.object.Link.{Link}
-use Rattle.ledger_state.specs.declared.locals.Locals.{Locals}
 use Rattle.ledger_state.specs.declared.object.Object.{Object}
 use Rattle.ledger_state.specs.declared.value.Value.{Value}
 use Rattle.ledger_state.specs.declared.value.Value.TheVariants as values
@@ -53,9 +52,9 @@ use Rattle.value_laws.proofs.Ready.{call_sets, plain_call, plain_step, step_ther
 use Rattle.value_laws.proofs.Unmet.{way_of_call}
 use Rattle.value_laws.specs.Types.{GivesAsNamed, KeepsTypes, is_text}
 use Rattle.value_laws.specs.FieldContents.{AreNew, AreUnfinished, FieldsOwn, HaveContents, IsBeingMade, IsDispatched, LinksLead, is_new, RunOnOthers, TopRunsAlone}
-use Rattle.value_laws.specs.PlaceFacts.{AreWaiting, Covers, IsCovered, IsHeavyObject, IsHolder, IsOld, OwesOrHolds, OwnersBelow, Spares, gives_none, is_given, may_owe, renews_none, AreCovered, is_frame_from}
+use Rattle.value_laws.specs.PlaceFacts.{AreWaiting, Covers, IsCovered, IsHolder, IsOld, OwesOrHolds, OwnersBelow, gives_none, is_given, may_owe, renews_none, AreCovered, is_frame_from, MayStore, is_idle}
 use Rattle.covering_laws.proofs.OlderHolders.{alias_holds_nothing, field_of_owner}
-use Rattle.value_laws.specs.Renewing.{HasInHand, IsLentFrom, is_renewed, is_reread, renews}
+use Rattle.value_laws.specs.Renewing.{is_renewed, is_reread, renews}
 use Rattle.value_laws.proofs.Emptied.{plain_note}
 use Rattle.value_laws.proofs.EndResets.{plain_alias_position}
 use Rattle.value_laws.proofs.Renewed.{says_nothing, without_reset}
@@ -63,19 +62,26 @@ use Rattle.value_laws.specs.Ranges.{FieldsInRange, IsNumber, LocalsInRange}
 use Rattle.covering_laws.specs.Linking.{IsGivenAsAlias, LinkedAreAliases}
 use Rattle.covering_laws.specs.Throws.{EndsAsDeclared}
 use Rattle.covering_laws.specs.Running.{HasPlainRuns}
+use Rattle.value_laws.proofs.SettledFrames.{AllRenewInHand, RenewsInHand}
+use Rattle.covering_laws.specs.Covering.{IsCountedOn}
+use Rattle.covering_laws.proofs.CountedAtEnds.{counted}
+use Rattle.covering_laws.proofs.SaidFacts.{ends_lend_nothing, said_apart}
+use Rattle.covering_laws.proofs.IdleCalls.{LendsItsOwn, idle_over_call}
+use Rattle.covering_laws.proofs.WholeThis.{IsSingleThis}
+use Rattle.value_laws.proofs.AliasConducts.{gives_object}
 use Rattle.covering_laws.proofs.AliasPlaces.{from_operand, gives_operand}
 use Rattle.covering_laws.proofs.AliasResults.{argument_is_result, result_is_argument}
-use Rattle.covering_laws.proofs.CallNotes.{noted_at}
+use Rattle.covering_laws.proofs.CallNotes.{no_receiver, noted_at, plain_interest_in}
 use Rattle.covering_laws.proofs.KnownNames.{operand_holds}
-use Rattle.covering_laws.proofs.CallSteps.{IsGivenOr, call_from}
+use Rattle.covering_laws.proofs.CallSteps.{IsGivenOr, call_from, sure_is_said}
 use Rattle.covering_laws.proofs.EndHeaps.{end_carries, end_keeps, end_linked, end_noted, end_roots, end_unfinished, end_was, made_roots, null_here, other_roots, self_root}
 use Rattle.covering_laws.proofs.EndOwners.{end_below, end_keeps_own, end_owners_go, number_value}
 use Rattle.covering_laws.proofs.BegunFrames.{not_own}
 use Rattle.covering_laws.proofs.CallResults.{IsBornSo}
 use Rattle.covering_laws.proofs.Gifts.{small_gifts}
 use Rattle.covering_laws.proofs.GivenArguments.{away_moves}
-use Rattle.covering_laws.proofs.GivenAway.{given_at_step}
-use Rattle.covering_laws.proofs.Owners.{AllKeepGifts, HoldersWere, IsNewTo, KeepsHeld, OwnerGoes, OwnersGo, StaysApart, WaysGo, held_here, holders_were, left, old_kept, owners_kept, passed, stays, stays_apart}
+use Rattle.covering_laws.proofs.GivenAway.{any_at, given_at_step}
+use Rattle.covering_laws.proofs.Owners.{AllKeepGifts, HoldersWere, IsNewTo, KeepsHeld, OwnerGoes, OwnersGo, StaysApart, WaysGo, held_here, holders_were, left, old_kept, owners_kept, passed, stays, stays_apart, ThisWas}
 use Rattle.covering_laws.proofs.ResultOwners.{returned_owner}
 use Rattle.covering_laws.proofs.Bodies.{running_method}
 use Rattle.covering_laws.proofs.OwnNames.{chosen_by_note, own_name_called}
@@ -109,31 +115,18 @@ use Rattle.value_laws.specs.Places.{class_of_method, place_value}
 use Rattle.value_laws.specs.Naming.{IsOfItsKind}
 use Rattle.value_laws.proofs.NamedReached.{names_what_is_there}
 use Rattle.value_laws.specs.PlacePlaces.{is_local}
-use Rattle.covering_laws.proofs.InFields.{held_finished, held_unowned}
-use Rattle.covering_laws.proofs.HeavyFields.{claims_by, claims_owned}
-use Rattle.covering_laws.proofs.OwnerSteps.{held_is, own_frame}
+use Rattle.covering_laws.proofs.OwnerSteps.{held_is}
 use Rattle.covering_laws.proofs.LeftOut.{left_out_bears}
-use Rattle.covering_laws.proofs.RenewedOperands.{HoldsLent, claimed_owner}
+use Rattle.covering_laws.proofs.RenewedOperands.{HoldsLent}
 use Rattle.covering_laws.proofs.StepWays.{end_births, end_unowned, ways_by}
 use Rattle.covering_laws.proofs.AlikeHeaps.{AreAlike}
-use Rattle.covering_laws.proofs.AnewAtEnds.{AllTurned, all_anew}
-use Rattle.covering_laws.proofs.WaitingTargets.{owned_or_lent, renewed_at_step, target_temp}
-use Rattle.value_laws.specs.Holders.{HoldersAreUnlinked, IsComparable}
+use Rattle.covering_laws.proofs.AnewAtEnds.{AllTurned, all_anew, content_declares, field_stays}
+use Rattle.covering_laws.proofs.WaitingTargets.{renewed_at_step, target_temp}
+use Rattle.covering_laws.proofs.ThisOperands.{lends_target}
+use Rattle.value_laws.specs.Holders.{HoldersAreUnlinked}
 use Rattle.value_laws.specs.Types.{StoredHoldNone}
-use Rattle.value_laws.proofs.SparingEnds.{CountsOn, comparable_bears, counted_is_spared, counts_as_made, counts_as_owned, counts_as_spared, made_ends_strictly, owned_ends_strictly}
 use Rattle.value_laws.proofs.Growth.{returned_grows}
 use Rattle.covering_laws.specs.Texts.{TextsAreLight}
-
--- a signature without its reset has the same name of interest
-plain_interest_in : (m : Option Method) → calls.interest_in (without_reset m) ≡ calls.interest_in m
-plain_interest_in None = refl
-plain_interest_in (Some m) = refl
-
--- a `new` has no receiver
-no_receiver : (h : HeapContents) (l : Locals) (a : Action) (o : ℕ) → root_of h (operand_of l a 0) ≡ Some o → is_new a ≡ true → ⊥
-no_receiver h l actions.Skip o root new = true≢false (sym new)
-no_receiver h l (actions.New m d n) o root new = let never : None ≡ Some o = root in cc
-no_receiver h l a o root new = true≢false (sym new)
 
 module _ (p : Program) (ac : Accept p) (forms : HasPlainForms p) (runs' : HasPlainRuns p) (names : HasSmallInterests p) (h : HeapContents) (texts : TextsAreLight p h) (links : HasEarlierLinks h) (apart : LinkedAreAliases p h) (ranges : FieldsInRange h)
     (fr caller : Frame) (rest : List Frame) (st : Stands p fr) (below : Stands p caller) (targets : KeepsTargets p caller) (keeps : KeepsTypes (is_text p h) p fr) (gives : GivesAsNamed p caller fr) (dispatched : IsDispatched p h fr caller)
@@ -280,6 +273,20 @@ module _ (p : Program) (ac : Accept p) (forms : HasPlainForms p) (runs' : HasPla
       go (actions.New m' d n') is' one made' = (made'.0, made'.1, made'.4, made'.2)
       go a is' one made' = absurd (true≢false (sym one))
 
+  -- it is of the class of the constructor that the `new` names
+  made_class : is_new t.action ≡ true → (w : ℕ) (x : Object) → fr.locals.this ≡ values.Object w → object_at h w ≡ Some x → (named_there.0.class ≡ x.class) × (is_constructor_kind named_there.0.kind ≡ true)
+  made_class new w x this there = go t.action refl new makes
+    where
+      go : (a : Action) → t.action ≡ a → is_new a ≡ true → IsMadeBy p h a fr.locals.this → (named_there.0.class ≡ x.class) × (is_constructor_kind named_there.0.kind ≡ true)
+      go actions.Skip is' one made' = absurd (true≢false (sym one))
+      go (actions.New m' d n') is' one made' =
+          let m_is = named_is m' (ap called_method is') in
+          let number : made'.0 ≡ w = (let both : values.Object made'.0 ≡ values.Object w = sym made'.1 ∙ this in (let same : made'.0 ≡ w = cc in same)) in (
+            let both : Some named_there.0.class ≡ Some x.class = sym (ap class_of_method named_there.1) ∙ sym (ap (λ (z : MethodId). class_of_method (method_at p z)) m_is) ∙ made'.3 x (ap (object_at h) number ∙ there) in cc,
+            sym (ap constructs named_there.1) ∙ sym (ap (λ (z : MethodId). constructs (method_at p z)) m_is) ∙ subst (IsOfItsKind p) is' kind,
+          )
+      go a is' one made' = absurd (true≢false (sym one))
+
   -- ---- it is linked
 
   module _ (normal' : e ≡ None) (new : is_new t.action ≡ true) (k : ℕ) (to : target ≡ Some k) where
@@ -309,6 +316,20 @@ module _ (p : Program) (ac : Accept p) (forms : HasPlainForms p) (runs' : HasPla
             (ap (λ (z : MethodId). alias_target (operand_of caller.locals (actions.New m' d n')) (method_at p z)) (named_is m' (ap called_method is')) ∙ to')
         go a is' one after' to' = absurd (true≢false (sym one))
 
+    -- its class has an obligation
+    made_heavy : is_heavy_class p object.0.class ≡ true
+    made_heavy = go (alias_position plain) refl
+      where
+        its : (named_there.0.class ≡ object.0.class) × (is_constructor_kind named_there.0.kind ≡ true)
+        its = made_class new self object.0 (self_made new).1 object.1
+
+        go : (a : Option ℕ) → alias_position plain ≡ a → is_heavy_class p object.0.class ≡ true
+        go None none = absurd (let never : None ≡ Some k = sym (ap (object_by (operand_of caller.locals t.action)) none) ∙ to in cc)
+        go (Some j) some = elim (gives_object p ac.well_formed named named_there.0 named_there.1 j (sym plain_alias ∙ some)) [
+          | inl made ↦ ap (is_heavy_class p) (sym its.0) ∙ made.1
+          | inr other ↦ absurd (true≢false (sym its.1 ∙ other.0))
+        ]
+
     others_keep : KeepsOtherRoots h K self
     others_keep = other_roots p at fr.locals.this caller.locals t.action (method_at p fr.method) plain v e h links no_reset unmade normal' new self k (self_made new).1 is_aliased to object.0 object.1 unowned later.0 later.1
 
@@ -330,7 +351,8 @@ module _ (p : Program) (ac : Accept p) (forms : HasPlainForms p) (runs' : HasPla
       by None normal' false earlier k to = all_keep_roots p h K (roots_called earlier) (caller ∷ rest) inside
       by None normal' true new None none = all_keep_roots p h K (roots (λ x y. none)) (caller ∷ rest) inside
       by None normal' true new (Some k) to =
-          all_keep_other_roots p h K (self normal' new k to) (others_keep normal' new k to) (caller ∷ rest) inside (unheld back.index t (self normal' new k to) back.here new (self_made new).1)
+          all_keep_other_roots p h K (self normal' new k to) (others_keep normal' new k to) (caller ∷ rest) inside
+          (unheld back.index t (self normal' new k to) (object normal' new k to).0 back.here new (self_made new).1 (object normal' new k to).1 (made_heavy normal' new k to))
 
   pub local : IsLocalStep p caller below t
   local = local_step p ac forms caller below back.index t back.here (call_sets t.action back.row) (way_of_call t back.row)
@@ -356,7 +378,7 @@ module _ (p : Program) (ac : Accept p) (forms : HasPlainForms p) (runs' : HasPla
 
   -- the call is noted on its receiver, whose names its frame leaves
   noted : (o : ℕ) (x y : Object) (k : NameId) → object_at h o ≡ Some x → object_at K o ≡ Some y → root_of h (operand_of caller.locals t.action 0) ≡ Some o → is_super_target t.action ≡ false
-      → interest_in (callee p t.action) ≡ Some k → (old o ≡ true) × Spares p h caller o → x.finished ≡ true → GoesOn x y
+      → interest_in (callee p t.action) ≡ Some k → IsCountedOn p h old (caller ∷ rest) fr o x → x.finished ≡ true → GoesOn x y
       → is_heavy_class p x.class ≡ true → OwesOrHolds p h o x → set.contains y.called k.0 ≡ true
   noted o x y k before now root' other interest counted done goes heavy owes = by (is_passed_on p (note false r.object k) object.0) refl
     where
@@ -397,27 +419,16 @@ module _ (p : Program) (ac : Accept p) (forms : HasPlainForms p) (runs' : HasPla
       alias_there (Some k) is' some' = (k, is')
 
       of_new : is_new t.action ≡ true → fr.locals.this ≡ values.Object n → calls.is_alias plain ≡ true → ((x : Object) × (object_at h n ≡ Some x) × (y.class ≡ x.class)) → IsGivenAsAlias p y.class
-      of_new new this aliased' earlier = go t.action refl new makes
-        where
-          alias' : (k : ℕ) × (named_there.0.sig.alias ≡ Some k)
-          alias' = alias_there named_there.0.sig.alias refl (sym (ap is_some plain_alias) ∙ aliased')
-
-          go : (a : Action) → t.action ≡ a → is_new a ≡ true → IsMadeBy p h a fr.locals.this → IsGivenAsAlias p y.class
-          go actions.Skip is' one made' = absurd (true≢false (sym one))
-          go (actions.New m' d n') is' one made' =
-              let m_is = named_is m' (ap called_method is') in
-              let number : made'.0 ≡ n = (let both : values.Object made'.0 ≡ values.Object n = sym made'.1 ∙ this in (let same : made'.0 ≡ n = cc in same)) in
-              let class : named_there.0.class ≡ earlier.0.class = (let both : Some named_there.0.class ≡ Some earlier.0.class = sym (ap class_of_method named_there.1) ∙ sym (ap (λ (z : MethodId). class_of_method (method_at p z)) m_is)
-              ∙ made'.3 earlier.0 (ap (object_at h) number ∙ earlier.1) in (let same : named_there.0.class ≡ earlier.0.class = cc in same)) in
-              let new_kind : is_constructor_kind named_there.0.kind ≡ true = sym (ap constructs named_there.1) ∙ sym (ap (λ (z : MethodId). constructs (method_at p z)) m_is) ∙ subst (IsOfItsKind p) is' kind in
-              record { number = named; method = named_there.0; at = named_there.1; position = alias'.0; alias = alias'.1; class = inl (new_kind, earlier.2 ∙ sym class) }
-          go a is' one made' = absurd (true≢false (sym one))
+      of_new new this aliased' earlier =
+          let alias' = alias_there named_there.0.sig.alias refl (sym (ap is_some plain_alias) ∙ aliased') in
+          let its = made_class new n earlier.0 this earlier.1 in
+          record { number = named; method = named_there.0; at = named_there.1; position = alias'.0; alias = alias'.1; class = inl (its.1, earlier.2 ∙ sym its.0) }
 
   pub ended_unfinished : KeepsUnfinished h K (λ o. (fr.locals.this ≡ values.Object o) × (is_new t.action ≡ true))
   ended_unfinished = end_unfinished p at fr.locals.this caller.locals t.action (method_at p fr.method) plain v e h links no_reset unmade
 
   pub ready : AllReady p h K (caller ∷ rest)
-  ready = frames_ready_but p h K (λ o. (fr.locals.this ≡ values.Object o) × (is_new t.action ≡ true)) ended_unfinished (caller ∷ rest) (λ w is. unheld back.index t w back.here is.1 is.0)
+  ready = frames_ready_but p h K (λ o. (fr.locals.this ≡ values.Object o) × (is_new t.action ≡ true)) ended_unfinished (caller ∷ rest) (λ w x before heavy is. unheld back.index t w x back.here is.1 is.0 before heavy)
 
   pub ended_held_before : AllHeldBefore p h K rest
   ended_held_before =
@@ -468,7 +479,7 @@ module _ (p : Program) (ac : Accept p) (forms : HasPlainForms p) (runs' : HasPla
 
   -- what fields hold they own
   pub ended_owns : FieldsOwn p h → FieldsOwn p K
-  ended_owns = fields_own_at_end p ac forms h links ranges ends fr caller old rest st covered args back.index t back.here named makes itself new_makes (λ m' d n' is'. named_is m' (ap called_method is'))
+  ended_owns = fields_own_at_end p ac forms h links ranges ends fr caller old rest st covered (ends_lend_nothing p fr st i s q here is) args back.index t back.here named makes itself new_makes (λ m' d n' is'. named_is m' (ap called_method is'))
       plain (plain_alias ∙ sym (ap alias_in named_there.1)) no_reset at v e unmade result_owner roots
       (λ normal' new k to. (self normal' new k to, (self_made new).1, object normal' new k to, others_keep normal' new k to, made_keep normal' new k to, linked_root normal' new k to)) fields carries holders goes_on
     where
@@ -564,6 +575,14 @@ module _ (p : Program) (ac : Accept p) (forms : HasPlainForms p) (runs' : HasPla
         is_aliased' : calls.is_alias plain ≡ true
         is_aliased' = ap is_some (plain_alias ∙ some)
 
+        -- a constructor of its class makes an alias
+        makes_alias : MayStore p y.class → ⊥
+        makes_alias stores =
+            let earlier' = was o y now in
+            let its = made_class new o earlier'.0 (self'.1 ∙ ap values.Object itself') earlier'.1 in
+            let never : Some k ≡ None = sym some ∙ stores.2 named named_there.0 named_there.1 (its.0 ∙ sym earlier'.2) its.1 in
+            cc
+
         go : (a : Action) → t.action ≡ a → is_new a ≡ true → ⊥
         go actions.Skip is' one = true≢false (sym one)
         go (actions.New m' d n') is' one =
@@ -572,7 +591,10 @@ module _ (p : Program) (ac : Accept p) (forms : HasPlainForms p) (runs' : HasPla
             (subst (λ (a : Action). object_at (returned_heap p at fr.locals.this caller.locals a (method_at p fr.method) plain v e h) o ≡ Some y) is' now)) in
             elim owes [
               | inl may ↦ true≢false (sym may ∙ ap not (and_from y.finished (is_library_owner y.owner) null'.0 (ap is_library_owner null'.1)))
-              | inr holds ↦ holds_nothing (subst (IsHolder p K) (sym itself') holds)
+              | inr other ↦ elim other [
+                | inl holds ↦ holds_nothing (subst (IsHolder p K) (sym itself') holds)
+                | inr stores ↦ makes_alias stores
+              ]
             ]
         go a is' one = true≢false (sym one)
 
@@ -619,7 +641,8 @@ module _ (p : Program) (ac : Accept p) (forms : HasPlainForms p) (runs' : HasPla
   -- `old` and `older` are what was old for the frame that ends and for the caller when they began
   module _ (stand : AllStand p rest) (aged : IsOld p h (caller ∷ rest) fr old) (older : ℕ → Bool) (up : (o : ℕ) → older o ≡ true → old o ≡ true) (was_old : IsOld p h rest caller older)
       (waiting : IsCovered p h (is_given p h caller) (is_reread p h caller) older rest caller) (lower : AreWaiting p h older rest) (holds : HoldsLent p h older rest caller below) (news : AreNew p (caller ∷ rest))
-      (unready : AreUnfinished p h (caller ∷ rest)) where
+      (unready : AreUnfinished p h (caller ∷ rest)) (owned : FieldsOwn p h) (renews' : RenewsInHand p h caller rest) (all_renew : AllRenewInHand p h rest)
+      (single : IsSingleThis p h caller) (lending : LendsItsOwn p caller t) where
     pub gifts : AllKeepGifts p h K rest
     gifts = small_gifts p ac h K rest stand all_roots.1
 
@@ -629,43 +652,23 @@ module _ (p : Program) (ac : Accept p) (forms : HasPlainForms p) (runs' : HasPla
     pub lasting : KeepsHeld p h K caller
     lasting = held_here p None (caller ∷ rest) at h K ways goes_on rest caller (omega arith) gifts (λ w none. none.0)
 
-    -- ---- what the caller counts on
-
-    -- what it creates anew is in its hands
-    pub in_hands : (u : ℕ) (y : Object) → object_at h u ≡ Some y → IsHeavyObject p y → OwesOrHolds p h u y → is_renewed p h caller u ≡ true → HasInHand p h (IsLentFrom p h rest) at caller u y.owner
-    in_hands u y there heavy owes renewed = elim (owned_or_lent p ac forms h caller older rest below back.index t back.here back.row waiting holds u y there heavy.1 owes heavy.0 renewed) [
-      | inl own ↦ inl (own.key.owner own.kept own.own)
-      | inr other ↦ inr other
-    ]
-
-    abbrev IsSureHere : (o : ℕ) (x : Object) → Covers p h (is_given p h caller o x.class) (is_renewed p h caller o) older rest caller o x → Type 0
-    IsSureHere o x c = IsSureOf p ac h K links carries fields caller below back.index t back.here local inside all_roots.0 V older rest (is_given p h caller o x.class) (is_renewed p h caller o) o x c
-
-    -- where a fact of the caller is sure, its object was old when the frame that ends began, and the call spares it
-    counted : (o : ℕ) (x : Object) (c : Covers p h (is_given p h caller o x.class) (is_renewed p h caller o) older rest caller o x) → object_at h o ≡ Some x → x.finished ≡ true → is_heavy_class p x.class ≡ true → OwesOrHolds p h o x
-        → IsSureHere o x c → is_renewed p h caller o ≡ false → (old o ≡ true) × Spares p h caller o
-    counted o x c before done heavy owes sure spared = let is' = counts sure in (is'.0, counted_is_spared p h ends caller rest news unready o x before hands spared is'.1)
-      where
-        hands : (u : ℕ) (y : Object) → object_at h u ≡ Some y → IsHeavyObject p y → IsComparable h u o → is_renewed p h caller u ≡ true → HasInHand p h (IsLentFrom p h rest) at caller u y.owner
-        hands u y there heavy' comes renewed = in_hands u y there heavy' (comparable_bears p h ends unlinked o u x y before there heavy comes owes) renewed
-
-        counts : IsSureHere o x c → (old o ≡ true) × CountsOn p h caller rest o x
-        counts (inl (key, kept)) = elim (claimed_owner p h (is_given p h caller o x.class) (is_renewed p h caller o) older rest caller o x c key kept done) [
-          | inl mine ↦ (aged.strict o x before (done, heavy) (owned_ends_strictly p h ends caller rest news unready o x before mine), counts_as_owned mine)
-          | inr held' ↦ (aged.strict o x before (done, heavy) (made_ends_strictly p h ends caller rest news unready o x before held'), counts_as_made held')
-        ]
-        counts (inr (tells, away)) = (up o away.0, counts_as_spared away.1 (was_old.ends o x before (done, heavy) away.0))
+    -- where a fact of the caller is sure, and is not emptied, its object is counted on
+    counted_here : (o : ℕ) (x : Object) (c : Covers p h (is_given p h caller o x.class) (is_renewed p h caller o) older rest caller o x) → object_at h o ≡ Some x → x.finished ≡ true → is_heavy_class p x.class ≡ true
+        → OwesOrHolds p h o x → IsSureOf p ac h K links carries fields caller below back.index t back.here local inside all_roots.0 V older rest (is_given p h caller o x.class) (is_renewed p h caller o) o x c → is_emptied p t.action c.fact.places ≡ false
+        → is_renewed p h caller o ≡ false → IsCountedOn p h old (caller ∷ rest) fr o x
+    counted_here o x c before done heavy owes sure full spared =
+        counted p ac forms h links ends unlinked owned (fr ∷ caller ∷ rest) contents fr caller rest below caller_in targets back.index t back.here old older aged up was_old waiting renews' all_renew news unready o x before done heavy owes spared c sure full
 
     -- ---- what the call gives
 
     -- an alias of the object of a fact has that object for its root
-    aliased : (o : ℕ) (x : Object) (c : Covers p h (is_given p h caller o x.class) (is_renewed p h caller o) older rest caller o x) → object_at h o ≡ Some x → is_heavy_class p x.class ≡ true → OwesOrHolds p h o x
+    aliased : (o : ℕ) (x : Object) (c : Covers p h (is_given p h caller o x.class) (is_renewed p h caller o) older rest caller o x) → object_at h o ≡ Some x → is_heavy_class p x.class ≡ true → OwesOrHolds p h o x → is_idle p rest caller c.fact ≡ false
         → gives_alias p t.action t.edge c.fact.places ≡ true → root_of K V ≡ Some o
-    aliased o x c before heavy owes gives' =
+    aliased o x c before heavy owes said gives' =
         let operand = gives_operand p t.action t.edge c.fact.places gives' in
         let k = operand.1.0 in
         let position : named_there.0.sig.alias ≡ Some k = ap alias_in (sym same_callee) ∙ operand.1.1 in
-        let root' = operand_holds p h caller.method caller.locals t.action o k c.fact.places local.small (operand_has_position p t.action c.fact.places k local.small operand.1.2) c.places operand.1.2 in
+        let root' = operand_holds p h caller.method caller.locals t.action o k c.fact.places local.small (operand_has_position p t.action c.fact.places k local.small operand.1.2) (said_apart p h rest caller o c.fact c.places said) operand.1.2 in
         elim (alias_kind k position) [
           | inl new ↦ new_to_result k position (normal operand.0) new o root'
           | inr called' ↦ to_result k position operand.0 called'.0 called'.1 called'.2 o x before heavy owes root'
@@ -684,22 +687,19 @@ module _ (p : Program) (ac : Accept p) (forms : HasPlainForms p) (runs' : HasPla
     -- no fact of the caller goes on owning what it is given
     stops : (o : ℕ) (y : Object) → object_at K o ≡ Some y → is_heavy_class p y.class ≡ true
         → ((is_new t.action ≡ true) × (fr.locals.this ≡ values.Object o)) ⊎ ((x : Object) → object_at h o ≡ Some x → x.owner ≡ owners.Frame (at + 1)) → StopsOwning p h caller older rest (is_given p h caller) (is_renewed p h caller) IsGivenOrNot o
-    stops o y now heavy (inl (new, this)) x before z small root d key g more = absurd ((unheld back.index t o back.here new this).0 z small root)
-    stops o y now heavy (inr owner) x before z small root d key g more = by (is_given p h caller o x.class) refl
+    stops o y now heavy way x before z small root d key mine g more = elim way [
+      | inl made' ↦ absurd ((unheld back.index t o x back.here made'.0 made'.1 before heavy').0 z small root)
+      | inr owner ↦ by owner (is_given p h caller o x.class) refl
+    ]
       where
         heavy' : is_heavy_class p x.class ≡ true
         heavy' =
             let earlier = was o y now in
             ap (λ (u : Object). is_heavy_class p u.class) (let both : Some x ≡ Some earlier.0 = sym before ∙ earlier.1 in (let one : x ≡ earlier.0 = cc in one)) ∙ ap (is_heavy_class p) (sym earlier.2) ∙ heavy
 
-        by : (b : Bool) → is_given p h caller o x.class ≡ b → is_own g.mode ≡ false
-        by false spared = absurd (elim (claims_by p (method_at p caller.method) d.origin d.fact key.owning) [
-          | inl own ↦ no_two at (sym (key.owner spared own) ∙ owner x before)
-          | inr held' ↦ true≢false (sym (own_frame (at + 1) x.owner (owner x before))
-              ∙ held_unowned p h (is_given p h caller o x.class) (is_renewed p h caller o) older rest caller o x d (held_finished p h (is_given p h caller o x.class) (is_renewed p h caller o) older rest caller o x d key.owning held'.0) held'.0 held'.1
-              (claims_owned p (method_at p caller.method) d.origin d.fact key.owning).0 (at + 1))
-        ])
-        by true gives' = not_own (is_own g.mode) (is_held g.mode)
+        by : ((u : Object) → object_at h o ≡ Some u → u.owner ≡ owners.Frame (at + 1)) → (b : Bool) → is_given p h caller o x.class ≡ b → is_own g.mode ≡ false
+        by owner false spared = absurd (no_two at (sym (key.owner spared mine) ∙ owner x before))
+        by owner true gives' = not_own (is_own g.mode) (is_held g.mode)
             (more.0 (away_moves p ac h caller below older rest back.index t back.here back.row (is_given p h caller o x.class) (is_renewed p h caller o) o x d key heavy' (given_at_step p h caller below back.index t o x.class back.here back.row gives')))
 
     -- what the call gives is covered by its birth, or comes from the operand of which it is an alias
@@ -720,7 +720,7 @@ module _ (p : Program) (ac : Accept p) (forms : HasPlainForms p) (runs' : HasPla
             ])))
 
         as_born : IsBornSo p K (is_renewed p h caller o) older rest after place o y ((y.owner ≡ owners.Frame at) × (((is_new t.action ≡ true) × (fr.locals.this ≡ values.Object o)) ⊎ ((x : Object) → object_at h o ≡ Some x → x.owner ≡ owners.Frame (at + 1)))) → IsMadeHere place o y
-        as_born (inl (c, in'', its)) = inl (c, in'', its.0, stops o y now heavy its.1)
+        as_born (inl (c, in'', unheld', its)) = inl (c, in'', its.0, stops o y now heavy its.1, unheld')
         as_born (inr u) = inr (inl u)
 
         by : (a : Option ℕ) → named_there.0.sig.alias ≡ a → IsMadeHere place o y
@@ -734,20 +734,36 @@ module _ (p : Program) (ac : Accept p) (forms : HasPlainForms p) (runs' : HasPla
         → IsKeyedFrom p ac h K links carries fields caller below back.index t back.here local inside all_roots.0 V older rest (is_given p h caller) (is_renewed p h caller) IsGivenOrNot place o y
     caller_from =
         call_from p ac h K links carries fields caller below back.index t back.here local inside all_roots.0 V back.row older rest (is_given p h caller) (is_renewed p h caller)
-        (λ o c gives'. given_at_step p h caller below back.index t o c back.here back.row gives') waiting ready.0 others lasting
+        (λ o c gives'. given_at_step p h caller below back.index t o c back.here back.row gives') waiting was_old (idle_over_call p ac forms caller below t local lending rest) ready.0 others lasting
         (λ o x y before now done heavy spared mine. caller_owns o x y before now done heavy mine)
-        (λ o x y c n before now root' other interest sure spared done goes heavy owes. noted o x y n before now root' other interest (counted o x c before done heavy owes sure spared) done goes heavy owes)
-        (λ o x y c before now g more trusted sure spared done goes heavy owes names less knows.
-        let is' = counted o x c before done heavy owes sure spared in
+        (λ o x y c n before now root' other interest sure full spared done goes heavy owes. noted o x y n before now root' other interest (counted_here o x c before done heavy owes sure full spared) done goes heavy owes)
+        (λ o x y c before now g more trusted sure full spared done goes heavy owes names less knows.
+        let is' = counted_here o x c before done heavy owes sure full spared in
         promises_kept p ac forms h fr caller rest st below targets args caller_in old older covered i s q here is back.index t back.here back.row named named_there.0 back.calls
-        named_there.1 call may dispatched returns thrown o x y c before g more.0 trusted is'.0 is'.1 done goes heavy owes names less knows)
+        named_there.1 call may dispatched returns thrown o x y c before g more.0 trusted is'.0 is'.1 is'.2
+        (sure_is_said p ac h K links carries fields caller below back.index t back.here local inside all_roots.0 V back.row older rest (is_given p h caller o x.class) (is_renewed p h caller o) o x c sure) full done goes heavy owes names less knows)
         aliased
-        (left_out_bears p ac forms h K texts stored links carries fields caller below back.index t back.here local inside all_roots.0 V older rest (is_given p h caller) (is_renewed p h caller) waiting ready.0 others lasting)
+        (λ place o y small out root' now heavy owes.
+        left_out_bears p ac forms h K texts stored links carries fields caller below back.index t back.here local inside all_roots.0 V older rest (is_given p h caller) (is_renewed p h caller) waiting ready.0 others owned
+        (fr ∷ caller ∷ rest) contents ends (field_stays p caller rest h K ways goes_on) caller_in targets single (λ u renewed resets. lends_target p ac caller below targets h u (any_at (λ (z : Step). is_reset_of_this p z.action) (frame_steps p caller) back.index t back.here resets) renewed) place o y small out root' now heavy owes)
         (λ place o y small local' none' there value root now heavy owes. made place o y small local' there value root now heavy owes)
+
+    -- `this` of the caller, where it is finished and linked to none, was so
+    this_was : ThisWas p h K caller
+    this_was w y this now heavy' free = (then'.0, then'.1, ((done, ap (is_heavy_class p) (sym then'.2) ∙ heavy'.1), sym (then'.3 done).0.link ∙ free))
+      where
+        then' : IsCarried h w y
+        then' = was w y now
+
+        root' : root_of h caller.locals.this ≡ Some w
+        root' = sym (all_roots.0 places.This tt) ∙ ap (root_of K) this ∙ ap Some (roots_of_links-itself K w y now free)
+
+        done : then'.0.finished ≡ true
+        done = ready.0 places.This w then'.0 y tt root' then'.1 now (ap (is_heavy_class p) (sym then'.2) ∙ heavy'.1) heavy'.0
 
     -- what was old for the caller is so
     pub still_old : IsOld p K rest after older
-    still_old = old_as p K older rest caller after refl refl (old_kept p h K older rest caller others (ways_go_on p None (caller ∷ rest) at h K ways) was_old)
+    still_old = old_as p K older rest caller after refl refl (old_kept p h K older rest caller others (ways_go_on p None (caller ∷ rest) at h K ways) was_old this_was)
 
     -- the frames below it go on waiting
     pub rest_waiting : AreWaiting p K older rest
@@ -775,6 +791,8 @@ module _ (p : Program) (ac : Accept p) (forms : HasPlainForms p) (runs' : HasPla
       pub anew_covered : OwnersBelow h (length (caller ∷ rest) + 1) → AreCovered p j (after ∷ rest)
       anew_covered low =
           all_anew p ac forms h K j caller after rest below back.index t back.here back.row same fields' alike (is_given p h caller) (is_renewed p h caller) older
-          (λ o c gives'. given_at_step p h caller below back.index t o c back.here back.row gives') read_here waiting holds (caller ∷ rest) at ways goes_on others lasting (small_gifts p ac h K (caller ∷ rest) (below, stand) all_roots).0 carries ready.0
-          (λ o x y before now done heavy kept owner. caller_owns o x y before now done heavy owner) later news unready unready' still_old refl turns (λ place o y small root now heavy owes. caller_from place o y small root now heavy owes) rest_waiting
+          (λ o c gives'. given_at_step p h caller below back.index t o c back.here back.row gives') read_here waiting holds ways goes_on others (small_gifts p ac h K (caller ∷ rest) (below, stand) all_roots).0 gifts carries ready.0
+          (λ o x y before now done heavy kept owner. caller_owns o x y before now done heavy owner) later news unready unready' still_old
+          (λ opens w y this at' heavy' bears none declares. let done = renews'.whole w y this at' heavy' bears none opens declares in (done, renews'.lent w y this at' (done, heavy') bears none opens)) all_renew
+          (content_declares p (fr ∷ caller ∷ rest) h contents) refl refl turns (λ place o y small open' root now heavy owes. caller_from place o y small root now heavy owes) rest_waiting
           (λ n y now. let z = alike.back n y now in ap (is_frame_from (at + 1)) z.2.owner ∙ ended_below low n z.0 z.1)

@@ -20,10 +20,10 @@ use Rattle.program_model.specs.declared.program.Promise.{Promise}
 use Rattle.program_model.specs.Lookups.{method_at}
 use Rattle.program_model.specs.Overrides.{is_library, is_type}
 use Rattle.program_model.specs.SuperTests.{is_class}
-use Rattle.ledger_obligations.specs.Bodies.{constructs, has_field_place, is_field_in, method_in, method_of, promises_in, throwing_promises_in}
+use Rattle.ledger_obligations.specs.Bodies.{constructs, has_field_place, is_field_in, method_in, method_of, promises_in, reset_in, throwing_promises_in}
 use Rattle.ledger_obligations.specs.MustCallSets.{Names, is_heavy_class, is_empty, must_of, must_of_type}
 use Rattle.ownership_rules.specs.Signatures.{is_at, is_position, promised_names, when}
-use Rattle.java_control.specs.Calls.{called_method}
+use Rattle.java_control.specs.Calls.{called_method, is_receiver, is_reset_of_this, is_this_form, resets_receiver}
 use Rattle.java_control.specs.Control.{Step}
 use Rattle.java_control.specs.Owned.{field_number, place_of_field}
 use Rattle.java_control.specs.declared.action.Action.{Action}
@@ -33,14 +33,14 @@ use Rattle.java_control.specs.declared.action.Edge.{Edge}
 use Rattle.java_control.specs.declared.action.Edge.TheVariants as edges
 use Rattle.java_control.specs.declared.action.TargetForm.TheVariants as forms
 use Rattle.ownership_rules.specs.Callees.{callee, callee_in, is_this_target, may_be_null_target, holds_operand}
-use Rattle.ownership_rules.specs.Facts.{PlaceSet, has, is_origin_at, is_own}
+use Rattle.ownership_rules.specs.Facts.{PlaceSet, has, has_part, is_held, is_origin_at, is_own}
 use Rattle.ownership_rules.specs.SmallActions.{IsSmallAction}
 use Rattle.java_control.specs.declared.place.Place.{Place}
-use Rattle.value_laws.specs.CalledRows.{holds_field, holds_target, promises_at}
+use Rattle.value_laws.specs.CalledRows.{holds_field, holds_target, is_emptied, promises_at}
 use Rattle.value_laws.specs.Accept.{Accept}
 use Rattle.ledger_state.specs.Contents.{HeapContents}
 use Rattle.ledger_state.specs.Fields.{field_of, field_value}
-use Rattle.ledger_state.specs.Heaps.{object_at, root_of, unfinished}
+use Rattle.ledger_state.specs.Heaps.{object_at, root_of, same_root, unfinished}
 use Rattle.ledger_state.specs.Values.{number_of}
 use Rattle.ledger_state.specs.declared.object.Object.{Object}
 use Rattle.ledger_state.specs.declared.value.Value.{Value}
@@ -61,8 +61,8 @@ use Rattle.value_laws.proofs.Chains.{object_there}
 use Rattle.value_laws.proofs.Entries.{same_count}
 use Rattle.value_laws.specs.Typed.{IsDeclaredElsewhere, NamesMembers}
 use Rattle.value_laws.specs.FieldContents.{IsDispatched, is_chosen_by_class}
-use Rattle.value_laws.specs.PlaceFacts.{Covers, IsCovered, Spares, asked_by, asked_of, gives_none, is_given, is_lent, OwesOrHolds, renews_none}
-use Rattle.value_laws.specs.Renewing.{is_reread}
+use Rattle.value_laws.specs.PlaceFacts.{Covers, IsAnswered, IsCovered, OwesOrHolds, Spares, asked_by, asked_of, gives_none, is_given, is_idle, is_lent, is_lent_place, is_settled, renews_none}
+use Rattle.value_laws.specs.Renewing.{answers_for_fields, is_of_heavy_class, is_reread, lends_this, reopens}
 use Rattle.value_laws.specs.Ranges.{LocalsInRange}
 use Rattle.value_laws.proofs.FrameOperations.{all_at}
 use Rattle.value_laws.proofs.RangeValues.{operand_in_range}
@@ -71,13 +71,15 @@ use Rattle.value_laws.proofs.NamedReached.{names_what_is_there}
 use Rattle.value_laws.specs.Flow.{flow}
 use Rattle.value_laws.specs.Paths.{move_of, Reach, relation_of}
 use Rattle.covering_laws.proofs.Following.{small_step, step_there, breaks_nothing, same_body}
-use Rattle.covering_laws.proofs.HeavyFields.{HasPlace, asked_here, covered_at, has_place_here, held_tells, held_unlent, known_alone, lent_tells, value_here, plain_not_alone, lent_not_alone}
+use Rattle.covering_laws.proofs.HeavyFields.{HasPlace, asked_here, covered_at, has_place_here, held_tells, held_unlent, known_alone, lent_tells, value_here, lent_not_alone}
+use Rattle.covering_laws.proofs.InFields.{field_part}
+use Rattle.covering_laws.proofs.SaidFacts.{HoldsApart, answers_neither, ends_lend_nothing, lends_by_step, lent_is_said, no_lent_place, said_apart, said_by, said_why, settled_on}
 use Rattle.covering_laws.proofs.Bodies.{running_method}
 use Rattle.covering_laws.proofs.EntryBirths.{alike_parameter, same_mark}
 use Rattle.covering_laws.proofs.KnownNames.{AreKept, all_kept, operand_holds}
 use Rattle.covering_laws.proofs.LocalSteps.{names_members}
 use Rattle.covering_laws.proofs.PromisedFields.{IsOwnField, promised_field}
-use Rattle.covering_laws.proofs.MadeTargets.{first_value}
+use Rattle.covering_laws.proofs.ThisOperands.{first_value}
 use Rattle.std.specs.List.{All, list_any}
 use Rattle.program_model.specs.declared.kinds.BodyId.{BodyId}
 use Rattle.java_control.specs.declared.fact.Fact.{Fact}
@@ -217,15 +219,24 @@ module _ (p : Program) (ac : Accept p) (forms' : HasPlainForms p) (h : HeapConte
 
   -- The object of a fact of the caller, which says that it is owned, or is that of what is lent to the caller. All that was called on the object as the call ends, and
   -- all that the fact knows before, is among the names.
-  module _ (o : ℕ) (x y : Object) (c : Covers p h (is_given p h caller o x.class) (is_reread p h caller o x.owner) older rest caller o x) (before : object_at h o ≡ Some x) (aged : old o ≡ true) (spared : Spares p h caller o) (done : x.finished ≡ true) (goes : GoesOn x y)
+  module _ (o : ℕ) (x y : Object) (c : Covers p h (is_given p h caller o x.class) (is_reread p h caller o x.owner) older rest caller o x) (before : object_at h o ≡ Some x) (aged : old o ≡ true) (spared : Spares p h caller o) (answered : IsAnswered h o) (said : is_idle p rest caller c.fact ≡ false)
+      (done : x.finished ≡ true) (goes : GoesOn x y)
       (heavy : is_heavy_class p x.class ≡ true) (owes : OwesOrHolds p h o x) (names : Names) (less : set.is_subset y.called names ≡ true) (knows : set.is_subset c.fact.called names ≡ true) where
+    -- what the places of the fact hold, but for those of fields
+    holds_apart : HoldsApart p h caller.method caller.locals o c.fact.places
+    holds_apart = said_apart p h rest caller o c.fact c.places said
+
+    -- a frame that ends lends nothing
+    lends_nothing : (z : Place) → is_lent_place p fr z ≡ false
+    lends_nothing = no_lent_place p fr (ends_lend_nothing p fr st i s q here is)
+
     -- what was called on it before is among them
     called_before : set.is_subset x.called names ≡ true
     called_before = within_trans x.called y.called names goes.called less
 
     -- ---- an owning field of `this` that the fact has: the named method ran
 
-    module _ (runs : fr.method ≡ named) (f : FieldId) (own : IsOwnField p n f) (on_this : is_this_target t.action ≡ true) (place : has_field_place p below.number f ≡ true) (held : has c.fact.places (place_of_field p f) ≡ true) where
+    module _ (runs : fr.method ≡ named) (f : FieldId) (own : IsOwnField p n f) (on_this : is_this_target t.action ≡ true) (place : has_field_place p below.number f ≡ true) (held : has c.fact.places (place_of_field p f) ≡ true) (full : is_emptied p t.action c.fact.places ≡ false) where
       method_here : method_of p st.number ≡ Some n
       method_here = ap (method_in p) st.at ∙ ap (method_at p) (st.method ∙ runs) ∙ named_at
 
@@ -238,8 +249,20 @@ module _ (p : Program) (ac : Accept p) (forms' : HasPlainForms p) (h : HeapConte
       same_class : n.class ≡ mine.method.class
       same_class = sym own.class ∙ sym (ap (λ (w : Field). w.class) same_field) ∙ mine.class
 
+      -- the call does not create the obligation of `this` anew
+      resets_not : is_reset_of_this p t.action ≡ false
+      resets_not = go (is_reset_of_this p t.action) refl
+        where
+          go : (b : Bool) → is_reset_of_this p t.action ≡ b → is_reset_of_this p t.action ≡ false
+          go false none = none
+          go true resets = absurd (true≢false (sym (and_from (is_reset_of_this p t.action) (has_part c.fact.places) resets
+              (field_part c.fact.places (field_number p f) mine.small held)) ∙ full))
+
+      lends_not : lends_this p caller ≡ false
+      lends_not = lends_by_step p caller below j t there resets_not
+
       root : root_of h (place_value p h caller.method caller.locals (place_of_field p f)) ≡ Some o
-      root = c.places (place_of_field p f) mine.small held
+      root = c.places said (place_of_field p f) mine.small (no_lent_place p caller lends_not (place_of_field p f)) held
 
       -- `this` is an object
       this : (w : ℕ) × (caller.locals.this ≡ values.Object w)
@@ -294,7 +317,7 @@ module _ (p : Program) (ac : Accept p) (forms' : HasPlainForms p) (h : HeapConte
 
       found : (c : Covers p h false false old (caller ∷ rest) fr o x) × (has c.fact.places (place_of_field p f) ≡ true)
       found = covered_at p h false false old (caller ∷ rest) fr (place_of_field p f) o x
-          (covered (place_of_field p f) o x its_place.small (ap (root_of h) (value_here p h fr f its_place w same_this) ∙ held_root) before heavy owes)
+          (covered (place_of_field p f) o x its_place.small (lends_nothing (place_of_field p f)) (ap (root_of h) (value_here p h fr f its_place w same_this) ∙ held_root) before heavy owes)
 
       abbrev cover : Covers p h false false old (caller ∷ rest) fr o x
       cover = found.0
@@ -313,13 +336,70 @@ module _ (p : Program) (ac : Accept p) (forms' : HasPlainForms p) (h : HeapConte
           go actions.Skip same on = absurd (true≢false (sym on))
           go a same on = absurd (true≢false (sym on))
 
+      -- nor one of a method that creates the obligation of `this` anew
+      reopens_not : reopens (method_at p fr.method) ≡ false
+      reopens_not = go (reopens (method_at p fr.method)) refl
+        where
+          resets_so : (r : Option ℕ) → is_position r 0 ≡ true → is_receiver r ≡ true
+          resets_so None is' = absurd (true≢false (sym is'))
+          resets_so (Some k) is' = is'
+
+          receiver : reopens (method_at p fr.method) ≡ true → resets_receiver (method_at p named) ≡ true
+          receiver re = ap resets_receiver named_at ∙ resets_so n.sig.reset (ap (λ (m : Option Method). is_position (reset_in m) 0) (sym named_at ∙ ap (method_at p) (sym runs))
+              ∙ (and_parts (not (constructs (method_at p fr.method))) (is_position (reset_in (method_at p fr.method)) 0) re).1)
+
+          on : (a : Action) → t.action ≡ a → is_this_target a ≡ true → reopens (method_at p fr.method) ≡ true → is_reset_of_this p a ≡ true
+          on (actions.Call m d c' form) same this' re =
+              and_from (is_this_form form) (resets_receiver (method_at p m)) this'
+              (ap (λ (z : MethodId). resets_receiver (method_at p z)) (let both : Some m ≡ Some named = ap called_method (sym same) ∙ called in (let one : m ≡ named = cc in one)) ∙ receiver re)
+          on actions.Skip same this' re = absurd (true≢false (sym this'))
+          on a same this' re = absurd (true≢false (sym this'))
+
+          go : (b : Bool) → reopens (method_at p fr.method) ≡ b → reopens (method_at p fr.method) ≡ false
+          go false none = none
+          go true re = absurd (true≢false (sym (on t.action refl on_this re) ∙ resets_not))
+
       -- so the fact says that the field holds the object
       held_here : cover.fact.mode ≡ modes.Held
-      held_here = cover.outside no_constructor (field_number p f) its_place.small found.1
+      held_here = cover.outside no_constructor reopens_not (field_number p f) its_place.small found.1
+
+      answers_not : answers_for_fields (method_at p fr.method) ≡ false
+      answers_not = answers_neither (method_at p fr.method) no_constructor reopens_not
+
+      -- Nothing is stored into the fields of `this` while the frame runs, or its class has no obligation: it is the class of the caller's method, which keeps `this`.
+      its_class : is_of_heavy_class p (method_at p fr.method) ≡ is_of_heavy_class p (method_at p caller.method)
+      its_class = ap (is_of_heavy_class p) (ap (method_at p) runs ∙ named_at) ∙ ap (is_heavy_class p) same_class ∙ sym (ap (is_of_heavy_class p) mine.named)
+
+      abbrev Keeps : Type 0
+      Keeps = (constructs (method_at p caller.method) ≡ true) ⊎ ((reopens (method_at p caller.method) ≡ true) ⊎ (is_settled p caller rest ≡ true))
+
+      settled_by : Keeps → is_settled p fr (caller ∷ rest) ≡ true
+      settled_by keeps = settled_on p fr caller rest
+          (ap (λ (v : Value). same_root (number_of v) (number_of caller.locals.this)) same_this ∙ ap (λ (v : Value). same_root (Some w) (number_of v)) this.1 ∙ eq-eqb w w refl) lends_not keeps
+
+      said_here : is_idle p (caller ∷ rest) fr cover.fact ≡ false
+      said_here = by (said_why p rest caller c.fact said)
+        where
+          settled : Keeps → is_idle p (caller ∷ rest) fr cover.fact ≡ false
+          settled keeps = said_by p (caller ∷ rest) fr cover.fact (inr (inr (inr (inr (settled_by keeps)))))
+
+          -- the fact has a place of a field: outside such bodies it says that the field holds the object
+          unheld : is_held c.fact.mode ≡ false → (a b : Bool) → constructs (method_at p caller.method) ≡ a → reopens (method_at p caller.method) ≡ b → is_idle p (caller ∷ rest) fr cover.fact ≡ false
+          unheld none true b makes re = settled (inl makes)
+          unheld none false true plain re = settled (inr (inl re))
+          unheld none false false plain other = absurd (true≢false (sym (ap is_held (c.outside plain other (field_number p f) mine.small held)) ∙ none))
+
+          by : (is_held c.fact.mode ≡ false) ⊎ ((constructs (method_at p caller.method) ≡ true) ⊎ ((reopens (method_at p caller.method) ≡ true) ⊎ ((is_of_heavy_class p (method_at p caller.method) ≡ false) ⊎ (is_settled p caller rest ≡ true))))
+              → is_idle p (caller ∷ rest) fr cover.fact ≡ false
+          by (inl none) = unheld none (constructs (method_at p caller.method)) (reopens (method_at p caller.method)) refl refl
+          by (inr (inl makes)) = settled (inl makes)
+          by (inr (inr (inl re))) = settled (inr (inl re))
+          by (inr (inr (inr (inl light)))) = said_by p (caller ∷ rest) fr cover.fact (inr (inr (inr (inl (its_class ∙ light)))))
+          by (inr (inr (inr (inr keeps)))) = settled (inr (inr keeps))
 
       known_here : set.is_subset cover.fact.called x.called ≡ true
       known_here = known_alone p (method_at p fr.method) cover.origin.kind cover.fact.called x.called (held_unlent p h false false old (caller ∷ rest) fr o x cover held_here no_constructor)
-          (cover.known done (held_tells p fr.method cover.origin cover.fact (plain_not_alone (method_at p fr.method) no_constructor) held_here) (aged, spared) refl)
+          (cover.known done (held_tells p fr.method cover.origin cover.fact answers_not held_here) (aged, spared, answered, said_here) refl)
 
       by_end : (xs : List Promise) → AsksFor p st.number q xs → (k : ℕ) (u : Promise) → slice_get xs k ≡ Some u → u.target ≡ promised.OfField f → set.is_subset u.names names ≡ true
       by_end xs asks k u at target =
@@ -333,7 +413,7 @@ module _ (p : Program) (ac : Accept p) (forms' : HasPlainForms p) (h : HeapConte
         (trusted : (is_owned_in g.mode ≡ true) ⊎ (is_lent p (method_at p caller.method) c.origin.kind ≡ true)) (xs : List Promise) (asks : AsksFor p st.number q xs) (k : ℕ) (u : Promise) (at : slice_get xs k ≡ Some u)
         (promises : Promises r u) where
       operand : (v : ℕ) → holds_operand t.action c.fact.places v ≡ true → root_of h (operand_of caller.locals t.action v) ≡ Some o
-      operand v holds = operand_holds p h caller.method caller.locals t.action o v c.fact.places small (operand_has_position p t.action c.fact.places v small holds) c.places holds
+      operand v holds = operand_holds p h caller.method caller.locals t.action o v c.fact.places small (operand_has_position p t.action c.fact.places v small holds) holds_apart holds
 
       -- the call breaks no rule
       fine : IsFault (flow p below.number c.origin t.action t.edge c.fact) → ⊥
@@ -344,14 +424,14 @@ module _ (p : Program) (ac : Accept p) (forms' : HasPlainForms p) (h : HeapConte
       of_lent : (place : Place) (v : ℕ) (e : OriginKind) → IsSmall place → root_of h (place_value p h fr.method fr.locals place) ≡ Some o → u.target ≡ promised.At v → is_lent p (Some r) e ≡ true → set.is_subset (asked_of p (Some r) e) names ≡ true
           → ((cover : Covers p h false false old (caller ∷ rest) fr o x) → has cover.fact.places place ≡ true → (is_origin_at cover.origin.kind (Some v) ≡ true) × (cover.origin.kind ≡ e)) → set.is_subset u.names names ≡ true
       of_lent place v e room root target lent asked its =
-          let there' = covered_at p h false false old (caller ∷ rest) fr place o x (covered place o x room root before heavy owes) in
+          let there' = covered_at p h false false old (caller ∷ rest) fr place o x (covered place o x room (lends_nothing place) root before heavy owes) in
           let cover : Covers p h false false old (caller ∷ rest) fr o x = there'.0 in
           let origin = its cover there'.1 in
           let lent' : is_lent p (method_at p fr.method) cover.origin.kind ≡ true = ap (is_lent p (method_at p fr.method)) origin.1 ∙ ap (λ (m : Option Method). is_lent p m e) own_method ∙ lent in
           let asks' : asked_of p (method_at p fr.method) cover.origin.kind ≡ asked_of p (Some r) e = ap (asked_of p (method_at p fr.method)) origin.1 ∙ ap (λ (m : Option Method). asked_of p m e) own_method in
           within_trans u.names (set.union (asked_of p (method_at p fr.method) cover.origin.kind) x.called) names
           (shown_on_position p ac h fr st i s q here is old (caller ∷ rest) o x cover (unowned_moves p st.number cover.origin cover.fact (cover.lent lent').0 q) (set.union (asked_of p (method_at p fr.method) cover.origin.kind) x.called)
-          (cover.known done (lent_tells p fr.method cover.origin cover.fact (lent_not_alone p h false false old (caller ∷ rest) fr o x cover lent') lent') (aged, spared) refl) xs asks v k u at target origin.0)
+          (cover.known done (lent_tells p fr.method cover.origin cover.fact (lent_not_alone p h false false old (caller ∷ rest) fr o x cover lent') lent') (aged, spared, answered, lent_is_said p (caller ∷ rest) fr cover.fact (cover.lent lent').1) refl) xs asks v k u at target origin.0)
           (union_within (asked_of p (method_at p fr.method) cover.origin.kind) x.called names (ap (λ (a : Names). set.is_subset a names) asks' ∙ asked) called_before)
 
       reached_here : (cover : Covers p h false false old (caller ∷ rest) fr o x) → Reach p st.number (relation_of p st.number) cover.origin fr.control cover.fact
@@ -435,9 +515,9 @@ module _ (p : Program) (ac : Accept p) (forms' : HasPlainForms p) (h : HeapConte
   kept_as held names ps qs same kept = subst (λ (us : List Promise). AreKept p below.number t.action held names us) (sym same) kept
 
   pub promises_kept : (o : ℕ) (x y : Object) (c : Covers p h (is_given p h caller o x.class) (is_reread p h caller o x.owner) older rest caller o x) → object_at h o ≡ Some x → (g : Fact) → (moved_at_call p c.origin t.action t.edge c.fact ≡ moves.Moves → is_owned_in g.mode ≡ false)
-      → (is_owned_in g.mode ≡ true) ⊎ (is_lent p (method_at p caller.method) c.origin.kind ≡ true) → old o ≡ true → Spares p h caller o → x.finished ≡ true → GoesOn x y → is_heavy_class p x.class ≡ true → OwesOrHolds p h o x
+      → (is_owned_in g.mode ≡ true) ⊎ (is_lent p (method_at p caller.method) c.origin.kind ≡ true) → old o ≡ true → Spares p h caller o → IsAnswered h o → is_idle p rest caller c.fact ≡ false → is_emptied p t.action c.fact.places ≡ false → x.finished ≡ true → GoesOn x y → is_heavy_class p x.class ≡ true → OwesOrHolds p h o x
       → (names : Names) → set.is_subset y.called names ≡ true → set.is_subset c.fact.called names ≡ true → AreKept p below.number t.action c.fact.places names (promises_at p t.action t.edge)
-  promises_kept o x y c before g more trusted aged spared done goes heavy owes names less knows = elim (call.keeps fr.method n run.0 may named_at run.1 run.2) [
+  promises_kept o x y c before g more trusted aged spared answered said full done goes heavy owes names less knows = elim (call.keeps fr.method n run.0 may named_at run.1 run.2) [
     | inl keeps ↦ as_promised keeps t.edge refl
     | inr same ↦ itself same t.edge refl
   ]
@@ -445,11 +525,11 @@ module _ (p : Program) (ac : Accept p) (forms' : HasPlainForms p) (h : HeapConte
       -- all of a list that the end asks for, of the named method
       on_target : (same : fr.method ≡ named) (xs : List Promise) → AsksFor p st.number q xs → (k : ℕ) (u : Promise) → slice_get xs k ≡ Some u → Promises n u → (v : Target) → u.target ≡ v → IsPromised p n.sig v → holds_target p below.number t.action c.fact.places v ≡ true → set.is_subset u.names names ≡ true
       on_target same xs asks k u at promises (promised.At v) target valid' holds =
-          on_position o x y c before aged spared done goes heavy owes names less knows n (ap (method_at p) same ∙ named_at) (own_alike p n) g more trusted xs asks k u at promises v target valid' holds
+          on_position o x y c before aged spared answered said done goes heavy owes names less knows n (ap (method_at p) same ∙ named_at) (own_alike p n) g more trusted xs asks k u at promises v target valid' holds
       on_target same xs asks k u at promises (promised.OfField f) target valid' holds =
           let parts = and_parts (is_this_target t.action) (holds_field p below.number c.fact.places f) holds in
           let field = and_parts (has_field_place p below.number f) (has c.fact.places (place_of_field p f)) parts.1 in
-          by_end o x y c before aged spared done goes heavy owes names less knows same f (promised_field p ac named n u named_at promises f target) parts.0 field.0 field.1 xs asks k u at target
+          by_end o x y c before aged spared answered said done goes heavy owes names less knows same f (promised_field p ac named n u named_at promises f target) parts.0 field.0 field.1 full xs asks k u at target
 
       all_of_end : (same : fr.method ≡ named) (xs : List Promise) → AsksFor p st.number q xs → ((k : ℕ) (u : Promise) → slice_get xs k ≡ Some u → Promises n u) → All (λ (v : Promise). IsPromised p n.sig v.target) xs → Kept c.fact.places names xs
       all_of_end same xs asks promises valid' = all_kept p below.number t.action c.fact.places names xs (λ k u at holds.
@@ -471,7 +551,7 @@ module _ (p : Program) (ac : Accept p) (forms' : HasPlainForms p) (h : HeapConte
                   let parts = name_where (is_at mine.0.target v) mine.0.names a mine.3 in
                   let target = at_target mine.0.target v parts.0 in
                   within_at mine.0.names names
-                  (on_position o x y c before aged spared done goes heavy owes names less knows run.0 run.1 alike_here g more trusted ps asks mine.1 mine.0 mine.2 (promises mine.1 mine.0 mine.2) v target
+                  (on_position o x y c before aged spared answered said done goes heavy owes names less knows run.0 run.1 alike_here g more trusted ps asks mine.1 mine.0 mine.2 (promises mine.1 mine.0 mine.2) v target
                   (subst (λ (w : Target). IsPromised p run.0.sig w) target (all_at (λ (w : Promise). IsPromised p run.0.sig w.target) ps mine.1 mine.0 valid' mine.2)) holds) a parts.1
 
       here_run : method_of p st.number ≡ Some run.0

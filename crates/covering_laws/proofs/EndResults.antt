@@ -29,11 +29,12 @@ use Rattle.java_control.specs.declared.action.Completion.{Completion}
 use Rattle.java_control.specs.declared.action.Completion.TheVariants as completions
 use Rattle.java_control.specs.declared.action.Edge.TheVariants as edges
 use Rattle.java_control.specs.declared.action.TargetForm.{TargetForm}
+use Rattle.java_control.specs.declared.fact.Mode.{Mode}
 use Rattle.java_control.specs.declared.fact.Mode.TheVariants as modes
 use Rattle.java_control.specs.declared.fact.OriginKind.TheVariants as kinds
 use Rattle.java_control.specs.declared.place.Place.{Place}
 use Rattle.java_control.specs.declared.place.Place.TheVariants as places
-use Rattle.ownership_rules.specs.Facts.{has, is_own}
+use Rattle.ownership_rules.specs.Facts.{has, is_held, is_own}
 use Rattle.ownership_rules.specs.Signatures.{is_present}
 use Rattle.ownership_rules.specs.SmallActions.{IsSmallAction, IsSmallTemp}
 use Rattle.ownership_rules.specs.Births.{fact_at, origin_of}
@@ -77,7 +78,7 @@ use Rattle.value_laws.specs.Types.{GivesAsNamed, IsNoObjectButText, KeepsTypes, 
 use Rattle.value_laws.proofs.ValueTypeLaws.{returned_value_is_no_object}
 use Rattle.value_laws.specs.FieldContents.{is_new}
 use Rattle.value_laws.specs.PlaceFacts.{Covers, IsCovered, IsKeyed, IsOwned, IsTrueOf, gives_none, OwesOrHolds, owned, renews_none, unowned}
-use Rattle.value_laws.specs.Renewing.{is_renewed}
+use Rattle.value_laws.specs.Renewing.{is_renewed, lends_this}
 use Rattle.value_laws.proofs.EndResets.{plain_alias_position}
 use Rattle.value_laws.proofs.Renewed.{says_nothing, without_reset}
 use Rattle.value_laws.specs.Ranges.{LocalsInRange}
@@ -250,7 +251,7 @@ module _ (p : Program) (ac : Accept p) (forms' : HasPlainForms p) (runs' : HasPl
           at_temp d (ap made_place it) (λ small' root''. (let z = new_covers p h K caller below back.index t back.here V older rest (is_renewed p h caller o) d o y small' root'' m n edge (ap (method_at p) m_is ∙ named_at) plain c it
           (ap (is_heavy_class p) class ∙ heavy)
           (true_of_made p kinds.New t.pos n.class y.class n.sig.first (places.Temp d) y done.0 refl (done.1 ∙ sym (ap (first_set p y.class) fit.first)) (subst (λ (z : ClassId). fits p y.class z ≡ true) (sym class) (within_self (must_of p y.class)))) in
-          inl (z.0, z.1, (owner, inl (ap is_new it, self)))))
+          inl (z.0, z.1, z.2, (owner, inl (ap is_new it, self)))))
 
       -- ---- a result
 
@@ -308,7 +309,7 @@ module _ (p : Program) (ac : Accept p) (forms' : HasPlainForms p) (runs' : HasPl
                 (ap owning_result_in body_method ∙ owning_run owning) in' (or_right (is_heavy_class p c.origin.class) (not (is_empty (must_of_optional p (Some result_there.0)))) (not_light (is_empty (must_of_optional p (Some result_there.0))) refl)) fine
 
           owned_cover : (c : Covers p h false false old (caller ∷ rest) fr o carried.0) × (has c.fact.places (places.Temp d) ≡ true) × IsOwned p h false false old (caller ∷ rest) fr o carried.0 c
-          owned_cover = by (covered (places.Temp d) o carried.0 room (temp_root d found) carried.1 (ap (is_heavy_class p) (sym carried.2) ∙ heavy) (bore_before p h K holders o carried.0 y carried.1 carried.3 owes))
+          owned_cover = by (covered (places.Temp d) o carried.0 room refl (temp_root d found) carried.1 (ap (is_heavy_class p) (sym carried.2) ∙ heavy) (bore_before p h K holders o carried.0 y carried.1 carried.3 owes))
             where
               by : IsKeyed p h false false old (caller ∷ rest) fr (places.Temp d) o carried.0 → (c : Covers p h false false old (caller ∷ rest) fr o carried.0) × (has c.fact.places (places.Temp d) ≡ true) × IsOwned p h false false old (caller ∷ rest) fr o carried.0 c
               by (owned c in' key) = (c, in', key)
@@ -316,7 +317,7 @@ module _ (p : Program) (ac : Accept p) (forms' : HasPlainForms p) (runs' : HasPl
                   absurd (true≢false (sym (own_claims p (method_at p fr.method) u.covers.origin u.covers.fact it.0 it.1) ∙ u.unowned))
 
           truth : IsTrueOf p carried.0 owned_cover.0.origin owned_cover.0.fact
-          truth = let it = mine owned_cover.0 owned_cover.1 in owned_cover.0.true' (own_claims p (method_at p fr.method) owned_cover.0.origin owned_cover.0.fact it.0 it.1) refl
+          truth = let it = mine owned_cover.0 owned_cover.1 in owned_cover.0.true' (own_claims p (method_at p fr.method) owned_cover.0.origin owned_cover.0.fact it.0 it.1) refl (ap (λ (m : Mode). is_held m && lends_this p fr) it.0)
 
           true_here : IsTrueOf p y (origin_of p kinds.Result t.pos r None) (fact_at (places.Temp d) modes.Own no_names false)
           true_here =
@@ -349,7 +350,7 @@ module _ (p : Program) (ac : Accept p) (forms' : HasPlainForms p) (runs' : HasPl
         result_given m d' c f it = by n.sig.result refl
           where
             as_taken : (r : ClassId) (z : Place) → n.sig.result ≡ Some (types.Obj r) → IsBornSo p K (is_renewed p h caller o) older rest after z o y ((n.sig.owning_result ≡ true) × (is_heavy_class p r ≡ true)) → IsBornSo p K (is_renewed p h caller o) older rest after z o y IsTaken
-            as_taken r z result (inl (c, in', own)) = inl (c, in', taken r result own.0 own.1)
+            as_taken r z result (inl (c, in', unheld, own)) = inl (c, in', unheld, taken r result own.0 own.1)
             as_taken r z result (inr u) = inr u
 
             of_class : (r : ClassId) → n.sig.result ≡ Some (types.Obj r) → IsGivenHere

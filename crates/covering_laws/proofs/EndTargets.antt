@@ -10,7 +10,7 @@ use Rattle.program_model.specs.declared.program.Method.{Method}
 use Rattle.program_model.specs.declared.program.Program.{Program}
 use Rattle.program_model.specs.Lookups.{method_at}
 use Rattle.ledger_obligations.specs.Bodies.{reset_in}
-use Rattle.ledger_obligations.specs.MustCallSets.{is_heavy_class}
+use Rattle.ledger_obligations.specs.MustCallSets.{is_heavy_class, must_of}
 use Rattle.java_control.specs.Calls.{called_method}
 use Rattle.java_control.specs.Control.{Step}
 use Rattle.java_control.specs.declared.action.Action.{Action}
@@ -28,7 +28,7 @@ use Rattle.ledger_state.specs.declared.value.Value.{Value}
 use Rattle.ledger_state.specs.declared.value.Value.TheVariants as values
 use Rattle.ledger_obligations.specs.Obligations.{all_notes, finished_holder, finished_in, is_frame, is_held_by, noted_object, reset_in as reset_object}
 use Rattle.ledger_steps.specs.Ends.{frame_gone, returned_called, returned_heap, returned_roots}
-use Rattle.ledger_steps.specs.LedgerCallsCalls.{alias_target, object_by, operand_of, receiver_note, reset_position, reset_target}
+use Rattle.ledger_steps.specs.LedgerCallsCalls.{alias_target, is_alias, object_by, operand_of, receiver_note, reset_position, reset_target}
 use Rattle.value_laws.specs.Accept.{Accept}
 use Rattle.value_laws.specs.Agreement.{IsMadeAfter, Stands}
 use Rattle.value_laws.specs.Chains.{HaveEnds}
@@ -432,38 +432,44 @@ module _ (p : Program) (ac : Accept p) (forms : HasPlainForms p) (h : HeapConten
     abbrev pub IsReached : ℕ → Type 0
     IsReached k = is_reached (returned_called p caller.locals t.action method g) (returned_roots p caller.locals t.action method g) k ≡ true
 
-    -- the reset reaches the object, or it is not finished, or nothing was called on it
+    -- the reset reaches the object, or it is not finished, or nothing was called on it, and all that its class asks for must be
     abbrev pub IsRisen : ℕ → Type 0
-    IsRisen w = (finished_in (object_at kept w) ≡ false) ⊎ (IsReached w ⊎ ((z : Object) → object_at kept w ≡ Some z → z.called ≡ set.empty))
+    IsRisen w = (finished_in (object_at kept w) ≡ false) ⊎ (IsReached w ⊎ ((z : Object) → object_at kept w ≡ Some z → (z.called ≡ set.empty) × (z.must ≡ must_of p z.class)))
+
+    -- no field of an alias that the `new` makes owns an object with an obligation
+    abbrev pub AliasHoldsNone : Type 0
+    AliasHoldsNone = (k w : ℕ) (z : Object) (f : FieldId) → object_at h k ≡ Some z → is_heavy_class p z.class ≡ true → z.owner ≡ owners.Field w f → program_calls.is_new t.action ≡ true → is_alias (without_reset method) ≡ true
+        → number_of fr.locals.this ≡ Some w → ⊥
 
     -- With what is linked to none, and created anew, the reset reaches the object whose field owns it, or that is not finished, or the `new` that has ended has just finished it: nothing
     -- was called on that. And it is its own root.
-    pub reached_rises : (n : ℕ) (x : Object) → object_at kept n ≡ Some x → IsReached n → x.link ≡ None
-        → (root (returned_called p caller.locals t.action method g) n ≡ n) × ((w : ℕ) (f : FieldId) → x.owner ≡ owners.Field w f → IsRisen w)
-    reached_rises n x now anew none = by (end_back p position fr.locals.this caller.locals t.action (without_reset method) g (says_nothing method) e n x now)
+    pub reached_rises : AliasHoldsNone → (n : ℕ) (x : Object) → object_at kept n ≡ Some x → IsReached n → x.link ≡ None
+        → (root (returned_called p caller.locals t.action method g) n ≡ n) × ((w : ℕ) (f : FieldId) → is_heavy_class p x.class ≡ true → x.owner ≡ owners.Field w f → IsRisen w)
+    reached_rises alone n x now anew none = by (end_back p position fr.locals.this caller.locals t.action (without_reset method) g (says_nothing method) e n x now)
       where
         made : program_calls.is_new t.action ≡ true → number_of fr.locals.this ≡ Some n → ⊥
         made new self = true≢false (sym anew ∙ made_apart p position fr.locals.this caller.locals t.action method e g made_free n new self)
 
-        -- what was not finished when the frame had gone is not, or it is the object of a `new`
-        still_unready : (w : ℕ) → finished_in (object_at g w) ≡ false → IsRisen w
-        still_unready w unready = go (object_at kept w) refl
+        -- what was not finished when the frame had gone is not, or it is the object of a `new`, of which it was said that it is no alias
+        still_unready : (w : ℕ) → finished_in (object_at g w) ≡ false → (program_calls.is_new t.action ≡ true → is_alias (without_reset method) ≡ true → number_of fr.locals.this ≡ Some w → ⊥) → IsRisen w
+        still_unready w unready no_alias = go (object_at kept w) refl
           where
-            uncalled : (y : Object) → object_at kept w ≡ Some y → y.called ≡ set.empty → IsRisen w
-            uncalled y at' empty = inr (inr (λ z there. (let one : z ≡ y = (let both : Some z ≡ Some y = sym there ∙ at' in cc) in ap (λ (u : Object). u.called) one ∙ empty)))
+            uncalled : (y : Object) → object_at kept w ≡ Some y → y.called ≡ set.empty → y.must ≡ must_of p y.class → IsRisen w
+            uncalled y at' empty all = inr (inr (λ z there. (let one : z ≡ y = (let both : Some z ≡ Some y = sym there ∙ at' in cc) in
+                (ap (λ (u : Object). u.called) one ∙ empty, ap (λ (u : Object). u.must) one ∙ all ∙ ap (λ (u : Object). must_of p u.class) (sym one)))))
 
             go : (y : Option Object) → object_at kept w ≡ y → IsRisen w
             go None at' = inl (ap finished_in at')
             go (Some y) at' = elim (end_back p position fr.locals.this caller.locals t.action (without_reset method) g (says_nothing method) e w y at') [
-              | inl made' ↦ uncalled y at' made'.2.called
+              | inl made' ↦ uncalled y at' made'.2.called (made'.2.must ∙ ap (must_of p) (sym made'.2.class))
               | inr other ↦ elim other [
-                | inl alias ↦ uncalled y at' alias.2.called
+                | inl alias ↦ absurd (no_alias alias.2.new alias.2.alias alias.2.self)
                 | inr noted ↦ inl (ap finished_in at' ∙ ap (λ (u : Object). u.finished) (sym noted.2) ∙ sym (ap finished_in noted.1) ∙ unready)
               ]
             ]
 
         by : IsFrom p position fr.locals.this caller.locals t.action (without_reset method) g (says_nothing method) e n x
-            → (root (returned_called p caller.locals t.action method g) n ≡ n) × ((w : ℕ) (f : FieldId) → x.owner ≡ owners.Field w f → IsRisen w)
+            → (root (returned_called p caller.locals t.action method g) n ≡ n) × ((w : ℕ) (f : FieldId) → is_heavy_class p x.class ≡ true → x.owner ≡ owners.Field w f → IsRisen w)
         by (inl made') = absurd (made made'.2.new made'.2.self)
         by (inr (inl alias)) = absurd (made alias.2.new alias.2.self)
         by (inr (inr noted)) = (roots_of_links-itself (returned_called p caller.locals t.action method g) n (noted_again n noted.0) at_called (ap (λ (u : Object). u.link) noted.2 ∙ none), rises)
@@ -474,13 +480,19 @@ module _ (p : Program) (ac : Accept p) (forms : HasPlainForms p) (h : HeapConten
             at_called : object_at (returned_called p caller.locals t.action method g) n ≡ Some (noted_again n noted.0)
             at_called = changed_object_at-object noted_again g n ∙ ap (option_map (noted_again n)) noted.1
 
-            rises : (w : ℕ) (f : FieldId) → x.owner ≡ owners.Field w f → IsRisen w
-            rises w f owner = elim tops [
+            -- the object of which it is asked was there before, and a field of the same object owned it
+            no_alias : (w : ℕ) (f : FieldId) → is_heavy_class p x.class ≡ true → x.owner ≡ owners.Field w f → program_calls.is_new t.action ≡ true → is_alias (without_reset method) ≡ true → number_of fr.locals.this ≡ Some w → ⊥
+            no_alias w f heavy owner new alias self =
+                let z = was_gone n noted.0 noted.1 in
+                alone n w z.0 f z.1 (ap (is_heavy_class p) (sym z.2.class ∙ ap (λ (u : Object). u.class) noted.2) ∙ heavy) (owner_before n noted.0 z.0 z.1 noted.1 w f (ap (λ (u : Object). u.owner) noted.2 ∙ owner)) new alias self
+
+            rises : (w : ℕ) (f : FieldId) → is_heavy_class p x.class ≡ true → x.owner ≡ owners.Field w f → IsRisen w
+            rises w f heavy owner = elim tops [
               | inl tested ↦ elim (end_reset_rises p caller.locals t.action method g links_gone (is_heavy_class p) gone_holders tested n w f (noted_again n noted.0) at_called anew free_link (ap (λ (u : Object). u.owner) noted.2 ∙ owner)) [
-                | inl unready ↦ still_unready w unready
+                | inl unready ↦ still_unready w unready (no_alias w f heavy owner)
                 | inr up ↦ inr (inl up)
               ]
               | inr free ↦ (
                   let found = reached_target p caller.locals t.action method g links_gone free n noted.0 noted.1 anew ∙ ap Some (roots_of_links-itself g n noted.0 noted.1 free_link) in
-                  still_unready w (unready_holder g w f (sym (ap (finished_holder g) (ap (λ (u : Object). u.owner) noted.2 ∙ owner)) ∙ free n noted.0 found noted.1)))
+                  still_unready w (unready_holder g w f (sym (ap (finished_holder g) (ap (λ (u : Object). u.owner) noted.2 ∙ owner)) ∙ free n noted.0 found noted.1)) (no_alias w f heavy owner))
             ]

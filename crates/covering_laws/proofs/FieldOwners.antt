@@ -2,7 +2,7 @@
 use Rattle.std.specs.Prelude.{◌&&◌, if◌then◌else◌}
 use Rattle.std.specs.List.{All, find}
 use Rattle.std.specs.Option.{unwrap_or}
-use Rattle.std.proofs.Common.{◌≡◌, ◌⊎◌, inl, inr, ℕ, ◌<◌, ◌≤◌, Bool, true, false, true≢false, Option, Some, None, List, [], ◌∷◌, nat_eq, eq-eqb, eqb-true, refl, sym, ap, ◌∙◌, subst}
+use Rattle.std.proofs.Common.{◌≡◌, ◌⊎◌, inl, inr, ℕ, ◌<◌, ◌≤◌, Bool, true, false, not, true≢false, Option, Some, None, List, [], ◌∷◌, nat_eq, eq-eqb, eqb-true, refl, sym, ap, ◌∙◌, subst}
 use Rattle.std.proofs.lemmas.Bool.{and_parts}
 use Rattle.std.proofs.lemmas.List.Elements.{All-head, All-tail}
 use Rattle.program_model.specs.declared.kinds.ClassId.{ClassId}
@@ -14,10 +14,12 @@ use Rattle.program_model.specs.declared.program.Program.{Program}
 use Rattle.program_model.specs.Lookups.{field_at}
 use Rattle.ledger_obligations.specs.MustCallSets.{is_heavy_class}
 use Rattle.java_control.specs.Owned.{is_owning}
+use Rattle.ledger_obligations.specs.Obligations.{is_library_owner}
 use Rattle.ledger_state.specs.Contents.{HeapContents}
 use Rattle.ledger_state.specs.Fields.{default_in, field_value}
 use Rattle.ledger_state.specs.Heaps.{is_field_of, next_number, object_at, root, root_of, unfinished, value_stored}
 use Rattle.ledger_state.specs.Values.{default_of, number_of}
+use Rattle.ledger_state.specs.declared.entry.Owner.{Owner}
 use Rattle.ledger_state.specs.declared.entry.Owner.TheVariants as owners
 use Rattle.ledger_state.specs.declared.object.Object.{Object}
 use Rattle.ledger_state.specs.declared.object.StoredField.{StoredField}
@@ -27,14 +29,13 @@ use Rattle.value_laws.specs.Configuration.{Frame}
 use Rattle.value_laws.specs.FieldContents.{FieldsOwn, IsFieldOfClass}
 use Rattle.value_laws.specs.Heaps.{HasEarlierLinks}
 use Rattle.value_laws.specs.Holders.{UnfinishedAreUnowned}
-use Rattle.value_laws.specs.PlaceFacts.{OwesOrHolds, is_frame_from, is_heavy_in}
+use Rattle.value_laws.specs.PlaceFacts.{MayStore, OwesOrHolds, is_frame_from, is_heavy_in}
 use Rattle.value_laws.specs.Ranges.{FieldsInRange, IsNumber, IsStoredInRange}
 use Rattle.value_laws.proofs.Chains.{object_there}
 use Rattle.covering_laws.specs.TextUpdates.{HoldsOrTakesText}
-use Rattle.covering_laws.proofs.Owners.{HoldersWere, OwnerGoes, OwnersGo, held_at, holders_stay, left, passed, stays}
-use Rattle.covering_laws.proofs.ResetCovers.{bears_before}
+use Rattle.covering_laws.proofs.Owners.{HoldersStay, HoldersWere, OwnerGoes, OwnersGo, held_at, holders_stay, left, passed, stays}
 use Rattle.covering_laws.proofs.TextStores.{no_root}
-use Rattle.covering_laws.proofs.Waiting.{Carries, KeepsFields, KeepsFieldsButTexts, KeepsOtherRoots, KeepsRoots, KeepsUnfinished, bore_before, no_other, numbered, open_owes}
+use Rattle.covering_laws.proofs.Waiting.{Carries, Continues, KeepsFields, KeepsFieldsButTexts, KeepsOtherRoots, KeepsRoots, KeepsUnfinished, bore_before, no_other, numbered, open_owes}
 
 -- ---- what fields hold is there, and so are the fields' objects
 
@@ -84,38 +85,55 @@ pub record LinksObject (p : Program) (h k : HeapContents) : Type 0 where
   pub others : KeepsOtherRoots h k made
   pub mine : (n : ℕ) → IsNumber h n → root h n ≡ made → root k n ≡ root k made
 
--- an object that was there is of its class, and it may owe a call, or a field of it owns something, only if that was so
+-- an object that was there is of its class; it may owe a call, or a field of it owns something, or may come to own one, only if that was so; and where it was finished, it goes on
 abbrev pub AreAsBefore : Program → HeapContents → HeapContents → Type 0
-AreAsBefore p h k = (o : ℕ) (y : Object) → object_at k o ≡ Some y → o < next_number h → (x : Object) × (object_at h o ≡ Some x) × (y.class ≡ x.class) × (OwesOrHolds p k o y → OwesOrHolds p h o x)
+AreAsBefore p h k =
+    (o : ℕ) (y : Object) → object_at k o ≡ Some y → o < next_number h → (x : Object) × (object_at h o ≡ Some x) × (y.class ≡ x.class) × (OwesOrHolds p k o y → OwesOrHolds p h o x) × (x.finished ≡ true → Continues x y)
 
 -- what a field of a finished object owns it goes on owning
 abbrev pub FinishedKeepOwning : Program → HeapContents → HeapContents → Type 0
 FinishedKeepOwning p h k = (o : ℕ) (x y : Object) (w : ℕ) (z : Object) (f : FieldId) → object_at h o ≡ Some x → object_at k o ≡ Some y → is_heavy_class p x.class ≡ true → x.owner ≡ owners.Field w f → object_at h w ≡ Some z → z.finished ≡ true
     → y.owner ≡ owners.Field w f
 
--- the field holds what it held, or a text in the place of one; or it is one of an object that is not finished, whose class declares it
+-- the field owns object `o`, whose object this is; or its object `w` is linked to it, or is an alias of null that the library owns, and it is that object
+abbrev pub OwnsOrIs : HeapContents → ℕ → Object → FieldId → ℕ → Object → Type 0
+OwnsOrIs k w y f o x = (x.owner ≡ owners.Field w f) ⊎ ((root k w ≡ o) × (y.link ≡ None → is_library_owner y.owner ≡ true))
+
+-- what the field holds it owns, where its type has an obligation
+abbrev pub OwnsNow : Program → HeapContents → ℕ → Object → FieldId → Type 0
+OwnsNow p k w y f = is_heavy_in p (Some f) ≡ true → (o : ℕ) (x : Object) → root_of k (field_value p k w f) ≡ Some o → object_at k o ≡ Some x → is_heavy_class p x.class ≡ true → OwesOrHolds p k o x → OwnsOrIs k w y f o x
+
+-- what the field of a finished object owns it goes on owning
+abbrev pub KeepsOwning : Program → HeapContents → HeapContents → ℕ → FieldId → Type 0
+KeepsOwning p h k w f =
+    (o : ℕ) (x y z : Object) → object_at h o ≡ Some x → object_at k o ≡ Some y → is_heavy_class p x.class ≡ true → x.owner ≡ owners.Field w f → object_at h w ≡ Some z → z.finished ≡ true → y.owner ≡ owners.Field w f
+
+-- the field holds what it held, or a text in the place of one; or it is one of an object whose class declares it, and where this is finished, it owns what it holds
 abbrev pub FieldGoes : Program → HeapContents → HeapContents → ℕ → FieldId → Type 0
-FieldGoes p h k w f = HoldsOrTakesText p h k w f ⊎ ((y : Object) → object_at k w ≡ Some y → IsFieldOfClass p f y.class × (y.finished ≡ false))
+FieldGoes p h k w f = (HoldsOrTakesText p h k w f × KeepsOwning p h k w f) ⊎ ((y : Object) → object_at k w ≡ Some y → IsFieldOfClass p f y.class × (y.finished ≡ true → OwnsNow p k w y f))
+
+pub field_stays : (p : Program) (h k : HeapContents) → KeepsFieldsButTexts p h k → FinishedKeepOwning p h k → (w : ℕ) (f : FieldId) → is_owning p f ≡ true → FieldGoes p h k w f
+field_stays p h k fields kept w f owning = inl (fields w f owning, λ o x y z before now heavy own there done. kept o x y w z f before now heavy own there done)
 
 -- of an object that the step finishes: what its owning field holds, the field owns, or the object is linked to it
 abbrev pub NewOwn : Program → HeapContents → HeapContents → Type 0
 NewOwn p h k = (w : ℕ) (z y : Object) (f : FieldId) (o : ℕ) (x : Object) → object_at h w ≡ Some z → object_at k w ≡ Some y → z.finished ≡ false → y.finished ≡ true → is_owning p f ≡ true → is_heavy_in p (Some f) ≡ true → IsFieldOfClass p f z.class
-    → root_of k (field_value p h w f) ≡ Some o → object_at k o ≡ Some x → is_heavy_class p x.class ≡ true → OwesOrHolds p k o x → (x.owner ≡ owners.Field w f) ⊎ (root k w ≡ o)
+    → root_of k (field_value p h w f) ≡ Some o → object_at k o ≡ Some x → is_heavy_class p x.class ≡ true → OwesOrHolds p k o x → OwnsOrIs k w y f o x
 
 -- ---- the step
 
 module _ (p : Program) (h k : HeapContents) (links : HasEarlierLinks h) (ranges : FieldsInRange h) (nobody : UnfinishedAreUnowned h) (fields : (w : ℕ) (f : FieldId) → is_owning p f ≡ true → FieldGoes p h k w f) (back : AreAsBefore p h k)
-    (roots : KeepsRoots h k ⊎ LinksObject p h k) (kept : FinishedKeepOwning p h k) (made : NewOwn p h k) (owned : FieldsOwn p h) where
+    (roots : KeepsRoots h k ⊎ LinksObject p h k) (made : NewOwn p h k) (owned : FieldsOwn p h) where
   module _ (w : ℕ) (y : Object) (f : FieldId) (o : ℕ) (x : Object) (now : object_at k w ≡ Some y) (owning : is_owning p f ≡ true) (heavy : is_heavy_in p (Some f) ≡ true) (at : object_at k o ≡ Some x) (wide : is_heavy_class p x.class ≡ true) where
     abbrev Owns : Type 0
-    Owns = IsFieldOfClass p f y.class × (y.finished ≡ true → OwesOrHolds p k o x → (x.owner ≡ owners.Field w f) ⊎ (root k w ≡ o))
+    Owns = IsFieldOfClass p f y.class × (y.finished ≡ true → OwesOrHolds p k o x → OwnsOrIs k w y f o x)
 
     -- the field holds object `n`
-    module _ (n : ℕ) (value : field_value p h w f ≡ values.Object n) (found : root k n ≡ o) where
+    module _ (kept : KeepsOwning p h k w f) (n : ℕ) (value : field_value p h w f ≡ values.Object n) (found : root k n ≡ o) where
       numbers : IsNumber h w × IsNumber h n
       numbers = held_in_range p h w f n ranges value
 
-      holder : (z : Object) × (object_at h w ≡ Some z) × (y.class ≡ z.class) × (OwesOrHolds p k w y → OwesOrHolds p h w z)
+      holder : (z : Object) × (object_at h w ≡ Some z) × (y.class ≡ z.class) × (OwesOrHolds p k w y → OwesOrHolds p h w z) × (z.finished ≡ true → Continues z y)
       holder = back w y now numbers.0.1
 
       abbrev z : Object
@@ -126,23 +144,30 @@ module _ (p : Program) (h k : HeapContents) (links : HasEarlierLinks h) (ranges 
       was_held r is = ap (root_of h) value ∙ ap Some is
 
       -- of an object that was finished, or is so now
-      own_by : IsFieldOfClass p f z.class → (z.finished ≡ true → OwesOrHolds p k o x → (x.owner ≡ owners.Field w f) ⊎ (root k w ≡ o)) → Owns
+      own_by : IsFieldOfClass p f z.class → (z.finished ≡ true → OwesOrHolds p k o x → OwnsOrIs k w y f o x) → Owns
       own_by class own = (subst (IsFieldOfClass p f) (sym holder.2) class, λ done owes. go z.finished refl done owes)
         where
-          go : (b : Bool) → z.finished ≡ b → y.finished ≡ true → OwesOrHolds p k o x → (x.owner ≡ owners.Field w f) ⊎ (root k w ≡ o)
+          go : (b : Bool) → z.finished ≡ b → y.finished ≡ true → OwesOrHolds p k o x → OwnsOrIs k w y f o x
           go true was done owes = own was owes
           go false was done owes = made w z y f o x holder.1 now was done owning heavy class (ap (root_of k) value ∙ ap Some found) at wide owes
 
+      -- where it was linked to none, the library owned it, and does so still
+      alias_stays : z.finished ≡ true → (z.link ≡ None → is_library_owner z.owner ≡ true) → y.link ≡ None → is_library_owner y.owner ≡ true
+      alias_stays done was none = let goes = holder.4 done in goes.1 (was (sym goes.0.link ∙ none))
+
       -- the root stays
       module _ (same : root h n ≡ o) (holds : root h w ≡ o → root k w ≡ o) where
-        before : (u : Object) × (object_at h o ≡ Some u) × (x.class ≡ u.class) × (OwesOrHolds p k o x → OwesOrHolds p h o u)
+        before : (u : Object) × (object_at h o ≡ Some u) × (x.class ≡ u.class) × (OwesOrHolds p k o x → OwesOrHolds p h o u) × (u.finished ≡ true → Continues u x)
         before = back o x at (numbered h links (values.Object n) o (ap Some same) (λ j is. subst (IsNumber h) (let both : Some n ≡ Some j = is in (let one : n ≡ j = cc in one)) numbers.1)).1
 
         stayed : Owns
         stayed =
             let was : is_heavy_class p before.0.class ≡ true = ap (is_heavy_class p) (sym before.2) ∙ wide in
             let own = owned w z f o before.0 holder.1 owning heavy (was_held o same) before.1 was in
-            own_by own.0 (λ done owes. elim (own.1 done (before.3 owes)) [ inl mine ↦ inl (kept o before.0 x w z f before.1 at was mine holder.1 done) | inr linked ↦ inr (holds linked) ])
+            own_by own.0 (λ done owes. elim (own.1 done (before.3 owes)) [
+              | inl mine ↦ inl (kept o before.0 x z before.1 at was mine holder.1 done)
+              | inr linked ↦ inr (holds linked.0, alias_stays done linked.1)
+            ])
 
       -- it was an object that is linked
       through : (l : LinksObject p h k) → root h n ≡ l.made → Owns
@@ -150,7 +175,7 @@ module _ (p : Program) (h k : HeapContents) (links : HasEarlierLinks h) (ranges 
           let own = owned w z f l.made l.object holder.1 owning heavy (was_held l.made is) l.at l.heavy in
           own_by own.0 (λ done owes. elim (own.1 done (inl (open_owes l.object l.unfinished))) [
             | inl mine ↦ absurd (let never : owners.Unowned ≡ owners.Field w f = sym (nobody l.made l.object l.at l.unfinished) ∙ mine in cc)
-            | inr linked ↦ inr (l.mine w numbers.0 linked ∙ sym (l.mine n numbers.1 is) ∙ found)
+            | inr linked ↦ inr (l.mine w numbers.0 linked.0 ∙ sym (l.mine n numbers.1 is) ∙ found, alias_stays done linked.1)
           ])
 
       aside : (l : LinksObject p h k) → (root h n ≡ l.made → ⊥) → Owns
@@ -168,15 +193,15 @@ module _ (p : Program) (h k : HeapContents) (links : HasEarlierLinks h) (ranges 
           go l true is = through l (eqb-true (root h n) l.made is)
           go l false other = aside l (λ is. true≢false (sym (eq-eqb (root h n) l.made is) ∙ other))
 
-    by_value : (v : Value) → field_value p h w f ≡ v → root_of k v ≡ Some o → Owns
-    by_value (values.Object n) value found = by_roots n value (let both : Some (root k n) ≡ Some o = found in (let one : root k n ≡ o = cc in one))
-    by_value values.Nothing value found = absurd (let never : None ≡ Some o = found in cc)
-    by_value v value found = absurd (let never : None ≡ Some o = found in cc)
+    by_value : KeepsOwning p h k w f → (v : Value) → field_value p h w f ≡ v → root_of k v ≡ Some o → Owns
+    by_value kept (values.Object n) value found = by_roots kept n value (let both : Some (root k n) ≡ Some o = found in (let one : root k n ≡ o = cc in one))
+    by_value kept values.Nothing value found = absurd (let never : None ≡ Some o = found in cc)
+    by_value kept v value found = absurd (let never : None ≡ Some o = found in cc)
 
     by_field : FieldGoes p h k w f → root_of k (field_value p k w f) ≡ Some o → Owns
-    by_field (inl (inl same)) found = by_value (field_value p h w f) refl (ap (root_of k) (sym same) ∙ found)
-    by_field (inl (inr text)) found = absurd (let never : None ≡ Some o = sym (no_root k (field_value p k w f) text.1) ∙ found in cc)
-    by_field (inr new) found = let its = new y now in (its.0, λ done. absurd (true≢false (sym done ∙ its.1)))
+    by_field (inl (inl same, kept)) found = by_value kept (field_value p h w f) refl (ap (root_of k) (sym same) ∙ found)
+    by_field (inl (inr text, kept)) found = absurd (let never : None ≡ Some o = sym (no_root k (field_value p k w f) text.1) ∙ found in cc)
+    by_field (inr new) found = let its = new y now in (its.0, λ done owes. its.1 done heavy o x found at wide owes)
 
   pub fields_own_on : FieldsOwn p k
   fields_own_on w y f o x now owning heavy found at wide = by_field w y f o x now owning heavy at wide (fields w f owning) found
@@ -185,7 +210,7 @@ module _ (p : Program) (h k : HeapContents) (links : HasEarlierLinks h) (ranges 
 
 -- what a step carries is as before
 pub carried_as_before : (p : Program) (h k : HeapContents) → Carries h k → HoldersWere p h k → AreAsBefore p h k
-carried_as_before p h k carries holders o y now below = let x = carries o y now below in (x.0, x.1, x.2, λ owes. bore_before p h k holders o x.0 y x.1 x.3 owes)
+carried_as_before p h k carries holders o y now below = let x = carries o y now below in (x.0, x.1, x.2, (λ owes. bore_before p h k holders o x.0 y x.1 x.3 owes), x.3)
 
 -- so fields of finished objects keep what they own
 pub finished_keep : (p : Program) (into : Option ℕ) (below : List Frame) (j : ℕ) (h k : HeapContents) → UnfinishedAreUnowned h → OwnersGo p into below j h k → FinishedKeepOwning p h k
@@ -206,12 +231,13 @@ none_finished p h k keeps w z y f o x before now open' done owning heavy class f
 -- a step that finishes and links nothing, and stores texts alone into owning fields
 pub fields_own_by : (p : Program) (into : Option ℕ) (below : List Frame) (j : ℕ) (h k : HeapContents) → HasEarlierLinks h → FieldsInRange h → UnfinishedAreUnowned h → KeepsFieldsButTexts p h k → Carries h k → HoldersWere p h k → KeepsRoots h k
     → OwnersGo p into below j h k → KeepsUnfinished h k no_other → FieldsOwn p h → FieldsOwn p k
-fields_own_by p into below j h k links ranges nobody fields carries holders roots goes unready owned = fields_own_on p h k links ranges nobody (λ w f owning. inl (fields w f owning)) (carried_as_before p h k carries holders) (inl roots)
-    (finished_keep p into below j h k nobody goes) (none_finished p h k unready) owned
+fields_own_by p into below j h k links ranges nobody fields carries holders roots goes unready owned = fields_own_on p h k links ranges nobody (field_stays p h k fields (finished_keep p into below j h k nobody goes)) (carried_as_before p h k carries holders) (inl roots)
+    (none_finished p h k unready) owned
 
 -- objects that differ in what was called on them, and in owners that are no fields, alone
 pub fields_own_as : (p : Program) (h k : HeapContents) → ((w : ℕ) (f : FieldId) → is_owning p f ≡ true → field_value p k w f ≡ field_value p h w f) → ((v : Value) → root_of k v ≡ root_of h v)
-    → ((o : ℕ) (y : Object) → object_at k o ≡ Some y → (x : Object) × (object_at h o ≡ Some x) × (y.class ≡ x.class) × (y.finished ≡ x.finished) × (OwesOrHolds p k o y → OwesOrHolds p h o x) × ((w : ℕ) (f : FieldId) → x.owner ≡ owners.Field w f → y.owner ≡ x.owner))
+    → ((o : ℕ) (y : Object) → object_at k o ≡ Some y → (x : Object) × (object_at h o ≡ Some x) × (y.class ≡ x.class) × (y.finished ≡ x.finished) × (OwesOrHolds p k o y → OwesOrHolds p h o x) × ((w : ℕ) (f : FieldId) → x.owner ≡ owners.Field w f → y.owner ≡ x.owner)
+    × (y.link ≡ x.link) × (is_library_owner x.owner ≡ true → is_library_owner y.owner ≡ true))
     → FieldsOwn p h → FieldsOwn p k
 fields_own_as p h k fields roots was owned w y f o x now owning heavy found at wide =
     let z = was w y now in
@@ -220,12 +246,19 @@ fields_own_as p h k fields roots was owned w y f o x now owning heavy found at w
       subst (IsFieldOfClass p f) (sym z.2) own.0,
       λ done owes. elim (own.1 (sym z.3 ∙ done) (u.4 owes)) [
         | inl mine ↦ inl (u.5 w f mine ∙ mine)
-        | inr linked ↦ inr ((let both : Some (root k w) ≡ Some (root h w) = roots (values.Object w) in (let one : root k w ≡ root h w = cc in one)) ∙ linked)
+        | inr linked ↦ inr ((let both : Some (root k w) ≡ Some (root h w) = roots (values.Object w) in (let one : root k w ≡ root h w = cc in one)) ∙ linked.0, λ none. z.7 (linked.1 (sym z.6 ∙ none)))
       ],
     )
+
+-- an object of the same class, finished and owned as it was, may owe a call, or owns something by a field, only if that was so
+bears_as : (p : Program) (h k : HeapContents) → HoldersStay p h k → (o : ℕ) (x y : Object) → y.class ≡ x.class → y.finished ≡ x.finished → y.owner ≡ x.owner → OwesOrHolds p k o y → OwesOrHolds p h o x
+bears_as p h k stay o x y class finished owner (inl owes) =
+    inl (ap (λ (b : Bool). not (b && is_library_owner x.owner)) (sym finished) ∙ ap (λ (u : Owner). not (y.finished && is_library_owner u)) (sym owner) ∙ owes)
+bears_as p h k stay o x y class finished owner (inr (inl holds)) = inr (inl (stay o holds))
+bears_as p h k stay o x y class finished owner (inr (inr may)) = inr (inr (subst (MayStore p) class may))
 
 -- objects that differ in what was called on them, and what must be called, alone
 pub fields_own_kept : (p : Program) (h k : HeapContents) → KeepsFields p h k → ((v : Value) → root_of k v ≡ root_of h v)
     → ((o : ℕ) (y : Object) → object_at k o ≡ Some y → (x : Object) × (object_at h o ≡ Some x) × (y.class ≡ x.class) × (y.link ≡ x.link) × (y.finished ≡ x.finished) × (y.owner ≡ x.owner)) → FieldsOwn p h → FieldsOwn p k
 fields_own_kept p h k fields roots was = fields_own_as p h k fields roots
-    (λ o y now. let x = was o y now in (x.0, x.1, x.2, x.4, (λ owes. bears_before p h k (holders_stay p h k (λ n z there. let u = was n z there in (u.0, u.1, u.2, u.4, u.5))) o x.0 y x.4 x.5 owes), λ w f own. x.5))
+    (λ o y now. let x = was o y now in (x.0, x.1, x.2, x.4, (λ owes. bears_as p h k (holders_stay p h k (λ n z there. let u = was n z there in (u.0, u.1, u.2, u.4, u.5))) o x.0 y x.2 x.4 x.5 owes), (λ w f own. x.5), x.3, λ library. ap is_library_owner x.5 ∙ library))

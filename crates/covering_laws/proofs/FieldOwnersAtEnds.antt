@@ -1,6 +1,6 @@
 -- As a call ends: what owning fields hold they own, those of the object too that a `new` has made.
-use Rattle.std.specs.Prelude.{◌&&◌, not}
-use Rattle.std.proofs.Common.{◌≡◌, ◌⊎◌, inl, inr, ℕ, zero, suc, ◌+◌, ◌<◌, Bool, true, false, true≢false, Option, Some, None, List, ◌∷◌, nat_eq, eq-eqb, eqb-true, slice_get, refl, sym, ap, ◌∙◌, subst}
+use Rattle.std.specs.Prelude.{is_some, not}
+use Rattle.std.proofs.Common.{◌≡◌, ◌⊎◌, inl, inr, ℕ, zero, suc, ◌+◌, ◌<◌, Bool, true, false, ◌&&◌, true≢false, Option, Some, None, List, ◌∷◌, nat_eq, eq-eqb, eqb-true, slice_get, refl, sym, ap, ◌∙◌, subst}
 use Rattle.std.proofs.lemmas.Bool.{and_from}
 use Rattle.program_model.specs.declared.kinds.BodyId.{BodyId}
 use Rattle.program_model.specs.declared.kinds.ClassId.{ClassId}
@@ -18,6 +18,7 @@ use Rattle.java_control.specs.Control.{Step}
 use Rattle.java_control.specs.Owned.{field_number, is_owning, is_owning_field, place_of_field}
 use Rattle.java_control.specs.declared.action.Action.{Action}
 use Rattle.java_control.specs.declared.action.Action.TheVariants as actions
+use Rattle.java_control.specs.declared.fact.Mode.{Mode}
 use Rattle.java_control.specs.declared.fact.Mode.TheVariants as modes
 use Rattle.java_control.specs.declared.place.Place.TheVariants as places
 use Rattle.ledger_state.specs.Contents.{HeapContents}
@@ -33,7 +34,7 @@ use Rattle.ledger_state.specs.declared.value.Value.TheVariants as values
 use Rattle.ledger_obligations.specs.Obligations.{is_frame, is_library_owner}
 use Rattle.ledger_steps.specs.Ends.{frame_gone, result_moved, returned_heap}
 use Rattle.ledger_steps.specs.LedgerCallsCalls as calls
-use Rattle.ledger_steps.specs.LedgerCallsCalls.{alias_target, object_by, operand_of, reset_position}
+use Rattle.ledger_steps.specs.LedgerCallsCalls.{alias_target, is_alias, object_by, operand_of, reset_position}
 use Rattle.value_laws.specs.Accept.{Accept}
 use Rattle.value_laws.specs.Agreement.{IsMadeBy, RunsItself, Stands}
 use Rattle.value_laws.specs.Arguments.{HasArguments}
@@ -46,7 +47,7 @@ use Rattle.value_laws.specs.Paths.{Reach, relation_of}
 use Rattle.value_laws.specs.PlaceFacts.{Covers, IsCovered, OwesOrHolds, gives_none, is_heavy_in, may_owe, renews_none}
 use Rattle.value_laws.specs.Places.{class_of_method}
 use Rattle.value_laws.specs.PlainForms.{HasPlainForms}
-use Rattle.value_laws.specs.ProgramCalls.{IsReturned}
+use Rattle.value_laws.specs.ProgramCalls.{IsLinkedTo, IsReturned}
 use Rattle.value_laws.specs.Ranges.{FieldsInRange, IsNumber}
 use Rattle.value_laws.proofs.AliasConducts.{gives_object}
 use Rattle.value_laws.proofs.EndLaws.{frame_back}
@@ -56,14 +57,16 @@ use Rattle.value_laws.proofs.Returned.{end_back, gone_back, result_back}
 use Rattle.value_laws.proofs.RootLaws.{one_object}
 use Rattle.covering_laws.proofs.Constructors.{parameter_holds, spoken}
 use Rattle.covering_laws.proofs.EndOwners.{number_value, same_new}
-use Rattle.covering_laws.proofs.FieldOwners.{LinksObject, NewOwn, carried_as_before, fields_own_on, finished_keep, held_in_range}
+use Rattle.covering_laws.proofs.FieldOwners.{LinksObject, NewOwn, carried_as_before, field_stays, fields_own_on, finished_keep, held_in_range}
+use Rattle.value_laws.specs.Renewing.{lends_this}
 use Rattle.covering_laws.proofs.Following.{method_here, same_body}
-use Rattle.covering_laws.proofs.HeavyFields.{HasPlace, covers_field, has_place_here, heavy_here, held_claims, makes_alone_by}
+use Rattle.covering_laws.proofs.HeavyFields.{HasPlace, alone_answers, covers_field, has_place_here, heavy_here, held_claims, makes_alone_by}
 use Rattle.covering_laws.proofs.InFields.{held_in_field, one_field, owned_at}
 use Rattle.covering_laws.proofs.Owners.{HoldersWere, OwnersGo}
 use Rattle.covering_laws.proofs.Resets.{this_elsewhere}
-use Rattle.covering_laws.proofs.StoreJoins.{unlinked_root}
-use Rattle.covering_laws.proofs.Waiting.{Carries, KeepsFieldsButTexts, KeepsOtherRoots, KeepsRoots, numbered}
+use Rattle.covering_laws.proofs.StoreMoves.{unlinked_root}
+use Rattle.covering_laws.proofs.SaidFacts.{said_by}
+use Rattle.covering_laws.proofs.Waiting.{Carries, Continues, KeepsFieldsButTexts, KeepsOtherRoots, KeepsRoots, numbered}
 
 -- ---- what the owning fields of `this` hold in a constructor
 
@@ -71,11 +74,11 @@ some_method : (m : Option Method) → constructs m ≡ true → (x : Method) × 
 some_method None none = absurd (true≢false (sym none))
 some_method (Some x) is = (x, refl)
 
-module _ (p : Program) (ac : Accept p) (forms : HasPlainForms p) (h : HeapContents) (old : ℕ → Bool) (frs : List Frame) (fr : Frame) (st : Stands p fr) (covered : IsCovered p h gives_none renews_none old frs fr) (w : ℕ) (this : fr.locals.this ≡ values.Object w)
+module _ (p : Program) (ac : Accept p) (forms : HasPlainForms p) (h : HeapContents) (old : ℕ → Bool) (frs : List Frame) (fr : Frame) (st : Stands p fr) (covered : IsCovered p h gives_none renews_none old frs fr) (keeps : lends_this p fr ≡ false) (w : ℕ) (this : fr.locals.this ≡ values.Object w)
     (constructor : constructs (method_at p fr.method) ≡ true) (f : FieldId) (owning : is_owning p f ≡ true) (heavy : is_heavy_in p (Some f) ≡ true) (here : HasPlace p fr f) (o : ℕ) (x : Object)
     (held : root_of h (field_value p h w f) ≡ Some o) (at : object_at h o ≡ Some x) (wide : is_heavy_class p x.class ≡ true) (owes : OwesOrHolds p h o x) where
   cover : (c : Covers p h false false old frs fr o x) × (has c.fact.places (place_of_field p f) ≡ true)
-  cover = covers_field p h fr f here old frs covered w o x (record { this = this; owning = owning; heavy = heavy; held = held; at = at; class = wide; owes = owes })
+  cover = covers_field p h fr f here old frs covered keeps w o x (record { this = this; owning = owning; heavy = heavy; held = held; at = at; class = wide; owes = owes })
 
   abbrev c : Covers p h false false old frs fr o x
   c = cover.0
@@ -92,9 +95,9 @@ module _ (p : Program) (ac : Accept p) (forms : HasPlainForms p) (h : HeapConten
   -- without an aliased argument the field owns it
   pub alone_owns : alias_position p st.number ≡ None → x.owner ≡ owners.Field w f
   alone_owns none =
-      let alone = makes_alone_by (method_at p fr.method) constructor (ap alias_in (sym (method_here p fr st)) ∙ none) in
-      let done = (c.true' (held_claims p (method_at p fr.method) c.origin c.fact alone was.0 was.1) refl).finished in
-      let field = held_in_field p h false false old frs fr o x c done (ap is_held was.0) alone was.1 in
+      let alone = alone_answers (method_at p fr.method) (makes_alone_by (method_at p fr.method) constructor (ap alias_in (sym (method_here p fr st)) ∙ none)) in
+      let done = (c.true' (held_claims p (method_at p fr.method) c.origin c.fact alone was.0 was.1) refl (ap (λ (b : Bool). is_held c.fact.mode && b) keeps ∙ ap (λ (m : Mode). is_held m && false) was.0)).finished in
+      let field = held_in_field p h false false old frs fr o x c done (ap is_held was.0) alone keeps was.1 in
       owned_at p fr x.owner w f this field.0 (one_field p fr st ac c.fact.places x.owner field f here cover.1)
 
   of_argument : (n : ℕ) → alias_position p st.number ≡ Some n → is_origin_at c.origin.kind (alias_position p st.number) ≡ true
@@ -108,12 +111,12 @@ module _ (p : Program) (ac : Accept p) (forms : HasPlainForms p) (h : HeapConten
   parameter_has v some = parameter_holds p ac fr st method.0 method.1 v constructor some h old frs o x c (of_argument (suc v) some)
 
   pub this_has : alias_position p st.number ≡ Some 0 → root_of h fr.locals.this ≡ Some o
-  this_has some = c.places places.This tt (this_stays p ac st.number st.body method.0 st.at (ap (method_at p) st.method ∙ method.1) c.origin fr.control c.fact reached (ap (is_origin_at c.origin.kind) (sym some) ∙ of_argument 0 some))
+  this_has some = c.places (said_by p frs fr c.fact (inr (inl constructor))) places.This tt refl (this_stays p ac st.number st.body method.0 st.at (ap (method_at p) st.method ∙ method.1) c.origin fr.control c.fact reached (ap (is_origin_at c.origin.kind) (sym some) ∙ of_argument 0 some))
 
 -- ---- the end of a call
 
 module _ (p : Program) (ac : Accept p) (forms : HasPlainForms p) (h : HeapContents) (links : HasEarlierLinks h) (ranges : FieldsInRange h) (have : HaveEnds h) (fr caller : Frame) (old : ℕ → Bool) (rest : List Frame) (st : Stands p fr)
-    (covered : IsCovered p h gives_none renews_none old (caller ∷ rest) fr) (args : HasArguments p caller fr) (j : ℕ) (t : Step) (there : slice_get (frame_steps p caller) j ≡ Some t) (named : MethodId)
+    (covered : IsCovered p h gives_none renews_none old (caller ∷ rest) fr) (keeps_mine : lends_this p fr ≡ false) (args : HasArguments p caller fr) (j : ℕ) (t : Step) (there : slice_get (frame_steps p caller) j ≡ Some t) (named : MethodId)
     (makes : IsMadeBy p h t.action fr.locals.this) (itself : RunsItself t.action named fr.method) (constructor : is_new t.action ≡ true → constructs (method_at p fr.method) ≡ true) (named_makes : (m : MethodId) (d n : ℕ) → t.action ≡ actions.New m d n → m ≡ named)
     (plain : Option Method) (alias : calls.alias_position plain ≡ alias_in (method_at p named)) (no_reset : reset_position plain ≡ None) (at : ℕ) (v : Value) (e : Option ClassId)
     (unmade : (w : ℕ) (x : Object) → is_new t.action ≡ true → fr.locals.this ≡ values.Object w → object_at h w ≡ Some x → x.finished ≡ false)
@@ -263,24 +266,24 @@ module _ (p : Program) (ac : Accept p) (forms : HasPlainForms p) (h : HeapConten
         held : root_of h (field_value p h w f) ≡ Some o
         held = ap (root_of h) value ∙ ap Some same
 
-        earlier : (u : Object) × (object_at h o ≡ Some u) × (x.class ≡ u.class) × (OwesOrHolds p K o x → OwesOrHolds p h o u)
+        earlier : (u : Object) × (object_at h o ≡ Some u) × (x.class ≡ u.class) × (OwesOrHolds p K o x → OwesOrHolds p h o u) × (u.finished ≡ true → Continues u x)
         earlier = carried_as_before p h K carries holders o x at' (numbered h links (values.Object n) o (ap Some same) (λ i is. subst (IsNumber h) (let both : Some n ≡ Some i = is in (let one : n ≡ i = cc in one)) number)).1
 
         earlier_wide : is_heavy_class p earlier.0.class ≡ true
         earlier_wide = ap (is_heavy_class p) (sym earlier.2) ∙ wide
 
         owned_alone : alias_position p st.number ≡ None → x.owner ≡ owners.Field w f
-        owned_alone none = normal_keeps normal o earlier.0 x w f earlier.1 at' earlier_wide (alone_owns p ac forms h old (caller ∷ rest) fr st covered w this (constructor new) f owning heavy here o earlier.0 held earlier.1 earlier_wide (earlier.3 owes) none)
+        owned_alone none = normal_keeps normal o earlier.0 x w f earlier.1 at' earlier_wide (alone_owns p ac forms h old (caller ∷ rest) fr st covered keeps_mine w this (constructor new) f owning heavy here o earlier.0 held earlier.1 earlier_wide (earlier.3 owes) none)
 
         argument_held : (i : ℕ) → alias_position p st.number ≡ Some (suc i) → root_of h (operand_of caller.locals t.action (suc i)) ≡ Some o
         argument_held i some =
             let method = some_method (method_at p fr.method) (constructor new) in
             ap (root_of h) (sym (args.parameters j t method.0 i there method.1 (spoken p ac fr st method.0 method.1 i (constructor new) some)))
-            ∙ parameter_has p ac forms h old (caller ∷ rest) fr st covered w this (constructor new) f owning heavy here o earlier.0 held earlier.1 earlier_wide (earlier.3 owes) i some
+            ∙ parameter_has p ac forms h old (caller ∷ rest) fr st covered keeps_mine w this (constructor new) f owning heavy here o earlier.0 held earlier.1 earlier_wide (earlier.3 owes) i some
 
         itself_held : alias_position p st.number ≡ Some 0 → root h w ≡ o
         itself_held some =
-            let both : Some (root h w) ≡ Some o = ap (root_of h) (sym this) ∙ this_has p ac forms h old (caller ∷ rest) fr st covered w this (constructor new) f owning heavy here o earlier.0 held earlier.1 earlier_wide (earlier.3 owes) some in
+            let both : Some (root h w) ≡ Some o = ap (root_of h) (sym this) ∙ this_has p ac forms h old (caller ∷ rest) fr st covered keeps_mine w this (constructor new) f owning heavy here o earlier.0 held earlier.1 earlier_wide (earlier.3 owes) some in
             (let one : root h w ≡ o = cc in one)
 
       -- it is linked to none
@@ -338,6 +341,10 @@ module _ (p : Program) (ac : Accept p) (forms : HasPlainForms p) (h : HeapConten
               let other : root h n ≡ w → ⊥ = λ is. true≢false (sym (eq-eqb (root h n) w is) ∙ apart) in
               by other (sym (its.3 n number (λ is. other (is ∙ one))) ∙ found) (alias_position p st.number) refl
 
+      -- so the field owns it where the constructor has no aliased argument
+      plain_owns : alias_position p st.number ≡ None → root K n ≡ o → x.owner ≡ owners.Field w f
+      plain_owns none found = owned_alone (sym (roots (λ other one. ap (object_by (operand_of caller.locals t.action)) (position new ∙ none)) n number) ∙ found) none
+
       new_owns : root K n ≡ o → (x.owner ≡ owners.Field w f) ⊎ (root K w ≡ o)
       new_owns found = by target refl
         where
@@ -347,9 +354,12 @@ module _ (p : Program) (ac : Accept p) (forms : HasPlainForms p) (h : HeapConten
 
     new_own : NewOwn p h K
     new_own w z y f o x before now open' done owning heavy class found at' wide owes = elim (end_back p at fr.locals.this caller.locals t.action plain gone no_reset e w y now) [
-      | inl made ↦ by made.2.normal (same_new t.action made.2.new) (number_value fr.locals.this w made.2.self) (field_value p h w f) refl found
+      | inl made ↦ inl (alone made.2.normal (same_new t.action made.2.new) (number_value fr.locals.this w made.2.self) made.2.own (field_value p h w f) refl found)
       | inr other ↦ elim other [
-        | inl made ↦ by made.2.normal (same_new t.action made.2.new) (number_value fr.locals.this w made.2.self) (field_value p h w f) refl found
+        | inl made ↦ elim (by made.2.normal (same_new t.action made.2.new) (number_value fr.locals.this w made.2.self) (field_value p h w f) refl found) [
+          | inl mine ↦ inl mine
+          | inr linked ↦ inr (linked, library_owns target made.0 made.2.linked)
+        ]
         | inr noted ↦ absurd (
             let u = gone_back p at fr.locals.this (method_at p fr.method) v e h w noted.0 noted.1 in
             let was = result_back p at (method_at p fr.method) v h e w u.0 u.1 in
@@ -363,5 +373,24 @@ module _ (p : Program) (ac : Accept p) (forms : HasPlainForms p) (h : HeapConten
         by normal new this values.Nothing value found' = absurd (let never : None ≡ Some o = found' in cc)
         by normal new this u value found' = absurd (let never : None ≡ Some o = found' in cc)
 
+        no_alias : is_new t.action ≡ true → is_alias plain ≡ false → alias_position p st.number ≡ None
+        no_alias new own = sym (position new) ∙ go (calls.alias_position plain) own
+          where
+            go : (a : Option ℕ) → is_some a ≡ false → a ≡ None
+            go None none = refl
+            go (Some k) some = absurd (true≢false some)
+
+        alone : e ≡ None → is_new t.action ≡ true → fr.locals.this ≡ values.Object w → is_alias plain ≡ false → (u : Value) → field_value p h w f ≡ u → root_of K u ≡ Some o → x.owner ≡ owners.Field w f
+        alone normal new this own (values.Object n) value found' =
+            plain_owns normal new w z y f o x this before owning heavy class at' wide owes n value (held_in_range p h w f n ranges value).1 (no_alias new own) (let both : Some (root K n) ≡ Some o = found' in (let one : root K n ≡ o = cc in one))
+        alone normal new this own values.Nothing value found' = absurd (let never : None ≡ Some o = found' in cc)
+        alone normal new this own u value found' = absurd (let never : None ≡ Some o = found' in cc)
+
+        -- an alias of null is the library's
+        library_owns : (k : Option ℕ) (u : Object) → IsLinkedTo p k u y → y.link ≡ None → is_library_owner y.owner ≡ true
+        library_owns None u linked none = ap is_library_owner linked.1
+        library_owns (Some k) u linked none = absurd (let never : None ≡ Some _ = sym none ∙ linked.2 in cc)
+
     pub fields_own_at_end : FieldsOwn p h → FieldsOwn p K
-    fields_own_at_end owned = fields_own_on p h K links ranges have.unfinished (λ w f owning. inl (fields w f owning)) (carried_as_before p h K carries holders) roots_go (finished_keep p None (caller ∷ rest) at h K have.unfinished goes) new_own owned
+    fields_own_at_end owned =
+        fields_own_on p h K links ranges have.unfinished (field_stays p h K fields (finished_keep p None (caller ∷ rest) at h K have.unfinished goes)) (carried_as_before p h K carries holders) roots_go new_own owned

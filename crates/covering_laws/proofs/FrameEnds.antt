@@ -1,7 +1,7 @@
 -- As a frame ends, its promises on owning fields are kept, and a constructor that throws owns nothing unmet.
 use Rattle.std.proofs.Common.{◌≡◌, ◌⊎◌, inl, inr, ℕ, Bool, true, false, not, ◌&&◌, Option, Some, None, List, [], ◌∷◌, slice_get, nat_eq, refl, sym, ap, ◌∙◌, subst, true≢false, eqb-true}
 use Rattle.std.specs.FinSet as set
-use Rattle.std.proofs.lemmas.Bool.{and_from, and_parts, not-true}
+use Rattle.std.proofs.lemmas.Bool.{and_from, and_parts, not-true, or_left, or_right}
 use Rattle.rlc_base.proofs.SetLaws.{empty_within, union_monotone, within_self, within_trans, within_union_right}
 use Rattle.program_model.specs.declared.kinds.BodyId.{BodyId}
 use Rattle.program_model.specs.declared.kinds.FieldId.{FieldId}
@@ -36,12 +36,13 @@ use Rattle.value_laws.specs.Choosing.{body_id, frame_steps}
 use Rattle.value_laws.specs.Agreement.{Stands}
 use Rattle.value_laws.specs.Outcomes.{IsFault}
 use Rattle.value_laws.specs.FieldContents.{promised_on}
-use Rattle.value_laws.specs.Renewing.{makes_alone}
+use Rattle.value_laws.specs.Renewing.{answers_for_fields, lends_this, makes_alone, reopens}
 use Rattle.value_laws.specs.PlaceFacts.{Covers, IsCovered, IsTrueOf, gives_none, renews_none}
 use Rattle.value_laws.proofs.Ending.{ends, held_stays_here}
-use Rattle.covering_laws.specs.Covering.{HoldsHeavy, IsCountedOn}
+use Rattle.covering_laws.specs.Covering.{HoldsHeavy, IsCountedOn, KeepsFieldsOfThis}
 use Rattle.covering_laws.proofs.Following.{breaks_nothing, method_here, same_body, step_there}
-use Rattle.covering_laws.proofs.HeavyFields.{HasPlace, apart_held, covers_field, has_place_here, heavy_here, held_claims, held_tells, held_unlent, known_alone, makes_alone_by, plain_not_alone}
+use Rattle.covering_laws.proofs.HeavyFields.{HasPlace, apart_held, covers_field, has_place_here, heavy_here, held_claims, held_tells, held_unlent, known_alone, makes_alone_by}
+use Rattle.covering_laws.proofs.SaidFacts.{answers_neither, ends_lend_nothing, said_by}
 
 -- ---- the promises on a field
 
@@ -107,8 +108,12 @@ module _ (p : Program) (ac : Accept p) (h : HeapContents) (frs : List Frame) (fr
   there : HasPlace p fr f
   there = has_place_here p ac fr st f place
 
+  -- what ends lends nothing
+  keeps_this : lends_this p fr ≡ false
+  keeps_this = ends_lend_nothing p fr st i s q here is
+
   found : (c : Covers p h false false old frs fr o x) × (has c.fact.places (place_of_field p f) ≡ true)
-  found = covers_field p h fr f there old frs covered w o x holds
+  found = covers_field p h fr f there old frs covered keeps_this w o x holds
 
   abbrev cover : Covers p h false false old frs fr o x
   cover = found.0
@@ -130,13 +135,30 @@ module _ (p : Program) (ac : Accept p) (h : HeapContents) (frs : List Frame) (fr
     | inr good ↦ good
   ]
 
-  pub kept_at_end : x.finished ≡ true → constructs (method_at p fr.method) ≡ false → IsCountedOn p h old frs fr o x → (m : Method) → method_at p fr.method ≡ Some m → (is_throw q ≡ false) ⊎ (is_finalizer p st.number ≡ true) → set.is_subset (promised_on f m) x.called ≡ true
-  kept_at_end done plain apart m named way =
+  -- what a fact that claims the object knows was called
+  knows : answers_for_fields (method_at p fr.method) ≡ true → IsTrueOf p x cover.origin cover.fact
+  knows answers = cover.true' (held_claims p (method_at p fr.method) cover.origin cover.fact answers owned.0 owned.1) refl (both (is_held cover.fact.mode) (lends_this p fr) keeps_this)
+    where
+      both : (a b : Bool) → b ≡ false → (a && b) ≡ false
+      both true b none = none
+      both false b none = refl
+
+  pub kept_at_end : x.finished ≡ true → constructs (method_at p fr.method) ≡ false → IsCountedOn p h old frs fr o x → KeepsFieldsOfThis p frs fr → (m : Method) → method_at p fr.method ≡ Some m
+      → (is_throw q ≡ false) ⊎ (is_finalizer p st.number ≡ true) → set.is_subset (promised_on f m) x.called ≡ true
+  kept_at_end done plain apart keeps m named way =
       within_trans (promised_on f m) (promised_by_end p st.number cover.origin.kind cover.fact.places q) x.called
       (by_end p st.number cover.origin.kind cover.fact.places f m place found.1 (method_here p fr st ∙ named) q way)
-      (within_trans (promised_by_end p st.number cover.origin.kind cover.fact.places q) cover.fact.called x.called kept.2
-      (known_alone p (method_at p fr.method) cover.origin.kind cover.fact.called x.called (held_unlent p h false false old frs fr o x cover owned.0 plain)
-      (cover.known done (held_tells p fr.method cover.origin cover.fact (plain_not_alone (method_at p fr.method) plain) owned.0) (apart_held p h old frs fr o x cover.fact owned.0 apart) refl)))
+      (within_trans (promised_by_end p st.number cover.origin.kind cover.fact.places q) cover.fact.called x.called kept.2 known)
+    where
+      by_reset : (b : Bool) → reopens (method_at p fr.method) ≡ b → set.is_subset cover.fact.called x.called ≡ true
+      by_reset true re = (knows (or_right (makes_alone (method_at p fr.method)) (reopens (method_at p fr.method)) re)).called
+      by_reset false other =
+          known_alone p (method_at p fr.method) cover.origin.kind cover.fact.called x.called (held_unlent p h false false old frs fr o x cover owned.0 plain)
+          (cover.known done (held_tells p fr.method cover.origin cover.fact (answers_neither (method_at p fr.method) plain other) owned.0)
+          (apart_held p h old frs fr o x cover.fact (said_by p frs fr cover.fact (elim keeps [ inl re ↦ absurd (true≢false (sym re ∙ other)) | inr settled ↦ inr (inr (inr (inr settled))) ])) apart) refl)
+
+      known : set.is_subset cover.fact.called x.called ≡ true
+      known = by_reset (reopens (method_at p fr.method)) refl
 
   met_of : (t c l m a : Bool) → t ≡ true → c ≡ true → l ≡ true → a ≡ false → (t && c && l && not m && not a) ≡ false → m ≡ true
   met_of t c l true a throws makes held plain good = refl
@@ -149,7 +171,7 @@ module _ (p : Program) (ac : Accept p) (h : HeapContents) (frs : List Frame) (fr
       alone = makes_alone_by (method_at p fr.method) makes (ap alias_in (sym (method_here p fr st)) ∙ plain)
 
       truth : IsTrueOf p x cover.origin cover.fact
-      truth = cover.true' (held_claims p (method_at p fr.method) cover.origin cover.fact alone owned.0 owned.1) refl
+      truth = knows (or_left (makes_alone (method_at p fr.method)) (reopens (method_at p fr.method)) alone)
 
       met : is_met cover.origin cover.fact ≡ true
       met = met_of (is_throw q) (is_constructor p st.number) (is_held cover.fact.mode) (is_met cover.origin cover.fact) (is_origin_at cover.origin.kind (alias_position p st.number))

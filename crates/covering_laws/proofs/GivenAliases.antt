@@ -4,12 +4,15 @@ use Rattle.std.specs.FinSet as set
 use Rattle.std.specs.List.{list_all, list_any}
 use Rattle.std.proofs.lemmas.Bool.{and_from, and_parts, or_left, or_right}
 use Rattle.program_model.specs.declared.kinds.ClassId.{ClassId}
+use Rattle.program_model.specs.declared.kinds.MethodId.{MethodId}
 use Rattle.program_model.specs.declared.kinds.MethodKind.{MethodKind}
 use Rattle.program_model.specs.declared.kinds.MethodKind.TheVariants as methods
 use Rattle.program_model.specs.declared.kinds.VType.TheVariants as types
 use Rattle.program_model.specs.declared.program.Class.{Class}
+use Rattle.program_model.specs.declared.program.Method.{Method}
 use Rattle.program_model.specs.declared.program.Program.{Program}
-use Rattle.program_model.specs.Lookups.{class_at}
+use Rattle.program_model.specs.Lookups.{class_at, method_at}
+use Rattle.program_model.specs.Overrides.{is_library}
 use Rattle.program_model.specs.SuperTests.{classes_above, has_class, is_under}
 use Rattle.program_model.specs.Validity.{IsOfKind}
 use Rattle.must_call_sets.specs.OwningCases.{given_type, gives_as_alias, is_of_type, may_be_reset}
@@ -17,6 +20,8 @@ use Rattle.ledger_obligations.specs.Bodies.{is_constructor_kind}
 use Rattle.ledger_obligations.specs.MustCallSets.{is_empty, is_heavy_class, must_in, no_names}
 use Rattle.ownership_rules.specs.Signatures.{is_present}
 use Rattle.value_laws.specs.Accept.{Accept}
+use Rattle.value_laws.specs.PlainForms.{HasPlainForms}
+use Rattle.value_laws.proofs.AliasConducts.{IsAliasClass}
 use Rattle.covering_laws.specs.Linking.{GivesClass, IsGivenAsAlias}
 use Rattle.covering_laws.proofs.LightExceptions.{under_itself}
 
@@ -74,3 +79,9 @@ module _ (p : Program) (ac : Accept p) where
       by : GivesClass p g.method e → is_of_type k (given_type g.method) ≡ true
       by (inl own) = of_class g.method.class (given_by true own.0) (ap (is_under p e) (sym own.1) ∙ under_itself p ac e)
       by (inr other) = by_kind other.0 other.1 other.3 (is_constructor_kind g.method.kind) refl
+
+-- what a call of the library gives as an alias is of a class of the library
+pub library_class : (p : Program) → HasPlainForms p → (n : MethodId) (m : Method) (e : ClassId) → method_at p n ≡ Some m → is_library p m.class ≡ true → IsAliasClass p m e → GivesClass p m e
+library_class p forms n m e at library (inl own) = inl own
+library_class p forms n m e at library (inr (c, result, heavy, inl same)) = inr (c, result, heavy, inl same, ap (is_library p) same ∙ forms.given n m c at library result)
+library_class p forms n m e at library (inr (c, result, heavy, inr below)) = inr (c, result, heavy, inr below.0, below.1)

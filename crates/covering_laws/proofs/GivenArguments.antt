@@ -15,7 +15,9 @@ use Rattle.program_model.specs.Lookups.{method_at}
 use Rattle.ledger_obligations.specs.MustCallSets.{Names, fits_type, is_empty, is_heavy_as, is_heavy_class, must_of, must_of_optional, must_of_type, no_names}
 use Rattle.java_control.specs.Control.{Step}
 use Rattle.java_control.specs.declared.fact.Fact.{Fact}
+use Rattle.java_control.specs.declared.fact.Mode.{Mode}
 use Rattle.java_control.specs.declared.fact.Mode.TheVariants as modes
+use Rattle.value_laws.specs.Renewing.{lends_this}
 use Rattle.java_control.specs.declared.fact.Origin.{Origin}
 use Rattle.java_control.specs.declared.fact.OriginKind.{OriginKind}
 use Rattle.java_control.specs.declared.fact.OriginKind.TheVariants as kinds
@@ -24,7 +26,7 @@ use Rattle.java_control.specs.declared.place.Place.TheVariants as places
 use Rattle.ownership_rules.specs.Callees.{callee, holds_operand}
 use Rattle.java_control.specs.Calls.{operand_at}
 use Rattle.java_control.specs.PlaceNumbers.{IsSmall}
-use Rattle.ownership_rules.specs.Facts.{has, has_temp, is_own}
+use Rattle.ownership_rules.specs.Facts.{has, has_temp, is_own, is_held}
 use Rattle.ownership_rules.specs.SmallActions.{IsSmallTemp}
 use Rattle.ownership_rules.proofs.SmallOperands.{operand_has_room}
 use Rattle.ownership_rules.specs.Births.{fact_at, origin_of}
@@ -109,7 +111,7 @@ module _ (p : Program) (ac : Accept p) (h : HeapContents) (fr : Frame) (st : Sta
       → holds_operand s.action g.fact.places (j + 1) ≡ true → (c : ClassId) → q.vtype ≡ types.Obj c → is_heavy_class p c ≡ true → (x.finished ≡ true → GoesOn x y)
       → (kind : OriginKind) (pos : Pos) (place : Place) (before : Names) → set.is_subset before q.before ≡ true → IsTrueOf p y (origin_of p kind pos c None) (fact_at place modes.Own before true)
   given_is_true o x y g m j q named at owning held c type heavy goes kind pos place before less =
-      let truth = g.true' (given_claims false false o x g m j q named at owning held heavy_as) refl in
+      let truth = g.true' (given_claims false false o x g m j q named at owning held heavy_as) refl (ap (λ (n : Mode). is_held n && lends_this p fr) (owned_as false false o x g m j q named at owning held heavy_as).0) in
       true_of_parameter p x y g.origin g.fact kind pos c place before truth (goes truth.finished)
       (subst (λ (t : VType). fits_type p g.origin.class (Some t) ≡ true) type (owned_as false false o x g m j q named at owning held heavy_as).2)
       (within_trans before q.before y.called less (within_trans q.before g.fact.called y.called (asked false false o x g m j q named at owning held heavy_as) (still_true p x y g.origin g.fact (goes truth.finished) truth).called))
@@ -128,7 +130,7 @@ module _ (p : Program) (ac : Accept p) (h : HeapContents) (fr : Frame) (st : Sta
     small = subst IsSmallTemp temp.1 (operand_has_room p s.action (j + 1) (small_step p ac fr st i s here))
 
     keyed : IsKeyed p h false false old frs fr (places.Temp temp.0) o x
-    keyed = covered (places.Temp temp.0) o x small (ap (root_of h) (sym temp.2) ∙ root) there class owes
+    keyed = covered (places.Temp temp.0) o x small refl (ap (root_of h) (sym temp.2) ∙ root) there class owes
 
     holds : (c : Covers p h false false old frs fr o x) → has c.fact.places (places.Temp temp.0) ≡ true → holds_operand s.action c.fact.places (j + 1) ≡ true
     holds c has' = ap (has_temp c.fact.places) temp.1 ∙ has'
@@ -162,7 +164,7 @@ module _ (p : Program) (ac : Accept p) (h : HeapContents) (fr : Frame) (st : Sta
     operand_may_move heavy =
         let c = operand_owned heavy in
         let as' = owned_as false false o x c.0 m j q named at owning (holds c.0 c.1) (heavy_of heavy c.0) in
-        let truth = c.0.true' (given_claims false false o x c.0 m j q named at owning (holds c.0 c.1) (heavy_of heavy c.0)) refl in
+        let truth = c.0.true' (given_claims false false o x c.0 m j q named at owning (holds c.0 c.1) (heavy_of heavy c.0)) refl (ap (λ (n : Mode). is_held n && lends_this p fr) as'.0) in
         and_from (x.finished && not (is_library_owner x.owner)) (set.is_subset (must_of p x.class) (must_of_type p q.vtype))
         (and_from x.finished (not (is_library_owner x.owner)) truth.finished (ap (λ (a : Owner). not (is_library_owner a)) (operand_owner heavy)))
         (within_trans (must_of p x.class) (must_of p c.0.origin.class) (must_of_type p q.vtype) truth.class as'.2)
@@ -171,7 +173,7 @@ module _ (p : Program) (ac : Accept p) (h : HeapContents) (fr : Frame) (st : Sta
   pub two_operands : IsCovered p h gives_none renews_none old frs fr → (o : ℕ) (x : Object) → object_at h o ≡ Some x → is_heavy_class p x.class ≡ true → OwesOrHolds p h o x → (m : Method) (j k : ℕ) (q r : ParamSig) → j < k → callee p s.action ≡ Some m
       → slice_get m.sig.params.items j ≡ Some q → slice_get m.sig.params.items k ≡ Some r → q.owning ≡ true → r.owning ≡ true → not (is_empty (must_of_optional p (Some q.vtype))) ≡ true
       → not (is_empty (must_of_optional p (Some r.vtype))) ≡ true → root_of h (operand_of fr.locals s.action (j + 1)) ≡ Some o → root_of h (operand_of fr.locals s.action (k + 1)) ≡ Some o → ⊥
-  two_operands covered o x there class owes m j k q r less named at at' owning owning' heavy heavy' root root' = by (cover.2.others (places.Temp temp'.0) room (ap (root_of h) (sym temp'.2) ∙ root'))
+  two_operands covered o x there class owes m j k q r less named at at' owning owning' heavy heavy' root root' = by (cover.2.others (places.Temp temp'.0) room refl (ap (root_of h) (sym temp'.2) ∙ root'))
     where
       cover : (c : Covers p h false false old frs fr o x) × (has c.fact.places (places.Temp (operand_temp fr.locals s.action (j + 1) h o root).0) ≡ true) × IsOwned p h false false old frs fr o x c
       cover = operand_owned covered o x there class owes m j q named at owning root heavy
@@ -228,7 +230,7 @@ module _ (p : Program) (ac : Accept p) (h : HeapContents) (fr : Frame) (st : Sta
   -- the fact that says that the frame owns what is given away moves at the call
   pub away_moves : (away anew : Bool) (o : ℕ) (x : Object) (d : Covers p h away anew old frs fr o x) → IsOwned p h away anew old frs fr o x d → is_heavy_class p x.class ≡ true → gives_away p h fr.locals s.action o x.class ≡ true
       → moved_at_call p d.origin s.action s.edge d.fact ≡ moves.Moves
-  away_moves away anew o x d own heavy gives = elim (own.others (places.Temp temp.0) small (ap (root_of h) (sym temp.2) ∙ root)) [
+  away_moves away anew o x d own heavy gives = elim (own.others (places.Temp temp.0) small refl (ap (root_of h) (sym temp.2) ∙ root)) [
     | inl in' ↦ (argument_is_given p st.number d.origin s.edge d.fact s.action row (breaks_nothing p ac st.number d.origin i (move_of s) d.fact (reached d) (step_there p fr st i s here)) t.0 t.2.index t.2.param t.1 t.2.at t.2.owning
         (holds d in') (heavy_as d)).1
     | inr u ↦ absurd (true≢false (sym (given_owned p ac h fr st old frs i s here row away anew o x u.covers t.0 t.2.index t.2.param t.1 t.2.at t.2.owning (holds u.covers u.here) (heavy_as u.covers)) ∙ unclaimed_not_owning p (method_at p fr.method) u.covers.origin u.covers.fact u.unowned))

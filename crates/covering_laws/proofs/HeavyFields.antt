@@ -14,7 +14,7 @@ use Rattle.program_model.specs.Lookups.{field_at, method_at}
 use Rattle.program_model.specs.SuperTests.{is_class}
 use Rattle.ledger_obligations.specs.Bodies.{alias_in, constructs, has_field_place, is_class_of, is_field_in, method_of}
 use Rattle.ledger_obligations.specs.MustCallSets.{Names, fits_type, is_empty, is_heavy_class, must_of, must_of_optional, no_names}
-use Rattle.ownership_rules.specs.Signatures.{field_type}
+use Rattle.ownership_rules.specs.Signatures.{field_type, is_present}
 use Rattle.java_control.specs.Owned.{field_number, place_of_field}
 use Rattle.java_control.specs.declared.fact.Fact.{Fact}
 use Rattle.java_control.specs.declared.fact.Mode.{Mode}
@@ -35,9 +35,9 @@ use Rattle.ledger_state.specs.declared.value.Value.TheVariants as values
 use Rattle.value_laws.specs.Places.{field_place_value, owning_field_beside, place_value}
 use Rattle.value_laws.specs.Configuration.{Frame}
 use Rattle.value_laws.specs.Agreement.{Stands}
-use Rattle.value_laws.specs.PlaceFacts.{Covers, IsApart, IsCovered, IsKeyed, asked_by, asked_of, claims, fits_field, fits_in, gives_none, is_heavy_field, is_heavy_in, is_lent, is_owning_fact, owned, renews_none, tells_calls, unowned}
+use Rattle.value_laws.specs.PlaceFacts.{Covers, IsApart, IsCovered, IsKeyed, asked_by, asked_of, claims, fits_field, fits_in, gives_none, is_heavy_field, is_heavy_in, is_idle, is_lent, is_owning_fact, is_settled, owned, renews_none, tells_calls, unowned}
 use Rattle.value_laws.specs.PlainForms.{is_lent_parameter}
-use Rattle.value_laws.specs.Renewing.{makes_alone}
+use Rattle.value_laws.specs.Renewing.{answers_for_fields, is_of_heavy_class, lends_this, makes_alone, reopens}
 use Rattle.value_laws.proofs.FieldPlaces.{beside_of_place}
 use Rattle.covering_laws.specs.Covering.{HoldsHeavy, IsCountedOn}
 use Rattle.covering_laws.proofs.Following.{method_here}
@@ -87,20 +87,22 @@ module _ (p : Program) (h : HeapContents) (fr : Frame) (f : FieldId) (here : Has
   pub heavy_here : is_heavy_in p (Some f) ≡ true → is_heavy_field p fr.method (place_of_field p f) ≡ true
   heavy_here heavy = ap (is_heavy_in p) here.beside ∙ heavy
 
-  pub covers_field : (old : ℕ → Bool) (frs : List Frame) → IsCovered p h gives_none renews_none old frs fr → (w o : ℕ) (x : Object) → HoldsHeavy p h fr w f o x → (c : Covers p h false false old frs fr o x) × (has c.fact.places (place_of_field p f) ≡ true)
-  covers_field old frs covered w o x holds = covered_at p h false false old frs fr (place_of_field p f) o x
-      (covered (place_of_field p f) o x here.small (ap (root_of h) (value_here w holds.this) ∙ holds.held) holds.at holds.class holds.owes)
+  -- where the frame does not lend `this`
+  pub covers_field : (old : ℕ → Bool) (frs : List Frame) → IsCovered p h gives_none renews_none old frs fr → lends_this p fr ≡ false → (w o : ℕ) (x : Object) → HoldsHeavy p h fr w f o x
+      → (c : Covers p h false false old frs fr o x) × (has c.fact.places (place_of_field p f) ≡ true)
+  covers_field old frs covered keeps w o x holds = covered_at p h false false old frs fr (place_of_field p f) o x
+      (covered (place_of_field p f) o x here.small keeps (ap (root_of h) (value_here w holds.this) ∙ holds.held) holds.at holds.class holds.owes)
 
--- in a constructor without an aliased argument a fact that says that a field holds the object claims it
-pub held_claims : (p : Program) (m : Option Method) (o : Origin) (g : Fact) → makes_alone m ≡ true → g.mode ≡ modes.Held → is_heavy_class p o.class ≡ true → claims p m o g ≡ true
-held_claims p m o g alone held heavy = rw (heavy, held, alone) refl
+-- in a frame that answers for the fields of `this` a fact that says that a field holds the object claims it
+pub held_claims : (p : Program) (m : Option Method) (o : Origin) (g : Fact) → answers_for_fields m ≡ true → g.mode ≡ modes.Held → is_heavy_class p o.class ≡ true → claims p m o g ≡ true
+held_claims p m o g answers held heavy = rw (heavy, held, answers) refl
 
 pub own_claims : (p : Program) (m : Option Method) (o : Origin) (g : Fact) → g.mode ≡ modes.Own → is_heavy_class p o.class ≡ true → claims p m o g ≡ true
 own_claims p m o g own heavy = rw (heavy, own) refl
 
 -- elsewhere it tells what was called
-pub held_tells : (p : Program) (m : MethodId) (o : Origin) (g : Fact) → makes_alone (method_at p m) ≡ false → g.mode ≡ modes.Held → tells_calls p m o g ≡ true
-held_tells p m o g other held = and_from (is_lent p (method_at p m) o.kind || is_held g.mode) (not (is_held g.mode && makes_alone (method_at p m))) (or_right (is_lent p (method_at p m) o.kind) (is_held g.mode) (ap is_held held)) (rw (held, other) refl)
+pub held_tells : (p : Program) (m : MethodId) (o : Origin) (g : Fact) → answers_for_fields (method_at p m) ≡ false → g.mode ≡ modes.Held → tells_calls p m o g ≡ true
+held_tells p m o g other held = and_from (is_lent p (method_at p m) o.kind || is_held g.mode) (not (is_held g.mode && answers_for_fields (method_at p m))) (or_right (is_lent p (method_at p m) o.kind) (is_held g.mode) (ap is_held held)) (rw (held, other) refl)
 
 -- a constructor makes alone or not
 pub plain_not_alone : (m : Option Method) → constructs m ≡ false → makes_alone m ≡ false
@@ -109,6 +111,41 @@ plain_not_alone m plain = rw plain refl
 -- a constructor without an aliased argument
 pub makes_alone_by : (m : Option Method) → constructs m ≡ true → alias_in m ≡ None → makes_alone m ≡ true
 makes_alone_by m makes none = rw (makes, none) refl
+
+-- ---- frames that answer for the fields of `this`
+
+pub alone_answers : (m : Option Method) → makes_alone m ≡ true → answers_for_fields m ≡ true
+alone_answers m alone = rw alone refl
+
+pub reopening_answers : (m : Option Method) → reopens m ≡ true → answers_for_fields m ≡ true
+reopening_answers m opens = or_right (makes_alone m) (reopens m) opens
+
+-- they run a constructor without an aliased argument, or a method that creates the obligation of `this` anew
+pub answers_by : (m : Option Method) → answers_for_fields m ≡ true → (makes_alone m ≡ true) ⊎ (reopens m ≡ true)
+answers_by m answers = go (makes_alone m) refl answers
+  where
+    go : (b : Bool) → makes_alone m ≡ b → (b || reopens m) ≡ true → (makes_alone m ≡ true) ⊎ (reopens m ≡ true)
+    go true is some = inl is
+    go false none some = inr some
+
+-- what a fact says that says no more than that its frame owns the object, or that answers for the fields of `this`, is not idle
+pub not_held_not_idle : (p : Program) (frs : List Frame) (fr : Frame) (f : Fact) → is_held f.mode ≡ false → is_idle p frs fr f ≡ false
+not_held_not_idle p frs fr f other = rw other refl
+
+pub answering_not_idle : (p : Program) (frs : List Frame) (fr : Frame) (f : Fact) → answers_for_fields (method_at p fr.method) ≡ true → is_idle p frs fr f ≡ false
+answering_not_idle p frs fr f answers = elim (answers_by (method_at p fr.method) answers) [
+  | inl alone ↦ by (is_held f.mode) (constructs (method_at p fr.method)) (and_parts (constructs (method_at p fr.method)) (not (is_present (alias_in (method_at p fr.method)))) alone).0
+  | inr opens ↦ or (is_held f.mode) (constructs (method_at p fr.method)) (reopens (method_at p fr.method)) opens
+]
+  where
+    by : (a b : Bool) → b ≡ true → (a && not b && not (reopens (method_at p fr.method)) && is_of_heavy_class p (method_at p fr.method) && not (is_settled p fr frs)) ≡ false
+    by true b is = rw is refl
+    by false b is = refl
+
+    or : (a b c : Bool) → c ≡ true → (a && not b && not c && is_of_heavy_class p (method_at p fr.method) && not (is_settled p fr frs)) ≡ false
+    or true true c is = refl
+    or true false c is = rw is refl
+    or false b c is = refl
 
 -- the type of a field that bounds a class with an obligation has one
 pub heavy_by_fit : (p : Program) (c : ClassId) (f : FieldId) → is_heavy_class p c ≡ true → fits_type p c (field_type p f) ≡ true → is_heavy_in p (Some f) ≡ true
@@ -133,15 +170,15 @@ either false b is = inr is
 
 -- it is that of what is lent, or it says that a field holds the object
 pub tells_by : (p : Program) (m : MethodId) (o : Origin) (f : Fact) → tells_calls p m o f ≡ true → (is_lent p (method_at p m) o.kind ≡ true) ⊎ (is_held f.mode ≡ true)
-tells_by p m o f tells = either (is_lent p (method_at p m) o.kind) (is_held f.mode) (and_parts (is_lent p (method_at p m) o.kind || is_held f.mode) (not (is_held f.mode && makes_alone (method_at p m))) tells).0
+tells_by p m o f tells = either (is_lent p (method_at p m) o.kind) (is_held f.mode) (and_parts (is_lent p (method_at p m) o.kind || is_held f.mode) (not (is_held f.mode && answers_for_fields (method_at p m))) tells).0
 
--- and this in no constructor without an aliased argument
-pub tells_apart : (p : Program) (m : MethodId) (o : Origin) (f : Fact) → tells_calls p m o f ≡ true → (is_held f.mode && makes_alone (method_at p m)) ≡ false
-tells_apart p m o f tells = not-true (is_held f.mode && makes_alone (method_at p m)) (and_parts (is_lent p (method_at p m) o.kind || is_held f.mode) (not (is_held f.mode && makes_alone (method_at p m))) tells).1
+-- and this in no frame that answers for the fields of `this`
+pub tells_apart : (p : Program) (m : MethodId) (o : Origin) (f : Fact) → tells_calls p m o f ≡ true → (is_held f.mode && answers_for_fields (method_at p m)) ≡ false
+tells_apart p m o f tells = not-true (is_held f.mode && answers_for_fields (method_at p m)) (and_parts (is_lent p (method_at p m) o.kind || is_held f.mode) (not (is_held f.mode && answers_for_fields (method_at p m))) tells).1
 
-pub lent_tells : (p : Program) (m : MethodId) (o : Origin) (f : Fact) → (is_held f.mode && makes_alone (method_at p m)) ≡ false → is_lent p (method_at p m) o.kind ≡ true → tells_calls p m o f ≡ true
+pub lent_tells : (p : Program) (m : MethodId) (o : Origin) (f : Fact) → (is_held f.mode && answers_for_fields (method_at p m)) ≡ false → is_lent p (method_at p m) o.kind ≡ true → tells_calls p m o f ≡ true
 lent_tells p m o f other lent =
-    and_from (is_lent p (method_at p m) o.kind || is_held f.mode) (not (is_held f.mode && makes_alone (method_at p m))) (or_left (is_lent p (method_at p m) o.kind) (is_held f.mode) lent) (ap not other)
+    and_from (is_lent p (method_at p m) o.kind || is_held f.mode) (not (is_held f.mode && answers_for_fields (method_at p m))) (or_left (is_lent p (method_at p m) o.kind) (is_held f.mode) lent) (ap not other)
 
 -- ---- what a fact knows beside what is asked for before
 
@@ -175,13 +212,13 @@ held_unlent p h away anew old frs fr o x c held plain = by (is_lent p (method_at
     by false none = none
     by true lent = absurd (true≢false (sym ((c.lent lent).1 (ap is_held held)).0 ∙ plain))
 
--- nor in constructors without an aliased argument
+-- nor in frames that answer for the fields of `this`
 pub lent_not_alone : (p : Program) (h : HeapContents) (away anew : Bool) (old : ℕ → Bool) (frs : List Frame) (fr : Frame) (o : ℕ) (x : Object) (c : Covers p h away anew old frs fr o x) → is_lent p (method_at p fr.method) c.origin.kind ≡ true
-    → (is_held c.fact.mode && makes_alone (method_at p fr.method)) ≡ false
+    → (is_held c.fact.mode && answers_for_fields (method_at p fr.method)) ≡ false
 lent_not_alone p h away anew old frs fr o x c lent = go (is_held c.fact.mode) refl
   where
-    go : (b : Bool) → is_held c.fact.mode ≡ b → (b && makes_alone (method_at p fr.method)) ≡ false
-    go true held = ((c.lent lent).1 held).1
+    go : (b : Bool) → is_held c.fact.mode ≡ b → (b && answers_for_fields (method_at p fr.method)) ≡ false
+    go true held = let it = (c.lent lent).1 held in rw (it.1, it.0) refl
     go false other = refl
 
 -- what it knows grows with what was called
@@ -191,8 +228,8 @@ known_on called asked names more known grows = within_trans called (set.union as
 -- a fact claims only where it says that the object is owned
 pub claims_owned : (p : Program) (m : Option Method) (o : Origin) (f : Fact) → claims p m o f ≡ true → (is_heavy_class p o.class ≡ true) × ((is_own f.mode || is_held f.mode) ≡ true)
 claims_owned p m o f claimed =
-    let parts = and_parts (is_heavy_class p o.class) (is_own f.mode || is_held f.mode && makes_alone m) claimed in
-    (parts.0, go (is_own f.mode) (is_held f.mode) (makes_alone m) parts.1)
+    let parts = and_parts (is_heavy_class p o.class) (is_own f.mode || is_held f.mode && answers_for_fields m) claimed in
+    (parts.0, go (is_own f.mode) (is_held f.mode) (answers_for_fields m) parts.1)
   where
     go : (a b c : Bool) → (a || b && c) ≡ true → (a || b) ≡ true
     go true b c is = refl
@@ -201,12 +238,12 @@ claims_owned p m o f claimed =
 
 -- and it claims as a fact in the same mode does
 pub claims_as : (p : Program) (m : Option Method) (o : Origin) (f g : Fact) → g.mode ≡ f.mode → claims p m o g ≡ true → claims p m o f ≡ true
-claims_as p m o f g same claimed = sym (ap (λ (u : Mode). is_heavy_class p o.class && (is_own u || is_held u && makes_alone m)) same) ∙ claimed
+claims_as p m o f g same claimed = sym (ap (λ (u : Mode). is_heavy_class p o.class && (is_own u || is_held u && answers_for_fields m)) same) ∙ claimed
 
--- a fact that says that a field holds the object claims in a constructor without an aliased argument alone
-pub claims_alone : (p : Program) (m : Option Method) (o : Origin) (f : Fact) → f.mode ≡ modes.Held → claims p m o f ≡ true → makes_alone m ≡ true
-claims_alone p m o f held claimed =
-    sym (ap (λ (u : Mode). is_own u || is_held u && makes_alone m) held) ∙ (and_parts (is_heavy_class p o.class) (is_own f.mode || is_held f.mode && makes_alone m) claimed).1
+-- a fact that says that a field holds the object claims in a frame that answers for the fields of `this` alone
+pub claims_answered : (p : Program) (m : Option Method) (o : Origin) (f : Fact) → f.mode ≡ modes.Held → claims p m o f ≡ true → answers_for_fields m ≡ true
+claims_answered p m o f held claimed =
+    sym (ap (λ (u : Mode). is_own u || is_held u && answers_for_fields m) held) ∙ (and_parts (is_heavy_class p o.class) (is_own f.mode || is_held f.mode && answers_for_fields m) claimed).1
 
 pub held_mode : (m : Mode) → is_held m ≡ true → m ≡ modes.Held
 held_mode modes.Own is = absurd (true≢false (sym is))
@@ -215,9 +252,9 @@ held_mode modes.Held is = refl
 held_mode modes.Lent is = absurd (true≢false (sym is))
 held_mode modes.Alias is = absurd (true≢false (sym is))
 
--- what it claims is the frame's, or a field's in a constructor without an aliased argument
-pub claims_by : (p : Program) (m : Option Method) (o : Origin) (f : Fact) → claims p m o f ≡ true → (is_own f.mode ≡ true) ⊎ ((is_held f.mode ≡ true) × (makes_alone m ≡ true))
-claims_by p m o f claimed = go (is_own f.mode) (is_held f.mode) (makes_alone m) (and_parts (is_heavy_class p o.class) (is_own f.mode || is_held f.mode && makes_alone m) claimed).1
+-- what it claims is the frame's, or a field's in a frame that answers for these
+pub claims_by : (p : Program) (m : Option Method) (o : Origin) (f : Fact) → claims p m o f ≡ true → (is_own f.mode ≡ true) ⊎ ((is_held f.mode ≡ true) × (answers_for_fields m ≡ true))
+claims_by p m o f claimed = go (is_own f.mode) (is_held f.mode) (answers_for_fields m) (and_parts (is_heavy_class p o.class) (is_own f.mode || is_held f.mode && answers_for_fields m) claimed).1
   where
     go : (a b c : Bool) → (a || b && c) ≡ true → (a ≡ true) ⊎ ((b ≡ true) × (c ≡ true))
     go true b c is = inl refl
@@ -248,6 +285,6 @@ owning_in_no_field p h away anew old frs fr o x c owning k inside there =
 
 -- ---- what the frame may count on
 
--- what was old and is spared
-pub apart_held : (p : Program) (h : HeapContents) (old : ℕ → Bool) (frs : List Frame) (fr : Frame) (o : ℕ) (x : Object) (f : Fact) → f.mode ≡ modes.Held → IsCountedOn p h old frs fr o x → IsApart p h old frs fr o x.owner f
-apart_held p h old frs fr o x f held spared = spared
+-- what was old and is spared, and was not given up, where something is said of it
+pub apart_held : (p : Program) (h : HeapContents) (old : ℕ → Bool) (frs : List Frame) (fr : Frame) (o : ℕ) (x : Object) (f : Fact) → is_idle p frs fr f ≡ false → IsCountedOn p h old frs fr o x → IsApart p h old frs fr o x.owner f
+apart_held p h old frs fr o x f said counted = (counted.0, counted.1, counted.2, said)

@@ -1,7 +1,7 @@
 -- The place of the owning field of `this` that owns an object: the one place of `this` among a fact's places.
 use Rattle.std.proofs.Common.{◌≡◌, ◌⊎◌, inl, inr, ℕ, zero, suc, ◌+◌, ◌<◌, ◌≤◌, Bool, true, false, true≢false, ◌&&◌, ◌||◌, Option, Some, None, List, nat_eq, eqb, eq-eqb, eqb-true, refl, sym, ap, subst, ◌∙◌, arith}
 use Rattle.std.specs.FinSet as set
-use Rattle.std.proofs.lemmas.Bool.{or_left, or_right}
+use Rattle.std.proofs.lemmas.Bool.{and_parts, or_left, or_right}
 use Rattle.std.proofs.lemmas.Bool.Decides.{nat_tests}
 use Rattle.std.proofs.lemmas.Cmp.{nat_cmp_total}
 use Rattle.std.proofs.lemmas.Grind.{common_steps}
@@ -37,11 +37,11 @@ use Rattle.value_laws.specs.PlaceFacts.{Covers, IsInField, is_frame_from, is_len
 use Rattle.value_laws.specs.Paths.{Reach, relation_of}
 use Rattle.value_laws.specs.PlacePlaces.{is_local}
 use Rattle.value_laws.specs.Places.{owning_field_beside}
-use Rattle.value_laws.specs.Renewing.{IsOwnedByThis, is_declared_beside, makes_alone}
+use Rattle.value_laws.specs.Renewing.{IsOwnedByThis, answers_for_fields, is_declared_beside, lends_this}
 use Rattle.value_laws.proofs.FactOrigins.{this_own}
 use Rattle.covering_laws.proofs.Bodies.{running_method}
 use Rattle.covering_laws.proofs.Following.{method_here, same_body}
-use Rattle.covering_laws.proofs.HeavyFields.{HasPlace, has_place_here, owning_in_no_field}
+use Rattle.covering_laws.proofs.HeavyFields.{HasPlace, has_place_here, not_held_not_idle, owning_in_no_field}
 use Rattle.covering_laws.proofs.Owners.{held_at, held_no_frame}
 
 -- ---- the places of `this`
@@ -63,6 +63,10 @@ among_fields held k from (suc n) low high is = go (nat_eq from k) refl (among_fi
       where
         below : nat_eq from k ≡ false → from + 1 ≤ k
         below apart = first_of (omega (arith, low), grind (arith, nat_tests, low, apart))
+
+-- a field is a part
+pub field_part : (held : PlaceSet) (k : ℕ) → k < 16 → has held (places.Field k) ≡ true → has_part held ≡ true
+field_part held k small is = or_left (has_field held) (has held places.Super) (among_fields held k 0 16 (omega arith) small is)
 
 pub in_this : (held : PlaceSet) (k : ℕ) → k < 16 → has held (places.Field k) ≡ true → is_in_this held ≡ true
 in_this held k small is = or_right (has held places.This) (has_part held) (or_left (has_field held) (has held places.Super) (among_fields held k 0 16 (omega arith) small is))
@@ -182,21 +186,21 @@ place_by_number k places.This small less out same = absurd (omega (arith, small,
 place_by_number k (places.Field n) small less out same = eq-eqb k n (omega (arith, same))
 place_by_number k places.Super small less out same = absurd (omega (arith, small, same))
 
--- ---- a fact in mode Held of a constructor without an aliased argument
+-- ---- a fact in mode Held of a frame that answers for the fields of `this`, and does not lend it
 
 module _ (p : Program) (h : HeapContents) (away anew : Bool) (old : ℕ → Bool) (frs : List Frame) (fr : Frame) (o : ℕ) (x : Object) (c : Covers p h away anew old frs fr o x) (done : x.finished ≡ true) (held : is_held c.fact.mode ≡ true)
-    (alone : makes_alone (method_at p fr.method) ≡ true) (heavy : is_heavy_class p c.origin.class ≡ true) where
+    (answers : answers_for_fields (method_at p fr.method) ≡ true) (keeps : lends_this p fr ≡ false) (heavy : is_heavy_class p c.origin.class ≡ true) where
   second : (away ≡ false) × IsInField p fr c.fact.places x.owner → IsInField p fr c.fact.places x.owner
   second (kept, field) = field
 
   pub held_in_field : IsInField p fr c.fact.places x.owner
-  held_in_field = second (c.free done held alone heavy)
+  held_in_field = second (c.free done held answers keeps heavy)
 
   pub held_by_this : IsOwnedByThis p fr x.owner
   held_by_this = held_in_field.0
 
   pub held_kept : away ≡ false
-  held_kept = (c.free done held alone heavy).0
+  held_kept = (c.free done held answers keeps heavy).0
 
   -- no frame owns it
   pub held_unowned : (i : ℕ) → is_frame_from i x.owner ≡ false
@@ -204,7 +208,7 @@ module _ (p : Program) (h : HeapContents) (away anew : Bool) (old : ℕ → Bool
 
 -- ---- a fact that says that the frame owns the object
 
-this_kind : (kind : OriginKind) → is_origin_at kind (Some 0) ≡ true → kind ≡ kinds.ThisRef
+pub this_kind : (kind : OriginKind) → is_origin_at kind (Some 0) ≡ true → kind ≡ kinds.ThisRef
 this_kind kinds.ThisRef is = refl
 this_kind (kinds.Param j) is = absurd (let same : j + 1 ≡ 0 = eqb-true (j + 1) 0 is in omega (arith, same))
 this_kind kind is = absurd (true≢false (sym is))
@@ -216,11 +220,21 @@ owning_out_of_this p ac h away anew old frs fr st o x c owning = go (is_in_this 
     reached : Reach p st.number (relation_of p st.number) c.origin fr.control c.fact
     reached = subst (λ (b : BodyId). Reach p b (relation_of p b) c.origin fr.control c.fact) (same_body c.body st.number (body_id p fr.method) c.id st.id) c.reached
 
+    unheld : is_held c.fact.mode ≡ false
+    unheld = other c.fact.mode (and_parts (is_heavy_class p c.origin.class) (is_own c.fact.mode) owning).1
+      where
+        other : (m : Mode) → is_own m ≡ true → is_held m ≡ false
+        other modes.Own is = refl
+        other modes.None is = refl
+        other modes.Held is = absurd (true≢false (sym is))
+        other modes.Lent is = refl
+        other modes.Alias is = refl
+
     no_place : (q : Place) → IsSmall q → is_local q ≡ false → has c.fact.places q ≡ true → ⊥
     no_place (places.Var i) small out is = true≢false out
     no_place (places.Temp d) small out is = true≢false out
     no_place (places.Field k) small out is = owning_in_no_field p h away anew old frs fr o x c owning k small is
-    no_place places.Super small out is = (let never : None ≡ Some o = c.places places.Super tt is in cc)
+    no_place places.Super small out is = (let never : None ≡ Some o = c.places (not_held_not_idle p frs fr c.fact unheld) places.Super tt refl is in cc)
     no_place places.This small out is =
         let run = running_method p ac fr st in
         let kind = this_kind c.origin.kind (this_own p ac st.number st.body st.at c.origin fr.control c.fact reached is) in
@@ -231,9 +245,9 @@ owning_out_of_this p ac h away anew old frs fr st o x c owning = go (is_in_this 
     go false out = out
     go true inside = absurd (let it = place_in c.fact.places inside in no_place it.0 it.1 it.2 it.3)
 
--- what a fact in mode Held claims is finished
-pub held_finished : (p : Program) (h : HeapContents) (away anew : Bool) (old : ℕ → Bool) (frs : List Frame) (fr : Frame) (o : ℕ) (x : Object) (c : Covers p h away anew old frs fr o x) → claims p (method_at p fr.method) c.origin c.fact ≡ true → is_held c.fact.mode ≡ true → x.finished ≡ true
-held_finished p h away anew old frs fr o x c claimed held = (c.true' claimed (not_own away c.fact.mode held)).finished
+-- what a fact in mode Held claims is finished, where the frame does not lend `this`
+pub held_finished : (p : Program) (h : HeapContents) (away anew : Bool) (old : ℕ → Bool) (frs : List Frame) (fr : Frame) (o : ℕ) (x : Object) (c : Covers p h away anew old frs fr o x) → claims p (method_at p fr.method) c.origin c.fact ≡ true → is_held c.fact.mode ≡ true → lends_this p fr ≡ false → x.finished ≡ true
+held_finished p h away anew old frs fr o x c claimed held keeps = (c.true' claimed (not_own away c.fact.mode held) (ap (λ (b : Bool). b && lends_this p fr) held ∙ keeps)).finished
   where
     none : (a : Bool) → (a && false) ≡ false
     none true = refl

@@ -76,7 +76,7 @@ use Rattle.covering_laws.proofs.Owners.{AllKeepGifts, OwnersGo, WaysGo, holders_
 use Rattle.covering_laws.proofs.LightExceptions.{exceptions_are_light, operation_is_light}
 use Rattle.covering_laws.proofs.LocalSteps.{LocalsIn, all_there, holds_there, local_step, names_members}
 use Rattle.covering_laws.proofs.TopSteps.{IsLocalStep}
-use Rattle.covering_laws.proofs.Waiting.{AllHeldBefore, KeepsRoots, KeepsUnfinished, all_held_before, all_keep_but_texts, all_wait, frames_ready, no_other, old_as, ways_go_on}
+use Rattle.covering_laws.proofs.Waiting.{AllHeldBefore, KeepsRoots, KeepsUnfinished, all_held_before, all_keep_but_texts, all_wait, frames_ready, no_other, old_as, ways_go_on, HoldsThere, all_ready, this_was, keeps_roots}
 use Rattle.covering_laws.proofs.LinkedExceptions.{exceptions_unlinked, still_aliases}
 use Rattle.value_laws.specs.LibraryClasses.{HasLightTexts}
 use Rattle.covering_laws.proofs.Texts.{texts_are_light}
@@ -136,6 +136,10 @@ module _ (p : Program) (ac : Accept p) (forms : HasPlainForms p) (c : Config) (t
       go : (x : Option Object) → object_at h n ≡ x → class_in x ≡ Some d → object_class heap_then n ≡ Some d
       go None at is = absurd (let never : None ≡ Some d = is in cc)
       go (Some x) at is = let y = classes p ac forms h links fr st i s here local step.row step.test e made updates n x at in ap class_in y.1 ∙ ap Some y.2 ∙ is
+
+  -- so each object is of the class that it was of
+  pub plain_stay : (n : ℕ) (x y : Object) → object_at h n ≡ Some x → object_at heap_then n ≡ Some y → y.class ≡ x.class
+  plain_stay n x y before now = let both : Some x.class ≡ Some y.class = sym (plain_classes n x.class (ap class_in before)) ∙ ap class_in now in cc
 
   -- what is made is no object, or one of class `String`, which owes nothing
   light_made : (q : Place) → MakesNone p s.action → IsGiven q
@@ -258,9 +262,9 @@ module _ (p : Program) (ac : Accept p) (forms : HasPlainForms p) (c : Config) (t
     old,
     old_as p heap_then old frs fr after refl refl
         (old_kept p h heap_then old frs fr
-        (stays_apart p None (fr ∷ frs) (length frs + 1) h heap_then ways goes frs fr (omega arith) gifts tt (λ w none. none.1) (λ w none this. no_object_into w none)) (ways_go_on p None (fr ∷ frs) (length frs + 1) h heap_then ways) is),
-    inner_covered p ac forms h links fr st i s here local step.row step.test e made updates old frs covered gifts ways
-        (holds_there p h ranges fr (All-head (λ (x : Frame). LocalsInRange h x.locals) fr frs in')) light given,
+        (stays_apart p None (fr ∷ frs) (length frs + 1) h heap_then ways goes frs fr (omega arith) gifts tt (λ w none. none.1) (λ w none this. no_object_into w none)) (ways_go_on p None (fr ∷ frs) (length frs + 1) h heap_then ways) is
+        (this_was p h heap_then fr (keeps_roots p h heap_then plain_roots fr there) there (all_ready p h heap_then plain_unfinished fr) (carries p ac forms h links fr st i s here local step.row step.test e made updates))),
+    inner_covered p ac forms h links fr st i s here local step.row step.test e made updates old frs covered is gifts ways there light given,
     all_wait p h heap_then links plain_roots (carries p ac forms h links fr st i s here local step.row step.test e made updates) (ways_go_on p None (fr ∷ frs) (length frs + 1) h heap_then ways) old frs
         (all_keep_but_texts p h heap_then (fields p ac forms h links fr st i s here local step.row step.test e made updates) frs)
         (all_there p h ranges frs (All-tail (λ (x : Frame). LocalsInRange h x.locals) fr frs in')) (frames_ready p h heap_then plain_unfinished frs) gifts
@@ -268,6 +272,9 @@ module _ (p : Program) (ac : Accept p) (forms : HasPlainForms p) (c : Config) (t
     owners_below p ac forms h links fr st i s here local step.row step.test e made updates (length frs + 1) below,
   )
     where
+      there : HoldsThere p h fr
+      there = holds_there p h ranges fr (All-head (λ (x : Frame). LocalsInRange h x.locals) fr frs in')
+
       gifts : AllKeepGifts p h heap_then frs
       gifts = all_keep_gifts p h heap_then plain_roots frs (All-tail (λ (x : Frame). LocalsInRange h x.locals) fr frs in')
 

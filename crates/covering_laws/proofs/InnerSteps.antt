@@ -19,7 +19,7 @@ use Rattle.java_control.specs.declared.fact.Origin.{Origin}
 use Rattle.java_control.specs.declared.fact.OriginKind.TheVariants as kinds
 use Rattle.java_control.specs.declared.place.Place.{Place}
 use Rattle.java_control.specs.declared.place.Place.TheVariants as places
-use Rattle.ownership_rules.specs.Facts.{has, is_this_origin}
+use Rattle.ownership_rules.specs.Facts.{has, is_held, is_this_origin}
 use Rattle.ownership_rules.specs.SmallActions.{IsSmallAction}
 use Rattle.value_laws.specs.CalledRows.{called_after}
 use Rattle.ownership_rules.specs.Births.{birth_on, fact_at}
@@ -44,10 +44,10 @@ use Rattle.value_laws.proofs.LibraryCallLaws.{exceptions_are_the_librarys, excep
 use Rattle.value_laws.specs.PlacePlaces.{is_local}
 use Rattle.value_laws.specs.Agreement.{Stands}
 use Rattle.value_laws.specs.PlainForms.{HasPlainForms}
-use Rattle.value_laws.specs.Outcomes.{IsNotNull, IsPlainRow}
-use Rattle.value_laws.proofs.Going.{other_steps}
+use Rattle.value_laws.specs.Outcomes.{After, IsNotNull, IsPlainRow}
+use Rattle.value_laws.proofs.Going.{held_goes, other_steps}
 use Rattle.value_laws.specs.Steps.{IsTrueTest}
-use Rattle.value_laws.specs.PlaceFacts.{AllHold, IsCovered, IsUnowned, OwnersBelow, gives_none, is_frame_below, is_frame_from, is_lent, renews_none}
+use Rattle.value_laws.specs.PlaceFacts.{Covers, HoldAsSaid, IsCovered, IsOld, IsUnowned, OwnersBelow, gives_none, is_frame_below, is_frame_from, is_idle, is_lent, renews_none}
 use Rattle.covering_laws.proofs.Births.{born_covers}
 use Rattle.covering_laws.proofs.CallResults.{born_unowned, not_lent_none}
 use Rattle.java_control.specs.Calls.{is_reset_of_this}
@@ -58,7 +58,10 @@ use Rattle.covering_laws.proofs.StepWays.{text_unowned, thrown_unowned}
 use Rattle.covering_laws.proofs.Owners.{AllKeepGifts, KeepsFinished, OwnersGo, WaysGo, held_here, keeps_finished, stays, stays_apart}
 use Rattle.covering_laws.proofs.StoreOwners.{thrown_below}
 use Rattle.value_laws.proofs.Ready.{row_gives_none}
-use Rattle.covering_laws.proofs.TopSteps.{IsLocalStep, top_covered, after_as}
+use Rattle.covering_laws.proofs.IdleFacts.{idle_stays}
+use Rattle.covering_laws.proofs.TopSteps.{IsLocalStep, IsSureOf, top_covered, after_as}
+use Rattle.covering_laws.proofs.SaidFacts.{claimed_is_said}
+use Rattle.covering_laws.proofs.HeavyFields.{not_held_not_idle}
 use Rattle.covering_laws.proofs.Waiting.{Carries, HoldsThere, KeepsFieldsButTexts, KeepsRoots, KeepsUnfinished, all_ready, keeps_roots, linked_roots, new_root, no_other}
 use Rattle.covering_laws.proofs.LinkedExceptions.{LinkedWere}
 use Rattle.covering_laws.proofs.OwnerSteps.{free_below, given_up_free}
@@ -82,15 +85,15 @@ no_object h values.Nothing o null is = cc
 no_object h (values.Object k) o null is = true≢false (sym null)
 no_object h v o null is = cc
 
-pub not_null : (p : Program) (h : HeapContents) (fr : Frame) (o : ℕ) (f : Fact) (a : Action) (e : Edge) → IsSmallAction p a → AllHold p h fr.method fr.locals o f.places → IsTrueTest fr.locals a e → IsNotNull f a e
-not_null p h fr o f actions.Skip e small hold test = tt
-not_null p h fr o f (actions.Test d) edges.Null small hold test = go (has f.places (places.Temp d)) refl
+pub not_null : (p : Program) (h : HeapContents) (frs : List Frame) (fr : Frame) (o : ℕ) (f : Fact) (a : Action) (e : Edge) → is_idle p frs fr f ≡ false → IsSmallAction p a → HoldAsSaid p h frs fr o f → IsTrueTest fr.locals a e → IsNotNull f a e
+not_null p h frs fr o f actions.Skip e said small hold test = tt
+not_null p h frs fr o f (actions.Test d) edges.Null said small hold test = go (has f.places (places.Temp d)) refl
   where
     go : (b : Bool) → has f.places (places.Temp d) ≡ b → has f.places (places.Temp d) ≡ false
-    go true is = absurd (no_object h (temp_value fr.locals d) o test (hold (places.Temp d) small is))
+    go true is = absurd (no_object h (temp_value fr.locals d) o test (hold said (places.Temp d) small refl is))
     go false is = is
-not_null p h fr o f (actions.Test d) e small hold test = tt
-not_null p h fr o f a e small hold test = tt
+not_null p h frs fr o f (actions.Test d) e said small hold test = tt
+not_null p h frs fr o f a e said small hold test = tt
 
 -- a step that calls nothing knows of no more calls
 pub same_names : (p : Program) (b : BodyId) (a : Action) (e : Edge) (f : Fact) → IsPlainRow a → IsNotNull f a e → called_after p b a e f ≡ f.called
@@ -246,7 +249,7 @@ module _ (p : Program) (ac : Accept p) (forms : HasPlainForms p) (h : HeapConten
     abbrev pub IsGiven : Place → Type 0
     IsGiven q = HoldsNoneHeavy p heap made ⊎ ((g : Origin) × (birth_on p s.action s.edge s.pos ≡ Some (g, fact_at q modes.None no_names true)) × (g.kind ≡ kinds.Read))
 
-    module _ (old : ℕ → Bool) (frs : List Frame) (covered : IsCovered p h gives_none renews_none old frs fr) (gifts : AllKeepGifts p h heap frs) (ways : WaysGo p None (fr ∷ frs) (length frs + 1) h heap) (inside : HoldsThere p h fr)
+    module _ (old : ℕ → Bool) (frs : List Frame) (covered : IsCovered p h gives_none renews_none old frs fr) (aged : IsOld p h frs fr old) (gifts : AllKeepGifts p h heap frs) (ways : WaysGo p None (fr ∷ frs) (length frs + 1) h heap) (inside : HoldsThere p h fr)
         (light : (c : ClassId) (y : Object) → e ≡ Some c → object_at heap (next_number h) ≡ Some y → is_heavy_class p y.class ≡ false)
         (gives : (q : Place) → e ≡ None → source p st.body s.action s.edge q ≡ None → is_made (made_place s.action) q ≡ true → IsGiven q) where
       given : (q : Place) (o : ℕ) (y : Object) → IsSmall q → is_local q ≡ true → source p st.body s.action s.edge q ≡ None → is_made (made_place s.action) q ≡ true
@@ -271,21 +274,35 @@ module _ (p : Program) (ac : Accept p) (forms : HasPlainForms p) (h : HeapConten
               unclaimed false = refl
 
       pub inner_covered : IsCovered p heap gives_none renews_none old frs (frame_after p h fr s value)
-      inner_covered = top_covered p ac h heap links carries fields fr st i s here r inside (keeps_roots p h heap roots fr inside) value old frs gives_none (λ o. false) covered (all_ready p h heap unfinished fr)
+      inner_covered = top_covered p ac h heap links carries fields fr st i s here r inside (keeps_roots p h heap roots fr inside) value old frs gives_none (λ o. false) covered aged (idle_stays p ac forms fr st s r (row_resets_none p s.action row) frs) (all_ready p h heap unfinished fr)
           (stays_apart p None (fr ∷ frs) (length frs + 1) h heap ways (owners_go (fr ∷ frs) (length frs + 1)) frs fr (omega arith) gifts tt (λ w none. none.1) (λ w none this. no_object_into w none))
           (held_here p None (fr ∷ frs) (length frs + 1) h heap ways (owners_go (fr ∷ frs) (length frs + 1)) frs fr (omega arith) gifts (λ w none. none.0))
           (λ o f g. Unit {0})
           (λ o x c q is. after_as (GoesAs c.fact (places_after p st.number s.action s.edge c.fact.places) (called_after p st.number s.action s.edge c.fact))
           (λ (g : Fact). GoesAs c.fact (places_after p st.number s.action s.edge c.fact.places) (called_after p st.number s.action s.edge c.fact) g × Unit {0})
           (flow p st.number c.origin s.action s.edge c.fact) (λ g goes. (goes, tt))
-          (other_steps p st.number c.origin s.action s.edge c.fact q row (not_null p h fr o c.fact s.action s.edge r.small c.places test) is))
+          (goes_row o x c q is))
           (λ o x y c before at g more trusted sure stays done goes some owes names less was.
-          ap (λ (t : Names). set.is_subset t names) (same_names p st.number s.action s.edge c.fact row (not_null p h fr o c.fact s.action s.edge r.small c.places test))
+          ap (λ (t : Names). set.is_subset t names) (same_names p st.number s.action s.edge c.fact row (not_null p h frs fr o c.fact s.action s.edge (sure_is_said o x c sure) r.small c.places test))
           ∙ was)
-          (λ o x c before some owes gives. absurd (true≢false (sym gives ∙ row_gives_none p s.action s.edge c.fact.places row)))
+          (λ o x c before some owes said gives. absurd (true≢false (sym gives ∙ row_gives_none p s.action s.edge c.fact.places row)))
           (λ o x y c key before at heavy owes g more own. (refl, (λ done mine. same_owner o x y before at heavy ∙ mine)))
           (λ q o y small out root' now heavy owes. absurd (true≢false (sym out.0 ∙ row_resets_none p s.action row)))
           (λ q o y small local none there is found' at heavy owes. inr (inl (given q o y small local none there is found' at heavy)))
         where
           no_object_into : (w : ℕ) → ◌≡◌ {A = Option ℕ} None (Some w) → ⊥
           no_object_into w none = cc
+
+          -- a test against null leaves what a field holds
+          goes_row : (o : ℕ) (x : Object) (c : Covers p h false false old frs fr o x) (q : Place) → has (places_after p st.number s.action s.edge c.fact.places) q ≡ true
+              → After (GoesAs c.fact (places_after p st.number s.action s.edge c.fact.places) (called_after p st.number s.action s.edge c.fact)) (flow p st.number c.origin s.action s.edge c.fact)
+          goes_row o x c q is = go (is_held c.fact.mode) refl
+            where
+              go : (b : Bool) → is_held c.fact.mode ≡ b
+                  → After (GoesAs c.fact (places_after p st.number s.action s.edge c.fact.places) (called_after p st.number s.action s.edge c.fact)) (flow p st.number c.origin s.action s.edge c.fact)
+              go true held = held_goes p st.number c.origin c.fact q s.action s.edge row held is
+              go false other = other_steps p st.number c.origin s.action s.edge c.fact q row (not_null p h frs fr o c.fact s.action s.edge (not_held_not_idle p frs fr c.fact other) r.small c.places test) is
+
+          sure_is_said : (o : ℕ) (x : Object) (c : Covers p h false false old frs fr o x) → IsSureOf p ac h heap links carries fields fr st i s here r inside (keeps_roots p h heap roots fr inside) value old frs false false o x c → is_idle p frs fr c.fact ≡ false
+          sure_is_said o x c (inl owned) = claimed_is_said p frs fr c.origin c.fact owned.0.owning
+          sure_is_said o x c (inr is) = is.1.3

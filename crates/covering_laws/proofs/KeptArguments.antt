@@ -1,7 +1,7 @@
 -- A constructor with an aliased argument stores that argument alone, and as it ends normally an owning field of `this` holds it.
-use Rattle.std.proofs.Common.{◌≡◌, ℕ, zero, suc, ◌+◌, ◌<◌, Bool, true, false, true≢false, not, ◌&&◌, ◌||◌, nat_eq, eq-eqb, arith, Option, Some, None, List, slice_get, refl, sym, ap, ◌∙◌, subst, if◌then◌else◌}
+use Rattle.std.proofs.Common.{◌≡◌, inl, inr, ℕ, zero, suc, ◌+◌, ◌<◌, Bool, true, false, true≢false, not, ◌&&◌, ◌||◌, nat_eq, eq-eqb, arith, Option, Some, None, List, slice_get, refl, sym, ap, ◌∙◌, subst, if◌then◌else◌}
 use Rattle.std.specs.FinSet as set
-use Rattle.std.proofs.lemmas.Bool.{and_from, or_right}
+use Rattle.std.proofs.lemmas.Bool.{and_parts, and_from, or_right}
 use Rattle.program_model.specs.declared.kinds.BodyId.{BodyId}
 use Rattle.program_model.specs.declared.kinds.ClassId.{ClassId}
 use Rattle.program_model.specs.declared.kinds.FieldId.{FieldId}
@@ -34,6 +34,7 @@ use Rattle.ownership_rules.specs.declared.moved.Moved.TheVariants as moves
 use Rattle.value_laws.specs.Ends.{after_return, alias_never_returned, constructor_throws, exit_rule, is_throw, left_at_end, promise_at_end}
 use Rattle.value_laws.specs.Flow.{flow}
 use Rattle.value_laws.specs.Paths.{Reach, move_of, relation_of}
+use Rattle.covering_laws.proofs.SaidFacts.{ends_lend_nothing, no_lent_place, said_by}
 use Rattle.value_laws.specs.Accept.{Accept}
 use Rattle.ledger_state.specs.Contents.{HeapContents}
 use Rattle.ledger_state.specs.Fields.{field_of, field_value}
@@ -111,7 +112,7 @@ module _ (p : Program) (ac : Accept p) (forms : HasPlainForms p) (h : HeapConten
   mine = stores.there p ac forms h old frs fr st covered i d s f here is
 
   stored : (c : Covers p h false false old frs fr o x) × (has c.fact.places (places.Temp d) ≡ true)
-  stored = fields.covered_at p h false false old frs fr (places.Temp d) o x (covered (places.Temp d) o x room.0 root at heavy owes')
+  stored = fields.covered_at p h false false old frs fr (places.Temp d) o x (covered (places.Temp d) o x room.0 refl root at heavy owes')
 
   abbrev cover : Covers p h false false old frs fr o x
   cover = stored.0
@@ -135,9 +136,12 @@ module _ (p : Program) (ac : Accept p) (forms : HasPlainForms p) (h : HeapConten
       by (g, reach, (same, taken reset called full t)) = t.alias aliased'
       by (g, reach, (same, left reset called full l)) = held_already (has cover.fact.places (place_of_field p f)) refl (l.light stored.1)
 
+  makes : constructs (method_at p fr.method) ≡ true
+  makes = sym (ap constructs (method_here p fr st)) ∙ (and_parts (is_constructor p st.number) (is_present (alias_position p st.number)) aliased').0
+
   -- where that is `this`, it is the object of `this`
   of_this : alias_position p st.number ≡ Some 0 → root_of h fr.locals.this ≡ Some o
-  of_this alias = cover.places places.This tt (this_stays p ac st.number st.body m st.at of cover.origin fr.control cover.fact reached_there (ap (is_origin_at cover.origin.kind) (sym alias) ∙ of_argument))
+  of_this alias = cover.places (said_by p frs fr cover.fact (inr (inl makes))) places.This tt refl (this_stays p ac st.number st.body m st.at of cover.origin fr.control cover.fact reached_there (ap (is_origin_at cover.origin.kind) (sym alias) ∙ of_argument))
 
 module _ (p : Program) (ac : Accept p) (h : HeapContents) (old : ℕ → Bool) (frs : List Frame) (fr : Frame) (st : Stands p fr) (covered : IsCovered p h gives_none renews_none old frs fr) (i : ℕ) (s : Step) (v o : ℕ) (x : Object) (m : Method) (named : method_at p fr.method ≡ Some m)
     (here : slice_get (frame_steps p fr) i ≡ Some s) (makes : constructs (method_at p fr.method) ≡ true) (alias : alias_position p st.number ≡ Some (suc v)) (at : object_at h o ≡ Some x)
@@ -151,7 +155,7 @@ module _ (p : Program) (ac : Accept p) (h : HeapContents) (old : ℕ → Bool) (
 
   module _ (q : Completion) (is : s.action ≡ actions.End q) (normal : is_throw q ≡ false) (root : root_of h (variable_value fr.locals v) ≡ Some o) where
     found : (c : Covers p h false false old frs fr o x) × (has c.fact.places (places.Var v) ≡ true)
-    found = fields.covered_at p h false false old frs fr (places.Var v) o x (covered (places.Var v) o x (variable_small p ac fr st m named v makes alias) root at heavy owes')
+    found = fields.covered_at p h false false old frs fr (places.Var v) o x (covered (places.Var v) o x (variable_small p ac fr st m named v makes alias) refl root at heavy owes')
 
     abbrev c : Covers p h false false old frs fr o x
     c = found.0
@@ -196,7 +200,7 @@ module _ (p : Program) (ac : Accept p) (h : HeapContents) (old : ℕ → Bool) (
     number = some_field c.fact.places 0 16 in_field
 
     rooted : root_of h (field_place_value p h fr.locals.this (owning_field_beside p fr.method number.0)) ≡ Some o
-    rooted = c.places (places.Field number.0) number.1 number.2
+    rooted = c.places (said_by p frs fr c.fact (inr (inl makes))) (places.Field number.0) number.1 (no_lent_place p fr (ends_lend_nothing p fr st i s q here is) (places.Field number.0)) number.2
 
     beside : (f : FieldId) × (owning_field_beside p fr.method number.0 ≡ Some f)
     beside = go (owning_field_beside p fr.method number.0) refl

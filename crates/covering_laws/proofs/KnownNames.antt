@@ -29,7 +29,7 @@ use Rattle.ledger_state.specs.Locals.{temp_in, temp_value}
 use Rattle.ledger_state.specs.declared.locals.Locals.{Locals}
 use Rattle.ledger_steps.specs.LedgerCallsCalls.{depth_at, operand_of}
 use Rattle.value_laws.specs.Outcomes.{IsCallRow}
-use Rattle.value_laws.specs.PlaceFacts.{AllHold}
+use Rattle.covering_laws.proofs.SaidFacts.{HoldsApart}
 
 -- ---- operands
 
@@ -42,11 +42,11 @@ depth_is a k n below is = rw (lt-ltb k 4294967296 below) is
 
 -- the operand of a fact's place is its object
 pub operand_holds : (p : Program) (h : HeapContents) (m : MethodId) (l : Locals) (a : Action) (o k : ℕ) (held : PlaceSet) → IsSmallAction p a → k < 4294967296
-    → AllHold p h m l o held → holds_operand a held k ≡ true → root_of h (operand_of l a k) ≡ Some o
+    → HoldsApart p h m l o held → holds_operand a held k ≡ true → root_of h (operand_of l a k) ≡ Some o
 operand_holds p h m l a o k held small below hold is =
     let d = holds_at held (operand_at a k) is in
     let room : d.0 < 64 = subst IsSmallTemp d.1 (operand_has_room p a k small) in
-    ap (λ (x : Option ℕ). root_of h (temp_in l x)) (depth_is a k d.0 below d.1) ∙ hold (places.Temp d.0) room d.2
+    ap (λ (x : Option ℕ). root_of h (temp_in l x)) (depth_is a k d.0 below d.1) ∙ hold (places.Temp d.0) room refl d.2
 
 -- the temp of an operand that is an object
 pub operand_temp : (l : Locals) (a : Action) (k : ℕ) (h : HeapContents) (o : ℕ) → root_of h (operand_of l a k) ≡ Some o → (n : ℕ) × (operand_at a k ≡ Some n) × (operand_of l a k ≡ temp_value l n)
@@ -61,15 +61,15 @@ operand_temp l a k h o root = go (depth_at a k) refl
     go (Some n) is = (n, at_depth n (nat_lt k 4294967296) is, ap (temp_in l) is)
 
 -- the super class's part of `this` is none of the places that hold an object
-no_super : (p : Program) (h : HeapContents) (m : MethodId) (l : Locals) (o : ℕ) (held : PlaceSet) → AllHold p h m l o held → has held places.Super ≡ false
+no_super : (p : Program) (h : HeapContents) (m : MethodId) (l : Locals) (o : ℕ) (held : PlaceSet) → HoldsApart p h m l o held → has held places.Super ≡ false
 no_super p h m l o held hold = go (has held places.Super) refl
   where
     go : (b : Bool) → has held places.Super ≡ b → has held places.Super ≡ false
-    go true is = absurd (let never : ◌≡◌ {A = Option ℕ} None (Some o) = hold places.Super tt is in cc)
+    go true is = absurd (let never : ◌≡◌ {A = Option ℕ} None (Some o) = hold places.Super tt refl is in cc)
     go false is = is
 
 -- so the receiver is the operand of position 0, and the call is not `super.m()`
-pub receiver_is_operand : (p : Program) (h : HeapContents) (m : MethodId) (l : Locals) (o : ℕ) (a : Action) (held : PlaceSet) → AllHold p h m l o held → holds_receiver a held ≡ true
+pub receiver_is_operand : (p : Program) (h : HeapContents) (m : MethodId) (l : Locals) (o : ℕ) (a : Action) (held : PlaceSet) → HoldsApart p h m l o held → holds_receiver a held ≡ true
     → (is_super_target a ≡ false) × (holds_operand a held 0 ≡ true)
 receiver_is_operand p h m l o a held hold is = go (is_super_target a) refl is
   where
@@ -132,22 +132,27 @@ promised_names_kept p b a held names (x ∷ xs) kept =
     go false is = empty_within names
 
 both_known : (p : Program) (b : BodyId) (a : Action) (e : Edge) (f : Fact) (names : Names) → set.is_subset f.called names ≡ true
-    → ((n : NameId) → holds_receiver a f.places ≡ true → interest_in (callee p a) ≡ Some n → set.contains names n.0 ≡ true)
-    → AreKept p b a f.places names (promises_at p a e) → set.is_subset (called_by p b a e f) names ≡ true
-both_known p b a e f names known noted kept = go (is_emptied p a f.places)
+    → (is_emptied p a f.places ≡ false → (n : NameId) → holds_receiver a f.places ≡ true → interest_in (callee p a) ≡ Some n → set.contains names n.0 ≡ true)
+    → (is_emptied p a f.places ≡ false → AreKept p b a f.places names (promises_at p a e)) → set.is_subset (called_by p b a e f) names ≡ true
+both_known p b a e f names known noted kept = go (is_emptied p a f.places) refl
   where
-    go : (x : Bool) → set.is_subset (if x then no_names else set.union (called_at_call p a f.places f.called) (promised_at p b a f.places (promises_at p a e))) names ≡ true
-    go true = empty_within names
-    go false =
+    go : (x : Bool) → is_emptied p a f.places ≡ x → set.is_subset (if x then no_names else set.union (called_at_call p a f.places f.called) (promised_at p b a f.places (promises_at p a e))) names ≡ true
+    go true emptied = empty_within names
+    go false none =
         union_within (called_at_call p a f.places f.called) (promised_at p b a f.places (promises_at p a e)) names
-        (own_name p a f.places f.called names known noted) (promised_names_kept p b a f.places names (promises_at p a e) kept)
+        (own_name p a f.places f.called names known (noted none)) (promised_names_kept p b a f.places names (promises_at p a e) (kept none))
 
--- all names that the fact knows after the call
+-- all names that the fact knows after the call, where it is not emptied
+pub known_unless_emptied : (p : Program) (b : BodyId) (a : Action) (e : Edge) (f : Fact) (names : Names) → IsCallRow a → set.is_subset f.called names ≡ true
+    → (is_emptied p a f.places ≡ false → (n : NameId) → holds_receiver a f.places ≡ true → interest_in (callee p a) ≡ Some n → set.contains names n.0 ≡ true)
+    → (is_emptied p a f.places ≡ false → AreKept p b a f.places names (promises_at p a e)) → set.is_subset (called_after p b a e f) names ≡ true
+known_unless_emptied p b actions.Skip e f names row known noted kept = absurd row
+known_unless_emptied p b (actions.Call m d n form) e f names row known noted kept = both_known p b (actions.Call m d n form) e f names known noted kept
+known_unless_emptied p b (actions.New m d n) e f names row known noted kept = both_known p b (actions.New m d n) e f names known noted kept
+known_unless_emptied p b (actions.Super m d n) e f names row known noted kept = both_known p b (actions.Super m d n) e f names known noted kept
+known_unless_emptied p b a e f names row known noted kept = absurd row
+
 pub known_after_call : (p : Program) (b : BodyId) (a : Action) (e : Edge) (f : Fact) (names : Names) → IsCallRow a → set.is_subset f.called names ≡ true
     → ((n : NameId) → holds_receiver a f.places ≡ true → interest_in (callee p a) ≡ Some n → set.contains names n.0 ≡ true)
     → AreKept p b a f.places names (promises_at p a e) → set.is_subset (called_after p b a e f) names ≡ true
-known_after_call p b actions.Skip e f names row known noted kept = absurd row
-known_after_call p b (actions.Call m d n form) e f names row known noted kept = both_known p b (actions.Call m d n form) e f names known noted kept
-known_after_call p b (actions.New m d n) e f names row known noted kept = both_known p b (actions.New m d n) e f names known noted kept
-known_after_call p b (actions.Super m d n) e f names row known noted kept = both_known p b (actions.Super m d n) e f names known noted kept
-known_after_call p b a e f names row known noted kept = absurd row
+known_after_call p b a e f names row known noted kept = known_unless_emptied p b a e f names row known (λ none. noted) (λ none. kept)

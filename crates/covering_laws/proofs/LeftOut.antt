@@ -1,6 +1,6 @@
--- A step that creates the obligation of `this` anew leaves the fields of `this` out of the facts that go on: what one of them holds is in a fact that the step bears for it.
-use Rattle.std.proofs.Common.{◌≡◌, ℕ, Bool, true, false, ◌&&◌, true≢false, Option, Some, None, List, slice_get, refl, sym, ap, ◌∙◌, subst}
-use Rattle.std.proofs.lemmas.Bool.{and_from}
+-- A step that creates the obligation of `this` anew leaves the fields of `this` out of the facts that go on: what one of them holds is in a fact that the step bears for it. Where the frame answers for the fields
+-- of `this`, the field owns it.
+use Rattle.std.proofs.Common.{◌≡◌, inl, inr, ℕ, Bool, true, false, not, ◌&&◌, true≢false, Option, Some, None, List, slice_get, refl, sym, ap, ◌∙◌, subst}
 use Rattle.program_model.specs.declared.kinds.ClassId.{ClassId}
 use Rattle.program_model.specs.declared.kinds.FieldId.{FieldId}
 use Rattle.program_model.specs.declared.kinds.VType.{VType}
@@ -9,9 +9,9 @@ use Rattle.program_model.specs.declared.program.Field.{Field}
 use Rattle.program_model.specs.declared.program.Program.{Program}
 use Rattle.program_model.specs.Lookups.{method_at}
 use Rattle.program_model.specs.Validity.{is_class_type}
-use Rattle.ledger_obligations.specs.Bodies.{alias_in, constructs, is_alias_constructor}
-use Rattle.ledger_obligations.specs.MustCallSets.{is_heavy_class}
-use Rattle.ownership_rules.specs.Signatures.{is_present}
+use Rattle.ledger_obligations.specs.MustCallSets.{is_empty, is_heavy_class, must_of_optional, must_of_type}
+use Rattle.ownership_rules.specs.Signatures.{is_present, type_of_field}
+use Rattle.java_control.specs.Owned.{is_owning, is_owning_field}
 use Rattle.java_control.specs.Calls.{is_reset_of_this}
 use Rattle.java_control.specs.Control.{Step}
 use Rattle.java_control.specs.PlaceNumbers.{IsSmall}
@@ -20,9 +20,11 @@ use Rattle.java_control.specs.declared.place.Place.{Place}
 use Rattle.java_control.specs.declared.place.Place.TheVariants as places
 use Rattle.value_laws.specs.Accept.{Accept}
 use Rattle.ledger_state.specs.Contents.{HeapContents}
-use Rattle.ledger_state.specs.Fields.{field_of}
+use Rattle.ledger_state.specs.Fields.{field_of, field_value}
 use Rattle.ledger_state.specs.Heaps.{object_at, root_of}
 use Rattle.ledger_state.specs.declared.object.Object.{Object}
+use Rattle.ledger_state.specs.declared.entry.Owner.TheVariants as owners
+use Rattle.ledger_state.specs.declared.value.Value.TheVariants as values
 use Rattle.ledger_state.specs.declared.value.Value.{Value}
 use Rattle.value_laws.specs.Agreement.{Stands}
 use Rattle.value_laws.specs.Choosing.{frame_steps}
@@ -31,49 +33,61 @@ use Rattle.value_laws.specs.Frames.{frame_after}
 use Rattle.value_laws.specs.Heaps.{HasEarlierLinks}
 use Rattle.value_laws.specs.Operands as operand_types
 use Rattle.value_laws.specs.Operands.{NoObject}
-use Rattle.value_laws.specs.PlaceFacts.{IsCovered, OwesOrHolds}
+use Rattle.value_laws.specs.PlaceFacts.{IsCovered, IsHeavyObject, IsTrueOf, OwesOrHolds, is_heavy_in}
 use Rattle.value_laws.specs.Places.{field_place_value, owning_field_beside, place_value}
+use Rattle.value_laws.specs.Frames.{KeepsTargets}
 use Rattle.value_laws.specs.PlainForms.{HasPlainForms}
-use Rattle.value_laws.specs.Renewing.{makes_alone}
+use Rattle.value_laws.specs.Ranges.{LocalsInRange}
+use Rattle.value_laws.specs.Renewing.{answers_for_fields, reopens}
+use Rattle.value_laws.proofs.Ready.{resets_plainly}
+use Rattle.ledger_obligations.specs.Bodies.{alias_in, constructs}
+use Rattle.std.proofs.lemmas.Bool.{and_parts}
+use Rattle.covering_laws.proofs.Bodies.{running_method}
+use Rattle.covering_laws.proofs.Following.{method_here}
+use Rattle.covering_laws.proofs.HeavyFields.{answers_by, reopening_answers}
+use Rattle.covering_laws.proofs.LendingFrames.{opens_at}
+use Rattle.covering_laws.proofs.Resets.{constructor_elsewhere}
+use Rattle.covering_laws.proofs.WholeThis.{IsSingleThis, whole_this}
+use Rattle.value_laws.specs.Chains.{HaveEnds}
+use Rattle.value_laws.specs.FieldContents.{FieldsOwn, HaveContents}
 use Rattle.value_laws.specs.Types.{StoredHoldNone, is_text}
 use Rattle.value_laws.proofs.FieldPlaces.{IsBeside}
-use Rattle.value_laws.proofs.Ready.{resets_plainly}
 use Rattle.value_laws.proofs.ValueTypeFields.{field_of_none}
 use Rattle.covering_laws.specs.Texts.{TextsAreLight}
-use Rattle.covering_laws.proofs.BirthsAnew.{born_anew, field, has_place, ran}
-use Rattle.covering_laws.proofs.Following.{method_here}
-use Rattle.covering_laws.proofs.Owners.{KeepsHeld, StaysApart}
-use Rattle.covering_laws.proofs.Resets.{resets_elsewhere}
+use Rattle.covering_laws.proofs.BirthsAnew.{born_anew, fact, field, has_place, origin, ran}
+use Rattle.covering_laws.proofs.HeldBirths.{field_owned, field_true}
+use Rattle.covering_laws.proofs.Owners.{StaysApart}
 use Rattle.covering_laws.proofs.TopSteps.{IsBornAnew, IsLocalStep}
 use Rattle.covering_laws.proofs.Waiting.{Carries, HoldsThere, IsCarried, KeepsFieldsButTexts, KeepsReady, KeepsRootsOf, bore_before, kept_place, kept_root, numbered}
 
+-- a field of the value holds an object, so it is one
+object_of : (p : Program) (h : HeapContents) (v : Value) (f : FieldId) (o : ℕ) → root_of h (field_of p h v f) ≡ Some o → (w : ℕ) × (v ≡ values.Object w) × (root_of h (field_value p h w f) ≡ Some o)
+object_of p h (values.Object w) f o root = (w, refl, root)
+object_of p h v f o root = absurd (let never : None ≡ Some o = root in cc)
+
 module _ (p : Program) (ac : Accept p) (forms : HasPlainForms p) (h k : HeapContents) (texts : TextsAreLight p h) (stored : StoredHoldNone (is_text p h) p h) (links : HasEarlierLinks h) (carries : Carries h k)
     (fields : KeepsFieldsButTexts p h k) (fr : Frame) (st : Stands p fr) (i : ℕ) (s : Step) (here : slice_get (frame_steps p fr) i ≡ Some s) (r : IsLocalStep p fr st s) (inside : HoldsThere p h fr)
-    (roots : KeepsRootsOf p h k fr) (v : Value) (old : ℕ → Bool) (frs : List Frame) (gives : ℕ → ClassId → Bool) (renewed : ℕ → Bool) (covered : IsCovered p h gives (λ o owner. renewed o) old frs fr)
-    (ready : KeepsReady p h k fr) (others : StaysApart p h k frs fr) (lasting : KeepsHeld p h k fr) where
+    (roots : KeepsRootsOf p h k fr) (v : Value) (old : ℕ → Bool) (frs : List Frame) (gives : ℕ → ClassId → Bool) (renewed : ℕ → Bool)
+    (covered : IsCovered p h gives (λ o owner. renewed o) old frs fr) (ready : KeepsReady p h k fr) (others : StaysApart p h k frs fr) (owned : FieldsOwn p h) (stack : List Frame)
+    (contents : HaveContents p stack h) (have : HaveEnds h)
+    (keeps : (o : ℕ) (x y : Object) (w : ℕ) (f : FieldId) → object_at h o ≡ Some x → object_at k o ≡ Some y → IsHeavyObject p x → x.owner ≡ owners.Field w f → (z : Object) → object_at h w ≡ Some z → z.finished ≡ true → y.owner ≡ x.owner)
+    (mine : LocalsInRange h fr.locals) (targets : KeepsTargets p fr)
+    (single : IsSingleThis p h fr)
+    (renewed_this : (o : ℕ) → renewed o ≡ true → is_reset_of_this p s.action ≡ true → root_of h fr.locals.this ≡ Some o) where
   abbrev after : Frame
   after = frame_after p h fr s v
 
   abbrev Born : Place → ℕ → Object → Type 0
   Born q o y = IsBornAnew p ac h k links carries fields fr st i s here r inside roots v old frs renewed q o y
 
-  -- in a constructor with an aliased argument, no owning field has a place
   module _ (resets : is_reset_of_this p s.action ≡ true) (n : ℕ) (room : IsSmall (places.Field n)) (f : FieldId) (beside : owning_field_beside p fr.method n ≡ Some f) (o : ℕ) (y : Object)
       (root : root_of k (place_value p k fr.method after.locals (places.Field n)) ≡ Some o) (at : object_at k o ≡ Some y) (heavy : is_heavy_class p y.class ≡ true) (owes : OwesOrHolds p k o y) where
-    placed : is_alias_constructor p st.number ≡ true → ⊥
-    placed aliased = true≢false (sym (has_place p ac k fr st i s here resets after old frs refl refl n room f beside)
-        ∙ resets_elsewhere p st.number fr.control s.action (resets_plainly p ac forms fr st i s here) aliased resets f)
-
-    alone : constructs (method_at p fr.method) ≡ true → makes_alone (method_at p fr.method) ≡ true
-    alone makes = go (is_present (alias_in (method_at p fr.method))) refl
-      where
-        go : (b : Bool) → is_present (alias_in (method_at p fr.method)) ≡ b → makes_alone (method_at p fr.method) ≡ true
-        go true some = absurd (placed (and_from _ _ (ap constructs (method_here p fr st) ∙ makes) (ap (λ m. is_present (alias_in m)) (method_here p fr st) ∙ some)))
-        go false none = rw (makes, none) refl
-
     -- the field held the object before
     was : root_of h (place_value p h fr.method fr.locals (places.Field n)) ≡ Some o
     was = sym (roots (places.Field n) room) ∙ sym (ap (root_of k) (kept_root p h k _ _ o (kept_place p h k fields fr.method fr.locals (places.Field n)) root)) ∙ root
+
+    in_field : root_of h (field_of p h fr.locals.this f) ≡ Some o
+    in_field = ap (λ (x : Option FieldId). root_of h (field_place_value p h fr.locals.this x)) (sym beside) ∙ was
 
     before : IsCarried h o y
     before = carries o y at (numbered h links (place_value p h fr.method fr.locals (places.Field n)) o was (inside (places.Field n) room)).1
@@ -84,15 +98,52 @@ module _ (p : Program) (ac : Accept p) (forms : HasPlainForms p) (h k : HeapCont
     abbrev declared : IsBeside p (ran p ac k fr st i s here resets after old frs refl refl n room f beside) n f
     declared = field p ac k fr st i s here resets after old frs refl refl n room f beside
 
+    bore : OwesOrHolds p h o before.0
+    bore = bore_before p h k others.holders o before.0 y before.1 before.3 owes
+
+    -- a constructor in which an owning field has a place creates the obligation of `this` not anew
+    opens : answers_for_fields (method_at p fr.method) ≡ true → reopens (method_at p fr.method) ≡ true
+    opens answers = elim (answers_by (method_at p fr.method) answers) [
+      | inr is ↦ is
+      | inl alone ↦ absurd (true≢false (sym (has_place p ac k fr st i s here resets after old frs refl refl n room f beside)
+          ∙ constructor_elsewhere p st.number fr.control s.action (resets_plainly p ac forms fr st i s here)
+          (ap constructs (method_here p fr st) ∙ (and_parts (constructs (method_at p fr.method)) (not (is_present (alias_in (method_at p fr.method)))) alone).0) resets f))
+    ]
+
     of_class : (c : ClassId) → declared.field.vtype ≡ types.Obj c → Born (places.Field n) o y
-    of_class c type = born_anew p ac k fr st i s here resets after old frs refl refl n room f beside c type h refl gives renewed covered lasting others alone o before.0 y before.1 at wide
-        (bore_before p h k others.holders o before.0 y before.1 before.3 owes) (λ done. (before.3 done).0) (ready (places.Field n) o before.0 y room was before.1 at) was root
+    of_class c type = born_anew p ac k fr st i s here resets after old frs refl refl n room f beside c type refl (renewed o) o before.0 y (λ done. (before.3 done).0) root held sure
+      where
+        sure : answers_for_fields (method_at p fr.method) ≡ false → renewed o ≡ false
+        sure none = go (renewed o) refl
+          where
+            go : (b : Bool) → renewed o ≡ b → b ≡ false
+            go false is = refl
+            go true is = absurd (elim (opens_at p ac forms h fr st i s here resets gives (λ u owner. renewed u) old frs covered o before.0 (renewed_this o is resets) before.1 wide bore) [
+              | inl makes ↦ true≢false (sym (has_place p ac k fr st i s here resets after old frs refl refl n room f beside)
+                  ∙ constructor_elsewhere p st.number fr.control s.action (resets_plainly p ac forms fr st i s here) (ap constructs (method_here p fr st) ∙ makes) resets f)
+              | inr opens' ↦ true≢false (sym (reopening_answers (method_at p fr.method) opens') ∙ none)
+            ])
+
+        held : answers_for_fields (method_at p fr.method) ≡ true → is_heavy_class p c ≡ true
+            → (w : ℕ) × (fr.locals.this ≡ values.Object w) × (y.owner ≡ owners.Field w f) × IsTrueOf p before.0 (origin p ac k fr st i s here resets after old frs refl refl n room f beside c type) (fact p ac k fr st i s here resets after old frs refl refl n room f beside c type)
+        held answers full =
+            let it = object_of p h fr.locals.this f o in_field in
+            let typed : is_heavy_in p (Some f) ≡ true = ap (λ (x : Option Field). not (is_empty (must_of_optional p (type_of_field x)))) declared.at ∙ ap (λ (t : VType). not (is_empty (must_of_type p t))) type ∙ full in
+            let whole = whole_this p ac forms h links owned fr mine st old frs targets gives (λ u owner. renewed u) covered single (opens answers) n f (ran p ac k fr st i s here resets after old frs refl refl n room f beside)
+            (running_method p ac fr st).1 declared c type full typed it.0 it.1 o before.0 it.2 before.1 wide in
+            let own : is_owning p f ≡ true = ap is_owning_field declared.at ∙ declared.owning in
+            let mine = field_owned p h stack owned contents have it.0 whole.object whole.at whole.finished whole.unlinked whole.kept f own typed o before.0 it.2 before.1 wide bore in
+            let truth = field_true p h stack owned contents have it.0 whole.object whole.at whole.finished whole.unlinked whole.kept f own typed o before.0 it.2 before.1 wide bore s.pos declared.field c declared.at type in (
+              it.0,
+              it.1,
+              keeps o before.0 y it.0 f before.1 at (truth.finished, wide) mine whole.object whole.at whole.finished ∙ mine,
+              record { finished = truth.finished; class = truth.class; bounded = truth.bounded; need = truth.need; called = truth.called },
+            )
 
     of_no_class : is_class_type declared.field.vtype ≡ false → ⊥
     of_no_class none =
         true≢false (sym wide ∙ texts (field_of p h fr.locals.this f) o before.0
-        (field_of_none (is_text p h) p h fr.locals.this f stored (subst (λ (x : Option Field). NoObject (operand_types.type_of_field x)) (sym declared.at) none))
-        (ap (λ (x : Option FieldId). root_of h (field_place_value p h fr.locals.this x)) (sym beside) ∙ was) before.1)
+        (field_of_none (is_text p h) p h fr.locals.this f stored (subst (λ (x : Option Field). NoObject (operand_types.type_of_field x)) (sym declared.at) none)) in_field before.1)
 
     by_type : (t : VType) → declared.field.vtype ≡ t → Born (places.Field n) o y
     by_type (types.Obj c) type = of_class c type

@@ -1,14 +1,14 @@
 -- Steps that read a constant of the library.
-use Rattle.std.proofs.Common.{◌≡◌, ℕ, Some, None}
+use Rattle.std.proofs.Common.{◌≡◌, ℕ, false, refl, Some, None}
 use Rattle.program_model.specs.declared.kinds.MethodId.{MethodId}
-use Rattle.java_control.specs.Calls.{operand_at}
+use Rattle.program_model.specs.declared.program.Program.{Program}
+use Rattle.java_control.specs.Calls.{is_reset_of_this, operand_at}
 use Rattle.java_control.specs.declared.action.Action.{Action}
 use Rattle.java_control.specs.declared.action.Action.TheVariants as actions
 use Rattle.java_control.specs.declared.action.Edge.{Edge}
-use Rattle.ledger_state.specs.declared.locals.Locals.{Locals}
-use Rattle.value_laws.specs.Outcomes.{IsPlainRow}
+use Rattle.java_control.specs.declared.fact.Fact.{Fact}
+use Rattle.value_laws.specs.Outcomes.{IsNotNull, IsPlainRow}
 use Rattle.value_laws.specs.PlacePlaces.{IsWay, SetsLocals}
-use Rattle.value_laws.specs.Steps.{IsTrueTest}
 use Rattle.value_laws.proofs.Moved.{IsConstantRead}
 
 -- the row of the flow table, of a read
@@ -23,11 +23,17 @@ constant_way actions.Skip e named is = tt
 constant_way (actions.Put f d this) e named is = absurd is
 constant_way a e named is = tt
 
--- it tests nothing
-pub constant_test : (l : Locals) (a : Action) (e : Edge) (named : MethodId) → IsConstantRead a named → IsTrueTest l a e
-constant_test l actions.Skip e named is = tt
-constant_test l (actions.Test d) e named is = absurd is
-constant_test l a e named is = tt
+-- it creates nothing anew
+pub constant_resets_none : (p : Program) (a : Action) (named : MethodId) → IsConstantRead a named → is_reset_of_this p a ≡ false
+constant_resets_none p actions.Skip named is = refl
+constant_resets_none p (actions.Call m d n form) named is = absurd is
+constant_resets_none p a named is = refl
+
+-- and tests nothing
+pub constant_not_null : (f : Fact) (a : Action) (e : Edge) (named : MethodId) → IsConstantRead a named → IsNotNull f a e
+constant_not_null f actions.Skip e named is = absurd is
+constant_not_null f (actions.Test d) e named is = absurd is
+constant_not_null f a e named is = tt
 
 -- a read has no operand
 pub no_operand : (a : Action) (named : MethodId) → IsConstantRead a named → (k n : ℕ) → operand_at a k ≡ Some n → ⊥

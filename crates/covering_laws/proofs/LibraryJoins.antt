@@ -1,5 +1,5 @@
 -- A call of the library, or a read of its constant, begins and ends in one step of the top frame.
-use Rattle.std.specs.Prelude.{MatchBool, not, ℤ}
+use Rattle.std.specs.Prelude.{MatchBool, not}
 use Rattle.std.proofs.Common.{Bool, List, None, Option, Some, ap, arith, false, if◌then◌else◌, inl, inr, refl, subst, suc, length, sym, true, true≢false, zero, ℕ, ◌+◌, ◌<◌, ◌∙◌, ◌∷◌, ◌≡◌, ◌⊎◌}
 use Rattle.std.proofs.lemmas.List.Elements.{All-tail}
 use Rattle.std.specs.FinSet as set
@@ -7,15 +7,12 @@ use Rattle.rlc_base.specs.declared.name_id.NameId.{NameId}
 use Rattle.rlc_base.proofs.SetLaws.{within_self, within_trans}
 use Rattle.program_model.specs.declared.kinds.ClassId.{ClassId}
 use Rattle.program_model.specs.declared.kinds.MethodId.{MethodId}
-use Rattle.program_model.specs.declared.kinds.MethodKind.{MethodKind}
 use Rattle.program_model.specs.declared.kinds.MethodKind.TheVariants as methods
-use Rattle.program_model.specs.declared.kinds.VType.{VType}
 use Rattle.program_model.specs.declared.kinds.VType.TheVariants as types
 use Rattle.program_model.specs.declared.program.Method.{Method}
 use Rattle.program_model.specs.declared.program.ParamSig.{ParamSig}
 use Rattle.program_model.specs.declared.program.Program.{Program}
 use Rattle.program_model.specs.Lookups.{method_at}
-use Rattle.program_model.specs.Validity.{IsOfKind}
 use Rattle.ledger_obligations.specs.Bodies.{alias_in, constructs, is_constructor_kind}
 use Rattle.ledger_obligations.specs.MustCallSets.{Names, fits, is_heavy_class, must_of, no_names}
 use Rattle.ledger_obligations.specs.WellFormed.{HasSmallInterests}
@@ -42,7 +39,7 @@ use Rattle.value_laws.specs.Accept.{Accept}
 use Rattle.stub_conduct.specs.declared.choice.Conduct.{Conduct}
 use Rattle.stub_conduct.specs.declared.choice.Conduct.TheVariants as conducts
 use Rattle.value_laws.specs.Fitting.{FitsMethod}
-use Rattle.ledger_obligations.specs.Obligations.{is_held_by}
+use Rattle.ledger_obligations.specs.Obligations.{is_held_by, is_library_method}
 use Rattle.ledger_state.specs.Contents.{HeapContents}
 use Rattle.ledger_state.specs.declared.entry.Owner.{Owner}
 use Rattle.ledger_state.specs.Heaps.{next_number, object_at, root, root_of}
@@ -56,10 +53,10 @@ use Rattle.ledger_obligations.specs.Obligations.{first_set, has_note, is_library
 use Rattle.value_laws.specs.Places.{place_value}
 use Rattle.ledger_steps.specs.LedgerCallsCalls as ledger_calls
 use Rattle.ledger_steps.specs.LedgerCallsCalls.{alias_position, operand_of, params_in, position_object, position_of, reset_position}
-use Rattle.ledger_steps.specs.Conducts.{argument_of, conduct_value, first_in, given_value, made_by_new, owning_in, positions, result_in, result_owner, value_at}
+use Rattle.ledger_steps.specs.Conducts.{conduct_value, first_in, made_by_new, owning_in, positions, result_in, result_owner, value_at}
 use Rattle.value_laws.specs.Configuration.{Frame}
 use Rattle.value_laws.specs.Choosing.{frame_steps}
-use Rattle.value_laws.specs.Frames.{frame_after, is_made, made_place}
+use Rattle.value_laws.specs.Frames.{frame_after, is_made, made_place, KeepsTargets}
 use Rattle.ledger_steps.specs.CallSteps.{library_heap}
 use Rattle.value_laws.specs.Heaps.{GoesOn, HasEarlierLinks, IsGiven, IsOlder}
 use Rattle.value_laws.specs.Leading.{Leads}
@@ -76,13 +73,13 @@ use Rattle.value_laws.proofs.LibraryRuns.{constructor_itself, named_result, one_
 use Rattle.value_laws.specs.Outcomes.{IsCallRow, IsPlainRow}
 use Rattle.value_laws.proofs.Going.{other_steps}
 use Rattle.value_laws.specs.Nexts.{IsLibraryMove}
-use Rattle.value_laws.specs.Steps.{IsTrueTest, is_super}
+use Rattle.value_laws.specs.Steps.{is_super}
 use Rattle.value_laws.proofs.CallNames.{IsReceiver, same_interest}
 use Rattle.value_laws.proofs.Ready.{call_sets, plain_step, row_gives_none, step_there}
 use Rattle.value_laws.proofs.Unmet.{way_of_call}
 use Rattle.value_laws.specs.Typed.{IsLibraryConstant, NamesMembers}
 use Rattle.value_laws.proofs.Moved.{IsConstantRead}
-use Rattle.value_laws.specs.FieldContents.{HaveContents, LinksLead}
+use Rattle.value_laws.specs.FieldContents.{HaveContents, LinksLead, FieldsOwn}
 use Rattle.value_laws.specs.Types.{StoredHoldNone, is_text}
 use Rattle.value_laws.proofs.RootLaws.{one_object}
 use Rattle.covering_laws.specs.Texts.{TextsAreLight}
@@ -102,9 +99,9 @@ use Rattle.covering_laws.proofs.CallNotes.{noted_at}
 use Rattle.covering_laws.proofs.CallResults.{IsBornSo, born_unowned, new_covers, result_covers, unclaimed, unowned_mode, not_lent_none}
 use Rattle.value_laws.proofs.Emptied.{plain_interest, plain_note}
 use Rattle.value_laws.proofs.Renewed.{same_params, says_nothing, without_reset}
-use Rattle.covering_laws.proofs.CallSteps.{IsGivenOr, call_from}
+use Rattle.covering_laws.proofs.CallSteps.{IsGivenOr, call_from, sure_is_said}
 use Rattle.covering_laws.proofs.ExistingResults.{GivesUnowned, MayGive, library_may_give}
-use Rattle.covering_laws.proofs.InnerSteps.{not_null, same_names}
+use Rattle.covering_laws.proofs.InnerSteps.{same_names}
 use Rattle.covering_laws.proofs.KnownNames.{kept_further, operand_holds, operand_temp}
 use Rattle.covering_laws.proofs.LibraryNames.{library_name_goes_on}
 use Rattle.covering_laws.proofs.LibraryPromises.{library_keeps_promises}
@@ -113,11 +110,19 @@ use Rattle.covering_laws.proofs.LocalSteps.{LocalsIn, all_there, holds_there, lo
 use Rattle.covering_laws.proofs.MadeObjects.{fresh_finished, library_carries, library_keeps, library_roots, library_unfinished, thrown_class}
 use Rattle.covering_laws.proofs.Gifts.{all_keep_gifts}
 use Rattle.covering_laws.proofs.GivenArguments.{given_owner}
+use Rattle.covering_laws.proofs.GivenAliases.{library_class}
 use Rattle.covering_laws.proofs.GivenAway.{moved_given}
 use Rattle.covering_laws.proofs.OlderHolders.{holder_there}
 use Rattle.covering_laws.proofs.ContentHolders.{contents_have_holders}
 use Rattle.covering_laws.proofs.LeftOut.{left_out_bears}
-use Rattle.covering_laws.proofs.LibraryConstants.{constant_row, constant_sets, constant_test, constant_way, no_operand}
+use Rattle.program_model.specs.Overrides.{is_library}
+use Rattle.covering_laws.proofs.WholeThis.{IsSingleThis}
+use Rattle.covering_laws.proofs.AnewAtEnds.{field_stays}
+use Rattle.covering_laws.proofs.IdleFacts.{idle_stays}
+use Rattle.covering_laws.proofs.IdleCalls.{LendsItsOwn, idle_over_call}
+use Rattle.covering_laws.proofs.SaidFacts.{said_apart}
+use Rattle.covering_laws.proofs.LibraryAnswers.{argument_no_object, given_no_object, no_result, small_interest}
+use Rattle.covering_laws.proofs.LibraryConstants.{constant_not_null, constant_resets_none, constant_row, constant_sets, constant_way, no_operand}
 use Rattle.covering_laws.proofs.LibraryOwners.{library_below, library_owner, library_owners_go}
 use Rattle.value_laws.specs.Chains.{HaveEnds}
 use Rattle.value_laws.specs.HeapAnew.{is_field_owner}
@@ -125,8 +130,8 @@ use Rattle.covering_laws.proofs.StepWays.{ends_by, library_births, library_unown
 use Rattle.covering_laws.proofs.OwnerSteps.{held_is}
 use Rattle.covering_laws.proofs.Owners.{AllKeepGifts, KeepsHeld, OwnersGo, StaysApart, WaysGo, held_here, old_kept, owners_kept, stays_apart}
 use Rattle.covering_laws.proofs.TopSteps.{ComesFrom, IsKeyedFrom, IsLocalStep, IsMadeSo, StopsOwning, after_as, top_covered}
-use Rattle.covering_laws.proofs.Waiting.{but_texts, Carries, HoldsThere, KeepsRoots, KeepsUnfinished, all_keep, all_ready, all_wait, frames_ready, keeps_roots, new_root, no_other, old_as, value_root, ways_go_on}
-use Rattle.covering_laws.specs.Linking.{IsGivenAsAlias, LinkedAreAliases}
+use Rattle.covering_laws.proofs.Waiting.{but_texts, Carries, HoldsThere, KeepsRoots, KeepsUnfinished, all_keep, all_ready, all_wait, frames_ready, keeps_roots, new_root, no_other, old_as, value_root, ways_go_on, this_was}
+use Rattle.covering_laws.specs.Linking.{GivesClass, IsGivenAsAlias, LinkedAreAliases}
 use Rattle.value_laws.proofs.AliasConducts.{GivesAlias, gives_object, library_gives}
 use Rattle.value_laws.specs.FactGoing.{GoesAs}
 use Rattle.java_control.specs.declared.fact.Fact.{Fact}
@@ -134,38 +139,12 @@ use Rattle.value_laws.specs.Flow.{flow}
 use Rattle.value_laws.proofs.Growth.{library_grows}
 use Rattle.value_laws.specs.PlaceRows.{places_after}
 
--- ---- signatures
-
--- a constructor has no result
-no_result : (x : Method) → is_constructor_kind x.kind ≡ true → IsOfKind x.kind x.sig → x.sig.result ≡ None
-no_result x new kind = go x.kind new kind
-  where
-    go : (k : MethodKind) → is_constructor_kind k ≡ true → IsOfKind k x.sig → x.sig.result ≡ None
-    go methods.Ctor is kind' = kind'
-    go methods.Instance is kind' = absurd (true≢false (sym is))
-    go methods.Static is kind' = absurd (true≢false (sym is))
-    go methods.Constant is kind' = absurd (true≢false (sym is))
-
--- ---- values
-
-given_no_object : (h : HeapContents) (count : ℕ) (t : Option VType) (z : ℤ) (o : ℕ) → root_of h (given_value count t z) ≡ Some o → ⊥
-given_no_object h count (Some (types.Arr e)) z o is = cc
-given_no_object h count (Some types.Str) z o is = cc
-given_no_object h count None z o is = cc
-given_no_object h count t z o is = cc
-
-argument_no_object : (h : HeapContents) (m : Option Method) (at : ℕ → Value) (o : ℕ) → alias_position m ≡ None → root_of h (argument_of m at) ≡ Some o → ⊥
-argument_no_object h m at o none is = let never : None ≡ Some o = sym (ap (λ (k : Option ℕ). root_of h (value_at at k)) none) ∙ is in cc
-
-small_interest : (p : Program) → HasSmallInterests p → (named : MethodId) (n : NameId) (x : Option Method) → method_at p named ≡ x → ledger_calls.interest_in x ≡ Some n → n.0 < 128
-small_interest p small named n None at is = absurd (let never : None ≡ Some n = is in cc)
-small_interest p small named n (Some x) at is = small named x n at is
-
 -- ---- the call
 
 module _ (p : Program) (ac : Accept p) (forms : HasPlainForms p) (names : HasSmallInterests p) (h : HeapContents) (links : HasEarlierLinks h) (ranges : FieldsInRange h) (fr : Frame) (old : ℕ → Bool) (frs : List Frame) (st : Stands p fr)
     (mine : LocalsInRange h fr.locals) (arrays : List ArrayObject) (named runs : MethodId) (d : Conduct) (s : Step) (next : IsLibraryMove p h arrays fr.locals (frame_steps p fr) named runs d s) (count : ℕ)
-    (leads : LinksLead p h) (contents : HaveContents p (fr ∷ frs) h) (have : HaveEnds h) (texts : TextsAreLight p h) (stored : StoredHoldNone (is_text p h) p h) where
+    (leads : LinksLead p h) (contents : HaveContents p (fr ∷ frs) h) (have : HaveEnds h) (texts : TextsAreLight p h) (stored : StoredHoldNone (is_text p h) p h) (fields_own : FieldsOwn p h) (targets : KeepsTargets p fr)
+    (single : IsSingleThis p h fr) (lending : LendsItsOwn p fr s) where
   -- the position of the frame
   abbrev at : ℕ
   at = length frs + 1
@@ -290,6 +269,33 @@ module _ (p : Program) (ac : Accept p) (forms : HasPlainForms p) (names : HasSma
     | inr free ↦ true≢false (sym (held_is y.owner (next_number h) held) ∙ free.0)
   ]
 
+  -- ---- what the call makes as an alias
+
+  alias_gives : (k : ℕ) (e : ClassId) → d ≡ conducts.Fresh e → (x : Method) → ran ≡ Some x → x.sig.alias ≡ Some k → GivesClass p x e
+  alias_gives k e is x named_at alias =
+      library_class p forms runs x e named_at (ap (is_library_method p) (sym named_at) ∙ next.library) (subst (GivesAlias p x) (sym next.by.1 ∙ is)
+      (library_gives p x k alias (gives_object p ac.well_formed runs x named_at k alias) h arrays runs named_at next.by.0 (position_of None l s.action) s.action (next.other e is)))
+
+  alias_class : (k : ℕ) → alias_position ran ≡ Some k → (e : ClassId) → d ≡ conducts.Fresh e → IsGivenAsAlias p e
+  alias_class k some e is = by ran refl
+    where
+      by : (x : Option Method) → ran ≡ x → IsGivenAsAlias p e
+      by None named_at = absurd (let never : None ≡ Some k = ap alias_position (sym named_at) ∙ some in cc)
+      by (Some x) named_at =
+          let alias : x.sig.alias ≡ Some k = ap alias_position (sym named_at) ∙ some in
+          record { number = runs; method = x; at = named_at; position = k; alias = alias; class = alias_gives k e is x named_at alias }
+
+  -- its class is one of the library
+  alias_library : (k : ℕ) → alias_position ran ≡ Some k → (e : ClassId) → d ≡ conducts.Fresh e → is_library p e ≡ true
+  alias_library k some e is = by ran refl
+    where
+      by : (x : Option Method) → ran ≡ x → is_library p e ≡ true
+      by None named_at = absurd (let never : None ≡ Some k = ap alias_position (sym named_at) ∙ some in cc)
+      by (Some x) named_at = elim (alias_gives k e is x named_at (ap alias_position (sym named_at) ∙ some)) [
+        | inl own ↦ ap (is_library p) own.1 ∙ ap (is_library_method p) (sym named_at) ∙ next.library
+        | inr other ↦ other.4
+      ]
+
   -- the object that is given: it is made by the call, or was there
   module _ (o : ℕ) (y : Object) (root' : root_of K v ≡ Some o) (now : object_at K o ≡ Some y) (heavy : is_heavy_class p y.class ≡ true) (owes : OwesOrHolds p K o y) where
     -- it is the root of the aliased operand
@@ -317,7 +323,10 @@ module _ (p : Program) (ac : Accept p) (forms : HasPlainForms p) (names : HasSma
             let made = subst (λ (w : Option ℕ). IsAliasOf w y) none (alias_next k some (conducts.Fresh e) is y there).2 in
             elim owes [
               | inl may ↦ true≢false (sym may ∙ ap not (and_from y.finished (is_library_owner y.owner) (made_finished e is y there) (ap is_library_owner made.1)))
-              | inr holds ↦ next_holds_nothing (subst (IsHolder p K) (sym number) holds)
+              | inr more ↦ elim more [
+                | inl holds ↦ next_holds_nothing (subst (IsHolder p K) (sym number) holds)
+                | inr stores ↦ true≢false (sym (alias_library k some e is) ∙ ap (is_library p) (sym (alias_next k some (conducts.Fresh e) is y there).0) ∙ stores.0)
+              ]
             ]
 
         of_object : (w : ℕ) → position_object (position_of None l s.action) k ≡ Some w → IsOperand
@@ -467,7 +476,7 @@ module _ (p : Program) (ac : Accept p) (forms : HasPlainForms p) (names : HasSma
             no_method none' = subst (λ (z : Option Method). FitsMethod p z (conducts.Fresh e)) none' fit
 
             born : (A : Type 0) → (A → y.owner ≡ owners.Frame at) → IsBornSo p K false old frs after q o y A → IsMadeHere q o y
-            born A owner (inl (c, has', it)) = inl (c, has', owner it, stops o _ number)
+            born A owner (inl (c, has', free, it)) = inl (c, has', owner it, stops o _ number, free)
             born A owner (inr u) = inr (inl u)
 
             owned : (k : MethodId) (d' c : ℕ) (f : TargetForm) → s.action ≡ actions.Call k d' c f → (x : Method) → ran ≡ Some x → x.sig.owning_result ≡ true → y.owner ≡ owners.Frame at
@@ -523,7 +532,7 @@ module _ (p : Program) (ac : Accept p) (forms : HasPlainForms p) (names : HasSma
                     let z = new_covers p h K fr st next.index s next.here v old frs false d' o y small' root'' k x edge (ap (method_at p) it ∙ named_at) (alias none x named_at) c is'
                     (ap (is_heavy_class p) class ∙ ap (is_heavy_class p) (sym as'.0) ∙ heavy)
                     (true_of_made p kinds.New s.pos x.class e x.sig.first (places.Temp d') y done as'.0 (must x ran_at) (subst (λ (z : ClassId). fits p e z ≡ true) (sym class) (within_self (must_of p e)))) in
-                    inl (z.0, z.1, tt)))
+                    inl (z.0, z.1, z.2, tt)))
 
             go : (a : Action) → s.action ≡ a → IsMadeHere q o y
             go actions.Skip is' = absurd (subst IsCallRow is' row)
@@ -550,7 +559,7 @@ module _ (p : Program) (ac : Accept p) (forms : HasPlainForms p) (names : HasSma
                 by (result j d' c f x r is' (named_is j (actions.Call j d' c f) is' refl) edge named_at gives' plain (λ owning. absurd (true≢false (sym owning ∙ unowned'))))
               where
                 by : IsBornSo p K false old frs after q o y ((x.sig.owning_result ≡ true) × (is_heavy_class p r ≡ true)) → IsMadeHere q o y
-                by (inl (c', has', own)) = absurd (true≢false (sym own.0 ∙ unowned'))
+                by (inl (c', has', free, own)) = absurd (true≢false (sym own.0 ∙ unowned'))
                 by (inr u) = inr (inl u)
 
             by_other : (j : MethodId) (d' c : ℕ) (f : TargetForm) → s.action ≡ actions.Call j d' c f → LibraryRunsFor p named runs → IsMadeHere q o y
@@ -592,28 +601,29 @@ module _ (p : Program) (ac : Accept p) (forms : HasPlainForms p) (names : HasSma
     call_lasting covered others = held_here p None (fr ∷ frs) at h K library_ways (call_goes covered) frs fr (omega arith) (all_keep_gifts p h K roots frs others) (λ w none. none.0)
 
     -- each place after the call is in a fact that comes from one before it, or was born
-    pub call_top_from : IsCovered p h gives_none renews_none old frs fr → LocalsIn h frs → (q : Place) (o : ℕ) (y : Object) → IsSmall q → root_of K (place_value p K after.method after.locals q) ≡ Some o → object_at K o ≡ Some y
+    pub call_top_from : IsCovered p h gives_none renews_none old frs fr → IsOld p h frs fr old → LocalsIn h frs → (q : Place) (o : ℕ) (y : Object) → IsSmall q → root_of K (place_value p K after.method after.locals q) ≡ Some o → object_at K o ≡ Some y
         → is_heavy_class p y.class ≡ true → OwesOrHolds p K o y
         → IsKeyedFrom p ac h K links carries (but_texts p h K (library_keeps p l s.action (without_reset m) ran at h no_reset links d)) fr st next.index s next.here local inside (keeps_roots p h K roots fr inside) v old frs gives_none (λ o. false)
         (IsGivenOr p ac h K links carries (but_texts p h K (library_keeps p l s.action (without_reset m) ran at h no_reset links d)) fr st next.index s next.here local inside (keeps_roots p h K roots fr inside) v row) q o y
-    call_top_from covered others =
+    call_top_from covered aged others =
         call_from p ac h K links carries (but_texts p h K (library_keeps p l s.action (without_reset m) ran at h no_reset links d)) fr st next.index s next.here local inside (keeps_roots p h K roots fr inside) v row old frs gives_none (λ o. false)
-        (λ o c never. absurd (true≢false (sym never))) covered
+        (λ o c never. absurd (true≢false (sym never))) covered aged (idle_over_call p ac forms fr st s local lending frs)
         (all_ready p h K (library_unfinished p l s.action (without_reset m) ran at h no_reset links d) fr)
         (call_apart covered others) (call_lasting covered others)
         call_owner
-        (λ o x y c n before now root' other interest sure stays done goes heavy owes. noted o x y n before now root' other interest done goes heavy owes)
-        (λ o x y c before now g more trusted sure stays done goes some owes names less was. kept_further p st.number s.action c.fact.places y.called names (promises_at p s.action s.edge) less
-        (library_keeps_promises p ac h links fr st arrays named runs d s next at old frs called local.small interests leads mine o x y c before now some owes))
-        (λ o x c before some owes gives.
+        (λ o x y c n before now root' other interest sure full stays done goes heavy owes. noted o x y n before now root' other interest done goes heavy owes)
+        (λ o x y c before now g more trusted sure full stays done goes some owes names less was. kept_further p st.number s.action c.fact.places y.called names (promises_at p s.action s.edge) less
+        (library_keeps_promises p ac h links fr st arrays named runs d s next at old frs called local.small interests leads mine o x y c
+        (sure_is_said p ac h K links carries (but_texts p h K (library_keeps p l s.action (without_reset m) ran at h no_reset links d)) fr st next.index s next.here local inside (keeps_roots p h K roots fr inside) v row old frs false false o x c sure) before now some owes))
+        (λ o x c before some owes said gives.
         library_alias p ac h links arrays l s.action s.edge c.fact.places named runs (without_reset m) d at count o local.small form same_callee next.answers operands_there next.by (λ e is. let way = next.thrown e is in (way.0, way.2))
-        (λ k below held. operand_holds p h fr.method l s.action o k c.fact.places local.small below c.places held) gives)
+        (λ k below held. operand_holds p h fr.method l s.action o k c.fact.places local.small below (said_apart p h frs fr o c.fact c.places said) held) gives)
         (left_out_bears p ac forms h K texts stored links carries (but_texts p h K (library_keeps p l s.action (without_reset m) ran at h no_reset links d)) fr st next.index s next.here local inside (keeps_roots p h K roots fr inside) v old frs gives_none (λ o. false) covered (all_ready p h K (library_unfinished p l s.action (without_reset m) ran at h no_reset links d) fr)
-        (call_apart covered others) (call_lasting covered others))
+        (call_apart covered others) fields_own (fr ∷ frs) contents have (field_stays p fr frs h K library_ways (call_goes covered)) mine targets single (λ o never resets. absurd (true≢false (sym never))))
         (λ q o y small local' none' there is root' now heavy owes. made q o y small local' there is root' now heavy owes)
 
-    pub call_top : IsCovered p h gives_none renews_none old frs fr → LocalsIn h frs → IsCovered p K gives_none renews_none old frs after
-    call_top covered others q o y small held now heavy owes = elim (call_top_from covered others q o y small held now heavy owes) [
+    pub call_top : IsCovered p h gives_none renews_none old frs fr → IsOld p h frs fr old → LocalsIn h frs → IsCovered p K gives_none renews_none old frs after
+    call_top covered aged others q o y small lent held now heavy owes = elim (call_top_from covered aged others q o y small held now heavy owes) [
       | inl key ↦ owned key.0 key.1 key.2
       | inr free ↦ unowned free
     ]
@@ -626,9 +636,6 @@ module _ (p : Program) (ac : Accept p) (forms : HasPlainForms p) (names : HasSma
 
     plain_row : IsPlainRow s.action
     plain_row = constant_row s.action named read
-
-    test : IsTrueTest l s.action s.edge
-    test = constant_test l s.action s.edge named read
 
     constant_made : (q : Place) (o : ℕ) (y : Object) → IsSmall q → is_local q ≡ true → is_made (made_place s.action) q ≡ true → place_value p K fr.method after.locals q ≡ v → root_of K v ≡ Some o
         → object_at K o ≡ Some y → is_heavy_class p y.class ≡ true → OwesOrHolds p K o y → IsUnowned p K false false old frs after q o y
@@ -684,22 +691,21 @@ module _ (p : Program) (ac : Accept p) (forms : HasPlainForms p) (names : HasSma
     read_lasting : LocalsIn h frs → KeepsHeld p h K fr
     read_lasting others = held_here p None (fr ∷ frs) at h K library_ways read_goes frs fr (omega arith) (all_keep_gifts p h K roots frs others) (λ w none. none.0)
 
-    read_top : IsCovered p h gives_none renews_none old frs fr → LocalsIn h frs → IsCovered p K gives_none renews_none old frs after
-    read_top covered others =
-        top_covered p ac h K links carries (but_texts p h K (library_keeps p l s.action (without_reset m) ran at h no_reset links d)) fr st next.index s next.here local_read inside (keeps_roots p h K roots fr inside) v old frs gives_none (λ o. false) covered
-        (all_ready p h K (library_unfinished p l s.action (without_reset m) ran at h no_reset links d) fr)
+    read_top : IsCovered p h gives_none renews_none old frs fr → IsOld p h frs fr old → LocalsIn h frs → IsCovered p K gives_none renews_none old frs after
+    read_top covered aged others =
+        top_covered p ac h K links carries (but_texts p h K (library_keeps p l s.action (without_reset m) ran at h no_reset links d)) fr st next.index s next.here local_read inside (keeps_roots p h K roots fr inside) v old frs gives_none (λ o. false) covered aged
+        (idle_stays p ac forms fr st s local_read (constant_resets_none p s.action named read) frs) (all_ready p h K (library_unfinished p l s.action (without_reset m) ran at h no_reset links d) fr)
         (read_apart others) (read_lasting others)
         (λ o f g. Unit {0})
         (λ o x c q is. after_as (GoesAs c.fact (places_after p st.number s.action s.edge c.fact.places) (called_after p st.number s.action s.edge c.fact))
         (λ (g : Fact). GoesAs c.fact (places_after p st.number s.action s.edge c.fact.places) (called_after p st.number s.action s.edge c.fact) g × Unit {0})
         (flow p st.number c.origin s.action s.edge c.fact) (λ g goes. (goes, tt))
-        (other_steps p st.number c.origin s.action s.edge c.fact q plain_row (not_null p h fr o c.fact s.action s.edge local_read.small c.places test) is))
+        (other_steps p st.number c.origin s.action s.edge c.fact q plain_row (constant_not_null c.fact s.action s.edge named read) is))
         (λ o x y c before now g more trusted sure stays done goes some owes names less was.
-        ap (λ (t : Names). set.is_subset t names) (same_names p st.number s.action s.edge c.fact plain_row (not_null p h fr o c.fact s.action s.edge local_read.small c.places test)) ∙ was)
-        (λ o x c before some owes gives. absurd (true≢false (sym gives ∙ row_gives_none p s.action s.edge c.fact.places plain_row)))
+        ap (λ (t : Names). set.is_subset t names) (same_names p st.number s.action s.edge c.fact plain_row (constant_not_null c.fact s.action s.edge named read)) ∙ was)
+        (λ o x c before some owes said gives. absurd (true≢false (sym gives ∙ row_gives_none p s.action s.edge c.fact.places plain_row)))
         (λ o x y c key before now heavy owes g more own. (refl, (λ done mine. same_owner o x y before now ∙ mine)))
-        (left_out_bears p ac forms h K texts stored links carries (but_texts p h K (library_keeps p l s.action (without_reset m) ran at h no_reset links d)) fr st next.index s next.here local_read inside (keeps_roots p h K roots fr inside) v old frs gives_none (λ o. false) covered (all_ready p h K (library_unfinished p l s.action (without_reset m) ran at h no_reset links d) fr)
-        (read_apart others) (read_lasting others))
+        (λ q o y small out root' now heavy owes. absurd (true≢false (sym out.0 ∙ constant_resets_none p s.action named read)))
         (λ q o y small local' none' there is root' now heavy owes. inr (inl (constant_made q o y small local' there is root' now heavy owes)))
 
   -- ---- all frames
@@ -710,24 +716,6 @@ module _ (p : Program) (ac : Accept p) (forms : HasPlainForms p) (names : HasSma
   row_of (actions.New k d' n) is = tt
   row_of (actions.Super k d' n) is = tt
   row_of a is = absurd (let never : None ≡ Some named = is in cc)
-
-  -- what the call makes as an alias
-  alias_class : (k : ℕ) → alias_position ran ≡ Some k → (e : ClassId) → d ≡ conducts.Fresh e → IsGivenAsAlias p e
-  alias_class k some e is = by ran refl
-    where
-      by : (x : Option Method) → ran ≡ x → IsGivenAsAlias p e
-      by None named_at = absurd (let never : None ≡ Some k = ap alias_position (sym named_at) ∙ some in cc)
-      by (Some x) named_at =
-          let alias : x.sig.alias ≡ Some k = ap alias_position (sym named_at) ∙ some in
-          record {
-            number = runs;
-            method = x;
-            at = named_at;
-            position = k;
-            alias = alias;
-            class = subst (GivesAlias p x) (sym next.by.1 ∙ is)
-                (library_gives p x k alias (gives_object p ac.well_formed runs x named_at k alias) h arrays runs named_at next.by.0 (position_of None l s.action) s.action (next.other e is));
-          }
 
   pub library_linked : LinkedAreAliases p h → LinkedAreAliases p K
   library_linked apart n y k there some = by (alias_position ran) refl
@@ -775,8 +763,8 @@ module _ (p : Program) (ac : Accept p) (forms : HasPlainForms p) (names : HasSma
   library_kept row in' is covered waits below = (
     old_as p K old frs fr after refl refl
         (old_kept p h K old frs fr (stays_apart p None (fr ∷ frs) at h K library_ways (goes_by row covered) frs fr (omega arith) gifts tt (λ w none. none.1) (λ w is' this. absurd (let never : None ≡ Some w = is' in cc)))
-        (ways_go_on p None (fr ∷ frs) at h K library_ways) is),
-    elim row [ inl called ↦ call_top called (row_of s.action called) covered others | inr read ↦ read_top read covered others ],
+        (ways_go_on p None (fr ∷ frs) at h K library_ways) is (this_was p h K fr (keeps_roots p h K roots fr inside) inside (all_ready p h K (library_unfinished p l s.action (without_reset m) ran at h no_reset links d) fr) carries)),
+    elim row [ inl called ↦ call_top called (row_of s.action called) covered is others | inr read ↦ read_top read covered is others ],
     all_wait p h K links roots carries (ways_go_on p None (fr ∷ frs) at h K library_ways) old frs (all_keep p h K (library_keeps p l s.action (without_reset m) ran at h no_reset links d) frs)
         (all_there p h ranges frs others) (frames_ready p h K (library_unfinished p l s.action (without_reset m) ran at h no_reset links d) frs) gifts
         (owners_kept p None (fr ∷ frs) at h K library_ways (goes_by row covered) frs (omega arith) gifts tt (λ w none. none.1)) waits,

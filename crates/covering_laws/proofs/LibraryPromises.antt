@@ -55,7 +55,8 @@ use Rattle.value_laws.proofs.CallNames.{operand_has_position}
 use Rattle.value_laws.proofs.SignedPromises.{Promises, promised_name_is_small}
 use Rattle.ledger_obligations.specs.MustCallSets.{Names, is_heavy_class}
 use Rattle.value_laws.specs.FieldContents.{LinksLead}
-use Rattle.value_laws.specs.PlaceFacts.{Covers, OwesOrHolds}
+use Rattle.value_laws.specs.PlaceFacts.{Covers, OwesOrHolds, is_idle}
+use Rattle.covering_laws.proofs.SaidFacts.{said_apart}
 use Rattle.value_laws.specs.PlainForms.{IsAnsweredBy, IsKeptBy, LibraryRunsFor}
 use Rattle.value_laws.proofs.FrameOperations.{all_at}
 use Rattle.value_laws.proofs.LibraryRuns.{promises_answered}
@@ -144,23 +145,23 @@ module _ (p : Program) (ac : Accept p) (h : HeapContents) (links : HasEarlierLin
         let same_method : mine.method ≡ run.0 = (let both : Some mine.method ≡ Some run.0 = sym mine.named ∙ run.1 in (let one : mine.method ≡ run.0 = cc in one)) in
         true≢false (sym in_library ∙ ap (is_library p) (sym own.class ∙ sym (ap (λ (x : Field). x.class) same_field) ∙ mine.class ∙ ap (λ (x : Method). x.class) same_method) ∙ run.2)
 
-    name_called : (o : ℕ) (x y : Object) (c : Covers p h false false old frs fr o x) → object_at h o ≡ Some x → object_at K o ≡ Some y → is_heavy_class p x.class ≡ true → OwesOrHolds p h o x → (k : ℕ) → q.target ≡ promised.At k
+    name_called : (o : ℕ) (x y : Object) (c : Covers p h false false old frs fr o x) → is_idle p frs fr c.fact ≡ false → object_at h o ≡ Some x → object_at K o ≡ Some y → is_heavy_class p x.class ≡ true → OwesOrHolds p h o x → (k : ℕ) → q.target ≡ promised.At k
         → holds_operand s.action c.fact.places k ≡ true → (n : ℕ) → set.contains q.names n ≡ true → set.contains y.called n ≡ true
-    name_called o x y c before now heavy owes k target holds n has =
-        let rooted = operand_holds p h fr.method l s.action o k c.fact.places small (operand_has_position p s.action c.fact.places k small holds) c.places holds in
+    name_called o x y c said before now heavy owes k target holds n has =
+        let rooted = operand_holds p h fr.method l s.action o k c.fact.places small (operand_has_position p s.action c.fact.places k small holds) (said_apart p h frs fr o c.fact c.places said) holds in
         promised_names_are_called-position p l s.action (without_reset m) ran d at h j q k n o x y links (plain_interest m interests) (says_nothing m) there target has (promised_name_is_small p ac runs its.0 q n its.1 its.2 has) rooted before (way k o x rooted before heavy owes) now
 
-    one_kept : (o : ℕ) (x y : Object) (c : Covers p h false false old frs fr o x) → object_at h o ≡ Some x → object_at K o ≡ Some y → is_heavy_class p x.class ≡ true → OwesOrHolds p h o x → (t : Target) → q.target ≡ t
+    one_kept : (o : ℕ) (x y : Object) (c : Covers p h false false old frs fr o x) → is_idle p frs fr c.fact ≡ false → object_at h o ≡ Some x → object_at K o ≡ Some y → is_heavy_class p x.class ≡ true → OwesOrHolds p h o x → (t : Target) → q.target ≡ t
         → holds_target p st.number s.action c.fact.places t ≡ true → set.is_subset q.names y.called ≡ true
-    one_kept o x y c before now heavy owes (promised.At k) target holds = within_from q.names y.called (λ n has. name_called o x y c before now heavy owes k target holds n has)
-    one_kept o x y c before now heavy owes (promised.OfField f) target holds =
+    one_kept o x y c said before now heavy owes (promised.At k) target holds = within_from q.names y.called (λ n has. name_called o x y c said before now heavy owes k target holds n has)
+    one_kept o x y c said before now heavy owes (promised.OfField f) target holds =
         let parts = and_parts (is_this_target s.action) (holds_field p st.number c.fact.places f) holds in
         absurd (no_place f target (and_parts (has_field_place p st.number f) (has c.fact.places (place_of_field p f)) parts.1).0)
 
-  module _ (o : ℕ) (x y : Object) (c : Covers p h false false old frs fr o x) (before : object_at h o ≡ Some x) (now : object_at K o ≡ Some y) (heavy : is_heavy_class p x.class ≡ true) (owes : OwesOrHolds p h o x) where
+  module _ (o : ℕ) (x y : Object) (c : Covers p h false false old frs fr o x) (said : is_idle p frs fr c.fact ≡ false) (before : object_at h o ≡ Some x) (now : object_at K o ≡ Some y) (heavy : is_heavy_class p x.class ≡ true) (owes : OwesOrHolds p h o x) where
     -- what the named method promises, where it runs itself
     own_kept : AreKept p st.number s.action c.fact.places y.called (promises_by ran d)
-    own_kept = all_kept p st.number s.action c.fact.places y.called (promises_by ran d) (λ j q there holds. one_kept j q there o x y c before now heavy owes q.target refl holds)
+    own_kept = all_kept p st.number s.action c.fact.places y.called (promises_by ran d) (λ j q there holds. one_kept j q there o x y c said before now heavy owes q.target refl holds)
 
     -- and where another method runs for it
     answered_kept : LibraryRunsFor p named runs → AreKept p st.number s.action c.fact.places y.called (promises_by m d)
@@ -172,7 +173,7 @@ module _ (p : Program) (ac : Accept p) (h : HeapContents) (links : HasEarlierLin
         one (promised.At k) names kept holds = within_from names y.called (λ n has.
             let mine = name_from_all (λ (w : Promise). when (is_at w.target k) w.names) (promises_by ran d) n (within_at names (promised_names (λ w. is_at w k) (promises_by ran d)) kept n has) in
             let parts = name_where (is_at mine.0.target k) mine.0.names n mine.3 in
-            name_called mine.1 mine.0 mine.2 o x y c before now heavy owes k (at_position mine.0.target k parts.0) holds n parts.1)
+            name_called mine.1 mine.0 mine.2 o x y c said before now heavy owes k (at_position mine.0.target k parts.0) holds n parts.1)
 
     all_promised : IsAnsweredBy p named runs → AreKept p st.number s.action c.fact.places y.called (promises_by m d)
     all_promised (inl same) = subst (λ (z : MethodId). AreKept p st.number s.action c.fact.places y.called (promises_by (method_at p z) d)) same own_kept

@@ -19,9 +19,9 @@ use Rattle.ledger_state.specs.Contents.{HeapContents}
 use Rattle.ledger_state.specs.Heaps.{object_at}
 use Rattle.ledger_state.specs.declared.object.Link.{Link}
 use Rattle.ledger_state.specs.declared.object.Object.{Object}
-use Rattle.value_laws.proofs.AliasConducts.{GivesObject, IsAliasClass, gives_object, no_exception}
+use Rattle.value_laws.proofs.AliasConducts.{GivesObject, gives_object, no_exception}
 use Rattle.value_laws.proofs.Cases.{same_class}
-use Rattle.covering_laws.specs.Linking.{IsGivenAsAlias, LinkedAreAliases}
+use Rattle.covering_laws.specs.Linking.{GivesClass, IsGivenAsAlias, LinkedAreAliases}
 use Rattle.covering_laws.specs.Throws.{ExceptionsAreUnlinked}
 use Rattle.covering_laws.proofs.LightExceptions.{exceptions_are_light}
 
@@ -73,8 +73,8 @@ under_none p c e none own under = go (class_at p e) refl under
         alone true is = refl
         alone false is = absurd (true≢false (sym is))
 
--- nor is an alias that the library makes
-alias_no_exception : (p : Program) (ac : Accept p) (named : MethodId) (m : Method) → method_at p named ≡ Some m → (k : ℕ) → m.sig.alias ≡ Some k → (e : ClassId) → IsAliasClass p m e
+-- nor is what is given as an alias
+alias_no_exception : (p : Program) (ac : Accept p) (named : MethodId) (m : Method) → method_at p named ≡ Some m → (k : ℕ) → m.sig.alias ≡ Some k → (e : ClassId) → GivesClass p m e
     → is_under p e p.core.throwable ≡ false
 alias_no_exception p ac named m at k alias e is = by is (gives_object p ac.well_formed named m at k alias)
   where
@@ -83,7 +83,7 @@ alias_no_exception p ac named m at k alias e is = by is (gives_object p ac.well_
     under_result c result heavy (inr under) =
         under_none p c e (none_under p m.sig.alias m.sig.result k c alias result (no_exception p ac.well_formed named m at k alias)) (heavy_no_exception p ac c heavy) under
 
-    by : IsAliasClass p m e → GivesObject p m → is_under p e p.core.throwable ≡ false
+    by : GivesClass p m e → GivesObject p m → is_under p e p.core.throwable ≡ false
     by (inl made) (inl own) = ap (λ (z : ClassId). is_under p z p.core.throwable) made.1 ∙ heavy_no_exception p ac m.class own.1
     by (inl made) (inr own) = absurd (true≢false (sym made.0 ∙ own.0))
     by (inr result) own = under_result result.0 result.1 result.2 result.3

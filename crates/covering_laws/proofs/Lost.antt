@@ -31,16 +31,16 @@ use Rattle.value_laws.proofs.EndLaws.{changed_back, frame_back, kept_goes_on}
 use Rattle.value_laws.proofs.HeapLaws.{root_of_changed, changed_object_at-object}
 use Rattle.value_laws.specs.HeapAnew.{is_field_owner}
 use Rattle.value_laws.specs.Holders.{IsComparable, IsWithin, UnfinishedAreUnowned, by_field, itself}
-use Rattle.value_laws.specs.PlaceFacts.{AreCovered, AreWaiting, EndsBelow, EndsStrictly, IsCovered, IsHolder, IsSpared, OwesOrHolds, OwnersBelow, gives_none, is_frame_below, is_frame_from, is_given, may_owe, renews_none}
+use Rattle.value_laws.specs.PlaceFacts.{AreCovered, AreWaiting, EndsBelow, IsCovered, IsHolder, IsSpared, OwesOrHolds, OwnersBelow, gives_none, is_frame_below, is_frame_from, is_given, may_owe, renews_none, IsAnswered, IsOwnedBelow, IsOld, MayStore, is_given_up}
 use Rattle.value_laws.specs.FieldContents.{FieldsOwn}
 use Rattle.covering_laws.proofs.FieldOwners.{fields_own_as}
 use Rattle.covering_laws.proofs.Gifts.{gifts_same}
 use Rattle.covering_laws.proofs.OwnerSteps.{frame_is, given_up_free}
-use Rattle.covering_laws.proofs.Owners.{KeepsContents, KeepsGifts, KeepsOwn, KeepsOwners, StaysApart, is_field_place, old_kept}
+use Rattle.covering_laws.proofs.Owners.{KeepsGifts, KeepsOwn, KeepsOwners, StaysApart, is_field_place, old_kept, ThisWas}
 use Rattle.covering_laws.proofs.Waiting.{AllGoOn, AllHeldBefore, IsCarried, KeepsReady, KeepsUnfinished, bore_before, given_alike, reread_alike, same_place, stays_covered}
 use Rattle.covering_laws.proofs.LinkedExceptions.{LinkedWere}
 use Rattle.covering_laws.proofs.GivenAway.{at_any}
-use Rattle.value_laws.specs.Renewing.{IsLentFrom, is_field_of, is_renewed, is_reread, renews}
+use Rattle.value_laws.specs.Renewing.{IsLentFrom, is_renewed, is_reread, renews}
 use Rattle.value_laws.proofs.Readings.{renewed_operand}
 use Rattle.java_control.specs.Control.{Step}
 use Rattle.program_model.specs.declared.kinds.FieldId.{FieldId}
@@ -158,14 +158,14 @@ module _ (p : Program) (k : HeapContents) (held : List (List Value)) where
   lost_unfinished h apart keeps o x y other before now none = let z = was_there o y now in z.2.finished ∙ keeps o x z.0 other before z.1 none
 
   ready : (fr : Frame) → KeepsReady p k left fr
-  ready fr q o x y small root before at done =
+  ready fr q o x y small root before at heavy done =
       let z = was_there o y at in
       ap (λ (u : Object). u.finished) (let both : Some x ≡ Some z.0 = sym before ∙ z.1 in (let one : x ≡ z.0 = cc in one)) ∙ sym z.2.finished ∙ done
 
   pub lost_held_before : (frs : List Frame) → AllHeldBefore p k left frs
   lost_held_before [] = tt
   lost_held_before (fr ∷ frs) = (
-    (λ q w small is. sym (root_stays (place_value p k fr.method fr.locals q)) ∙ ap (root_of left) (sym (same_place p k left (λ u f own. refl) fr.method fr.locals q)) ∙ is),
+    (λ q w y small is now heavy open'. sym (root_stays (place_value p k fr.method fr.locals q)) ∙ ap (root_of left) (sym (same_place p k left (λ u f own. refl) fr.method fr.locals q)) ∙ is),
     lost_held_before frs,
   )
 
@@ -255,19 +255,32 @@ module _ (p : Program) (k : HeapContents) (held : List (List Value)) where
         older = λ open'. ends.older (sym y.2.finished ∙ open');
       }
 
-  strict_then : (frs : List Frame) (o : ℕ) → EndsStrictly left frs o → EndsStrictly k frs o
-  strict_then frs o ends =
-      let x = was_there ends.end ends.top.object ends.top.at in
-      record {
-        end = ends.end;
-        top = record {
-          within = within_before o ends.end ends.top.within;
+  -- what a frame below owns, or a field that a frame answers for, they owned
+  lost_not_below : (frs : List Frame) → IsOwnedBelow p frs owners.Lost → ⊥
+  lost_not_below frs (inl low) = true≢false (sym low)
+  lost_not_below [] (inr never) = never
+  lost_not_below (fr ∷ frs) (inr held') = let never : owners.Lost ≡ owners.Field held'.2.holder held'.2.field = held'.2.owns in cc
+
+  below_then : (frs : List Frame) (o : ℕ) (x y : Object) → object_at k o ≡ Some x → object_at left o ≡ Some y → IsOwnedBelow p frs y.owner → IsOwnedBelow p frs x.owner
+  below_then frs o x y before at is = elim (owner_after o x y before at) [ inl same ↦ subst (IsOwnedBelow p frs) same is | inr lost ↦ absurd (lost_not_below frs (subst (IsOwnedBelow p frs) lost.1 is)) ]
+
+  -- the end of a way that was not given up was not before
+  answered_then : (o : ℕ) → IsAnswered left o → IsAnswered k o
+  answered_then o is =
+      let x = was_there is.0 is.1.object is.1.at in (
+        is.0,
+        record {
+          within = within_before o is.0 is.1.within;
           object = x.0;
           at = x.1;
-          unheld = no_field x.0.owner (λ w f own. held_field ends.top.object.owner w f ends.top.unheld (field_kept ends.end x.0 ends.top.object x.1 ends.top.at w f own ∙ own));
-        };
-        below = elim ends.below [ inl low ↦ inl (low_still (length frs + 1) ends.end x.0 ends.top.object x.1 ends.top.at low) | inr made ↦ inr (sym x.2.finished ∙ made.0, made.1) ];
-      }
+          unheld = no_field x.0.owner (λ w f own. held_field is.1.object.owner w f is.1.unheld (field_kept is.0 x.0 is.1.object x.1 is.1.at w f own ∙ own));
+        },
+        elim (owner_after is.0 x.0 is.1.object x.1 is.1.at) [ inl same ↦ ap is_given_up (sym same) ∙ is.2 | inr lost ↦ absurd (true≢false (sym (ap is_given_up lost.1) ∙ is.2)) ],
+      )
+
+  -- `this` was so
+  this_then : (fr : Frame) → ThisWas p k left fr
+  this_then fr w y this now heavy free = let x = was_there w y now in (x.0, x.1, ((sym x.2.finished ∙ heavy.0, ap (is_heavy_class p) (sym x.2.class) ∙ heavy.1), sym x.2.link ∙ free))
 
   -- so what is lent is not lost
   lent_kept : (frs : List Frame) → AreHeld frs → (o : ℕ) (x y : Object) → object_at k o ≡ Some x → object_at left o ≡ Some y → IsLentFrom p k frs o x.owner → y.owner ≡ x.owner
@@ -325,27 +338,7 @@ module _ (p : Program) (k : HeapContents) (held : List (List Value)) where
   -- what fields hold they own
   pub lost_owns : FieldsOwn p k → FieldsOwn p left
   lost_owns = fields_own_as p k left (λ w f own. refl) root_stays
-      (λ o y now. let x = was_there o y now in (x.0, x.1, x.2.class, x.2.finished, (λ owes. bore_before p k left (λ w ready holds. holder_was w holds) o x.0 y x.1 (λ done. (x.2, library_still o x.0 y x.1 now)) owes), (λ w f own. field_kept o x.0 y x.1 now w f own)))
-
-  -- the frame reads anew what it did
-  contents_stay : (fr : Frame) → KeepsContents p k left fr
-  contents_stay fr o x y before at heavy = elim (owner_after o x y before at) [
-    | inl same ↦ ap (is_field_of fr.locals.this) same
-    | inr lost ↦ ap (is_field_of fr.locals.this) lost.1 ∙ none fr.locals.this ∙ sym (unheld fr.locals.this x.owner lost.0)
-  ]
-    where
-      none : (v : Value) → is_field_of v owners.Lost ≡ false
-      none (values.Object w) = refl
-      none v = refl
-
-      unheld : (v : Value) (a : Owner) → owner_holds k held a o ≡ false → is_field_of v a ≡ false
-      unheld (values.Object w) (owners.Field u f) is = absurd (true≢false is)
-      unheld (values.Object w) (owners.Frame i) is = refl
-      unheld (values.Object w) owners.Library is = refl
-      unheld (values.Object w) owners.Released is = refl
-      unheld (values.Object w) owners.Lost is = refl
-      unheld (values.Object w) owners.Unowned is = refl
-      unheld v a is = refl
+      (λ o y now. let x = was_there o y now in (x.0, x.1, x.2.class, x.2.finished, (λ owes. bore_before p k left (λ w ready holds. inl (holder_was w holds)) o x.0 y x.1 (λ done. (x.2, library_still o x.0 y x.1 now)) owes), (λ w f own. field_kept o x.0 y x.1 now w f own), x.2.link, library_still o x.0 y x.1 now))
 
   module _ (nobody : UnfinishedAreUnowned k) where
     -- what is not finished nobody owns
@@ -372,34 +365,34 @@ module _ (p : Program) (k : HeapContents) (held : List (List Value)) where
       content = λ o x y w f before at done heavy plain this own. owned_before o x y before at w f own;
       keeps = λ o x y before at done heavy lent. (let same = lent_kept frs lower o x y before at lent in (same, subst (IsLentFrom p left frs o) (sym same) (lent_still frs lower o x.owner lent)));
       ends = λ o x at heavy ends. ends_still frs o ends;
-      strict = λ o x at heavy ends. strict_then frs o ends;
+      below = λ o x y before at heavy is. below_then frs o x y before at is;
+      answered = λ o x at heavy is. answered_then o is;
       late = λ o y at none. late_still frs o y at none;
-      spared = λ o x at heavy spared. spared_then frs o spared;
-      holders = λ w ready holds. holder_was w holds;
+      spared = λ o x at heavy ends answered spared. spared_then frs o spared;
+      holders = λ w ready holds. inl (holder_was w holds);
     }
 
     keeps : (gives : ℕ → ClassId → Bool) (frs : List Frame) (fr : Frame) → held_at held (length frs + 1) ≡ locals.held fr.locals → AreHeld frs → KeepsOwners p k left gives frs fr
     keeps gives frs fr there lower = record {
       own = not_lost gives (length frs + 1) fr there;
       others = apart frs fr lower;
-      held = λ o x y before at done heavy alone own. field_kept o x y before at own.holder own.field own.owns;
-      reread = contents_stay fr;
+      held = λ o x y before at done heavy answers keeps' own. field_kept o x y before at own.holder own.field own.owns;
     }
 
     frame_lost : (gives : ℕ → ClassId → Bool) (renewed renewed' : ℕ → Owner → Bool) (old : ℕ → Bool) (frs : List Frame) (fr : Frame) → held_at held (length frs + 1) ≡ locals.held fr.locals → AreHeld frs
-        → ((o : ℕ) (x y : Object) → object_at k o ≡ Some x → object_at left o ≡ Some y → is_heavy_class p x.class ≡ true → renewed' o y.owner ≡ renewed o x.owner) → IsCovered p k gives renewed old frs fr → IsCovered p left gives renewed' old frs fr
-    frame_lost gives renewed renewed' old frs fr there lower alike covered =
-        stays_covered p k left gives renewed renewed' old frs fr (λ q small. root_stays (place_value p k fr.method fr.locals q)) (λ q small. inl (same_place p k left (λ w f own. refl) fr.method fr.locals q))
-        (λ q o y small root at. carried o y at) (ready fr) (keeps gives frs fr there lower) alike covered
+        → ((o : ℕ) (x y : Object) → object_at k o ≡ Some x → object_at left o ≡ Some y → is_heavy_class p x.class ≡ true → renewed' o y.owner ≡ renewed o x.owner) → IsOld p k frs fr old → IsCovered p k gives renewed old frs fr → IsCovered p left gives renewed' old frs fr
+    frame_lost gives renewed renewed' old frs fr there lower alike is covered =
+        stays_covered p k left gives renewed renewed' old frs fr (λ q small. root_stays (place_value p k fr.method fr.locals q)) (λ q small kept. inl (inl (same_place p k left (λ w f own. refl) fr.method fr.locals q)))
+        (λ q o y small root at. carried o y at) (ready fr) (keeps gives frs fr there lower) is alike covered
 
     waiting_lost : (above : ℕ → Bool) (frs : List Frame) → AreHeld frs → AreWaiting p k above frs → AreWaiting p left above frs
     waiting_lost above [] there covered = tt
     waiting_lost above (fr ∷ frs) there (old, up, is, covered, rest) = (
       old,
       up,
-      old_kept p k left old frs fr (apart frs fr there.1) goes_on is,
+      old_kept p k left old frs fr (apart frs fr there.1) goes_on is (this_then fr),
       given_alike p left (is_given p k fr) (is_given p left fr) (is_reread p left fr) (is_reread p left fr) old frs fr (λ o. (same_gifts fr o).0) (λ o x at. refl)
-          (frame_lost (is_given p k fr) (is_reread p k fr) (is_reread p left fr) old frs fr there.0 there.1 (reread_alike p k left fr (root_stays fr.locals.this) (same_gifts fr) (contents_stay fr)) covered),
+          (frame_lost (is_given p k fr) (is_reread p k fr) (is_reread p left fr) old frs fr there.0 there.1 (reread_alike p k left fr (same_gifts fr)) is covered),
       waiting_lost old frs there.1 rest,
     )
 
@@ -407,8 +400,8 @@ module _ (p : Program) (k : HeapContents) (held : List (List Value)) where
     all_lost [] there covered = tt
     all_lost (fr ∷ frs) there (old, is, covered, waits, below) = (
       old,
-      old_kept p k left old frs fr (apart frs fr there.1) goes_on is,
-      frame_lost gives_none renews_none renews_none old frs fr there.0 there.1 (λ o x y before at heavy. refl) covered,
+      old_kept p k left old frs fr (apart frs fr there.1) goes_on is (this_then fr),
+      frame_lost gives_none renews_none renews_none old frs fr there.0 there.1 (λ o x y before at heavy. refl) is covered,
       waiting_lost old frs there.1 waits,
       lost_below (length frs + 1) below,
     )
@@ -465,7 +458,8 @@ module _ (p : Program) (j : ℕ) (h : HeapContents) where
 
   ended_owes : (o : ℕ) (x y : Object) → IsKeptOr (is_frame x.owner j) x y → OwesOrHolds p (end_frame j h) o y → OwesOrHolds p h o x
   ended_owes o x y (inl same) (inl owes) = inl (ap may_owe (sym same) ∙ owes)
-  ended_owes o x y kept (inr holds') = inr (ended_holder o holds')
+  ended_owes o x y kept (inr (inl holds')) = inr (inl (ended_holder o holds'))
+  ended_owes o x y kept (inr (inr stores)) = inr (inr (subst (MayStore p) (kept_goes_on (is_frame x.owner j) x y kept).class stores))
   ended_owes o x y (inr given) (inl owes) = inl (ap (λ (a : Owner). not (x.finished && is_library_owner a)) (frame_is x.owner j given.0) ∙ none x.finished)
     where
       none : (b : Bool) → not (b && false) ≡ true
@@ -476,6 +470,10 @@ module _ (p : Program) (j : ℕ) (h : HeapContents) where
   ended_field x y (inl same) w f own = ap (λ (u : Object). u.owner) same
   ended_field x y (inr given) w f own = absurd (true≢false (sym given.0 ∙ ap (λ (a : Owner). is_frame a j) own))
 
+  ended_library : (x y : Object) → IsKeptOr (is_frame x.owner j) x y → is_library_owner x.owner ≡ true → is_library_owner y.owner ≡ true
+  ended_library x y (inl same) is = ap (λ (u : Object). is_library_owner u.owner) same ∙ is
+  ended_library x y (inr given) is = absurd (true≢false (sym is ∙ ap is_library_owner (frame_is x.owner j given.0)))
+
   pub frame_owns : FieldsOwn p h → FieldsOwn p (end_frame j h)
   frame_owns = fields_own_as p h (end_frame j h) (λ w f own. refl) ended_root
-      (λ o y now. let x = frame_back j h o y now in let on = kept_goes_on (is_frame x.0.owner j) x.0 y x.2 in (x.0, x.1, on.class, on.finished, ended_owes o x.0 y x.2, ended_field x.0 y x.2))
+      (λ o y now. let x = frame_back j h o y now in let on = kept_goes_on (is_frame x.0.owner j) x.0 y x.2 in (x.0, x.1, on.class, on.finished, ended_owes o x.0 y x.2, ended_field x.0 y x.2, on.link, ended_library x.0 y x.2))

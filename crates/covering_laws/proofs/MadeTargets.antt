@@ -23,11 +23,12 @@ use Rattle.java_control.specs.declared.action.Action.TheVariants as actions
 use Rattle.java_control.specs.declared.action.TargetForm.{TargetForm}
 use Rattle.java_control.specs.declared.action.TargetForm.TheVariants as forms
 use Rattle.java_control.specs.declared.fact.Fact.{Fact}
+use Rattle.java_control.specs.declared.fact.Mode.{Mode}
 use Rattle.java_control.specs.declared.fact.Mode.TheVariants as modes
 use Rattle.java_control.specs.declared.fact.Origin.{Origin}
 use Rattle.java_control.specs.declared.place.Place.TheVariants as places
 use Rattle.ownership_rules.specs.Callees.{callee, is_this_target}
-use Rattle.ownership_rules.specs.Facts.{has, is_held, is_lent, is_this_origin}
+use Rattle.ownership_rules.specs.Facts.{has, is_held, is_lent, is_own, is_this_origin}
 use Rattle.ownership_rules.specs.SmallActions.{IsSmallAction}
 use Rattle.ledger_state.specs.Contents.{HeapContents}
 use Rattle.ledger_state.specs.Heaps.{object_at, root_of}
@@ -61,17 +62,13 @@ use Rattle.value_laws.proofs.TargetBegun.{finds}
 use Rattle.covering_laws.specs.Making.{AreBeingMade}
 use Rattle.covering_laws.proofs.Following.{method_here, small_step, step_there}
 use Rattle.covering_laws.proofs.GivenAway.{any_at}
-use Rattle.covering_laws.proofs.RenewedOperands.{IsHeldAnew, HoldsLent, answer, its_mode, small, temp}
+use Rattle.covering_laws.proofs.RenewedOperands.{HoldsLent, answer, its_mode, small, step_renews, temp}
+use Rattle.covering_laws.proofs.HeavyFields.{claims_by, claims_owned}
+pub use Rattle.covering_laws.proofs.ThisOperands.{first_value}
+use Rattle.covering_laws.proofs.ThisOperands.{on_this}
+use Rattle.value_laws.proofs.Readings.{operand_renews}
+use Rattle.value_laws.specs.Renewing.{answers_for_fields, is_renewed, lends_this}
 use Rattle.covering_laws.proofs.Resets.{constructor_elsewhere}
-
--- ---- the first operand of a call with a target
-
-is_first : (d n : ℕ) → 0 < n → d < 64 → (nat_lt 0 n && nat_le (d + 0) 4294967295) ≡ true
-is_first d n some low = grind (arith, nat_tests)
-
-pub first_value : (l : Locals) (d n : ℕ) → 0 < n → d < 64 → temp_in l (temp_at d n 0) ≡ temp_value l d
-first_value l d n some low =
-    ap (λ (t : Bool). temp_in l (if t then Some (d + 0) else None)) (is_first d n some low) ∙ ap (temp_value l) (let same : d + 0 ≡ d = omega arith in same)
 
 -- ---- classes
 
@@ -193,10 +190,10 @@ module _ (p : Program) (ac : Accept p) (h : HeapContents) (links : HasEarlierLin
 
 -- ---- what a field of `this` holds
 
--- what it holds in a method that creates the obligation of `this` anew is finished, where its class has owning fields
+-- what the frame creates the obligation of anew, and a fact in mode Held claims, is finished, where its class has owning fields
 abbrev pub HoldsReady : (p : Program) → HeapContents → (ℕ → Bool) → List Frame → (fr : Frame) → Stands p fr → Type 0
-HoldsReady p h old frs fr st = (o : ℕ) (x : Object) → object_at h o ≡ Some x → is_heavy_class p x.class ≡ true → OwesOrHolds p h o x → HasOwningField p x.class
-    → (away anew : Bool) (c : Covers p h away anew old frs fr o x) → IsHeldAnew p fr st c.origin c.fact → x.finished ≡ true
+HoldsReady p h old frs fr st = (o : ℕ) (x : Object) → object_at h o ≡ Some x → is_heavy_class p x.class ≡ true → OwesOrHolds p h o x → HasOwningField p x.class → is_renewed p h fr o ≡ true
+    → (away anew : Bool) (c : Covers p h away anew old frs fr o x) → is_held c.fact.mode ≡ true → answers_for_fields (method_at p fr.method) ≡ true → is_heavy_class p c.origin.class ≡ true → x.finished ≡ true
 
 -- ---- targets
 
@@ -204,23 +201,6 @@ module _ (p : Program) (ac : Accept p) (forms' : HasPlainForms p) (h : HeapConte
     (making : AreBeingMade p h (fr ∷ frs)) (targets : KeepsTargets p fr) (i : ℕ) (s : Step) (here : slice_get (frame_steps p fr) i ≡ Some s) where
   abbrev its : Stands p fr
   its = stand.0
-
-  -- the receiver of a call on `this`
-  on_this : is_this_target s.action ≡ true → operand_of fr.locals s.action 0 ≡ fr.locals.this
-  on_this on = go s.action refl on
-    where
-      by_form : (m : MethodId) (d n : ℕ) (form : TargetForm) → s.action ≡ actions.Call m d n form → operand_of fr.locals (actions.Call m d n form) 0 ≡ temp_in fr.locals (temp_at d n 0) → holds_this fr.locals d → 0 < n → operand_of fr.locals s.action 0 ≡ fr.locals.this
-      by_form m d n form is first found some =
-          let low = (subst (IsSmallAction p) is (small_step p ac fr its i s here)).0 in
-          ap (λ (b : Action). operand_of fr.locals b 0) is ∙ first ∙ first_value fr.locals d n some low ∙ found low
-
-      go : (a : Action) → s.action ≡ a → is_this_target a ≡ true → operand_of fr.locals s.action 0 ≡ fr.locals.this
-      go (actions.Call m d n forms.This) is on' = let found = subst (λ (b : Action). FindsIt p targets.body b (holds_this fr.locals)) is (finds p ac fr targets i s here) in by_form m d n forms.This is refl found.0 found.2
-      go (actions.Call m d n forms.Super) is on' = let found = subst (λ (b : Action). FindsIt p targets.body b (holds_this fr.locals)) is (finds p ac fr targets i s here) in by_form m d n forms.Super is refl found.0 found.2
-      go (actions.Call m d n forms.Static) is on' = absurd (true≢false (sym on'))
-      go (actions.Call m d n forms.Other) is on' = absurd (true≢false (sym on'))
-      go actions.Skip is on' = absurd (true≢false (sym on'))
-      go a is on' = absurd (true≢false (sym on'))
 
   -- The object that a constructor makes, whose class has owning fields, is no target.
   pub made_is_no_target : (k o : ℕ) (x : Object) (g : Origin) (f : Fact) → reset_in (callee p s.action) ≡ Some k → root_of h (operand_of fr.locals s.action k) ≡ Some o → object_at h o ≡ Some x
@@ -253,7 +233,7 @@ module _ (p : Program) (ac : Accept p) (forms' : HasPlainForms p) (h : HeapConte
 
       made : IsMadeHere p ac h links fr frs stand stacked making makes whole o x
       made = made_here p ac h links fr frs stand stacked making makes whole frs stand stacked making o x
-          (ap (root_of h) (sym (ap (operand_of fr.locals s.action) first ∙ on_this receiver)) ∙ root) at
+          (ap (root_of h) (sym (ap (operand_of fr.locals s.action) first ∙ on_this p ac fr its targets i s here receiver)) ∙ root) at
 
       placed : has_field_place p its.number field ≡ true
       placed = ap (is_field_in p its.number) has ∙ rw (owning, method_here p fr its ∙ made.named) (ap (is_class declared.class) (sym (class ∙ made.class)) ∙ eq-eqb declared.class.0 declared.class.0 refl)
@@ -266,7 +246,7 @@ module _ (p : Program) (ac : Accept p) (forms' : HasPlainForms p) (h : HeapConte
       (o : ℕ) (x : Object) (before : object_at h o ≡ Some x) (heavy : is_heavy_class p x.class ≡ true) (owes : OwesOrHolds p h o x) (fields : HasOwningField p x.class) where
     -- The target of the call is finished, where its class has owning fields.
     pub operand_ready : (k : ℕ) → reset_in (callee p s.action) ≡ Some k → root_of h (operand_of fr.locals s.action k) ≡ Some o → x.finished ≡ true
-    operand_ready k position root = by (covered (places.Temp t.0) o x (small p ac forms' h fr its old frs i s here row covered holds o x before heavy owes k position root) (ap (root_of h) (sym t.2) ∙ root) before heavy owes)
+    operand_ready k position root = by (covered (places.Temp t.0) o x (small p ac forms' h fr its old frs i s here row covered holds o x before heavy owes k position root) refl (ap (root_of h) (sym t.2) ∙ root) before heavy owes)
       where
         t : (n : ℕ) × (operand_at s.action k ≡ Some n) × (operand_of fr.locals s.action k ≡ temp_value fr.locals n)
         t = temp p ac forms' h fr its old frs i s here row covered holds o x before heavy owes k position root
@@ -282,12 +262,22 @@ module _ (p : Program) (ac : Accept p) (forms' : HasPlainForms p) (h : HeapConte
                 absurd (made_is_no_target k o x c.origin c.fact position root before makes this lent
                 (subst (λ (n : ℕ). MayBeAnew p its.number c.origin s.action n c.fact) (let both : Some is.0 ≡ Some k = sym is.1 ∙ position in (let one : is.0 ≡ k = cc in one)) is.2) fields)
 
+        renewed : is_renewed p h fr o ≡ true
+        renewed = step_renews p h fr i s o here (operand_renews p h fr.locals s.action o k position root)
+
+        no_held : (m : Mode) → is_own m ≡ true → (is_held m && lends_this p fr) ≡ false
+        no_held modes.Own is = refl
+        no_held modes.None is = refl
+        no_held modes.Held is = absurd (true≢false (sym is))
+        no_held modes.Lent is = refl
+        no_held modes.Alias is = refl
+
         by : IsKeyed p h false false old frs fr (places.Temp t.0) o x → x.finished ≡ true
-        by (owned c in' key) = (c.true' key.owning refl).finished
+        by (owned c in' key) = elim (claims_by p (method_at p fr.method) c.origin c.fact key.owning) [
+          | inl own ↦ (c.true' key.owning refl (no_held c.fact.mode own)).finished
+          | inr held ↦ ready o x before heavy owes fields renewed false false c held.0 held.1 (claims_owned p (method_at p fr.method) c.origin c.fact key.owning).0
+        ]
         by (unowned u) = elim (its_mode p ac forms' h fr its old frs i s here row covered holds o x before heavy owes k position root u.covers u.here) [
           | inl claimed ↦ absurd (true≢false (sym claimed ∙ u.unowned))
-          | inr mode ↦ elim mode [
-            | inl lent ↦ u.covers.complete lent (not_made u.covers u.here lent) fields
-            | inr held ↦ ready o x before heavy owes fields false false u.covers held
-          ]
+          | inr lent ↦ u.covers.complete lent (not_made u.covers u.here lent) fields
         ]

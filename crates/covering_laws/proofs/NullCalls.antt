@@ -1,5 +1,5 @@
 -- A call whose target is null throws before it starts: the library's exception is all that the step makes.
-use Rattle.std.proofs.Common.{Bool, List, None, Option, Some, ◌≤◌, [], ap, arith, false, inl, inr, length, refl, slice_get, subst, sym, true, true≢false, ℕ, ◌+◌, ◌∙◌, ◌∷◌, ◌≡◌}
+use Rattle.std.proofs.Common.{Bool, not, ◌&&◌, List, None, Option, Some, ◌≤◌, [], ap, arith, false, inl, inr, length, refl, slice_get, subst, sym, true, true≢false, ℕ, ◌+◌, ◌∙◌, ◌∷◌, ◌≡◌}
 use Rattle.std.proofs.lemmas.List.Elements.{All-head, All-tail}
 use Rattle.program_model.specs.declared.kinds.ClassId.{ClassId}
 use Rattle.program_model.specs.declared.program.Program.{Program}
@@ -10,7 +10,14 @@ use Rattle.java_control.specs.declared.action.Action.{Action}
 use Rattle.java_control.specs.declared.action.Edge.{Edge}
 use Rattle.java_control.specs.declared.action.Edge.TheVariants as edges
 use Rattle.java_control.specs.declared.place.Place.{Place}
-use Rattle.ownership_rules.specs.Callees.{may_be_null_target}
+use Rattle.ownership_rules.specs.Callees.{is_other_form, may_be_null_target, may_have_null_target}
+use Rattle.java_control.specs.Calls.{is_reset_of_this, is_this_form, resets_receiver}
+use Rattle.java_control.specs.declared.action.Action.TheVariants as actions
+use Rattle.java_control.specs.declared.action.TargetForm.{TargetForm}
+use Rattle.java_control.specs.declared.action.TargetForm.TheVariants as target_forms
+use Rattle.program_model.specs.Lookups.{method_at}
+use Rattle.program_model.specs.SuperTests.{is_ignored, is_under}
+use Rattle.std.proofs.lemmas.Bool.{and_parts}
 use Rattle.ownership_rules.specs.Facts.{PlaceSet}
 use Rattle.value_laws.specs.Aliases.{gives_alias}
 use Rattle.value_laws.specs.CalledRows.{promises_at}
@@ -36,8 +43,6 @@ use Rattle.value_laws.proofs.Ready.{call_sets}
 use Rattle.value_laws.proofs.Unmet.{way_of_call}
 use Rattle.value_laws.specs.PlaceFacts.{AreCovered, IsUnowned, gives_none}
 use Rattle.value_laws.specs.Ranges.{FieldsInRange, LocalsInRange}
-use Rattle.value_laws.specs.Types.{StoredHoldNone, is_text}
-use Rattle.covering_laws.specs.Texts.{TextsAreLight}
 use Rattle.covering_laws.proofs.CallSteps.{call_covered}
 use Rattle.value_laws.specs.FieldContents.{FieldsOwn}
 use Rattle.covering_laws.proofs.FieldOwners.{fields_own_by}
@@ -47,7 +52,7 @@ use Rattle.covering_laws.proofs.InnerSteps.{no_object, same_goes_on}
 use Rattle.covering_laws.proofs.KnownNames.{AreKept}
 use Rattle.covering_laws.proofs.LightExceptions.{null_pointer_is_light}
 use Rattle.covering_laws.proofs.LocalSteps.{LocalsIn, all_there, holds_there, local_step}
-use Rattle.covering_laws.proofs.LeftOut.{left_out_bears}
+use Rattle.covering_laws.proofs.IdleFacts.{idle_stays}
 use Rattle.covering_laws.proofs.Owners.{AllKeepGifts, KeepsFinished, KeepsHeld, OwnersGo, StaysApart, WaysGo, held_here, holders_were, keeps_finished, old_kept, owners_kept, stays_apart}
 use Rattle.covering_laws.proofs.StepWays.{thrown_births, thrown_unowned, ways_by}
 use Rattle.value_laws.proofs.Counts.{thrown_count}
@@ -55,7 +60,7 @@ use Rattle.value_laws.specs.Chains.{HaveEnds}
 use Rattle.value_laws.specs.Holders.{HoldersAreUnlinked}
 use Rattle.covering_laws.proofs.StoreOwners.{thrown_below, thrown_owners_go, thrown_same}
 use Rattle.covering_laws.proofs.TopSteps.{IsLocalStep}
-use Rattle.covering_laws.proofs.Waiting.{AllHeldBefore, Carries, HoldsThere, KeepsFields, KeepsRoots, KeepsUnfinished, all_held_before, all_keep, all_ready, all_wait, but_texts, frames_ready, keeps_roots, linked_roots, new_root, no_other, old_as, ways_go_on}
+use Rattle.covering_laws.proofs.Waiting.{AllHeldBefore, Carries, HoldsThere, KeepsFields, KeepsRoots, KeepsUnfinished, all_held_before, all_keep, all_ready, all_wait, but_texts, frames_ready, keeps_roots, linked_roots, new_root, no_other, old_as, ways_go_on, this_was}
 use Rattle.covering_laws.proofs.LinkedExceptions.{LinkedWere}
 
 -- ---- the heap with an exception
@@ -97,6 +102,26 @@ null_promises p a edges.NonNull null = refl
 null_promises p a edges.True null = refl
 null_promises p a edges.False null = refl
 null_promises p a (edges.Throws t) null = rw null refl
+
+-- the target is not `this`, whose obligation it creates not anew
+not_on_this : (f : TargetForm) → is_other_form (Some f) ≡ true → is_this_form f ≡ false
+not_on_this target_forms.Other null = refl
+not_on_this target_forms.Static null = refl
+not_on_this target_forms.This null = absurd (true≢false (sym null))
+not_on_this target_forms.Super null = absurd (true≢false (sym null))
+
+null_resets_none : (p : Program) (a : Action) (e : Edge) → may_be_null_target p a e ≡ true → is_reset_of_this p a ≡ false
+null_resets_none p a edges.Go null = absurd (true≢false (sym null))
+null_resets_none p a edges.Null null = absurd (true≢false (sym null))
+null_resets_none p a edges.NonNull null = absurd (true≢false (sym null))
+null_resets_none p a edges.True null = absurd (true≢false (sym null))
+null_resets_none p a edges.False null = absurd (true≢false (sym null))
+null_resets_none p a (edges.Throws t) null = by a (and_parts (may_have_null_target a) (not (is_ignored p p.core.null_pointer_exception)) (and_parts (may_have_null_target a && not (is_ignored p p.core.null_pointer_exception)) (is_under p p.core.null_pointer_exception t) null).0).0
+  where
+    by : (b : Action) → may_have_null_target b ≡ true → is_reset_of_this p b ≡ false
+    by actions.Skip may = refl
+    by (actions.Call m d n form) may = ap (λ (z : Bool). z && resets_receiver (method_at p m)) (not_on_this form may)
+    by b may = refl
 
 -- so it gives no alias
 null_gives_none : (p : Program) (a : Action) (e : Edge) (held : PlaceSet) → may_be_null_target p a e ≡ true → gives_alias p a e held ≡ false
@@ -152,20 +177,20 @@ module _ (p : Program) (ac : Accept p) (forms : HasPlainForms p) (h : HeapConten
       ways = ways_by p None [] 1 h k have unlinked (thrown_unowned p (Some npe) h have.unfinished) (thrown_count p (Some npe) h) (thrown_carries p h links npe) (thrown_births p (Some npe) 1 h) no_other (thrown_unfinished p h links npe)
           (λ o never. absurd never) (λ w never. absurd (let no : None ≡ Some w = never in cc))
 
-  pub null_covered : HaveEnds h → HoldersAreUnlinked (is_heavy_class p) h → TextsAreLight p h → StoredHoldNone (is_text p h) p h → (frs : List Frame) → LocalsIn h (fr ∷ frs) → AreCovered p h (fr ∷ frs) → AreCovered p k (after ∷ frs)
-  null_covered have unlinked texts stored frs in' (old, is, covered, waits, below) = (
+  pub null_covered : HaveEnds h → HoldersAreUnlinked (is_heavy_class p) h → (frs : List Frame) → LocalsIn h (fr ∷ frs) → AreCovered p h (fr ∷ frs) → AreCovered p k (after ∷ frs)
+  null_covered have unlinked frs in' (old, is, covered, waits, below) = (
     old,
-    old_as p k old frs fr after refl refl (old_kept p h k old frs fr others (ways_go_on p None (fr ∷ frs) (length frs + 1) h k ways) is),
+    old_as p k old frs fr after refl refl (old_kept p h k old frs fr others (ways_go_on p None (fr ∷ frs) (length frs + 1) h k ways) is
+        (this_was p h k fr (keeps_roots p h k (thrown_roots p h links npe) fr there) there (all_ready p h k (thrown_unfinished p h links npe) fr) (thrown_carries p h links npe))),
     call_covered p ac h k links (thrown_carries p h links npe) (but_texts p h k (thrown_fields p h links npe)) fr st i s here local
         there (keeps_roots p h k (thrown_roots p h links npe) fr there) v call.row
-        old frs gives_none (λ o. false) (λ o c gives. absurd (true≢false (sym gives))) covered (all_ready p h k (thrown_unfinished p h links npe) fr)
+        old frs gives_none (λ o. false) (λ o c gives. absurd (true≢false (sym gives))) covered is (idle_stays p ac forms fr st s local (null_resets_none p s.action s.edge call.target) frs) (all_ready p h k (thrown_unfinished p h links npe) fr)
         others lasting
         (λ o x y before at done heavy kept mine. same_owner o x y before at ∙ mine)
-        (λ o x y c n before at root' other interest sure stays done goes heavy owes. absurd (no_object h (operand_of fr.locals s.action 0) o call.null root'))
-        (λ o x y c before at g more trusted sure stays done goes some owes names less was. none_kept c.fact.places names)
-        (λ o x c before some owes gives. absurd (true≢false (sym gives ∙ null_gives_none p s.action s.edge c.fact.places call.target)))
-        (left_out_bears p ac forms h k texts stored links (thrown_carries p h links npe) (but_texts p h k (thrown_fields p h links npe)) fr st i s here local there (keeps_roots p h k (thrown_roots p h links npe) fr there) v
-        old frs gives_none (λ o. false) covered (all_ready p h k (thrown_unfinished p h links npe) fr) others lasting)
+        (λ o x y c n before at root' other interest sure full stays done goes heavy owes. absurd (no_object h (operand_of fr.locals s.action 0) o call.null root'))
+        (λ o x y c before at g more trusted sure full stays done goes some owes names less was. none_kept c.fact.places names)
+        (λ o x c before some owes said gives. absurd (true≢false (sym gives ∙ null_gives_none p s.action s.edge c.fact.places call.target)))
+        (λ q o y small out root' now heavy owes. absurd (true≢false (sym out.0 ∙ null_resets_none p s.action s.edge call.target)))
         (λ q o y small local' none there is root' at heavy owes. inr (inl (made old frs q o y is root' at heavy))),
     all_wait p h k links (thrown_roots p h links npe) (thrown_carries p h links npe) (ways_go_on p None (fr ∷ frs) (length frs + 1) h k ways) old frs (all_keep p h k (thrown_fields p h links npe) frs)
         (all_there p h ranges frs (All-tail (λ (x : Frame). LocalsInRange h x.locals) fr frs in')) (frames_ready p h k (thrown_unfinished p h links npe) frs) gifts

@@ -2,7 +2,7 @@
 use Rattle.std.specs.List.{list_all}
 use Rattle.std.specs.FinSet as set
 use Rattle.std.proofs.Common.{◌≡◌, ◌⊎◌, inl, inr, ℕ, zero, suc, ◌+◌, ◌||◌, ◌&&◌, Bool, true, false, not, Option, Some, None, List, [], ◌∷◌, length, slice_get, refl, sym, ap, ◌∙◌, subst, true≢false, arith}
-use Rattle.std.proofs.lemmas.Bool.{and_from, and_parts, or_right}
+use Rattle.std.proofs.lemmas.Bool.{and_from, and_parts, or_left, or_right}
 use Rattle.rlc_base.proofs.SetLaws.{empty_within}
 use Rattle.program_model.specs.declared.kinds.ClassId.{ClassId}
 use Rattle.program_model.specs.declared.kinds.FieldId.{FieldId}
@@ -14,6 +14,8 @@ use Rattle.program_model.specs.declared.program.Program.{Program}
 use Rattle.program_model.specs.Lookups.{method_at}
 use Rattle.program_model.specs.Overrides.{is_type}
 use Rattle.java_control.specs.declared.action.Action.{Action}
+use Rattle.ledger_obligations.specs.Bodies.{alias_in, constructs, reset_in}
+use Rattle.ownership_rules.specs.Signatures.{is_present}
 use Rattle.ledger_obligations.specs.MustCallSets.{Names, is_empty, is_heavy_class, must_of, must_of_type, no_names}
 use Rattle.ledger_obligations.specs.OverrideCases.{differ}
 use Rattle.ledger_obligations.specs.Obligations.{is_library_owner, is_unmet}
@@ -22,6 +24,7 @@ use Rattle.ledger_state.specs.Heaps.{object_at}
 use Rattle.ledger_state.specs.declared.entry.Owner.TheVariants as owners
 use Rattle.ledger_state.specs.declared.locals.Locals.{Locals}
 use Rattle.ledger_state.specs.declared.object.Object.{Object}
+use Rattle.ledger_state.specs.declared.value.Value.TheVariants as values
 use Rattle.ledger_steps.specs.CallSteps.{began_heap}
 use Rattle.ledger_steps.specs.LedgerCallsCalls.{operand_of, params_in}
 use Rattle.value_laws.specs.Chains.{HaveEnds, IsLast}
@@ -30,7 +33,8 @@ use Rattle.value_laws.specs.FieldContents.{HaveContents, is_made_in}
 use Rattle.value_laws.specs.HeapAnew.{is_field_owner}
 use Rattle.value_laws.specs.Heaps.{HasEarlierLinks, IsGiven}
 use Rattle.value_laws.specs.Holders.{HasTop, HoldersAreUnlinked, IsWithin, UnfinishedAreUnowned, by_field, itself}
-use Rattle.value_laws.specs.PlaceFacts.{IsContentOfThis, IsHeavyObject, IsOld, OwnersBelow, RunsOn, is_frame_from, takes_nothing}
+use Rattle.value_laws.specs.PlaceFacts.{IsHeavyObject, IsInFieldBelow, IsOld, OwnersBelow, RunsOn, is_frame_from, is_settled, leaves_all, run_on_one, takes_nothing}
+use Rattle.value_laws.specs.Renewing.{lends_this, reopens}
 use Rattle.value_laws.specs.PlainForms.{RunsFor, is_lent_parameter}
 use Rattle.value_laws.proofs.Begun.{begun_from}
 use Rattle.value_laws.proofs.Chains.{IsOwnedAs, ends_on, object_there}
@@ -38,11 +42,14 @@ use Rattle.value_laws.proofs.Growth.{began_grows}
 use Rattle.value_laws.proofs.HeapLaws.{numbers_are_in_range}
 use Rattle.value_laws.proofs.OldObjects.{begins_old, old_now}
 use Rattle.value_laws.proofs.RootLaws.{one_object}
-use Rattle.value_laws.proofs.WaysUp.{top_is_last}
+use Rattle.value_laws.proofs.SettledFrames.{same_this}
+use Rattle.value_laws.proofs.WaysUp.{on_from_holder, top_is_last, within_goes_on}
 use Rattle.covering_laws.proofs.EntryBirths.{alike_parameter, class_type_is}
 use Rattle.covering_laws.proofs.GivenArguments.{heavy_by_fit}
+use Rattle.covering_laws.proofs.HeavyFields.{answers_by}
 use Rattle.covering_laws.proofs.OlderHolders.{makes_on}
-use Rattle.covering_laws.proofs.OwnerSteps.{movable}
+use Rattle.covering_laws.proofs.Owners.{no_frame_from}
+use Rattle.covering_laws.proofs.OwnerSteps.{movable, own_frame}
 use Rattle.covering_laws.proofs.StepWays.{start_unowned}
 
 module _ (p : Program) (l : Locals) (a : Action) (named : Option Method) (j : ℕ) (h : HeapContents) (links : HasEarlierLinks h) (have : HaveEnds h) where
@@ -69,7 +76,10 @@ module _ (p : Program) (l : Locals) (a : Action) (named : Option Method) (j : �
   abbrev pub old_then : List Frame → ℕ → Bool
   old_then stack = old_now begun start_ends (length stack + 1)
 
-  module _ (stack : List Frame) (unlinked : HoldersAreUnlinked (is_heavy_class p) h) (contents : HaveContents p stack h) where
+  module _ (caller : Frame) (frs : List Frame) (unlinked : HoldersAreUnlinked (is_heavy_class p) h) (contents : HaveContents p (caller ∷ frs) h) where
+    abbrev stack : List Frame
+    stack = caller ∷ frs
+
     -- what a field owns it owned
     held_before : (o : ℕ) (x : Object) (v : ℕ) (f : FieldId) → object_at begun o ≡ Some x → x.owner ≡ owners.Field v f → (z : Object) × (object_at h o ≡ Some z) × (z.owner ≡ owners.Field v f) × (z.class ≡ x.class)
     held_before o x v f at owns = elim (begun_from p l a named j h links o x at) [
@@ -193,9 +203,99 @@ module _ (p : Program) (l : Locals) (a : Action) (named : Option Method) (j : �
         ]
       ]
 
-    -- ---- what is old
+    -- ---- what ends elsewhere
 
-    pub starts_old : (n r : Method) → named ≡ Some n → RunsFor p n r → OwnersBelow h (length stack) → (fr : Frame) → method_at p fr.method ≡ Some r → IsOld p begun stack fr (old_then stack)
-    starts_old n r at_named fit low fr runs = begins_old p begun start_ends stack fr
-        (λ o e x at heavy top open'. runs_on_end o e x top.object top.within at heavy.1 heavy.0 top.at open')
-        (λ o e x at heavy content takes top. owned_below n r at_named fit (ap (takes_nothing p) (sym runs) ∙ takes) (length stack) low e top.object top.at (heavy_above o e x top.object top.within at heavy.1 top.at))
+    -- The caller owns what the call gives; and no frame from the caller on owns the end of its `this`, where the frame above may be settled by it.
+    module _ (gives : (n : ℕ) (x : Object) → object_at h n ≡ Some x → is_heavy_class p x.class ≡ true → IsGiven p (operand_of l a) 1 (params_in named) h n x → x.owner ≡ owners.Frame (length frs + 1))
+        (ends : (w : ℕ) (y : Object) → caller.locals.this ≡ values.Object w → object_at h w ≡ Some y → IsHeavyObject p y → y.link ≡ None → (e : ℕ) (top : HasTop h w e)
+        → (constructs (method_at p caller.method) || (reopens (method_at p caller.method) || is_settled p caller frs)) ≡ true → is_frame_from (length frs + 1) top.object.owner ≡ false) where
+      -- so it is when the call has begun
+      free_still : (w e : ℕ) (y z : Object) → caller.locals.this ≡ values.Object w → object_at begun w ≡ Some y → object_at h w ≡ Some z → IsHeavyObject p z → z.link ≡ None
+          → (constructs (method_at p caller.method) || (reopens (method_at p caller.method) || is_settled p caller frs)) ≡ true → is_heavy_class p y.class ≡ true → (top : HasTop begun w e) → is_frame_from (length stack + 1) top.object.owner ≡ false
+      free_still w e y z this at before wide none some heavy top = elim (begun_from p l a named j h links e top.object top.at) [
+        | inl new ↦ ap (is_frame_from (length stack + 1)) (unowned e top.object top.at new.unfinished)
+        | inr old ↦ elim old.owner [
+          | inl same ↦ ap (is_frame_from (length stack + 1)) same ∙ no_frame_from (length frs + 1) (length stack + 1) old.before.owner (omega arith) (free old.before old.at (sym (ap is_field_owner same) ∙ top.unheld))
+          | inr given ↦ (
+              let mine = gives e old.before old.at (ap (is_heavy_class p) (sym old.goes_on.class) ∙ heavy_above w e y top.object top.within at heavy top.at) given.1 in
+              absurd (true≢false (sym (own_frame (length frs + 1) old.before.owner mine) ∙ free old.before old.at (ap is_field_owner mine))))
+        ]
+      ]
+        where
+          was : IsWithin h w e
+          was = within_goes_on begun h w e (λ o x v f there owns. (let it = held_before o x v f there owns in (it.0, it.1, it.2))) top.within
+
+          free : (u : Object) → object_at h e ≡ Some u → is_field_owner u.owner ≡ false → is_frame_from (length frs + 1) u.owner ≡ false
+          free u there unheld = ends w z this before wide none e (record { within = was; object = u; at = there; unheld = unheld }) some
+
+      -- an object that is finished was so
+      was_ready : (w : ℕ) (y : Object) → object_at begun w ≡ Some y → y.finished ≡ true → (z : Object) × (object_at h w ≡ Some z) × (y.class ≡ z.class) × (y.link ≡ z.link) × (z.finished ≡ true)
+      was_ready w y at done = elim (begun_from p l a named j h links w y at) [
+        | inl new ↦ absurd (true≢false (sym done ∙ new.unfinished))
+        | inr old ↦ (old.before, old.at, old.goes_on.class, old.goes_on.link, sym old.goes_on.finished ∙ done)
+      ]
+
+      -- what a field of the caller's `this` owns
+      field_free : (o e : ℕ) (x : Object) → object_at begun o ≡ Some x → IsHeavyObject p x → IsInFieldBelow p stack x.owner → (top : HasTop begun o e) → is_frame_from (length stack + 1) top.object.owner ≡ false
+      field_free o e x at heavy (answers, keeps, own) top = by (on_from_holder begun o own.holder e own.field x at own.owns top.within)
+        where
+          holder : IsHolderNow own.holder
+          holder = holder_now o x own.holder own.field at heavy.1 own.owns
+
+          some : (constructs (method_at p caller.method) || (reopens (method_at p caller.method) || is_settled p caller frs)) ≡ true
+          some = elim (answers_by (method_at p caller.method) answers) [
+            | inl alone ↦ or_left (constructs (method_at p caller.method)) (reopens (method_at p caller.method) || is_settled p caller frs)
+                (and_parts (constructs (method_at p caller.method)) (not (is_present (alias_in (method_at p caller.method)))) alone).0
+            | inr opens ↦ or_right (constructs (method_at p caller.method)) (reopens (method_at p caller.method) || is_settled p caller frs) (or_left (reopens (method_at p caller.method)) (is_settled p caller frs) opens)
+          ]
+
+          single : (z : Object) → object_at h own.holder ≡ Some z → z.link ≡ None
+          single z before =
+              let was = held_before o x own.holder own.field at own.owns in
+              let w = unlinked o was.0 own.holder own.field was.1 (ap (is_heavy_class p) was.3 ∙ heavy.1) was.2 in
+              ap (λ (u : Object). u.link) (one_object z w.0 (object_at h own.holder) before w.1) ∙ w.2
+
+          at_holder : IsWithin begun own.holder e → is_frame_from (length stack + 1) top.object.owner ≡ false
+          at_holder up = elim holder.ready [
+            | inl ready ↦ (
+                let z = was_ready own.holder holder.object holder.at ready in
+                free_still own.holder e holder.object z.0 own.runs holder.at z.1 (z.4, ap (is_heavy_class p) (sym z.2) ∙ holder.heavy) (single z.0 z.1) some holder.heavy
+                (record { within = up; object = top.object; at = top.at; unheld = top.unheld }))
+            | inr open' ↦ (
+                let nobody = unowned own.holder holder.object holder.at open'.0 in
+                let same = top_is_last begun own.holder e holder.object holder.at (ap is_field_owner nobody) up in
+                ap (λ (u : Object). is_frame_from (length stack + 1) u.owner) (one_object top.object holder.object (object_at begun e) top.at (ap (object_at begun) (sym same) ∙ holder.at)) ∙ ap (is_frame_from (length stack + 1)) nobody)
+          ]
+
+          by : (o ≡ e) ⊎ IsWithin begun own.holder e → is_frame_from (length stack + 1) top.object.owner ≡ false
+          by (inl same) = absurd (true≢false (
+              sym (ap is_field_owner own.owns) ∙ ap (λ (u : Object). is_field_owner u.owner) (one_object x top.object (object_at begun e) (ap (object_at begun) (sym same) ∙ at) top.at) ∙ top.unheld))
+          by (inr up) = at_holder up
+
+      -- ---- what is old
+
+      module _ (n r : Method) (at_named : named ≡ Some n) (fit : RunsFor p n r) (low : OwnersBelow h (length stack)) (fr : Frame) (runs : method_at p fr.method ≡ Some r) where
+        takes_by : leaves_all p (method_at p fr.method) ≡ true → takes_nothing p (Some r) ≡ true
+        takes_by leaves =
+            let both = and_parts (not (constructs (method_at p fr.method)) && takes_nothing p (method_at p fr.method)) (not (is_present (reset_in (method_at p fr.method)))) leaves in
+            ap (takes_nothing p) (sym runs) ∙ (and_parts (not (constructs (method_at p fr.method))) (takes_nothing p (method_at p fr.method)) both.0).1
+
+        self_free : (w e : ℕ) (y : Object) → fr.locals.this ≡ values.Object w → object_at begun w ≡ Some y → IsHeavyObject p y → y.link ≡ None → is_settled p fr stack ≡ true → (top : HasTop begun w e) → is_frame_from (length stack + 1) top.object.owner ≡ false
+        self_free w e y this at heavy none settled top = go (leaves_all p (method_at p fr.method)) refl settled
+          where
+            go : (b : Bool) → leaves_all p (method_at p fr.method) ≡ b
+                → (b || run_on_one fr caller && not (lends_this p caller) && (constructs (method_at p caller.method) || (reopens (method_at p caller.method) || is_settled p caller frs))) ≡ true
+                → is_frame_from (length stack + 1) top.object.owner ≡ false
+            go true leaves some = owned_below n r at_named fit (takes_by leaves) (length stack) low e top.object top.at (heavy_above w e y top.object top.within at heavy.1 top.at)
+            go false other some =
+                let both = and_parts (run_on_one fr caller && not (lends_this p caller)) (constructs (method_at p caller.method) || (reopens (method_at p caller.method) || is_settled p caller frs)) some in
+                let one = (and_parts (run_on_one fr caller) (not (lends_this p caller)) both.0).0 in
+                let z = was_ready w y at heavy.0 in
+                free_still w e y z.0 (same_this fr caller w one this) at z.1 (z.4, ap (is_heavy_class p) (sym z.2) ∙ heavy.1) (sym z.3 ∙ none) both.1 heavy.1 top
+
+        pub starts_old : IsOld p begun stack fr (old_then stack)
+        starts_old = begins_old p begun start_ends stack fr
+            (λ o e x at heavy top open'. runs_on_end o e x top.object top.within at heavy.1 heavy.0 top.at open')
+            (λ o e x at heavy field top. field_free o e x at heavy field top)
+            (λ o e x at heavy content leaves top. owned_below n r at_named fit (takes_by leaves) (length stack) low e top.object top.at (heavy_above o e x top.object top.within at heavy.1 top.at))
+            (λ w e y this at heavy none settled top. self_free w e y this at heavy none settled top)

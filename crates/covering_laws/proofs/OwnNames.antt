@@ -49,6 +49,7 @@ use Rattle.value_laws.specs.FieldContents.{IsDispatched, is_chosen_by_class, pro
 use Rattle.value_laws.specs.PlaceFacts.{IsCovered, gives_none, OwesOrHolds, renews_none}
 use Rattle.value_laws.proofs.Names.{of_interest}
 use Rattle.covering_laws.proofs.CoveredFieldLaws.{promises_are_kept_at_end}
+use Rattle.covering_laws.proofs.SaidFacts.{finalizer_keeps}
 use Rattle.covering_laws.proofs.OwnMethods.{IsOwn, own, own_class, own_must, own_runs, promised_own}
 
 -- a note is made of a call alone whose method the class of the target chooses
@@ -112,7 +113,7 @@ module _ (p : Program) (ac : Accept p) (forms' : HasPlainForms p) (h : HeapConte
     }
 
     name_called : set.contains y.called name.0 ≡ true
-    name_called = within_at (promised_on f d) y.called (promises_are_kept_at_end p ac h (caller ∷ rest) fr st old covered i s q d f k o y there is method no_constructor place (inr finalizer) holds spared done) name.0
+    name_called = within_at (promised_on f d) y.called (promises_are_kept_at_end p ac h (caller ∷ rest) fr st old covered i s q d f k o y there is method no_constructor place (inr finalizer) holds spared (finalizer_keeps p ac (caller ∷ rest) fr its.number d name its.at its.interest method) done) name.0
         (ap (λ (us : List Promise). set.contains (promised_names (λ u. is_of_field u f) us) name.0) (sym its.promises) ∙ promised_own p ac forms' x.class f field declared owning calls name one)
 
   -- a name that the link of the receiver stops was called on its root

@@ -97,21 +97,13 @@ IsFree o = (is_frame_from 0 o ≡ false) × ((w : ℕ) → is_held_by o w ≡ fa
 pub given_up_free : (x y : Object) → y ≡ given_up x → IsFree y.owner
 given_up_free x y is = (ap (λ (z : Object). is_frame_from 0 z.owner) is ∙ given_up_unowned x, λ w. ap (λ (z : Object). is_held_by z.owner w) is ∙ given_up_unheld x w)
 
-field_free : (o : Owner) → is_field_owner o ≡ true → is_frame_from 0 o ≡ false
-field_free (owners.Field w f) is = refl
-field_free (owners.Frame j) is = absurd (true≢false (sym is))
-field_free owners.Library is = absurd (true≢false (sym is))
-field_free owners.Released is = absurd (true≢false (sym is))
-field_free owners.Lost is = absurd (true≢false (sym is))
-field_free owners.Unowned is = absurd (true≢false (sym is))
-
 -- a frame gives up what it owned
 pub ended_goes : (h : HeapContents) (into : Option ℕ) (below : List Frame) (j : ℕ) (a b : Owner) → is_frame a j ≡ true → IsFree b → OwnerGoes h into below j a b
 ended_goes h into below j a b is free = passed (own_frame j a (frame_is a j is)) (λ w held. absurd (true≢false (sym held ∙ free.1 w))) (λ n same. absurd (true≢false (sym (ap (is_frame_from 0) same ∙ from_frame 0 n (omega arith)) ∙ free.0)))
 
 -- and a field of an object that is not finished, on which none of the frames below runs
 pub gave_up : (h : HeapContents) (into : Option ℕ) (below : List Frame) (j : ℕ) (a b : Owner) → is_field_owner a ≡ true → IsFree b → ((w : ℕ) → is_held_by a w ≡ true → IsNewTo h below w) → OwnerGoes h into below j a b
-gave_up h into below j a b field free others = left (field_free a field) free.0 free.1 others
+gave_up h into below j a b field free others = left field free.0 free.1 others
 
 -- ---- frames below a position
 

@@ -1,18 +1,20 @@
 -- Who owns objects as a step goes, and what the frames were given.
 use Rattle.std.specs.Prelude.{nat_lt}
 use Rattle.std.proofs.Common.{◌≡◌, ◌⊎◌, eq-eqb, ℕ, ◌+◌, ◌<◌, ◌≤◌, Bool, true, false, not, ◌&&◌, ◌||◌, Option, Some, None, List, [], ◌∷◌, length, lt-ltb, ltb-true, refl, sym, ap, ◌∙◌, subst, inl, inr, true≢false, arith}
+use Rattle.std.proofs.lemmas.Bool.{and_parts, not-true}
 use Rattle.std.proofs.lemmas.Bool.Decides.{nat_tests}
 use Rattle.program_model.specs.declared.kinds.ClassId.{ClassId}
 use Rattle.program_model.specs.declared.kinds.FieldId.{FieldId}
+use Rattle.program_model.specs.declared.program.Method.{Method}
 use Rattle.program_model.specs.declared.program.Program.{Program}
 use Rattle.program_model.specs.Lookups.{method_at}
-use Rattle.ledger_obligations.specs.Bodies.{constructs}
+use Rattle.ledger_obligations.specs.Bodies.{constructs, reset_in}
 use Rattle.ledger_obligations.specs.MustCallSets.{is_heavy_class}
+use Rattle.ownership_rules.specs.Signatures.{is_present}
 use Rattle.java_control.specs.PlaceNumbers.{IsSmall}
 use Rattle.java_control.specs.declared.fact.Fact.{Fact}
 use Rattle.java_control.specs.declared.place.Place.{Place}
 use Rattle.java_control.specs.declared.place.Place.TheVariants as places
-use Rattle.ownership_rules.specs.Facts.{is_held}
 use Rattle.ledger_state.specs.Contents.{HeapContents}
 use Rattle.ledger_state.specs.Heaps.{object_at, root_of}
 use Rattle.ledger_state.specs.declared.entry.Owner.{Owner}
@@ -27,10 +29,10 @@ use Rattle.value_laws.specs.FieldContents.{RunOnOthers}
 use Rattle.value_laws.specs.Chains.{HaveEnds}
 use Rattle.value_laws.specs.HeapAnew.{is_field_owner}
 use Rattle.value_laws.specs.Holders.{HoldersAreUnlinked}
-use Rattle.value_laws.specs.PlaceFacts.{EndsBelow, EndsStrictly, IsApart, IsHeavyObject, IsOld, IsSpared, IsHolder, RunsOn, is_frame_below, is_frame_from, is_given}
-use Rattle.value_laws.specs.Renewing.{IsLentFrom, IsOwnedByThis, is_field_of, is_renewed, makes_alone, was_renewed}
+use Rattle.value_laws.specs.PlaceFacts.{EndsBelow, IsAnswered, IsApart, IsHeavyObject, IsHolder, IsInFieldBelow, IsOld, IsOwnedBelow, IsSpared, MayStore, RunsOn, is_frame_below, is_frame_from, is_given, is_given_up, is_idle, leaves_all, takes_nothing}
+use Rattle.value_laws.specs.Renewing.{IsLentFrom, IsOwnedByThis, answers_for_fields, is_field_of, is_renewed, lends_this, was_renewed}
 use Rattle.value_laws.proofs.RootLaws.{one_object}
-use Rattle.value_laws.proofs.WaysOverSteps.{KeepsWays, comparable_still, ends_below_still, strict_before, unmade_unheld}
+use Rattle.value_laws.proofs.WaysOverSteps.{KeepsWays, answered_before, below_before, comparable_still, ends_below_still, unmade_unheld}
 use Rattle.value_laws.proofs.WaysUp.{top_is_last}
 
 -- ---- the owner of an object, before a step and after it
@@ -39,12 +41,12 @@ use Rattle.value_laws.proofs.WaysUp.{top_is_last}
 abbrev pub IsNewTo : HeapContents → List Frame → ℕ → Type 0
 IsNewTo h frs w = RunOnOthers w frs × ((z : Object) → object_at h w ≡ Some z → z.finished ≡ false)
 
--- The owner stays. Or it was a frame at position `j` or above, and where a field owns the object then, it is one of object `into`. Or it was no frame,
--- and then neither a frame nor a field owns the object; where it was a field, the field's object is not finished, and none of the frames `below` runs on it.
+-- The owner stays. Or it was a frame at position `j` or above, and where a field owns the object then, it is one of object `into`. Or it was a field,
+-- and then neither a frame nor a field owns the object; the field's object is not finished, and none of the frames `below` runs on it.
 pub data OwnerGoes (h : HeapContents) (into : Option ℕ) (below : List Frame) (j : ℕ) (a b : Owner) : Type 0 where
   stays : b ≡ a → OwnerGoes h into below j a b
   passed : is_frame_from j a ≡ true → ((w : ℕ) → is_held_by b w ≡ true → into ≡ Some w) → ((n : ℕ) → b ≡ owners.Frame n → j ≤ n) → OwnerGoes h into below j a b
-  left : is_frame_from 0 a ≡ false → is_frame_from 0 b ≡ false → ((w : ℕ) → is_held_by b w ≡ false) → ((w : ℕ) → is_held_by a w ≡ true → IsNewTo h below w) → OwnerGoes h into below j a b
+  left : is_field_owner a ≡ true → is_frame_from 0 b ≡ false → ((w : ℕ) → is_held_by b w ≡ false) → ((w : ℕ) → is_held_by a w ≡ true → IsNewTo h below w) → OwnerGoes h into below j a b
 
 -- so do the owners of all finished objects whose class has an obligation
 abbrev pub OwnersGo : Program → Option ℕ → List Frame → ℕ → HeapContents → HeapContents → Type 0
@@ -63,9 +65,9 @@ keeps_finished h k goes n done = by (object_at h n) refl done
 
 -- ---- what fields own
 
--- what a field of an object, but for one that was not finished, owns after a step, a field of it owned before
+-- what a field of an object, but for one that was not finished, owns after a step, a field of it owned before, or its methods may store into it
 abbrev pub HoldersWere : Program → HeapContents → HeapContents → Type 0
-HoldersWere p h k = (w : ℕ) → ((z : Object) → object_at h w ≡ Some z → z.finished ≡ true) → IsHolder p k w → IsHolder p h w
+HoldersWere p h k = (w : ℕ) → ((z : Object) → object_at h w ≡ Some z → z.finished ≡ true) → IsHolder p k w → IsHolder p h w ⊎ ((z : Object) → object_at h w ≡ Some z → MayStore p z.class)
 
 -- what a field of an object owns it owned
 abbrev pub HoldersStay : Program → HeapContents → HeapContents → Type 0
@@ -97,28 +99,25 @@ is_field_place (places.Temp d) = false
 is_field_place places.Super = false
 
 -- What is not owned by the frame above these or one above it does not come to be, nor does what no frame owns, nor does a field of `this`, in a frame
--- that runs no constructor, come to own anything; what is lent to the frame keeps its owner, and is lent; what ends below this frame does so still, what does so
--- strictly did so, and what was made or finished by the step no field owns, nor a frame below; what is spared was so; and what fields own is as said above.
+-- that leaves all as it is, come to own anything; what is lent to the frame keeps its owner, and is lent; what ends below this frame does so still, what is
+-- owned below was so, and what was made or finished by the step no field owns, nor a frame below; what is spared, and was not given up, was so; and what fields own is as said above.
 pub record StaysApart (p : Program) (h k : HeapContents) (frs : List Frame) (fr : Frame) : Type 0 where
   pub apart : (o : ℕ) (x y : Object) → object_at h o ≡ Some x → object_at k o ≡ Some y → x.finished ≡ true → is_heavy_class p x.class ≡ true → is_frame_from (length frs + 1) x.owner ≡ false → is_frame_from (length frs + 1) y.owner ≡ false
   pub free : (o : ℕ) (x y : Object) → object_at h o ≡ Some x → object_at k o ≡ Some y → x.finished ≡ true → is_heavy_class p x.class ≡ true → is_frame_from 0 x.owner ≡ false → is_frame_from 0 y.owner ≡ false
-  pub content : (o : ℕ) (x y : Object) (w : ℕ) (f : FieldId) → object_at h o ≡ Some x → object_at k o ≡ Some y → x.finished ≡ true → is_heavy_class p x.class ≡ true → constructs (method_at p fr.method) ≡ false
+  pub content : (o : ℕ) (x y : Object) (w : ℕ) (f : FieldId) → object_at h o ≡ Some x → object_at k o ≡ Some y → x.finished ≡ true → is_heavy_class p x.class ≡ true → leaves_all p (method_at p fr.method) ≡ true
       → fr.locals.this ≡ values.Object w → y.owner ≡ owners.Field w f → x.owner ≡ owners.Field w f
   pub keeps : (o : ℕ) (x y : Object) → object_at h o ≡ Some x → object_at k o ≡ Some y → x.finished ≡ true → is_heavy_class p x.class ≡ true → IsLentFrom p h frs o x.owner → (y.owner ≡ x.owner) × IsLentFrom p k frs o y.owner
   pub ends : (o : ℕ) (x : Object) → object_at h o ≡ Some x → is_heavy_class p x.class ≡ true → EndsBelow h frs o → EndsBelow k frs o
-  pub strict : (o : ℕ) (x : Object) → object_at h o ≡ Some x → IsHeavyObject p x → EndsStrictly k frs o → EndsStrictly h frs o
+  pub below : (o : ℕ) (x y : Object) → object_at h o ≡ Some x → object_at k o ≡ Some y → IsHeavyObject p x → IsOwnedBelow p frs y.owner → IsOwnedBelow p frs x.owner
   pub late : (o : ℕ) (y : Object) → object_at k o ≡ Some y → ((x : Object) → object_at h o ≡ Some x → x.finished ≡ true → ⊥) → (is_field_owner y.owner ≡ false) × (is_frame_below (length frs + 1) y.owner ≡ false)
-  pub spared : (o : ℕ) (x : Object) → object_at h o ≡ Some x → IsHeavyObject p x → IsSpared p k frs o → IsSpared p h frs o
+  pub spared : (o : ℕ) (x : Object) → object_at h o ≡ Some x → IsHeavyObject p x → EndsBelow h frs o → IsAnswered k o → IsSpared p k frs o → IsSpared p h frs o
+  pub answered : (o : ℕ) (x : Object) → object_at h o ≡ Some x → is_heavy_class p x.class ≡ true → IsAnswered k o → IsAnswered h o
   pub holders : HoldersWere p h k
 
--- what an owning field of `this` owns it goes on owning, where the frame runs a constructor without an aliased argument
+-- what an owning field of `this` owns it goes on owning, where the frame answers for it, and does not lend `this`
 abbrev pub KeepsHeld : Program → HeapContents → HeapContents → Frame → Type 0
-KeepsHeld p h k fr = (o : ℕ) (x y : Object) → object_at h o ≡ Some x → object_at k o ≡ Some y → x.finished ≡ true → is_heavy_class p x.class ≡ true → makes_alone (method_at p fr.method) ≡ true → IsOwnedByThis p fr x.owner
+KeepsHeld p h k fr = (o : ℕ) (x y : Object) → object_at h o ≡ Some x → object_at k o ≡ Some y → x.finished ≡ true → is_heavy_class p x.class ≡ true → answers_for_fields (method_at p fr.method) ≡ true → lends_this p fr ≡ false → IsOwnedByThis p fr x.owner
     → y.owner ≡ x.owner
-
--- a field of `this` owns what it owned, and nothing else
-abbrev pub KeepsContents : Program → HeapContents → HeapContents → Frame → Type 0
-KeepsContents p h k fr = (o : ℕ) (x y : Object) → object_at h o ≡ Some x → object_at k o ≡ Some y → is_heavy_class p x.class ≡ true → is_field_of fr.locals.this y.owner ≡ is_field_of fr.locals.this x.owner
 
 -- what the frame at this position owns, and a variable, a temp or `this` of it holds, it goes on owning, where it is not given away
 abbrev pub KeepsOwn : Program → HeapContents → HeapContents → (ℕ → ClassId → Bool) → ℕ → Frame → Type 0
@@ -129,7 +128,6 @@ pub record KeepsOwners (p : Program) (h k : HeapContents) (gives : ℕ → Class
   pub own : KeepsOwn p h k gives (length frs + 1) fr
   pub others : StaysApart p h k frs fr
   pub held : KeepsHeld p h k fr
-  pub reread : KeepsContents p h k fr
 
 abbrev pub AllKeepOwners : Program → HeapContents → HeapContents → List Frame → Type 0
 AllKeepOwners p h k [] = Unit {0}
@@ -154,6 +152,27 @@ from_frame j i above = go (nat_lt i j) refl
     go : (b : Bool) → nat_lt i j ≡ b → not b ≡ true
     go true e = absurd (grind (arith, nat_tests, e, above))
     go false e = refl
+
+-- what is given up no frame owns, nor a field
+given_up_free : (j : ℕ) (a : Owner) → is_given_up a ≡ true → is_frame_from j a ≡ false
+given_up_free j owners.Released is = refl
+given_up_free j owners.Lost is = refl
+given_up_free j (owners.Frame i) is = absurd (true≢false (sym is))
+given_up_free j (owners.Field w f) is = absurd (true≢false (sym is))
+given_up_free j owners.Library is = absurd (true≢false (sym is))
+given_up_free j owners.Unowned is = absurd (true≢false (sym is))
+
+given_up_unheld : (a : Owner) → is_given_up a ≡ true → is_field_owner a ≡ false
+given_up_unheld owners.Released is = refl
+given_up_unheld owners.Lost is = refl
+given_up_unheld (owners.Frame i) is = absurd (true≢false (sym is))
+given_up_unheld (owners.Field w f) is = absurd (true≢false (sym is))
+given_up_unheld owners.Library is = absurd (true≢false (sym is))
+given_up_unheld owners.Unowned is = absurd (true≢false (sym is))
+
+-- a method that leaves all as it is is no constructor
+leaves_no_constructor : (p : Program) (m : Option Method) → leaves_all p m ≡ true → constructs m ≡ false
+leaves_no_constructor p m leaves = not-true (constructs m) (and_parts (not (constructs m)) (takes_nothing p m) (and_parts (not (constructs m) && takes_nothing p m) (not (is_present (reset_in m))) leaves).0).0
 
 -- what a frame from a position on owns, one from a lower position on does
 pub frame_from_lower : (i j : ℕ) (a : Owner) → i ≤ j → is_frame_from j a ≡ true → is_frame_from i a ≡ true
@@ -264,8 +283,8 @@ none_on (Some u) fr frs others = ((λ w is this. others.0 (this ∙ ap values.Ob
 
 module _ (p : Program) (into : Option ℕ) (leaving : List Frame) (j : ℕ) (h k : HeapContents) (ways : WaysGo p into leaving j h k) (go_on : OwnersGo p into leaving j h k) where
   -- what a field owns, but one of an object that was not finished, it owned
-  pub holders_were : HoldersWere p h k
-  holders_were w ready (c, y, now, done, heavy, held) = go (object_at h c) refl
+  holder_before : (w : ℕ) → ((z : Object) → object_at h w ≡ Some z → z.finished ≡ true) → IsHolder p k w → IsHolder p h w
+  holder_before w ready (c, y, now, done, heavy, held) = go (object_at h c) refl
     where
       unheld : is_field_owner y.owner ≡ false → ⊥
       unheld none = true≢false (sym (held_field y.owner held) ∙ none)
@@ -297,6 +316,9 @@ module _ (p : Program) (into : Option ℕ) (leaving : List Frame) (j : ℕ) (h k
       go None before = absurd (unheld (ways.fresh c y before now).0)
       go (Some x) before = old_one x before x.finished refl
 
+  pub holders_were : HoldersWere p h k
+  holders_were w ready holds = inl (holder_before w ready holds)
+
   -- what no frame from a position on owns stays so
   apart_by : (i : ℕ) (a b : Owner) → i ≤ j → OwnerGoes h into leaving j a b → is_frame_from i a ≡ false → is_frame_from i b ≡ false
   apart_by i a b below (stays same) none = ap (is_frame_from i) same ∙ none
@@ -314,7 +336,7 @@ module _ (p : Program) (into : Option ℕ) (leaving : List Frame) (j : ℕ) (h k
       by : (a b : Owner) → OwnerGoes h into leaving j a b → (n : ℕ) × (a ≡ owners.Frame n) × (n < length frs + 1) → b ≡ a
       by a b (stays same) (n, is, less) = same
       by a b (passed from goes low') (n, is, less) = absurd (owned_below n j a is (omega (arith, below, less)) from)
-      by a b (left none then' fields others) (n, is, less) = absurd (true≢false (sym (ap (is_frame_from 0) is ∙ from_frame 0 n (omega arith)) ∙ none))
+      by a b (left none then' fields others) (n, is, less) = absurd (true≢false (sym none ∙ ap is_field_owner is))
 
       of_field : (a b : Owner) → OwnerGoes h into leaving j a b → (w : ℕ) → is_held_by a w ≡ true → RunsOn w frs → b ≡ a
       of_field a b (stays same) w held runs = same
@@ -356,8 +378,14 @@ module _ (p : Program) (into : Option ℕ) (leaving : List Frame) (j : ℕ) (h k
     low = λ o x y before at heavy low. by_low x.owner y.owner (go_on o x y before at heavy.0 heavy.1) (frame_below (length frs + 1) y.owner low);
     unmade = λ o x y before at open'. elim (ways.unmade o x y before at open') [ inl still ↦ inl still | inr away ↦ inr (away.0, away.1, away.2 (length frs + 1) below) ];
     new = λ o x y w f before at heavy owned. by_new x.owner y.owner w f (go_on o x y before at heavy.0 heavy.1) owned;
+    gone = λ o x y before at heavy gone. by_gone x.owner y.owner (go_on o x y before at heavy.0 heavy.1) gone;
   }
     where
+      by_gone : (a b : Owner) → OwnerGoes h into leaving j a b → is_given_up a ≡ true → is_given_up b ≡ true
+      by_gone a b (stays same) gone = ap is_given_up same ∙ gone
+      by_gone a b (passed from goes low) gone = absurd (true≢false (sym from ∙ given_up_free j a gone))
+      by_gone a b (left field then' fields others) gone = absurd (true≢false (sym field ∙ given_up_unheld a gone))
+
       by_field' : (a b : Owner) (w : ℕ) (f : FieldId) → OwnerGoes h into leaving j a b → a ≡ owners.Field w f → (b ≡ owners.Field w f) ⊎ IsNewTo h leaving w
       by_field' a b w f (stays same) owned = inl (same ∙ owned)
       by_field' a b w f (passed from goes low) owned = absurd (true≢false (sym from ∙ ap (is_frame_from j) owned))
@@ -405,46 +433,12 @@ module _ (p : Program) (into : Option ℕ) (leaving : List Frame) (j : ℕ) (h k
 
     -- what a field of `this` owns stays so
     pub held_here : ((w : ℕ) → RunOnOthers w leaving → fr.locals.this ≡ values.Object w → ⊥) → KeepsHeld p h k fr
-    held_here spared o x y before at done heavy alone own = by x.owner y.owner (go_on o x y before at done heavy) own.holder (held_at x.owner own.holder own.field own.owns) own.runs
+    held_here spared o x y before at done heavy answers keeps own = by x.owner y.owner (go_on o x y before at done heavy) own.holder (held_at x.owner own.holder own.field own.owns) own.runs
       where
         by : (a b : Owner) → OwnerGoes h into leaving j a b → (w : ℕ) → is_held_by a w ≡ true → fr.locals.this ≡ values.Object w → b ≡ a
         by a b (stays same) w held runs = same
         by a b (passed from goes low) w held runs = absurd (true≢false (sym from ∙ held_no_frame j a w held))
         by a b (left none then' fields others) w held runs = absurd (spared w (others w held).0 runs)
-
-    -- a field of `this` owns what it owned
-    pub contents_here : IsNotInto into fr.locals.this → RunsNoneOn into frs → ((w : ℕ) → RunOnOthers w leaving → fr.locals.this ≡ values.Object w → ⊥) → ((w : ℕ) → RunOnOthers w leaving → RunOnOthers w frs) → KeepsContents p h k fr
-    contents_here other nowhere spared others o x y before at heavy = by_done x.finished refl
-      where
-        unowned : (v : Value) (a : Owner) → is_field_owner a ≡ false → is_field_of v a ≡ false
-        unowned (values.Object w) (owners.Field u f) none = absurd (true≢false none)
-        unowned (values.Object w) (owners.Frame i) none = refl
-        unowned (values.Object w) owners.Library none = refl
-        unowned (values.Object w) owners.Released none = refl
-        unowned (values.Object w) owners.Lost none = refl
-        unowned (values.Object w) owners.Unowned none = refl
-        unowned v a none = refl
-
-        none_of : (v : Value) → fr.locals.this ≡ v → (a : Owner) → ((w : ℕ) → is_held_by a w ≡ true → fr.locals.this ≡ values.Object w → ⊥) → is_field_of v a ≡ false
-        none_of (values.Object w) this a none = go (is_held_by a w) refl
-          where
-            go : (b : Bool) → is_held_by a w ≡ b → is_held_by a w ≡ false
-            go true is = absurd (none w is this)
-            go false is = is
-        none_of v this a none = refl
-
-        by : (a b : Owner) → OwnerGoes h into leaving j a b → is_field_of fr.locals.this b ≡ is_field_of fr.locals.this a
-        by a b (stays same) = ap (is_field_of fr.locals.this) same
-        by a b (passed from goes low) =
-            none_of fr.locals.this refl b (λ w held this. other w (goes w held) this) ∙ sym (none_of fr.locals.this refl a (λ w held this. true≢false (sym from ∙ held_no_frame j a w held)))
-        by a b (left none then' fields news) =
-            none_of fr.locals.this refl b (λ w held this. true≢false (sym held ∙ fields w)) ∙ sym (none_of fr.locals.this refl a (λ w held this. spared w (news w held).0 this))
-
-        by_done : (c : Bool) → x.finished ≡ c → is_field_of fr.locals.this y.owner ≡ is_field_of fr.locals.this x.owner
-        by_done true done = by x.owner y.owner (go_on o x y before at done heavy)
-        by_done false open' =
-            unowned fr.locals.this y.owner (unmade_unheld p h k ways.have ways.unlinked frs (λ w. RunOnOthers w leaving) (ways_kept frs below nowhere others) o x y before at open')
-            ∙ sym (unowned fr.locals.this x.owner (ap is_field_owner (ways.have.unfinished o x before open')))
 
     module _ (nowhere : RunsNoneOn into frs) (spared : (w : ℕ) → RunOnOthers w leaving → RunOnOthers w frs) where
       keeps_lent : (o : ℕ) (x y : Object) → object_at h o ≡ Some x → object_at k o ≡ Some y → x.finished ≡ true → is_heavy_class p x.class ≡ true → IsLentFrom p h frs o x.owner → (y.owner ≡ x.owner) × IsLentFrom p k frs o y.owner
@@ -467,7 +461,7 @@ module _ (p : Program) (into : Option ℕ) (leaving : List Frame) (j : ℕ) (h k
           go None before = let made = ways.fresh o y before at in (made.0, made.1 (length frs + 1) below)
           go (Some x) before = old_one x before x.finished refl
 
-      apart_as : ((o : ℕ) (x y : Object) (w : ℕ) (f : FieldId) → object_at h o ≡ Some x → object_at k o ≡ Some y → x.finished ≡ true → is_heavy_class p x.class ≡ true → constructs (method_at p fr.method) ≡ false
+      apart_as : ((o : ℕ) (x y : Object) (w : ℕ) (f : FieldId) → object_at h o ≡ Some x → object_at k o ≡ Some y → x.finished ≡ true → is_heavy_class p x.class ≡ true → leaves_all p (method_at p fr.method) ≡ true
           → fr.locals.this ≡ values.Object w → y.owner ≡ owners.Field w f → x.owner ≡ owners.Field w f) → StaysApart p h k frs fr
       apart_as content = record {
         apart = apart_here (length frs + 1) (omega arith);
@@ -475,9 +469,10 @@ module _ (p : Program) (into : Option ℕ) (leaving : List Frame) (j : ℕ) (h k
         content = content;
         keeps = keeps_lent;
         ends = λ o x at heavy ends'. ends_below_still p h k ways.have ways.unlinked frs (λ w. RunOnOthers w leaving) (ways_kept frs below nowhere spared) o x at heavy ends';
-        strict = λ o x at heavy ends'. strict_before p h k ways.have ways.unlinked frs (λ w. RunOnOthers w leaving) (ways_kept frs below nowhere spared) o x at heavy ends';
+        below = λ o x y before at heavy owned. below_before p h k ways.have ways.unlinked frs (λ w. RunOnOthers w leaving) (ways_kept frs below nowhere spared) o x y before at heavy owned;
         late = λ o y at none. late_here o y at none;
-        spared = λ o x at heavy is. spared_then frs below nowhere spared gifts o x at heavy is;
+        spared = λ o x at heavy ends' answered is. spared_then frs below nowhere spared gifts o x at heavy is;
+        answered = λ o x at heavy answers. answered_before p h k ways.have ways.unlinked frs (λ w. RunOnOthers w leaving) (ways_kept frs below nowhere spared) o x at heavy answers;
         holders = holders_were;
       }
 
@@ -492,7 +487,7 @@ module _ (p : Program) (into : Option ℕ) (leaving : List Frame) (j : ℕ) (h k
 
       -- so does one that runs a constructor
       pub constructor_apart : constructs (method_at p fr.method) ≡ true → StaysApart p h k frs fr
-      constructor_apart makes = apart_as (λ o x y w f before at done heavy plain this owned. absurd (true≢false (sym makes ∙ plain)))
+      constructor_apart makes = apart_as (λ o x y w f before at done heavy leaves this owned. absurd (true≢false (sym makes ∙ leaves_no_constructor p (method_at p fr.method) leaves)))
 
   -- a frame below it keeps what it owns
   pub keeps_own : (gives : ℕ → ClassId → Bool) (i : ℕ) (fr : Frame) → i < j → KeepsOwn p h k gives i fr
@@ -501,7 +496,7 @@ module _ (p : Program) (into : Option ℕ) (leaving : List Frame) (j : ℕ) (h k
       by : (a b : Owner) → OwnerGoes h into leaving j a b → a ≡ owners.Frame i → b ≡ owners.Frame i
       by a b (stays same) mine = same ∙ mine
       by a b (passed from goes low) mine = absurd (owned_below i j a mine below from)
-      by a b (left none then' fields others) mine = absurd (true≢false (sym (ap (is_frame_from 0) mine ∙ from_frame 0 i (omega arith)) ∙ none))
+      by a b (left none then' fields others) mine = absurd (true≢false (sym none ∙ ap is_field_owner mine))
 
   pub owners_kept : (frs : List Frame) → length frs < j → AllKeepGifts p h k frs → RunsNoneOn into frs → ((w : ℕ) → RunOnOthers w leaving → RunOnOthers w frs) → AllKeepOwners p h k frs
   owners_kept [] below gifts others spared = tt
@@ -511,7 +506,6 @@ module _ (p : Program) (into : Option ℕ) (leaving : List Frame) (j : ℕ) (h k
           own = keeps_own (is_given p h fr) (length frs + 1) fr (omega (arith, below));
           others = stays_apart frs fr (omega (arith, below)) gifts.1 rest.1 (λ w none. (spared w none).1) rest.0;
           held = held_here frs fr (omega (arith, below)) gifts.1 (λ w none. (spared w none).0);
-          reread = contents_here frs fr (omega (arith, below)) gifts.1 rest.0 rest.1 (λ w none. (spared w none).0) (λ w none. (spared w none).1);
         },
         owners_kept frs (omega (arith, below)) gifts.1 rest.1 (λ w none. (spared w none).1),
       )
@@ -519,15 +513,20 @@ module _ (p : Program) (into : Option ℕ) (leaving : List Frame) (j : ℕ) (h k
 -- ---- what is held apart
 
 -- what is held apart after a step was before it
-pub apart_before : (p : Program) (h k : HeapContents) (old : ℕ → Bool) (frs : List Frame) (fr : Frame) (o : ℕ) (x y : Object) (f g : Fact) → StaysApart p h k frs fr → object_at h o ≡ Some x → object_at k o ≡ Some y → x.finished ≡ true
-    → is_heavy_class p x.class ≡ true → (is_held g.mode ≡ true → is_held f.mode ≡ true) → IsApart p k old frs fr o y.owner g → IsApart p h old frs fr o x.owner f
-apart_before p h k old frs fr o x y f g others before at done heavy held (was, spared) = (was, others.spared o x before (done, heavy) spared)
+pub apart_before : (p : Program) (h k : HeapContents) (old : ℕ → Bool) (frs : List Frame) (fr after : Frame) (o : ℕ) (x y : Object) (f g : Fact) → StaysApart p h k frs fr → IsOld p h frs fr old → object_at h o ≡ Some x → object_at k o ≡ Some y
+    → x.finished ≡ true → is_heavy_class p x.class ≡ true → is_idle p frs fr f ≡ false → IsApart p k old frs after o y.owner g → IsApart p h old frs fr o x.owner f
+apart_before p h k old frs fr after o x y f g others aged before at done heavy said (was, spared, answered, idle) =
+    (was, others.spared o x before (done, heavy) (aged.ends o x before (done, heavy) was) answered spared, others.answered o x before heavy answered, said)
 
 -- ---- what was old
 
+-- `this`, where it is finished, of a class with an obligation, and linked to none, was so
+abbrev pub ThisWas : Program → HeapContents → HeapContents → Frame → Type 0
+ThisWas p h k fr = (w : ℕ) (y : Object) → fr.locals.this ≡ values.Object w → object_at k w ≡ Some y → IsHeavyObject p y → y.link ≡ None → (x : Object) × (object_at h w ≡ Some x) × (IsHeavyObject p x × (x.link ≡ None))
+
 -- it was so over a step of this frame or one above
 module _ (p : Program) (h k : HeapContents) (old : ℕ → Bool) (frs : List Frame) (fr : Frame) (others : StaysApart p h k frs fr)
-    (objects : (o : ℕ) (x : Object) → object_at h o ≡ Some x → (y : Object) × (object_at k o ≡ Some y) × (y.class ≡ x.class) × (x.finished ≡ true → y.finished ≡ true)) (is : IsOld p h frs fr old) where
+    (objects : (o : ℕ) (x : Object) → object_at h o ≡ Some x → (y : Object) × (object_at k o ≡ Some y) × (y.class ≡ x.class) × (x.finished ≡ true → y.finished ≡ true)) (is : IsOld p h frs fr old) (self_was : ThisWas p h k fr) where
   -- an object that was finished, or one that the step made or finished
   was_heavy : (o : ℕ) (y : Object) → object_at k o ≡ Some y → IsHeavyObject p y → ((x : Object) × (object_at h o ≡ Some x) × IsHeavyObject p x) ⊎ ((is_field_owner y.owner ≡ false) × (is_frame_below (length frs + 1) y.owner ≡ false))
   was_heavy o y at heavy = go (object_at h o) refl
@@ -550,27 +549,24 @@ module _ (p : Program) (h k : HeapContents) (old : ℕ → Bool) (frs : List Fra
         let now = objects o x.0 x.1 in
         let wide : is_heavy_class p x.0.class ≡ true = ap (is_heavy_class p) (sym now.2 ∙ ap (λ (u : Object). u.class) (one_object now.0 y (object_at k o) now.1 at)) ∙ heavy.1 in
         others.ends o x.0 x.1 wide (is.ends o x.0 x.1 (x.2, wide) was);
-    strict = λ o y at heavy ends'. elim (was_heavy o y at heavy) [
-      | inl was ↦ is.strict o was.0 was.1 was.2 (others.strict o was.0 was.1 was.2 ends')
-      | inr late ↦ absurd (not_strict o y at heavy late ends')
+    below = λ o y at heavy owned. elim (was_heavy o y at heavy) [
+      | inl was ↦ is.below o was.0 was.1 was.2 (others.below o was.0 y was.1 at was.2 owned)
+      | inr late ↦ absurd (not_below frs y.owner late owned)
     ];
-    contents = λ o y at heavy content takes. elim (was_heavy o y at heavy) [
+    contents = λ o y at heavy content leaves. elim (was_heavy o y at heavy) [
       | inl was ↦ is.contents o was.0 was.1 was.2 (record {
         holder = content.holder;
         field = content.field;
         runs = content.runs;
-        owns = others.content o was.0 y content.holder content.field was.1 at was.2.0 was.2.1 content.method content.runs content.owns;
+        owns = others.content o was.0 y content.holder content.field was.1 at was.2.0 was.2.1 leaves content.runs content.owns;
         method = content.method;
-      }) takes
+      }) leaves
       | inr late ↦ absurd (true≢false (sym (ap is_field_owner content.owns) ∙ late.0))
     ];
+    self = λ w y this at heavy single settled. (let x = self_was w y this at heavy single in is.self w x.0 this x.1 x.2.0 x.2.1 settled);
   }
     where
-      not_strict : (o : ℕ) (y : Object) → object_at k o ≡ Some y → IsHeavyObject p y → (is_field_owner y.owner ≡ false) × (is_frame_below (length frs + 1) y.owner ≡ false) → EndsStrictly k frs o → ⊥
-      not_strict o y at heavy late ends' =
-          let same = top_is_last k o ends'.end y at late.0 ends'.top.within in
-          let one = one_object ends'.top.object y (object_at k o) (ap (object_at k) same ∙ ends'.top.at) at in
-          elim ends'.below [
-            | inl low ↦ true≢false (sym low ∙ ap (λ (u : Object). is_frame_below (length frs + 1) u.owner) one ∙ late.1)
-            | inr runs ↦ true≢false (sym heavy.0 ∙ sym (ap (λ (u : Object). u.finished) one) ∙ runs.0)
-          ]
+      not_below : (gs : List Frame) (a : Owner) → (is_field_owner a ≡ false) × (is_frame_below (length gs + 1) a ≡ false) → IsOwnedBelow p gs a → ⊥
+      not_below gs a late (inl low) = true≢false (sym low ∙ late.1)
+      not_below [] a late (inr never) = never
+      not_below (g ∷ gs) a late (inr held) = true≢false (sym (ap is_field_owner (held.2).owns) ∙ late.0)

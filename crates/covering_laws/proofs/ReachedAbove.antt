@@ -1,8 +1,14 @@
 -- Objects that a reset reaches whose target is in hand of a frame, or of one above it: what the call that began the frame spares is none of these, and where the frame owns such an object, or its
 -- constructor has it in a field of what it makes, the call at which the frame waits creates the object's obligation anew.
-use Rattle.std.proofs.Common.{◌≡◌, inl, inr, ℕ, ◌+◌, ◌≤◌, true, false, true≢false, Some, List, [], ◌∷◌, ◌++◌, length, sym, ap, ◌∙◌, subst, arith}
+use Rattle.std.proofs.Common.{◌≡◌, ◌⊎◌, inl, inr, ℕ, ◌+◌, ◌≤◌, true, false, true≢false, Some, List, [], ◌∷◌, ◌++◌, length, sym, ap, ◌∙◌, subst, arith, not, None}
+use Rattle.std.proofs.lemmas.Bool.{and_parts, not-true}
 use Rattle.std.proofs.lemmas.List.{append_assoc}
+use Rattle.program_model.specs.declared.kinds.FieldId.{FieldId}
 use Rattle.program_model.specs.declared.program.Program.{Program}
+use Rattle.program_model.specs.Lookups.{method_at}
+use Rattle.ledger_obligations.specs.Bodies.{constructs, reset_in}
+use Rattle.ledger_obligations.specs.MustCallSets.{is_heavy_class}
+use Rattle.ownership_rules.specs.Signatures.{is_position}
 use Rattle.ledger_state.specs.Contents.{HeapContents}
 use Rattle.ledger_state.specs.Heaps.{object_at}
 use Rattle.ledger_state.specs.declared.entry.Owner.{Owner}
@@ -13,14 +19,18 @@ use Rattle.value_laws.specs.Chains.{HaveEnds}
 use Rattle.value_laws.specs.Configuration.{Frame}
 use Rattle.value_laws.specs.FieldContents.{AreNew, AreUnfinished}
 use Rattle.value_laws.specs.HeapAnew.{is_field_owner}
-use Rattle.value_laws.specs.Holders.{HasTop, IsWithin}
-use Rattle.value_laws.specs.PlaceFacts.{EndsBelow, IsHeavyObject, IsSpared}
-use Rattle.value_laws.specs.Renewing.{IsHeldBy, IsLentFrom, is_renewed}
+use Rattle.value_laws.specs.Holders.{HasTop, HoldersAreUnlinked, IsWithin, by_field, itself}
+use Rattle.value_laws.specs.PlaceFacts.{EndsBelow, HasOwningField, IsHeavyObject, IsSpared, OwesOrHolds}
+use Rattle.value_laws.specs.Renewing.{HasInHand, IsHeldBy, IsLentFrom, IsOwnedByThis, answers_for_fields, is_renewed, lends_this, reopens}
 use Rattle.value_laws.proofs.RootLaws.{one_object}
+use Rattle.value_laws.proofs.SettledFrames.{AllRenewInHand, IsOnTheWay, RenewsInHand, is_lending, way_begins, way_goes_down}
 use Rattle.value_laws.proofs.Spared.{declares, elsewhere, spared_is_not_reached}
-use Rattle.value_laws.proofs.SparingCalls.{constructor_of, made_top, owned_apart, unmade}
+use Rattle.value_laws.proofs.SparingCalls.{constructor_of, ends_further, lent_ends_below, made_top, not_made_here, owned_apart, unmade}
 use Rattle.value_laws.proofs.SparingEnds.{made_apart}
-use Rattle.value_laws.proofs.WaysUp.{on_from_holder, one_top, top_is_last, within_further}
+use Rattle.value_laws.proofs.Tops.{no_way_round}
+use Rattle.value_laws.proofs.WaysUp.{on_from_holder, one_top, top_is_last, within_further, within_top}
+use Rattle.covering_laws.proofs.HeavyFields.{answers_by}
+use Rattle.covering_laws.proofs.Owners.{held_at}
 
 -- The object is on the way up from the target of a reset, which a frame above these, or the first one of them, has in hand and renews. (`frs` are the frames from this one on, `mid` those above them.)
 pub record IsReachedBy (p : Program) (h : HeapContents) (frs : List Frame) (o : ℕ) : Type 0 where
@@ -139,3 +149,97 @@ module _ (p : Program) (h : HeapContents) (have : HaveEnds h) where
             by_holder same =
                 let z = unmade p h have g frs below o x at held in
                 true≢false (sym lends.finished ∙ ap (λ (u : Object). u.finished) (one_object lends.object z.object (object_at h w) (ap (object_at h) (sym same) ∙ lends.at) z.at) ∙ z.unfinished)
+
+    -- So it is with what a field of its `this` owns, which is lent to the frame, where this is a method that creates the obligation of `this` anew, and does not lend it.
+    module _ (unlinked : HoldersAreUnlinked (is_heavy_class p) h) (w : ℕ) (f : FieldId) (owns : x.owner ≡ owners.Field w f) (runs : g.locals.this ≡ values.Object w) (y : Object) (there : object_at h w ≡ Some y) (wide : IsHeavyObject p y)
+        (single : y.link ≡ None) (bears : OwesOrHolds p h w y) (opens : reopens (method_at p g.method) ≡ true) (lent : IsLentFrom p h frs w y.owner) where
+      around : IsWithin h w o → ⊥
+      around up = no_way_round h have o w f x at owns up
+
+      -- what the frame has in hand, and is within the content, is the content
+      pub content_in_hand : (t : ℕ) (z : Object) → object_at h t ≡ Some z → IsWithin h t o → AllRenewInHand p h frs → HasInHand p h (IsLentFrom p h frs) (length frs + 1) g t z.owner → t ≡ o
+      content_in_hand t z here up below (inl own) =
+          let same : t ≡ o = top_is_last h t o z here (ap is_field_owner own) up in
+          absurd (let never : ◌≡◌ {A = Owner} (owners.Field w f) (owners.Frame (length frs + 1)) = sym owns ∙ ap (λ (u : Object). u.owner) (sym (one_object z x (object_at h o) (ap (object_at h) (sym same) ∙ here) at)) ∙ own in cc)
+      content_in_hand t z here up below (inr (inl also)) = absurd (around (subst (λ (n : ℕ). IsWithin h n o) (lent_once frs below also lent) up))
+        where
+          lent_once : (gs : List Frame) → AllRenewInHand p h gs → IsLentFrom p h gs t z.owner → IsLentFrom p h gs w y.owner → t ≡ w
+          lent_once [] all never second = absurd never
+          lent_once (c ∷ gs) all first second = (all.0).one t w first.0 second.0
+      content_in_hand t z here up below (inr (inr (inl held))) =
+          absurd (true≢false (sym (constructor_of p h have g z.owner held) ∙ not-true (constructs (method_at p g.method)) (and_parts (not (constructs (method_at p g.method))) (is_position (reset_in (method_at p g.method)) 0) opens).0))
+      content_in_hand t z here up below (inr (inr (inr held))) = elim (on_from_holder h t held.holder o held.field z here held.owns up) [
+        | inl same ↦ same
+        | inr on ↦ absurd (around (subst (λ (n : ℕ). IsWithin h n o) (let both : values.Object held.holder ≡ values.Object w = sym held.runs ∙ runs in (let one : held.holder ≡ w = cc in one)) on))
+      ]
+
+      pub content_renewed : IsReachedBy p h (g ∷ frs) o → RenewsInHand p h g frs → AllRenewInHand p h frs → lends_this p g ≡ false → is_renewed p h g o ≡ true
+      content_renewed r renews below keeps = go r.mid r.new r.unfinished r.target r.object r.at r.within r.lent
+        where
+          -- `this` would be lent above
+          no_lending : (mid : List Frame) → AreNew p (mid ++ (g ∷ frs)) → AreUnfinished p h (mid ++ (g ∷ frs)) → IsOnTheWay p h have unlinked w y there wide single bears (mid ++ (g ∷ frs)) → ⊥
+          no_lending [] new unfinished way = true≢false (sym (is_lending p h have unlinked w y there wide single bears g frs way unfinished.1 renews below runs opens) ∙ keeps)
+          no_lending (fr ∷ mid) new unfinished way = no_lending mid new.1 unfinished.1 (way_goes_down p h have unlinked w y there wide single bears fr (mid ++ (g ∷ frs)) new unfinished way)
+
+          all_below : (mid : List Frame) → EndsBelow h (mid ++ (g ∷ frs)) w
+          all_below mid = further mid
+            where
+              mine : AreUnfinished p h (g ∷ frs)
+              mine = unfinished_below p h r.mid (g ∷ frs) r.unfinished
+
+              further : (mid : List Frame) → EndsBelow h (mid ++ (g ∷ frs)) w
+              further [] = ends_further h g frs w (lent_ends_below p h have frs mine.1 w y there lent)
+              further (fr ∷ mid) = ends_further h fr (mid ++ (g ∷ frs)) w (further mid)
+
+          go : (mid : List Frame) → AreNew p (mid ++ (g ∷ frs)) → AreUnfinished p h (mid ++ (g ∷ frs)) → (t : ℕ) (z : Object) → object_at h t ≡ Some z → IsWithin h t o → IsLentFrom p h (mid ++ (g ∷ frs)) t z.owner
+              → is_renewed p h g o ≡ true
+          go [] new unfinished t z here up from = ap (is_renewed p h g) (sym (content_in_hand t z here up below from.1)) ∙ from.0
+          go (fr ∷ mid) new unfinished t z here up (renewed, inl own) =
+              let same : t ≡ o = top_is_last h t o z here (ap is_field_owner own) up in
+              absurd (let never : ◌≡◌ {A = Owner} (owners.Field w f) (owners.Frame (length (mid ++ (g ∷ frs)) + 1)) =
+              sym owns ∙ ap (λ (u : Object). u.owner) (sym (one_object z x (object_at h o) (ap (object_at h) (sym same) ∙ here) at)) ∙ own in cc)
+          go (fr ∷ mid) new unfinished t z here up (renewed, inr (inl from)) = go mid new.1 unfinished.1 t z here up from
+          go (fr ∷ mid) new unfinished t z here up (renewed, inr (inr (inl held))) =
+              absurd (not_made_here p h have fr (mid ++ (g ∷ frs)) new unfinished w t z (all_below mid) here held
+              (within_top h t w (held.1).holder (made_top p h have fr (mid ++ (g ∷ frs)) unfinished t z here held) (within_further h t o w up (by_field o w w f x at owns (itself w)))))
+          go (fr ∷ mid) new unfinished t z here up (renewed, inr (inr (inr held))) = elim (on_from_holder h t held.holder o held.field z here held.owns up) [
+            | inl same ↦ absurd (no_lending mid new.1 unfinished.1 (way_begins p h have unlinked w y there wide single bears (mid ++ (g ∷ frs)) (of_holder (let both : ◌≡◌ {A = Owner} (owners.Field held.holder held.field) (owners.Field w f) =
+                sym held.owns ∙ ap (λ (u : Object). u.owner) (one_object z x (object_at h o) (ap (object_at h) (sym same) ∙ here) at) ∙ owns in (let one : held.holder ≡ w = cc in one)))))
+            | inr on ↦ go mid new.1 unfinished.1 held.holder held.object held.at on held.lends
+          ]
+            where
+              of_holder : held.holder ≡ w → IsLentFrom p h (mid ++ (g ∷ frs)) w y.owner
+              of_holder same =
+                  subst (λ (u : Object). IsLentFrom p h (mid ++ (g ∷ frs)) w u.owner) (one_object held.object y (object_at h w) (ap (object_at h) (sym same) ∙ held.at) there)
+                  (subst (λ (n : ℕ). IsLentFrom p h (mid ++ (g ∷ frs)) n held.object.owner) same held.lends)
+
+-- ---- all frames that wait
+
+-- the frame owns what has this owner; or it answers for the fields of `this`, does not lend it, and one of these does
+abbrev pub IsOwnedHere : Program → List Frame → Frame → Owner → Type 0
+IsOwnedHere p frs fr owner = (owner ≡ owners.Frame (length frs + 1)) ⊎ ((answers_for_fields (method_at p fr.method) ≡ true) × (lends_this p fr ≡ false) × IsOwnedByThis p fr owner)
+
+-- each of these frames waits for a call that creates the obligation of object `o` anew, where it owns the object so
+abbrev pub AllRenewIt : Program → HeapContents → List Frame → ℕ → Owner → Type 0
+AllRenewIt p h [] o owner = Unit {0}
+AllRenewIt p h (fr ∷ frs) o owner = (IsOwnedHere p frs fr owner → is_renewed p h fr o ≡ true) × AllRenewIt p h frs o owner
+
+-- so it is with what a reset reaches
+pub all_renew_it : (p : Program) (h : HeapContents) → HaveEnds h → HoldersAreUnlinked (is_heavy_class p) h → (o : ℕ) (x : Object) → object_at h o ≡ Some x → IsHeavyObject p x
+    → ((w : ℕ) (f : FieldId) (y : Object) → x.owner ≡ owners.Field w f → object_at h w ≡ Some y → HasOwningField p y.class) → (frs : List Frame) → IsReachedBy p h frs o → AllRenewInHand p h frs → AllRenewIt p h frs o x.owner
+all_renew_it p h have unlinked o x at heavy says [] r renews = tt
+all_renew_it p h have unlinked o x at heavy says (fr ∷ frs) r renews = (here, all_renew_it p h have unlinked o x at heavy says frs (reached_below p h fr frs o r) renews.1)
+  where
+    by_content : reopens (method_at p fr.method) ≡ true → lends_this p fr ≡ false → IsOwnedByThis p fr x.owner → is_renewed p h fr o ≡ true
+    by_content opens keeps c =
+        let y = unlinked o x c.holder c.field at heavy.1 c.owns in
+        let bears : OwesOrHolds p h c.holder y.0 = inr (inl (o, x, at, heavy.0, heavy.1, held_at x.owner c.holder c.field c.owns)) in
+        let done = (renews.0).whole c.holder y.0 c.runs y.1 y.3 bears y.2 opens (says c.holder c.field y.0 c.owns y.1) in
+        content_renewed p h have fr frs o x at unlinked c.holder c.field c.owns c.runs y.0 y.1 (done, y.3) y.2 bears opens ((renews.0).lent c.holder y.0 c.runs y.1 (done, y.3) bears y.2 opens) r renews.0 renews.1 keeps
+
+    here : IsOwnedHere p frs fr x.owner → is_renewed p h fr o ≡ true
+    here (inl own) = owned_renewed p h have fr frs o x at r own
+    here (inr (answers, keeps, c)) = elim (answers_by (method_at p fr.method) answers) [
+      | inl alone ↦ made_renewed p h have fr frs o x at r (alone, c)
+      | inr opens ↦ by_content opens keeps c
+    ]

@@ -3,16 +3,16 @@
 use Rattle.java_control.specs.declared.fact.Origin.{Origin}
 use Rattle.java_control.specs.declared.fact.Fact.{Fact}
 use Rattle.program_model.specs.declared.program.Method.{Method}
-use Rattle.ownership_rules.specs.Signatures.{is_present}
-use Rattle.covering_laws.proofs.HeavyFields.{claims_by, held_claims, own_claims}
+use Rattle.ownership_rules.specs.Signatures.{is_position, is_present}
+use Rattle.covering_laws.proofs.HeavyFields.{alone_answers, claims_by, claims_owned, held_claims, own_claims, reopening_answers}
 use Rattle.covering_laws.proofs.InFields.{held_by_this}
 use Rattle.covering_laws.proofs.Owners.{lent_not_from}
 use Rattle.std.proofs.Common.{Bool, List, Option, Some, ap, false, inl, inr, length, not, refl, slice_get, subst, sym, true, true≢false, ℕ, ◌&&◌, ◌+◌, ◌||◌, ◌∙◌, ◌≡◌, ◌⊎◌}
-use Rattle.std.proofs.lemmas.Bool.{and_from, and_parts}
+use Rattle.std.proofs.lemmas.Bool.{and_from}
 use Rattle.program_model.specs.declared.kinds.BodyId.{BodyId}
 use Rattle.program_model.specs.declared.program.Program.{Program}
 use Rattle.program_model.specs.Lookups.{method_at}
-use Rattle.ledger_obligations.specs.Bodies.{alias_in, constructs, reset_in, resets_this}
+use Rattle.ledger_obligations.specs.Bodies.{alias_in, constructs, reset_in}
 use Rattle.ledger_obligations.specs.MustCallSets.{is_heavy_class}
 use Rattle.java_control.specs.Calls.{operand_at}
 use Rattle.java_control.specs.Control.{Step}
@@ -20,7 +20,7 @@ use Rattle.java_control.specs.PlaceNumbers.{IsSmall}
 use Rattle.java_control.specs.declared.fact.Mode.TheVariants as modes
 use Rattle.java_control.specs.declared.place.Place.TheVariants as places
 use Rattle.ownership_rules.specs.Callees.{callee}
-use Rattle.ownership_rules.specs.Facts.{has, has_temp, is_held, is_own}
+use Rattle.ownership_rules.specs.Facts.{has, has_temp, is_held}
 use Rattle.ownership_rules.specs.MovesAtCalls.{moved_at_call}
 use Rattle.ownership_rules.specs.declared.moved.Moved.TheVariants as moves
 use Rattle.ownership_rules.specs.SmallActions.{IsSmallTemp}
@@ -28,6 +28,7 @@ use Rattle.ownership_rules.proofs.SmallOperands.{operand_has_room}
 use Rattle.ledger_state.specs.Contents.{HeapContents}
 use Rattle.ledger_state.specs.Heaps.{object_at, root_of}
 use Rattle.ledger_state.specs.Locals.{temp_value}
+use Rattle.ledger_state.specs.declared.entry.Owner.{Owner}
 use Rattle.ledger_state.specs.declared.entry.Owner.TheVariants as owners
 use Rattle.ledger_state.specs.declared.object.Object.{Object}
 use Rattle.ledger_steps.specs.LedgerCallsCalls.{operand_of}
@@ -40,10 +41,10 @@ use Rattle.value_laws.specs.Outcomes.{IsCallRow}
 use Rattle.value_laws.specs.Paths.{Reach, move_of, relation_of}
 use Rattle.value_laws.specs.PlainForms.{HasPlainForms}
 use Rattle.value_laws.specs.PlaceFacts.{Covers, IsCovered, IsKeyed, IsOwned, claims, gives_away, gives_none, OwesOrHolds, owned, renews_none, unowned}
-use Rattle.value_laws.specs.Renewing.{HasInHand, IsHeldBy, IsHeldByLent, IsLentFrom, is_renewed, makes_alone, renews}
+use Rattle.value_laws.specs.Renewing.{HasInHand, IsHeldBy, IsHeldByLent, IsLentFrom, IsOwnedByThis, answers_for_fields, is_renewed, lends_this, makes_alone, renews, reopens}
 use Rattle.value_laws.proofs.ResetTargets.{answered_targets}
 use Rattle.value_laws.proofs.Resetting.{answered_target}
-use Rattle.value_laws.proofs.Readings.{renewed_operand}
+use Rattle.value_laws.proofs.Readings.{operand_renews, renewed_operand}
 use Rattle.covering_laws.proofs.Bodies.{running_method}
 use Rattle.covering_laws.proofs.Following.{breaks_nothing, method_here, same_body, small_step, step_there}
 use Rattle.covering_laws.proofs.GivenArguments.{away_moves, away_owner}
@@ -60,17 +61,16 @@ step_renews p h fr i s o here does = any_at (λ (t : Step). renews p h fr.locals
 
 -- ---- its fact
 
--- the fact is one of what a field of `this` holds, and its class has an obligation, in a method that creates the obligation of `this` anew
-abbrev pub IsHeldAnew : (p : Program) (fr : Frame) → Stands p fr → Origin → Fact → Type 0
-IsHeldAnew p fr st o f = (f.mode ≡ modes.Held) × (is_heavy_class p o.class ≡ true) × (constructs (method_at p fr.method) ≡ false) × (resets_this p st.number ≡ true)
-
--- a fact that may have the target claims the object, or says that it is lent, or is such a fact
-pub claims_or_lends : (p : Program) (fr : Frame) (st : Stands p fr) (o : Origin) (f : Fact) → IsInHands p st.number f.mode (is_heavy_class p o.class)
-    → (claims p (method_at p fr.method) o f ≡ true) ⊎ ((f.mode ≡ modes.Lent) ⊎ IsHeldAnew p fr st o f)
+-- a fact that may have the target claims the object, or says that it is lent
+pub claims_or_lends : (p : Program) (fr : Frame) (st : Stands p fr) (o : Origin) (f : Fact) → IsInHands p st.number f.mode (is_heavy_class p o.class) → (claims p (method_at p fr.method) o f ≡ true) ⊎ (f.mode ≡ modes.Lent)
 claims_or_lends p fr st o f (inl (own, heavy)) = inl (own_claims p (method_at p fr.method) o f own heavy)
-claims_or_lends p fr st o f (inr (inl lent)) = inr (inl lent)
-claims_or_lends p fr st o f (inr (inr (held, heavy, inr (other, resets)))) = inr (inr (held, heavy, sym (ap constructs (method_here p fr st)) ∙ other, resets))
-claims_or_lends p fr st o f (inr (inr (held, heavy, inl (makes, single)))) = inl (held_claims p (method_at p fr.method) o f alone held heavy)
+claims_or_lends p fr st o f (inr (inl lent)) = inr lent
+claims_or_lends p fr st o f (inr (inr (held, heavy, inr (other, resets)))) = inl (held_claims p (method_at p fr.method) o f (reopening_answers (method_at p fr.method) opens) held heavy)
+  where
+    opens : reopens (method_at p fr.method) ≡ true
+    opens = and_from (not (constructs (method_at p fr.method))) (is_position (reset_in (method_at p fr.method)) 0) (ap not (sym (ap constructs (method_here p fr st)) ∙ other))
+        (sym (ap (λ (m : Option Method). is_position (reset_in m) 0) (method_here p fr st)) ∙ resets)
+claims_or_lends p fr st o f (inr (inr (held, heavy, inl (makes, single)))) = inl (held_claims p (method_at p fr.method) o f (alone_answers (method_at p fr.method) alone) held heavy)
   where
     new : constructs (method_at p fr.method) ≡ true
     new = sym (ap constructs (method_here p fr st)) ∙ makes
@@ -81,18 +81,26 @@ claims_or_lends p fr st o f (inr (inr (held, heavy, inl (makes, single)))) = inl
     alone : makes_alone (method_at p fr.method) ≡ true
     alone = and_from (constructs (method_at p fr.method)) (not (is_present (alias_in (method_at p fr.method)))) new (ap not no_alias)
 
--- what such a fact is of is in the frame's hand: it is lent, or a field of `this` owns it, which is lent
-abbrev pub HoldsLent : (p : Program) → HeapContents → (ℕ → Bool) → List Frame → (fr : Frame) → Stands p fr → Type 0
-HoldsLent p h old frs fr st = (o : ℕ) (x : Object) → object_at h o ≡ Some x → is_heavy_class p x.class ≡ true → OwesOrHolds p h o x → x.finished ≡ true
-    → (away anew : Bool) (c : Covers p h away anew old frs fr o x) → IsHeldAnew p fr st c.origin c.fact → IsLentFrom p h frs o x.owner ⊎ IsHeldByLent p h (IsLentFrom p h frs) fr x.owner
+-- the frame answers for the fields of `this`, and one of them owns what has this owner
+abbrev pub IsHeldHere : Program → Frame → Owner → Type 0
+IsHeldHere p fr owner = (answers_for_fields (method_at p fr.method) ≡ true) × IsOwnedByThis p fr owner
 
--- what a fact claims the frame owns, or a field of what its constructor makes
+-- what a fact claims the frame owns, or, where it does not lend `this`, a field of this
 pub claimed_owner : (p : Program) (h : HeapContents) (away anew : Bool) (old : ℕ → Bool) (frs : List Frame) (fr : Frame) (o : ℕ) (x : Object) (c : Covers p h away anew old frs fr o x) → IsOwned p h away anew old frs fr o x c → away ≡ false → x.finished ≡ true
-    → (x.owner ≡ owners.Frame (length frs + 1)) ⊎ IsHeldBy p fr x.owner
-claimed_owner p h away anew old frs fr o x c key kept done = elim (claims_by p (method_at p fr.method) c.origin c.fact key.owning) [
+    → lends_this p fr ≡ false → (x.owner ≡ owners.Frame (length frs + 1)) ⊎ IsHeldHere p fr x.owner
+claimed_owner p h away anew old frs fr o x c key kept done keeps = elim (claims_by p (method_at p fr.method) c.origin c.fact key.owning) [
   | inl own ↦ inl (key.owner kept own)
-  | inr held ↦ inr (held.1, held_by_this p h away anew old frs fr o x c done held.0 held.1 (and_parts (is_heavy_class p c.origin.class) (is_own c.fact.mode || is_held c.fact.mode && makes_alone (method_at p fr.method)) key.owning).0)
+  | inr held ↦ inr (held.1, held_by_this p h away anew old frs fr o x c done held.0 held.1 keeps (claims_owned p (method_at p fr.method) c.origin c.fact key.owning).0)
 ]
+
+-- it is lent, or a field of what the frame's constructor makes owns it, or a field of `this`, which is lent
+abbrev pub IsHeldOrLent : Program → HeapContents → List Frame → Frame → ℕ → Owner → Type 0
+IsHeldOrLent p h frs fr o owner = IsLentFrom p h frs o owner ⊎ (IsHeldBy p fr owner ⊎ IsHeldByLent p h (IsLentFrom p h frs) fr owner)
+
+-- so it is with what the frame creates the obligation of anew, and a fact in mode Held claims
+abbrev pub HoldsLent : (p : Program) → HeapContents → (ℕ → Bool) → List Frame → (fr : Frame) → Stands p fr → Type 0
+HoldsLent p h old frs fr st = (o : ℕ) (x : Object) → object_at h o ≡ Some x → is_heavy_class p x.class ≡ true → OwesOrHolds p h o x → x.finished ≡ true → is_renewed p h fr o ≡ true
+    → (away anew : Bool) (c : Covers p h away anew old frs fr o x) → is_held c.fact.mode ≡ true → answers_for_fields (method_at p fr.method) ≡ true → is_heavy_class p c.origin.class ≡ true → IsHeldOrLent p h frs fr o x.owner
 
 module _ (p : Program) (ac : Accept p) (forms : HasPlainForms p) (h : HeapContents) (fr : Frame) (st : Stands p fr) (old : ℕ → Bool) (frs : List Frame) (i : ℕ) (s : Step) (here : slice_get (frame_steps p fr) i ≡ Some s) (row : IsCallRow s.action)
     (covered : IsCovered p h gives_none renews_none old frs fr) (holds : HoldsLent p h old frs fr st) (o : ℕ) (x : Object) (before : object_at h o ≡ Some x) (heavy : is_heavy_class p x.class ≡ true) (owes : OwesOrHolds p h o x) where
@@ -116,7 +124,7 @@ module _ (p : Program) (ac : Accept p) (forms : HasPlainForms p) (h : HeapConten
         | inr is ↦ is
       ]
 
-      pub its_mode : (claims p (method_at p fr.method) c.origin c.fact ≡ true) ⊎ ((c.fact.mode ≡ modes.Lent) ⊎ IsHeldAnew p fr st c.origin c.fact)
+      pub its_mode : (claims p (method_at p fr.method) c.origin c.fact ≡ true) ⊎ (c.fact.mode ≡ modes.Lent)
       its_mode =
           let run = running_method p ac fr st in
           let of : method_at p st.body.method ≡ Some run.0 = ap (method_at p) st.method ∙ run.1 in
@@ -130,21 +138,26 @@ module _ (p : Program) (ac : Accept p) (forms : HasPlainForms p) (h : HeapConten
     abbrev IsThere : Type 0
     IsThere = HasInHand p h (IsLentFrom p h frs) (length frs + 1) fr o x.owner
 
-    -- what the fact of the target says, where it claims nothing
-    unclaimed : (c : Covers p h false false old frs fr o x) → x.finished ≡ true → (c.fact.mode ≡ modes.Lent) ⊎ IsHeldAnew p fr st c.origin c.fact → IsLentFrom p h frs o x.owner ⊎ IsHeldByLent p h (IsLentFrom p h frs) fr x.owner
-    unclaimed c done (inl lent) = inl (c.lends lent done).1
-    unclaimed c done (inr held) = holds o x before heavy owes done false false c held
+    renewed : is_renewed p h fr o ≡ true
+    renewed = step_renews p h fr i s o here (operand_renews p h fr.locals s.action o k position root)
+
+    -- what the fact of the target claims
+    claimed_hand : (c : Covers p h false false old frs fr o x) → x.finished ≡ true → IsOwned p h false false old frs fr o x c → (x.owner ≡ owners.Frame (length frs + 1)) ⊎ IsHeldOrLent p h frs fr o x.owner
+    claimed_hand c done key = elim (claims_by p (method_at p fr.method) c.origin c.fact key.owning) [
+      | inl own ↦ inl (key.owner refl own)
+      | inr held ↦ inr (holds o x before heavy owes done renewed false false c held.0 held.1 (claims_owned p (method_at p fr.method) c.origin c.fact key.owning).0)
+    ]
 
     by_place : x.finished ≡ true → IsKeyed p h false false old frs fr (places.Temp temp.0) o x → IsThere
-    by_place done (owned c in' key) = elim (claimed_owner p h false false old frs fr o x c key refl done) [ inl mine ↦ inl mine | inr held ↦ inr (inr (inl held)) ]
+    by_place done (owned c in' key) = claimed_hand c done key
     by_place done (unowned u) = elim (its_mode u.covers u.here) [
       | inl claimed ↦ absurd (true≢false (sym claimed ∙ u.unowned))
-      | inr mode ↦ elim (unclaimed u.covers done mode) [ inl lent ↦ inr (inl lent) | inr held ↦ inr (inr (inr held)) ]
+      | inr lent ↦ inr (inl (u.covers.lends lent done).1)
     ]
 
     -- it is not given away besides
     pub operand_not_given : x.finished ≡ true → gives_away p h fr.locals s.action o x.class ≡ true → ⊥
-    operand_not_given done gives = by (covered (places.Temp temp.0) o x small (ap (root_of h) (sym temp.2) ∙ root) before heavy owes)
+    operand_not_given done gives = by (covered (places.Temp temp.0) o x small refl (ap (root_of h) (sym temp.2) ∙ root) before heavy owes)
       where
         owner : x.owner ≡ owners.Frame (length frs + 1)
         owner = away_owner p ac h fr st old frs i s here row covered o x before heavy owes gives
@@ -153,14 +166,11 @@ module _ (p : Program) (ac : Accept p) (forms : HasPlainForms p) (h : HeapConten
         by (owned c in' key) = moves_not c in' (away_moves p ac h fr st old frs i s here row false false o x c key heavy gives)
         by (unowned u) = elim (its_mode u.covers u.here) [
           | inl claimed ↦ true≢false (sym claimed ∙ u.unowned)
-          | inr mode ↦ elim (unclaimed u.covers done mode) [
-            | inl lent ↦ true≢false (sym (own_frame (length frs + 1) x.owner owner) ∙ lent_not_from p h frs o x.owner lent)
-            | inr held ↦ (let never : owners.Frame (length frs + 1) ≡ owners.Field held.holder held.field = sym owner ∙ held.owns in cc)
-          ]
+          | inr lent ↦ true≢false (sym (own_frame (length frs + 1) x.owner owner) ∙ lent_not_from p h frs o x.owner (u.covers.lends lent done).1)
         ]
 
     pub operand_answered : x.finished ≡ true → IsThere
-    operand_answered done = by_place done (covered (places.Temp temp.0) o x small (ap (root_of h) (sym temp.2) ∙ root) before heavy owes)
+    operand_answered done = by_place done (covered (places.Temp temp.0) o x small refl (ap (root_of h) (sym temp.2) ∙ root) before heavy owes)
 
   -- the frame has it in hand
   pub renewed_answered : renews p h fr.locals s.action o ≡ true → x.finished ≡ true → HasInHand p h (IsLentFrom p h frs) (length frs + 1) fr o x.owner

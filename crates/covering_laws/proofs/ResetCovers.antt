@@ -19,7 +19,7 @@ use Rattle.java_control.specs.declared.fact.Origin.{Origin}
 use Rattle.java_control.specs.declared.place.Place.{Place}
 use Rattle.ownership_rules.specs.Bodies.{reset_in}
 use Rattle.ownership_rules.specs.Callees.{callee}
-use Rattle.ownership_rules.specs.Facts.{has, is_own, need}
+use Rattle.ownership_rules.specs.Facts.{has, is_held, is_own, need}
 use Rattle.ledger_state.specs.Contents.{HeapContents}
 use Rattle.ledger_state.specs.Heaps.{object_at, root_of, same_root}
 use Rattle.ledger_state.specs.declared.entry.Owner.{Owner}
@@ -33,31 +33,32 @@ use Rattle.ledger_steps.specs.LedgerCallsCalls.{operand_of}
 use Rattle.value_laws.specs.Configuration.{Frame}
 use Rattle.value_laws.specs.Choosing.{frame_steps}
 use Rattle.ledger_obligations.specs.Obligations.{is_library_owner}
-use Rattle.value_laws.specs.PlaceFacts.{AreWaiting, Covers, HasOwningField, IsApart, IsCovered, IsInField, IsKeyed, IsOld, IsOwned, IsSpared, IsTrueOf, IsUnowned, OwesOrHolds, asked_of, claims, gives_away, is_given, is_frame_from, is_taken_at, is_taken_by, is_taken_from, owned, tells_calls, unowned}
-use Rattle.value_laws.specs.Renewing.{IsLentFrom, fact_as, is_renewed, is_reread, renews, renews_at}
+use Rattle.value_laws.specs.PlaceFacts.{AreWaiting, Covers, HasOwningField, IsApart, IsCovered, IsInField, IsKeyed, IsOld, IsOwned, IsSpared, IsTrueOf, IsUnowned, MayStore, OwesOrHolds, asked_of, claims, gives_away, is_given, is_frame_from, is_taken_at, is_taken_by, is_taken_from, owned, tells_calls, unowned}
+use Rattle.value_laws.specs.Renewing.{IsLentFrom, fact_as, is_renewed, is_reread, lends_this, renews, renews_at}
 use Rattle.value_laws.proofs.Needs.{origin_needs_all}
-use Rattle.covering_laws.proofs.AlikeHeaps.{AreAlike, alike_holders, alike_turned, old_alike, spared_alike}
+use Rattle.covering_laws.proofs.AlikeHeaps.{AreAlike, alike_holders, alike_turned, answered_alike, old_alike, spared_alike}
 use Rattle.covering_laws.proofs.HeavyFields.{claims_by, claims_owned}
 use Rattle.covering_laws.proofs.InFields.{held_by_this, held_in_field, held_kept}
 use Rattle.covering_laws.proofs.Owners.{HoldersStay, lent_not_from, from_frame}
-use Rattle.covering_laws.proofs.ReachedAbove.{IsReachedBy, made_renewed, not_spared, owned_renewed, reached_below}
+use Rattle.covering_laws.proofs.ReachedAbove.{AllRenewIt, IsOwnedHere, IsReachedBy, not_spared, reached_below}
 use Rattle.covering_laws.proofs.Waiting.{KeepsFields, same_place}
 
 -- The object `x` is `y` where its obligation is created anew: no name was called, and all that its class asks for must be called, or what had to be. Where its class has one, a reset
--- reaches it whose target a frame from these on has in hand.
+-- reaches it whose target a frame from these on has in hand, and each of these frames that owns it waits for a call that creates its obligation anew.
 pub record IsRenewed (p : Program) (h : HeapContents) (frs : List Frame) (o : ℕ) (x y : Object) : Type 0 where
   pub class : y.class ≡ x.class
   pub finished : y.finished ≡ x.finished
   pub owner : y.owner ≡ x.owner
   pub called : y.called ≡ set.empty
   pub must : (y.must ≡ must_of p y.class) ⊎ (y.must ≡ x.must)
-  pub reached : is_heavy_class p y.class ≡ true → OwesOrHolds p h o x → IsReachedBy p h frs o
+  pub reached : is_heavy_class p y.class ≡ true → OwesOrHolds p h o x → IsReachedBy p h frs o × AllRenewIt p h frs o x.owner
 
 -- what may owe a call, or holds something, did so before
-pub bears_before : (p : Program) (h k : HeapContents) → HoldersStay p h k → (o : ℕ) (x y : Object) → y.finished ≡ x.finished → y.owner ≡ x.owner → OwesOrHolds p k o y → OwesOrHolds p h o x
-bears_before p h k stay o x y finished owner (inl owes) =
+pub bears_before : (p : Program) (h k : HeapContents) → HoldersStay p h k → (o : ℕ) (x y : Object) → y.class ≡ x.class → y.finished ≡ x.finished → y.owner ≡ x.owner → OwesOrHolds p k o y → OwesOrHolds p h o x
+bears_before p h k stay o x y class finished owner (inl owes) =
     inl (ap (λ (b : Bool). not (b && is_library_owner x.owner)) (sym finished) ∙ ap (λ (u : Owner). not (y.finished && is_library_owner u)) (sym owner) ∙ owes)
-bears_before p h k stay o x y finished owner (inr holds) = inr (stay o holds)
+bears_before p h k stay o x y class finished owner (inr (inl holds)) = inr (inl (stay o holds))
+bears_before p h k stay o x y class finished owner (inr (inr may)) = inr (inr (subst (MayStore p) class may))
 
 waiting_renewed : (p : Program) (h : HeapContents) (fr : Frame) (frs : List Frame) (o : ℕ) (x y : Object) → IsRenewed p h (fr ∷ frs) o x y → IsRenewed p h frs o x y
 waiting_renewed p h fr frs o x y it = record {
@@ -66,7 +67,7 @@ waiting_renewed p h fr frs o x y it = record {
   owner = it.owner;
   called = it.called;
   must = it.must;
-  reached = λ heavy owes. reached_below p h fr frs o (it.reached heavy owes);
+  reached = λ heavy owes. (let was = it.reached heavy owes in (reached_below p h fr frs o was.0, was.1.1));
 }
 
 -- a frame has not lent what it owns
@@ -172,8 +173,11 @@ module _ (p : Program) (h k : HeapContents) (same : (v : Value) → root_of k v 
   -- ---- one object
 
   module _ (away anew later : Bool) (old : ℕ → Bool) (frs : List Frame) (fr : Frame) (o : ℕ) (x y : Object) (class : y.class ≡ x.class) (finished : y.finished ≡ x.finished) (owner : y.owner ≡ x.owner) where
+    was_apart : (f : Fact) → IsApart p k old frs fr o y.owner f → IsApart p h old frs fr o x.owner f
+    was_apart f apart = (apart.0, spared_before frs o apart.1, answered_alike k h (alike_turned h k alike) o apart.2, apart.3)
+
     -- a fact stands for it as before, where what it claims is true and what it knows was called
-    pub covers_so : (c : Covers p h away anew old frs fr o x) → (claims p (method_at p fr.method) c.origin c.fact ≡ true → (away && is_own c.fact.mode) ≡ false → IsTrueOf p y c.origin (fact_as later c.fact))
+    pub covers_so : (c : Covers p h away anew old frs fr o x) → (claims p (method_at p fr.method) c.origin c.fact ≡ true → (away && is_own c.fact.mode) ≡ false → (is_held c.fact.mode && lends_this p fr) ≡ false → IsTrueOf p y c.origin (fact_as later c.fact))
         → (x.finished ≡ true → tells_calls p fr.method c.origin c.fact ≡ true → IsApart p h old frs fr o x.owner c.fact → later ≡ false)
         → (x.finished ≡ true → tells_calls p fr.method c.origin c.fact ≡ true → IsApart p h old frs fr o x.owner c.fact → later ≡ false
         → set.is_subset c.fact.called (set.union (asked_of p (method_at p fr.method) c.origin.kind) y.called) ≡ true) → Covers p k away later old frs fr o y
@@ -184,16 +188,16 @@ module _ (p : Program) (h k : HeapContents) (same : (v : Value) → root_of k v 
       fact = c.fact;
       reached = c.reached;
       alone = c.alone;
-      places = λ z small is. same_held fr.method fr.locals z ∙ c.places z small is;
+      places = λ said z small open' is. same_held fr.method fr.locals z ∙ c.places said z small open' is;
       true' = truth;
       lent = c.lent;
       lends = λ mode done. let was = c.lends mode (sym finished ∙ done) in (was.0, subst (IsLentFrom p k frs o) (sym owner) (same_lent frs o x.owner was.1));
-      free = λ done held alone claims'. (
-        held_kept p h away anew old frs fr o x c (sym finished ∙ done) held alone claims',
-        subst (IsInField p fr c.fact.places) (sym owner) (held_in_field p h away anew old frs fr o x c (sym finished ∙ done) held alone claims'),
+      free = λ done held answers keeps wide. (
+        held_kept p h away anew old frs fr o x c (sym finished ∙ done) held answers keeps wide,
+        subst (IsInField p fr c.fact.places) (sym owner) (held_in_field p h away anew old frs fr o x c (sym finished ∙ done) held answers keeps wide),
       );
-      unrenewed = λ done tells was spared. quiet (sym finished ∙ done) tells (was, spared_before frs o spared);
-      known = λ done tells apart stays. known (sym finished ∙ done) tells (apart.0, spared_before frs o apart.1) stays;
+      unrenewed = λ done tells apart. quiet (sym finished ∙ done) tells (was_apart c.fact apart);
+      known = λ done tells apart stays. known (sym finished ∙ done) tells (was_apart c.fact apart) stays;
       makes = λ new this. finished ∙ c.makes new this;
       complete = λ mode other declares. finished ∙ c.complete mode other (subst (HasOwningField p) class declares);
       fields = c.fields;
@@ -204,7 +208,7 @@ module _ (p : Program) (h k : HeapContents) (same : (v : Value) → root_of k v 
   -- an object that is as it was
   module _ (away anew : Bool) (old : ℕ → Bool) (frs : List Frame) (fr : Frame) (o : ℕ) (x : Object) where
     covers_same : Covers p h away anew old frs fr o x → Covers p k away anew old frs fr o x
-    covers_same c = covers_so away anew anew old frs fr o x x refl refl refl c c.true' (λ done tells apart. c.unrenewed done tells apart.0 apart.1) c.known
+    covers_same c = covers_so away anew anew old frs fr o x x refl refl refl c c.true' c.unrenewed c.known
 
     unowned_same : (q : Place) → IsUnowned p h away anew old frs fr q o x → IsUnowned p k away anew old frs fr q o x
     unfolding covers_same covers_so
@@ -216,7 +220,7 @@ module _ (p : Program) (h k : HeapContents) (same : (v : Value) → root_of k v 
     keyed_same q (owned c in' key) = owned (covers_same c) in' (record {
       owning = key.owning;
       owner = key.owner;
-      others = λ z small is. elim (key.others z small (sym (same_held fr.method fr.locals z) ∙ is)) [ inl has' ↦ inl has' | inr u ↦ inr (unowned_same z u) ];
+      others = λ z small open' is. elim (key.others z small open' (sym (same_held fr.method fr.locals z) ∙ is)) [ inl has' ↦ inl has' | inr u ↦ inr (unowned_same z u) ];
     })
 
   -- an object whose obligation is created anew, which a reset reaches whose target a frame from the ones below on has in hand
@@ -226,33 +230,33 @@ module _ (p : Program) (h k : HeapContents) (same : (v : Value) → root_of k v 
     no_news : (f : Fact) → x.finished ≡ true → IsApart p h old frs fr o x.owner f → ⊥
     no_news f done apart = not_spared p h have frs o reached apart.1 (is.ends o x before (done, heavy) apart.0)
 
-    covers_anew : (c : Covers p h away anew old frs fr o x) → (claims p (method_at p fr.method) c.origin c.fact ≡ true → (away && is_own c.fact.mode) ≡ false → IsTrueOf p y c.origin (fact_as later c.fact))
+    covers_anew : (c : Covers p h away anew old frs fr o x) → (claims p (method_at p fr.method) c.origin c.fact ≡ true → (away && is_own c.fact.mode) ≡ false → (is_held c.fact.mode && lends_this p fr) ≡ false → IsTrueOf p y c.origin (fact_as later c.fact))
         → Covers p k away later old frs fr o y
     covers_anew c truth = covers_so away anew later old frs fr o x y class finished owner c truth (λ done tells apart. absurd (no_news c.fact done apart)) (λ done tells apart stays. absurd (no_news c.fact done apart))
 
     pub unowned_anew : (q : Place) → IsUnowned p h away anew old frs fr q o x → IsUnowned p k away later old frs fr q o y
     unfolding covers_anew covers_so
     unowned_anew q u = record {
-      covers = covers_anew u.covers (λ claimed apart. absurd (true≢false (sym claimed ∙ u.unowned)));
+      covers = covers_anew u.covers (λ claimed apart keeps. absurd (true≢false (sym claimed ∙ u.unowned)));
       here = u.here;
       unowned = u.unowned;
     }
 
     -- the fact that owns it, where what it claims is true
     pub owned_anew : (q : Place) (c : Covers p h away anew old frs fr o x) → has c.fact.places q ≡ true → IsOwned p h away anew old frs fr o x c
-        → (claims p (method_at p fr.method) c.origin c.fact ≡ true → (away && is_own c.fact.mode) ≡ false → IsTrueOf p y c.origin (fact_as later c.fact)) → IsKeyed p k away later old frs fr q o y
+        → (claims p (method_at p fr.method) c.origin c.fact ≡ true → (away && is_own c.fact.mode) ≡ false → (is_held c.fact.mode && lends_this p fr) ≡ false → IsTrueOf p y c.origin (fact_as later c.fact)) → IsKeyed p k away later old frs fr q o y
     unfolding covers_anew covers_so
     owned_anew q c in' key truth = owned (covers_anew c truth) in' (record {
       owning = key.owning;
       owner = λ stays own. owner ∙ key.owner stays own;
-      others = λ z small is. elim (key.others z small (sym (same_held fr.method fr.locals z) ∙ is)) [ inl has' ↦ inl has' | inr u ↦ inr (unowned_anew z u) ];
+      others = λ z small open' is. elim (key.others z small open' (sym (same_held fr.method fr.locals z) ∙ is)) [ inl has' ↦ inl has' | inr u ↦ inr (unowned_anew z u) ];
     })
 
   -- an object that is not finished yet: no fact claims anything of it
   module _ (anew later : Bool) (old : ℕ → Bool) (frs : List Frame) (fr : Frame) (q : Place) (o : ℕ) (x y : Object) (class : y.class ≡ x.class) (finished : y.finished ≡ x.finished) (owner : y.owner ≡ x.owner) (unmade : x.finished ≡ false) where
     covers_unmade : Covers p h false anew old frs fr o x → Covers p k false later old frs fr o y
     covers_unmade c =
-        covers_so false anew later old frs fr o x y class finished owner c (λ claimed apart. absurd (true≢false (sym (c.true' claimed apart).finished ∙ unmade))) (λ done tells apart. absurd (true≢false (sym done ∙ unmade)))
+        covers_so false anew later old frs fr o x y class finished owner c (λ claimed apart keeps. absurd (true≢false (sym (c.true' claimed apart keeps).finished ∙ unmade))) (λ done tells apart. absurd (true≢false (sym done ∙ unmade)))
         (λ done tells apart stays. absurd (true≢false (sym done ∙ unmade)))
 
     unowned_unmade : (z : Place) → IsUnowned p h false anew old frs fr z o x → IsUnowned p k false later old frs fr z o y
@@ -265,12 +269,12 @@ module _ (p : Program) (h k : HeapContents) (same : (v : Value) → root_of k v 
     keyed_unmade (owned c in' key) = owned (covers_unmade c) in' (record {
       owning = key.owning;
       owner = λ stays own. owner ∙ key.owner stays own;
-      others = λ z small is. elim (key.others z small (sym (same_held fr.method fr.locals z) ∙ is)) [ inl has' ↦ inl has' | inr u ↦ inr (unowned_unmade z u) ];
+      others = λ z small open' is. elim (key.others z small open' (sym (same_held fr.method fr.locals z) ∙ is)) [ inl has' ↦ inl has' | inr u ↦ inr (unowned_unmade z u) ];
     })
 
   -- a frame that waits: it reads its facts anew, where it claims the object
   module _ (have : HaveEnds h) (away : Bool) (old : ℕ → Bool) (frs : List Frame) (fr : Frame) (is : IsOld p h frs fr old) (o : ℕ) (x y : Object) (before : object_at h o ≡ Some x) (heavy : is_heavy_class p x.class ≡ true)
-      (it : IsRenewed p h (fr ∷ frs) o x y) (reached : IsReachedBy p h (fr ∷ frs) o) where
+      (it : IsRenewed p h (fr ∷ frs) o x y) (reached : IsReachedBy p h (fr ∷ frs) o) (renews : IsOwnedHere p frs fr x.owner → is_renewed p h fr o ≡ true) where
     keyed_waiting : (q : Place) → IsKeyed p h away (is_renewed p h fr o) old frs fr q o x → IsKeyed p k away (is_renewed p h fr o) old frs fr q o y
     keyed_waiting q (unowned u) =
         unowned (unowned_anew have away (is_renewed p h fr o) (is_renewed p h fr o) old frs fr is o x y before heavy it.class it.finished it.owner (reached_below p h fr frs o reached) q u)
@@ -278,28 +282,36 @@ module _ (p : Program) (h k : HeapContents) (same : (v : Value) → root_of k v 
         owned_anew have away (is_renewed p h fr o) (is_renewed p h fr o) old frs fr is o x y before heavy it.class it.finished it.owner (reached_below p h fr frs o reached) q c in' key truth
       where
         -- read anew
-        turned : (b : Bool) → is_renewed p h fr o ≡ b → b ≡ true → claims p (method_at p fr.method) c.origin c.fact ≡ true → (away && is_own c.fact.mode) ≡ false → IsTrueOf p y c.origin (fact_as (is_renewed p h fr o) c.fact)
-        turned true is' one claimed apart =
+        turned : (b : Bool) → is_renewed p h fr o ≡ b → b ≡ true → claims p (method_at p fr.method) c.origin c.fact ≡ true → (away && is_own c.fact.mode) ≡ false → (is_held c.fact.mode && lends_this p fr) ≡ false
+            → IsTrueOf p y c.origin (fact_as (is_renewed p h fr o) c.fact)
+        turned true is' one claimed apart keeps =
             subst (λ (b : Bool). IsTrueOf p y c.origin (fact_as b c.fact)) (sym is')
             (true_anew p c.origin (fact_as true c.fact) x y (origin_needs_all p c.body c.origin fr.control c.fact c.reached) (refl, refl) it.class it.finished it.called it.must
-            (subst (λ (b : Bool). IsTrueOf p x c.origin (fact_as b c.fact)) is' (c.true' claimed apart)))
-        turned false is' one claimed apart = absurd (true≢false (sym one))
+            (subst (λ (b : Bool). IsTrueOf p x c.origin (fact_as b c.fact)) is' (c.true' claimed apart keeps)))
+        turned false is' one claimed apart keeps = absurd (true≢false (sym one))
 
-        truth : claims p (method_at p fr.method) c.origin c.fact ≡ true → (away && is_own c.fact.mode) ≡ false → IsTrueOf p y c.origin (fact_as (is_renewed p h fr o) c.fact)
-        truth claimed apart = turned (is_renewed p h fr o) refl renewed claimed apart
+        truth : claims p (method_at p fr.method) c.origin c.fact ≡ true → (away && is_own c.fact.mode) ≡ false → (is_held c.fact.mode && lends_this p fr) ≡ false → IsTrueOf p y c.origin (fact_as (is_renewed p h fr o) c.fact)
+        truth claimed apart keeps = turned (is_renewed p h fr o) refl renewed claimed apart keeps
           where
-            stays : is_own c.fact.mode ≡ true → away ≡ false
-            stays own = by away refl
+            not_given : is_own c.fact.mode ≡ true → away ≡ false
+            not_given own = by away refl
               where
                 by : (b : Bool) → away ≡ b → away ≡ false
                 by false none = none
                 by true gone = absurd (true≢false (sym (and_from away (is_own c.fact.mode) gone own) ∙ apart))
 
+            not_lending : is_held c.fact.mode ≡ true → lends_this p fr ≡ false
+            not_lending held = ap (λ (b : Bool). b && lends_this p fr) (sym held) ∙ keeps
+
             renewed : is_renewed p h fr o ≡ true
             renewed = elim (claims_by p (method_at p fr.method) c.origin c.fact claimed) [
-              | inl own ↦ owned_renewed p h have fr frs o x before reached (key.owner (stays own) own)
-              | inr held ↦ made_renewed p h have fr frs o x before reached
-                  (held.1, held_by_this p h away (is_renewed p h fr o) old frs fr o x c (c.true' claimed apart).finished held.0 held.1 (claims_owned p (method_at p fr.method) c.origin c.fact claimed).0)
+              | inl own ↦ renews (inl (key.owner (not_given own) own))
+              | inr held ↦ renews (inr (
+                held.1,
+                not_lending held.0,
+                held_by_this p h away (is_renewed p h fr o) old frs fr o x c (c.true' claimed apart keeps).finished held.0 held.1 (not_lending held.0)
+                    (claims_owned p (method_at p fr.method) c.origin c.fact claimed).0,
+              ))
             ]
 
   -- ---- the frames that wait
@@ -315,7 +327,7 @@ module _ (p : Program) (h k : HeapContents) (same : (v : Value) → root_of k v 
 
   covered_waiting : HaveEnds h → (old : ℕ → Bool) (fr : Frame) (frs : List Frame) → IsOld p h frs fr old → Turns (fr ∷ frs) → IsCovered p h (is_given p h fr) (is_reread p h fr) old frs fr
       → IsCovered p k (is_given p k fr) (is_reread p k fr) old frs fr
-  covered_waiting have old fr frs is turns covered q o y small held at heavy owes =
+  covered_waiting have old fr frs is turns covered q o y small open' held at heavy owes =
       subst (λ (b : Bool). IsKeyed p k (is_given p k fr o y.class) b old frs fr q o y) (sym (same_reread fr o y.owner))
       (subst (λ (b : Bool). IsKeyed p k b (is_reread p h fr o y.owner) old frs fr q o y) (sym (same_given fr o y.class)) (go (turns o y (place_value p k fr.method fr.locals q) held at)))
     where
@@ -329,16 +341,16 @@ module _ (p : Program) (h k : HeapContents) (same : (v : Value) → root_of k v 
       go (x, before, inl it) =
           subst (λ (z : Object). IsKeyed p k (is_given p h fr o z.class) (is_reread p h fr o z.owner) old frs fr q o z) (sym it)
           (keyed_same (is_given p h fr o x.class) (is_reread p h fr o x.owner) old frs fr o x q
-          (covered q o x small was_held before (ap (λ (z : Object). is_heavy_class p z.class) (sym it) ∙ heavy) (bears_before p h k stay o x y (ap (λ (z : Object). z.finished) it) (ap (λ (z : Object). z.owner) it) owes)))
+          (covered q o x small open' was_held before (ap (λ (z : Object). is_heavy_class p z.class) (sym it) ∙ heavy) (bears_before p h k stay o x y (ap (λ (z : Object). z.class) it) (ap (λ (z : Object). z.finished) it) (ap (λ (z : Object). z.owner) it) owes)))
       go (x, before, inr anew) =
           subst (λ (c : ClassId). IsKeyed p k (is_given p h fr o c) (is_reread p h fr o y.owner) old frs fr q o y) (sym anew.class)
-          (keyed_waiting have (is_given p h fr o x.class) old frs fr is o x y before heavy' anew (anew.reached heavy owes') q (covered q o x small was_held before heavy' owes'))
+          (keyed_waiting have (is_given p h fr o x.class) old frs fr is o x y before heavy' anew (anew.reached heavy owes').0 (anew.reached heavy owes').1.0 q (covered q o x small open' was_held before heavy' owes'))
         where
           heavy' : is_heavy_class p x.class ≡ true
           heavy' = ap (is_heavy_class p) (sym anew.class) ∙ heavy
 
           owes' : OwesOrHolds p h o x
-          owes' = bears_before p h k stay o x y anew.finished anew.owner owes
+          owes' = bears_before p h k stay o x y anew.class anew.finished anew.owner owes
 
   pub waiting_anew : HaveEnds h → (above : ℕ → Bool) (frs : List Frame) → Turns frs → AreWaiting p h above frs → AreWaiting p k above frs
   waiting_anew have above [] turns waits = tt

@@ -130,7 +130,7 @@ module _ (p : Program) (ac : Accept p) (h : HeapContents) (fr : Frame) (old : �
               (subst (λ (a : Action). IsFault (flow p st.number c.origin a s.edge c.fact)) (sym (is ∙ ap actions.End end')) fault)
 
       of_value : x.owner ≡ owners.Frame (length frs + 1)
-      of_value = by (covered (places.Temp d) n x room root before heavy owes)
+      of_value = by (covered (places.Temp d) n x room refl root before heavy owes)
         where
           by : IsKeyed p h false false old frs fr (places.Temp d) n x → x.owner ≡ owners.Frame (length frs + 1)
           by (owned c has' own) = own.owner refl (and_parts (is_heavy_class p c.origin.class) (is_own c.fact.mode) (is_owning c has')).1

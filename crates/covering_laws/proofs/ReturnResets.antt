@@ -1,5 +1,5 @@
 -- A frame ends, and with it the call at which the frame below waits, which may create an obligation anew.
-use Rattle.std.proofs.Common.{◌≡◌, ◌⊎◌, ℕ, ◌+◌, ◌<◌, Bool, true, false, Option, Some, List, [], ◌∷◌, length, slice_get, sym, ◌∙◌, subst}
+use Rattle.std.proofs.Common.{◌≡◌, ℕ, ◌+◌, Bool, true, false, Option, Some, List, [], ◌∷◌, length, slice_get, sym, ◌∙◌, subst, ap}
 use Rattle.std.proofs.lemmas.List.Elements.{All-head}
 use Rattle.program_model.specs.declared.kinds.ClassId.{ClassId}
 use Rattle.program_model.specs.declared.kinds.MethodId.{MethodId}
@@ -11,10 +11,8 @@ use Rattle.ledger_obligations.specs.WellFormed.{HasSmallInterests}
 use Rattle.java_control.specs.Control.{Step}
 use Rattle.java_control.specs.declared.action.Action.TheVariants as actions
 use Rattle.java_control.specs.declared.action.Completion.{Completion}
-use Rattle.java_control.specs.declared.place.Place.TheVariants as places
 use Rattle.ledger_state.specs.Contents.{HeapContents}
 use Rattle.ledger_state.specs.Heaps.{object_at, root_of}
-use Rattle.ledger_state.specs.declared.entry.Owner.TheVariants as owners
 use Rattle.ledger_state.specs.declared.object.Object.{Object}
 use Rattle.ledger_state.specs.declared.value.Value.{Value}
 use Rattle.ledger_state.specs.declared.value.Value.TheVariants as values
@@ -53,7 +51,20 @@ use Rattle.covering_laws.proofs.EndTargets.{all_turned, heaps_alike, same_fields
 use Rattle.covering_laws.proofs.LocalSteps.{LocalsIn}
 use Rattle.covering_laws.proofs.RenewedOperands.{HoldsLent}
 use Rattle.covering_laws.proofs.ResetCovers.{same_held}
-use Rattle.covering_laws.proofs.Waiting.{AllHeldBefore, KeepsFields, KeepsUnfinished, held_before_further}
+use Rattle.covering_laws.proofs.Waiting.{AllHeldBefore, KeepsFields, KeepsUnfinished, held_before_further, IsCarried}
+use Rattle.value_laws.proofs.SettledFrames.{AllRenewInHand, RenewsInHand}
+use Rattle.covering_laws.proofs.WholeThis.{IsSingleThis}
+use Rattle.covering_laws.proofs.IdleCalls.{LendsItsOwn}
+use Rattle.value_laws.proofs.RootLaws.{one_object}
+
+-- what the end of a call leaves of the heap `h`, where the caller goes on as `after`: what is said of objects apart from those that are made is asked of others alone
+pub record IsReturned (p : Program) (h k : HeapContents) (after : Frame) (rest : List Frame) (made : ℕ → Type 0) : Type 0 where
+  pub unfinished : KeepsUnfinished h k made
+  pub linked : LinkedAreAliases p k
+  pub before : AllHeldBefore p h k rest
+  pub owns : FieldsOwn p k
+  pub class : (w : ℕ) (x y : Object) → object_at h w ≡ Some x → object_at k w ≡ Some y → y.class ≡ x.class
+  pub covered : AreCovered p k (after ∷ rest)
 
 module _ (p : Program) (ac : Accept p) (forms : HasPlainForms p) (runs' : HasPlainRuns p) (names : HasSmallInterests p) (h : HeapContents) (texts : TextsAreLight p h) (links : HasEarlierLinks h) (apart : LinkedAreAliases p h) (ranges : FieldsInRange h)
     (fr caller : Frame) (rest : List Frame) (st : Stands p fr) (below : Stands p caller) (targets : KeepsTargets p caller) (keeps : KeepsTypes (is_text p h) p fr) (gives : GivesAsNamed p caller fr) (dispatched : IsDispatched p h fr caller)
@@ -63,7 +74,8 @@ module _ (p : Program) (ac : Accept p) (forms : HasPlainForms p) (runs' : HasPla
     (unlinked : HoldersAreUnlinked (is_heavy_class p) h) (fresh : (w : ℕ) → is_new t.action ≡ true → fr.locals.this ≡ values.Object w → RunOnOthers w (caller ∷ rest)) (on_same : RunsOnSame t.action caller.locals.this fr.locals.this)
     (stored : StoredHoldNone (is_text p h) p h) (stand : AllStand p rest) (aged : IsOld p h (caller ∷ rest) fr old) (older : ℕ → Bool) (up : (o : ℕ) → older o ≡ true → old o ≡ true) (was_old : IsOld p h rest caller older)
     (waiting : IsCovered p h (is_given p h caller) (is_reread p h caller) older rest caller) (lower : AreWaiting p h older rest) (holds : HoldsLent p h older rest caller below) (news : AreNew p (caller ∷ rest))
-    (unready : AreUnfinished p h (caller ∷ rest)) (own : OwningFieldsOwn p h) (sight : ActsInSight p h caller) where
+    (unready : AreUnfinished p h (caller ∷ rest)) (owned : FieldsOwn p h) (renews' : RenewsInHand p h caller rest) (all_renew : AllRenewInHand p h rest) (single : IsSingleThis p h caller) (lending : LendsItsOwn p caller t)
+    (own : OwningFieldsOwn p h) (sight : ActsInSight p h caller) where
   abbrev at : ℕ
   at = length rest + 1
 
@@ -103,37 +115,53 @@ module _ (p : Program) (ac : Accept p) (forms : HasPlainForms p) (runs' : HasPla
   alike : AreAlike K J
   alike = heaps_alike p ac forms h links fr caller rest below sight dispatched making e v t named back ends made_after caller_in own
 
+  its_was : (n : ℕ) (x : Object) → object_at K n ≡ Some x → IsCarried h n x
+  its_was = was p ac forms runs' names h texts links apart ranges fr caller rest st below targets keeps gives dispatched making mine' old covered i s q here is t named back may makes itself args exits leads ends made_after classes unheld in' alone contents unlinked fresh on_same stored
+
   turns : AllTurned p h K J caller.locals t.action
-  turns = all_turned p ac forms h links fr caller rest below sight dispatched making e v t named back ends made_after caller_in own unlinked (was p ac forms runs' names h texts links apart ranges fr caller rest st below targets keeps gives dispatched making mine' old covered i s q here is t named back may makes itself args exits leads ends made_after classes unheld in' alone contents unlinked fresh on_same stored)
+  turns = all_turned p ac forms h links fr caller rest below sight dispatched making e v t named back ends made_after caller_in own unlinked its_was
 
   -- ---- all frames
 
   its_unfinished : KeepsUnfinished h K (λ o. (fr.locals.this ≡ values.Object o) × (is_new t.action ≡ true))
   its_unfinished = ended_unfinished p ac forms runs' names h texts links apart ranges fr caller rest st below targets keeps gives dispatched making mine' old covered i s q here is t named back may makes itself args exits leads ends made_after classes unheld in' alone contents unlinked fresh on_same stored
 
-  pub returned_covered : OwnersBelow h (length (caller ∷ rest) + 1) → AreCovered p J (after ∷ rest)
+  returned_covered : OwnersBelow h (length (caller ∷ rest) + 1) → AreCovered p J (after ∷ rest)
   returned_covered low =
-      anew_covered p ac forms runs' names h texts links apart ranges fr caller rest st below targets keeps gives dispatched making mine' old covered i s q here is t named back may makes itself args exits leads ends made_after classes unheld in' alone contents unlinked fresh on_same stored stand aged older up was_old waiting lower holds news unready J roots fields_stay alike
+      anew_covered p ac forms runs' names h texts links apart ranges fr caller rest st below targets keeps gives dispatched making mine' old covered i s q here is t named back may makes itself args exits leads ends made_after classes unheld in' alone contents unlinked fresh on_same stored stand aged older up was_old waiting lower holds news unready owned renews' all_renew single lending J roots fields_stay alike
       (end_ends p at fr.locals.this caller.locals t.action (method_at p fr.method) (without_reset m) v e h (says_nothing m) ends unmade)
       (unfinished_but p h K (λ o. (fr.locals.this ≡ values.Object o) × (is_new t.action ≡ true)) its_unfinished (caller ∷ rest) (λ w is'. fresh w is'.1 is'.0) in' unready) turns low
 
   -- ---- what does not hang on names
 
-  pub returned_apart : LinkedAreAliases p J
+  returned_apart : LinkedAreAliases p J
   returned_apart n y k now some =
       let z = alike.back n y now in
       subst (IsGivenAsAlias p) (sym z.2.class) (ended_apart p ac forms runs' names h texts links apart ranges fr caller rest st below targets keeps gives dispatched making mine' old covered i s q here is t named back may makes itself args exits leads ends made_after classes unheld in' alone contents unlinked fresh on_same stored n z.0 k z.1 (sym z.2.link ∙ some))
 
-  pub returned_unfinished : KeepsUnfinished h J (λ o. (fr.locals.this ≡ values.Object o) × (is_new t.action ≡ true))
+  returned_unfinished : KeepsUnfinished h J (λ o. (fr.locals.this ≡ values.Object o) × (is_new t.action ≡ true))
   returned_unfinished o x y other before now open' = let z = alike.back o y now in z.2.finished ∙ its_unfinished o x z.0 other before z.1 open'
 
-  pub returned_held_before : AllHeldBefore p h J rest
-  returned_held_before = held_before_further p h K J rest (ended_held_before p ac forms runs' names h texts links apart ranges fr caller rest st below targets keeps gives dispatched making mine' old covered i s q here is t named back may makes itself args exits leads ends made_after classes unheld in' alone contents unlinked fresh on_same stored) (stays rest)
+  returned_held_before : AllHeldBefore p h J rest
+  returned_held_before = held_before_further p h K J (λ w y now. let z = alike.back w y now in (z.0, z.1, z.2.class, z.2.finished)) rest (ended_held_before p ac forms runs' names h texts links apart ranges fr caller rest st below targets keeps gives dispatched making mine' old covered i s q here is t named back may makes itself args exits leads ends made_after classes unheld in' alone contents unlinked fresh on_same stored) (stays rest)
     where
       stays : (frs : List Frame) → AllHeldBefore p K J frs
       stays [] = tt
-      stays (g ∷ frs) = ((λ place w small root. sym (same_held p K J roots fields_stay alike g.method g.locals place) ∙ root), stays frs)
+      stays (g ∷ frs) = ((λ place w y small root now heavy open'. sym (same_held p K J roots fields_stay alike g.method g.locals place) ∙ root), stays frs)
 
   -- what fields hold they own
-  pub returned_owns : FieldsOwn p h → FieldsOwn p J
-  returned_owns held = fields_own_kept p K J fields_stay roots (λ o y now. let z = alike.back o y now in (z.0, z.1, z.2.class, z.2.link, z.2.finished, z.2.owner)) (ended_owns p ac forms runs' names h texts links apart ranges fr caller rest st below targets keeps gives dispatched making mine' old covered i s q here is t named back may makes itself args exits leads ends made_after classes unheld in' alone contents unlinked fresh on_same stored held)
+  returned_owns : FieldsOwn p J
+  returned_owns = fields_own_kept p K J fields_stay roots (λ o y now. let z = alike.back o y now in (z.0, z.1, z.2.class, z.2.link, z.2.finished, z.2.owner)) (ended_owns p ac forms runs' names h texts links apart ranges fr caller rest st below targets keeps gives dispatched making mine' old covered i s q here is t named back may makes itself args exits leads ends made_after classes unheld in' alone contents unlinked fresh on_same stored owned)
+
+  pub call_returned : OwnersBelow h (length (caller ∷ rest) + 1) → IsReturned p h J after rest (λ o. (fr.locals.this ≡ values.Object o) × (is_new t.action ≡ true))
+  call_returned low = record {
+    unfinished = returned_unfinished;
+    linked = returned_apart;
+    before = returned_held_before;
+    owns = returned_owns;
+    class = λ w x y before now.
+        let z = alike.back w y now in
+        let u = its_was w z.0 z.1 in
+        z.2.class ∙ u.2 ∙ ap (λ (v' : Object). v'.class) (one_object u.0 x (object_at h w) u.1 before);
+    covered = returned_covered low;
+  }

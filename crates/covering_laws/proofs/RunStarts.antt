@@ -27,10 +27,11 @@ covered_at_start p ac main m choices named body = (
   record {
     there = λ o was. absurd (true≢false (sym was));
     ends = λ o x at heavy was. absurd (true≢false (sym was));
-    strict = λ o x at heavy ends. absurd (no_object o x at);
+    below = λ o x at heavy owned. absurd (no_object o x at);
     contents = λ o x at heavy content takes. absurd (no_object o x at);
+    self = λ w y this at heavy none settled. absurd (no_object w y at);
   },
-  (λ q o x small root at heavy owes. absurd (no_object o x at)),
+  (λ q o x small keeps root at heavy owes. absurd (no_object o x at)),
   tt,
   (λ o x at. absurd (no_object o x at)),
 )

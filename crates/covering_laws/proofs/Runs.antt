@@ -8,7 +8,7 @@ use Rattle.program_model.specs.declared.kinds.MethodId.{MethodId}
 use Rattle.program_model.specs.declared.program.Program.{Program}
 use Rattle.program_model.specs.Lookups.{method_at}
 use Rattle.ledger_obligations.specs.WellFormed.{HasSmallInterests}
-use Rattle.java_control.specs.Calls.{called_method}
+use Rattle.java_control.specs.Calls.{called_method, is_reset_of_this}
 use Rattle.java_control.specs.Control.{Step, next_of}
 use Rattle.java_control.specs.declared.action.Action.{Action}
 use Rattle.java_control.specs.declared.action.Action.TheVariants as actions
@@ -17,7 +17,7 @@ use Rattle.value_laws.specs.Accept.{Accept}
 use Rattle.stub_conduct.specs.declared.choice.Conduct.{Conduct}
 use Rattle.ledger_state.specs.Contents.{HeapContents}
 use Rattle.ledger_obligations.specs.Obligations.{end_frame}
-use Rattle.ledger_state.specs.Heaps.{next_number, object_at}
+use Rattle.ledger_state.specs.Heaps.{next_number, object_at, unfinished}
 use Rattle.ledger_state.specs.declared.locals.Locals.{Locals}
 use Rattle.ledger_state.specs.declared.value.Value.{Value}
 use Rattle.ledger_state.specs.declared.value.Value.TheVariants as values
@@ -61,19 +61,20 @@ use Rattle.covering_laws.specs.Running.{HasPlainRuns}
 use Rattle.covering_laws.specs.Linking.{LinkedAreAliases}
 use Rattle.covering_laws.specs.Sight.{ActsInSight, AllActInSight}
 use Rattle.covering_laws.specs.Throws.{EndsAsDeclared, RaisesExceptions, TopEndsAsDeclared, TopRaisesExceptions}
-use Rattle.covering_laws.proofs.BeingMade.{all_apart, apart_from, making_on}
-use Rattle.covering_laws.proofs.ReturnResets.{returned_apart, returned_covered, returned_held_before, returned_owns, returned_unfinished}
-use Rattle.covering_laws.proofs.InnerJoins.{plain_covered, plain_held_before, plain_linked, plain_nobody, plain_owns, plain_unfinished}
-use Rattle.covering_laws.proofs.ResetJoins.{left_covered, left_held_before, left_linked, left_owns, left_unfinished}
+use Rattle.covering_laws.proofs.BeingMade.{StayOfClass, all_apart, apart_from, making_on}
+use Rattle.covering_laws.proofs.ReturnResets.{IsReturned, call_returned}
+use Rattle.covering_laws.proofs.InnerJoins.{plain_covered, plain_held_before, plain_linked, plain_nobody, plain_owns, plain_unfinished, plain_stay}
+use Rattle.covering_laws.proofs.ResetJoins.{left_covered, left_held_before, left_linked, left_owns, left_unfinished, left_classes}
 use Rattle.covering_laws.proofs.LocalSteps.{LocalsIn, all_there}
 use Rattle.covering_laws.proofs.Lost.{all_lost, are_held, frame_linked, frame_owns, lost_held_before, lost_linked, lost_owns, lost_unfinished, was_there}
-use Rattle.covering_laws.proofs.NullCalls.{null_covered, null_held_before, null_owns, thrown_linked, thrown_unfinished}
-use Rattle.covering_laws.proofs.StartHeaps.{new_unfinished}
-use Rattle.covering_laws.proofs.StartJoins.{callee_this, start_covered, start_held_before, started_linked, started_owns, started_unfinished}
-use Rattle.covering_laws.proofs.StoreJoins.{store_held_before, store_linked, store_nobody, store_owns, store_unfinished, stores_covered}
+use Rattle.covering_laws.proofs.NullCalls.{null_covered, null_held_before, null_owns, thrown_linked, thrown_unfinished, thrown_carries}
+use Rattle.covering_laws.proofs.StartHeaps.{new_unfinished, start_carries}
+use Rattle.covering_laws.proofs.StartJoins.{IsStarted, started}
+use Rattle.covering_laws.proofs.StoreJoins.{joined, store_heap, store_linked}
+use Rattle.covering_laws.proofs.StoreMoves.{IsJoined}
 use Rattle.covering_laws.proofs.ContentHolders.{contents_have_holders}
 use Rattle.covering_laws.proofs.StepWays.{library_unowned, returned_unowned, start_unowned, thrown_unowned}
-use Rattle.covering_laws.proofs.Waiting.{AllHeldBefore, KeepsUnfinished, held_before_further, next_not_held, no_other, none_held_on}
+use Rattle.covering_laws.proofs.Waiting.{AllHeldBefore, KeepsUnfinished, held_before_further, next_not_held, no_other, none_held_on, Carries}
 use Rattle.covering_laws.proofs.LinkedExceptions.{still_aliases}
 use Rattle.value_laws.specs.Arguments.{HasArguments, HaveArguments}
 use Rattle.covering_laws.specs.Texts.{TextsAreLight}
@@ -82,12 +83,44 @@ use Rattle.covering_laws.proofs.LentHolders.{holds_lent, holds_ready}
 use Rattle.covering_laws.proofs.MadeTargets.{HoldsReady}
 use Rattle.covering_laws.proofs.RenewedOperands.{HoldsLent}
 use Rattle.covering_laws.proofs.Texts.{texts_are_light}
+use Rattle.covering_laws.proofs.RunningThis.{lends_its_own, single_this}
+use Rattle.covering_laws.proofs.RenewingFrames.{all_renew_in_hand}
+use Rattle.covering_laws.proofs.WholeThis.{IsSingleThis}
+use Rattle.covering_laws.proofs.IdleCalls.{LendsItsOwn}
+use Rattle.value_laws.proofs.SettledFrames.{AllRenewInHand}
+use Rattle.value_laws.specs.ClassValues.{IsOnInstance}
+use Rattle.value_laws.proofs.ClassArguments.{target_is_instance}
+use Rattle.ownership_rules.specs.Callees.{callee_in}
+use Rattle.value_laws.proofs.HeapLaws.{numbers_are_in_range}
+use Rattle.value_laws.proofs.RootLaws.{one_object}
+use Rattle.value_laws.proofs.Chains.{object_there}
+use Rattle.value_laws.proofs.RangeValues.{operand_in_range}
+use Rattle.ledger_state.specs.Values.{number_of}
+use Rattle.ledger_state.specs.declared.object.Object.{Object}
+use Rattle.ledger_state.specs.Classes.{class_in}
 
 -- a `new` begins on the next object
 new_self : (l : Locals) (a : Action) (h : HeapContents) → is_new a ≡ true → self_begun l a h ≡ values.Object (next_number h)
 new_self l actions.Skip h new = absurd (true≢false (sym new))
 new_self l (actions.New m d n) h new = refl
 new_self l a h new = absurd (true≢false (sym new))
+
+-- a read of a constant is no call on `this`
+read_resets : (p : Program) (named : MethodId) (a : Action) → IsConstantRead a named → is_reset_of_this p a ≡ true → ⊥
+read_resets p named (actions.Call m d n form) read resets = read
+read_resets p named a read resets = true≢false (sym resets)
+
+by_carried : (h k : HeapContents) → Carries h k → StayOfClass h k
+by_carried h k carries w x y before now =
+    let z = carries w y now (numbers_are_in_range h w x before).1 in
+    z.2 ∙ ap (λ (u : Object). u.class) (one_object z.0 x (object_at h w) z.1 before)
+
+-- so it is when what no place holds is lost
+over_loss : (p : Program) (h k : HeapContents) (held : List (List Value)) → StayOfClass h k → StayOfClass h (lose held k)
+over_loss p h k held stay w x y before now = let z = was_there p k held w y now in z.2.class ∙ stay w x z.0 before z.1
+
+still_there : (p : Program) (k : HeapContents) (held : List (List Value)) (w : ℕ) (y : Object) → object_at (lose held k) w ≡ Some y → (x : Object) × (object_at k w ≡ Some x) × (y.class ≡ x.class) × (y.finished ≡ x.finished)
+still_there p k held w y now = let z = was_there p k held w y now in (z.0, z.1, z.2.class, z.2.finished)
 
 abbrev pub AreKept : Program → Config → Type 0
 AreKept p c = AreCovered p c.heap c.frames × AreBeingMade p c.heap c.frames × LinkedAreAliases p c.heap × FieldsOwn p c.heap
@@ -121,21 +154,28 @@ module _ (p : Program) (ac : Accept p) (forms : HasPlainForms p) (runs : HasPlai
 
   -- what a field of `this` holds, where the frame's method creates the obligation of `this` anew
   holds : HoldsLent p h covered.0 frs fr st
-  holds = holds_lent p ac forms h links owned fr top st covered.0 frs gives_none renews_none covered.2 unlinked
+  holds = holds_lent p ac forms h links owned fr top st covered.0 frs targets.0 gives_none renews_none covered.2 unlinked
 
   ready : HoldsReady p h covered.0 frs fr st
-  ready = holds_ready p ac forms h links owned fr top st covered.0 frs gives_none renews_none covered.2 have
+  ready = holds_ready p ac forms h links owned fr top st covered.0 frs targets.0 gives_none renews_none covered.2
+
+  -- what the frames that wait have in hand
+  all_renew : AllRenewInHand p h frs
+  all_renew = all_renew_in_hand p ac forms h have links owned unlinked fr frs agrees.standing.1 targets.1 agrees.stacked others_in covered.0 covered.3
+
+  single : IsSingleThis p h fr
+  single = single_this p ac forms h linked fr st targets.0 top sight
 
   carried : (x : Config) → went x ≡ went d → AreKept p x → AreKept p d
   carried x is kept = subst (AreKept p) (let same : x ≡ d = cc in same) kept
 
   -- the top frame goes on as another on the same object, and the heap loses what no place holds
-  goes : (k : HeapContents) (after : Frame) → after.locals.this ≡ fr.locals.this → KeepsUnfinished h k no_other → AllHeldBefore p h k frs → LinkedAreAliases p k → FieldsOwn p k → UnfinishedAreUnowned k → AreCovered p k (after ∷ frs)
+  goes : (k : HeapContents) (after : Frame) → after.locals.this ≡ fr.locals.this → KeepsUnfinished h k no_other → AllHeldBefore p h k frs → StayOfClass h k → LinkedAreAliases p k → FieldsOwn p k → UnfinishedAreUnowned k → AreCovered p k (after ∷ frs)
       → AreCovered p (lose (held_by (after ∷ frs)) k) (after ∷ frs) × AreBeingMade p (lose (held_by (after ∷ frs)) k) (after ∷ frs) × LinkedAreAliases p (lose (held_by (after ∷ frs)) k) × FieldsOwn p (lose (held_by (after ∷ frs)) k)
-  goes k after same unready before apart mine nobody all = (
+  goes k after same unready before classes apart mine nobody all = (
     all_lost p k (held_by (after ∷ frs)) nobody (after ∷ frs) (are_held p k (after ∷ frs)) all,
-    making_on p h (lose (held_by (after ∷ frs)) k) no_other (lost_unfinished p k (held_by (after ∷ frs)) h no_other unready) fr after frs same in' (all_apart (fr ∷ frs))
-        (held_before_further p h k (lose (held_by (after ∷ frs)) k) frs before (lost_held_before p k (held_by (after ∷ frs)) frs)) making,
+    making_on p h (lose (held_by (after ∷ frs)) k) no_other (lost_unfinished p k (held_by (after ∷ frs)) h no_other unready) (over_loss p h k (held_by (after ∷ frs)) classes) fr after frs same in' (all_apart (fr ∷ frs))
+        (held_before_further p h k (lose (held_by (after ∷ frs)) k) (still_there p k (held_by (after ∷ frs))) frs before (lost_held_before p k (held_by (after ∷ frs)) frs)) making,
     still_aliases p k (lose (held_by (after ∷ frs)) k) (lost_linked p k (held_by (after ∷ frs))) apart,
     lost_owns p k (held_by (after ∷ frs)) mine,
   )
@@ -147,6 +187,7 @@ module _ (p : Program) (ac : Accept p) (forms : HasPlainForms p) (runs : HasPlai
       goes _
       (frame_after p h fr s (thrown_value h e (made_value p h c.arrays c.statics (next_choice c.choices c.used) fr.locals s.action))) refl
       (plain_unfinished p ac forms c texts types links ranges linked fr st keeps.0 raises i s here e next sight.updates) (plain_held_before p ac forms c texts types links ranges linked fr st keeps.0 raises i s here e next sight.updates frs others_in)
+      (plain_stay p ac forms c texts types links ranges linked fr st keeps.0 raises i s here e next sight.updates)
       (plain_linked p ac forms c texts types links ranges linked fr st keeps.0 raises i s here e next sight.updates linked)
       (plain_owns p ac forms c texts types links ranges linked fr st keeps.0 raises i s here e next sight.updates have unlinked owned) (plain_nobody p ac forms c texts types links ranges linked fr st keeps.0 raises i s here e next sight.updates have.unfinished)
       (plain_covered p ac forms c texts types links ranges linked fr st keeps.0 raises i s here e next sight.updates have unlinked frs in' covered)
@@ -155,22 +196,23 @@ module _ (p : Program) (ac : Accept p) (forms : HasPlainForms p) (runs : HasPlai
   null_kept e s i here next = subst (λ (x : Option ClassId). AreKept p (within p c fr frs x s)) (sym next.thrown)
       (goes (with_exception p p.core.null_pointer_exception h) (frame_after p h fr s (values.Object (next_number h))) refl
       (thrown_unfinished p h links p.core.null_pointer_exception) (null_held_before p ac forms h links ranges fr st i s here e next frs others_in)
+      (by_carried h (with_exception p p.core.null_pointer_exception h) (thrown_carries p h links p.core.null_pointer_exception))
       (still_aliases p h (with_exception p p.core.null_pointer_exception h) (thrown_linked p h links p.core.null_pointer_exception) linked) (null_owns p ac forms h links ranges fr st i s here e next have unlinked owned)
-      (thrown_unowned p (Some p.core.null_pointer_exception) h have.unfinished) (null_covered p ac forms h links ranges fr st i s here e next have unlinked light_here types.fields frs in' covered))
+      (thrown_unowned p (Some p.core.null_pointer_exception) h have.unfinished) (null_covered p ac forms h links ranges fr st i s here e next have unlinked frs in' covered))
 
   store_kept : (e : Option ClassId) (s : Step) (i : ℕ) (here : slice_get (frame_steps p fr) i ≡ Some s) → IsOwningStore e s → AreKept p (within p c fr frs e s)
   store_kept e s i here next = subst (λ (x : Option ClassId). AreKept p (within p c fr frs x s)) (sym next.normal)
       (goes _
       (frame_after p h fr s made) refl
-      (store_unfinished p ac forms h links ranges fr frs st agrees.standing.1 agrees.stacked hold i s here next.field next.temp next.action made)
-      (store_held_before p ac forms h links ranges fr frs st agrees.standing.1 agrees.stacked hold i s here next.field next.temp next.action made in')
-      (store_linked p ac forms h links ranges fr frs st agrees.standing.1 agrees.stacked hold i s here next.field next.temp next.action made linked)
-      (store_owns p ac forms h links ranges fr frs st agrees.standing.1 agrees.stacked hold i s here next.field next.temp next.action made have unlinked covered owned)
-      (store_nobody p ac forms h links ranges fr frs st agrees.standing.1 agrees.stacked hold i s here next.field next.temp next.action made have.unfinished)
-      (stores_covered p ac forms h links ranges fr frs st agrees.standing.1 agrees.stacked hold i s here next.field next.temp next.action made have unlinked in' covered))
+      its.unready its.held its.classes
+      (store_linked p ac forms h links ranges fr frs st agrees.standing.1 agrees.stacked targets hold have unlinked in' owned linked sight light_here keeps.0 covered i s here next.field next.temp next.action made) its.owns its.nobody its.covered')
     where
       made : Value
       made = made_value p h c.arrays c.statics (next_choice c.choices c.used) fr.locals s.action
+
+      its : IsJoined p h (store_heap p ac forms h links ranges fr frs st agrees.standing.1 agrees.stacked targets hold have unlinked in' owned linked sight light_here keeps.0 covered i s here next.field next.temp next.action made)
+          (frame_after p h fr s made) frs
+      its = joined p ac forms h links ranges fr frs st agrees.standing.1 agrees.stacked targets hold have unlinked in' owned linked sight light_here keeps.0 covered i s here next.field next.temp next.action made
 
   inner_kept : (e : Option ClassId) (s : Step) (i : ℕ) → slice_get (frame_steps p fr) i ≡ Some s → IsInnerStep p h c.arrays fr.method fr.locals e s → AreKept p (within p c fr frs e s)
   inner_kept e s i here next = elim next [
@@ -199,38 +241,42 @@ module _ (p : Program) (ac : Accept p) (forms : HasPlainForms p) (runs : HasPlai
     abbrev k : HeapContents
     k = began_heap p fr.locals s.action (method_at p named) (length frames) h
 
+    -- what the call leaves
+    its : IsStarted p h k callee fr frs (self_begun fr.locals s.action h)
+    its = started p ac forms runs h light_here links have owned linked ranges types.fields fr frs agrees.standing agrees.stacked keeps.0 targets.0 top others_in covered.0 covered.1 covered.2 covered.4 hold.contents hold.new hold.unfinished making holds ready
+        c.arrays named r a next (length frames) position in' covered.3
+
     later : KeepsUnfinished h (lose held k) no_other
-    later = lost_unfinished p k held h no_other (started_unfinished p ac forms runs h light_here links have ranges types.fields fr frs agrees.standing agrees.stacked keeps.0 targets.0 top others_in covered.0 covered.1 covered.2 covered.4 hold.contents hold.new hold.unfinished making holds ready c.arrays named r a next (length frames) position)
+    later = lost_unfinished p k held h no_other its.unfinished
+
+    -- the frame of a `new` runs on the next object
+    on_next : (j : ℕ) (u : Step) (w : ℕ) → slice_get (frame_steps p fr) j ≡ Some u → is_new u.action ≡ true → callee.locals.this ≡ values.Object w → next_number h ≡ w
+    on_next j u w at new this =
+        let one : u.action ≡ s.action = one_action p st.number fr.control next.index j s u (step_here p fr st next.index s next.here) (step_here p fr st j u at) (call_may s.action (subst IsCallRow (sym next.same) next.row)) in
+        let self : values.Object w ≡ values.Object (next_number h) = sym this ∙ its.this ∙ new_self fr.locals s.action h (ap is_new (sym one) ∙ new) in
+        cc
 
     -- the object of a `new` that begins
     begins : IsBeingMade p (lose held k) callee fr
     begins j u w y at new this now =
-        let one : u.action ≡ s.action = one_action p st.number fr.control next.index j s u (step_here p fr st next.index s next.here) (step_here p fr st j u at) (call_may s.action (subst IsCallRow (sym next.same) next.row)) in
-        let self : values.Object w ≡ values.Object (next_number h) = sym this ∙ callee_this p ac forms runs h light_here links have ranges types.fields fr frs agrees.standing agrees.stacked keeps.0 targets.0 top others_in covered.0 covered.1 covered.2 covered.4 hold.contents hold.new hold.unfinished making holds ready c.arrays named r a next (length frames) position
-        ∙ new_self fr.locals s.action h (ap is_new (sym one) ∙ new) in
         let z = was_there p k held w y now in
-        z.2.finished ∙ new_unfinished p fr.locals s.action (method_at p named) (length frames) h links z.0 (ap (object_at k) (let number : next_number h ≡ w = cc in number) ∙ z.1)
+        z.2.finished ∙ new_unfinished p fr.locals s.action (method_at p named) (length frames) h links z.0 (ap (object_at k) (on_next j u w at new this) ∙ z.1)
 
     held_before : AllHeldBefore p h (lose held k) (fr ∷ frs)
-    held_before = held_before_further p h k (lose held k) (fr ∷ frs)
-        (start_held_before p ac forms runs h light_here links have ranges types.fields fr frs agrees.standing agrees.stacked keeps.0 targets.0 top others_in covered.0 covered.1 covered.2 covered.4 hold.contents hold.new hold.unfinished making holds ready c.arrays named r a next (length frames) position (fr ∷ frs) in') (lost_held_before p k held (fr ∷ frs))
+    held_before = held_before_further p h k (lose held k) (still_there p k held) (fr ∷ frs) its.before (lost_held_before p k held (fr ∷ frs))
 
     -- which no frame holds yet
     unheld : IsUnheld p (lose held k) callee fr frs
-    unheld j u w at new this =
-        let one : u.action ≡ s.action = one_action p st.number fr.control next.index j s u (step_here p fr st next.index s next.here) (step_here p fr st j u at) (call_may s.action (subst IsCallRow (sym next.same) next.row)) in
-        let self : values.Object w ≡ values.Object (next_number h) = sym this ∙ callee_this p ac forms runs h light_here links have ranges types.fields fr frs agrees.standing agrees.stacked keeps.0 targets.0 top others_in covered.0 covered.1 covered.2 covered.4 hold.contents hold.new hold.unfinished making holds ready c.arrays named r a next (length frames) position
-        ∙ new_self fr.locals s.action h (ap is_new (sym one) ∙ new) in
-        subst (λ (n : ℕ). HoldNone p (lose held k) n (fr ∷ frs)) (let number : next_number h ≡ w = cc in number)
-        (none_held_on p h (lose held k) (next_number h) (fr ∷ frs) held_before (next_not_held p h links (fr ∷ frs) (all_there p h ranges (fr ∷ frs) in')))
+    unheld j u w y at new this now heavy =
+        subst (λ (n : ℕ). HoldNone p (lose held k) n (fr ∷ frs)) (on_next j u w at new this)
+        (none_held_on p h (lose held k) (next_number h) y (ap (object_at (lose held k)) (on_next j u w at new this) ∙ now) heavy (begins j u w y at new this now) (fr ∷ frs) held_before (next_not_held p h links (fr ∷ frs) (all_there p h ranges (fr ∷ frs) in')))
 
     began_kept : AreKept p (began p c fr frs named r a pos)
     began_kept = subst (λ (b : Action). AreKept p (began p c fr frs named r b pos)) next.same (
-      all_lost p k held (start_unowned p fr.locals s.action (method_at p named) (length frames) h links have.unfinished) frames (are_held p k frames) (start_covered p ac forms runs h light_here links have ranges types.fields fr frs agrees.standing agrees.stacked keeps.0 targets.0 top others_in covered.0 covered.1 covered.2 covered.4 hold.contents hold.new hold.unfinished making holds ready c.arrays named r a next (length frames) position in' covered.3),
-      (begins, unheld, making_on p h (lose held k) no_other later fr fr frs refl in' (all_apart (fr ∷ frs)) held_before.1 making),
-      still_aliases p k (lose held k) (lost_linked p k held)
-          (still_aliases p h k (started_linked p ac forms runs h light_here links have ranges types.fields fr frs agrees.standing agrees.stacked keeps.0 targets.0 top others_in covered.0 covered.1 covered.2 covered.4 hold.contents hold.new hold.unfinished making holds ready c.arrays named r a next (length frames) position) linked),
-      lost_owns p k held (started_owns p ac forms runs h light_here links have ranges types.fields fr frs agrees.standing agrees.stacked keeps.0 targets.0 top others_in covered.0 covered.1 covered.2 covered.4 hold.contents hold.new hold.unfinished making holds ready c.arrays named r a next (length frames) position owned),
+      all_lost p k held (start_unowned p fr.locals s.action (method_at p named) (length frames) h links have.unfinished) frames (are_held p k frames) its.covered,
+      (begins, unheld, making_on p h (lose held k) no_other later (over_loss p h k held (by_carried h k (start_carries p fr.locals s.action (method_at p named) (length frames) h links))) fr fr frs refl in' (all_apart (fr ∷ frs)) held_before.1 making),
+      still_aliases p k (lose held k) (lost_linked p k held) (still_aliases p h k its.linked linked),
+      lost_owns p k held its.owns,
     )
 
   -- ---- calls of the library
@@ -240,15 +286,24 @@ module _ (p : Program) (ac : Accept p) (forms : HasPlainForms p) (runs : HasPlai
   library_kept named m x s next row =
       goes (library_heap p fr.locals s.action (method_at p named) (method_at p m) x (length frs + 1) h)
       (frame_after p h fr s (conduct_value count (method_at p m) (positions fr.locals s.action (next_number h) x) (next_number h) x)) refl
-      (left_unfinished p ac forms names h links ranges fr covered.0 frs st top c.arrays named m x s next count hold.leads hold.contents have light_here types.fields)
-      (left_held_before p ac forms names h links ranges fr covered.0 frs st top c.arrays named m x s next count hold.leads hold.contents have light_here types.fields frs others_in)
-      (left_linked p ac forms names h links ranges fr covered.0 frs st top c.arrays named m x s next count hold.leads hold.contents have light_here types.fields linked)
-      (left_owns p ac forms names h links ranges fr covered.0 frs st top c.arrays named m x s next count hold.leads hold.contents have light_here types.fields row covered.2 owned)
+      (left_unfinished p ac forms names h links ranges fr covered.0 frs st top c.arrays named m x s next count hold.leads hold.contents have light_here types.fields owned targets.0 single its_own)
+      (left_held_before p ac forms names h links ranges fr covered.0 frs st top c.arrays named m x s next count hold.leads hold.contents have light_here types.fields owned targets.0 single its_own frs others_in)
+      (left_classes p ac forms names h links ranges fr covered.0 frs st top c.arrays named m x s next count hold.leads hold.contents have light_here types.fields owned targets.0 single its_own)
+      (left_linked p ac forms names h links ranges fr covered.0 frs st top c.arrays named m x s next count hold.leads hold.contents have light_here types.fields owned targets.0 single its_own linked)
+      (left_owns p ac forms names h links ranges fr covered.0 frs st top c.arrays named m x s next count hold.leads hold.contents have light_here types.fields owned targets.0 single its_own row covered.2 owned)
       (library_unowned p fr.locals s.action (method_at p named) (method_at p m) x (length frs + 1) h have.unfinished)
-      (left_covered p ac forms names h links ranges fr covered.0 frs st top c.arrays named m x s next count hold.leads hold.contents have light_here types.fields owned hold.new hold.unfinished hold.owning sight row in' covered.1 covered.2 covered.3 covered.4)
+      (left_covered p ac forms names h links ranges fr covered.0 frs st top c.arrays named m x s next count hold.leads hold.contents have light_here types.fields owned targets.0 single its_own all_renew hold.new hold.unfinished hold.owning sight row in' covered.1 covered.2 covered.3 covered.4)
     where
       count : ℕ
       count = length (arguments_shared c.arrays fr.locals s.action (method_at p named))
+
+      -- a call of `this` that creates its obligation anew stands where it may
+      its_own : LendsItsOwn p fr s
+      its_own = elim row [
+        | inl called' ↦ lends_its_own p ac forms h linked fr st targets.0 top sight next.index s next.here gives_none renews_none covered.0 frs covered.2
+            (subst (IsOnInstance p h fr.locals s.action) (sym (ap (callee_in p) called')) (target_is_instance p h c.arrays fr.locals s.action (method_at p named) (next.ran called').1))
+        | inr read ↦ λ resets. absurd (read_resets p named s.action read resets)
+      ]
 
 -- ---- ends
 
@@ -276,8 +331,14 @@ module _ (p : Program) (ac : Accept p) (forms : HasPlainForms p) (runs : HasPlai
 
   -- what a field of the caller's `this` holds, where the caller's method creates the obligation of `this` anew
   holds_at_end : HoldsLent p c.heap covered.3.0 rest caller agrees.standing.1.0
-  holds_at_end = holds_lent p ac forms c.heap agrees.links owned caller (All-head (λ (x : Frame). LocalsInRange c.heap x.locals) caller rest below_in) agrees.standing.1.0 covered.3.0 rest (is_given p c.heap caller) (is_reread p c.heap caller)
+  holds_at_end = holds_lent p ac forms c.heap agrees.links owned caller (All-head (λ (x : Frame). LocalsInRange c.heap x.locals) caller rest below_in) agrees.standing.1.0 covered.3.0 rest targets.1.0 (is_given p c.heap caller) (is_reread p c.heap caller)
       covered.3.3 unlinked_at_end
+
+  caller_in : LocalsInRange c.heap caller.locals
+  caller_in = All-head (λ (x : Frame). LocalsInRange c.heap x.locals) caller rest below_in
+
+  all_renew_at_end : AllRenewInHand p c.heap (caller ∷ rest)
+  all_renew_at_end = all_renew_in_hand p ac forms c.heap agrees.ends agrees.links owned unlinked_at_end fr (caller ∷ rest) agrees.standing.1 targets.1 agrees.stacked below_in covered.0 covered.3
 
   module _ (pos : Pos) (t : Step) (named : MethodId) (same : named ≡ waits.named) (back : IsBackStep p (frame_steps p caller) e named t) where
     may : MayRun p named fr.method
@@ -317,22 +378,34 @@ module _ (p : Program) (ac : Accept p) (forms : HasPlainForms p) (runs : HasPlai
     mine : LocalsInRange c.heap fr.locals
     mine = All-head (λ (x : Frame). LocalsInRange c.heap x.locals) fr (caller ∷ rest) in'
 
+    -- the target of the call is of the class of the named method
+    instance : IsOnInstance p c.heap caller.locals t.action (method_at p named)
+    instance w z chosen first named_at =
+        let number = operand_in_range c.heap caller.locals caller_in t.action 0 w (ap number_of first) in
+        let class : ClassId = record { 0 = 0 } in
+        let there = object_there c.heap w (unfinished class) number.0 number.1 in
+        (there.0.class, ap class_in there.1, (hold.dispatched.0 back.index t named z w there.0 back.here back.calls named_at chosen first there.1).1)
+
+    its_own : LendsItsOwn p caller t
+    its_own = lends_its_own p ac forms c.heap linked caller below targets.1.0 caller_in sight back.index t back.here (is_given p c.heap caller) (is_reread p c.heap caller) covered.3.0 rest covered.3.3
+        (subst (IsOnInstance p c.heap caller.locals t.action) (sym (ap (callee_in p) back.calls)) instance)
+
+    -- what the end leaves
+    its_end : IsReturned p c.heap ended_heap after rest apart
+    its_end = call_returned p ac forms runs names c.heap light_at_end agrees.links linked ranges fr caller rest agrees.standing.0 below targets.1.0 keeps.0 called.0 hold.dispatched.0 making.0 mine covered.0 covered.2 i s q here is t named back may makes itself args exits
+        hold.leads agrees.ends made_after agrees.classes making.1 below_in alone hold.contents unlinked_at_end fresh on_same types.fields agrees.standing.1.1 covered.1 covered.3.0 covered.3.1 covered.3.2 covered.3.3 covered.3.4 holds_at_end hold.new.1 hold.unfinished.1
+        owned all_renew_at_end.0 all_renew_at_end.1 (single_this p ac forms c.heap linked caller below targets.1.0 caller_in sight) its_own hold.owning sight covered.4
+
     returned_kept : AreKept p (returned p c fr caller rest pos q e named t)
     returned_kept = (
       all_lost p ended_heap held_after
           (returned_unowned p (length rest + 1) fr.locals.this caller.locals t.action (method_at p fr.method) (method_at p named) (result_value fr.locals (method_at p fr.method) q) e c.heap agrees.ends agrees.links
-          (λ w x new this there. making.0 back.index t w x back.here new this there)) (after ∷ rest) (are_held p ended_heap (after ∷ rest)) (returned_covered p ac forms runs names c.heap light_at_end agrees.links linked ranges fr caller rest agrees.standing.0 below targets.1.0 keeps.0 called.0 hold.dispatched.0 making.0 mine covered.0 covered.2 i s q here is t named back may makes itself args exits hold.leads agrees.ends made_after agrees.classes making.1 below_in alone hold.contents
-          unlinked_at_end fresh on_same types.fields agrees.standing.1.1 covered.1 covered.3.0 covered.3.1 covered.3.2 covered.3.3 covered.3.4 holds_at_end hold.new.1 hold.unfinished.1 hold.owning sight covered.4),
-      making_on p c.heap (lose held_after ended_heap) apart (lost_unfinished p ended_heap held_after c.heap apart (returned_unfinished p ac forms runs names c.heap light_at_end agrees.links linked ranges fr caller rest agrees.standing.0 below targets.1.0 keeps.0 called.0 hold.dispatched.0 making.0 mine covered.0 covered.2 i s q here is t named back may makes itself args exits hold.leads agrees.ends made_after agrees.classes making.1 below_in alone hold.contents
-          unlinked_at_end fresh on_same types.fields agrees.standing.1.1 covered.1 covered.3.0 covered.3.1 covered.3.2 covered.3.3 covered.3.4 holds_at_end hold.new.1 hold.unfinished.1 hold.owning sight)) caller after rest refl below_in
+          (λ w x new this there. making.0 back.index t w x back.here new this there)) (after ∷ rest) (are_held p ended_heap (after ∷ rest)) its_end.covered,
+      making_on p c.heap (lose held_after ended_heap) apart (lost_unfinished p ended_heap held_after c.heap apart its_end.unfinished) (over_loss p c.heap ended_heap held_after its_end.class) caller after rest refl below_in
           (apart_from apart (caller ∷ rest) (λ w other. hold.fresh.0 back.index t w back.here other.1 other.0))
-          (held_before_further p c.heap ended_heap (lose held_after ended_heap) rest (returned_held_before p ac forms runs names c.heap light_at_end agrees.links linked ranges fr caller rest agrees.standing.0 below targets.1.0 keeps.0 called.0 hold.dispatched.0 making.0 mine covered.0 covered.2 i s q here is t named back may makes itself args exits hold.leads agrees.ends made_after agrees.classes making.1 below_in alone hold.contents
-          unlinked_at_end fresh on_same types.fields agrees.standing.1.1 covered.1 covered.3.0 covered.3.1 covered.3.2 covered.3.3 covered.3.4 holds_at_end hold.new.1 hold.unfinished.1 hold.owning sight) (lost_held_before p ended_heap held_after rest)) making.2,
-      still_aliases p ended_heap (lose held_after ended_heap) (lost_linked p ended_heap held_after)
-          (returned_apart p ac forms runs names c.heap light_at_end agrees.links linked ranges fr caller rest agrees.standing.0 below targets.1.0 keeps.0 called.0 hold.dispatched.0 making.0 mine covered.0 covered.2 i s q here is t named back may makes itself args exits hold.leads agrees.ends made_after agrees.classes making.1 below_in alone hold.contents
-          unlinked_at_end fresh on_same types.fields agrees.standing.1.1 covered.1 covered.3.0 covered.3.1 covered.3.2 covered.3.3 covered.3.4 holds_at_end hold.new.1 hold.unfinished.1 hold.owning sight),
-      lost_owns p ended_heap held_after (returned_owns p ac forms runs names c.heap light_at_end agrees.links linked ranges fr caller rest agrees.standing.0 below targets.1.0 keeps.0 called.0 hold.dispatched.0 making.0 mine covered.0 covered.2 i s q here is t named back may makes itself args exits hold.leads agrees.ends made_after agrees.classes making.1 below_in alone hold.contents
-          unlinked_at_end fresh on_same types.fields agrees.standing.1.1 covered.1 covered.3.0 covered.3.1 covered.3.2 covered.3.3 covered.3.4 holds_at_end hold.new.1 hold.unfinished.1 hold.owning sight owned),
+          (held_before_further p c.heap ended_heap (lose held_after ended_heap) (still_there p ended_heap held_after) rest its_end.before (lost_held_before p ended_heap held_after rest)) making.2,
+      still_aliases p ended_heap (lose held_after ended_heap) (lost_linked p ended_heap held_after) its_end.linked,
+      lost_owns p ended_heap held_after its_end.owns,
     )
 
   back_kept : c.frames ≡ fr ∷ caller ∷ rest → (pos : Pos) (r : Return) → IsBack p (frame_steps p caller) e waits.named r → returned_by p c fr caller rest pos q r ≡ went d → AreKept p d

@@ -1,10 +1,10 @@
 -- A call of a method of the program begins a frame: what its places hold is in facts of the body's entry.
-use Rattle.std.specs.Prelude.{◌-◌, ◌<◌, ◌||◌, ◌&&◌, not, replicate, if◌then◌else◌}
+use Rattle.std.specs.Prelude.{◌-◌, ◌<◌, ◌||◌, ◌&&◌, not, replicate}
 use Rattle.std.specs.FinSet as set
 use Rattle.std.proofs.Common.{◌≡◌, ◌⊎◌, inl, inr, ℕ, zero, suc, ◌+◌, ◌≤◌, Bool, true, false, not, Option, Some, None, List, [], ◌∷◌, ◌++◌, length, IsSomeAnd, slice_get, refl, sym, ap, ◌∙◌, subst, true≢false, eq-eqb, arith}
-use Rattle.std.proofs.lemmas.Bool.{and_from, and_parts, or_left, or_right}
+use Rattle.std.proofs.lemmas.Bool.{and_from, or_left, or_right}
 use Rattle.std.proofs.lemmas.List.FromFn.{length-map-range_with_len}
-use Rattle.std.proofs.lemmas.Option.{slice_get-get_or, slice_get_within}
+use Rattle.std.proofs.lemmas.Option.{slice_get_within}
 use Rattle.rlc_base.proofs.SetLaws.{empty_within, within_self}
 use Rattle.program_model.specs.declared.kinds.BodyId.{BodyId}
 use Rattle.program_model.specs.declared.kinds.ClassId.{ClassId}
@@ -13,27 +13,24 @@ use Rattle.program_model.specs.declared.kinds.MethodId.{MethodId}
 use Rattle.program_model.specs.declared.kinds.MethodKind.TheVariants as methods
 use Rattle.program_model.specs.declared.kinds.VType.{VType}
 use Rattle.program_model.specs.declared.kinds.VType.TheVariants as types
-use Rattle.program_model.specs.declared.program.Class.{Class}
 use Rattle.program_model.specs.declared.program.Field.{Field}
 use Rattle.program_model.specs.declared.program.Method.{Method}
 use Rattle.program_model.specs.declared.program.ParamSig.{ParamSig}
 use Rattle.program_model.specs.declared.program.Program.{Program}
 use Rattle.program_model.specs.declared.tree.Var.{Var}
-use Rattle.program_model.specs.Lookups.{field_at, method_at}
+use Rattle.program_model.specs.Lookups.{method_at}
 use Rattle.program_model.specs.Overrides.{is_type}
 use Rattle.program_model.specs.SuperTests.{is_class}
 use Rattle.program_model.specs.Validity.{HasParameters, IsBodyOf, is_class_type}
 use Rattle.ledger_obligations.specs.OverrideCases.{differ}
-use Rattle.ledger_obligations.specs.Bodies.{alias_in, constructs, fields_in, fields_of, fields_of_method, has_field_place, is_class_of, is_constructor_kind, is_field_in, method_in, method_of, reset_in}
-use Rattle.ledger_obligations.specs.MustCallSets.{is_empty, is_heavy_class, must_of, must_of_optional, must_of_type, no_names}
-use Rattle.ownership_rules.specs.Signatures.{is_present, type_of_field}
+use Rattle.ledger_obligations.specs.Bodies.{constructs, is_class_of, is_constructor_kind, reset_in}
+use Rattle.ledger_obligations.specs.MustCallSets.{is_empty, is_heavy_class, must_of_optional, no_names}
+use Rattle.ownership_rules.specs.Signatures.{type_of_field}
 use Rattle.java_control.specs.Calls.{called_method}
 use Rattle.java_control.specs.Control.{Step}
-use Rattle.java_control.specs.Owned.{is_owning_field}
+use Rattle.java_control.specs.Owned.{is_owning_field, field_number}
 use Rattle.java_control.specs.declared.action.Action.{Action}
 use Rattle.java_control.specs.declared.action.Action.TheVariants as actions
-use Rattle.java_control.specs.declared.action.TargetForm.{TargetForm}
-use Rattle.java_control.specs.declared.action.TargetForm.TheVariants as forms
 use Rattle.java_control.specs.PlaceNumbers.{IsSmall}
 use Rattle.java_control.specs.declared.fact.Fact.{Fact}
 use Rattle.java_control.specs.declared.fact.Mode.{Mode}
@@ -45,7 +42,7 @@ use Rattle.java_control.specs.declared.place.Place.TheVariants as places
 use Rattle.ownership_rules.specs.Callees.{callee, callee_in}
 use Rattle.ownership_rules.specs.Facts.{has, has_temp, is_held, is_own}
 use Rattle.ownership_rules.specs.SmallActions.{IsSmallAction}
-use Rattle.ownership_rules.specs.Births.{births_at_entry, fact_at, field_birth, has_this, origin_of, owning_field_birth, parameter_mode, this_mode}
+use Rattle.ownership_rules.specs.Births.{births_at_entry, fact_at, has_this, origin_of, parameter_mode, this_mode}
 use Rattle.value_laws.specs.Paths.{move_of, Reach, relation_of}
 use Rattle.value_laws.specs.Accept.{Accept}
 use Rattle.ledger_state.specs.Contents.{HeapContents}
@@ -65,7 +62,7 @@ use Rattle.ledger_steps.specs.LedgerCallsCalls.{argument_values, begun, body_of,
 use Rattle.value_laws.specs.Configuration.{Frame}
 use Rattle.value_laws.specs.Choosing.{frame_steps, body_id}
 use Rattle.ledger_steps.specs.CallSteps.{began_heap, self_begun}
-use Rattle.value_laws.specs.Heaps.{HasEarlierLinks}
+use Rattle.value_laws.specs.Heaps.{HasEarlierLinks, IsGiven}
 use Rattle.value_laws.proofs.Begun.{begun_given}
 use Rattle.value_laws.proofs.FieldPlaces.{IsBeside, place_of_beside}
 use Rattle.value_laws.specs.Naming.{IsOfItsKind}
@@ -82,33 +79,31 @@ use Rattle.value_laws.proofs.Unmet.{way_of_call}
 use Rattle.value_laws.specs.Types.{KeepsTypes, StoredHoldNone, is_text}
 use Rattle.value_laws.proofs.ValueTypeFields.{field_is_none}
 use Rattle.value_laws.proofs.ValueTypeLaws.{argument_is_no_object}
-use Rattle.value_laws.specs.PlaceFacts.{AreCovered, AreWaiting, Covers, HasOwningField, IsCovered, IsKeyed, IsOld, IsTrueOf, IsUnowned, OwesOrHolds, OwnersBelow, asked_by, asked_of, claims, fits_field, fits_in, gives_none, is_frame_from, is_given, is_heavy_field, is_heavy_in, is_lent, owned, renews_none, unowned}
-use Rattle.covering_laws.proofs.HeavyFields.{asked_here, claims_alone, claims_owned, covered_at}
+use Rattle.value_laws.specs.PlaceFacts.{AreCovered, AreWaiting, Covers, HasOwningField, IsCovered, IsKeyed, IsOld, IsTrueOf, IsUnowned, OwesOrHolds, OwnersBelow, asked_by, asked_of, claims, gives_none, is_frame_from, is_given, is_heavy_in, is_lent, owned, renews_none, unowned}
+use Rattle.covering_laws.proofs.HeavyFields.{asked_here, claims_owned, covered_at}
 use Rattle.value_laws.proofs.KeptFacts.{parameter_unheld}
 use Rattle.value_laws.specs.Ranges.{FieldsInRange, IsInRange, IsNumber, LocalsInRange}
 use Rattle.value_laws.proofs.RangeValues.{field_in_range, operand_in_range}
-use Rattle.covering_laws.specs.Running.{HasPlainRuns, is_on_object}
-use Rattle.covering_laws.proofs.Bodies.{body_is_of_program}
+use Rattle.covering_laws.specs.Running.{HasPlainRuns}
 use Rattle.covering_laws.proofs.BegunFrames.{entered_covers, lent_or_none, lent_unowned, not_and, not_held, not_own, parameter_born}
-use Rattle.covering_laws.proofs.EntryBirths.{alike_parameter, argument_or_nothing, of_field, of_parameter, of_this, same_mark, lent_parameter, lent_this, no_parameter, this_unowned, this_born, parameter_at, class_type_is, constructor_kind, element_there}
+use Rattle.covering_laws.proofs.EntryBirths.{alike_parameter, argument_or_nothing, of_parameter, of_this, same_mark, lent_parameter, lent_this, no_parameter, this_unowned, this_born, parameter_at, class_type_is, element_there}
 use Rattle.covering_laws.proofs.GivenArguments.{given_is_true, given_owner, operand_may_move, operand_owned, two_operands}
 use Rattle.covering_laws.proofs.GivenAway.{moved_given, step_gives}
 use Rattle.covering_laws.proofs.CallResults.{born_unowned}
 use Rattle.covering_laws.proofs.Gifts.{all_keep_gifts}
-use Rattle.covering_laws.proofs.Owners.{AllKeepGifts, HoldersWere, KeepsOwners, OwnersGo, StaysApart, WaysGo, contents_here, held_here, holders_were, old_kept, owners_kept, stays_apart}
+use Rattle.covering_laws.proofs.Owners.{AllKeepGifts, HoldersWere, KeepsOwners, OwnersGo, StaysApart, WaysGo, held_here, holders_were, old_kept, owners_kept, stays_apart}
 use Rattle.covering_laws.proofs.StepWays.{start_births, start_unowned, ways_by}
 use Rattle.covering_laws.proofs.StartOwners.{below_further, held_by_lent, start_below, start_owner, start_owners_go}
-use Rattle.covering_laws.proofs.LocalSteps.{LocalsIn, all_there}
+use Rattle.covering_laws.proofs.LocalSteps.{LocalsIn, all_there, holds_there}
 use Rattle.covering_laws.proofs.StartHeaps.{new_holds_nothing, start_carries, start_keeps, start_linked, start_roots, start_unfinished, new_unfinished, new_unlinked}
-use Rattle.covering_laws.proofs.Waiting.{AllHeldBefore, IsCarried, KeepsRoots, KeepsUnfinished, all_held_before, all_keep, all_wait, but_texts, frames_ready, no_other, numbered, bore_before, Continues, value_root, was_ready, new_root, AllGoOn, ways_go_on}
+use Rattle.covering_laws.proofs.Waiting.{AllHeldBefore, IsCarried, KeepsRoots, KeepsUnfinished, all_held_before, all_keep, all_wait, but_texts, frames_ready, no_other, numbered, bore_before, Continues, value_root, was_ready, new_root, AllGoOn, ways_go_on, HoldsThere, all_ready, keeps_roots, still_true, this_was}
 use Rattle.covering_laws.proofs.KnownNames.{operand_temp}
 use Rattle.covering_laws.proofs.LinkedExceptions.{LinkedWere}
-use Rattle.covering_laws.proofs.BornTruths.{field_unlent}
 use Rattle.covering_laws.specs.Texts.{TextsAreLight}
 use Rattle.value_laws.proofs.TargetBegun.{finds}
 use Rattle.value_laws.specs.StepTargets.{FindsIt}
 use Rattle.value_laws.specs.Frames.{holds_this, KeepsTargets}
-use Rattle.value_laws.specs.Renewing.{HasInHand, IsHeldBy, IsLentFrom, is_renewed, makes_alone, renews}
+use Rattle.value_laws.specs.Renewing.{HasInHand, IsHeldBy, IsLentFrom, is_renewed, renews, answers_for_fields, reopens}
 use Rattle.covering_laws.proofs.RenewedOperands.{HoldsLent, renewed_answered, renewed_not_given, step_renews}
 use Rattle.covering_laws.proofs.MadeTargets.{HoldsReady, first_value, operand_ready}
 use Rattle.covering_laws.proofs.OldAtStarts.{old_then, starts_old}
@@ -125,10 +120,26 @@ use Rattle.value_laws.proofs.FactOrigins.{this_own}
 use Rattle.value_laws.proofs.Growth.{began_grows}
 use Rattle.covering_laws.proofs.CallersWait.{caller_waits}
 use Rattle.covering_laws.proofs.StartWords.{locals_of, lt_or, no_number, object_value, unclaimed_mode}
+use Rattle.covering_laws.specs.Linking.{LinkedAreAliases}
+use Rattle.covering_laws.proofs.OwnerSteps.{movable_owes}
+use Rattle.covering_laws.proofs.ThisEnds.{this_ends}
+use Rattle.covering_laws.proofs.ThisAtStarts.{owned_at_start, true_at_start}
+use Rattle.covering_laws.proofs.FieldBirths.{field_fact, field_origin}
+use Rattle.covering_laws.proofs.StartFields.{IsInFieldAt, field_born}
+use Rattle.covering_laws.proofs.StartKinds.{kind_by, self_is_first}
+
+-- what a call leaves of the heap `h` as it begins the frame `begun` on the object `self`
+pub record IsStarted (p : Program) (h k : HeapContents) (begun fr : Frame) (frs : List Frame) (self : Value) : Type 0 where
+  pub unfinished : KeepsUnfinished h k no_other
+  pub this : begun.locals.this ≡ self
+  pub before : AllHeldBefore p h k (fr ∷ frs)
+  pub linked : LinkedWere h k
+  pub owns : FieldsOwn p k
+  pub covered : AreCovered p k (begun ∷ fr ∷ frs)
 
 -- ---- the call
 
-module _ (p : Program) (ac : Accept p) (forms' : HasPlainForms p) (plain : HasPlainRuns p) (h : HeapContents) (texts : TextsAreLight p h) (links : HasEarlierLinks h) (have : HaveEnds h) (ranges : FieldsInRange h) (stored : StoredHoldNone (is_text p h) p h)
+module _ (p : Program) (ac : Accept p) (forms' : HasPlainForms p) (plain : HasPlainRuns p) (h : HeapContents) (texts : TextsAreLight p h) (links : HasEarlierLinks h) (have : HaveEnds h) (owned' : FieldsOwn p h) (linked' : LinkedAreAliases p h) (ranges : FieldsInRange h) (stored : StoredHoldNone (is_text p h) p h)
     (fr : Frame) (frs : List Frame) (stand : AllStand p (fr ∷ frs)) (stacked : IsStacked p h (fr ∷ frs)) (keeps : KeepsTypes (is_text p h) p fr) (targets : KeepsTargets p fr) (in' : LocalsInRange h fr.locals) (lower : LocalsIn h frs) (old : ℕ → Bool) (is : IsOld p h frs fr old)
     (covered : IsCovered p h gives_none renews_none old frs fr) (low : OwnersBelow h (length frs + 1)) (contents : HaveContents p (fr ∷ frs) h) (news : AreNew p (fr ∷ frs)) (unready : AreUnfinished p h (fr ∷ frs)) (making : AreBeingMade p h (fr ∷ frs))
     (holds : HoldsLent p h old frs fr (stand.0)) (ready' : HoldsReady p h old frs fr (stand.0)) (arrays : List ArrayObject) (named runs : MethodId) (a : Action)
@@ -219,7 +230,7 @@ module _ (p : Program) (ac : Accept p) (forms' : HasPlainForms p) (plain : HasPl
 
   -- ---- what stays
 
-  pub started_unfinished : KeepsUnfinished h K no_other
+  started_unfinished : KeepsUnfinished h K no_other
   started_unfinished = start_unfinished p l s.action (method_at p named) j h links
 
   unlinked : HoldersAreUnlinked (is_heavy_class p) h
@@ -228,6 +239,10 @@ module _ (p : Program) (ac : Accept p) (forms' : HasPlainForms p) (plain : HasPl
   -- who owns what
   goes : OwnersGo p None stack (length frs + 1) h K
   goes = start_owners_go p l s.action (method_at p named) j h links None stack (length frs + 1) (omega (arith, position)) (given_owner p ac h fr st old frs next.index s next.here row covered (method_at p named) same_callee)
+
+  -- the caller owns what it gives
+  gives : (n : ℕ) (x : Object) → object_at h n ≡ Some x → is_heavy_class p x.class ≡ true → IsGiven p (operand_of l s.action) 1 (params_in (method_at p named)) h n x → x.owner ≡ owners.Frame (length frs + 1)
+  gives n x at heavy g = given_owner p ac h fr st old frs next.index s next.here row covered (method_at p named) same_callee n x at heavy (movable_owes p g.param.vtype x g.may) g
 
   ways : WaysGo p None stack (length frs + 1) h K
   ways = ways_by p None stack (length frs + 1) h K have unlinked (start_unowned p l s.action (method_at p named) j h links have.unfinished) (began_grows p l s.action (method_at p named) j h).count
@@ -252,9 +267,14 @@ module _ (p : Program) (ac : Accept p) (forms' : HasPlainForms p) (plain : HasPl
 
   begun_is_old : IsOld p K stack begun_frame begun_old
   unfolding begun_old
-  begun_is_old = begins_over p K frs fr begun_frame old (old_then p l s.action (method_at p named) j h links have stack) (old_kept p h K old frs fr others' go_on is)
-      (starts_old p l s.action (method_at p named) j h links have stack unlinked contents next.method run next.named_at next.fit (subst (OwnersBelow h) (let number : length frs + 1 ≡ length stack = omega arith in number) low) begun_frame
-      (ap (method_at p) begun'.method ∙ begun'.named))
+  begun_is_old = begins_over p K frs fr begun_frame old (old_then p l s.action (method_at p named) j h links have stack)
+      (old_kept p h K old frs fr others' go_on is (this_was p h K fr (keeps_roots p h K roots fr inside) inside (all_ready p h K started_unfinished fr) (start_carries p l s.action (method_at p named) j h links)))
+      (starts_old p l s.action (method_at p named) j h links have fr frs unlinked contents gives
+      (λ w y this there wide none e top some. this_ends p ac forms' h have links owned' fr in' st old frs targets unready.1 is gives_none renews_none covered w y this there wide none e top some)
+      next.method run next.named_at next.fit (subst (OwnersBelow h) (let number : length frs + 1 ≡ length stack = omega arith in number) low) begun_frame (ap (method_at p) begun'.method ∙ begun'.named))
+    where
+      inside : HoldsThere p h fr
+      inside = holds_there p h ranges fr in'
 
   stays_old : (o : ℕ) → old o ≡ true → begun_old o ≡ true
   unfolding begun_old
@@ -318,10 +338,11 @@ module _ (p : Program) (ac : Accept p) (forms' : HasPlainForms p) (plain : HasPl
   TakesAt q o = (i : ℕ) × (q ≡ places.Var i) × (x : ParamSig) × (slice_get next.method.sig.params.items i ≡ Some x) × (x.owning ≡ true) × (not (is_empty (must_of_optional p (Some x.vtype))) ≡ true)
       × (root_of h (operand_of l s.action (i + 1)) ≡ Some o)
 
-  -- the place is in a fact that says that the frame owns the object, which was an argument, or in one that does not say so
+  -- the place is in a fact that claims the object, which was an argument, or which an owning field owns, or in one that claims nothing
   abbrev Covered : Place → ℕ → Object → Type 0
   Covered q o y =
-      ((c : Covers p K false false begun_old stack begun_frame o y) × (has c.fact.places q ≡ true) × (claims p (method_at p begun_frame.method) c.origin c.fact ≡ true) × TakesAt q o) ⊎ IsUnowned p K false false begun_old stack begun_frame q o y
+      ((c : Covers p K false false begun_old stack begun_frame o y) × (has c.fact.places q ≡ true) × (claims p (method_at p begun_frame.method) c.origin c.fact ≡ true) × (TakesAt q o ⊎ IsInFieldAt p q y c.fact))
+      ⊎ IsUnowned p K false false begun_old stack begun_frame q o y
 
   unowned_born : (q : Place) (o : ℕ) (y : Object) (g : Origin) (f : Fact) → (c : Covers p K false false begun_old stack begun_frame o y) × (has c.fact.places q ≡ true) × (c.origin ≡ g) × (c.fact ≡ f) → (claims p (method_at p begun_frame.method) g f ≡ true → ⊥)
       → Covered q o y
@@ -381,14 +402,14 @@ module _ (p : Program) (ac : Accept p) (forms' : HasPlainForms p) (plain : HasPl
 
         covers : (claims p (method_at p begun_frame.method) (origin_of p (kinds.Param i) var.0.pos c None) (fact_at (places.Var i) (parameter_mode run.sig (i + 1) like.0) like.0.before true) ≡ true → IsTrueOf p y (origin_of p (kinds.Param i) var.0.pos c None) (fact_at (places.Var i) (parameter_mode run.sig (i + 1) like.0) like.0.before true))
             → (z : Covers p K false false begun_old stack begun_frame o y) × (has z.fact.places (places.Var i) ≡ true) × (z.origin ≡ (origin_of p (kinds.Param i) var.0.pos c None)) × (z.fact ≡ (fact_at (places.Var i) (parameter_mode run.sig (i + 1) like.0) like.0.before true))
-        covers truth = entered_covers p K begun_frame begun'.stands begun'.starts begun_old stack (places.Var i) o y (origin_of p (kinds.Param i) var.0.pos c None) (parameter_mode run.sig (i + 1) like.0) like.0.before true birth.0 room birth.1 root truth lent'
+        covers truth = entered_covers p K begun_frame begun'.stands begun'.starts begun_old stack (places.Var i) o y (origin_of p (kinds.Param i) var.0.pos c None) (parameter_mode run.sig (i + 1) like.0) like.0.before true birth.0 room birth.1 root (λ claimed said. truth claimed) lent'
             (λ held. absurd (true≢false (sym held ∙ parameter_unheld run.sig (i + 1) like.0)))
-            (λ held. absurd (true≢false (sym held ∙ parameter_unheld run.sig (i + 1) like.0)))
+            (λ done held answers keeps' wide. absurd (true≢false (sym held ∙ parameter_unheld run.sig (i + 1) like.0)))
             (λ mode done. renewed_lent (i + 1) o y (next.fit.reset (i + 1) (lent_parameter run.sig (i + 1) like.0 mode)) operand_root at heavy owes done)
             (λ constructor this. absurd (no_parameter i this))
             (λ mode other fields. renewed_ready (i + 1) o y (next.fit.reset (i + 1) (lent_parameter run.sig (i + 1) like.0 mode)) operand_root at heavy owes fields)
             (λ k same claimed. absurd (let never : places.Var i ≡ places.Field k = same in cc)) (λ k same heavy'. absurd (let never : places.Var i ≡ places.Field k = same in cc))
-            (λ k same. absurd (let never : places.Var i ≡ places.Field k = same in cc))
+            (λ opens k same. absurd (let never : places.Var i ≡ places.Field k = same in cc))
           where
             is_lent_here : is_lent p (method_at p begun_frame.method) (kinds.Param i) ≡ is_lent_parameter p (Some like.0)
             is_lent_here = ap (λ (m : Option Method). is_lent p m (kinds.Param i)) (ap (method_at p) begun'.method ∙ begun'.named) ∙ ap (is_lent_parameter p) like.1
@@ -421,9 +442,9 @@ module _ (p : Program) (ac : Accept p) (forms' : HasPlainForms p) (plain : HasPl
               z.0,
               z.1,
               ap (λ (u : Origin). claims p (method_at p begun_frame.method) u z.0.fact) z.2 ∙ ap (claims p (method_at p begun_frame.method) (origin_of p (kinds.Param i) var.0.pos c None)) z.3
-                  ∙ and_from (is_heavy_class p c) (is_own (parameter_mode run.sig (i + 1) like.0) || is_held (parameter_mode run.sig (i + 1) like.0) && makes_alone (method_at p begun_frame.method)) heavy'
-                  (or_left (is_own (parameter_mode run.sig (i + 1) like.0)) (is_held (parameter_mode run.sig (i + 1) like.0) && makes_alone (method_at p begun_frame.method)) (rw owning refl)),
-              (i, refl, param.0, param_at, same_mark like.0.owning param.0.owning like.3 owning, subst (λ (t : VType). not (is_empty (must_of_optional p (Some t))) ≡ true) (sym type) heavy', operand_root),
+                  ∙ and_from (is_heavy_class p c) (is_own (parameter_mode run.sig (i + 1) like.0) || is_held (parameter_mode run.sig (i + 1) like.0) && answers_for_fields (method_at p begun_frame.method)) heavy'
+                  (or_left (is_own (parameter_mode run.sig (i + 1) like.0)) (is_held (parameter_mode run.sig (i + 1) like.0) && answers_for_fields (method_at p begun_frame.method)) (rw owning refl)),
+              inl (i, refl, param.0, param_at, same_mark like.0.owning param.0.owning like.3 owning, subst (λ (t : VType). not (is_empty (must_of_optional p (Some t))) ≡ true) (sym type) heavy', operand_root),
             )
         owned_by false light owning = unowned_born (places.Var i) o y (origin_of p (kinds.Param i) var.0.pos c None) (fact_at (places.Var i) (parameter_mode run.sig (i + 1) like.0) like.0.before true)
             (covers (λ claimed. absurd (true≢false (sym (claims_owned p (method_at p begun_frame.method) (origin_of p (kinds.Param i) var.0.pos c None) (fact_at (places.Var i) (parameter_mode run.sig (i + 1) like.0) like.0.before true) claimed).0 ∙ light))))
@@ -452,28 +473,6 @@ module _ (p : Program) (ac : Accept p) (forms' : HasPlainForms p) (plain : HasPl
 
   -- ---- `this`
 
-  -- what runs on an object is an instance method or a constructor
-  kind_by : (w : ℕ) → self ≡ values.Object w → (run.kind ≡ methods.Instance) ⊎ (run.kind ≡ methods.Ctor)
-  kind_by w is = go s.action refl is
-    where
-      constructor : (m : MethodId) → called_method s.action ≡ Some m → constructs (method_at p m) ≡ true → run.kind ≡ methods.Ctor
-      constructor m it new = constructor_kind run.kind (next.fit.makes ∙ sym (ap constructs next.named_at)
-          ∙ ap (λ (z : MethodId). constructs (method_at p z)) (let both : Some named ≡ Some m = sym calls' ∙ it in (let one : named ≡ m = cc in one)) ∙ new)
-
-      instance : (m : MethodId) (d n : ℕ) (f : TargetForm) → s.action ≡ actions.Call m d n f → is_on_object (actions.Call m d n f) ≡ true → run.kind ≡ methods.Instance
-      instance m d n f it on = (plain.alike st.number next.index (move_of s) named runs next.method run st.control (step_there p fr st next.index s next.here) calls' next.may next.named_at next.running_at
-          (body_is_of_program p ac runs run next.running_at next.body)).kind (ap is_on_object it ∙ on)
-
-      go : (b : Action) → s.action ≡ b → self_begun l b h ≡ values.Object w → (run.kind ≡ methods.Instance) ⊎ (run.kind ≡ methods.Ctor)
-      go actions.Skip it is' = absurd (subst IsCallRow it row)
-      go (actions.New m d n) it is' = inr (constructor m (ap called_method it) (subst (IsOfItsKind p) it kind))
-      go (actions.Super m d n) it is' = inr (constructor m (ap called_method it) (subst (IsPlainAction p) it form).1)
-      go (actions.Call m d n forms.Static) it is' = absurd (let never : values.Nothing ≡ values.Object w = is' in cc)
-      go (actions.Call m d n forms.This) it is' = inl (instance m d n forms.This it refl)
-      go (actions.Call m d n forms.Super) it is' = inl (instance m d n forms.Super it refl)
-      go (actions.Call m d n forms.Other) it is' = inl (instance m d n forms.Other it refl)
-      go b it is' = absurd (subst IsCallRow it row)
-
   -- the object of a constructor is not finished
   this_unfinished : (o : ℕ) (y : Object) → root_of K begun_frame.locals.this ≡ Some o → object_at K o ≡ Some y → is_heavy_class p y.class ≡ true → OwesOrHolds p K o y → is_constructor_kind run.kind ≡ true → y.finished ≡ false
   this_unfinished o y held at heavy owes makes = go s.action refl
@@ -501,7 +500,7 @@ module _ (p : Program) (ac : Accept p) (forms' : HasPlainForms p) (plain : HasPl
         where
           by : root_of h l.this ≡ Some o → IsCarried h o y → y.finished ≡ false
           by root' (x, before, class, goes) =
-              let cover = covered_at p h false false old frs fr places.This o x (covered places.This o x tt root' before (ap (is_heavy_class p) (sym class) ∙ heavy) (bore o x y before goes owes)) in
+              let cover = covered_at p h false false old frs fr places.This o x (covered places.This o x tt refl root' before (ap (is_heavy_class p) (sym class) ∙ heavy) (bore o x y before goes owes)) in
               let reach = subst (λ (b : BodyId). Reach p b (relation_of p b) cover.0.origin fr.control cover.0.fact) (same_body cover.0.body st.number (body_id p fr.method) cover.0.id st.id) cover.0.reached in
               let caller_makes : constructs (method_at p fr.method) ≡ true =
               ap constructs (sym (method_here p fr st))
@@ -516,18 +515,8 @@ module _ (p : Program) (ac : Accept p) (forms' : HasPlainForms p) (plain : HasPl
           absurd (true≢false (sym (ap (λ (z : MethodId). constructs (method_at p z)) (of_named m (ap called_method it)) ∙ named_makes) ∙ subst (IsOfItsKind p) it kind))
       go b it = absurd (subst IsCallRow it row)
 
-  -- `this` of what runs no constructor is the call's first operand
   first_root : is_constructor_kind run.kind ≡ false → (o : ℕ) → root_of K begun_frame.locals.this ≡ Some o → root_of h (operand_of l s.action 0) ≡ Some o
-  first_root other o root = root_before (operand_of l s.action 0) o (operand_in_range h l in' s.action 0) (ap (root_of K) (sym (begun'.this ∙ operand s.action refl)) ∙ root)
-    where
-      of_call : (m : MethodId) (d n : ℕ) → s.action ≡ actions.New m d n → is_constructor_kind run.kind ≡ true
-      of_call m d n it =
-          next.fit.makes ∙ sym (ap constructs next.named_at) ∙ ap (λ (z : MethodId). constructs (method_at p z)) (let both : Some named ≡ Some m = sym calls' ∙ ap called_method it in (let one : named ≡ m = cc in one)) ∙ subst (IsOfItsKind p) it kind
-
-      operand : (b : Action) → s.action ≡ b → self_begun l b h ≡ operand_of l b 0
-      operand actions.Skip it = refl
-      operand (actions.New m d n) it = absurd (true≢false (sym (of_call m d n it) ∙ other))
-      operand b it = refl
+  first_root other o root = root_before (operand_of l s.action 0) o (operand_in_range h l in' s.action 0) (ap (root_of K) (sym (begun'.this ∙ self_is_first p ac forms' plain h fr st arrays named runs a next other)) ∙ root)
 
   -- what runs no constructor is lent `this` where it creates its obligation anew
   this_lent : (o : ℕ) (y : Object) → root_of K begun_frame.locals.this ≡ Some o → object_at K o ≡ Some y → is_heavy_class p y.class ≡ true → OwesOrHolds p K o y → this_mode run.sig run.kind ≡ modes.Lent → y.finished ≡ true → IsLentFrom p K stack o y.owner
@@ -552,22 +541,22 @@ module _ (p : Program) (ac : Accept p) (forms' : HasPlainForms p) (plain : HasPl
   this_covered : (o : ℕ) (y : Object) → root_of K begun_frame.locals.this ≡ Some o → object_at K o ≡ Some y → is_heavy_class p y.class ≡ true → OwesOrHolds p K o y → Covered places.This o y
   this_covered o y root at heavy owes =
       let w = object_value K self o (ap (root_of K) (sym begun'.this) ∙ root) in
-      let born = this_born p run (elim (kind_by w.0 w.1) [ inl one ↦ ap has_this one | inr new ↦ ap has_this new ]) in
+      let born = this_born p run (elim (kind_by p ac forms' plain h fr st arrays named runs a next w.0 w.1) [ inl one ↦ ap has_this one | inr new ↦ ap has_this new ]) in
       let g : Origin = origin_of p kinds.ThisRef run.pos run.class None in
       let n = of_this p begun'.stands.number begun'.stands.body run begun'.stands.at own_method (g, fact_at places.This (this_mode run.sig run.kind) no_names true) born in
       unowned_born places.This o y g (fact_at places.This (this_mode run.sig run.kind) no_names true)
       (entered_covers p K begun_frame begun'.stands begun'.starts begun_old stack places.This o y g (this_mode run.sig run.kind) no_names true n.0 tt n.1 root
-      (λ claimed. absurd (unclaimed_mode p (method_at p begun_frame.method) g places.This (this_mode run.sig run.kind) no_names true (this_unowned run.sig run.kind) claimed))
+      (λ claimed said. absurd (unclaimed_mode p (method_at p begun_frame.method) g places.This (this_mode run.sig run.kind) no_names true (this_unowned run.sig run.kind) claimed))
       (λ lent. (
         not_and (is_heavy_class p run.class) (is_own (this_mode run.sig run.kind)) (not_own (is_own (this_mode run.sig run.kind)) (is_held (this_mode run.sig run.kind)) (this_unowned run.sig run.kind)),
         not_held (is_own (this_mode run.sig run.kind)) (is_held (this_mode run.sig run.kind)) (this_unowned run.sig run.kind),
         empty_within (asked_of p (method_at p begun_frame.method) kinds.ThisRef),
       )) (λ held. within_self no_names)
-      (λ held. absurd (true≢false (sym (or_right (is_own (this_mode run.sig run.kind)) (is_held (this_mode run.sig run.kind)) held) ∙ this_unowned run.sig run.kind)))
+      (λ done held answers keeps' wide. absurd (true≢false (sym (or_right (is_own (this_mode run.sig run.kind)) (is_held (this_mode run.sig run.kind)) held) ∙ this_unowned run.sig run.kind)))
       (this_lent o y root at heavy owes) (λ constructor this. this_unfinished o y root at heavy owes (sym (ap constructs (ap (method_at p) begun'.method ∙ begun'.named)) ∙ constructor))
       (λ mode other fields. this_ready o y root at heavy owes mode (constructor_or_not (constructs (method_at p begun_frame.method)) other) fields)
       (λ k same claimed. absurd (let never : places.This ≡ places.Field k = same in cc)) (λ k same heavy'. absurd (let never : places.This ≡ places.Field k = same in cc))
-      (λ k same. absurd (let never : places.This ≡ places.Field k = same in cc)))
+      (λ opens k same. absurd (let never : places.This ≡ places.Field k = same in cc)))
       (not_owning g (fact_at places.This (this_mode run.sig run.kind) no_names true) (this_unowned run.sig run.kind))
 
   -- ---- owning fields of `this`
@@ -616,57 +605,52 @@ module _ (p : Program) (ac : Accept p) (forms' : HasPlainForms p) (plain : HasPl
         go b it = subst IsCallRow it row
 
     is_instance : run.kind ≡ methods.Instance
-    is_instance = elim (kind_by w (sym begun'.this ∙ holder.1)) [ inl one ↦ one | inr new ↦ absurd (instance new) ]
+    is_instance = elim (kind_by p ac forms' plain h fr st arrays named runs a next w (sym begun'.this ∙ holder.1)) [ inl one ↦ one | inr new ↦ absurd (instance new) ]
 
-    own_body : method_of p begun'.stands.number ≡ Some run
-    own_body = ap (method_in p) begun'.stands.at ∙ own_method
+    held_before : IsCarried h o y
+    held_before = was (field_value p h w f) o y held_root (numbered h links (field_value p h w f) o held_root (field_in_range p h ranges (values.Object w) f)) at
 
-    has_place : has_field_place p begun'.stands.number f ≡ true
-    has_place = ap (is_field_in p begun'.stands.number) field.at ∙ rw (field.owning, own_body) (ap (is_class field.field.class) (sym field.class) ∙ eq-eqb field.field.class.0 field.field.class.0 refl)
-
-    listed : slice_get (fields_of p begun'.stands.number) field.among'.0 ≡ Some f
-    listed =
-        ap (λ (m : Option Method). slice_get (fields_of_method p m) field.among'.0) own_body ∙ ap (λ (k : Option Class). slice_get (fields_in k) field.among'.0) field.there
-        ∙ slice_get-get_or field.holder.fields.items field.among'.0 f field.among'.1 ∙ ap Some field.among'.2
+    runs_it : method_at p begun_frame.method ≡ Some run
+    runs_it = ap (method_at p) begun'.method ∙ begun'.named
 
     of_field_class : (c : ClassId) → field.field.vtype ≡ types.Obj c → Covered (places.Field n) o y
-    of_field_class c type = unowned_born (places.Field n) o y (origin_of p (kinds.FieldAt f) field.field.pos c None) (fact_at (places.Field n) modes.Held no_names true)
-        (entered_covers p K begun_frame begun'.stands begun'.starts begun_old stack (places.Field n) o y (origin_of p (kinds.FieldAt f) field.field.pos c None) modes.Held no_names true birth.0 room birth.1
-        (ap (λ (x : Option FieldId). root_of K (field_place_value p K begun_frame.locals.this x)) beside ∙ root) (λ claimed. absurd (unmade (claims_alone p (method_at p begun_frame.method) (origin_of p (kinds.FieldAt f) field.field.pos c None) (fact_at (places.Field n) modes.Held no_names true) refl claimed)))
-        (λ lent. absurd (true≢false (sym lent ∙ field_unlent p f (method_at p begun_frame.method)))) (λ held. within_self no_names)
-        (λ held. unmade) (λ lent done. absurd (let never : modes.Held ≡ modes.Lent = lent in cc)) (λ constructor this. absurd (true≢false (sym this)))
-        (λ lent other fields. absurd (let never : modes.Held ≡ modes.Lent = lent in cc))
-        (λ k same wide. subst (λ (j : ℕ). fits_field p begun_frame.method j c ≡ true) (let is : places.Field n ≡ places.Field k = same in (let one : n ≡ k = cc in one)) fits_here) (λ k same heavy'. (refl, sym heavy_here ∙ heavy')) (λ k same. refl))
-        (λ is'. unmade (claims_alone p (method_at p begun_frame.method) (origin_of p (kinds.FieldAt f) field.field.pos c None) (fact_at (places.Field n) modes.Held no_names true) refl is'))
+    of_field_class c type =
+        elim (field_born p ac K begun_frame begun'.stands begun'.starts begun_old stack run runs_it own_method is_instance n o y room f field beside root w holder.1 c type answered) [
+          | inl born ↦ inl (born.0, born.1, born.2, inr born.3)
+          | inr u ↦ inr u
+        ]
       where
-        born : field_birth p begun'.stands.number None f ≡ Some ((origin_of p (kinds.FieldAt f) field.field.pos c None), fact_at (places.Field n) modes.Held no_names true)
-        born = ap (λ (b : Bool). if b then owning_field_birth p f None (field_at p f) else None) has_place ∙ ap (owning_field_birth p f None) field.at
-            ∙ rw type (ap (λ (k : ℕ). Some ((origin_of p (kinds.FieldAt f) field.field.pos c None), fact_at (places.Field k) modes.Held no_names true)) field.number)
+        -- where the method answers for it, the field owns the object, and the birth is true of it
+        answered : reopens (Some run) ≡ true → is_heavy_class p c ≡ true → is_heavy_in p (Some f) ≡ true → (y.owner ≡ owners.Field w f) × IsTrueOf p y (field_origin p f field.field.pos c) (field_fact p f)
+        answered opens heavy' typed = (
+          elim (start_owner p l s.action (method_at p named) j h links o held_before.0 y held_before.1 at) [
+            | inl same ↦ same ∙ owned
+            | inr given ↦ absurd (let never : owners.Field w f ≡ owners.Frame (length frs + 1) = sym owned ∙ gives o held_before.0 held_before.1 wide given.1 in cc)
+          ],
+          still_true p held_before.0 y (field_origin p f field.field.pos c) (field_fact p f) (held_before.3 truth.finished).0 truth,
+        )
+          where
+            wide : is_heavy_class p (held_before.0).class ≡ true
+            wide = ap (is_heavy_class p) (sym held_before.2) ∙ heavy
 
-        birth : (k : ℕ) × (slice_get (births_at_entry p begun'.stands.number) k ≡ Some ((origin_of p (kinds.FieldAt f) field.field.pos c None), fact_at (places.Field n) modes.Held no_names true))
-        birth = of_field p begun'.stands.number begun'.stands.body run begun'.stands.at own_method field.among'.0 f ((origin_of p (kinds.FieldAt f) field.field.pos c None), fact_at (places.Field n) modes.Held no_names true) is_instance listed born
+            first : operand_of l s.action 0 ≡ values.Object w
+            first = sym (self_is_first p ac forms' plain h fr st arrays named runs a next (ap is_constructor_kind is_instance)) ∙ sym begun'.this ∙ holder.1
 
-        heavy_here : is_heavy_field p begun_frame.method (places.Field n) ≡ is_heavy_class p c
-        heavy_here = ap (is_heavy_in p) beside ∙ ap (λ (x : Option Field). not (is_empty (must_of_optional p (type_of_field x)))) field.at ∙ ap (λ (t : VType). not (is_empty (must_of_type p t))) type
+            owes' : OwesOrHolds p h o held_before.0
+            owes' = bore o held_before.0 y held_before.1 held_before.3 owes
 
-        fits_here : fits_field p begun_frame.method n c ≡ true
-        fits_here =
-            ap (fits_in p c) beside ∙ ap (λ (x : Option Field). set.is_subset (must_of p c) (must_of_optional p (type_of_field x))) field.at
-            ∙ ap (λ (t : VType). set.is_subset (must_of p c) (must_of_type p t)) type ∙ within_self (must_of p c)
+            owned : (held_before.0).owner ≡ owners.Field w f
+            owned = owned_at_start p ac forms' h links owned' linked' fr frs stand stacked making targets in' old covered holds ready' arrays named runs a next begun_frame begun'.stands runs_it opens n f field c type heavy' typed
+                w first o held_before.0 held_root held_before.1 wide contents have owes'
 
-        -- an instance method runs
-        unmade : makes_alone (method_at p begun_frame.method) ≡ true → ⊥
-        unmade alone =
-            let makes = (and_parts (constructs (method_at p begun_frame.method)) (not (is_present (alias_in (method_at p begun_frame.method)))) alone).0 in
-            true≢false (sym makes ∙ ap constructs (ap (method_at p) begun'.method ∙ begun'.named) ∙ ap is_constructor_kind is_instance)
+            truth : IsTrueOf p held_before.0 (field_origin p f field.field.pos c) (field_fact p f)
+            truth = true_at_start p ac forms' h links owned' linked' fr frs stand stacked making targets in' old covered holds ready' arrays named runs a next begun_frame begun'.stands runs_it opens n f field c type heavy' typed
+                w first o held_before.0 held_root held_before.1 wide contents have owes' field.field.pos
 
     of_no_class : is_class_type field.field.vtype ≡ false → ⊥
     of_no_class none =
         true≢false (sym (ap (is_heavy_class p) (sym held_before.2) ∙ heavy)
         ∙ texts (field_value p h w f) o held_before.0 (field_is_none (is_text p h) p h w f stored (subst (λ (x : Option Field). NoObject (operand_types.type_of_field x)) (sym field.at) none)) held_root held_before.1)
-      where
-        held_before : IsCarried h o y
-        held_before = was (field_value p h w f) o y held_root (numbered h links (field_value p h w f) o held_root (field_in_range p h ranges (values.Object w) f)) at
 
     field_covered : Covered (places.Field n) o y
     field_covered = by field.field.vtype refl
@@ -720,8 +704,8 @@ module _ (p : Program) (ac : Accept p) (forms' : HasPlainForms p) (plain : HasPl
       by (inr (inr same)) = q_is ∙ ap places.Var same ∙ sym r_is
 
   -- what a parameter takes is the callee's
-  taken_owner : (q : Place) (o : ℕ) (y : Object) → object_at K o ≡ Some y → is_heavy_class p y.class ≡ true → OwesOrHolds p K o y → TakesAt q o → (g : Origin) (f : Fact) → IsTrueOf p y g f → y.owner ≡ owners.Frame (length stack + 1)
-  taken_owner q o y at heavy owes (i, q_is, x, x_at, x_owns, x_heavy, x_root) g f truth =
+  taken_owner : (q : Place) (o : ℕ) (y : Object) → object_at K o ≡ Some y → is_heavy_class p y.class ≡ true → OwesOrHolds p K o y → TakesAt q o → y.owner ≡ owners.Frame (length stack + 1)
+  taken_owner q o y at heavy owes (i, q_is, x, x_at, x_owns, x_heavy, x_root) =
       begun_given p l s.action (method_at p named) j h links i x o found.0 y (ap (λ (m : Option Method). slice_get (params_in m) i) next.named_at ∙ x_at) x_owns
       (ap (λ (k : ℕ). root_of h (operand_of l s.action k)) (let same : 1 + i ≡ i + 1 = omega arith in same) ∙ x_root) found.1 may at ∙ ap owners.Frame position
     where
@@ -731,28 +715,38 @@ module _ (p : Program) (ac : Accept p) (forms' : HasPlainForms p) (plain : HasPl
       may : may_move p x.vtype found.0 ≡ true
       may = operand_may_move p ac h fr st old frs next.index s next.here row covered o found.0 found.1 (ap (is_heavy_class p) (sym found.2) ∙ heavy) (bore o found.0 y found.1 found.3 owes) next.method i x (same_callee ∙ next.named_at) x_at x_owns x_root x_heavy
 
+  -- so two such places are one
+  one_place : (q r : Place) (o : ℕ) (y : Object) (f f' : Fact) → object_at K o ≡ Some y → is_heavy_class p y.class ≡ true → OwesOrHolds p K o y → TakesAt q o ⊎ IsInFieldAt p q y f → TakesAt r o ⊎ IsInFieldAt p r y f' → q ≡ r
+  one_place q r o y f f' at heavy owes (inl t) (inl u) = not_twice q r o y at heavy owes t u
+  one_place q r o y f f' at heavy owes (inl t) (inr (n, r_is, g, number, w, owns, mode)) = absurd (let never : owners.Frame (length stack + 1) ≡ owners.Field w g = sym (taken_owner q o y at heavy owes t) ∙ owns in cc)
+  one_place q r o y f f' at heavy owes (inr (n, q_is, g, number, w, owns, mode)) (inl u) = absurd (let never : owners.Frame (length stack + 1) ≡ owners.Field w g = sym (taken_owner r o y at heavy owes u) ∙ owns in cc)
+  one_place q r o y f f' at heavy owes (inr (n, q_is, g, number, w, owns, mode)) (inr (n', r_is, g', number', w', owns', mode')) =
+      let same : g ≡ g' = (let both : owners.Field w g ≡ owners.Field w' g' = sym owns ∙ owns' in cc) in
+      q_is ∙ ap places.Field (sym number ∙ ap (field_number p) same ∙ number') ∙ sym r_is
+
   callee_covered : IsCovered p K gives_none renews_none begun_old stack begun_frame
-  callee_covered q o y small' root at heavy owes = by (placed q o y small' root at heavy owes)
+  callee_covered q o y small' keeps' root at heavy owes = by (placed q o y small' root at heavy owes)
     where
+      its_owner : (f : Fact) → is_own f.mode ≡ true → TakesAt q o ⊎ IsInFieldAt p q y f → y.owner ≡ owners.Frame (length stack + 1)
+      its_owner f own (inl t) = taken_owner q o y at heavy owes t
+      its_owner f own (inr (n, q_is, g, number, w, owns, mode)) = absurd (true≢false (sym own ∙ mode))
+
       by : Covered q o y → IsKeyed p K false false begun_old stack begun_frame q o y
       by (inr u) = unowned u
       by (inl (c, here', owning, takes)) = owned c here' (record {
         owning = owning;
-        owner = λ mine own'. taken_owner q o y at heavy owes takes c.origin c.fact (c.true' owning refl);
-        others = λ r small'' root'. elim (placed r o y small'' root' at heavy owes) [
-          | inl d ↦ inl (subst (λ (u : Place). has c.fact.places u ≡ true) (not_twice q r o y at heavy owes takes d.3) here')
+        owner = λ mine own'. its_owner c.fact own' takes;
+        others = λ r small'' kept root'. elim (placed r o y small'' root' at heavy owes) [
+          | inl d ↦ inl (subst (λ (u : Place). has c.fact.places u ≡ true) (one_place q r o y c.fact d.0.fact at heavy owes takes d.3) here')
           | inr u ↦ inr u
         ];
       })
 
-  pub callee_this : begun_frame.locals.this ≡ self
-  callee_this = begun'.this
-
-  pub started_linked : LinkedWere h K
+  started_linked : LinkedWere h K
   started_linked = start_linked p l s.action (method_at p named) j h links
 
   -- what fields hold they own
-  pub started_owns : FieldsOwn p h → FieldsOwn p K
+  started_owns : FieldsOwn p h → FieldsOwn p K
   started_owns = fields_own_by p None stack (length frs + 1) h K links ranges have.unfinished (but_texts p h K (start_keeps p l s.action (method_at p named) j h links)) (start_carries p l s.action (method_at p named) j h links) holders roots goes started_unfinished
 
   caller_keeps : KeepsOwners p h K (is_given p h fr) frs fr
@@ -763,10 +757,9 @@ module _ (p : Program) (ac : Accept p) (forms' : HasPlainForms p) (plain : HasPl
     ];
     others = others';
     held = held_here p None stack (length frs + 1) h K ways goes frs fr (omega arith) gifts (λ w none. none.0);
-    reread = contents_here p None stack (length frs + 1) h K ways goes frs fr (omega arith) gifts (λ w never this. absurd (let none : None ≡ Some w = never in cc)) tt (λ w none. none.0) (λ w none. none.1);
   }
 
-  pub start_covered : LocalsIn h (fr ∷ frs) → AreWaiting p h old frs → AreCovered p K (begun_frame ∷ fr ∷ frs)
+  start_covered : LocalsIn h (fr ∷ frs) → AreWaiting p h old frs → AreCovered p K (begun_frame ∷ fr ∷ frs)
   start_covered all waits = (
     begun_old,
     begun_is_old,
@@ -779,5 +772,15 @@ module _ (p : Program) (ac : Accept p) (forms' : HasPlainForms p) (plain : HasPl
         ∙ below_further h (length frs + 1) low o x at)),
   )
 
-  pub start_held_before : (rest : List Frame) → LocalsIn h rest → AllHeldBefore p h K rest
+  start_held_before : (rest : List Frame) → LocalsIn h rest → AllHeldBefore p h K rest
   start_held_before rest all = all_held_before p h K roots rest (all_keep p h K (start_keeps p l s.action (method_at p named) j h links) rest) (all_there p h ranges rest all)
+
+  pub started : LocalsIn h (fr ∷ frs) → AreWaiting p h old frs → IsStarted p h K begun_frame fr frs self
+  started all waits = record {
+    unfinished = started_unfinished;
+    this = begun'.this;
+    before = start_held_before (fr ∷ frs) all;
+    linked = started_linked;
+    owns = started_owns owned';
+    covered = start_covered all waits;
+  }

@@ -1,4 +1,4 @@
--- The top frame, a constructor, stores into an owning field of `this`: what the places of the frames hold stays covered.
+-- The top frame, a constructor or a method that creates the obligation of `this` anew, stores into an owning field of `this`: what the places of the frames hold stays covered.
 use Rattle.std.proofs.Common.{◌≡◌, ◌⊎◌, inl, inr, ℕ, ◌+◌, ◌<◌, arith, Bool, true, false, not, ◌&&◌, ◌||◌, cond, Option, Some, None, List, [], ◌∷◌, length, slice_get, nat_eq, eqb, eq-eqb, eqb-true, refl, sym, ap, ◌∙◌, subst, true≢false, if◌then◌else◌}
 use Rattle.std.specs.FinSet as set
 use Rattle.std.proofs.lemmas.Bool.{and_from, and_parts, or_left, or_right, not-true}
@@ -6,9 +6,9 @@ use Rattle.rlc_base.proofs.SetLaws.{within_trans}
 use Rattle.program_model.specs.declared.kinds.FieldId.{FieldId}
 use Rattle.program_model.specs.declared.program.Method.{Method}
 use Rattle.program_model.specs.declared.program.Program.{Program}
-use Rattle.ledger_obligations.specs.Bodies.{alias_in, alias_position, constructs, is_alias_constructor, is_constructor}
+use Rattle.ledger_obligations.specs.Bodies.{alias_in, alias_position, constructs, is_alias_constructor, is_constructor, reset_in}
 use Rattle.ledger_obligations.specs.MustCallSets.{Names, fits_type, is_heavy_class, must_of, must_of_optional}
-use Rattle.ownership_rules.specs.Signatures.{field_type, is_present}
+use Rattle.ownership_rules.specs.Signatures.{field_type, is_position, is_present}
 use Rattle.java_control.specs.Control.{Step}
 use Rattle.java_control.specs.Owned.{field_number, place_of_field}
 use Rattle.java_control.specs.PlaceNumbers.{IsSmall, number_of}
@@ -47,18 +47,18 @@ use Rattle.value_laws.specs.Agreement.{Stands}
 use Rattle.value_laws.specs.PlainForms.{HasPlainForms}
 use Rattle.value_laws.specs.FactGoing.{ArePlaces, IsLeft, IsTaken, StoresAs, left, taken}
 use Rattle.value_laws.specs.FieldContents.{RunOnOthers}
-use Rattle.value_laws.specs.PlaceFacts.{Covers, HasOwningField, IsApart, IsCovered, IsInField, IsKeyed, IsOwned, IsTrueOf, IsUnowned, asked_of, claims, fits_field, fits_in, gives_none, is_frame_from, is_heavy_field, is_heavy_in, is_lent, is_owning_fact, OwesOrHolds, owned, tells_calls, unowned, renews_none}
+use Rattle.value_laws.specs.PlaceFacts.{Covers, HasOwningField, IsApart, IsCovered, IsInField, IsKeyed, IsOld, IsOwned, IsTrueOf, IsUnowned, asked_of, claims, fits_field, fits_in, gives_none, is_frame_from, is_heavy_field, is_heavy_in, is_idle, is_lent, is_lent_place, is_owning_fact, OwesOrHolds, owned, tells_calls, unowned, renews_none}
 use Rattle.value_laws.proofs.FieldPlaces.{place_of_beside}
 use Rattle.value_laws.proofs.ValuesAfter.{IsFrom, value_is_from}
-use Rattle.covering_laws.proofs.HeavyFields.{HasPlace, claims_alone, claims_as, claims_owned, heavy_here, held_claims, held_mode, held_tells, known_on, lent_not_alone, lent_tells, own_claims, owning_in_no_field, tells_apart, tells_by, unclaimed_not_owning}
+use Rattle.covering_laws.proofs.HeavyFields.{HasPlace, alone_answers, answers_by, claims_answered, claims_as, claims_owned, heavy_here, held_claims, held_mode, held_tells, known_on, lent_not_alone, lent_tells, own_claims, owning_in_no_field, tells_apart, tells_by, unclaimed_not_owning}
 use Rattle.covering_laws.proofs.Following.{method_here, step_there}
-use Rattle.covering_laws.proofs.Storing.{Goes, alone_here, goes, now, small, there}
-use Rattle.covering_laws.proofs.Owners.{StaysApart, from_frame}
+use Rattle.covering_laws.proofs.Storing.{Goes, answers_here, goes, held_here, keeps, none_lent, now, said, small, storing, there}
+use Rattle.covering_laws.proofs.Owners.{StaysApart, apart_before, from_frame}
 use Rattle.covering_laws.proofs.InFields.{declared_by_place, gone_without, held_in_field, in_field_on, in_this, kept_without, one_field, out_of_this, owned_at, owning_out_of_this, owning_place, place_by_number}
 use Rattle.covering_laws.proofs.TopSteps.{other_alone}
 use Rattle.covering_laws.proofs.Waiting.{AllKeep, Carries, Continues, HoldsThere, IsCarried, KeepsReady, KeepsRoots, numbered, bore_before, still_true, value_root, stays_unowned, still_unfinished}
 use Rattle.program_model.specs.Lookups.{method_at}
-use Rattle.value_laws.specs.Renewing.{makes_alone}
+use Rattle.value_laws.specs.Renewing.{answers_for_fields, lends_this, makes_alone}
 
 not_and : (a b : Bool) → b ≡ false → (a && b) ≡ false
 not_and true b is = is
@@ -82,22 +82,22 @@ FieldTakes p h k j fr st w f d =
     (o : ℕ) (x y : Object) → object_at h o ≡ Some x → object_at k o ≡ Some y → is_heavy_class p x.class ≡ true → root_of h (temp_value fr.locals d) ≡ Some o → x.finished ≡ true → fits_type p x.class (field_type p f) ≡ true
     → is_alias_constructor p st.number ≡ false → x.owner ≡ owners.Frame j → y.owner ≡ owners.Field w f
 
--- what the frame owns it goes on owning, or t(d) holds it, the field's type has an obligation, and the constructor has no aliased argument
+-- what the frame owns it goes on owning, or t(d) holds it, the field's type has an obligation, and this is no constructor with an aliased argument
 abbrev pub OwnerStays : (p : Program) → HeapContents → HeapContents → ℕ → (fr : Frame) → Stands p fr → FieldId → ℕ → Type 0
 OwnerStays p h k j fr st f d =
     (o : ℕ) (x y : Object) → object_at h o ≡ Some x → object_at k o ≡ Some y → is_heavy_class p x.class ≡ true → OwesOrHolds p h o x → x.owner ≡ owners.Frame j
-    → (y.owner ≡ owners.Frame j) ⊎ ((root_of h (temp_value fr.locals d) ≡ Some o) × (alias_position p st.number ≡ None) × (is_heavy_in p (Some f) ≡ true))
+    → (y.owner ≡ owners.Frame j) ⊎ ((root_of h (temp_value fr.locals d) ≡ Some o) × (is_alias_constructor p st.number ≡ false) × (is_heavy_in p (Some f) ≡ true))
 
 -- What another field of `this` owns it goes on owning; and what the field owns and t(d) holds.
 pub record FieldsStay (p : Program) (h k : HeapContents) (fr : Frame) (w : ℕ) (f : FieldId) (d : ℕ) : Type 0 where
   pub other : (o : ℕ) (x y : Object) (g : FieldId) → object_at h o ≡ Some x → object_at k o ≡ Some y → is_heavy_class p x.class ≡ true → x.owner ≡ owners.Field w g → (g ≡ f → ⊥) → y.owner ≡ x.owner
   pub same : (o : ℕ) (x y : Object) → object_at h o ≡ Some x → object_at k o ≡ Some y → root_of h (temp_value fr.locals d) ≡ Some o → x.owner ≡ owners.Field w f → y.owner ≡ x.owner
 
--- What a fact with t(d) stands for the frame owns, or the field does, where the field's type has an obligation and the constructor has no aliased argument
-pub temp_is_taken : (p : Program) (ac : Accept p) (forms : HasPlainForms p) (h : HeapContents) (old : ℕ → Bool) (frs : List Frame) (fr : Frame) (st : Stands p fr) (covered : IsCovered p h gives_none renews_none old frs fr) (i d : ℕ) (s : Step) (f : FieldId)
+-- what a fact with t(d) stands for the frame owns, and the field's type bounds it, or the field owns it, where the field's type has an obligation and this is no constructor with an aliased argument
+pub temp_fits : (p : Program) (ac : Accept p) (forms : HasPlainForms p) (h : HeapContents) (old : ℕ → Bool) (frs : List Frame) (fr : Frame) (st : Stands p fr) (covered : IsCovered p h gives_none renews_none old frs fr) (i d : ℕ) (s : Step) (f : FieldId)
     (here : slice_get (frame_steps p fr) i ≡ Some s) (is : s.action ≡ actions.PutOwn f d) (o : ℕ) (x : Object) (w : ℕ) → fr.locals.this ≡ values.Object w → (c : Covers p h false false old frs fr o x) → has c.fact.places (places.Temp d) ≡ true → is_heavy_in p (Some f) ≡ true
-    → alias_position p st.number ≡ None → (is_owning_fact p c.origin c.fact ≡ true) ⊎ (x.owner ≡ owners.Field w f)
-temp_is_taken p ac forms h old frs fr st covered i d s f here is o x w this c in' heavy plain =
+    → is_alias_constructor p st.number ≡ false → ((is_owning_fact p c.origin c.fact ≡ true) × (fits_type p c.origin.class (field_type p f) ≡ true)) ⊎ (x.owner ≡ owners.Field w f)
+temp_fits p ac forms h old frs fr st covered i d s f here is o x w this c in' heavy plain =
     by (goes p ac forms h old frs fr st covered i d s f here is o x c (place_of_field p f)
     (has_copied c.fact.places (place_of_field p f) (places.Temp d) (place_of_field p f) room.1 room.1 ∙ rw (eq-eqb (field_number p f) (field_number p f) refl) in'))
   where
@@ -107,23 +107,30 @@ temp_is_taken p ac forms h old frs fr st covered i d s f here is o x w this c in
     room : IsSmallAction p (actions.PutOwn f d)
     room = small p ac forms h old frs fr st covered i d s f here is
 
-    not_aliased : is_alias_constructor p st.number ≡ true → ⊥
-    not_aliased aliased = true≢false (sym (and_parts (is_constructor p st.number) (is_present (alias_position p st.number)) aliased).1 ∙ ap (λ (a : Option ℕ). is_present a) plain)
-
     in_field : (b : Bool) → has c.fact.places (place_of_field p f) ≡ b → (has c.fact.places (place_of_field p f) ≡ false → is_heavy_store p c.origin f ≡ false) → x.owner ≡ owners.Field w f
     in_field false out light = absurd (light_type p c.origin f (light out) heavy)
     in_field true there' light =
         let was = c.held (field_number p f) mine.small there' (heavy_here p h fr f mine heavy) in
-        let alone = alone_here p ac forms h old frs fr st covered i d s f here is plain in
-        let field = held_in_field p h false false old frs fr o x c (c.true' (held_claims p (method_at p fr.method) c.origin c.fact alone was.0 was.1) refl).finished (ap is_held was.0) alone was.1 in
+        let answers = answers_here p ac forms h old frs fr st covered i d s f here is plain in
+        let keeps' = keeps p ac forms h old frs fr st covered i d s f here is in
+        let field =
+        held_in_field p h false false old frs fr o x c (c.true' (held_claims p (method_at p fr.method) c.origin c.fact answers was.0 was.1) refl (held_here p ac forms h old frs fr st covered i d s f here is c.fact)).finished (ap is_held was.0) answers keeps'
+        was.1 in
         owned_at p fr x.owner w f this field.0 (one_field p fr st ac c.fact.places x.owner field f mine there')
 
-    by : (g : Fact) × Reach p st.number (relation_of p st.number) c.origin s.to g × Goes p ac forms h old frs fr st covered i d s f here is o x c g → (is_owning_fact p c.origin c.fact ≡ true) ⊎ (x.owner ≡ owners.Field w f)
-    by (g, reach, (same, taken reset called full t)) = elim t.may [ inl own ↦ inl (and_from (is_heavy_class p c.origin.class) (is_own c.fact.mode) t.heavy (ap is_own own)) | inr alias ↦ absurd (not_aliased alias.0) ]
+    by : (g : Fact) × Reach p st.number (relation_of p st.number) c.origin s.to g × Goes p ac forms h old frs fr st covered i d s f here is o x c g
+        → ((is_owning_fact p c.origin c.fact ≡ true) × (fits_type p c.origin.class (field_type p f) ≡ true)) ⊎ (x.owner ≡ owners.Field w f)
+    by (g, reach, (same, taken reset called full t)) = elim t.may [ inl own ↦ inl (and_from (is_heavy_class p c.origin.class) (is_own c.fact.mode) t.heavy (ap is_own own), t.fits) | inr alias ↦ absurd (true≢false (sym alias.0 ∙ plain)) ]
     by (g, reach, (same, left reset called full l)) = inr (in_field (has c.fact.places (place_of_field p f)) refl (l.light in'))
 
+pub temp_is_taken : (p : Program) (ac : Accept p) (forms : HasPlainForms p) (h : HeapContents) (old : ℕ → Bool) (frs : List Frame) (fr : Frame) (st : Stands p fr) (covered : IsCovered p h gives_none renews_none old frs fr) (i d : ℕ) (s : Step) (f : FieldId)
+    (here : slice_get (frame_steps p fr) i ≡ Some s) (is : s.action ≡ actions.PutOwn f d) (o : ℕ) (x : Object) (w : ℕ) → fr.locals.this ≡ values.Object w → (c : Covers p h false false old frs fr o x) → has c.fact.places (places.Temp d) ≡ true → is_heavy_in p (Some f) ≡ true
+    → is_alias_constructor p st.number ≡ false → (is_owning_fact p c.origin c.fact ≡ true) ⊎ (x.owner ≡ owners.Field w f)
+temp_is_taken p ac forms h old frs fr st covered i d s f here is o x w this c in' heavy plain =
+    elim (temp_fits p ac forms h old frs fr st covered i d s f here is o x w this c in' heavy plain) [ inl own ↦ inl own.0 | inr field ↦ inr field ]
+
 module _ (p : Program) (ac : Accept p) (forms : HasPlainForms p) (h k : HeapContents) (links : HasEarlierLinks h) (roots : KeepsRoots h k) (carries : Carries h k)
-    (old : ℕ → Bool) (frs : List Frame) (fr : Frame) (st : Stands p fr) (covered : IsCovered p h gives_none renews_none old frs fr) (lent' : ArgumentIsLent p fr st)
+    (old : ℕ → Bool) (frs : List Frame) (fr : Frame) (st : Stands p fr) (covered : IsCovered p h gives_none renews_none old frs fr) (aged : IsOld p h frs fr old) (lent' : ArgumentIsLent p fr st)
     (i d : ℕ) (s : Step) (f : FieldId) (here : slice_get (frame_steps p fr) i ≡ Some s) (is : s.action ≡ actions.PutOwn f d) (w : ℕ) (this : fr.locals.this ≡ values.Object w)
     (holds_here : field_value p k w f ≡ temp_value fr.locals d)
     (holds_other : (u : ℕ) (g : FieldId) → ((u ≡ w) × (g ≡ f) → ⊥) → field_value p k u g ≡ field_value p h u g)
@@ -203,27 +210,40 @@ module _ (p : Program) (ac : Accept p) (forms : HasPlainForms p) (h k : HeapCont
       go (places.Field n) less' apart' now' = back (places.Field n) less' (at_other n less' apart') now'
       go places.Super less' apart' now' = back places.Super less' refl now'
 
-  -- a constructor without an aliased argument has none
-  not_alone : is_alias_constructor p st.number ≡ true → makes_alone (method_at p fr.method) ≡ true → ⊥
-  not_alone aliased alone =
-      let here' = (and_parts (is_constructor p st.number) (is_present (alias_position p st.number)) aliased).1 in
-      let none = (and_parts (constructs (method_at p fr.method)) (not (is_present (alias_in (method_at p fr.method)))) alone).1 in
-      true≢false (sym here' ∙ ap (λ (m : Option Method). is_present (alias_in m)) (method_here p fr st) ∙ not-true (is_present (alias_in (method_at p fr.method))) none)
+  -- a constructor with an aliased argument does not answer for the fields of `this`
+  makes : is_alias_constructor p st.number ≡ true → constructs (method_at p fr.method) ≡ true
+  makes aliased = ap constructs (sym (method_here p fr st)) ∙ (and_parts (is_constructor p st.number) (is_present (alias_position p st.number)) aliased).0
 
-  makes : constructs (method_at p fr.method) ≡ true
-  makes = ap constructs (sym (method_here p fr st)) ∙ (forms.stores st.number i (move_of s) f d st.control (step_there p fr st i s here) is).0
+  not_alone : is_alias_constructor p st.number ≡ true → answers_for_fields (method_at p fr.method) ≡ true → ⊥
+  not_alone aliased answers = elim (answers_by (method_at p fr.method) answers) [
+    | inl alone ↦
+        (let here' = (and_parts (is_constructor p st.number) (is_present (alias_position p st.number)) aliased).1 in
+        let none = (and_parts (constructs (method_at p fr.method)) (not (is_present (alias_in (method_at p fr.method)))) alone).1 in
+        true≢false (sym here' ∙ ap (λ (m : Option Method). is_present (alias_in m)) (method_here p fr st) ∙ not-true (is_present (alias_in (method_at p fr.method))) none))
+    | inr opens ↦ true≢false (sym (makes aliased) ∙ not-true (constructs (method_at p fr.method)) (and_parts (not (constructs (method_at p fr.method))) (is_position (reset_in (method_at p fr.method)) 0) opens).0)
+  ]
 
-  -- in an alias constructor, or one that has none, it is one or the other
-  alone_or_aliased : (makes_alone (method_at p fr.method) ≡ true) ⊎ (is_alias_constructor p st.number ≡ true)
-  alone_or_aliased = by (alias_position p st.number) refl
+  keeps' : lends_this p fr ≡ false
+  keeps' = keeps p ac forms h old frs fr st covered i d s f here is
+
+  -- in no place that is lent, something is said of each fact
+  said' : (g : Fact) → is_idle p frs fr g ≡ false
+  said' = said p ac forms h old frs fr st covered i d s f here is
+
+  none_lent' : (q : Place) → is_lent_place p fr q ≡ false
+  none_lent' = none_lent p ac forms h old frs fr st covered i d s f here is
+
+  -- a constructor with an aliased argument, or a frame that answers for the fields of `this`
+  alone_or_aliased : (answers_for_fields (method_at p fr.method) ≡ true) ⊎ (is_alias_constructor p st.number ≡ true)
+  alone_or_aliased = by (is_alias_constructor p st.number) refl
     where
-      by : (a : Option ℕ) → alias_position p st.number ≡ a → (makes_alone (method_at p fr.method) ≡ true) ⊎ (is_alias_constructor p st.number ≡ true)
-      by None none = inl (alone_here p ac forms h old frs fr st covered i d s f here is none)
-      by (Some n) some = inr (and_from (is_constructor p st.number) (is_present (alias_position p st.number)) (ap constructs (method_here p fr st) ∙ makes) (ap (λ (a : Option ℕ). is_present a) some))
+      by : (a : Bool) → is_alias_constructor p st.number ≡ a → (answers_for_fields (method_at p fr.method) ≡ true) ⊎ (is_alias_constructor p st.number ≡ true)
+      by false plain = inl (answers_here p ac forms h old frs fr st covered i d s f here is plain)
+      by true aliased = inr aliased
 
   -- what is held apart after the store was so before it
-  apart_then : (o : ℕ) (x y : Object) (f' g : Fact) → object_at h o ≡ Some x → x.finished ≡ true → is_heavy_class p x.class ≡ true → IsApart p k old frs after o y.owner g → IsApart p h old frs fr o x.owner f'
-  apart_then o x y f' g before done heavy (was, spared) = (was, others.spared o x before (done, heavy) spared)
+  apart_then : (o : ℕ) (x y : Object) (f' g : Fact) → object_at h o ≡ Some x → object_at k o ≡ Some y → x.finished ≡ true → is_heavy_class p x.class ≡ true → IsApart p k old frs after o y.owner g → IsApart p h old frs fr o x.owner f'
+  apart_then o x y f' g before now' done heavy = apart_before p h k old frs fr after o x y f' g others aged before now' done heavy (said' f')
 
   -- ---- a fact over the store
 
@@ -251,13 +271,13 @@ module _ (p : Program) (ac : Accept p) (forms : HasPlainForms p) (h k : HeapCont
     holds_later : (q : Place) → IsSmall q → has later q ≡ true → root_of k (place_value p k fr.method after.locals q) ≡ Some o
     holds_later q less in' = elim (was_in q less in') [
       | inl field ↦ subst (λ (u : Place). root_of k (place_value p k fr.method after.locals u) ≡ Some o) (single_place-same (place_of_field p f) q field.0)
-          (ap (root_of k) at_field ∙ value_root h k roots (temp_value fr.locals d) (inside (places.Temp d) room.0) ∙ c.places (places.Temp d) room.0 field.1)
-      | inr other ↦ keeps_root q o less other.0 (c.places q less other.1)
+          (ap (root_of k) at_field ∙ value_root h k roots (temp_value fr.locals d) (inside (places.Temp d) room.0) ∙ c.places (said' c.fact) (places.Temp d) room.0 refl field.1)
+      | inr other ↦ keeps_root q o less other.0 (c.places (said' c.fact) q less (none_lent' q) other.1)
     ]
 
     truth : (g : Fact) → g.called ≡ c.fact.called → g.full ≡ c.fact.full → claims p (method_at p fr.method) c.origin c.fact ≡ true → IsTrueOf p y c.origin g
     truth g called full claimed =
-        let was = c.true' claimed refl in
+        let was = c.true' claimed refl (held_here p ac forms h old frs fr st covered i d s f here is c.fact) in
         let still = still_true p x y c.origin c.fact (goes_on was.finished).0 was in
         record {
           finished = still.finished;
@@ -296,32 +316,32 @@ module _ (p : Program) (ac : Accept p) (forms : HasPlainForms p) (h k : HeapCont
         fact = g;
         reached = reach;
         alone = λ n one. places_stay_in_range p st.number (actions.PutOwn f d) s.edge c.fact.places room c.alone n (sym (same n) ∙ one);
-        places = λ u less one. holds_later u less (sym (same (number_of u)) ∙ one);
-        true' = λ claimed mine'. taken_truth t.may claimed;
-        lent = λ lent. (not_and (is_heavy_class p c.origin.class) (is_own g.mode) (ap is_own t.mode), (λ held. (makes, taken_aliased t.may lent)));
+        places = λ said'' u less kept one. holds_later u less (sym (same (number_of u)) ∙ one);
+        true' = λ claimed mine' kept. taken_truth t.may claimed;
+        lent = λ lent. (not_and (is_heavy_class p c.origin.class) (is_own g.mode) (ap is_own t.mode), (λ held. taken_aliased t.may lent));
         lends = λ lent done'. absurd (let never : modes.Held ≡ modes.Lent = sym t.mode ∙ lent in cc);
         makes = λ constructor this. still_unfinished x y done (c.makes constructor this);
         complete = λ lent other fields. absurd (let never : modes.Held ≡ modes.Lent = sym t.mode ∙ lent in cc);
-        unrenewed = λ done' tells was spared. refl;
-        free = λ done' held alone heavy. (let is = taken_free t.may alone in (is.0, is.2));
+        unrenewed = λ done' tells was. refl;
+        free = λ done' held answers kept heavy. (let is = taken_free t.may answers in (is.0, is.2));
         known = λ finished' tells apart stays. taken_known t.may finished' tells apart;
         fields = λ n less wide one. elim (was_in (places.Field n) less (in_later n one)) [
           | inl field ↦ same_fit n field.0 ∙ t.fits
           | inr other ↦ c.fields n less t.heavy other.1
         ];
         held = λ n less one heavy. (t.mode, t.heavy);
-        outside = λ plain n less one. t.mode;
+        outside = λ plain closed n less one. t.mode;
       }
         where
           taken_truth : (c.fact.mode ≡ modes.Own) ⊎ ((is_alias_constructor p st.number ≡ true) × (c.fact.mode ≡ modes.Alias)) → claims p (method_at p fr.method) c.origin g ≡ true → IsTrueOf p y c.origin g
           taken_truth (inl own) claimed = truth g called full (own_claims p (method_at p fr.method) c.origin c.fact own t.heavy)
-          taken_truth (inr alias) claimed = absurd (not_alone alias.0 (claims_alone p (method_at p fr.method) c.origin g t.mode claimed))
+          taken_truth (inr alias) claimed = absurd (not_alone alias.0 (claims_answered p (method_at p fr.method) c.origin g t.mode claimed))
 
           -- the field takes it from the frame
           released : c.fact.mode ≡ modes.Own → y.owner ≡ owners.Field w f
           released own =
-              let truth = c.true' (own_claims p (method_at p fr.method) c.origin c.fact own t.heavy) refl in
-              takes o x y before at broad (c.places (places.Temp d) room.0 t.there) truth.finished
+              let truth = c.true' (own_claims p (method_at p fr.method) c.origin c.fact own t.heavy) refl (held_here p ac forms h old frs fr st covered i d s f here is c.fact) in
+              takes o x y before at broad (c.places (said' c.fact) (places.Temp d) room.0 refl t.there) truth.finished
               (within_trans (must_of p x.class) (must_of p c.origin.class) (must_of_optional p (field_type p f)) truth.class t.fits)
               plain (owned_by (and_from (is_heavy_class p c.origin.class) (is_own c.fact.mode) t.heavy (ap is_own own)))
             where
@@ -332,13 +352,14 @@ module _ (p : Program) (ac : Accept p) (forms : HasPlainForms p) (h k : HeapCont
                   by false none = none
                   by true aliased = absurd (true≢false (sym (and_from (is_heavy_class p c.origin.class) (is_own c.fact.mode) t.heavy (ap is_own own)) ∙ (c.lent (lent' aliased c.origin.kind (t.alias aliased))).0))
 
-          taken_aliased : (c.fact.mode ≡ modes.Own) ⊎ ((is_alias_constructor p st.number ≡ true) × (c.fact.mode ≡ modes.Alias)) → is_lent p (method_at p fr.method) c.origin.kind ≡ true → makes_alone (method_at p fr.method) ≡ false
+          taken_aliased : (c.fact.mode ≡ modes.Own) ⊎ ((is_alias_constructor p st.number ≡ true) × (c.fact.mode ≡ modes.Alias)) → is_lent p (method_at p fr.method) c.origin.kind ≡ true
+              → (constructs (method_at p fr.method) ≡ true) × (makes_alone (method_at p fr.method) ≡ false)
           taken_aliased (inl own) lent = absurd (true≢false (sym (and_from (is_heavy_class p c.origin.class) (is_own c.fact.mode) t.heavy (ap is_own own)) ∙ (c.lent lent).0))
-          taken_aliased (inr alias) lent = go (makes_alone (method_at p fr.method)) refl
+          taken_aliased (inr alias) lent = (makes alias.0, go (makes_alone (method_at p fr.method)) refl)
             where
               go : (b : Bool) → makes_alone (method_at p fr.method) ≡ b → makes_alone (method_at p fr.method) ≡ false
               go false other = other
-              go true alone = absurd (not_alone alias.0 alone)
+              go true alone = absurd (not_alone alias.0 (alone_answers (method_at p fr.method) alone))
 
           -- the field's place is in the fact, and no other place of `this`
           taken_field : c.fact.mode ≡ modes.Own → IsInField p after g.places y.owner
@@ -359,7 +380,7 @@ module _ (p : Program) (ac : Accept p) (forms : HasPlainForms p) (h k : HeapCont
                     | inr other ↦ other.1
                   ]
 
-          taken_free : (c.fact.mode ≡ modes.Own) ⊎ ((is_alias_constructor p st.number ≡ true) × (c.fact.mode ≡ modes.Alias)) → makes_alone (method_at p fr.method) ≡ true
+          taken_free : (c.fact.mode ≡ modes.Own) ⊎ ((is_alias_constructor p st.number ≡ true) × (c.fact.mode ≡ modes.Alias)) → answers_for_fields (method_at p fr.method) ≡ true
               → (false ≡ false) × (is_heavy_class p c.origin.class ≡ true) × IsInField p after g.places y.owner
           taken_free (inl own) alone = (refl, t.heavy, taken_field own)
           taken_free (inr alias) alone = absurd (not_alone alias.0 alone)
@@ -367,13 +388,13 @@ module _ (p : Program) (ac : Accept p) (forms : HasPlainForms p) (h k : HeapCont
           taken_known : (c.fact.mode ≡ modes.Own) ⊎ ((is_alias_constructor p st.number ≡ true) × (c.fact.mode ≡ modes.Alias)) → y.finished ≡ true → tells_calls p fr.method c.origin g ≡ true → IsApart p k old frs after o y.owner g
               → set.is_subset g.called (set.union asked y.called) ≡ true
           taken_known (inl own) finished' tells apart = absurd (elim alone_or_aliased [
-            | inl alone ↦ true≢false (sym alone ∙ other_alone (is_held g.mode) (makes_alone (method_at p fr.method)) (ap is_held t.mode) (tells_apart p fr.method c.origin g tells))
+            | inl alone ↦ true≢false (sym alone ∙ other_alone (is_held g.mode) (answers_for_fields (method_at p fr.method)) (ap is_held t.mode) (tells_apart p fr.method c.origin g tells))
             | inr aliased ↦ true≢false (sym (and_from (is_heavy_class p c.origin.class) (is_own c.fact.mode) t.heavy (ap is_own own)) ∙ (c.lent (lent' aliased c.origin.kind (t.alias aliased))).0)
           ])
           taken_known (inr alias) finished' tells apart =
               let is_lent' : is_lent p (method_at p fr.method) c.origin.kind ≡ true = lent' alias.0 c.origin.kind (t.alias alias.0) in
               names g called finished' (λ was_done. c.known was_done (lent_tells p fr.method c.origin c.fact (lent_not_alone p h false false old frs fr o x c is_lent') is_lent')
-              (apart_then o x y c.fact g before was_done broad apart) refl)
+              (apart_then o x y c.fact g before at was_done broad apart) refl)
 
       by_left : g.called ≡ c.fact.called → g.full ≡ c.fact.full → IsLeft p c.origin f d c.fact g → Covers p k false false old frs after o y
       by_left called full l = record {
@@ -383,15 +404,15 @@ module _ (p : Program) (ac : Accept p) (forms : HasPlainForms p) (h k : HeapCont
         fact = g;
         reached = reach;
         alone = λ n one. places_stay_in_range p st.number (actions.PutOwn f d) s.edge c.fact.places room c.alone n (sym (same n) ∙ one);
-        places = λ u less one. holds_later u less (sym (same (number_of u)) ∙ one);
-        true' = λ claimed mine'. truth g called full (claims_as p (method_at p fr.method) c.origin c.fact g (l.mode (claims_owned p (method_at p fr.method) c.origin g claimed).1) claimed);
+        places = λ said'' u less kept one. holds_later u less (sym (same (number_of u)) ∙ one);
+        true' = λ claimed mine' kept. truth g called full (claims_as p (method_at p fr.method) c.origin c.fact g (l.mode (claims_owned p (method_at p fr.method) c.origin g claimed).1) claimed);
         lent = λ lent. (stays_unowned p c.origin c.fact g l.mode (c.lent lent).0, (λ held. (c.lent lent).1 (held_before held)));
         lends = λ lent done'. (refl, (others.keeps o x y before at (done done') broad (c.lends (l.lent lent) (done done')).1).1);
         makes = λ constructor this. still_unfinished x y done (c.makes constructor this);
         complete = λ lent other fields. (let was = c.complete (l.lent lent) other (subst (HasOwningField p) class fields) in (goes_on was).0.finished ∙ was);
-        unrenewed = λ done' tells was spared. refl;
-        free = λ done' held' alone heavy. (refl, left_field (held_mode g.mode held') (held_in_field p h false false old frs fr o x c (done done') (held_before held') alone heavy) heavy);
-        known = λ finished' tells apart stays. names g called finished' (λ was_done. c.known was_done (told tells) (apart_then o x y c.fact g before was_done broad apart) refl);
+        unrenewed = λ done' tells was. refl;
+        free = λ done' held' answers kept heavy. (refl, left_field (held_mode g.mode held') (held_in_field p h false false old frs fr o x c (done done') (held_before held') answers keeps' heavy) heavy);
+        known = λ finished' tells apart stays. names g called finished' (λ was_done. c.known was_done (told tells) (apart_then o x y c.fact g before at was_done broad apart) refl);
         fields = λ n less wide one. elim (was_in (places.Field n) less (in_later n one)) [
           | inl field ↦ field_claimed n less wide field.0 field.1 (has c.fact.places (place_of_field p f)) refl
           | inr other ↦ c.fields n less wide other.1
@@ -400,7 +421,7 @@ module _ (p : Program) (ac : Accept p) (forms : HasPlainForms p) (h k : HeapCont
           | inl field ↦ field_held n less one heavy field.0 field.1 (has c.fact.places (place_of_field p f)) refl
           | inr other ↦ (let was = c.held n less other.1 heavy in (l.held was.0 (in_this g.places n less one), was.1))
         ];
-        outside = λ plain n less one. absurd (true≢false (sym makes ∙ plain));
+        outside = λ plain closed n less one. absurd (elim (storing p ac forms h old frs fr st covered i d s f here is) [ inl makes' ↦ true≢false (sym makes' ∙ plain) | inr opens ↦ true≢false (sym opens ∙ closed) ]);
       }
         where
           held_before : is_held g.mode ≡ true → is_held c.fact.mode ≡ true
@@ -409,7 +430,7 @@ module _ (p : Program) (ac : Accept p) (forms : HasPlainForms p) (h k : HeapCont
           told : tells_calls p fr.method c.origin g ≡ true → tells_calls p fr.method c.origin c.fact ≡ true
           told tells = elim (tells_by p fr.method c.origin g tells) [
             | inl lent ↦ lent_tells p fr.method c.origin c.fact (lent_not_alone p h false false old frs fr o x c lent) lent
-            | inr held ↦ held_tells p fr.method c.origin c.fact (other_alone (is_held g.mode) (makes_alone (method_at p fr.method)) held (tells_apart p fr.method c.origin g tells)) (held_mode c.fact.mode (held_before held))
+            | inr held ↦ held_tells p fr.method c.origin c.fact (other_alone (is_held g.mode) (answers_for_fields (method_at p fr.method)) held (tells_apart p fr.method c.origin g tells)) (held_mode c.fact.mode (held_before held))
           ]
 
           -- a field that owns it goes on so, and its place stays
@@ -469,7 +490,7 @@ module _ (p : Program) (ac : Accept p) (forms : HasPlainForms p) (h k : HeapCont
                   has_field = ap (λ (e : FieldId). has c.fact.places (place_of_field p e)) (sym same_field) ∙ field.1
 
                   split : (b : Bool) → has c.fact.places (places.Temp d) ≡ b → IsInField p after g.places y.owner
-                  split true in' = kept (lasting.same o x y before at (c.places (places.Temp d) room.0 in') (at_this ∙ ap (owners.Field w) same_field)) stay
+                  split true in' = kept (lasting.same o x y before at (c.places (said' c.fact) (places.Temp d) room.0 refl in') (at_this ∙ ap (owners.Field w) same_field)) stay
                     where
                       stay : (q : Place) → IsSmall q → is_local q ≡ false → has c.fact.places q ≡ has g.places q
                       stay q less out = sym (same (number_of q) ∙ has_later q less ∙ go (is_place (place_of_field p f) q) refl)
@@ -527,7 +548,7 @@ module _ (p : Program) (ac : Accept p) (forms : HasPlainForms p) (h k : HeapCont
     claimed_before : (g : Fact) → StoresAs p st.number c.origin f d c.fact g → claims p (method_at p fr.method) c.origin g ≡ true → claims p (method_at p fr.method) c.origin c.fact ≡ true
     claimed_before g (taken reset called full t) claimed = elim t.may [
       | inl own ↦ own_claims p (method_at p fr.method) c.origin c.fact own t.heavy
-      | inr alias ↦ absurd (not_alone alias.0 (claims_alone p (method_at p fr.method) c.origin g t.mode claimed))
+      | inr alias ↦ absurd (not_alone alias.0 (claims_answered p (method_at p fr.method) c.origin g t.mode claimed))
     ]
     claimed_before g (left reset called full l) claimed = claims_as p (method_at p fr.method) c.origin c.fact g (l.mode (claims_owned p (method_at p fr.method) c.origin g claimed).1) claimed
 
@@ -602,7 +623,7 @@ module _ (p : Program) (ac : Accept p) (forms : HasPlainForms p) (h k : HeapCont
       still_owner : (n : Now) → is_owning_fact p c.origin n.0 ≡ true → y.owner ≡ owners.Frame (length frs + 1)
       still_owner n owning = elim (stays o x y before at broad owes mine') [
         | inl same ↦ same
-        | inr moved ↦ absurd (elim (key.others (places.Temp d) room.0 moved.0) [
+        | inr moved ↦ absurd (elim (key.others (places.Temp d) room.0 refl moved.0) [
           | inl in' ↦ was.1 in'
           | inr u ↦ elim (temp_is_taken p ac forms h old frs fr st covered i d s f here is o x w this u.covers u.here moved.2 moved.1) [
             | inl own ↦ true≢false (sym own ∙ unclaimed_not_owning p (method_at p fr.method) u.covers.origin u.covers.fact u.unowned)
@@ -620,10 +641,10 @@ module _ (p : Program) (ac : Accept p) (forms : HasPlainForms p) (h k : HeapCont
       keyed_by : (n : Now) (q : Place) → has (copied c.fact.places (place_of_field p f) (places.Temp d)) q ≡ true → IsKeyed p k false false old frs after q o y
       keyed_by n q in' = go (claims p (method_at p fr.method) c.origin n.0) refl
         where
-          each : (u : Place) → IsSmall u → root_of k (place_value p k after.method after.locals u) ≡ Some o → (has n.1.fact.places u ≡ true) ⊎ IsUnowned p k false false old frs after u o y
-          each u less is' =
+          each : (u : Place) → IsSmall u → is_lent_place p after u ≡ false → root_of k (place_value p k after.method after.locals u) ≡ Some o → (has n.1.fact.places u ≡ true) ⊎ IsUnowned p k false false old frs after u o y
+          each u less kept is' =
               let from = origin_of_place u o less is' in
-              elim (key.others from.0 from.1 from.2) [ inl in'' ↦ inl (here_after c owned_by u (from.3 c.fact.places in'') n) | inr free ↦ inr (unowned_on from.0 u free from.3) ]
+              elim (key.others from.0 from.1 (none_lent' from.0) from.2) [ inl in'' ↦ inl (here_after c owned_by u (from.3 c.fact.places in'') n) | inr free ↦ inr (unowned_on from.0 u free from.3) ]
 
           heavy_now : claims p (method_at p fr.method) c.origin n.0 ≡ true → is_own n.1.fact.mode ≡ true → is_owning_fact p c.origin n.0 ≡ true
           heavy_now claimed own = and_from (is_heavy_class p c.origin.class) (is_own n.0.mode) (claims_owned p (method_at p fr.method) c.origin n.0 claimed).0 (ap (λ (u : Fact). is_own u.mode) (sym n.3) ∙ own)
@@ -636,21 +657,21 @@ module _ (p : Program) (ac : Accept p) (forms : HasPlainForms p) (h k : HeapCont
       keyed_on q in' = keyed_by (store_covers o x y before at class broad goes_on done c owned_by q in') q in'
 
     keyed_from : (q : Place) → ComesFrom q o → IsKeyed p k false false old frs after q o y
-    keyed_from q (z, small', held, goes_to) = by (covered z o x small' held before broad owes)
+    keyed_from q (z, small', held, goes_to) = by (covered z o x small' (none_lent' z) held before broad owes)
       where
         by : IsKeyed p h false false old frs fr z o x → IsKeyed p k false false old frs after q o y
         by (owned c in' key) = keyed_on c key q (goes_to c.fact.places in')
         by (unowned u) = unowned (unowned_on z q u goes_to)
 
   pub store_covered : IsCovered p k gives_none renews_none old frs after
-  store_covered q o y less root at heavy owes = came (origin_of_place q o less root)
+  store_covered q o y less kept root at heavy owes = came (origin_of_place q o less root)
     where
       came : ComesFrom q o → IsKeyed p k false false old frs after q o y
       came from = by (carries o y at (numbered h links (place_value p h fr.method fr.locals from.0) o from.2 (inside from.0 from.1)).1)
         where
           by : IsCarried h o y → IsKeyed p k false false old frs after q o y
           by (x, before, class, goes_on) =
-              keyed_from o x y before at class (ap (is_heavy_class p) (sym class) ∙ heavy) (bore_before p h k others.holders o x y before goes_on owes) goes_on (ready from.0 o x y from.1 from.2 before at) q from
+              keyed_from o x y before at class (ap (is_heavy_class p) (sym class) ∙ heavy) (bore_before p h k others.holders o x y before goes_on owes) goes_on (ready from.0 o x y from.1 from.2 before at (ap (is_heavy_class p) (sym class) ∙ heavy)) q from
 
 -- ---- the frames that wait
 

@@ -73,7 +73,7 @@ module _ (p : Program) (ac : Accept p) (light : HasLightTexts p) where
           true≢false (sym (all_three (is_constructor_kind given.method.kind) (is_class given.method.class p.core.string) (is_present given.method.sig.alias) makes
           (eq-eqb given.method.class.0 p.core.string.0 (ap (λ (k : ClassId). k.0) (sym same))) (ap is_present given.alias))
           ∙ none_passes (makes_alias_text p) p.methods.items given.number.0 given.method light.constructors given.at)
-      by (inr (c, result, heavy, under)) = true≢false (sym heavy ∙ above_light c (above under))
+      by (inr (c, result, heavy, under, library)) = true≢false (sym heavy ∙ above_light c (above under))
         where
           above : (p.core.string ≡ c) ⊎ (is_under p p.core.string c ≡ true) → is_under p p.core.string c ≡ true
           above (inl same) = ap (is_under p p.core.string) (sym same) ∙ under_itself p ac p.core.string

@@ -1,16 +1,17 @@
 -- The top frame takes a step of its own that stores into no owning field, or a step of a call that has ended: what its places hold
 -- stays covered.
-use Rattle.std.proofs.Common.{◌≡◌, ◌⊎◌, inl, inr, ℕ, ◌+◌, ◌<◌, ◌≤◌, Bool, cond, true, false, ◌&&◌, ◌||◌, Option, Some, None, List, length, slice_get, eqb-true, refl, sym, ap, ◌∙◌, subst, true≢false, arith, eqb}
+use Rattle.std.proofs.Common.{◌≡◌, ◌⊎◌, inl, inr, ℕ, ◌+◌, ◌<◌, ◌≤◌, Bool, cond, true, false, not, ◌&&◌, ◌||◌, Option, Some, None, List, length, slice_get, refl, sym, ap, ◌∙◌, subst, true≢false}
 use Rattle.std.specs.FinSet as set
 use Rattle.std.proofs.lemmas.Bool.{and_from, and_parts, or_left, or_right}
 use Rattle.program_model.specs.declared.kinds.BodyId.{BodyId}
 use Rattle.program_model.specs.declared.kinds.ClassId.{ClassId}
 use Rattle.program_model.specs.declared.kinds.FieldId.{FieldId}
 use Rattle.program_model.specs.declared.program.Program.{Program}
+use Rattle.ledger_obligations.specs.Bodies.{constructs}
 use Rattle.ledger_obligations.specs.MustCallSets.{Names, is_heavy_class, must_of, no_names}
 use Rattle.java_control.specs.Calls.{is_reset_of_this}
 use Rattle.java_control.specs.Control.{Step}
-use Rattle.java_control.specs.Owned.{field_number, place_of_field}
+use Rattle.java_control.specs.Owned.{place_of_field}
 use Rattle.java_control.specs.PlaceNumbers.{IsSmall, number_of}
 use Rattle.java_control.specs.Sources.{is_part, source}
 use Rattle.java_control.specs.declared.action.Action.TheVariants as actions
@@ -19,7 +20,7 @@ use Rattle.java_control.specs.declared.fact.Fact.{Fact}
 use Rattle.java_control.specs.declared.fact.Origin.{Origin}
 use Rattle.java_control.specs.declared.place.Place.{Place}
 use Rattle.java_control.specs.declared.place.Place.TheVariants as places
-use Rattle.ownership_rules.specs.Facts.{PlaceSet, has, is_held, is_own, without}
+use Rattle.ownership_rules.specs.Facts.{PlaceSet, has, is_held, is_own}
 use Rattle.ownership_rules.specs.SmallActions.{IsSmallAction}
 use Rattle.value_laws.specs.Aliases.{gives_alias}
 use Rattle.value_laws.specs.PlaceRows.{places_after}
@@ -43,19 +44,21 @@ use Rattle.value_laws.specs.HeapAnew.{is_field_owner}
 use Rattle.value_laws.specs.Agreement.{Stands}
 use Rattle.value_laws.specs.Outcomes.{After}
 use Rattle.value_laws.specs.FactGoing.{GoesAs, is_owned_in}
-use Rattle.value_laws.specs.PlaceFacts.{Covers, HasOwningField, IsApart, IsCovered, IsKeyed, IsOwned, IsTrueOf, IsUnowned, asked_of, claims, gives_none, is_lent, is_owning_fact, OwesOrHolds, owned, tells_calls, unowned}
+use Rattle.value_laws.specs.PlaceFacts.{Covers, HasOwningField, IsApart, IsCovered, IsKeyed, IsOld, IsOwned, IsTrueOf, IsUnowned, asked_of, claims, gives_none, is_field_place, is_frame_from, is_idle, is_lent, is_lent_place, is_owning_fact, is_settled, OwesOrHolds, owned, tells_calls, unowned}
 use Rattle.covering_laws.proofs.HeavyFields.{claims_as, claims_by, claims_owned, held_mode, held_tells, known_on, lent_not_alone, lent_tells, tells_apart, tells_by, unclaimed_not_owning}
-use Rattle.value_laws.proofs.FieldResets.{reset_leaves_this}
-use Rattle.covering_laws.proofs.InFields.{at_place, held_finished, held_in_field, held_kept, held_unowned, in_field_on, in_this, kept_without}
+use Rattle.value_laws.proofs.FieldResets.{reset_empties_fields, reset_leaves_this}
+use Rattle.covering_laws.proofs.InFields.{held_in_field, held_kept, held_unowned, in_field_on, in_this}
 use Rattle.covering_laws.proofs.OwnerSteps.{own_frame}
 use Rattle.value_laws.proofs.OtherPlaces.{stays_aside, left_aside}
-use Rattle.value_laws.specs.Renewing.{fact_as, makes_alone}
+use Rattle.value_laws.specs.Renewing.{answers_for_fields, fact_as, is_of_heavy_class, lends_this, reopens}
 use Rattle.value_laws.proofs.ValuesAfter.{IsFrom, value_is_from}
 use Rattle.covering_laws.proofs.Following.{followed, same_body, step_there}
 use Rattle.covering_laws.proofs.Owners.{KeepsHeld, StaysApart, apart_before}
 use Rattle.covering_laws.proofs.RenewedFacts.{true_alike}
+use Rattle.covering_laws.proofs.SaidFacts.{lends_by_step}
+use Rattle.covering_laws.proofs.ThisFacts.{field_is_part, lent_in_body, lent_not_held, local_is_no_field, reset_source}
 use Rattle.value_laws.proofs.Needs.{origin_needs_all}
-use Rattle.covering_laws.proofs.Waiting.{heavy_stays, kept_root, Carries, Continues, HoldsThere, IsCarried, KeepsFieldsButTexts, KeepsReady, KeepsRootsOf, numbered, bore_before, kept_place, still_true, stays_unowned, still_unfinished}
+use Rattle.covering_laws.proofs.Waiting.{heavy_stays, kept_root, Carries, Continues, HoldsThere, IsCarried, KeepsFieldsButTexts, KeepsReady, KeepsRootsOf, idle_as, numbered, own_not_held, bore_before, kept_place, still_true, stays_unowned, still_unfinished}
 use Rattle.rlc_base.proofs.SetLaws.{within_self, within_trans, within_union_right}
 use Rattle.program_model.specs.Lookups.{method_at}
 use Rattle.java_control.specs.declared.fact.Outcome.{Outcome}
@@ -92,19 +95,11 @@ after_told P (Next g) y same is = (is, same)
 after_told P Gone y same is = is
 after_told P (Fault rule names) y same is = tt
 
--- `this` is no field's place
-apart_from_field : (k : ℕ) → eqb 160 (161 + k) ≡ false
-apart_from_field k = go (eqb 160 (161 + k)) refl
-  where
-    go : (b : Bool) → eqb 160 (161 + k) ≡ b → eqb 160 (161 + k) ≡ false
-    go false apart = apart
-    go true same = absurd (let one : 160 ≡ 161 + k = eqb-true 160 (161 + k) same in omega (arith, one))
-
 -- no fact of the frame goes on owning the object
 abbrev pub StopsOwning : (p : Program) → HeapContents → Frame → (ℕ → Bool) → List Frame → (ℕ → ClassId → Bool) → (ℕ → Bool) → (Origin → Fact → Fact → Type 0) → ℕ → Type 0
 StopsOwning p h fr old frs gives renewed More o =
     (x : Object) → object_at h o ≡ Some x → (z : Place) → IsSmall z → root_of h (place_value p h fr.method fr.locals z) ≡ Some o → (c : Covers p h (gives o x.class) (renewed o) old frs fr o x) → IsOwned p h (gives o x.class) (renewed o) old frs fr o x c
-    → (g : Fact) → More c.origin c.fact g → is_own g.mode ≡ false
+    → is_own c.fact.mode ≡ true → (g : Fact) → More c.origin c.fact g → is_own g.mode ≡ false
 
 module _ (p : Program) (ac : Accept p) (h k : HeapContents) (links : HasEarlierLinks h) (carries : Carries h k) (fields : KeepsFieldsButTexts p h k)
     (fr : Frame) (st : Stands p fr) (i : ℕ) (s : Step) (here : slice_get (frame_steps p fr) i ≡ Some s) (r : IsLocalStep p fr st s) (inside : HoldsThere p h fr) (roots : KeepsRootsOf p h k fr) (v : Value) where
@@ -132,12 +127,32 @@ module _ (p : Program) (ac : Accept p) (h k : HeapContents) (links : HasEarlierL
   root_earlier : (z : Place) (o : ℕ) → IsSmall z → root_of k (place_value p h fr.method fr.locals z) ≡ Some o → root_of h (place_value p h fr.method fr.locals z) ≡ Some o
   root_earlier z o small now = sym (roots z small) ∙ now
 
+  -- while `this` is lent, the step creates its obligation anew
+  lent_out : (q : Place) → is_lent_place p fr q ≡ true → (is_reset_of_this p s.action ≡ true) × (is_part q ≡ true)
+  lent_out q lent = (go (is_reset_of_this p s.action) refl, field_is_part q parts.0)
+    where
+      parts : (is_field_place q ≡ true) × (lends_this p fr ≡ true)
+      parts = and_parts (is_field_place q) (lends_this p fr) lent
+
+      go : (b : Bool) → is_reset_of_this p s.action ≡ b → is_reset_of_this p s.action ≡ true
+      go true is = is
+      go false none = absurd (true≢false (sym parts.1 ∙ lends_by_step p fr st i s here none))
+
+  -- so what a local place has it has from no such place
+  source_kept : (q z : Place) → is_local q ≡ true → source p st.body s.action s.edge q ≡ Some z → is_lent_place p fr z ≡ false
+  source_kept q z local from = go (is_lent_place p fr z) refl
+    where
+      go : (b : Bool) → is_lent_place p fr z ≡ b → is_lent_place p fr z ≡ false
+      go false none = none
+      go true lent = absurd (true≢false (sym (and_parts (is_field_place z) (lends_this p fr) lent).0
+          ∙ ap is_field_place (reset_source p st.body s.action s.edge q z (lent_out z lent).0 from) ∙ local_is_no_field q local))
+
   -- the step gives the object where it is a call that gives an alias of the fact's object
   abbrev pub GivesIt : PlaceSet → ℕ → Type 0
   GivesIt held o = gives_alias p s.action s.edge held ≡ true → root_of k v ≡ Some o
 
   -- where a place of a fact after the step held the object before it, or takes an alias of it, it holds it after it
-  still_holds : (held : PlaceSet) (o : ℕ) (x : Object) → object_at h o ≡ Some x → is_heavy_class p x.class ≡ true → ((z : Place) → IsSmall z → has held z ≡ true → root_of h (place_value p h fr.method fr.locals z) ≡ Some o) → GivesIt held o
+  still_holds : (held : PlaceSet) (o : ℕ) (x : Object) → object_at h o ≡ Some x → is_heavy_class p x.class ≡ true → ((z : Place) → IsSmall z → is_lent_place p fr z ≡ false → has held z ≡ true → root_of h (place_value p h fr.method fr.locals z) ≡ Some o) → GivesIt held o
       → (z : Place) → IsSmall z → has (later held) z ≡ true → root_of k (place_value p k fr.method after.locals z) ≡ Some o
   still_holds held o thing there heavy before alias z small is = go (is_local z) refl
     where
@@ -145,7 +160,7 @@ module _ (p : Program) (ac : Accept p) (h k : HeapContents) (links : HasEarlierL
       from local None e one = absurd (true≢false (sym one))
       from local (Some x) e one =
           let small' = source_is_small p st.body s.action s.edge z x r.small small e in
-          let was = before x small' one in
+          let was = before x small' (source_kept z x local e) one in
           ap (root_of k) (value_comes_from_source p h k fr.method st.body fr.locals s.action s.edge v z x o body_here small local r.target e was) ∙ root_later x o small' was
 
       taken : is_local z ≡ true → (b : Bool) → takes_alias p s.action s.edge held z ≡ b → (b || has_source held (source p st.body s.action s.edge z)) ≡ true → root_of k (place_value p k fr.method after.locals z) ≡ Some o
@@ -154,11 +169,16 @@ module _ (p : Program) (ac : Accept p) (h k : HeapContents) (links : HasEarlierL
           ∙ alias (and_parts (gives_alias p s.action s.edge held) (is_made (made_place s.action) z) takes).0
       taken local false takes one = from local (source p st.body s.action s.edge z) refl one
 
+      -- the places of fields leave where `this` is lent
+      stays_out : (b : Bool) → is_lent_place p fr z ≡ b → is_lent_place p fr z ≡ false
+      stays_out false none = none
+      stays_out true lent = let out' = lent_out z lent in absurd (true≢false (sym is ∙ reset_empties_fields p st.number s.edge held z out'.1 small s.action r.small out'.0))
+
       go : (b : Bool) → is_local z ≡ b → root_of k (place_value p k fr.method after.locals z) ≡ Some o
       go true local = taken local (takes_alias p s.action s.edge held z) refl
           (sym (places_come_from_sources p st.number st.body s.action s.edge held z st.at r.small small local r.way) ∙ is)
       go false out =
-          let was = before z small (left_aside z small out p st.number s.edge held s.action r.small r.sets r.moves r.makes is) in
+          let was = before z small (stays_out (is_lent_place p fr z) refl) (left_aside z small out p st.number s.edge held s.action r.small r.sets r.moves r.makes is) in
           ap (root_of k) (other z out ∙ heavy_stays p h k _ _ o thing (kept_place p h k fields fr.method fr.locals z) was there heavy) ∙ root_later z o small was
 
   -- what a fact of this origin knows is to be true: it says that the object is owned, or it is that of what is lent
@@ -174,8 +194,12 @@ module _ (p : Program) (ac : Accept p) (h k : HeapContents) (links : HasEarlierL
   abbrev pub IsSureOf : (old : ℕ → Bool) (frs : List Frame) (away anew : Bool) (o : ℕ) (x : Object) → Covers p h away anew old frs fr o x → Type 0
   IsSureOf old frs away anew o x c = (IsOwned p h away anew old frs fr o x c × (away ≡ false)) ⊎ ((tells_calls p fr.method c.origin c.fact ≡ true) × IsApart p h old frs fr o x.owner c.fact)
 
+  -- A fact of which nothing is said says that a field of `this` holds its object, and does so still.
+  abbrev pub StaysIdle : List Frame → Type 0
+  StaysIdle frs = (g : Origin) (f f' : Fact) → Reach p st.number (relation_of p st.number) g fr.control f → GoesAs f (later f.places) (called_after p st.number s.action s.edge f) f' → is_idle p frs fr f ≡ true → is_held f'.mode ≡ true
+
   -- the step lets the fact go on, and what it knows to have been called was
-  module _ (old : ℕ → Bool) (frs : List Frame) (away anew : Bool) (o : ℕ) (x y : Object) (before : object_at h o ≡ Some x) (at : object_at k o ≡ Some y) (class : y.class ≡ x.class) (wide : is_heavy_class p x.class ≡ true)
+  module _ (old : ℕ → Bool) (frs : List Frame) (aged : IsOld p h frs fr old) (idle : StaysIdle frs) (away anew : Bool) (o : ℕ) (x y : Object) (before : object_at h o ≡ Some x) (at : object_at k o ≡ Some y) (class : y.class ≡ x.class) (wide : is_heavy_class p x.class ≡ true)
       (goes : x.finished ≡ true → Continues x y) (ready : y.finished ≡ true → x.finished ≡ true) (others : StaysApart p h k frs fr) (lasting : KeepsHeld p h k fr) (c : Covers p h away anew old frs fr o x)
       (More : Fact → Type 0)
       (row : (q : Place) → has (later c.fact.places) q ≡ true
@@ -183,7 +207,7 @@ module _ (p : Program) (ac : Accept p) (h k : HeapContents) (links : HasEarlierL
       (spared : (g : Fact) → More g → is_own g.mode ≡ true → is_owning_fact p c.origin c.fact ≡ true → away ≡ false)
       (known : (g : Fact) → More g → IsTrusted c.origin g → IsSure old frs away anew o x c → anew ≡ false → x.finished ≡ true → (names : Names) → set.is_subset y.called names ≡ true → set.is_subset c.fact.called names ≡ true
       → set.is_subset (called_after p st.number s.action s.edge c.fact) names ≡ true)
-      (alias : GivesIt c.fact.places o) where
+      (alias : is_idle p frs fr c.fact ≡ false → GivesIt c.fact.places o) where
     reached : Reach p st.number (relation_of p st.number) c.origin fr.control c.fact
     reached = subst (λ (b : BodyId). Reach p b (relation_of p b) c.origin fr.control c.fact) (same_body c.body st.number (body_id p fr.method) c.id st.id) c.reached
 
@@ -225,13 +249,41 @@ module _ (p : Program) (ac : Accept p) (h k : HeapContents) (links : HasEarlierL
       held_before : is_held g.mode ≡ true → is_held c.fact.mode ≡ true
       held_before held = ap is_held (sym (on.mode (or_right (is_own g.mode) (is_held g.mode) held))) ∙ held
 
-      -- behind a call that creates the obligation of `this` anew, no content of what is being made is claimed by what goes on
-      pub not_held_anew : x.finished ≡ true → is_reset_of_this p s.action ≡ true → is_held g.mode ≡ true → makes_alone (method_at p fr.method) ≡ true → is_heavy_class p c.origin.class ≡ true → ⊥
-      not_held_anew was_done resets held alone heavy =
-          let was = held_in_field p h away anew old frs fr o x c was_done (held_before held) alone heavy in
-          let this = left_aside places.This tt refl p st.number s.edge c.fact.places s.action r.small r.sets r.moves r.makes (reset_leaves_this p st.number c.origin s.action s.edge c.fact g r.small resets goes_on.2 held) in
-          true≢false (sym (at_place (without c.fact.places (place_of_field p was.0.field)) places.This tt refl
-          (sym (kept_without c.fact.places (place_of_field p was.0.field) places.This (apart_from_field (field_number p was.0.field))) ∙ this)) ∙ was.2)
+      -- behind a call that creates the obligation of `this` anew, no content of `this` is claimed by what goes on
+      pub not_held_anew : is_reset_of_this p s.action ≡ true → is_held g.mode ≡ true → answers_for_fields (method_at p fr.method) ≡ true → ⊥
+      not_held_anew resets held answers = lent_not_held c.fact.mode (lent_in_body p ac fr st answers c.origin c.fact reached
+          (left_aside places.This tt refl p st.number s.edge c.fact.places s.action r.small r.sets r.moves r.makes (reset_leaves_this p st.number c.origin s.action s.edge c.fact g r.small resets goes_on.2 held))) (held_before held)
+
+      -- so where it says that a field holds the object, and claims it, `this` is not lent
+      pub keeps_mine : is_held g.mode ≡ true → answers_for_fields (method_at p fr.method) ≡ true → lends_this p fr ≡ false
+      keeps_mine held answers = go (is_reset_of_this p s.action) refl
+        where
+          go : (b : Bool) → is_reset_of_this p s.action ≡ b → lends_this p fr ≡ false
+          go false none = lends_by_step p fr st i s here none
+          go true resets = absurd (not_held_anew resets held answers)
+
+      not_lending : claims p (method_at p fr.method) c.origin g ≡ true → (is_held c.fact.mode && lends_this p fr) ≡ false
+      not_lending claimed = elim (claims_by p (method_at p fr.method) c.origin g claimed) [
+        | inl own ↦ own_not_held c.fact.mode (lends_this p fr) (ap is_own (sym (on.mode (or_left (is_own g.mode) (is_held g.mode) own))) ∙ own)
+        | inr held ↦ ap (λ (b : Bool). is_held c.fact.mode && b) (keeps_mine held.0 held.1) ∙ none (is_held c.fact.mode)
+      ]
+        where
+          none : (b : Bool) → (b && false) ≡ false
+          none true = refl
+          none false = refl
+
+      -- something is said of it where it is of what goes on
+      said_before : is_idle p frs after g ≡ false → is_idle p frs fr c.fact ≡ false
+      said_before said = go (is_idle p frs fr c.fact) refl
+        where
+          go : (b : Bool) → is_idle p frs fr c.fact ≡ b → is_idle p frs fr c.fact ≡ false
+          go false none = none
+          go true nothing =
+              let held = idle c.origin c.fact g reached on nothing in
+              absurd (true≢false (sym (same_idle (held_before held) held nothing) ∙ sym (idle_as p fr after frs g refl refl) ∙ said))
+            where
+              same_idle : is_held c.fact.mode ≡ true → is_held g.mode ≡ true → is_idle p frs fr c.fact ≡ true → is_idle p frs fr g ≡ true
+              same_idle was now is' = ap (λ (b : Bool). b && not (constructs (method_at p fr.method)) && not (reopens (method_at p fr.method)) && is_of_heavy_class p (method_at p fr.method) && not (is_settled p fr frs)) (now ∙ sym was) ∙ is'
 
       stays_owned : is_heavy_class p c.origin.class ≡ true → is_own g.mode ≡ true → away ≡ false
       stays_owned heavy own = spared g more own (owning_before (and_from (is_heavy_class p c.origin.class) (is_own g.mode) heavy own))
@@ -252,7 +304,16 @@ module _ (p : Program) (ac : Accept p) (h k : HeapContents) (links : HasEarlierL
           by false other = none away (is_own c.fact.mode) (ap is_own (sym (on.mode owned.1)) ∙ other)
 
       was_true : claims p (method_at p fr.method) c.origin g ≡ true → IsTrueOf p x c.origin (fact_as anew c.fact)
-      was_true claimed = c.true' (claims_as p (method_at p fr.method) c.origin c.fact g (on.mode (claims_owned p (method_at p fr.method) c.origin g claimed).1) claimed) (not_given claimed)
+      was_true claimed = c.true' (claims_as p (method_at p fr.method) c.origin c.fact g (on.mode (claims_owned p (method_at p fr.method) c.origin g claimed).1) claimed) (not_given claimed) (not_lending claimed)
+
+      -- no frame owns what is claimed so
+      pub held_unframed : claims p (method_at p fr.method) c.origin g ≡ true → is_held g.mode ≡ true → answers_for_fields (method_at p fr.method) ≡ true → (n : ℕ) → is_frame_from n y.owner ≡ false
+      held_unframed claimed held answers n =
+          let mine = keeps_mine held answers in
+          let was = (was_true claimed).finished in
+          let heavy = (claims_owned p (method_at p fr.method) c.origin g claimed).0 in
+          ap (is_frame_from n) (lasting o x y before at was wide answers mine (held_in_field p h away anew old frs fr o x c was (held_before held) answers mine heavy).0)
+          ∙ held_unowned p h away anew old frs fr o x c was (held_before held) answers mine heavy n
 
       not_away : claims p (method_at p fr.method) c.origin g ≡ true → away ≡ false
       not_away claimed = by (claims_by p (method_at p fr.method) c.origin g claimed)
@@ -260,9 +321,9 @@ module _ (p : Program) (ac : Accept p) (h k : HeapContents) (links : HasEarlierL
           owned : (is_heavy_class p c.origin.class ≡ true) × (is_owned_in g.mode ≡ true)
           owned = claims_owned p (method_at p fr.method) c.origin g claimed
 
-          by : (is_own g.mode ≡ true) ⊎ ((is_held g.mode ≡ true) × (makes_alone (method_at p fr.method) ≡ true)) → away ≡ false
+          by : (is_own g.mode ≡ true) ⊎ ((is_held g.mode ≡ true) × (answers_for_fields (method_at p fr.method) ≡ true)) → away ≡ false
           by (inl own) = stays_owned owned.0 own
-          by (inr held) = held_kept p h away anew old frs fr o x c (was_true claimed).finished (held_before held.0) held.1 owned.0
+          by (inr held) = held_kept p h away anew old frs fr o x c (was_true claimed).finished (held_before held.0) held.1 (keeps_mine held.0 held.1) owned.0
 
       truth : claims p (method_at p fr.method) c.origin g ≡ true → IsTrueOf p y c.origin (fact_as anew g)
       truth claimed = as_read anew refl (still_true p x y c.origin (fact_as anew c.fact) (goes (was_true claimed).finished).0 (was_true claimed))
@@ -292,7 +353,7 @@ module _ (p : Program) (ac : Accept p) (h k : HeapContents) (links : HasEarlierL
       tells_before tells = elim (tells_by p fr.method c.origin g tells) [
         | inl lent ↦ (lent_tells p fr.method c.origin c.fact (lent_not_alone p h away anew old frs fr o x c lent) lent, inr lent)
         | inr held ↦ (
-          held_tells p fr.method c.origin c.fact (other_alone (is_held g.mode) (makes_alone (method_at p fr.method)) held (tells_apart p fr.method c.origin g tells)) (held_mode c.fact.mode (held_before held)),
+          held_tells p fr.method c.origin c.fact (other_alone (is_held g.mode) (answers_for_fields (method_at p fr.method)) held (tells_apart p fr.method c.origin g tells)) (held_mode c.fact.mode (held_before held)),
           inl (or_right (is_own g.mode) (is_held g.mode) held),
         )
       ]
@@ -302,7 +363,7 @@ module _ (p : Program) (ac : Accept p) (h k : HeapContents) (links : HasEarlierL
       asked = asked_of p (method_at p fr.method) c.origin.kind
 
       was_apart : x.finished ≡ true → IsApart p k old frs after o y.owner g → IsApart p h old frs fr o x.owner c.fact
-      was_apart was_done apart = apart_before p h k old frs fr o x y c.fact g others before at was_done wide held_before apart
+      was_apart was_done apart = apart_before p h k old frs fr after o x y c.fact g others aged before at was_done wide (said_before apart.3) apart
 
       pub covers_on : Covers p k false anew old frs after o y
       covers_on = record {
@@ -312,21 +373,22 @@ module _ (p : Program) (ac : Accept p) (h k : HeapContents) (links : HasEarlierL
         fact = g;
         reached = goes_on.0;
         alone = λ n inside'. places_stay_in_range p st.number s.action s.edge c.fact.places r.small c.alone n (sym (on.places n) ∙ inside');
-        places = λ z' small' inside'. still_holds c.fact.places o x before wide c.places alias z' small' (sym (on.places (number_of z')) ∙ inside');
-        true' = λ claimed spared'. truth claimed;
+        places = λ said z' small' kept' inside'. still_holds c.fact.places o x before wide (c.places (said_before said)) (alias (said_before said)) z' small' (sym (on.places (number_of z')) ∙ inside');
+        true' = λ claimed spared' mine'. truth claimed;
         lent = λ lent. (stays_unowned p c.origin c.fact g on.mode (c.lent lent).0, (λ held. (c.lent lent).1 (held_before held)));
-        free = λ done held alone heavy.
-            let was = held_in_field p h away anew old frs fr o x c (ready done) (held_before held) alone heavy in (
+        free = λ done held answers mine' heavy.
+            let mine = keeps_mine held answers in
+            let was = held_in_field p h away anew old frs fr o x c (ready done) (held_before held) answers mine heavy in (
               refl,
-              in_field_on p fr st ac after refl refl c.fact.places g.places x.owner y.owner (lasting o x y before at (ready done) wide alone was.0)
+              in_field_on p fr st ac after refl refl c.fact.places g.places x.owner y.owner (lasting o x y before at (ready done) wide answers mine was.0)
                   (λ q small out is. on.places (number_of q)
-                  ∙ (stays_aside q small out p st.number s.edge c.fact.places s.action r.small r.sets r.moves r.makes (λ resets. absurd (not_held_anew (ready done) resets held alone heavy)) ∙ is))
+                  ∙ (stays_aside q small out p st.number s.edge c.fact.places s.action r.small r.sets r.moves r.makes (λ resets. absurd (not_held_anew resets held answers)) ∙ is))
                   (λ q small out is. left_aside q small out p st.number s.edge c.fact.places s.action r.small r.sets r.moves r.makes (sym (on.places (number_of q)) ∙ is)) was,
             );
         lends = λ lent done. (refl, (others.keeps o x y before at (ready done) wide (c.lends (on.lent lent) (ready done)).1).1);
         makes = λ constructor this. still_unfinished x y ready (c.makes constructor this);
         complete = λ lent other fields. (let was = c.complete (on.lent lent) other (subst (HasOwningField p) class fields) in (goes was).0.finished ∙ was);
-        unrenewed = λ done tells was is. c.unrenewed (ready done) (tells_before tells).0 was (others.spared o x before (ready done, wide) is);
+        unrenewed = λ done tells apart. c.unrenewed (ready done) (tells_before tells).0 (was_apart (ready done) apart);
         known = λ done tells apart stays.
             let was_done = ready done in
             let told = tells_before tells in
@@ -337,8 +399,8 @@ module _ (p : Program) (ac : Accept p) (h k : HeapContents) (links : HasEarlierL
         held = λ n inside' there heavy.
             let was = c.held n inside' (aside n inside' (sym (on.places (161 + n)) ∙ there)) heavy in
             (on.held was.0 (in_this (later c.fact.places) n inside' (sym (on.places (161 + n)) ∙ there)), was.1);
-        outside = λ plain n inside' there.
-            on.held (c.outside plain n inside' (aside n inside' (sym (on.places (161 + n)) ∙ there))) (in_this (later c.fact.places) n inside' (sym (on.places (161 + n)) ∙ there));
+        outside = λ plain other' n inside' there.
+            on.held (c.outside plain other' n inside' (aside n inside' (sym (on.places (161 + n)) ∙ there))) (in_this (later c.fact.places) n inside' (sym (on.places (161 + n)) ∙ there));
       }
 
       pub has_on : (q : Place) → has (later c.fact.places) q ≡ true → has g.places q ≡ true
@@ -346,7 +408,7 @@ module _ (p : Program) (ac : Accept p) (h k : HeapContents) (links : HasEarlierL
 
   -- a place held the object before the step, whose facts have the other place after it
   abbrev pub ComesFrom : Place → ℕ → Type 0
-  ComesFrom q o = (z : Place) × IsSmall z × (root_of h (place_value p h fr.method fr.locals z) ≡ Some o) × ((held : PlaceSet) → has held z ≡ true → has (later held) q ≡ true)
+  ComesFrom q o = (z : Place) × IsSmall z × (is_lent_place p fr z ≡ false) × (root_of h (place_value p h fr.method fr.locals z) ≡ Some o) × ((held : PlaceSet) → has held z ≡ true → has (later held) q ≡ true)
 
   -- the place is that of a field of `this`, whose obligation the step creates anew: the facts leave it
   abbrev pub IsLeftOut : Place → Type 0
@@ -363,7 +425,7 @@ module _ (p : Program) (ac : Accept p) (h k : HeapContents) (links : HasEarlierL
   -- there; or it comes from another place.
   abbrev pub IsMadeSo : (ℕ → Bool) → List Frame → (ℕ → ClassId → Bool) → (ℕ → Bool) → (Origin → Fact → Fact → Type 0) → Place → ℕ → Object → Type 0
   IsMadeSo old frs gives renewed More q o y =
-      ((d : Covers p k false (renewed o) old frs after o y) × (has d.fact.places q ≡ true) × (y.owner ≡ owners.Frame (length frs + 1)) × StopsOwning p h fr old frs gives renewed More o) ⊎ (IsUnowned p k false (renewed o) old frs after q o y ⊎ ComesFrom q o)
+      ((d : Covers p k false (renewed o) old frs after o y) × (has d.fact.places q ≡ true) × (y.owner ≡ owners.Frame (length frs + 1)) × StopsOwning p h fr old frs gives renewed More o × (is_held d.fact.mode ≡ false)) ⊎ (IsUnowned p k false (renewed o) old frs after q o y ⊎ ComesFrom q o)
 
   -- a fact that claims the object after the step claimed it before; or it says that the frame owns the object, and no other fact goes on owning it; or it
   -- knows of no calls, and all that its class asks for is needed
@@ -378,13 +440,13 @@ module _ (p : Program) (ac : Accept p) (h k : HeapContents) (links : HasEarlierL
       ((c : Covers p k false (renewed o) old frs after o y) × (has c.fact.places q ≡ true) × IsOwned p k false (renewed o) old frs after o y c × IsOwnedFrom old frs gives renewed More o c.origin c.fact) ⊎ IsUnowned p k false (renewed o) old frs after q o y
 
   -- all that the frame's places hold after the step was held before it, or the step made it
-  module _ (old : ℕ → Bool) (frs : List Frame) (gives : ℕ → ClassId → Bool) (renewed : ℕ → Bool) (covered : IsCovered p h gives (λ o owner. renewed o) old frs fr) (ready : KeepsReady p h k fr) (others : StaysApart p h k frs fr) (lasting : KeepsHeld p h k fr)
+  module _ (old : ℕ → Bool) (frs : List Frame) (gives : ℕ → ClassId → Bool) (renewed : ℕ → Bool) (covered : IsCovered p h gives (λ o owner. renewed o) old frs fr) (aged : IsOld p h frs fr old) (idle : StaysIdle frs) (ready : KeepsReady p h k fr) (others : StaysApart p h k frs fr) (lasting : KeepsHeld p h k fr)
       (More : Origin → Fact → Fact → Type 0)
       (row : (o : ℕ) (x : Object) (c : Covers p h (gives o x.class) (renewed o) old frs fr o x) (q : Place) → has (later c.fact.places) q ≡ true
       → After (λ (g : Fact). GoesAs c.fact (later c.fact.places) (called_after p st.number s.action s.edge c.fact) g × More c.origin c.fact g) (flow p st.number c.origin s.action s.edge c.fact))
       (known : (o : ℕ) (x y : Object) (c : Covers p h (gives o x.class) (renewed o) old frs fr o x) → object_at h o ≡ Some x → object_at k o ≡ Some y → (g : Fact) → More c.origin c.fact g → IsTrusted c.origin g → IsSureOf old frs (gives o x.class) (renewed o) o x c → renewed o ≡ false → x.finished ≡ true → GoesOn x y
       → is_heavy_class p x.class ≡ true → OwesOrHolds p h o x → (names : Names) → set.is_subset y.called names ≡ true → set.is_subset c.fact.called names ≡ true → set.is_subset (called_after p st.number s.action s.edge c.fact) names ≡ true)
-      (alias : (o : ℕ) (x : Object) (c : Covers p h (gives o x.class) (renewed o) old frs fr o x) → object_at h o ≡ Some x → is_heavy_class p x.class ≡ true → OwesOrHolds p h o x → GivesIt c.fact.places o)
+      (alias : (o : ℕ) (x : Object) (c : Covers p h (gives o x.class) (renewed o) old frs fr o x) → object_at h o ≡ Some x → is_heavy_class p x.class ≡ true → OwesOrHolds p h o x → is_idle p frs fr c.fact ≡ false → GivesIt c.fact.places o)
       (own : (o : ℕ) (x y : Object) (c : Covers p h (gives o x.class) (renewed o) old frs fr o x) → IsOwned p h (gives o x.class) (renewed o) old frs fr o x c → object_at h o ≡ Some x → object_at k o ≡ Some y → is_heavy_class p x.class ≡ true → OwesOrHolds p h o x
       → (g : Fact) → More c.origin c.fact g → is_own g.mode ≡ true → (gives o x.class ≡ false) × (x.finished ≡ true → x.owner ≡ owners.Frame (length frs + 1) → y.owner ≡ owners.Frame (length frs + 1)))
       (bears : (q : Place) (o : ℕ) (y : Object) → IsSmall q → IsLeftOut q → root_of k (place_value p k fr.method after.locals q) ≡ Some o → object_at k o ≡ Some y → is_heavy_class p y.class ≡ true → OwesOrHolds p k o y
@@ -409,6 +471,7 @@ module _ (p : Program) (ac : Accept p) (h k : HeapContents) (links : HasEarlierL
             inl (
               z,
               small',
+              source_kept q z local e,
               root_earlier z o small' (ap (root_of k) (sym is) ∙ held),
               (λ held' one. places_come_from_sources p st.number st.body s.action s.edge held' q st.at r.small small local r.way
                   ∙ or_right (takes_alias p s.action s.edge held' q) (has_source held' (source p st.body s.action s.edge q)) (ap (has_source held') e ∙ one)),
@@ -418,9 +481,14 @@ module _ (p : Program) (ac : Accept p) (h k : HeapContents) (links : HasEarlierL
         stays out aside = (
           q,
           small,
+          kept (is_lent_place p fr q) refl,
           root_earlier q o small (ap (root_of k) (sym (other q out ∙ kept_root p h k _ _ o (kept_place p h k fields fr.method fr.locals q) (ap (root_of k) (sym (other q out)) ∙ held))) ∙ held),
           (λ held' one. stays_aside q small out p st.number s.edge held' s.action r.small r.sets r.moves r.makes aside ∙ one),
         )
+          where
+            kept : (b : Bool) → is_lent_place p fr q ≡ b → is_lent_place p fr q ≡ false
+            kept false none = none
+            kept true lent = let is = lent_out q lent in absurd (true≢false (sym is.1 ∙ aside is.0))
 
         beside : is_local q ≡ false → (b d : Bool) → is_reset_of_this p s.action ≡ b → is_part q ≡ d → ComesFrom q o ⊎ (IsMadeAt q ⊎ IsLeftOut q)
         beside out true true resets part = inr (inr (resets, part))
@@ -443,7 +511,7 @@ module _ (p : Program) (ac : Accept p) (h k : HeapContents) (links : HasEarlierL
       -- a fact that does not own it
       unowned_on : (z q : Place) → IsUnowned p h away anew old frs fr z o x → ((held : PlaceSet) → has held z ≡ true → has (later held) q ≡ true) → IsUnowned p k false (renewed o) old frs after q o y
       unfolding covers_on
-      unowned_on z q u goes_to = by (gone_on old frs away anew o x y before at class wide goes done others lasting u.covers (More u.covers.origin u.covers.fact) (row o x u.covers) spared trusted (alias o x u.covers before wide owes) q (goes_to u.covers.fact.places u.here))
+      unowned_on z q u goes_to = by (gone_on old frs aged idle away anew o x y before at class wide goes done others lasting u.covers (More u.covers.origin u.covers.fact) (row o x u.covers) spared trusted (alias o x u.covers before wide owes) q (goes_to u.covers.fact.places u.here))
         where
           spared : (g : Fact) → More u.covers.origin u.covers.fact g → is_own g.mode ≡ true → is_owning_fact p u.covers.origin u.covers.fact ≡ true → away ≡ false
           spared g its mine owning = absurd (true≢false (sym owning ∙ unclaimed_not_owning p (method_at p fr.method) u.covers.origin u.covers.fact u.unowned))
@@ -456,17 +524,17 @@ module _ (p : Program) (ac : Accept p) (h k : HeapContents) (links : HasEarlierL
               told (inl claimed) = absurd (true≢false (sym claimed.0 ∙ u.unowned))
               told (inr is) = inr is
 
-          by : (g : Fact) × Goes old frs away anew o x y before at class wide goes done others lasting u.covers (More u.covers.origin u.covers.fact) (row o x u.covers) spared trusted (alias o x u.covers before wide owes) g → IsUnowned p k false (renewed o) old frs after q o y
+          by : (g : Fact) × Goes old frs aged idle away anew o x y before at class wide goes done others lasting u.covers (More u.covers.origin u.covers.fact) (row o x u.covers) spared trusted (alias o x u.covers before wide owes) g → IsUnowned p k false (renewed o) old frs after q o y
           by (g, on) = record {
-            covers = covers_on old frs away anew o x y before at class wide goes done others lasting u.covers (More u.covers.origin u.covers.fact) (row o x u.covers) spared trusted (alias o x u.covers before wide owes) g on;
-            here = has_on old frs away anew o x y before at class wide goes done others lasting u.covers (More u.covers.origin u.covers.fact) (row o x u.covers) spared trusted (alias o x u.covers before wide owes) g on q (goes_to u.covers.fact.places u.here);
+            covers = covers_on old frs aged idle away anew o x y before at class wide goes done others lasting u.covers (More u.covers.origin u.covers.fact) (row o x u.covers) spared trusted (alias o x u.covers before wide owes) g on;
+            here = has_on old frs aged idle away anew o x y before at class wide goes done others lasting u.covers (More u.covers.origin u.covers.fact) (row o x u.covers) spared trusted (alias o x u.covers before wide owes) g on q (goes_to u.covers.fact.places u.here);
             unowned = not_owning (claims p (method_at p fr.method) u.covers.origin g) refl;
           }
             where
               not_owning : (b : Bool) → claims p (method_at p fr.method) u.covers.origin g ≡ b → claims p (method_at p fr.method) u.covers.origin g ≡ false
               not_owning false none = none
               not_owning true owning =
-                  absurd (true≢false (sym (claims_before old frs away anew o x y before at class wide goes done others lasting u.covers (More u.covers.origin u.covers.fact) (row o x u.covers) spared trusted (alias o x u.covers before wide owes) g on owning) ∙ u.unowned))
+                  absurd (true≢false (sym (claims_before old frs aged idle away anew o x y before at class wide goes done others lasting u.covers (More u.covers.origin u.covers.fact) (row o x u.covers) spared trusted (alias o x u.covers before wide owes) g on owning) ∙ u.unowned))
 
       -- the fact that owns it
       module _ (c : Covers p h away anew old frs fr o x) (key : IsOwned p h away anew old frs fr o x c) (z : Place) (small : IsSmall z) (held : root_of h (place_value p h fr.method fr.locals z) ≡ Some o) where
@@ -482,24 +550,27 @@ module _ (p : Program) (ac : Accept p) (h k : HeapContents) (links : HasEarlierL
             owns (inr is) = inr is
 
         abbrev GoesSo : Fact → Type 0
-        GoesSo g = Goes old frs away anew o x y before at class wide goes done others lasting c (More c.origin c.fact) (row o x c) spared trusted (alias o x c before wide owes) g
+        GoesSo g = Goes old frs aged idle away anew o x y before at class wide goes done others lasting c (More c.origin c.fact) (row o x c) spared trusted (alias o x c before wide owes) g
 
         goes_so : (q : Place) → has (later c.fact.places) q ≡ true → (g : Fact) × GoesSo g
-        goes_so q is = gone_on old frs away anew o x y before at class wide goes done others lasting c (More c.origin c.fact) (row o x c) spared trusted (alias o x c before wide owes) q is
+        goes_so q is = gone_on old frs aged idle away anew o x y before at class wide goes done others lasting c (More c.origin c.fact) (row o x c) spared trusted (alias o x c before wide owes) q is
 
         module _ (g : Fact) (on : GoesSo g) where
+          own_before : is_own g.mode ≡ true → is_own c.fact.mode ≡ true
+          own_before mine' = ap is_own (sym (on.1.0.mode (or_left (is_own g.mode) (is_held g.mode) mine'))) ∙ mine'
+
           abbrev now : Covers p k false (renewed o) old frs after o y
-          now = covers_on old frs away anew o x y before at class wide goes done others lasting c (More c.origin c.fact) (row o x c) spared trusted (alias o x c before wide owes) g on
+          now = covers_on old frs aged idle away anew o x y before at class wide goes done others lasting c (More c.origin c.fact) (row o x c) spared trusted (alias o x c before wide owes) g on
 
           there : (q : Place) → has (later c.fact.places) q ≡ true → has g.places q ≡ true
-          there q is = has_on old frs away anew o x y before at class wide goes done others lasting c (More c.origin c.fact) (row o x c) spared trusted (alias o x c before wide owes) g on q is
+          there q is = has_on old frs aged idle away anew o x y before at class wide goes done others lasting c (More c.origin c.fact) (row o x c) spared trusted (alias o x c before wide owes) g on q is
 
           -- where no fact goes on owning it, and the frame owns it, this one claims nothing
           stops_owning : StopsOwning p h fr old frs gives renewed More o → y.owner ≡ owners.Frame (length frs + 1) → claims p (method_at p fr.method) c.origin g ≡ true → ⊥
           unfolding covers_on
           stops_owning ends mine claimed = elim (claims_by p (method_at p fr.method) c.origin g claimed) [
-            | inl mine' ↦ true≢false (sym mine' ∙ ends x before z small held c key g on.1.1)
-            | inr held' ↦ true≢false (sym (own_frame (length frs + 1) y.owner mine) ∙ held_unowned p k false (renewed o) old frs after o y now (now.true' claimed refl).finished held'.0 held'.1 (claims_owned p (method_at p fr.method) c.origin g claimed).0 (length frs + 1))
+            | inl mine' ↦ true≢false (sym mine' ∙ ends x before z small held c key (own_before mine') g on.1.1)
+            | inr held' ↦ true≢false (sym (own_frame (length frs + 1) y.owner mine) ∙ held_unframed old frs aged idle away anew o x y before at class wide goes done others lasting c (More c.origin c.fact) (row o x c) spared trusted (alias o x c before wide owes) g on claimed held'.0 held'.1 (length frs + 1))
           ]
 
           -- so it is where a field owns it, and the step creates the obligation of `this` anew
@@ -509,14 +580,10 @@ module _ (p : Program) (ac : Accept p) (h k : HeapContents) (links : HasEarlierL
             | inl mine' ↦ (
                 let mine = own o x y c key before at wide owes g on.1.1 mine' in
                 let frame : y.owner ≡ owners.Frame (length frs + 1) =
-                mine.1 (c.true' key.owning (ap (λ (b : Bool). b && is_own c.fact.mode) mine.0)).finished (key.owner mine.0 (ap is_own (sym (on.1.0.mode (or_left (is_own g.mode) (is_held g.mode) mine'))) ∙ mine')) in
+                mine.1 (c.true' key.owning (ap (λ (b : Bool). b && is_own c.fact.mode) mine.0) (own_not_held c.fact.mode (lends_this p fr) (own_before mine'))).finished (key.owner mine.0 (own_before mine')) in
                 true≢false (sym field ∙ ap is_field_owner frame))
-            | inr held' ↦ not_held_anew old frs away anew o x y before at class wide goes done others lasting c (More c.origin c.fact) (row o x c) spared trusted (alias o x c before wide owes) g on was_done resets held'.0 held'.1
-                (claims_owned p (method_at p fr.method) c.origin g claimed).0
+            | inr held' ↦ not_held_anew old frs aged idle away anew o x y before at class wide goes done others lasting c (More c.origin c.fact) (row o x c) spared trusted (alias o x c before wide owes) g on resets held'.0 held'.1
           ]
-            where
-              was_done : x.finished ≡ true
-              was_done = (was_true old frs away anew o x y before at class wide goes done others lasting c (More c.origin c.fact) (row o x c) spared trusted (alias o x c before wide owes) g on claimed).finished
 
           -- where it goes on owning it, each other place is in it, or in one that does not
           still_owned : claims p (method_at p fr.method) c.origin g ≡ true → IsOwned p k false (renewed o) old frs after o y now
@@ -524,20 +591,20 @@ module _ (p : Program) (ac : Accept p) (h k : HeapContents) (links : HasEarlierL
           still_owned owning = record {
             owning = owning;
             owner = λ stays mine'. (let mine = own o x y c key before at wide owes g on.1.1 mine' in
-                mine.1 (c.true' key.owning (ap (λ (b : Bool). b && is_own c.fact.mode) mine.0)).finished (key.owner mine.0 (ap is_own (sym (on.1.0.mode (or_left (is_own g.mode) (is_held g.mode) mine'))) ∙ mine')));
+                mine.1 (c.true' key.owning (ap (λ (b : Bool). b && is_own c.fact.mode) mine.0) (own_not_held c.fact.mode (lends_this p fr) (own_before mine'))).finished (key.owner mine.0 (own_before mine')));
             others = each;
           }
             where
               comes : (q : Place) → ComesFrom q o → (has g.places q ≡ true) ⊎ IsUnowned p k false (renewed o) old frs after q o y
-              comes q (u, less, was, goes_to) = elim (key.others u less was) [ inl in' ↦ inl (there q (goes_to c.fact.places in')) | inr free ↦ inr (unowned_on u q free goes_to) ]
+              comes q (u, less, kept, was, goes_to) = elim (key.others u less kept was) [ inl in' ↦ inl (there q (goes_to c.fact.places in')) | inr free ↦ inr (unowned_on u q free goes_to) ]
 
               makes : (q : Place) → IsMadeSo old frs gives renewed More q o y → (has g.places q ≡ true) ⊎ IsUnowned p k false (renewed o) old frs after q o y
-              makes q (inl (d, has', mine, ends)) = absurd (stops_claiming (inl (ends, mine)) owning)
+              makes q (inl (d, has', mine, ends, none)) = absurd (stops_claiming (inl (ends, mine)) owning)
               makes q (inr (inl free)) = inr free
               makes q (inr (inr from)) = comes q from
 
-              each : (q : Place) → IsSmall q → root_of k (place_value p k after.method after.locals q) ≡ Some o → (has g.places q ≡ true) ⊎ IsUnowned p k false (renewed o) old frs after q o y
-              each q less is = elim (origin_of_place q o less is) [
+              each : (q : Place) → IsSmall q → is_lent_place p after q ≡ false → root_of k (place_value p k after.method after.locals q) ≡ Some o → (has g.places q ≡ true) ⊎ IsUnowned p k false (renewed o) old frs after q o y
+              each q less kept is = elim (origin_of_place q o less is) [
                 | inl from ↦ comes q from
                 | inr other' ↦ elim other' [
                   | inl new ↦ makes q (made q o y less new.0 new.1 new.2 new.3 (ap (root_of k) (sym new.3) ∙ is) at wide' owes')
@@ -579,18 +646,18 @@ module _ (p : Program) (ac : Accept p) (h k : HeapContents) (links : HasEarlierL
                 none true claimed = absurd (stops_claiming g on why claimed)
 
       -- a place held it before
-      was_keyed : (z : Place) → IsSmall z → root_of h (place_value p h fr.method fr.locals z) ≡ Some o → IsKeyed p h away anew old frs fr z o x
-      was_keyed z small held = covered z o x small held before wide owes
+      was_keyed : (z : Place) → IsSmall z → is_lent_place p fr z ≡ false → root_of h (place_value p h fr.method fr.locals z) ≡ Some o → IsKeyed p h away anew old frs fr z o x
+      was_keyed z small kept held = covered z o x small kept held before wide owes
 
       keyed_from : (q : Place) → ComesFrom q o → IsKeyedFrom old frs gives renewed More q o y
-      keyed_from q (z, small, held, goes_to) = by (was_keyed z small held)
+      keyed_from q (z, small, kept, held, goes_to) = by (was_keyed z small kept held)
         where
           by : IsKeyed p h away anew old frs fr z o x → IsKeyedFrom old frs gives renewed More q o y
           by (owned c in' key) = keyed_on c key z small held q (goes_to c.fact.places in')
           by (unowned u) = inr (unowned_on z q u goes_to)
 
       freed_from : Frees o y → (q : Place) → ComesFrom q o → IsUnowned p k false (renewed o) old frs after q o y
-      freed_from why q (z, small, held, goes_to) = by (was_keyed z small held)
+      freed_from why q (z, small, kept, held, goes_to) = by (was_keyed z small kept held)
         where
           by : IsKeyed p h away anew old frs fr z o x → IsUnowned p k false (renewed o) old frs after q o y
           by (owned c in' key) = freed_on c key z small held why q (goes_to c.fact.places in')
@@ -599,21 +666,21 @@ module _ (p : Program) (ac : Accept p) (h k : HeapContents) (links : HasEarlierL
     -- the object was there where a place held it
     module _ (o : ℕ) (y : Object) (at : object_at k o ≡ Some y) (wide' : is_heavy_class p y.class ≡ true) (owes' : OwesOrHolds p k o y) where
       carried_from : (q : Place) → ComesFrom q o → IsCarried h o y
-      carried_from q (z, small, held, goes_to) = carries o y at (numbered h links (place_value p h fr.method fr.locals z) o held (inside z small)).1
+      carried_from q (z, small, kept, held, goes_to) = carries o y at (numbered h links (place_value p h fr.method fr.locals z) o held (inside z small)).1
 
       came : (q : Place) → ComesFrom q o → IsKeyedFrom old frs gives renewed More q o y
       came q from = by (carried_from q from)
         where
           by : IsCarried h o y → IsKeyedFrom old frs gives renewed More q o y
           by (x, before, class, goes) =
-              keyed_from o x y before at class (ap (is_heavy_class p) (sym class) ∙ wide') (bore_before p h k others.holders o x y before goes owes') wide' owes' goes (ready from.0 o x y from.1 from.2 before at) q from
+              keyed_from o x y before at class (ap (is_heavy_class p) (sym class) ∙ wide') (bore_before p h k others.holders o x y before goes owes') wide' owes' goes (ready from.0 o x y from.1 from.3 before at (ap (is_heavy_class p) (sym class) ∙ wide')) q from
 
       freed : Frees o y → (q : Place) → ComesFrom q o → IsUnowned p k false (renewed o) old frs after q o y
       freed why q from = by (carried_from q from)
         where
           by : IsCarried h o y → IsUnowned p k false (renewed o) old frs after q o y
           by (x, before, class, goes) =
-              freed_from o x y before at class (ap (is_heavy_class p) (sym class) ∙ wide') (bore_before p h k others.holders o x y before goes owes') wide' owes' goes (ready from.0 o x y from.1 from.2 before at) why q from
+              freed_from o x y before at class (ap (is_heavy_class p) (sym class) ∙ wide') (bore_before p h k others.holders o x y before goes owes') wide' owes' goes (ready from.0 o x y from.1 from.3 before at (ap (is_heavy_class p) (sym class) ∙ wide')) why q from
 
       -- a step makes one place
       one_made : (m : Option Place) (q z : Place) → is_made m q ≡ true → is_made m z ≡ true → q ≡ z
@@ -623,10 +690,10 @@ module _ (p : Program) (ac : Accept p) (h k : HeapContents) (links : HasEarlierL
       makes : (q : Place) → IsSmall q → IsMadeAt q → IsMadeSo old frs gives renewed More q o y → IsKeyedFrom old frs gives renewed More q o y
       makes q less new (inr (inl free)) = inr free
       makes q less new (inr (inr from)) = came q from
-      makes q less new (inl (d, in', mine, ends)) = go (claims p (method_at p fr.method) d.origin d.fact) refl
+      makes q less new (inl (d, in', mine, ends, none')) = go (claims p (method_at p fr.method) d.origin d.fact) refl
         where
-          each : (z : Place) → IsSmall z → root_of k (place_value p k after.method after.locals z) ≡ Some o → (has d.fact.places z ≡ true) ⊎ IsUnowned p k false (renewed o) old frs after z o y
-          each z small is = elim (origin_of_place z o small is) [
+          each : (z : Place) → IsSmall z → is_lent_place p after z ≡ false → root_of k (place_value p k after.method after.locals z) ≡ Some o → (has d.fact.places z ≡ true) ⊎ IsUnowned p k false (renewed o) old frs after z o y
+          each z small kept is = elim (origin_of_place z o small is) [
             | inl from ↦ inr (freed (inl (ends, mine)) z from)
             | inr other' ↦ elim other' [
               | inl also ↦ inl (ap (has d.fact.places) (one_made (made_place s.action) z q also.2 new.2) ∙ in')
@@ -648,8 +715,7 @@ module _ (p : Program) (ac : Accept p) (h k : HeapContents) (links : HasEarlierL
           owned_so : claims p (method_at p fr.method) d.origin d.fact ≡ true → is_own d.fact.mode ≡ true
           owned_so claimed = elim (claims_by p (method_at p fr.method) d.origin d.fact claimed) [
             | inl own' ↦ own'
-            | inr held' ↦ absurd (true≢false (sym (own_frame (length frs + 1) y.owner mine)
-                ∙ held_unowned p k false (renewed o) old frs after o y d (held_finished p k false (renewed o) old frs after o y d claimed held'.0) held'.0 held'.1 (claims_owned p (method_at p fr.method) d.origin d.fact claimed).0 (length frs + 1)))
+            | inr held' ↦ absurd (true≢false (sym held'.0 ∙ none'))
           ]
 
           go : (b : Bool) → claims p (method_at p fr.method) d.origin d.fact ≡ b → IsKeyedFrom old frs gives renewed More q o y
@@ -675,7 +741,7 @@ module _ (p : Program) (ac : Accept p) (h k : HeapContents) (links : HasEarlierL
                   frees = inr (out.0, ap is_field_owner field.2)
 
                   makes_other : (z : Place) → IsMadeSo old frs gives renewed More z o y → IsUnowned p k false (renewed o) old frs after z o y
-                  makes_other z (inl (e, in', mine, ends)) = absurd (true≢false (sym (ap is_field_owner field.2) ∙ ap is_field_owner mine))
+                  makes_other z (inl (e, in', mine, ends, none)) = absurd (true≢false (sym (ap is_field_owner field.2) ∙ ap is_field_owner mine))
                   makes_other z (inr (inl free)) = free
                   makes_other z (inr (inr from)) = freed frees z from
 
@@ -692,8 +758,8 @@ module _ (p : Program) (ac : Accept p) (h k : HeapContents) (links : HasEarlierL
                           let same : other'.0 ≡ field.0 = same_field other'.0 field.0 other'.1 field.1 (sym other'.2 ∙ field.2) in
                           inl (ap (has d.fact.places) (sym other'.3 ∙ ap (place_of_field p) same ∙ field.3) ∙ here')
 
-                  each : (z : Place) → IsSmall z → root_of k (place_value p k after.method after.locals z) ≡ Some o → (has d.fact.places z ≡ true) ⊎ IsUnowned p k false (renewed o) old frs after z o y
-                  each z small' is = elim (origin_of_place z o small' is) [
+                  each : (z : Place) → IsSmall z → is_lent_place p after z ≡ false → root_of k (place_value p k after.method after.locals z) ≡ Some o → (has d.fact.places z ≡ true) ⊎ IsUnowned p k false (renewed o) old frs after z o y
+                  each z small' kept is = elim (origin_of_place z o small' is) [
                     | inl from ↦ inr (freed frees z from)
                     | inr other' ↦ elim other' [
                       | inl new ↦ inr (makes_other z (made z o y small' new.0 new.1 new.2 new.3 (ap (root_of k) (sym new.3) ∙ is) at wide' owes'))
@@ -712,7 +778,7 @@ module _ (p : Program) (ac : Accept p) (h k : HeapContents) (links : HasEarlierL
     ]
 
     pub top_covered : IsCovered p k gives_none (λ o owner. renewed o) old frs after
-    top_covered q o y small held at heavy owes = elim (top_from q o y small held at heavy owes) [
+    top_covered q o y small kept held at heavy owes = elim (top_from q o y small held at heavy owes) [
       | inl key ↦ owned key.0 key.1 key.2
       | inr free ↦ unowned free
     ]

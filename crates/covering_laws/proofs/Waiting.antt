@@ -18,7 +18,7 @@ use Rattle.java_control.specs.declared.place.Place.TheVariants as places
 use Rattle.ownership_rules.specs.Facts.{has, need, is_held, is_own}
 use Rattle.ledger_state.specs.Contents.{HeapContents}
 use Rattle.ledger_state.specs.Fields.{field_of, field_value}
-use Rattle.ledger_state.specs.Heaps.{next_number, object_at, root, root_of, unfinished}
+use Rattle.ledger_state.specs.Heaps.{next_number, object_at, root, root_of, same_root, unfinished}
 use Rattle.ledger_state.specs.Values.{number_of}
 use Rattle.ledger_state.specs.declared.locals.Locals.{Locals}
 use Rattle.ledger_state.specs.declared.entry.Owner.{Owner}
@@ -32,15 +32,15 @@ use Rattle.java_control.specs.Owned.{fields_in}
 use Rattle.value_laws.specs.Heaps.{GoesOn, HasEarlierLinks, KeepsLinks}
 use Rattle.value_laws.proofs.HeapLaws.{numbers_are_in_range, roots_go_on-number, roots_of_links-absent, roots_of_links-itself, roots_of_links-there}
 use Rattle.ledger_obligations.specs.Obligations.{is_library_owner}
-use Rattle.value_laws.specs.PlaceFacts.{AreWaiting, Covers, HasOwningField, IsCovered, IsInField, IsKeyed, IsOld, IsOwned, IsTrueOf, IsUnowned, OwesOrHolds, asked_of, is_given, is_owning_fact, may_owe, owned, takes_nothing, unowned}
+use Rattle.value_laws.specs.PlaceFacts.{AreWaiting, Covers, HasOwningField, IsCovered, IsInField, IsKeyed, IsOld, IsOwned, IsTrueOf, IsUnowned, MayStore, OwesOrHolds, asked_of, is_given, is_idle, is_lent_place, is_owning_fact, is_settled, leaves_all, may_owe, owned, run_on_one, unowned}
 use Rattle.covering_laws.proofs.HeavyFields.{claims_owned, known_on, owning_in_no_field}
 use Rattle.covering_laws.proofs.InFields.{held_in_field, held_kept}
-use Rattle.value_laws.specs.Renewing.{fact_as, is_reread}
+use Rattle.value_laws.specs.Renewing.{fact_as, is_of_heavy_class, lends_this, reopens, is_reread}
 use Rattle.value_laws.specs.Ranges.{IsInRange, IsNumber}
 use Rattle.covering_laws.specs.Making.{HoldNone}
 use Rattle.covering_laws.specs.TextUpdates.{HoldsOrTakesText, IsLight}
 use Rattle.covering_laws.proofs.TextStores.{light_root, no_root}
-use Rattle.covering_laws.proofs.Owners.{AllKeepGifts, AllKeepOwners, HoldersWere, KeepsContents, KeepsFinished, KeepsGifts, KeepsOwners, WaysGo, apart_before, is_field_place, keeps_finished, old_kept}
+use Rattle.covering_laws.proofs.Owners.{AllKeepGifts, AllKeepOwners, HoldersWere, KeepsFinished, KeepsGifts, KeepsOwners, ThisWas, WaysGo, apart_before, is_field_place, keeps_finished, old_kept}
 use Rattle.value_laws.proofs.Chains.{object_there}
 use Rattle.value_laws.proofs.FieldPlaces.{passes}
 use Rattle.java_control.specs.declared.fact.Mode.{Mode}
@@ -72,10 +72,18 @@ open_owes x is = ap (λ (b : Bool). not (b && is_library_owner x.owner)) is
 -- what may owe a call, or holds something, did so before
 pub bore_before : (p : Program) (h k : HeapContents) → HoldersWere p h k → (o : ℕ) (x y : Object) → object_at h o ≡ Some x → (x.finished ≡ true → Continues x y) → OwesOrHolds p k o y → OwesOrHolds p h o x
 bore_before p h k holders o x y before goes (inl owes) = inl (owed_before x y goes owes)
-bore_before p h k holders o x y before goes (inr holds) = go x.finished refl
+bore_before p h k holders o x y before goes (inr (inl holds)) = go x.finished refl
   where
     go : (b : Bool) → x.finished ≡ b → OwesOrHolds p h o x
-    go true done = inr (holders o (λ z there. ap (λ (u : Object). u.finished) (let both : Some x ≡ Some z = sym before ∙ there in (let one : z ≡ x = cc in one)) ∙ done) holds)
+    go true done = elim (holders o (λ z there. ap (λ (u : Object). u.finished) (let both : Some x ≡ Some z = sym before ∙ there in (let one : z ≡ x = cc in one)) ∙ done) holds) [
+      | inl held ↦ inr (inl held)
+      | inr may ↦ inr (inr (may x before))
+    ]
+    go false is = inl (open_owes x is)
+bore_before p h k holders o x y before goes (inr (inr may)) = go x.finished refl
+  where
+    go : (b : Bool) → x.finished ≡ b → OwesOrHolds p h o x
+    go true done = inr (inr (subst (MayStore p) (goes done).0.class may))
     go false is = inl (open_owes x is)
 
 -- so is each object of the heap `k` that the heap `h` had
@@ -118,6 +126,14 @@ not_own away m held = none away (is_own m) (apart m held)
     none : (a b : Bool) → b ≡ false → (a && b) ≡ false
     none true b is = is
     none false b is = refl
+
+-- nor does one that says that the frame owns it say that a field does
+pub own_not_held : (m : Mode) (b : Bool) → is_own m ≡ true → (is_held m && b) ≡ false
+own_not_held modes.Own b is = refl
+own_not_held modes.None b is = refl
+own_not_held modes.Held b is = absurd (true≢false (sym is))
+own_not_held modes.Lent b is = refl
+own_not_held modes.Alias b is = refl
 
 -- what is finished only if it was is not finished where it was not
 pub still_unfinished : (x y : Object) → (y.finished ≡ true → x.finished ≡ true) → x.finished ≡ false → y.finished ≡ false
@@ -272,9 +288,10 @@ pub heavy_stays : (p : Program) (h k : HeapContents) (before now : Value) (o : �
 heavy_stays p h k before now o x (inl same) is at heavy = same
 heavy_stays p h k before now o x (inr text) is at heavy = absurd (true≢false (sym heavy ∙ light_root p h before o x text.0 is at))
 
--- what a place of the frame held is finished only if it was
+-- what a place of the frame held, and has an obligation, is finished only if it was
 abbrev pub KeepsReady : Program → HeapContents → HeapContents → Frame → Type 0
-KeepsReady p h k fr = (q : Place) (o : ℕ) (x y : Object) → IsSmall q → root_of h (place_value p h fr.method fr.locals q) ≡ Some o → object_at h o ≡ Some x → object_at k o ≡ Some y → y.finished ≡ true → x.finished ≡ true
+KeepsReady p h k fr = (q : Place) (o : ℕ) (x y : Object) → IsSmall q → root_of h (place_value p h fr.method fr.locals q) ≡ Some o → object_at h o ≡ Some x → object_at k o ≡ Some y → is_heavy_class p x.class ≡ true
+    → y.finished ≡ true → x.finished ≡ true
 
 pub was_ready : (x y : Object) → (x.finished ≡ false → y.finished ≡ false) → y.finished ≡ true → x.finished ≡ true
 was_ready x y keeps done = go x.finished refl
@@ -284,11 +301,11 @@ was_ready x y keeps done = go x.finished refl
     go false is = absurd (true≢false (sym done ∙ keeps is))
 
 pub ready_but : (p : Program) (h k : HeapContents) (apart : ℕ → Type 0) → KeepsUnfinished h k apart → (fr : Frame)
-    → ((q : Place) (o : ℕ) → IsSmall q → root_of h (place_value p h fr.method fr.locals q) ≡ Some o → apart o → ⊥) → KeepsReady p h k fr
-ready_but p h k apart keeps fr others q o x y small root before at done = was_ready x y (keeps o x y (others q o small root) before at) done
+    → ((q : Place) (o : ℕ) (x : Object) → IsSmall q → root_of h (place_value p h fr.method fr.locals q) ≡ Some o → object_at h o ≡ Some x → is_heavy_class p x.class ≡ true → apart o → ⊥) → KeepsReady p h k fr
+ready_but p h k apart keeps fr others q o x y small root before at heavy done = was_ready x y (keeps o x y (others q o x small root before heavy) before at) done
 
 pub all_ready : (p : Program) (h k : HeapContents) → KeepsUnfinished h k no_other → (fr : Frame) → KeepsReady p h k fr
-all_ready p h k keeps fr = ready_but p h k no_other keeps fr (λ q o small root never. never)
+all_ready p h k keeps fr = ready_but p h k no_other keeps fr (λ q o x small root before heavy never. never)
 
 -- what the places of the frame hold is there
 abbrev pub HoldsThere : Program → HeapContents → Frame → Type 0
@@ -298,16 +315,36 @@ HoldsThere p h fr = (q : Place) → IsSmall q → IsInRange h (place_value p h f
 abbrev pub KeepsRootsOf : Program → HeapContents → HeapContents → Frame → Type 0
 KeepsRootsOf p h k fr = (q : Place) → IsSmall q → root_of k (place_value p h fr.method fr.locals q) ≡ root_of h (place_value p h fr.method fr.locals q)
 
-module _ (p : Program) (h k : HeapContents) (gives : ℕ → ClassId → Bool) (renewed renewed' : ℕ → Owner → Bool) (old : ℕ → Bool) (frs : List Frame) (fr : Frame) (roots : KeepsRootsOf p h k fr) (same : KeepsPlaces p h k fr)
-    (was : (q : Place) (o : ℕ) (y : Object) → IsSmall q → root_of h (place_value p h fr.method fr.locals q) ≡ Some o → object_at k o ≡ Some y → IsCarried h o y) (ready : KeepsReady p h k fr)
-    (keeps : KeepsOwners p h k gives frs fr)
-    (alike : (o : ℕ) (x y : Object) → object_at h o ≡ Some x → object_at k o ≡ Some y → is_heavy_class p x.class ≡ true → renewed' o y.owner ≡ renewed o x.owner) where
-  root_before : (q : Place) (o : ℕ) → IsSmall q → root_of k (place_value p k fr.method fr.locals q) ≡ Some o → root_of h (place_value p h fr.method fr.locals q) ≡ Some o
-  root_before q o small is = sym (roots q small) ∙ ap (root_of k) (sym (kept_root p h k _ _ o (same q small) is)) ∙ is
+-- The place is that of a field, in a method of which nothing is said of what fields hold: whatever object with an obligation is there now, it is in a fact that claims nothing.
+pub record IsIdlePlace (p : Program) (k : HeapContents) (frs : List Frame) (fr : Frame) (q : Place) : Type 0 where
+  pub aside : is_field_place q ≡ true
+  pub plain : constructs (method_at p fr.method) ≡ false
+  pub closed : reopens (method_at p fr.method) ≡ false
+  pub idle : (f : Fact) → f.mode ≡ modes.Held → is_idle p frs fr f ≡ true
+  pub keyed : (old : ℕ → Bool) (away anew : Bool) (o : ℕ) (y : Object) → root_of k (place_value p k fr.method fr.locals q) ≡ Some o → object_at k o ≡ Some y → is_heavy_class p y.class ≡ true
+      → IsUnowned p k away anew old frs fr q o y
 
-  root_after : (q : Place) (o : ℕ) (x : Object) → IsSmall q → root_of h (place_value p h fr.method fr.locals q) ≡ Some o → object_at h o ≡ Some x → is_heavy_class p x.class ≡ true
+-- the places of the frame of which something is said hold what they held, or a text in the place of one; the others are lent, or such places
+abbrev pub KeepsSaidPlaces : Program → HeapContents → HeapContents → List Frame → Frame → Type 0
+KeepsSaidPlaces p h k frs fr =
+    (q : Place) → IsSmall q → is_lent_place p fr q ≡ false → KeepsValue p h k (place_value p h fr.method fr.locals q) (place_value p k fr.method fr.locals q) ⊎ IsIdlePlace p k frs fr q
+
+pub keeps_said : (p : Program) (h k : HeapContents) (frs : List Frame) (fr : Frame) → KeepsPlaces p h k fr → KeepsSaidPlaces p h k frs fr
+keeps_said p h k frs fr same q small kept = inl (same q small)
+
+module _ (p : Program) (h k : HeapContents) (gives : ℕ → ClassId → Bool) (renewed renewed' : ℕ → Owner → Bool) (old : ℕ → Bool) (frs : List Frame) (fr : Frame) (roots : KeepsRootsOf p h k fr) (same : KeepsSaidPlaces p h k frs fr)
+    (was : (q : Place) (o : ℕ) (y : Object) → IsSmall q → root_of h (place_value p h fr.method fr.locals q) ≡ Some o → object_at k o ≡ Some y → IsCarried h o y) (ready : KeepsReady p h k fr)
+    (keeps : KeepsOwners p h k gives frs fr) (aged : IsOld p h frs fr old)
+    (alike : (o : ℕ) (x y : Object) → object_at h o ≡ Some x → object_at k o ≡ Some y → is_heavy_class p x.class ≡ true → renewed' o y.owner ≡ renewed o x.owner) where
+  abbrev Keeps : Place → Type 0
+  Keeps q = KeepsValue p h k (place_value p h fr.method fr.locals q) (place_value p k fr.method fr.locals q)
+
+  root_before : (q : Place) (o : ℕ) → IsSmall q → Keeps q → root_of k (place_value p k fr.method fr.locals q) ≡ Some o → root_of h (place_value p h fr.method fr.locals q) ≡ Some o
+  root_before q o small keeps' is = sym (roots q small) ∙ ap (root_of k) (sym (kept_root p h k _ _ o keeps' is)) ∙ is
+
+  root_after : (q : Place) (o : ℕ) (x : Object) → IsSmall q → Keeps q → root_of h (place_value p h fr.method fr.locals q) ≡ Some o → object_at h o ≡ Some x → is_heavy_class p x.class ≡ true
       → root_of k (place_value p k fr.method fr.locals q) ≡ Some o
-  root_after q o x small is at heavy = ap (root_of k) (heavy_stays p h k _ _ o x (same q small) is at heavy) ∙ roots q small ∙ is
+  root_after q o x small keeps' is at heavy = ap (root_of k) (heavy_stays p h k _ _ o x keeps' is at heavy) ∙ roots q small ∙ is
 
   -- a finished object goes on
   module _ (o : ℕ) (x y : Object) (before : object_at h o ≡ Some x) (at : object_at k o ≡ Some y) (class : y.class ≡ x.class) (heavy : is_heavy_class p x.class ≡ true) (goes : x.finished ≡ true → Continues x y)
@@ -320,26 +357,37 @@ module _ (p : Program) (h k : HeapContents) (gives : ℕ → ClassId → Bool) (
       fact = c.fact;
       reached = c.reached;
       alone = c.alone;
-      places = λ z small' is. root_after z o x small' (c.places z small' is) before heavy;
-      true' = λ claimed spared. still_true p x y c.origin (fact_as anew c.fact) (goes (c.true' claimed spared).finished).0 (c.true' claimed spared);
+      places = λ said z small' kept is. by_place said z small' kept is (same z small' kept);
+      true' = λ claimed spared mine. still_true p x y c.origin (fact_as anew c.fact) (goes (c.true' claimed spared mine).finished).0 (c.true' claimed spared mine);
       lent = c.lent;
-      free = λ finished held alone claims.
-          let was = held_in_field p h away anew old frs fr o x c (done finished) held alone claims in (
-            held_kept p h away anew old frs fr o x c (done finished) held alone claims,
-            subst (IsInField p fr c.fact.places) (sym (keeps.held o x y before at (done finished) heavy alone was.0)) was,
+      free = λ finished held answers mine claims.
+          let was = held_in_field p h away anew old frs fr o x c (done finished) held answers mine claims in (
+            held_kept p h away anew old frs fr o x c (done finished) held answers mine claims,
+            subst (IsInField p fr c.fact.places) (sym (keeps.held o x y before at (done finished) heavy answers mine was.0)) was,
           );
       lends = λ is finished. (let was = c.lends is (done finished) in (was.0, (keeps.others.keeps o x y before at (done finished) heavy was.1).1));
       makes = λ constructor this. still_unfinished x y done (c.makes constructor this);
       complete = λ lent other fields. (let was = c.complete lent other (subst (HasOwningField p) class fields) in (goes was).0.finished ∙ was);
-      unrenewed = λ finished tells was is. c.unrenewed (done finished) tells was (keeps.others.spared o x before (done finished, heavy) is);
+      unrenewed = λ finished tells is. c.unrenewed (done finished) tells (apart_before p h k old frs fr fr o x y c.fact c.fact keeps.others aged before at (done finished) heavy is.3 is);
       known = λ finished tells is stays.
           let was_done = done finished in
           known_on c.fact.called (asked_of p (method_at p fr.method) c.origin.kind) x.called y.called
-          (c.known was_done tells (apart_before p h k old frs fr o x y c.fact c.fact keeps.others before at was_done heavy (λ held. held) is) stays) (goes was_done).0.called;
+          (c.known was_done tells (apart_before p h k old frs fr fr o x y c.fact c.fact keeps.others aged before at was_done heavy is.3 is) stays) (goes was_done).0.called;
       fields = c.fields;
       held = c.held;
       outside = c.outside;
     }
+      where
+        by_place : is_idle p frs fr c.fact ≡ false → (z : Place) → IsSmall z → is_lent_place p fr z ≡ false → has c.fact.places z ≡ true → Keeps z ⊎ IsIdlePlace p k frs fr z → root_of k (place_value p k fr.method fr.locals z) ≡ Some o
+        by_place said z small' kept is (inl keeps') = root_after z o x small' keeps' (c.places said z small' kept is) before heavy
+        by_place said z small' kept is (inr idle) = absurd (idle_place z small' is idle.aside)
+          where
+            idle_place : (z' : Place) → IsSmall z' → has c.fact.places z' ≡ true → is_field_place z' ≡ true → ⊥
+            idle_place (places.Field n) less there aside = true≢false (sym (idle.idle c.fact (c.outside idle.plain idle.closed n less there)) ∙ said)
+            idle_place (places.Var i) less there aside = true≢false (sym aside)
+            idle_place places.This less there aside = true≢false (sym aside)
+            idle_place (places.Temp d) less there aside = true≢false (sym aside)
+            idle_place places.Super less there aside = true≢false (sym aside)
 
     unowned_after : (q : Place) → IsUnowned p h away anew old frs fr q o x → IsUnowned p k away anew old frs fr q o y
     unfolding covers_after
@@ -351,8 +399,11 @@ module _ (p : Program) (h k : HeapContents) (gives : ℕ → ClassId → Bool) (
     owned_after q small held c here key = record {
       owning = key.owning;
       owner = λ stays own. keeps.own q o x y small (part own q small here) held before at
-          (c.true' key.owning (ap (λ (b : Bool). b && is_own c.fact.mode) stays)).finished heavy (spared stays) (key.owner stays own);
-      others = λ z small' is. elim (key.others z small' (root_before z o small' is)) [ inl in' ↦ inl in' | inr u ↦ inr (unowned_after z u) ];
+          (c.true' key.owning (ap (λ (b : Bool). b && is_own c.fact.mode) stays) (own_not_held c.fact.mode (lends_this p fr) own)).finished heavy (spared stays) (key.owner stays own);
+      others = λ z small' kept is. elim (same z small' kept) [
+        | inl keeps' ↦ elim (key.others z small' kept (root_before z o small' keeps' is)) [ inl in' ↦ inl in' | inr u ↦ inr (unowned_after z u) ]
+        | inr idle ↦ inr (idle.keyed old away anew o y is at (ap (is_heavy_class p) class ∙ heavy))
+      ];
     }
       where
         part : is_own c.fact.mode ≡ true → (z : Place) → IsSmall z → has c.fact.places z ≡ true → is_field_place z ≡ false
@@ -368,25 +419,36 @@ module _ (p : Program) (h k : HeapContents) (gives : ℕ → ClassId → Bool) (
     keyed_after q small held (unowned u) = unowned (unowned_after q u)
 
   pub stays_covered : IsCovered p h gives renewed old frs fr → IsCovered p k gives renewed' old frs fr
-  stays_covered covered q o y small root at heavy owes = by (was q o y small (root_before q o small root) at)
+  stays_covered covered q o y small kept root at heavy owes = elim (same q small kept) [
+    | inl keeps' ↦ by keeps' (was q o y small (root_before q o small keeps' root) at)
+    | inr idle ↦ unowned (idle.keyed old (gives o y.class) (renewed' o y.owner) o y root at heavy)
+  ]
     where
-      by : IsCarried h o y → IsKeyed p k (gives o y.class) (renewed' o y.owner) old frs fr q o y
-      by (x, before, class, goes) =
+      by : Keeps q → IsCarried h o y → IsKeyed p k (gives o y.class) (renewed' o y.owner) old frs fr q o y
+      by keeps' (x, before, class, goes) =
           let heavy' : is_heavy_class p x.class ≡ true = ap (is_heavy_class p) (sym class) ∙ heavy in
-          let root' = root_before q o small root in
+          let root' = root_before q o small keeps' root in
           subst (λ (b : Bool). IsKeyed p k (gives o y.class) b old frs fr q o y) (sym (alike o x y before at heavy'))
           (subst (λ (c : ClassId). IsKeyed p k (gives o c) (renewed o x.owner) old frs fr q o y) (sym class)
-          (keyed_after o x y before at class heavy' goes (ready q o x y small root' before at) (gives o x.class) (renewed o x.owner) (λ none. none) q small root' (covered q o x small root' before heavy' (bore_before p h k keeps.others.holders o x y before goes owes))))
+          (keyed_after o x y before at class heavy' goes (ready q o x y small root' before at heavy') (gives o x.class) (renewed o x.owner) (λ none. none) q small root' (covered q o x small kept root' before heavy' (bore_before p h k keeps.others.holders o x y before goes owes))))
 
 -- what is covered where these objects are given away, and of these the obligations created anew, is so where the same ones are
 pub given_alike : (p : Program) (h : HeapContents) (f g : ℕ → ClassId → Bool) (d e : ℕ → Owner → Bool) (old : ℕ → Bool) (frs : List Frame) (fr : Frame) → ((o : ℕ) (c : ClassId) → g o c ≡ f o c) → ((o : ℕ) (x : Object) → object_at h o ≡ Some x → e o x.owner ≡ d o x.owner)
     → IsCovered p h f d old frs fr → IsCovered p h g e old frs fr
-given_alike p h f g d e old frs fr same alike covered q o x small root at heavy owes =
-    subst (λ (b : Bool). IsKeyed p h (g o x.class) b old frs fr q o x) (sym (alike o x at)) (subst (λ (b : Bool). IsKeyed p h b (d o x.owner) old frs fr q o x) (sym (same o x.class)) (covered q o x small root at heavy owes))
+given_alike p h f g d e old frs fr same alike covered q o x small kept root at heavy owes =
+    subst (λ (b : Bool). IsKeyed p h (g o x.class) b old frs fr q o x) (sym (alike o x at)) (subst (λ (b : Bool). IsKeyed p h b (d o x.owner) old frs fr q o x) (sym (same o x.class)) (covered q o x small kept root at heavy owes))
 
 abbrev pub AllKeep : Program → HeapContents → HeapContents → List Frame → Type 0
 AllKeep p h k [] = Unit {0}
 AllKeep p h k (fr ∷ frs) = KeepsPlaces p h k fr × AllKeep p h k frs
+
+abbrev pub AllKeepSaid : Program → HeapContents → HeapContents → List Frame → Type 0
+AllKeepSaid p h k [] = Unit {0}
+AllKeepSaid p h k (fr ∷ frs) = KeepsSaidPlaces p h k frs fr × AllKeepSaid p h k frs
+
+pub all_keep_said : (p : Program) (h k : HeapContents) (frs : List Frame) → AllKeep p h k frs → AllKeepSaid p h k frs
+all_keep_said p h k [] same = tt
+all_keep_said p h k (fr ∷ frs) same = (keeps_said p h k frs fr same.0, all_keep_said p h k frs same.1)
 
 abbrev pub AllReady : Program → HeapContents → HeapContents → List Frame → Type 0
 AllReady p h k [] = Unit {0}
@@ -427,45 +489,71 @@ AllGoOn p h k = (o : ℕ) (x : Object) → object_at h o ≡ Some x → (y : Obj
 pub ways_go_on : (p : Program) (into : Option ℕ) (below : List Frame) (j : ℕ) (h k : HeapContents) → WaysGo p into below j h k → AllGoOn p h k
 ways_go_on p into below j h k ways o x at = let y = ways.objects o x at in (y.0, y.1, y.2, λ done. (y.3 done).0)
 
+-- the frame is settled as it goes on where it was, and the same facts are idle
+pub settled_as : (p : Program) (fr after : Frame) (frs : List Frame) → after.locals.this ≡ fr.locals.this → after.method ≡ fr.method → is_settled p after frs ≡ is_settled p fr frs
+settled_as p fr after [] this method = ap (λ (m : MethodId). leaves_all p (method_at p m)) method
+settled_as p fr after (caller ∷ frs) this method =
+    ap (λ (m : MethodId). leaves_all p (method_at p m) || run_on_one after caller && not (lends_this p caller) && (constructs (method_at p caller.method) || (reopens (method_at p caller.method) || is_settled p caller frs))) method
+    ∙ ap (λ (v : Value). leaves_all p (method_at p fr.method) || same_root (number_of v) (number_of caller.locals.this) && not (lends_this p caller) && (constructs (method_at p caller.method) || (reopens (method_at p caller.method) || is_settled p caller frs))) this
+
+pub idle_as : (p : Program) (fr after : Frame) (frs : List Frame) (f : Fact) → after.locals.this ≡ fr.locals.this → after.method ≡ fr.method → is_idle p frs after f ≡ is_idle p frs fr f
+idle_as p fr after frs f this method =
+    ap (λ (b : Bool). is_held f.mode && not (constructs (method_at p after.method)) && not (reopens (method_at p after.method)) && is_of_heavy_class p (method_at p after.method) && not b) (settled_as p fr after frs this method)
+    ∙ ap (λ (m : MethodId). is_held f.mode && not (constructs (method_at p m)) && not (reopens (method_at p m)) && is_of_heavy_class p (method_at p m) && not (is_settled p fr frs)) method
+
+-- `this` of the frame was finished, of a class with an obligation and linked to none, where it is
+pub this_was : (p : Program) (h k : HeapContents) (fr : Frame) → KeepsRootsOf p h k fr → HoldsThere p h fr → KeepsReady p h k fr → Carries h k → ThisWas p h k fr
+this_was p h k fr roots inside ready carries w y this at heavy single =
+    let number = inside places.This tt w (ap number_of this) in
+    let x = carries w y at number.1 in
+    let root' : root_of h fr.locals.this ≡ Some w = sym (roots places.This tt) ∙ ap (root_of k) this ∙ ap Some (roots_of_links-itself k w y at single) in
+    let done = ready places.This w x.0 y tt root' x.1 at (ap (is_heavy_class p) (sym x.2) ∙ heavy.1) heavy.0 in
+    let goes = x.3 done in
+    (x.0, x.1, ((done, ap (is_heavy_class p) (sym x.2) ∙ heavy.1), sym goes.0.link ∙ single))
+
 -- what is old is so for the frame as it goes on
 pub old_as : (p : Program) (k : HeapContents) (old : ℕ → Bool) (frs : List Frame) (fr after : Frame) → after.locals.this ≡ fr.locals.this → after.method ≡ fr.method → IsOld p k frs fr old → IsOld p k frs after old
 old_as p k old frs fr after this method is = record {
   there = is.there;
   ends = is.ends;
-  strict = is.strict;
-  contents = λ o x at heavy content takes.
+  below = is.below;
+  contents = λ o x at heavy content leaves.
       is.contents o x at heavy (record {
         holder = content.holder;
         field = content.field;
         runs = sym this ∙ content.runs;
         owns = content.owns;
         method = ap (λ (m : MethodId). constructs (method_at p m)) (sym method) ∙ content.method;
-      }) (ap (λ (m : MethodId). takes_nothing p (method_at p m)) (sym method) ∙ takes);
+      }) (ap (λ (m : MethodId). leaves_all p (method_at p m)) (sym method) ∙ leaves);
+  self = λ w y runs at heavy single settled. is.self w y (sym this ∙ runs) at heavy single (sym (settled_as p fr after frs this method) ∙ settled);
 }
 
 -- the frame reads the same facts anew
-pub reread_alike : (p : Program) (h k : HeapContents) (fr : Frame) → root_of k fr.locals.this ≡ root_of h fr.locals.this → KeepsGifts p h k fr → KeepsContents p h k fr
-    → (o : ℕ) (x y : Object) → object_at h o ≡ Some x → object_at k o ≡ Some y → is_heavy_class p x.class ≡ true → is_reread p k fr o y.owner ≡ is_reread p h fr o x.owner
-reread_alike p h k fr same gifts contents o x y before at heavy = (gifts o).1
+pub reread_alike : (p : Program) (h k : HeapContents) (fr : Frame) → KeepsGifts p h k fr → (o : ℕ) (x y : Object) → object_at h o ≡ Some x → object_at k o ≡ Some y → is_heavy_class p x.class ≡ true → is_reread p k fr o y.owner ≡ is_reread p h fr o x.owner
+reread_alike p h k fr gifts o x y before at heavy = (gifts o).1
 
 module _ (p : Program) (h k : HeapContents) (links : HasEarlierLinks h) (carries : Carries h k) (goes : AllGoOn p h k) where
-  waits_on : (old : ℕ → Bool) (frs : List Frame) (fr : Frame) → KeepsRootsOf p h k fr → KeepsPlaces p h k fr → HoldsThere p h fr → KeepsReady p h k fr → KeepsGifts p h k fr → KeepsOwners p h k (is_given p h fr) frs fr
+  waits_on : (old : ℕ → Bool) (frs : List Frame) (fr : Frame) → KeepsRootsOf p h k fr → KeepsSaidPlaces p h k frs fr → HoldsThere p h fr → KeepsReady p h k fr → KeepsGifts p h k fr → KeepsOwners p h k (is_given p h fr) frs fr → IsOld p h frs fr old
       → IsCovered p h (is_given p h fr) (is_reread p h fr) old frs fr → IsCovered p k (is_given p k fr) (is_reread p k fr) old frs fr
-  waits_on old frs fr roots same inside ready mine keeps covered = given_alike p k (is_given p h fr) (is_given p k fr) (is_reread p k fr) (is_reread p k fr) old frs fr (λ o. (mine o).0) (λ o x at. refl)
+  waits_on old frs fr roots same inside ready mine keeps aged covered = given_alike p k (is_given p h fr) (is_given p k fr) (is_reread p k fr) (is_reread p k fr) old frs fr (λ o. (mine o).0) (λ o x at. refl)
       (stays_covered p h k (is_given p h fr) (is_reread p h fr) (is_reread p k fr) old frs fr roots same
-      (λ q o y small root at. carries o y at (numbered h links (place_value p h fr.method fr.locals q) o root (inside q small)).1) ready keeps (reread_alike p h k fr (roots places.This tt) mine keeps.reread) covered)
+      (λ q o y small root at. carries o y at (numbered h links (place_value p h fr.method fr.locals q) o root (inside q small)).1) ready keeps aged (reread_alike p h k fr mine) covered)
 
   -- frames that wait stay covered
-  pub all_wait_on : (above : ℕ → Bool) (frs : List Frame) → AllKeepRoots p h k frs → AllKeep p h k frs → AllThere p h frs → AllReady p h k frs → AllKeepGifts p h k frs → AllKeepOwners p h k frs → AreWaiting p h above frs
+  pub all_wait_said : (above : ℕ → Bool) (frs : List Frame) → AllKeepRoots p h k frs → AllKeepSaid p h k frs → AllThere p h frs → AllReady p h k frs → AllKeepGifts p h k frs → AllKeepOwners p h k frs → AreWaiting p h above frs
       → AreWaiting p k above frs
-  all_wait_on above [] roots same inside ready gifts keeps covered = tt
-  all_wait_on above (fr ∷ frs) roots same inside ready gifts keeps (old, up, is, covered, rest) = (
+  all_wait_said above [] roots same inside ready gifts keeps covered = tt
+  all_wait_said above (fr ∷ frs) roots same inside ready gifts keeps (old, up, is, covered, rest) = (
     old,
     up,
-    old_kept p h k old frs fr keeps.0.others goes is,
-    waits_on old frs fr roots.0 same.0 inside.0 ready.0 gifts.0 keeps.0 covered,
-    all_wait_on old frs roots.1 same.1 inside.1 ready.1 gifts.1 keeps.1 rest,
+    old_kept p h k old frs fr keeps.0.others goes is (this_was p h k fr roots.0 inside.0 ready.0 carries),
+    waits_on old frs fr roots.0 same.0 inside.0 ready.0 gifts.0 keeps.0 is covered,
+    all_wait_said old frs roots.1 same.1 inside.1 ready.1 gifts.1 keeps.1 rest,
   )
+
+  pub all_wait_on : (above : ℕ → Bool) (frs : List Frame) → AllKeepRoots p h k frs → AllKeep p h k frs → AllThere p h frs → AllReady p h k frs → AllKeepGifts p h k frs → AllKeepOwners p h k frs → AreWaiting p h above frs
+      → AreWaiting p k above frs
+  all_wait_on above frs roots same = all_wait_said above frs roots (all_keep_said p h k frs same)
 
 module _ (p : Program) (h k : HeapContents) (links : HasEarlierLinks h) (roots : KeepsRoots h k) (carries : Carries h k) (goes : AllGoOn p h k) where
   -- where all roots stay
@@ -496,7 +584,8 @@ stays_unowned p o f g same none = go (is_owning_fact p o g) refl
 
 -- what a place of the frame holds it held before
 abbrev pub HeldBefore : Program → HeapContents → HeapContents → Frame → Type 0
-HeldBefore p h k fr = (q : Place) (w : ℕ) → IsSmall q → root_of k (place_value p k fr.method fr.locals q) ≡ Some w → root_of h (place_value p h fr.method fr.locals q) ≡ Some w
+HeldBefore p h k fr = (q : Place) (w : ℕ) (y : Object) → IsSmall q → root_of k (place_value p k fr.method fr.locals q) ≡ Some w → object_at k w ≡ Some y → is_heavy_class p y.class ≡ true → y.finished ≡ false
+    → root_of h (place_value p h fr.method fr.locals q) ≡ Some w
 
 abbrev pub AllHeldBefore : Program → HeapContents → HeapContents → List Frame → Type 0
 AllHeldBefore p h k [] = Unit {0}
@@ -504,18 +593,21 @@ AllHeldBefore p h k (fr ∷ frs) = HeldBefore p h k fr × AllHeldBefore p h k fr
 
 pub all_held_before_on : (p : Program) (h k : HeapContents) → (frs : List Frame) → AllKeepRoots p h k frs → AllKeep p h k frs → AllHeldBefore p h k frs
 all_held_before_on p h k [] roots same = tt
-all_held_before_on p h k (fr ∷ frs) roots same = ((λ q w small is. sym (roots.0 q small) ∙ ap (root_of k) (sym (kept_root p h k _ _ w (same.0 q small) is)) ∙ is), all_held_before_on p h k frs roots.1 same.1)
+all_held_before_on p h k (fr ∷ frs) roots same = ((λ q w y small is now heavy open'. sym (roots.0 q small) ∙ ap (root_of k) (sym (kept_root p h k _ _ w (same.0 q small) is)) ∙ is), all_held_before_on p h k frs roots.1 same.1)
 
 pub all_held_before : (p : Program) (h k : HeapContents) → KeepsRoots h k → (frs : List Frame) → AllKeep p h k frs → AllThere p h frs → AllHeldBefore p h k frs
 all_held_before p h k roots frs same inside = all_held_before_on p h k frs (all_keep_roots p h k roots frs inside) same
 
-pub held_before_further : (p : Program) (h k j : HeapContents) (frs : List Frame) → AllHeldBefore p h k frs → AllHeldBefore p k j frs → AllHeldBefore p h j frs
-held_before_further p h k j [] first then' = tt
-held_before_further p h k j (fr ∷ frs) first then' = ((λ q w small is. first.0 q w small (then'.0 q w small is)), held_before_further p h k j frs first.1 then'.1)
+pub held_before_further : (p : Program) (h k j : HeapContents) → ((w : ℕ) (y : Object) → object_at j w ≡ Some y → (x : Object) × (object_at k w ≡ Some x) × (y.class ≡ x.class) × (y.finished ≡ x.finished)) → (frs : List Frame) → AllHeldBefore p h k frs → AllHeldBefore p k j frs → AllHeldBefore p h j frs
+held_before_further p h k j was [] first then' = tt
+held_before_further p h k j was (fr ∷ frs) first then' = (
+  (λ q w y small is now heavy open'. (let x = was w y now in first.0 q w x.0 small (then'.0 q w y small is now heavy open') x.1 (ap (is_heavy_class p) (sym x.2) ∙ heavy) (sym x.3 ∙ open'))),
+  held_before_further p h k j was frs first.1 then'.1,
+)
 
-pub none_held_on : (p : Program) (h k : HeapContents) (w : ℕ) (frs : List Frame) → AllHeldBefore p h k frs → HoldNone p h w frs → HoldNone p k w frs
-none_held_on p h k w [] before none = tt
-none_held_on p h k w (fr ∷ frs) before none = ((λ q small is. none.0 q small (before.0 q w small is)), none_held_on p h k w frs before.1 none.1)
+pub none_held_on : (p : Program) (h k : HeapContents) (w : ℕ) (y : Object) → object_at k w ≡ Some y → is_heavy_class p y.class ≡ true → y.finished ≡ false → (frs : List Frame) → AllHeldBefore p h k frs → HoldNone p h w frs → HoldNone p k w frs
+none_held_on p h k w y now heavy open' [] before none = tt
+none_held_on p h k w y now heavy open' (fr ∷ frs) before none = ((λ q small is. none.0 q small (before.0 q w y small is now heavy open')), none_held_on p h k w y now heavy open' frs before.1 none.1)
 
 -- what is there is not the next object
 pub next_not_held : (p : Program) (h : HeapContents) → HasEarlierLinks h → (frs : List Frame) → AllThere p h frs → HoldNone p h (next_number h) frs
@@ -526,7 +618,7 @@ next_not_held p h links (fr ∷ frs) inside = (
 )
 
 -- no frame holds what was finished since
-pub frames_ready_but : (p : Program) (h k : HeapContents) (apart : ℕ → Type 0) → KeepsUnfinished h k apart → (frs : List Frame) → ((w : ℕ) → apart w → HoldNone p h w frs) → AllReady p h k frs
+pub frames_ready_but : (p : Program) (h k : HeapContents) (apart : ℕ → Type 0) → KeepsUnfinished h k apart → (frs : List Frame) → ((w : ℕ) (x : Object) → object_at h w ≡ Some x → is_heavy_class p x.class ≡ true → apart w → HoldNone p h w frs) → AllReady p h k frs
 frames_ready_but p h k apart keeps [] others = tt
 frames_ready_but p h k apart keeps (fr ∷ frs) others =
-    (ready_but p h k apart keeps fr (λ q o small root is. (others o is).0 q small root), frames_ready_but p h k apart keeps frs (λ w is. (others w is).1))
+    (ready_but p h k apart keeps fr (λ q o x small root before heavy is. (others o x before heavy is).0 q small root), frames_ready_but p h k apart keeps frs (λ w x before heavy is. (others w x before heavy is).1))

@@ -1,8 +1,7 @@
 -- A frame waits for a call that creates the obligation of an object anew, or stands at one: which facts have the object, and that the frame tracks it if it owns it.
 use Rattle.covering_laws.proofs.OwnerSteps.{own_frame}
 use Rattle.covering_laws.proofs.Owners.{lent_not_from}
-use Rattle.covering_laws.proofs.InFields.{held_by_this}
-use Rattle.covering_laws.proofs.RenewedOperands.{HoldsLent, IsHeldAnew, claims_or_lends}
+use Rattle.covering_laws.proofs.RenewedOperands.{HoldsLent, IsHeldOrLent, claims_or_lends}
 use Rattle.std.proofs.Common.{Bool, List, None, Option, Some, ap, arith, eqb-true, false, inl, inr, length, refl, slice_get, subst, sym, true, true≢false, ℕ, ◌&&◌, ◌+◌, ◌<◌, ◌||◌, ◌∙◌, ◌≡◌, ◌⊎◌}
 use Rattle.std.specs.FinSet as set
 use Rattle.std.proofs.lemmas.Bool.{and_from, and_parts}
@@ -40,11 +39,11 @@ use Rattle.value_laws.specs.Choosing.{body_id, frame_steps}
 use Rattle.value_laws.specs.Configuration.{Frame}
 use Rattle.value_laws.specs.Outcomes.{IsCallRow}
 use Rattle.value_laws.specs.Paths.{Reach, move_of, relation_of}
-use Rattle.value_laws.specs.PlaceFacts.{Covers, IsCovered, IsKeyed, IsOwned, claims, is_given, is_lent, is_owning_fact, OwesOrHolds, owned, unowned}
+use Rattle.value_laws.specs.PlaceFacts.{Covers, IsCovered, IsKeyed, IsOwned, claims, is_given, is_idle, is_lent, is_lent_place, is_owning_fact, OwesOrHolds, owned, unowned}
 use Rattle.value_laws.specs.PlacePlaces.{HasPlacesAlone, is_local}
 use Rattle.value_laws.specs.Places.{place_value}
 use Rattle.value_laws.specs.PlainForms.{HasPlainForms}
-use Rattle.value_laws.specs.Renewing.{IsHeldBy, IsHeldByLent, IsLentFrom, fact_as, is_renewed, is_reread, makes_alone, renews}
+use Rattle.value_laws.specs.Renewing.{IsLentFrom, fact_as, is_renewed, is_reread, lends_this, answers_for_fields, renews}
 use Rattle.value_laws.specs.Steps.{RootsStay}
 use Rattle.value_laws.proofs.Carried.{local_value}
 use Rattle.value_laws.proofs.CallWays.{one_action}
@@ -62,7 +61,7 @@ use Rattle.covering_laws.proofs.Bodies.{running_method}
 use Rattle.covering_laws.proofs.Following.{small_step}
 use Rattle.covering_laws.proofs.GivenArguments.{away_moves}
 use Rattle.covering_laws.proofs.GivenAway.{at_any, given_at_step}
-use Rattle.covering_laws.proofs.HeavyFields.{claims_by, owning_in_no_field}
+use Rattle.covering_laws.proofs.HeavyFields.{claims_by, claims_owned, not_held_not_idle, owning_in_no_field}
 use Rattle.covering_laws.proofs.KnownNames.{operand_temp}
 use Rattle.covering_laws.proofs.Resets.{this_elsewhere}
 
@@ -87,7 +86,14 @@ module _ (p : Program) (ac : Accept p) (h : HeapContents) (fr : Frame) (old : �
 
   owning' : is_owning_fact p c.origin c.fact ≡ true
   owning' = and_from (is_heavy_class p c.origin.class) (is_own c.fact.mode)
-      (and_parts (is_heavy_class p c.origin.class) (is_own c.fact.mode || is_held c.fact.mode && makes_alone (method_at p fr.method)) key.owning).0 own
+      (and_parts (is_heavy_class p c.origin.class) (is_own c.fact.mode || is_held c.fact.mode && answers_for_fields (method_at p fr.method)) key.owning).0 own
+
+  unheld : is_held c.fact.mode ≡ false
+  unheld = ap is_held (own_mode c.fact.mode own)
+
+  -- something is said of it
+  said : is_idle p frs fr c.fact ≡ false
+  said = not_held_not_idle p frs fr c.fact unheld
 
   -- no owning field holds it
   no_field : (k : ℕ) → k < 16 → has c.fact.places (places.Field k) ≡ true → ⊥
@@ -107,12 +113,19 @@ module _ (p : Program) (ac : Accept p) (h : HeapContents) (fr : Frame) (old : �
   local_places (places.Temp d) small is = refl
   local_places places.This small is = absurd (no_this is)
   local_places (places.Field k) small is = absurd (no_field k small is)
-  local_places places.Super small is = absurd (let never : None ≡ Some o = c.places places.Super small is in cc)
+  local_places places.Super small is = absurd (let never : None ≡ Some o = c.places said places.Super small refl is in cc)
+
+  local_kept : (q : Place) → is_local q ≡ true → is_lent_place p fr q ≡ false
+  local_kept (places.Var i) is = refl
+  local_kept (places.Temp d) is = refl
+  local_kept places.This is = absurd (true≢false (sym is))
+  local_kept (places.Field k) is = absurd (true≢false (sym is))
+  local_kept places.Super is = absurd (true≢false (sym is))
 
   -- tracks it, unless it is given away
   pub covered_tracks : away ≡ false → (t : ℕ) → has c.fact.places (places.Temp t) ≡ true → (later : Bool) → anew ≡ later → (it : TracksAs p h later fr o x) × (it.fact ≡ c.fact) × (it.origin ≡ c.origin)
   covered_tracks kept t there later alike =
-      let truth = c.true' key.owning (ap (λ (b : Bool). b && is_own c.fact.mode) kept) in
+      let truth = c.true' key.owning (ap (λ (b : Bool). b && is_own c.fact.mode) kept) (ap (λ (b : Bool). b && lends_this p fr) unheld) in
       let same : c.fact.places ≡ (fact_as anew c.fact).places = sym (places_as anew c.fact) in (
         record {
           body = c.body;
@@ -128,7 +141,7 @@ module _ (p : Program) (ac : Accept p) (h : HeapContents) (fr : Frame) (old : �
             called = truth.called;
             some = ap is_nowhere (places_as anew c.fact) ∙ somewhere c.fact.places (places.Temp t) there;
             alone = subst HasPlacesAlone same c.alone;
-            places = λ q small is. let in' : has c.fact.places q ≡ true = ap (λ (held : PlaceSet). has held q) same ∙ is in (local_places q small in', c.places q small in');
+            places = λ q small is. let in' : has c.fact.places q ≡ true = ap (λ (held : PlaceSet). has held q) same ∙ is in (local_places q small in', c.places said q small (local_kept q (local_places q small in')) in');
           });
         },
         refl,
@@ -140,17 +153,17 @@ module _ (p : Program) (ac : Accept p) (h : HeapContents) (fr : Frame) (old : �
 module _ (p : Program) (ac : Accept p) (forms : HasPlainForms p) (h : HeapContents) (fr : Frame) (old : ℕ → Bool) (frs : List Frame) (st : Stands p fr)
     (i : ℕ) (s : Step) (here : slice_get (frame_steps p fr) i ≡ Some s) (row : IsCallRow s.action) where
   module _ (away anew : Bool) (o : ℕ) (x : Object) (c : Covers p h away anew old frs fr o x) (target : is_target p s.action c.fact.places ≡ true) where
-    target_reached : Reach p st.number (relation_of p st.number) c.origin fr.control c.fact
+    pub target_reached : Reach p st.number (relation_of p st.number) c.origin fr.control c.fact
     target_reached = subst (λ (b : BodyId). Reach p b (relation_of p b) c.origin fr.control c.fact) (same_body c.body st.number (body_id p fr.method) c.id st.id) c.reached
 
-    answer : (k : ℕ) × (reset_in (callee p s.action) ≡ Some k) × MayBeAnew p st.number c.origin s.action k c.fact × (moved_at_call p c.origin s.action s.edge c.fact ≡ moves.Moves → ⊥)
+    pub answer : (k : ℕ) × (reset_in (callee p s.action) ≡ Some k) × MayBeAnew p st.number c.origin s.action k c.fact × (moved_at_call p c.origin s.action s.edge c.fact ≡ moves.Moves → ⊥)
     answer = elim (answered_target p st.number c.origin s.action s.edge c.fact row target) [
       | inl fault ↦ absurd (breaks_nothing p ac st.number c.origin i (move_of s) c.fact target_reached (step_there p fr st i s here) fault)
       | inr is ↦ is
     ]
 
-    -- it claims the object, or says that it is lent, or that a field of `this` holds it
-    pub target_mode : (claims p (method_at p fr.method) c.origin c.fact ≡ true) ⊎ ((c.fact.mode ≡ modes.Lent) ⊎ IsHeldAnew p fr st c.origin c.fact)
+    -- it claims the object, or says that it is lent
+    pub target_mode : (claims p (method_at p fr.method) c.origin c.fact ≡ true) ⊎ (c.fact.mode ≡ modes.Lent)
     target_mode =
         let run = running_method p ac fr st in
         claims_or_lends p fr st c.origin c.fact
@@ -207,47 +220,45 @@ module _ (p : Program) (ac : Accept p) (forms : HasPlainForms p) (h : HeapConten
   abbrev anew : Bool
   anew = is_reread p h fr o x.owner
 
-  temp : (t : ℕ) × IsSmall (places.Temp t) × (root_of h (place_value p h fr.method fr.locals (places.Temp t)) ≡ Some o) × ((held : PlaceSet) → has held (places.Temp t) ≡ true → is_target p s.action held ≡ true)
+  pub temp : (t : ℕ) × IsSmall (places.Temp t) × (root_of h (place_value p h fr.method fr.locals (places.Temp t)) ≡ Some o) × ((held : PlaceSet) → has held (places.Temp t) ≡ true → is_target p s.action held ≡ true)
   temp = target_temp p ac forms h fr old frs st i s here row o (renewed_at_step p h fr st i s o here row renewed)
 
+  -- it is in a fact that says so
+  pub owns_target : (c : Covers p h away anew old frs fr o x) → has c.fact.places (places.Temp temp.0) ≡ true → IsOwned p h away anew old frs fr o x c → is_own c.fact.mode ≡ true → OwnsTarget p h old frs fr o x
+  owns_target c in' key own = record {
+    covers = c;
+    key = key;
+    temp = temp.0;
+    there = in';
+    own = own;
+    kept = none_away away refl;
+    target = λ n t there. ap (λ (a : Action). is_target p a c.fact.places) (one n t there) ∙ temp.3 c.fact.places in';
+    stays = λ n t there. target_stays p ac forms h fr old frs st n t there (subst IsCallRow (sym (one n t there)) row) away anew o x c (ap (λ (a : Action). is_target p a c.fact.places) (one n t there) ∙ temp.3 c.fact.places in');
+  }
+    where
+      one : (n : ℕ) (t : Step) → slice_get (frame_steps p fr) n ≡ Some t → t.action ≡ s.action
+      one n t there = one_action p st.number fr.control i n s t (step_here p fr st i s here) (step_here p fr st n t there) (call_may s.action row)
+
+      none_away : (b : Bool) → away ≡ b → away ≡ false
+      none_away false kept = kept
+      none_away true gives = absurd (target_stays p ac forms h fr old frs st i s here row away anew o x c (temp.3 c.fact.places in')
+          (away_moves p ac h fr st old frs i s here row away anew o x c key heavy (given_at_step p h fr st i s o x.class here row gives)))
+
   -- the object is in a fact that says that the frame owns it, or it is lent, or a field of what the frame's constructor makes owns it, or one of `this`, which is lent
-  pub owned_or_lent : OwnsTarget p h old frs fr o x ⊎ (IsLentFrom p h frs o x.owner ⊎ (IsHeldBy p fr x.owner ⊎ IsHeldByLent p h (IsLentFrom p h frs) fr x.owner))
-  owned_or_lent = by (covered (places.Temp temp.0) o x temp.1 temp.2 at heavy owes)
+  pub owned_or_lent : OwnsTarget p h old frs fr o x ⊎ IsHeldOrLent p h frs fr o x.owner
+  owned_or_lent = by (covered (places.Temp temp.0) o x temp.1 refl temp.2 at heavy owes)
     where
       lent : (c : Covers p h away anew old frs fr o x) → c.fact.mode ≡ modes.Lent → IsLentFrom p h frs o x.owner
       lent c mode = (c.lends mode done).1
 
-      owning : (c : Covers p h away anew old frs fr o x) → has c.fact.places (places.Temp temp.0) ≡ true → IsOwned p h away anew old frs fr o x c → is_own c.fact.mode ≡ true → OwnsTarget p h old frs fr o x
-      owning c in' key own = record {
-        covers = c;
-        key = key;
-        temp = temp.0;
-        there = in';
-        own = own;
-        kept = none_away away refl;
-        target = λ n t there. ap (λ (a : Action). is_target p a c.fact.places) (one n t there) ∙ temp.3 c.fact.places in';
-        stays = λ n t there. target_stays p ac forms h fr old frs st n t there (subst IsCallRow (sym (one n t there)) row) away anew o x c (ap (λ (a : Action). is_target p a c.fact.places) (one n t there) ∙ temp.3 c.fact.places in');
-      }
-        where
-          one : (n : ℕ) (t : Step) → slice_get (frame_steps p fr) n ≡ Some t → t.action ≡ s.action
-          one n t there = one_action p st.number fr.control i n s t (step_here p fr st i s here) (step_here p fr st n t there) (call_may s.action row)
-
-          none_away : (b : Bool) → away ≡ b → away ≡ false
-          none_away false kept = kept
-          none_away true gives = absurd (target_stays p ac forms h fr old frs st i s here row away anew o x c (temp.3 c.fact.places in')
-              (away_moves p ac h fr st old frs i s here row away anew o x c key heavy (given_at_step p h fr st i s o x.class here row gives)))
-
-      by : IsKeyed p h away anew old frs fr (places.Temp temp.0) o x → OwnsTarget p h old frs fr o x ⊎ (IsLentFrom p h frs o x.owner ⊎ (IsHeldBy p fr x.owner ⊎ IsHeldByLent p h (IsLentFrom p h frs) fr x.owner))
+      by : IsKeyed p h away anew old frs fr (places.Temp temp.0) o x → OwnsTarget p h old frs fr o x ⊎ IsHeldOrLent p h frs fr o x.owner
       by (owned c in' key) = elim (claims_by p (method_at p fr.method) c.origin c.fact key.owning) [
-        | inl own ↦ inl (owning c in' key own)
-        | inr held ↦ inr (inr (inl (held.1, held_by_this p h away anew old frs fr o x c done held.0 held.1 (and_parts (is_heavy_class p c.origin.class) (is_own c.fact.mode || is_held c.fact.mode && makes_alone (method_at p fr.method)) key.owning).0)))
+        | inl own ↦ inl (owns_target c in' key own)
+        | inr held ↦ inr (holds o x at heavy owes done renewed away anew c held.0 held.1 (claims_owned p (method_at p fr.method) c.origin c.fact key.owning).0)
       ]
       by (unowned u) = elim (target_mode p ac forms h fr old frs st i s here row away anew o x u.covers (temp.3 u.covers.fact.places u.here)) [
         | inl claimed ↦ absurd (true≢false (sym claimed ∙ u.unowned))
-        | inr mode ↦ elim mode [
-          | inl lends ↦ inr (inl (lent u.covers lends))
-          | inr anew' ↦ elim (holds o x at heavy owes done away anew u.covers anew') [ inl lends ↦ inr (inl lends) | inr held ↦ inr (inr (inr held)) ]
-        ]
+        | inr lends ↦ inr (inl (lent u.covers lends))
       ]
 
   -- where the frame owns it

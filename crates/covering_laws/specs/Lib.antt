@@ -51,6 +51,7 @@ pub use Rattle.value_laws.specs.Outcomes
 pub use Rattle.value_laws.specs.OwningFieldsStores
 pub use Rattle.value_laws.specs.Paths
 pub use Rattle.value_laws.specs.PlaceFacts
+pub use Rattle.ownership_rules.specs.Facts
 pub use Rattle.value_laws.specs.PlacePlaces
 pub use Rattle.value_laws.specs.PlaceRows
 pub use Rattle.value_laws.specs.Places

@@ -6,6 +6,7 @@ use Rattle.program_model.specs.declared.kinds.VType.TheVariants as types
 use Rattle.program_model.specs.declared.program.Method.{Method}
 use Rattle.program_model.specs.declared.program.Program.{Program}
 use Rattle.program_model.specs.Lookups.{method_at}
+use Rattle.program_model.specs.Overrides.{is_library}
 use Rattle.program_model.specs.SuperTests.{is_under}
 use Rattle.ledger_obligations.specs.Bodies.{is_constructor_kind}
 use Rattle.ledger_obligations.specs.MustCallSets.{is_heavy_class}
@@ -16,9 +17,9 @@ use Rattle.ledger_state.specs.declared.object.Link.{Link}
 use Rattle.ledger_state.specs.declared.object.Object.{Object}
 use Rattle.value_laws.specs.Objects.{object_class}
 
--- it gives objects of the class: a constructor those of its own, a method those of its result's, or of one under it
+-- it gives objects of the class: a constructor those of its own, a method those of its result's or of one under it, which the library makes
 abbrev pub GivesClass : Program → Method → ClassId → Type 0
-GivesClass p m e = ((is_constructor_kind m.kind ≡ true) × (e ≡ m.class)) ⊎ ((c : ClassId) × (m.sig.result ≡ Some (types.Obj c)) × (is_heavy_class p c ≡ true) × ((e ≡ c) ⊎ (is_under p e c ≡ true)))
+GivesClass p m e = ((is_constructor_kind m.kind ≡ true) × (e ≡ m.class)) ⊎ ((c : ClassId) × (m.sig.result ≡ Some (types.Obj c)) × (is_heavy_class p c ≡ true) × ((e ≡ c) ⊎ (is_under p e c ≡ true)) × (is_library p e ≡ true))
 
 -- some method or constructor gives objects of the class as aliases of an argument
 pub record IsGivenAsAlias (p : Program) (e : ClassId) : Type 0 where

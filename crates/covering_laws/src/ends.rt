@@ -20,15 +20,15 @@ ghost use Rattle.value_laws.specs.Choosing.{frame_steps};
 ghost use Rattle.value_laws.specs.Agreement.{Stands};
 ghost use Rattle.value_laws.specs.FieldContents.{promised_on};
 ghost use Rattle.value_laws.specs.PlaceFacts.{IsCovered, gives_none, renews_none};
-ghost use Rattle.covering_laws.specs.Covering.{HoldsHeavy, IsCountedOn};
+ghost use Rattle.covering_laws.specs.Covering.{HoldsHeavy, IsCountedOn, KeepsFieldsOfThis};
 
 /// As a frame ends, all that its method promises on an owning field of its class was called on what the field holds, where that is finished: it was old
-/// when the frame began, and the call that began it spares it. By an exception it ends so where the method is a must-call method.
+/// when the frame began, the call that began it spares it, and nobody has given it up; and the frame answers for the fields of `this`, or nothing is stored into them while it runs. By an exception it ends so where the method is a must-call method.
 pub fn promises_are_kept_at_end()
     ensures { (p : Program) → Accept p → (h : HeapContents) (frs : List Frame) (fr : Frame) → (st : Stands p fr) → (old : ℕ → Bool) → IsCovered p h gives_none renews_none old frs fr
         → (i : ℕ) (s : Step) (q : Completion) (m : Method) (f : FieldId) (w o : ℕ) (x : Object) → slice_get (frame_steps p fr) i ≡ Some s → s.action ≡ actions.End q
         → method_at p fr.method ≡ Some m → constructs (method_at p fr.method) ≡ false → has_field_place p st.number f ≡ true → (is_throw q ≡ false) ⊎ (is_finalizer p st.number ≡ true)
-        → HoldsHeavy p h fr w f o x → IsCountedOn p h old frs fr o x → x.finished ≡ true → set.is_subset (promised_on f m) x.called ≡ true }
+        → HoldsHeavy p h fr w f o x → IsCountedOn p h old frs fr o x → KeepsFieldsOfThis p frs fr → x.finished ≡ true → set.is_subset (promised_on f m) x.called ≡ true }
 {}
 
 /// A constructor that ends by an exception owns nothing in its fields that is unmet.

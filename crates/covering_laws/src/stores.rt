@@ -1,9 +1,9 @@
 //! The store into an owning field of `this`. Each law is the contract of a function that does nothing.
 
-ghost use Rattle.std.specs.Prelude.{◌≡◌, ℕ, Bool, List, false, None, Some, slice_get};
+ghost use Rattle.std.specs.Prelude.{◌≡◌, ℕ, Bool, List, false, Some, slice_get};
 ghost use Rattle.program_model.specs.declared.kinds.FieldId.{FieldId};
 ghost use Rattle.program_model.specs.declared.program.Program.{Program};
-ghost use Rattle.ledger_obligations.specs.Bodies.{alias_position};
+ghost use Rattle.ledger_obligations.specs.Bodies.{is_alias_constructor};
 ghost use Rattle.java_control.specs.Control.{Step};
 ghost use Rattle.java_control.specs.declared.action.Action.TheVariants as actions;
 ghost use Rattle.value_laws.specs.Accept.{Accept};
@@ -21,7 +21,7 @@ ghost use Rattle.covering_laws.specs.Covering.{HoldsHeavy};
 
 /// What an owning field held is met where another object is stored over it.
 pub fn overwritten_is_met()
-    ensures { (p : Program) → Accept p → HasPlainForms p → (h : HeapContents) (frs : List Frame) (fr : Frame) → (st : Stands p fr) → alias_position p st.number ≡ None → (old : ℕ → Bool) → IsCovered p h gives_none renews_none old frs fr
+    ensures { (p : Program) → Accept p → HasPlainForms p → (h : HeapContents) (frs : List Frame) (fr : Frame) → (st : Stands p fr) → is_alias_constructor p st.number ≡ false → (old : ℕ → Bool) → IsCovered p h gives_none renews_none old frs fr
         → (i d : ℕ) (s : Step) (f : FieldId) (w o : ℕ) (x : Object) → slice_get (frame_steps p fr) i ≡ Some s → s.action ≡ actions.PutOwn f d
         → HoldsHeavy p h fr w f o x → (root_of h (temp_value fr.locals d) ≡ Some o → ⊥) → is_unmet x ≡ false }
 {}

@@ -48,6 +48,7 @@ pub use Rattle.agreement.proofs.SetLaws
 pub use Rattle.agreement.proofs.StartReached
 pub use Rattle.agreement.proofs.ResetsUp
 pub use Rattle.agreement.proofs.StoredObjects
+pub use Rattle.agreement.proofs.StoreResets
 pub use Rattle.agreement.proofs.Temps
 pub use Rattle.agreement.proofs.Tests
 pub use Rattle.agreement.proofs.Traces

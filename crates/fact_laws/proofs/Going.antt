@@ -23,7 +23,7 @@ use Rattle.java_control.specs.declared.place.Place.{Place}
 use Rattle.java_control.specs.declared.place.Place.TheVariants as places
 use Rattle.java_control.specs.declared.fact.Rule.TheVariants as rules
 use Rattle.ownership_rules.specs.Callees.{callee, may_be_null_target}
-use Rattle.ownership_rules.specs.Facts.{Names, PlaceSet, has, is_met, is_nowhere, leave, mode_at, without}
+use Rattle.ownership_rules.specs.Facts.{Names, PlaceSet, has, is_held, is_met, is_nowhere, leave, mode_at, without}
 use Rattle.place_laws.specs.PlaceRows.{places_after}
 use Rattle.place_laws.specs.CalledRows.{called_after, called_at_call, called_by, holds_receiver, interest_in, is_emptied, promised_at, promises_at, with_name}
 use Rattle.place_laws.specs.Preconditions.{precondition_missing}
@@ -175,6 +175,22 @@ module _ (p : Program) (b : BodyId) (o : Origin) (f : Fact) (q : Place) where
   plain_goes (actions.New m d n) e row safe is = absurd row
   plain_goes (actions.Super m d n) e row safe is = absurd row
   plain_goes (actions.End c) e row safe is = absurd row
+
+  -- a test that finds null takes the place in t(d) from what a field holds
+  null_goes : (d : ℕ) → has f.places (places.Temp d) ≡ true → is_held f.mode ≡ true → has (places_after p b (actions.Test d) edges.Null f.places) q ≡ true
+      → After (GoesAs f (places_after p b (actions.Test d) edges.Null f.places) (called_after p b (actions.Test d) edges.Null f)) (flow p b o (actions.Test d) edges.Null f)
+  null_goes d there held is = rw (there, held) (left_as (GoesAs f (without f.places (places.Temp d)) _) o (with_called f _) (without f.places (places.Temp d)) q is (moved_fact f (with_called f _) (without f.places (places.Temp d)) _ refl refl refl))
+
+  -- so what a field holds goes on at each such step
+  pub held_goes : (a : Action) (e : Edge) → IsPlainRow a → is_held f.mode ≡ true → has (places_after p b a e f.places) q ≡ true → After (GoesAs f (places_after p b a e f.places) (called_after p b a e f)) (flow p b o a e f)
+  held_goes actions.Skip e row held is = plain_goes actions.Skip e row tt is
+  held_goes (actions.Test d) edges.Null row held is = go (has f.places (places.Temp d)) refl
+    where
+      go : (c : Bool) → has f.places (places.Temp d) ≡ c → After (GoesAs f (places_after p b (actions.Test d) edges.Null f.places) (called_after p b (actions.Test d) edges.Null f)) (flow p b o (actions.Test d) edges.Null f)
+      go true there = null_goes d there held is
+      go false out = plain_goes (actions.Test d) edges.Null row out is
+  held_goes (actions.Test d) e row held is = plain_goes (actions.Test d) e row tt is
+  held_goes a e row held is = plain_goes a e row tt is
 
   -- ---- calls
 

@@ -1,5 +1,5 @@
--- In a body that stores into no owning field a fact that says that a field of `this` holds its object has a place of `this`: it is in `this`, a field of it or its super class's part.
-use Rattle.std.proofs.Common.{◌≡◌, refl, sym, subst, ap, ◌∙◌, ℕ, zero, suc, ◌+◌, ◌<◌, ◌≤◌, arith, Bool, true, false, not, ◌||◌, true≢false, nat_eq, eqb-true, Option, Some, None, List, [], ◌∷◌, ◌++◌, slice_get}
+-- A fact that says that a field of `this` holds its object has a place of `this`: it is in `this`, a field of it or its super class's part.
+use Rattle.std.proofs.Common.{◌≡◌, refl, sym, subst, ap, ◌∙◌, ℕ, zero, suc, ◌+◌, ◌<◌, ◌≤◌, arith, Bool, true, false, not, ◌&&◌, ◌||◌, true≢false, nat_eq, eqb-true, Option, Some, None, List, [], ◌∷◌, ◌++◌, slice_get}
 use Rattle.std.specs.Prelude.{if◌then◌else◌}
 use Rattle.std.specs.List.{cons_option, filter_map}
 use Rattle.std.proofs.lemmas.Bool.{or_left, or_right}
@@ -38,14 +38,15 @@ use Rattle.java_control.specs.declared.fact.Outcome.TheVariants.{Next, Gone, Fau
 use Rattle.java_control.specs.declared.place.Place.TheVariants as places
 use Rattle.ownership_rules.specs.Bodies.{fields_of, has_field_place}
 use Rattle.ownership_rules.specs.Births.{Birth, birth_on, births_at_entry, births_of_step, entry_births_in, entry_births_of, fact_at, field_birth, field_birth_place, field_births, has_this, held_births, origin_of, owning_field_birth, parameter_birth, parameter_births, parameter_mode, reset_births, this_birth, this_mode}
-use Rattle.ownership_rules.specs.Facts.{PlaceSet, has, has_field, has_field_from, has_part, is_held, is_nowhere, leave, missing, mode_at, owes}
+use Rattle.ownership_rules.specs.Facts.{PlaceSet, has, has_field, has_field_from, has_part, is_held, is_met, is_nowhere, leave, missing, mode_at, owes, with_place, without}
 use Rattle.ownership_rules.specs.MovesAtReturns.{moved_at_return}
-use Rattle.ownership_rules.specs.MustCallSets.{no_names}
-use Rattle.ownership_rules.specs.Signatures.{is_position}
+use Rattle.ownership_rules.specs.MustCallSets.{beyond_type, fits_type, must_of, no_names}
+use Rattle.ownership_rules.specs.Signatures.{field_type, is_position}
 use Rattle.place_laws.specs.Accept.{Accept}
 use Rattle.place_laws.specs.CalledRows.{called_after}
 use Rattle.place_laws.specs.Calls.{called, with_called}
 use Rattle.place_laws.specs.Flow.{cast, flow, null_tested, placed, raised, tested, turn, turned}
+use Rattle.place_laws.specs.OwningFieldsStores.{heavy_stored, is_heavy_store, keeps_other, lacks_reset, may_store, object_stored, stored, stored_over, with_field}
 use Rattle.place_laws.specs.Paths.{Comes, Move, Reach, born, entered, flowed, relation_of}
 use Rattle.place_laws.specs.PlaceRows.{places_after}
 use Rattle.fact_laws.specs.Going.{is_in_this}
@@ -88,7 +89,7 @@ held_mode modes.Alias is = absurd (true≢false (sym is))
 abbrev IsInside : Fact → Type 0
 IsInside f = is_held f.mode ≡ true → is_in_this f.places ≡ true
 
-module _ (p : Program) (b : BodyId) (o : Origin) (f : Fact) (inside : IsInside f) where
+module _ (p : Program) (ac : Accept p) (b : BodyId) (o : Origin) (f : Fact) (inside : IsInside f) where
   at_places : (g : Fact) (held : PlaceSet) → IfNext IsInside (leave o g held)
   at_places g held = go (is_nowhere held) (owes o g)
     where
@@ -96,6 +97,49 @@ module _ (p : Program) (b : BodyId) (o : Origin) (f : Fact) (inside : IsInside f
       go true true = tt
       go true false = tt
       go false y = λ is. held_within g.mode held (held_mode (mode_at g.mode held) is)
+
+  -- ---- stores into owning fields
+
+  module _ (g : FieldId) (place : has_field_place p b g ≡ true) where
+    -- the field's place is one of `this`
+    in_place : (mode : Mode) → IsInside (with_field p g mode f)
+    in_place mode held = field_in_this (with_place f.places (place_of_field p g)) (field_number p g) ((ac.fits b).room.fields g place) (new_member f.places (number_of (place_of_field p g)))
+
+    heavy_inside : IfNext IsInside (heavy_stored p b o g f)
+    heavy_inside = go (keeps_other p b o) (may_store p b o f) (not (fits_type p o.class (field_type p g)))
+      where
+        go : (x y z : Bool) → IfNext IsInside (if x then Fault rules.AliasKept (must_of p o.class) else (if not y then Fault rules.NotOwned (must_of p o.class)
+            else (if z then Fault rules.Narrow (beyond_type p o.class (field_type p g)) else Next (with_field p g modes.Held f))))
+        go true y z = tt
+        go false false z = tt
+        go false true true = tt
+        go false true false = in_place modes.Held
+
+    object_inside : IfNext IsInside (object_stored p b o g f)
+    object_inside = go (has f.places (place_of_field p g)) (is_heavy_store p o g)
+      where
+        go : (x y : Bool) → IfNext IsInside (if x then Next f else (if y then heavy_stored p b o g f else Next (with_field p g f.mode f)))
+        go true y = inside
+        go false true = heavy_inside
+        go false false = in_place f.mode
+
+    over_inside : IfNext IsInside (stored_over p o g f)
+    over_inside = go (has f.places (place_of_field p g)) (is_held f.mode && not (is_met o f))
+      where
+        go : (x y : Bool) → IfNext IsInside (if x then (if y then Fault rules.Overwritten (missing o f) else leave o f (without f.places (place_of_field p g))) else Next f)
+        go true true = tt
+        go true false = at_places f (without f.places (place_of_field p g))
+        go false y = inside
+
+    stored_inside : (d : ℕ) → IfNext IsInside (stored p b o g d f)
+    stored_inside d = go (lacks_reset p b f) (has f.places (places.Temp d))
+      where
+        go : (x y : Bool) → IfNext IsInside (if x then Fault rules.ResetMissing (must_of p o.class) else (if y then object_stored p b o g f else stored_over p o g f))
+        go true y = tt
+        go false true = object_inside
+        go false false = over_inside
+
+  -- ---- the rows
 
   module _ (held : PlaceSet) where
     turned_inside : (x : Outcome) → IfNext IsInside (placed o f held (turned x))
@@ -133,28 +177,28 @@ module _ (p : Program) (b : BodyId) (o : Origin) (f : Fact) (inside : IsInside f
         go true null = rw null (at_places f held)
         go false null = rw null inside
 
-    row_inside : (a : Action) (e : Edge) → ((g : FieldId) (d : ℕ) → a ≡ actions.PutOwn g d → ⊥) → IfNext IsInside (placed o f held (turn p b o a e f))
-    row_inside actions.Skip e other = inside
-    row_inside (actions.Copy x y) e other = at_places f held
-    row_inside (actions.Move x y) e other = at_places f held
-    row_inside (actions.Plain x value) e other = at_places f held
-    row_inside (actions.Drop s) e other = at_places f held
-    row_inside (actions.Settle d c) e other = at_places f held
-    row_inside (actions.Enter clause x d from) e other = at_places f held
-    row_inside (actions.Test d) e other = tested_inside d e
-    row_inside (actions.Op k d n) e other = at_places f held
-    row_inside (actions.Get g d this) e other = at_places f held
-    row_inside (actions.Put g d this) e other = at_places f held
-    row_inside (actions.Cast t d) e other = cast_inside e
-    row_inside (actions.PutOwn g d) e other = absurd (other g d refl)
-    row_inside (actions.Call m d n form) e other = turned_inside (called p b o (actions.Call m d n form) e f)
-    row_inside (actions.New m d n) e other = turned_inside (called p b o (actions.New m d n) e f)
-    row_inside (actions.Super m d n) e other = turned_inside (called p b o (actions.Super m d n) e f)
-    row_inside (actions.Raise d c) e other = raised_inside e
-    row_inside (actions.End c) e other = end_none IsInside p b o f c (moved_at_return p b o (actions.End c) f)
+    row_inside : (a : Action) (e : Edge) → ((g : FieldId) (d : ℕ) → a ≡ actions.PutOwn g d → has_field_place p b g ≡ true) → IfNext IsInside (placed o f held (turn p b o a e f))
+    row_inside actions.Skip e own = inside
+    row_inside (actions.Copy x y) e own = at_places f held
+    row_inside (actions.Move x y) e own = at_places f held
+    row_inside (actions.Plain x value) e own = at_places f held
+    row_inside (actions.Drop s) e own = at_places f held
+    row_inside (actions.Settle d c) e own = at_places f held
+    row_inside (actions.Enter clause x d from) e own = at_places f held
+    row_inside (actions.Test d) e own = tested_inside d e
+    row_inside (actions.Op k d n) e own = at_places f held
+    row_inside (actions.Get g d this) e own = at_places f held
+    row_inside (actions.Put g d this) e own = at_places f held
+    row_inside (actions.Cast t d) e own = cast_inside e
+    row_inside (actions.PutOwn g d) e own = stored_inside g (own g d refl) d
+    row_inside (actions.Call m d n form) e own = turned_inside (called p b o (actions.Call m d n form) e f)
+    row_inside (actions.New m d n) e own = turned_inside (called p b o (actions.New m d n) e f)
+    row_inside (actions.Super m d n) e own = turned_inside (called p b o (actions.Super m d n) e f)
+    row_inside (actions.Raise d c) e own = raised_inside e
+    row_inside (actions.End c) e own = end_none IsInside p b o f c (moved_at_return p b o (actions.End c) f)
 
-  next_inside : (a : Action) (e : Edge) (g : Fact) → ((n : FieldId) (d : ℕ) → a ≡ actions.PutOwn n d → ⊥) → flow p b o a e f ≡ Next g → IsInside g
-  next_inside a e g other next = subst (IfNext IsInside) next (row_inside (places_after p b a e f.places) a e other)
+  next_inside : (a : Action) (e : Edge) (g : Fact) → ((n : FieldId) (d : ℕ) → a ≡ actions.PutOwn n d → has_field_place p b n ≡ true) → flow p b o a e f ≡ Next g → IsInside g
+  next_inside a e g own next = subst (IfNext IsInside) next (row_inside (places_after p b a e f.places) a e own)
 
 -- ---- births
 
@@ -244,10 +288,10 @@ module _ (p : Program) (ac : Accept p) (b : BodyId) where
 
     -- ---- paths
 
-    -- a fact in mode Held has a place of `this`, where the body stores into no owning field
-    pub held_in_this : ((k : List Todo) (i : ℕ) (t : Move (List Todo)) (g : FieldId) (d : ℕ) → Comes (relation_of p b) k → slice_get ((relation_of p b).next k) i ≡ Some t → t.action ≡ actions.PutOwn g d → ⊥)
+    -- a fact in mode Held has a place of `this`, where the owning fields that the body stores have places in it
+    pub held_in_this : ((k : List Todo) (i : ℕ) (t : Move (List Todo)) (g : FieldId) (d : ℕ) → Comes (relation_of p b) k → slice_get ((relation_of p b).next k) i ≡ Some t → t.action ≡ actions.PutOwn g d → has_field_place p b g ≡ true)
         → (o : Origin) (k : List Todo) (f : Fact) → Reach p b (relation_of p b) o k f → is_held f.mode ≡ true → is_in_this f.places ≡ true
     held_in_this stores o _ f (entered n is) = entry_inside n o f is
     held_in_this stores o _ f (born i n t before here is) = step_inside t.action t.edge t.pos n o f is
     held_in_this stores o _ g (flowed {k = k} {f = f} i t before here is) =
-        next_inside p b o f (held_in_this stores o k f before) t.action t.edge g (λ n d same. stores k i t n d (comes p ac b x at o k f before) here same) is
+        next_inside p ac b o f (held_in_this stores o k f before) t.action t.edge g (λ n d same. stores k i t n d (comes p ac b x at o k f before) here same) is

@@ -21,6 +21,7 @@ pub mod ResetTargets
 pub mod FieldResets
 pub mod HeldPlaces
 pub mod LentThis
+pub mod ThisTemps
 pub mod AnnouncedTargets
 pub use Rattle.place_laws.proofs.AssignedReached
 pub use Rattle.place_laws.proofs.AssignedSources

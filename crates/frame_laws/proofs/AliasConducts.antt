@@ -16,9 +16,11 @@ use Rattle.program_model.specs.declared.kinds.MethodKind.{MethodKind}
 use Rattle.program_model.specs.declared.kinds.MethodKind.TheVariants as kinds
 use Rattle.program_model.specs.declared.kinds.VType.{VType}
 use Rattle.program_model.specs.declared.kinds.VType.TheVariants as types
+use Rattle.program_model.specs.declared.program.Class.{Class}
 use Rattle.program_model.specs.declared.program.Method.{Method}
 use Rattle.program_model.specs.declared.program.Program.{Program}
 use Rattle.program_model.specs.Lookups.{class_at, method_at}
+use Rattle.program_model.specs.Overrides.{is_library, is_library_in}
 use Rattle.program_model.specs.SuperTests.{is_under}
 use Rattle.ownership_rules.specs.AliasCases.{alias_cases_in, alias_cases_of_method, alias_cases_of_override, calls_alias, gives_exception, has_bad_alias_form, has_owning_alias, has_unequal_sets, is_bad_alias_method, is_half_marked, is_single, result_set}
 use Rattle.ledger_steps.specs.Bodies.{is_constructor_kind}
@@ -69,7 +71,7 @@ any_passes {X = X} f (x ∷ xs) is = go (f x) refl is (any_passes f xs)
     go true e one rest = (x, e)
     go false e one rest = rest one
 
-not_refused : (b : Bool) (code : Code) (place : Pos) → where_true b code place ≡ [] → b ≡ false
+pub not_refused : (b : Bool) (code : Code) (place : Pos) → where_true b code place ≡ [] → b ≡ false
 not_refused true code place is = absurd (cons_is_nil (refused_at code place) [] is)
 not_refused false code place is = refl
 
@@ -149,9 +151,9 @@ module _ (p : Program) (formed : IsWellFormed p) (named : MethodId) (m : Method)
 
 -- ---- what it gives
 
--- the class of the constructor, or that of the result or one under it
+-- the class of the constructor, or that of the result, or one of the library under it
 abbrev pub IsAliasClass : Program → Method → ClassId → Type 0
-IsAliasClass p m e = ((is_constructor_kind m.kind ≡ true) × (e ≡ m.class)) ⊎ ((c : ClassId) × (m.sig.result ≡ Some (types.Obj c)) × (is_heavy_class p c ≡ true) × ((e ≡ c) ⊎ (is_under p e c ≡ true)))
+IsAliasClass p m e = ((is_constructor_kind m.kind ≡ true) × (e ≡ m.class)) ⊎ ((c : ClassId) × (m.sig.result ≡ Some (types.Obj c)) × (is_heavy_class p c ≡ true) × ((e ≡ c) ⊎ ((is_under p e c ≡ true) × (is_library p e ≡ true))))
 
 -- the call throws, or gives an object of such a class that it makes, or the argument
 abbrev pub GivesAlias : Program → Method → Conduct → Type 0
@@ -163,32 +165,40 @@ GivesAlias p m (conducts.Existing k) = ⊥
 GivesAlias p m (conducts.Value z) = ⊥
 GivesAlias p m conducts.Nothing = ⊥
 
--- a class that is picked is the one, or under it
-among_under : (p : Program) (c : ClassId) (ns : List ℕ) (i : ℕ) (d : ClassId) → slice_get (map class_of_number (filter (is_stand_in p c) ns)) i ≡ Some d → is_under p d c ≡ true
+abbrev IsBelow : Program → ClassId → ClassId → Type 0
+IsBelow p e c = (is_under p e c ≡ true) × (is_library p e ≡ true)
+
+same_library : (x : Option Class) → library_in x ≡ true → is_library_in x ≡ true
+same_library None is = is
+same_library (Some k) is = is
+
+-- a class that is picked is the one, or one of the library under it
+among_under : (p : Program) (c : ClassId) (ns : List ℕ) (i : ℕ) (d : ClassId) → slice_get (map class_of_number (filter (is_stand_in p c) ns)) i ≡ Some d → IsBelow p d c
 among_under p c [] i d is = absurd (no_element i d is)
 among_under p c (n ∷ ns) i d is = go (is_stand_in p c n) refl (among_under p c ns) i is
   where
-    stands : is_stand_in p c n ≡ true → is_under p (class_of_number n) c ≡ true
+    stands : is_stand_in p c n ≡ true → IsBelow p (class_of_number n) c
     stands one =
         let first = and_parts (not (n == c.0) && library_in (class_at p (class_of_number n)) && is_under p (class_of_number n) c) (fits p (class_of_number n) c) one in
-        (and_parts (not (n == c.0) && library_in (class_at p (class_of_number n))) (is_under p (class_of_number n) c) first.0).1
+        let second = and_parts (not (n == c.0) && library_in (class_at p (class_of_number n))) (is_under p (class_of_number n) c) first.0 in
+        (second.1, same_library (class_at p (class_of_number n)) (and_parts (not (n == c.0)) (library_in (class_at p (class_of_number n))) second.0).1)
 
-    here : is_stand_in p c n ≡ true → ((j : ℕ) (e : ClassId) → slice_get (map class_of_number (filter (is_stand_in p c) ns)) j ≡ Some e → is_under p e c ≡ true)
-        → (j : ℕ) → slice_get (class_of_number n ∷ map class_of_number (filter (is_stand_in p c) ns)) j ≡ Some d → is_under p d c ≡ true
-    here one further zero same = subst (λ (e : ClassId). is_under p e c ≡ true) (let both : Some (class_of_number n) ≡ Some d = same in (let it : class_of_number n ≡ d = cc in it)) (stands one)
+    here : is_stand_in p c n ≡ true → ((j : ℕ) (e : ClassId) → slice_get (map class_of_number (filter (is_stand_in p c) ns)) j ≡ Some e → IsBelow p e c)
+        → (j : ℕ) → slice_get (class_of_number n ∷ map class_of_number (filter (is_stand_in p c) ns)) j ≡ Some d → IsBelow p d c
+    here one further zero same = subst (λ (e : ClassId). IsBelow p e c) (let both : Some (class_of_number n) ≡ Some d = same in (let it : class_of_number n ≡ d = cc in it)) (stands one)
     here one further (suc j) same = further j d same
 
-    go : (b : Bool) → is_stand_in p c n ≡ b → ((j : ℕ) (e : ClassId) → slice_get (map class_of_number (filter (is_stand_in p c) ns)) j ≡ Some e → is_under p e c ≡ true)
-        → (j : ℕ) → slice_get (map class_of_number (if b then n ∷ filter (is_stand_in p c) ns else filter (is_stand_in p c) ns)) j ≡ Some d → is_under p d c ≡ true
+    go : (b : Bool) → is_stand_in p c n ≡ b → ((j : ℕ) (e : ClassId) → slice_get (map class_of_number (filter (is_stand_in p c) ns)) j ≡ Some e → IsBelow p e c)
+        → (j : ℕ) → slice_get (map class_of_number (if b then n ∷ filter (is_stand_in p c) ns else filter (is_stand_in p c) ns)) j ≡ Some d → IsBelow p d c
     go true one further j same = here one further j same
     go false one further j same = further j d same
 
-picked_under : (p : Program) (c : ClassId) (z : ℤ) → (picked p c z ≡ c) ⊎ (is_under p (picked p c z) c ≡ true)
+picked_under : (p : Program) (c : ClassId) (z : ℤ) → (picked p c z ≡ c) ⊎ IsBelow p (picked p c z) c
 picked_under p c (negsuc n) = inl refl
 picked_under p c (pos zero) = inl refl
 picked_under p c (pos (suc n)) = go (slice_get (map class_of_number (stand_ins p c)) n) refl
   where
-    go : (x : Option ClassId) → slice_get (map class_of_number (stand_ins p c)) n ≡ x → (class_or c x ≡ c) ⊎ (is_under p (class_or c x) c ≡ true)
+    go : (x : Option ClassId) → slice_get (map class_of_number (stand_ins p c)) n ≡ x → (class_or c x ≡ c) ⊎ IsBelow p (class_or c x) c
     go None is = inl refl
     go (Some d) is = inr (among_under p c (range_with_len 0 (class_count p)) n d is)
 

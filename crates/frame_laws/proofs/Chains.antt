@@ -1,5 +1,5 @@
 -- The ways upwards through owners, over a step: each object has an owner that is no field, or the one that it had, or a field of an object
--- that no field owns.
+-- from which the way ends.
 use Rattle.std.proofs.Common.{◌≡◌, ◌⊎◌, inl, inr, ℕ, zero, suc, ◌<◌, ◌≤◌, Bool, true, false, Option, Some, None, length, slice_get, refl, sym, ap, ◌∙◌, subst, true≢false, if◌then◌else◌, arith}
 use Rattle.std.proofs.lemmas.Option.{slice_get-get_or}
 use Rattle.program_model.specs.declared.kinds.FieldId.{FieldId}
@@ -17,7 +17,7 @@ use Rattle.agreement.specs.Chains.{Ends, HaveEnds, IsLast, ends_here, of_field}
 abbrev pub IsSame : Object → Object → Type 0
 IsSame x y = (y.owner ≡ x.owner) × (y.finished ≡ x.finished)
 
--- it is owned by a field of an object that no field owns
+-- it is owned by a field of an object from which the way upwards ends
 pub record IsStoredIn (k : HeapContents) (y : Object) : Type 0 where
   pub holder : ℕ
   pub field : FieldId
@@ -25,7 +25,7 @@ pub record IsStoredIn (k : HeapContents) (y : Object) : Type 0 where
   pub finished : y.finished ≡ true
   pub object : Object
   pub there : object_at k holder ≡ Some object
-  pub last : IsLast object.owner
+  pub ends : Ends k object.owner
 
 -- no field owns it, and nobody does where it is not finished
 abbrev pub IsLastOwned : Object → Type 0
@@ -54,7 +54,7 @@ module _ (h k : HeapContents) (have : HaveEnds h) (more : next_number h ≤ next
   there n x at = let range = numbers_are_in_range h n x at in let some = range.0 in let below = range.1 in object_there k n x some (omega (arith, below, more))
 
   stored_ends : (y : Object) → IsStoredIn k y → Ends k y.owner
-  stored_ends y s = subst (Ends k) (sym s.owner) (of_field s.holder s.field s.object s.there (ends_here s.object.owner s.last))
+  stored_ends y s = subst (Ends k) (sym s.owner) (of_field s.holder s.field s.object s.there s.ends)
 
   -- the owner of an object that was there, where the way from its owner before ends
   by_owner : (n : ℕ) (x y : Object) → object_at h n ≡ Some x → Ends k x.owner → IsOwnedAs h k n y → Ends k y.owner

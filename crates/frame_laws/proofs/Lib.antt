@@ -20,6 +20,8 @@ pub mod TrackingGiven
 pub mod Unmet
 pub mod Results
 pub mod Stores
+pub mod StoresOutside
+pub mod LendsThis
 pub mod Chains
 pub mod AliasConducts
 pub mod AliasRoots
@@ -43,6 +45,7 @@ pub use Rattle.fact_laws.proofs.EntryFacts
 pub use Rattle.fact_laws.proofs.FieldResets
 pub use Rattle.fact_laws.proofs.HeldPlaces
 pub use Rattle.fact_laws.proofs.LentThis
+pub use Rattle.fact_laws.proofs.ThisTemps
 pub use Rattle.fact_laws.proofs.Ends as FactEnds
 pub use Rattle.fact_laws.proofs.Origins as FactOrigins
 pub use Rattle.fact_laws.proofs.Flows
@@ -65,6 +68,8 @@ pub use Rattle.agreement.proofs.Tops
 pub use Rattle.agreement.proofs.Spared
 pub use Rattle.agreement.proofs.SparingCalls
 pub use Rattle.agreement.proofs.SparingEnds
+pub use Rattle.agreement.proofs.SettledFrames
+pub use Rattle.agreement.proofs.StoreWays
 pub use Rattle.agreement.proofs.SparingStays
 pub use Rattle.agreement.proofs.WaysOverSteps
 pub use Rattle.agreement.proofs.OldObjects

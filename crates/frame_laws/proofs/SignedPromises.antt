@@ -1,9 +1,10 @@
 -- What a method promises: each promise is that of one text of an annotation, and its names are of the table of names.
-use Rattle.std.specs.Prelude.{◌<◌, codes, if◌then◌else◌, length}
+use Rattle.std.specs.Prelude.{◌<◌, ◌-◌, ◌&&◌, codes, drop, if◌then◌else◌, length, nat_eq, nat_le}
 use Rattle.std.specs.FinSet as set
-use Rattle.std.specs.List.{filter_map}
+use Rattle.std.specs.Char.{is_ascii_digit}
+use Rattle.std.specs.List.{filter_map, list_all, starts_with}
 use Rattle.std.proofs.Common.{◌≡◌, ◌⊎◌, ℕ, zero, suc, Bool, true, false, true≢false, Option, Some, None, List, [], ◌∷◌, fold, nat_lt, slice_get, refl, sym, ap, ◌∙◌, subst, inl, inr, arith}
-use Rattle.std.proofs.lemmas.Bool.{ltb-true}
+use Rattle.std.proofs.lemmas.Bool.{and_parts, ltb-true}
 use Rattle.rlc_base.specs.Names.{place_of}
 use Rattle.rlc_base.proofs.SetLaws.{either_member, member_of-empty}
 use Rattle.program_model.specs.NameSets.{Names, no_names}
@@ -15,11 +16,12 @@ use Rattle.program_model.specs.declared.program.Promise.{Promise}
 use Rattle.program_model.specs.declared.program.RawAnno.{RawAnno}
 use Rattle.program_model.specs.Lookups.{method_at}
 use Rattle.annotation_kinds.specs.Annotations.{first_of, texts_at}
+use Rattle.annotation_kinds.specs.Positions.{is_decimal}
 use Rattle.annotation_kinds.specs.declared.annotation.AnnotationKind.TheVariants as annotations
-use Rattle.fact_laws.specs.Effective.{promise, promises_by}
+use Rattle.fact_laws.specs.Effective.{promise, promises_by, reset_in, reset_text}
 use Rattle.fact_laws.specs.Sets.{numbers_of, with_number}
 use Rattle.fact_laws.specs.SignedMethods.{IsSignedMethod}
-use Rattle.fact_laws.specs.EffectiveSignaturesTargets.{has_object, keeps_object, own_fields, target_of}
+use Rattle.fact_laws.specs.EffectiveSignaturesTargets.{decimal_value, has_object, keeps_object, next_digit, number_up_to, own_fields, position_of, target_of}
 use Rattle.fact_laws.proofs.SignedTables.{before}
 use Rattle.fact_laws.specs.Accept.{Accept}
 use Rattle.frame_laws.proofs.NameCounts.{table_few}
@@ -75,6 +77,13 @@ module _ (p : Program) (x : Method) where
       let is = promise_is (numbers_of p.names (texts_at a (codes "methods"))) (target_of with_object (length x.sig.params.items) p.fields.items (own_fields p.classes.items x.class) text.0) q text.1 in
       record { annotation = a; text = text.0; with_object = with_object; names = is.1; target = is.0 }
 
+-- the method is one whose annotations were read, as its own
+signed_itself : (p : Program) → Accept p → (m : MethodId) (x : Method) → method_at p m ≡ Some x → IsSignedMethod p.names p.fields.items p.classes.items x x
+signed_itself p ac m x at =
+    let was = before (IsSignedMethod p.names p.fields.items p.classes.items) p.methods.items p.methods.items m.0 x ac.signatures.methods at in
+    let same : was.0 ≡ x = (let both : Some was.0 ≡ Some x = sym was.1 ∙ at in (let one : was.0 ≡ x = cc in one)) in
+    subst (λ (y : Method). IsSignedMethod p.names p.fields.items p.classes.items y x) same was.2
+
 pub written : (p : Program) → Accept p → (m : MethodId) (x : Method) (q : Promise) → method_at p m ≡ Some x → Promises x q → IsWritten p x q
 written p ac m x q at promised = elim promised.1 [
   | inl normal ↦
@@ -85,10 +94,41 @@ written p ac m x q at promised = elim promised.1 [
 ]
   where
     signed : IsSignedMethod p.names p.fields.items p.classes.items x x
-    signed =
-        let was = before (IsSignedMethod p.names p.fields.items p.classes.items) p.methods.items p.methods.items m.0 x ac.signatures.methods at in
-        let same : was.0 ≡ x = (let both : Some was.0 ≡ Some x = sym was.1 ∙ at in (let one : was.0 ≡ x = cc in one)) in
-        subst (λ (y : Method). IsSignedMethod p.names p.fields.items p.classes.items y x) same was.2
+    signed = signed_itself p ac m x at
+
+-- ---- a method that creates the obligation of `this` anew has a `this`
+
+digits_grow : (n : ℕ) (digits : List ℕ) → 0 < n → 0 < fold next_digit n digits
+digits_grow n [] some = some
+digits_grow n (d ∷ ds) some = digits_grow (next_digit n d) ds (let rest : ℕ = d - 48 in omega (arith, some))
+
+-- a decimal is not zero
+decimal_some : (digits : List ℕ) → is_decimal digits ≡ true → 0 < decimal_value digits
+decimal_some [] is = absurd (true≢false (sym is))
+decimal_some (d ∷ ds) is = digits_grow (next_digit 0 d) ds (let first = ltb-true 48 d (and_parts (list_all is_ascii_digit (d ∷ ds)) (nat_lt 48 d) is).1 in omega (arith, first))
+
+no_position : (count : ℕ) (digits : List ℕ) → number_up_to count digits ≡ Some 0 → ⊥
+no_position count digits is = go (is_decimal digits) refl (nat_le (decimal_value digits) count) is
+  where
+    go : (b : Bool) → is_decimal digits ≡ b → (c : Bool) → (if b && c then Some (decimal_value digits) else None) ≡ Some 0 → ⊥
+    go true decimal true is' = let zero : decimal_value digits ≡ 0 = (let both : Some (decimal_value digits) ≡ Some 0 = is' in cc) in let some = decimal_some digits decimal in omega (arith, zero, some)
+    go true decimal false is' = let never : ◌≡◌ {A = Option ℕ} None (Some 0) = is' in cc
+    go false decimal c is' = let never : ◌≡◌ {A = Option ℕ} None (Some 0) = is' in cc
+
+object_by : (with_object : Bool) (count : ℕ) (text : List ℕ) → position_of with_object count text ≡ Some 0 → with_object ≡ true
+object_by true count text is = refl
+object_by false count text is = go (starts_with nat_eq text (codes "#")) is
+  where
+    go : (b : Bool) → (if b then number_up_to count (drop 1 text) else None) ≡ Some 0 → false ≡ true
+    go true is' = absurd (no_position count (drop 1 text) is')
+    go false is' = absurd (let never : ◌≡◌ {A = Option ℕ} None (Some 0) = is' in cc)
+
+pub resets_object : (p : Program) → Accept p → (m : MethodId) (x : Method) → method_at p m ≡ Some x → x.sig.reset ≡ Some 0 → has_object x.kind ≡ true
+resets_object p ac m x at resets = go (first_of annotations.CreatesMustCallFor x.annos.items) (sym (signed_itself p ac m x at).signature.reset ∙ resets)
+  where
+    go : (a : Option RawAnno) → reset_in x a ≡ Some 0 → has_object x.kind ≡ true
+    go None is = absurd (let never : ◌≡◌ {A = Option ℕ} None (Some 0) = is in cc)
+    go (Some a) is = object_by (has_object x.kind) (length x.sig.params.items) (reset_text (texts_at a (codes "value"))) is
 
 -- ---- names of the table
 

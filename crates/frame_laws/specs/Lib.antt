@@ -5,6 +5,7 @@ pub mod Arguments
 pub use Rattle.agreement.specs.Agreement
 pub use Rattle.fact_laws.specs.Aliases
 pub use Rattle.fact_laws.specs.Anew
+pub use Rattle.fact_laws.specs.Lending
 pub use Rattle.fact_laws.specs.CalledRows
 pub use Rattle.ownership_rules.specs.Callees
 pub use Rattle.fact_laws.specs.Calling

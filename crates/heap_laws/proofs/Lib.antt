@@ -30,6 +30,7 @@ pub mod ResetHeaps
 pub mod EndResets
 pub mod WaysUp
 pub mod ReachedRoots
+pub mod StoreResets
 pub mod ResetsUp
 pub mod Conducts
 pub use Rattle.ledger_steps.proofs.Elements

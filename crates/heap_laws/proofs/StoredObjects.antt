@@ -7,7 +7,7 @@ use Rattle.program_model.specs.Lookups.{field_at}
 use Rattle.rlc_base.specs.declared.place.Pos.{Pos}
 use Rattle.ledger_state.specs.Contents.{HeapContents}
 use Rattle.ledger_state.specs.Fields.{field_of, field_value}
-use Rattle.ledger_state.specs.Heaps.{change_each, change_some, next_number, object_at, only_at, root_of, same_root}
+use Rattle.ledger_state.specs.Heaps.{change_each, change_some, next_number, object_at, only_at, put_field, root_of, same_root}
 use Rattle.ledger_state.specs.declared.entry.LeakWord.{LeakWord}
 use Rattle.ledger_state.specs.declared.entry.Owner.{Owner}
 use Rattle.ledger_state.specs.declared.entry.Owner.TheVariants as owners
@@ -45,7 +45,7 @@ some_back None change h n y at = (y, at, inl refl)
 some_back (Some k) change h n y at = let x = changed_back (only_at k change) h n y at in (x.0, x.1, either_at k n change x.0 y x.2)
 
 -- the object with this number is there
-abbrev IsThere : HeapContents → ℕ → Type 0
+abbrev pub IsThere : HeapContents → ℕ → Type 0
 IsThere h n = (x : Object) × (object_at h n ≡ Some x)
 
 each_there : (change : ℕ → Object → Object) (h : HeapContents) (n : ℕ) → IsThere h n → IsThere (change_each change h) n
@@ -178,7 +178,7 @@ module _ (p : Program) (h : HeapContents) (w : ℕ) (f : FieldId) (v : Value) wh
           may = sym (ap (may_move_root p h (type_of_field (field_at p f))) root ∙ ap (may_move_in p (type_of_field (field_at p f))) at) ∙ parts.1;
         }
 
-    abbrev IsBefore : ℕ → Object → Type 0
+    abbrev pub IsBefore : ℕ → Object → Type 0
     IsBefore n y = (x : Object) × (object_at h n ≡ Some x) × IsStored p h w f v n x y
 
     after_displaced : (n : ℕ) (x y z : Object) → object_at h n ≡ Some x → (z ≡ x) ⊎ (IsDisplaced p h w f v n x × (z ≡ given_up x))
@@ -198,7 +198,7 @@ module _ (p : Program) (h : HeapContents) (w : ℕ) (f : FieldId) (v : Value) wh
             let x = displaced_back n z.0 z.1 in
             (x.0, x.1, after_displaced n x.0 y z.0 x.1 x.2 is z.2)
 
-    moved_gives : (n : ℕ) (x y : Object) → object_at h n ≡ Some x → IsDisplaced p h w f v n x → object_at (moved_in p h w f bound v) n ≡ Some y → y ≡ given_up x
+    pub moved_gives : (n : ℕ) (x y : Object) → object_at h n ≡ Some x → IsDisplaced p h w f v n x → object_at (moved_in p h w f bound v) n ≡ Some y → y ≡ given_up x
     moved_gives n x y before gone' at = go (moves_in p h f bound v) refl at
       where
         go : (b : Bool) → moves_in p h f bound v ≡ b → object_at (moved_where b (root_of h v) (owners.Field w f) (displaced p h w f v)) n ≡ Some y → y ≡ given_up x
@@ -207,14 +207,14 @@ module _ (p : Program) (h : HeapContents) (w : ℕ) (f : FieldId) (v : Value) wh
             let z = some_back (root_of h v) (with_owner (owners.Field w f)) (displaced p h w f v) n y at' in
             elim z.2 [ inl same ↦ same ∙ displaced_gives n x z.0 before gone' z.1 | inr moved ↦ absurd (gone'.other moved.0) ]
 
-    moved_count : next_number (moved_in p h w f bound v) ≡ next_number h
+    pub moved_count : next_number (moved_in p h w f bound v) ≡ next_number h
     moved_count = go (moves_in p h f bound v)
       where
         go : (b : Bool) → next_number (moved_where b (root_of h v) (owners.Field w f) (displaced p h w f v)) ≡ next_number h
         go true = some_count (root_of h v) (with_owner (owners.Field w f)) (displaced p h w f v) ∙ displaced_count
         go false = displaced_count
 
-    moved_there : (n : ℕ) → IsThere h n → IsThere (moved_in p h w f bound v) n
+    pub moved_there : (n : ℕ) → IsThere h n → IsThere (moved_in p h w f bound v) n
     moved_there n x = go (moves_in p h f bound v)
       where
         go : (b : Bool) → IsThere (moved_where b (root_of h v) (owners.Field w f) (displaced p h w f v)) n
@@ -226,7 +226,7 @@ module _ (p : Program) (h : HeapContents) (w : ℕ) (f : FieldId) (v : Value) wh
     abbrev k : HeapContents
     k = moved_in p h w f bound v
 
-    no_reset : resets_holder p h w f bound old v ≡ false → reset_roots p (holder_roots p h w f bound v) k ≡ k
+    pub no_reset : resets_holder p h w f bound old v ≡ false → reset_roots p (holder_roots p h w f bound v) k ≡ k
     no_reset still = ap (λ (b : Bool). reset_roots p (roots_where b k w) k) still ∙ unchanged (reset_in p k []) k (λ n x at. refl)
 
     pub stored_back : (n : ℕ) (y : Object) → resets_holder p h w f bound old v ≡ false → object_at (stored_owning p h w f bound v) n ≡ Some y → IsBefore n y
@@ -266,16 +266,15 @@ pub bound_back : (p : Program) (h : HeapContents) (w : ℕ) (f : FieldId) (v : V
 bound_back p h w f v n y at = displaced_back p h w f v n y (subst (λ (j : HeapContents). object_at j n ≡ Some y) (no_reset p h w f v true refl) at)
 
 -- the value that may move does
-pub stored_takes : (p : Program) (h : HeapContents) (w : ℕ) (f : FieldId) (v : Value) (n : ℕ) (x y : Object) → resets_holder p h w f false (field_of p h (values.Object w) f) v ≡ false
-    → root_of h v ≡ Some n → object_at h n ≡ Some x → may_move p (type_of_field (field_at p f)) x ≡ true → object_at (stored_owning p h w f false v) n ≡ Some y → y.owner ≡ owners.Field w f
-stored_takes p h w f v n x y still root at may now = by_root (root_of h v) root moved
+pub moved_takes : (p : Program) (h : HeapContents) (w : ℕ) (f : FieldId) (v : Value) (n : ℕ) (x y : Object)
+    → root_of h v ≡ Some n → object_at h n ≡ Some x → may_move p (type_of_field (field_at p f)) x ≡ true → object_at (moved_in p h w f false v) n ≡ Some y → y.owner ≡ owners.Field w f
+moved_takes p h w f v n x y root at may now = by_root (root_of h v) root moved
   where
     moves : moves_in p h f false v ≡ true
     moves = ap (may_move_root p h (type_of_field (field_at p f))) root ∙ ap (may_move_in p (type_of_field (field_at p f))) at ∙ may
 
     moved : object_at (change_some (root_of h v) (with_owner (owners.Field w f)) (displaced p h w f v)) n ≡ Some y
-    moved = subst (λ (b : Bool). object_at (moved_where b (root_of h v) (owners.Field w f) (displaced p h w f v)) n ≡ Some y) moves
-        (subst (λ (j : HeapContents). object_at j n ≡ Some y) (no_reset p h w f v false still) now)
+    moved = subst (λ (b : Bool). object_at (moved_where b (root_of h v) (owners.Field w f) (displaced p h w f v)) n ≡ Some y) moves now
 
     here : (z : Object) → only_at n (with_owner (owners.Field w f)) n z ≡ y → y.owner ≡ owners.Field w f
     here z is = let one : with_owner (owners.Field w f) z ≡ y = sym (ap (λ (b : Bool). (let u : Object = if b then with_owner (owners.Field w f) z else z in u)) (eq-eqb n n refl)) ∙ is in sym (ap (λ (u : Object). u.owner) one)
@@ -287,20 +286,32 @@ stored_takes p h w f v n x y still root at may now = by_root (root_of h v) root 
         let z = changed_back (only_at m (with_owner (owners.Field w f))) (displaced p h w f v) n y now' in
         here z.0 (subst (λ (j : ℕ). only_at j (with_owner (owners.Field w f)) n z.0 ≡ y) one z.2)
 
+pub stored_takes : (p : Program) (h : HeapContents) (w : ℕ) (f : FieldId) (v : Value) (n : ℕ) (x y : Object) → resets_holder p h w f false (field_of p h (values.Object w) f) v ≡ false
+    → root_of h v ≡ Some n → object_at h n ≡ Some x → may_move p (type_of_field (field_at p f)) x ≡ true → object_at (stored_owning p h w f false v) n ≡ Some y → y.owner ≡ owners.Field w f
+stored_takes p h w f v n x y still root at may now = moved_takes p h w f v n x y root at may (subst (λ (j : HeapContents). object_at j n ≡ Some y) (no_reset p h w f v false still) now)
+
 -- ---- links
 
 -- what moves or is given up is a root, which is not linked
+module _ (p : Program) (h : HeapContents) (w : ℕ) (f : FieldId) (bound : Bool) (v : Value) (links : HasEarlierLinks h) where
+  not_a_root : (n : ℕ) (x : Object) (l : Link) (u : Value) → object_at h n ≡ Some x → x.link ≡ Some l → root_of h u ≡ Some n → ⊥
+  not_a_root n x l u at link root = let never : None ≡ Some l = sym (roots_go_on-root h u n x links root at) ∙ link in cc
+
+  linked_owner : (n : ℕ) (x y : Object) (l : Link) → object_at h n ≡ Some x → x.link ≡ Some l → IsStored p h w f v n x y → y.owner ≡ x.owner
+  linked_owner n x y l at link (inl same) = ap (λ (z : Object). z.owner) same
+  linked_owner n x y l at link (inr (inl gone')) = absurd (not_a_root n x l (field_value p h w f) at link gone'.0.held)
+  linked_owner n x y l at link (inr (inr moved)) = absurd (not_a_root n x l v at link moved.0.root)
+
+  -- so it is without the reset
+  pub moved_links : HasEarlierLinks (put_field w f v (moved_in p h w f bound v))
+  moved_links = links_go_on h (put_field w f v (moved_in p h w f bound v)) links (λ n y l at link. (let x = moved_back p h w f v bound n y at in
+      let goes = stored_goes_on p h w f v n x.0 y x.2 in
+      let was : x.0.link ≡ Some l = sym goes.link ∙ link in
+      (x.0, x.1, was, linked_owner n x.0 y l x.1 was x.2, goes.finished)))
+
 pub stored_links : (p : Program) (h : HeapContents) (w : ℕ) (f : FieldId) (bound : Bool) (v : Value) → HasEarlierLinks h → resets_holder p h w f bound (field_of p h (values.Object w) f) v ≡ false
     → HasEarlierLinks (stored_owning p h w f bound v)
 stored_links p h w f bound v links still = links_go_on h (stored_owning p h w f bound v) links (λ n y l at link. (let x = stored_back p h w f v bound n y still at in
     let goes = stored_goes_on p h w f v n x.0 y x.2 in
     let was : x.0.link ≡ Some l = sym goes.link ∙ link in
-    (x.0, x.1, was, owner n x.0 y l x.1 was x.2, goes.finished)))
-  where
-    not_a_root : (n : ℕ) (x : Object) (l : Link) (u : Value) → object_at h n ≡ Some x → x.link ≡ Some l → root_of h u ≡ Some n → ⊥
-    not_a_root n x l u at link root = let never : None ≡ Some l = sym (roots_go_on-root h u n x links root at) ∙ link in cc
-
-    owner : (n : ℕ) (x y : Object) (l : Link) → object_at h n ≡ Some x → x.link ≡ Some l → IsStored p h w f v n x y → y.owner ≡ x.owner
-    owner n x y l at link (inl same) = ap (λ (z : Object). z.owner) same
-    owner n x y l at link (inr (inl gone')) = absurd (not_a_root n x l (field_value p h w f) at link gone'.0.held)
-    owner n x y l at link (inr (inr moved)) = absurd (not_a_root n x l v at link moved.0.root)
+    (x.0, x.1, was, linked_owner p h w f bound v links n x.0 y l x.1 was x.2, goes.finished)))

@@ -1,5 +1,5 @@
 -- The program is plain.
-use Rattle.std.proofs.Common.{true, false, true≢false, refl, sym, ap, ◌∙◌}
+use Rattle.std.proofs.Common.{true≢false, refl, sym, ap, ◌∙◌}
 use Rattle.soundness_laws.specs.Plain.{IsPlain}
 use Rattle.soundness_laws.specs.AgreementConditions.{MeetsFileConditions}
 use Rattle.soundness_laws.proofs.Tests.{meets_by_tests}

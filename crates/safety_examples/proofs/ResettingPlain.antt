@@ -1,5 +1,5 @@
 -- The program is plain.
-use Rattle.std.proofs.Common.{◌≡◌, ℕ, Bool, true, false, true≢false, Some, List, slice_get, refl, sym, ap, ◌∙◌, All}
+use Rattle.std.proofs.Common.{◌≡◌, ℕ, Bool, true, false, true≢false, Some, List, slice_get, inl, refl, sym, ap, ◌∙◌, All}
 use Rattle.program_model.specs.declared.kinds.BodyId.{BodyId}
 use Rattle.must_call_sets.specs.Bodies.{is_constructor}
 use Rattle.java_control.specs.Calls.{is_reset_of_this}
@@ -59,7 +59,7 @@ mild_step b k i t comes at = reached IsMild all_mild b.0 k i t comes at
 
 pub resetting_plain : IsPlain resetting
 resetting_plain = record {
-  stores = λ b {k} i t f d comes at is. sym (ap (is_mild b) is) ∙ (mild_step b k i t comes at).0;
+  stores = λ b {k} i t f d comes at is. inl (sym (ap (is_mild b) is) ∙ (mild_step b k i t comes at).0);
   calls = λ b {k} i t comes at makes this f. absurd (true≢false (sym this ∙ (mild_step b k i t comes at).1));
 }
 

@@ -26,3 +26,5 @@ pub mod ConnectingPrograms
 pub mod ConnectingControls
 pub mod ReconnectingPrograms
 pub mod ReconnectingControls
+pub mod ReplacingPrograms
+pub mod ReplacingControls

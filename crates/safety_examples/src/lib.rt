@@ -24,6 +24,8 @@
 //!   socket, on which nothing must be called, stores it, and connects it there.
 //! - A program that shows that what is said of accepted plain programs speaks of methods that create the obligation of an object with an owning field anew: `connect` of a
 //!   holder connects what its field holds, and `main` closes the holder, connects it, and closes it again.
+//! - A program that shows that what is said of accepted plain programs speaks of methods that store into owning fields: `reopen` of a holder closes what its field holds
+//!   and stores a new resource there, and `main` closes the holder, reopens it, and closes it again.
 //! - A program that shows that what is said of accepted plain programs speaks of promises that hold where a method throws: `shut` closes its argument by a call
 //!   that may throw, as both its annotations say, and `main` makes a socket and has it closed so.
 #![tactic(auto)]
@@ -38,6 +40,7 @@ mod laws;
 mod lending;
 mod reconnecting;
 mod reopening;
+mod replacing;
 mod resetting;
 mod streaming;
 mod throwing;
@@ -63,6 +66,9 @@ pub use reconnecting::{
 };
 pub use reopening::{
     reopening_has_main, reopening_is_accepted, reopening_is_plain, reopening_is_safe,
+};
+pub use replacing::{
+    replacing_has_main, replacing_is_accepted, replacing_is_plain, replacing_is_safe,
 };
 pub use resetting::{
     resetting_has_main, resetting_is_accepted, resetting_is_plain, resetting_is_safe,

@@ -18,6 +18,7 @@ use Rattle.content_laws.specs.FieldContents.{AreUnfinished, FieldsOwn}
 use Rattle.content_laws.specs.HeapAnew.{is_field_owner}
 use Rattle.content_laws.specs.Heaps.{HasEarlierLinks}
 use Rattle.content_laws.specs.Holders.{HoldersAreUnlinked, IsWithin}
+use Rattle.content_laws.specs.Frames.{HaveTargets}
 use Rattle.content_laws.specs.PlaceFacts.{AreWaiting, OwesOrHolds, RunsOn, may_owe}
 use Rattle.content_laws.specs.PlainForms.{HasPlainForms}
 use Rattle.content_laws.specs.Ranges.{LocalsInRange}
@@ -46,7 +47,7 @@ target_there h u o x at up = go (steps_up h u o up)
 
 module _ (p : Program) (ac : Accept p) (forms : HasPlainForms p) (h k : HeapContents) (have : HaveEnds h) (links : HasEarlierLinks h) (held : FieldsOwn p h) (holders : HoldersAreUnlinked (is_heavy_class p) h)
     (o : ℕ) (x y : Object) (at : object_at h o ≡ Some x) (heavy : is_heavy_class p x.class ≡ true) (done : x.finished ≡ true) (stay : RootsStay h k o) (class : y.class ≡ x.class) (bounded : set.is_subset y.must (must_of p y.class) ≡ true)
-    (fr : Frame) (frs : List Frame) (standing : AllStand p frs) (lower : All (λ (f : Frame). LocalsInRange h f.locals) frs) (stacked : IsCalledFrom p h fr frs) (above : ℕ → Bool) (waiting : AreWaiting p h above frs)
+    (fr : Frame) (frs : List Frame) (standing : AllStand p frs) (targets : HaveTargets p frs) (lower : All (λ (f : Frame). LocalsInRange h f.locals) frs) (stacked : IsCalledFrom p h fr frs) (above : ℕ → Bool) (waiting : AreWaiting p h above frs)
     (unfinished : AreUnfinished p h (fr ∷ frs)) where
   abbrev pub IsAnswered : ℕ → Type 0
   IsAnswered u =
@@ -59,7 +60,7 @@ module _ (p : Program) (ac : Accept p) (forms : HasPlainForms p) (h k : HeapCont
       frame.0,
       frame.1,
       frame.2,
-      lent_awaited p ac forms h k have links held holders o x y at heavy done stay class bounded frame.0 frame.1 fr frs standing stacked above waiting lower unfinished.1 t w there lends up,
+      lent_awaited p ac forms h k have links held holders o x y at heavy done stay class bounded frame.0 frame.1 fr frs standing targets stacked above waiting lower unfinished.1 t w there lends up,
     ))
     | inr field ↦ inr (inr (field.0, field.1, field.2, inr field.3))
   ]

@@ -84,7 +84,9 @@ use Rattle.content_laws.specs.Renewing.{HasInHand, IsLentFrom, is_renewed, is_re
 use Rattle.content_laws.specs.PlainForms.{HasPlainForms, IsPlainAction}
 use Rattle.content_laws.specs.FieldContents as fields
 use Rattle.content_laws.specs.FieldContents.{AreUnfinished, FieldsOwn, IsBeingMade, LinksLead, OwningFieldsOwn, TopRunsAlone}
-use Rattle.content_laws.specs.PlaceFacts.{AreWaiting, IsCovered, IsHeavyObject, RunsOn, Spares, gives_none, is_given, may_owe, renews_none}
+use Rattle.content_laws.specs.Covering.{IsCountedOn}
+use Rattle.content_laws.specs.Frames.{HaveTargets}
+use Rattle.content_laws.specs.PlaceFacts.{AreWaiting, IsCovered, IsHeavyObject, RunsOn, gives_none, is_given, may_owe, renews_none}
 use Rattle.content_laws.specs.Outcomes.{IsFault}
 use Rattle.content_laws.proofs.FactEnds.{end_row}
 use Rattle.content_laws.proofs.OwedFacts.{owed}
@@ -129,8 +131,8 @@ module _ (p : Program) (ac : Accept p) (forms : HasPlainForms p) (names : HasSma
     (shows : ShowsOperands p h fr caller (length frs + 1)) (led : LinksLead p h) (was_old : ℕ → Bool) (covered : IsCovered p h gives_none renews_none was_old (caller ∷ frs) fr) (dispatched : fields.IsDispatched p h fr caller)
     (waiting : AreWaiting p h was_old (caller ∷ frs)) (owning : OwningFieldsOwn p h) (sight : ActsInSight p h caller) (mine' : LocalsInRange h fr.locals) (ranges : LocalsInRange h caller.locals)
     (back : IsBackStep p (frame_steps p caller) (exception_class p h (thrown_in fr.locals q)) named t) (alone : TopRunsAlone p h (fr ∷ caller ∷ frs)) (unready : AreUnfinished p h (caller ∷ frs))
-    (lower : All (λ (f : Frame). LocalsInRange h f.locals) frs) (held : FieldsOwn p h) (holders : HoldersAreUnlinked (is_heavy_class p) h)
-    (apart' : (o : ℕ) (x : Object) → object_at h o ≡ Some x → IsHeavyObject p x → x.owner ≡ owners.Frame (length frs + 1) → is_renewed p h caller o ≡ false → (was_old o ≡ true) × Spares p h caller o) where
+    (lower : All (λ (f : Frame). LocalsInRange h f.locals) frs) (held : FieldsOwn p h) (holders : HoldersAreUnlinked (is_heavy_class p) h) (targets : HaveTargets p (caller ∷ frs))
+    (apart' : (o : ℕ) (x : Object) → object_at h o ≡ Some x → IsHeavyObject p x → x.owner ≡ owners.Frame (length frs + 1) → is_renewed p h caller o ≡ false → IsCountedOn p h was_old (caller ∷ frs) fr o x) where
   st : Stands p fr
   st = agrees.standing.0
 
@@ -448,7 +450,7 @@ module _ (p : Program) (ac : Accept p) (forms : HasPlainForms p) (names : HasSma
   -- ---- the object whose obligation the call creates anew
 
   holds : HoldsLent p h waiting.0 frs caller below
-  holds = holds_lent p ac forms h agrees.links held caller ranges below waiting.0 frs (is_given p h caller) (is_reread p h caller) waiting.3 holders
+  holds = holds_lent p ac forms h agrees.links held caller ranges below waiting.0 frs targets.0 (is_given p h caller) (is_reread p h caller) waiting.3 holders
 
   -- the frame that goes on owns it
   renewed_here : (n : ℕ) (x y : Object) → object_at h n ≡ Some x → x.finished ≡ true → is_heavy_class p x.class ≡ true → may_owe x ≡ true → x.owner ≡ owners.Frame at → is_renewed p h caller n ≡ true → y.class ≡ x.class
@@ -683,7 +685,7 @@ module _ (p : Program) (ac : Accept p) (forms : HasPlainForms p) (names : HasSma
         (target_owes p h turned.0 n target.0 x.0 target.1 x.1 turned.2 still_owes) ready_target.0 turned.1.0) [ inl it ↦ inl (it.key.owner it.kept it.own) | inr other ↦ inr other ]
 
     someones : IsSomeones
-    someones = by (target_answered p ac forms h heap agrees.ends agrees.links held holders n x.0 y x.1 heavy finished (stays n x.0 x.1 finished) x.2 bounded caller frs agrees.standing.1.1 lower agrees.stacked.1 waiting.0 waiting.4 unready
+    someones = by (target_answered p ac forms h heap agrees.ends agrees.links held holders n x.0 y x.1 heavy finished (stays n x.0 x.1 finished) x.2 bounded caller frs agrees.standing.1.1 targets.1 lower agrees.stacked.1 waiting.0 waiting.4 unready
         turned.0 target.0 target.1 turned.2 hand)
       where
         below_caller : (k : ℕ) → k ≤ length frs → IsAwaited p heap frs n y k → IsTracked p heap (after ∷ frs) n y k

@@ -1,5 +1,5 @@
 -- The name that a call counts for was called on the object of its receiver, when the frame of the call has ended.
-use Rattle.std.proofs.Common.{◌≡◌, inl, inr, ℕ, ◌+◌, ◌<◌, Bool, true, false, not, Option, Some, List, ◌∷◌, length, option_map, slice_get, refl, sym, ap, ◌∙◌}
+use Rattle.std.proofs.Common.{◌≡◌, inl, ℕ, ◌+◌, ◌<◌, Bool, true, false, not, Option, Some, List, ◌∷◌, length, option_map, slice_get, refl, sym, ap, ◌∙◌}
 use Rattle.std.specs.FinSet as set
 use Rattle.rlc_base.specs.declared.name_id.NameId.{NameId}
 use Rattle.std.proofs.lemmas.Bool.{and_parts}
@@ -41,7 +41,8 @@ use Rattle.content_laws.specs.Renewing.{is_renewed}
 use Rattle.content_laws.specs.PlainForms.{HasPlainForms}
 use Rattle.content_laws.specs.FieldContents as fields
 use Rattle.content_laws.specs.FieldContents.{LinksLead}
-use Rattle.content_laws.specs.PlaceFacts.{IsCovered, IsHeavyObject, OwesOrHolds, Spares, gives_none, renews_none}
+use Rattle.content_laws.specs.Covering.{IsCountedOn}
+use Rattle.content_laws.specs.PlaceFacts.{IsCovered, IsHeavyObject, OwesOrHolds, gives_none, renews_none}
 use Rattle.content_laws.proofs.Growth.{gone_grows}
 use Rattle.content_laws.proofs.CallNames.{IsReceiver, same_interest, small_name}
 use Rattle.content_laws.proofs.EndHeaps.{small_notes}
@@ -55,7 +56,7 @@ use Rattle.soundness_laws.proofs.EndedObjects.{IsKept, plain_interest}
 module _ (p : Program) (ac : Accept p) (forms : HasPlainForms p) (names : HasSmallInterests p) (fr caller : Frame) (frs : List Frame) (st : Stands p fr) (h : HeapContents) (links : HasEarlierLinks h) (classes : HasMadeClasses p h)
     (i : ℕ) (s : Step) (here : slice_get (frame_steps p fr) i ≡ Some s) (q : Completion) (is : s.action ≡ actions.End q) (j : ℕ) (t : Step) (there : slice_get (frame_steps p caller) j ≡ Some t) (named : MethodId)
     (answer : IsAnswered p h fr caller q t named) (led : LinksLead p h) (old : ℕ → Bool) (covered : IsCovered p h gives_none renews_none old (caller ∷ frs) fr) (dispatched : fields.IsDispatched p h fr caller)
-    (apart : (o : ℕ) (x : Object) → object_at h o ≡ Some x → IsHeavyObject p x → x.owner ≡ owners.Frame (length frs + 1) → is_renewed p h caller o ≡ false → (old o ≡ true) × Spares p h caller o) where
+    (apart : (o : ℕ) (x : Object) → object_at h o ≡ Some x → IsHeavyObject p x → x.owner ≡ owners.Frame (length frs + 1) → is_renewed p h caller o ≡ false → IsCountedOn p h old (caller ∷ frs) fr o x) where
   abbrev e : Option ClassId
   e = exception_class p h (thrown_in fr.locals q)
 

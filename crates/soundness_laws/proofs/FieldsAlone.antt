@@ -1,21 +1,19 @@
 -- What promises on a field is a method of a class that has no class under it but itself: the field is an owning one of that class.
 use Rattle.std.specs.List.{list_any}
-use Rattle.std.proofs.Common.{◌≡◌, ℕ, zero, suc, Bool, true, false, not, ◌&&◌, ◌||◌, Option, Some, None, IsSomeAnd, List, [], ◌∷◌, Contains, slice_get, inl, refl, sym, ap, ◌∙◌, subst, eqb-true, true≢false}
+use Rattle.std.proofs.Common.{◌≡◌, ℕ, suc, Bool, true, false, not, ◌&&◌, ◌||◌, Option, Some, None, IsSomeAnd, List, [], ◌∷◌, Contains, slice_get, inl, refl, sym, ap, ◌∙◌, subst, eqb-true, true≢false}
 use Rattle.std.proofs.lemmas.Bool.{or_left, or_right}
 use Rattle.program_model.specs.declared.kinds.ClassId.{ClassId}
 use Rattle.program_model.specs.declared.kinds.FieldId.{FieldId}
-use Rattle.program_model.specs.declared.kinds.MethodId.{MethodId}
 use Rattle.program_model.specs.declared.kinds.Target.{Target}
 use Rattle.program_model.specs.declared.kinds.Target.TheVariants as promised
 use Rattle.program_model.specs.declared.program.Class.{Class}
 use Rattle.program_model.specs.declared.program.Field.{Field}
-use Rattle.program_model.specs.declared.program.Method.{Method}
 use Rattle.program_model.specs.declared.program.Program.{Program}
 use Rattle.program_model.specs.declared.program.Promise.{Promise}
-use Rattle.program_model.specs.Lookups.{class_at, field_at, method_at}
+use Rattle.program_model.specs.Lookups.{class_at, field_at}
 use Rattle.program_model.specs.SuperTests.{classes_above, has_class, is_class, is_under}
 use Rattle.content_laws.specs.Accept.{Accept}
-use Rattle.content_laws.specs.AgreementConditions.{MeetsFileConditions, declares_owning, stands_under_owner}
+use Rattle.content_laws.specs.AgreementConditions.{MeetsFileConditions, declares_owning}
 use Rattle.content_laws.specs.AliasCases.{is_owning_in}
 use Rattle.content_laws.proofs.PromisedFields.{promised_field}
 use Rattle.dispatch_laws.specs.PlainCalls.{FieldsPromisedAlone}
@@ -85,6 +83,10 @@ module _ (p : Program) (ac : Accept p) (files : MeetsFileConditions p) where
           go false other =
               let passes : (not (is_class d c) && declares_owning p d) ≡ true = rw (other, declared) refl in
               absurd (true≢false (sym (any_class (λ e. not (is_class e c) && declares_owning p e) k.above.items d is passes) ∙ files.owners c k at))
+
+  -- so it is with the class of an owning field
+  pub owners_alone : (c : ClassId) (f : FieldId) (x : Field) → field_at p f ≡ Some x → x.owning ≡ true → is_under p c x.class ≡ true → c ≡ x.class
+  owners_alone c f x at owning under = alone_under c x.class (declares x.class f x at owning refl) under
 
   pub fields_promised_alone : FieldsPromisedAlone p
   fields_promised_alone m n c at promises under =

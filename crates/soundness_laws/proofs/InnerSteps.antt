@@ -94,7 +94,7 @@ light_is_met p frs h contents n x w f at owner light = go (is_unmet x) refl
   where
     go : (b : Bool) → is_unmet x ≡ b → is_unmet x ≡ false
     go false met = met
-    go true unmet = absurd (true≢false (sym (unmet_is_heavy p x unmet ((contents n x w f at (or_left (is_unmet x) (is_heavy_class p x.class) unmet) owner).own unmet)) ∙ light))
+    go true unmet = absurd (true≢false (sym (unmet_is_heavy p x unmet ((contents n x w f at (or_left (is_unmet x) (is_heavy_class p x.class) unmet) owner).own)) ∙ light))
 
 -- so a text displaces nothing unmet
 text_displaces_none : (p : Program) (frs : List Frame) (pos : Pos) (s : Option Store) (h : HeapContents) → HaveContents p frs h → IsLightStore p h s → displaced_entries p pos s h ≡ []

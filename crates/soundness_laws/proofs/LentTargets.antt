@@ -18,6 +18,7 @@ use Rattle.content_laws.specs.Agreement.{AllStand, Awaits, IsAwaited, IsCalledFr
 use Rattle.content_laws.specs.Chains.{HaveEnds}
 use Rattle.content_laws.specs.Configuration.{Frame}
 use Rattle.content_laws.specs.FieldContents.{AreUnfinished, FieldsOwn}
+use Rattle.content_laws.specs.Frames.{HaveTargets}
 use Rattle.content_laws.specs.Heaps.{HasEarlierLinks}
 use Rattle.content_laws.specs.HeapAnew.{is_field_owner}
 use Rattle.content_laws.specs.Holders.{HoldersAreUnlinked, IsWithin}
@@ -110,10 +111,10 @@ module _ (p : Program) (ac : Accept p) (forms : HasPlainForms p) (h k : HeapCont
   low frs (inr field) = no_field field.0 field.1 field.2
 
   -- `fr` is the frame above, which began with the call; `t` is the target, or what a frame holds in a field that has the target on its way
-  pub lent_awaited : (fr : Frame) (frs : List Frame) → AllStand p frs → IsCalledFrom p h fr frs → (above : ℕ → Bool) → AreWaiting p h above frs → All (λ (u : Frame). LocalsInRange h u.locals) frs → AreUnfinished p h frs
+  pub lent_awaited : (fr : Frame) (frs : List Frame) → AllStand p frs → HaveTargets p frs → IsCalledFrom p h fr frs → (above : ℕ → Bool) → AreWaiting p h above frs → All (λ (u : Frame). LocalsInRange h u.locals) frs → AreUnfinished p h frs
       → (t : ℕ) (x : Object) → object_at h t ≡ Some x → IsLentFrom p h frs t x.owner → IsWithin h t n → IsAwaited p k frs n y j
-  lent_awaited fr [] standing stacked above waiting in' unfinished t x there lent up = absurd lent
-  lent_awaited fr (caller ∷ rest) standing stacked above waiting in' unfinished t x there (is, inl owner) up =
+  lent_awaited fr [] standing targets stacked above waiting in' unfinished t x there lent up = absurd lent
+  lent_awaited fr (caller ∷ rest) standing targets stacked above waiting in' unfinished t x there (is, inl owner) up =
       rw (eq-eqb (length rest + 1) j (let both : owners.Frame (length rest + 1) ≡ owners.Frame j = sym owner ∙ ap (λ (u : Object). u.owner) same_object ∙ mine in (let one : length rest + 1 ≡ j = cc in one))) now
     where
       same : t ≡ n
@@ -130,7 +131,7 @@ module _ (p : Program) (ac : Accept p) (forms : HasPlainForms p) (h k : HeapCont
 
       before : Awaits p h caller n z
       before = owner_awaits p ac forms h caller waiting.0 rest standing.0 stacked.0.index stacked.0.step stacked.0.here (row_of stacked.0.step.action stacked.0.named stacked.0.calls) waiting.3
-          (holds_lent p ac forms h links owned caller caller_in standing.0 waiting.0 rest (is_given p h caller) (is_reread p h caller) waiting.3 unlinked)
+          (holds_lent p ac forms h links owned caller caller_in standing.0 waiting.0 rest targets.0 (is_given p h caller) (is_reread p h caller) waiting.3 unlinked)
           n z at heavy (inl owes) done renewed (ap (λ (u : Object). u.owner) (sym same_object) ∙ owner)
 
       now : Awaits p k caller n y
@@ -138,8 +139,8 @@ module _ (p : Program) (ac : Accept p) (forms : HasPlainForms p) (h k : HeapCont
         tracks = tracks_anew p h k (is_renewed p h caller n) (is_renewed p k caller n) caller n z y (renewed_on p h k caller n stay renewed) stay class bounded before.tracks;
         stays = before.stays;
       }
-  lent_awaited fr (caller ∷ rest) standing stacked above waiting in' unfinished t x there (is, inr (inl on)) up =
-      below (lent_awaited caller rest standing.1 stacked.1 waiting.0 waiting.4 (All-tail (λ (u : Frame). LocalsInRange h u.locals) caller rest in') unfinished.1 t x there on up)
+  lent_awaited fr (caller ∷ rest) standing targets stacked above waiting in' unfinished t x there (is, inr (inl on)) up =
+      below (lent_awaited caller rest standing.1 targets.1 stacked.1 waiting.0 waiting.4 (All-tail (λ (u : Frame). LocalsInRange h u.locals) caller rest in') unfinished.1 t x there on up)
     where
       lower : j ≤ length rest
       lower = low rest (lent_up p h have n z at done rest unfinished.1 t x there on up)
@@ -150,11 +151,11 @@ module _ (p : Program) (ac : Accept p) (forms : HasPlainForms p) (h k : HeapCont
           go : (b : Bool) → nat_eq (length rest + 1) j ≡ b → MatchBool b (Awaits p k caller n y) (IsAwaited p k rest n y j)
           go true here = absurd (let same = eqb-true (length rest + 1) j here in omega (arith, same, lower))
           go false other = further
-  lent_awaited fr (caller ∷ rest) standing stacked above waiting in' unfinished t x there (is, inr (inr (inl held))) up =
+  lent_awaited fr (caller ∷ rest) standing targets stacked above waiting in' unfinished t x there (is, inr (inr (inl held))) up =
       let field = made_on p h have n z at done caller rest unfinished t x there held up in no_field field.0 field.1 field.2
-  lent_awaited fr (caller ∷ rest) standing stacked above waiting in' unfinished t x there (is, inr (inr (inr held))) up =
+  lent_awaited fr (caller ∷ rest) standing targets stacked above waiting in' unfinished t x there (is, inr (inr (inr held))) up =
       held_on p h have n z at done t held.holder held.field x there held.owns up (λ owns. no_field held.holder held.field owns) (λ more. below more
-      (lent_awaited caller rest standing.1 stacked.1 waiting.0 waiting.4 (All-tail (λ (u : Frame). LocalsInRange h u.locals) caller rest in') unfinished.1 held.holder held.object held.at held.lends more))
+      (lent_awaited caller rest standing.1 targets.1 stacked.1 waiting.0 waiting.4 (All-tail (λ (u : Frame). LocalsInRange h u.locals) caller rest in') unfinished.1 held.holder held.object held.at held.lends more))
     where
       below : IsWithin h held.holder n → IsAwaited p k rest n y j → MatchBool (nat_eq (length rest + 1) j) (Awaits p k caller n y) (IsAwaited p k rest n y j)
       below more further = go (nat_eq (length rest + 1) j) refl

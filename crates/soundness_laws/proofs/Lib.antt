@@ -1,7 +1,6 @@
 pub mod Programs
 pub mod Makers
 pub mod MadeClasses
-pub mod Finalizers
 pub mod SuperCalls
 pub mod CreatingNothing
 pub mod SuperAliases
@@ -27,6 +26,7 @@ pub mod EndedObjects
 pub mod EndedNames
 pub mod CallEnds
 pub mod MainEnds
+pub mod OnObjects
 pub mod Steps
 pub mod Supporting
 pub mod SparedOwned

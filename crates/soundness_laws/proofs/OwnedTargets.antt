@@ -1,5 +1,5 @@
 -- The target of the top frame's call, which the frame owns: it is in the fact that says so.
-use Rattle.std.proofs.Common.{Bool, List, Some, false, inl, inr, length, slice_get, sym, true, true≢false, ℕ, ◌+◌, ◌∙◌, ◌≡◌}
+use Rattle.std.proofs.Common.{Bool, List, Some, false, inl, inr, length, slice_get, sym, true, true≢false, ℕ, ◌+◌, ◌∙◌, ◌≡◌, refl}
 use Rattle.program_model.specs.declared.program.Program.{Program}
 use Rattle.program_model.specs.Lookups.{method_at}
 use Rattle.ledger_obligations.specs.MustCallSets.{is_heavy_class}
@@ -21,11 +21,10 @@ use Rattle.content_laws.specs.Places.{place_value}
 use Rattle.content_laws.specs.PlaceFacts.{Covers, IsCovered, IsKeyed, IsOwned, OwesOrHolds, gives_none, owned, renews_none, unowned}
 use Rattle.content_laws.specs.PlainForms.{HasPlainForms}
 use Rattle.content_laws.specs.Renewing.{IsHeldBy, IsHeldByLent, IsLentFrom, renews}
-use Rattle.content_laws.proofs.InFields.{held_by_this}
 use Rattle.content_laws.proofs.HeavyFields.{claims_by, claims_owned}
 use Rattle.content_laws.proofs.Owners.{lent_not_from}
 use Rattle.content_laws.proofs.OwnerSteps.{own_frame}
-use Rattle.content_laws.proofs.RenewedOperands.{HoldsLent}
+use Rattle.content_laws.proofs.RenewedOperands.{HoldsLent, IsHeldOrLent, step_renews}
 use Rattle.content_laws.proofs.WaitingTargets.{target_mode, target_temp}
 
 module _ (p : Program) (ac : Accept p) (forms : HasPlainForms p) (h : HeapContents) (fr : Frame) (old : ℕ → Bool) (frs : List Frame) (st : Stands p fr) (i : ℕ) (s : Step) (here : slice_get (frame_steps p fr) i ≡ Some s) (row : IsCallRow s.action)
@@ -48,17 +47,19 @@ module _ (p : Program) (ac : Accept p) (forms : HasPlainForms p) (h : HeapConten
   not_inside held = let never : owners.Field held.holder held.field ≡ owners.Frame (length frs + 1) = sym held.owns ∙ mine in cc
 
   pub owned_target : IsInOwned
-  owned_target = by (covered (places.Temp temp.0) o x temp.1 temp.2 at heavy owes)
+  owned_target = by (covered (places.Temp temp.0) o x temp.1 refl temp.2 at heavy owes)
     where
+      not_other : IsHeldOrLent p h frs fr o x.owner → ⊥
+      not_other (inl lends) = not_lent lends
+      not_other (inr (inl held)) = not_held held
+      not_other (inr (inr inside)) = not_inside inside
+
       by : IsKeyed p h false false old frs fr (places.Temp temp.0) o x → IsInOwned
       by (owned c in' key) = elim (claims_by p (method_at p fr.method) c.origin c.fact key.owning) [
         | inl own ↦ (c, key, own, temp.3 c.fact.places in', (temp.0, in'))
-        | inr held ↦ absurd (not_held (held.1, held_by_this p h false false old frs fr o x c done held.0 held.1 (claims_owned p (method_at p fr.method) c.origin c.fact key.owning).0))
+        | inr held ↦ absurd (not_other (holds o x at heavy owes done (step_renews p h fr i s o here renewed) false false c held.0 held.1 (claims_owned p (method_at p fr.method) c.origin c.fact key.owning).0))
       ]
       by (unowned u) = absurd (elim (target_mode p ac forms h fr old frs st i s here row false false o x u.covers (temp.3 u.covers.fact.places u.here)) [
         | inl claimed ↦ true≢false (sym claimed ∙ u.unowned)
-        | inr mode ↦ elim mode [
-          | inl lends ↦ not_lent (u.covers.lends lends done).1
-          | inr anew ↦ elim (holds o x at heavy owes done false false u.covers anew) [ inl lends ↦ not_lent lends | inr held ↦ not_inside held ]
-        ]
+        | inr lends ↦ not_lent (u.covers.lends lends done).1
       ])

@@ -1,5 +1,5 @@
 -- A plain program that is accepted has the plain forms.
-use Rattle.std.proofs.Common.{◌≡◌, ℕ, zero, suc, true, false, not, ◌||◌, Option, Some, None, IsSomeAnd, List, [], ◌∷◌, inr, map, slice_get, refl, sym, ap, ◌∙◌, subst, true≢false}
+use Rattle.std.proofs.Common.{inl, ◌≡◌, ℕ, zero, suc, true, false, not, ◌||◌, Option, Some, None, IsSomeAnd, List, [], inr, map, slice_get, refl, sym, ap, ◌∙◌, subst, true≢false}
 use Rattle.std.proofs.lemmas.Bool.{and_from, or_left, or_right}
 use Rattle.program_model.specs.declared.kinds.BodyId.{BodyId}
 use Rattle.program_model.specs.declared.kinds.ClassId.{ClassId}
@@ -21,14 +21,16 @@ use Rattle.java_control.specs.Owned.{is_beside_method, is_owning, is_owning_fiel
 use Rattle.java_control.specs.Remaining.{Todo}
 use Rattle.java_control.specs.declared.action.Action.{Action}
 use Rattle.java_control.specs.declared.action.Action.TheVariants as actions
+use Rattle.program_model.proofs.HierarchyLaws.{is_under_law}
 use Rattle.content_laws.specs.Paths.{Comes, Move, move_of, relation_of}
 use Rattle.content_laws.specs.Accept.{Accept}
 use Rattle.content_laws.proofs.DispatchOwners.{runs_own}
 use Rattle.content_laws.specs.Constructors.{CallsSuperClass, IsOfSuperClass, StoresOwnField}
 use Rattle.content_laws.proofs.ConstructorReached.{has_its_place}
+use Rattle.soundness_laws.proofs.FieldsAlone.{owners_alone}
 use Rattle.soundness_laws.proofs.FieldShapes.{any_at, not_true, same_class, well_shaped}
 use Rattle.soundness_laws.proofs.MadeClasses.{concrete_by}
-use Rattle.content_laws.specs.PlainForms.{HasPlainForms, RunsOwnMethods, calls_constructor, run_by}
+use Rattle.content_laws.specs.PlainForms.{HasPlainForms, RunsOwnMethods, StoresFields, StoresObligations, calls_constructor, run_by}
 use Rattle.soundness_laws.specs.Plain.{IsPlain}
 use Rattle.content_laws.specs.AgreementConditions.{MeetsFileConditions}
 use Rattle.soundness_laws.proofs.PlainCalls.{plain_steps, text_updates}
@@ -122,11 +124,15 @@ module _ (p : Program) (ac : Accept p) where
         ap constructs (ap (method_in p) x.1) ∙ super_in_constructor p x.0 t.action calls (has_its_place p ac.well_formed.valid.typed b x.0 k i t x.1 comes there).0
 
     stores : (b : BodyId) {k : List Todo} (i : ℕ) (t : Move (List Todo)) (f : FieldId) (d : ℕ) → Comes (relation_of p b) k → slice_get ((relation_of p b).next k) i ≡ Some t
-        → t.action ≡ actions.PutOwn f d → (is_constructor p b ≡ true) × (has_field_place p b f ≡ true)
+        → t.action ≡ actions.PutOwn f d → StoresFields p b × (has_field_place p b f ≡ true)
     stores b {k = k} i t f d comes there is =
         let x = body_there p b k i t there in
         let own = subst (StoresOwnField p x.0) is (has_its_place p ac.well_formed.valid.typed b x.0 k i t x.1 comes there).1 in
-        (plain.stores b i t f d comes there is, own_place x.0 b f x.1 own.0 own.1)
+        (elim (plain.stores b i t f d comes there is) [ inl made ↦ inl made | inr anew ↦ inr (anew.0, anew.1) ], own_place x.0 b f x.1 own.0 own.1)
+
+    obligations : (b : BodyId) {k : List Todo} (i : ℕ) (t : Move (List Todo)) (f : FieldId) (d : ℕ) → Comes (relation_of p b) k → slice_get ((relation_of p b).next k) i ≡ Some t
+        → t.action ≡ actions.PutOwn f d → StoresObligations p b f
+    obligations b i t f d comes there is = elim (plain.stores b i t f d comes there is) [ inl made ↦ inl made | inr anew ↦ inr anew.2 ]
 
     parents : (b : BodyId) {k : List Todo} (i : ℕ) (t : Move (List Todo)) (m : MethodId) (f : FieldId) (y : Field) → Comes (relation_of p b) k
         → slice_get ((relation_of p b).next k) i ≡ Some t → calls_constructor p t.action ≡ true → called_method t.action ≡ Some m → field_at p f ≡ Some y → y.owning ≡ true
@@ -141,8 +147,12 @@ module _ (p : Program) (ac : Accept p) where
       supers = supers_come_first p ac.well_formed.valid.typed files.passes;
       super_calls = super_calls;
       stores = stores;
+      obligations = obligations;
       updates = text_updates p ac files plain;
       parents = parents;
       own = own_methods p ac;
+      library = λ c d under is. files.library c d ((is_under_law p ac.well_formed.valid.typed.hierarchy c d).0 under) is;
+      given = files.given.results;
+      alone = owners_alone p ac files;
       resets = λ b {k} i t comes there. inr (record { constructor = plain.calls b i t comes there });
     }

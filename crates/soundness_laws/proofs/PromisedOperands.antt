@@ -71,7 +71,8 @@ use Rattle.content_laws.specs.Renewing.{fact_as, is_renewed}
 use Rattle.content_laws.proofs.Carried.{HoldIt}
 use Rattle.content_laws.proofs.Readings.{places_as}
 use Rattle.content_laws.specs.PlainForms.{HasPlainForms, IsPlainAction, IsKeptBy, IsPlainCall, KeepsPromises, is_lent_parameter}
-use Rattle.content_laws.specs.PlaceFacts.{Covers, IsCovered, IsHeavyObject, OwesOrHolds, Spares, asked_by, asked_of, gives_none, is_lent, renews_none}
+use Rattle.content_laws.specs.Covering.{IsCountedOn}
+use Rattle.content_laws.specs.PlaceFacts.{Covers, IsCovered, IsHeavyObject, OwesOrHolds, asked_by, asked_of, gives_none, is_lent, is_lent_place, renews_none}
 use Rattle.content_laws.specs.Arguments.{HasArguments}
 use Rattle.content_laws.proofs.FactOrigins.{parameters_own, this_own}
 use Rattle.content_laws.proofs.SignedPromises.{Promises}
@@ -90,6 +91,7 @@ use Rattle.content_laws.proofs.Following.{breaks_nothing, same_body}
 use Rattle.content_laws.proofs.HeavyFields.{asked_here, covered_at, lent_not_alone, lent_tells}
 use Rattle.content_laws.specs.Naming.{IsOfItsKind}
 use Rattle.content_laws.proofs.NamedReached.{names_what_is_there}
+use Rattle.content_laws.proofs.SaidFacts.{lent_is_said}
 use Rattle.soundness_laws.proofs.KeptPromises.{GivesRoot, ReturnsAlias}
 use Rattle.soundness_laws.proofs.Makers.{IsRunBelow, body_method, run_below}
 use Rattle.soundness_laws.proofs.Programs.{is_programs}
@@ -102,7 +104,7 @@ each_of P (y ∷ ys) zero x all at = subst P (let both : Some y ≡ Some x = at 
 each_of P (y ∷ ys) (suc k) x all at = each_of P ys k x (All-tail P y ys all) at
 
 module _ (p : Program) (ac : Accept p) (forms : HasPlainForms p) (h : HeapContents) (fr caller : Frame) (rest : List Frame) (st : Stands p fr) (wait : WaitsFor p h caller fr) (old : ℕ → Bool) (covered : IsCovered p h gives_none renews_none old (caller ∷ rest) fr)
-    (args : HasArguments p caller fr) (apart : (o : ℕ) (x : Object) → object_at h o ≡ Some x → IsHeavyObject p x → x.owner ≡ owners.Frame (length rest + 1) → is_renewed p h caller o ≡ false → (old o ≡ true) × Spares p h caller o)
+    (args : HasArguments p caller fr) (apart : (o : ℕ) (x : Object) → object_at h o ≡ Some x → IsHeavyObject p x → x.owner ≡ owners.Frame (length rest + 1) → is_renewed p h caller o ≡ false → IsCountedOn p h old (caller ∷ rest) fr o x)
     (exits : EndsByException p h fr) (below : Stands p caller) (i j : ℕ) (s t : Step) (q : Completion) (here : slice_get (frame_steps p fr) i ≡ Some s) (is : s.action ≡ actions.End q)
     (there : slice_get (frame_steps p caller) j ≡ Some t) (row : IsCallRow t.action) (normal : exception_class p h (thrown_in fr.locals q) ≡ None → t.edge ≡ edges.Go)
     (thrown : (c : ClassId) → exception_class p h (thrown_in fr.locals q) ≡ Some c → (k : ClassId) × (t.edge ≡ edges.Throws k)) where
@@ -200,10 +202,10 @@ module _ (p : Program) (ac : Accept p) (forms : HasPlainForms p) (h : HeapConten
       module _ (r : Method) (own_method : method_at p fr.method ≡ Some r) (alike : HasAlike p r n) (xs : List Promise) (asks : AsksFor p st.number q xs) (k : ℕ) (u : Promise) (at : slice_get xs k ≡ Some u)
           (promises : Promises r u) where
         -- what is lent shows its names, but for those that are asked for before
-        of_lent : (place : Place) (v : ℕ) (f : OriginKind) → IsSmall place → root_of h (place_value p h fr.method fr.locals place) ≡ Some o → u.target ≡ promised.At v → is_lent p (Some r) f ≡ true → set.is_subset (asked_of p (Some r) f) x.called ≡ true
+        of_lent : (place : Place) (v : ℕ) (f : OriginKind) → IsSmall place → is_lent_place p fr place ≡ false → root_of h (place_value p h fr.method fr.locals place) ≡ Some o → u.target ≡ promised.At v → is_lent p (Some r) f ≡ true → set.is_subset (asked_of p (Some r) f) x.called ≡ true
             → ((cover : Covers p h false false old (caller ∷ rest) fr o x) → has cover.fact.places place ≡ true → (is_origin_at cover.origin.kind (Some v) ≡ true) × (cover.origin.kind ≡ f)) → set.is_subset u.names y.called ≡ true
-        of_lent place v f room root target lent asked its =
-            let found = covered_at p h false false old (caller ∷ rest) fr place o x (covered place o x room root before heavy owes) in
+        of_lent place v f room kept root target lent asked its =
+            let found = covered_at p h false false old (caller ∷ rest) fr place o x (covered place o x room kept root before heavy owes) in
             let cover : Covers p h false false old (caller ∷ rest) fr o x = found.0 in
             let origin = its cover found.1 in
             let lent' : is_lent p (method_at p fr.method) cover.origin.kind ≡ true = ap (is_lent p (method_at p fr.method)) origin.1 ∙ ap (λ (m : Option Method). is_lent p m f) own_method ∙ lent in
@@ -211,7 +213,7 @@ module _ (p : Program) (ac : Accept p) (forms : HasPlainForms p) (h : HeapConten
             within_trans u.names x.called y.called
             (within_trans u.names (set.union (asked_of p (method_at p fr.method) cover.origin.kind) x.called) x.called
             (shown_on_position p ac h fr st i s q here is old (caller ∷ rest) o x cover (unowned_moves p st.number cover.origin cover.fact (cover.lent lent').0 q) (set.union (asked_of p (method_at p fr.method) cover.origin.kind) x.called)
-            (cover.known done (lent_tells p fr.method cover.origin cover.fact (lent_not_alone p h false false old (caller ∷ rest) fr o x cover lent') lent') (apart o x before (done, heavy) mine unrenewed) refl) xs asks v k u at target origin.0)
+            (cover.known done (lent_tells p fr.method cover.origin cover.fact (lent_not_alone p h false false old (caller ∷ rest) fr o x cover lent') lent') (let it = apart o x before (done, heavy) mine unrenewed in (it.0, it.1, it.2, lent_is_said p (caller ∷ rest) fr cover.fact (cover.lent lent').1)) refl) xs asks v k u at target origin.0)
             (union_within (asked_of p (method_at p fr.method) cover.origin.kind) x.called x.called (ap (λ (z : Names). set.is_subset z x.called) asks' ∙ asked) (within_self x.called))) goes.called
 
         reached_here : (cover : Covers p h false false old (caller ∷ rest) fr o x) → Reach p st.number (relation_of p st.number) cover.origin fr.control cover.fact
@@ -221,7 +223,7 @@ module _ (p : Program) (ac : Accept p) (forms : HasPlainForms p) (h : HeapConten
         on_receiver target holds =
             let v = object_with_root h (operand_of caller.locals t.action 0) o (operand 0 holds) in
             let this : fr.locals.this ≡ values.Object v.0 = args.receiver j t v.0 there v.1 in
-            of_lent places.This 0 kinds.ThisRef tt (ap (root_of h) this ∙ ap Some v.2) target refl (empty_within x.called)
+            of_lent places.This 0 kinds.ThisRef tt refl (ap (root_of h) this ∙ ap Some v.2) target refl (empty_within x.called)
             (λ cover here'. (let own = this_own p ac st.number st.body st.at cover.origin fr.control cover.fact (reached_here cover) here' in (own, zero_origin cover.origin.kind own)))
 
         -- an owning parameter of a type that has an obligation takes the object, which then does not stay
@@ -258,7 +260,7 @@ module _ (p : Program) (ac : Accept p) (forms : HasPlainForms p) (h : HeapConten
             of_param : (param : ParamSig) → slice_get r.sig.params.items v ≡ Some param → param.owning ≡ false → set.is_subset u.names y.called ≡ true
             of_param param param_at free =
                 let lent : is_lent_parameter p (Some param) ≡ true = rw free refl in
-                of_lent (places.Var v) (v + 1) (kinds.Param v) room root target (ap (is_lent_parameter p) param_at ∙ lent)
+                of_lent (places.Var v) (v + 1) (kinds.Param v) room refl root target (ap (is_lent_parameter p) param_at ∙ lent)
                 (ap (λ (z : Names). set.is_subset z x.called) (ap (asked_by p) param_at ∙ asked_here p param lent) ∙ asked_there param param_at)
                 (λ cover here'. (let own = parameters_own p ac st.number st.body r v st.at (ap (method_at p) st.method ∙ own_method) parameter cover.origin fr.control cover.fact (reached_here cover) here' in
                 (own, parameter_origin v cover.origin.kind own)))

@@ -21,7 +21,7 @@ use Rattle.content_laws.specs.Agreement.{Agree, IsTracked, is_answering}
 use Rattle.content_laws.specs.Chains.{Ends, IsLast, ends_here, of_field}
 use Rattle.content_laws.specs.FieldContents.{HaveContents, IsContent, is_made_in, makes_holder, makes_object}
 use Rattle.content_laws.proofs.Landing.{tracked_held}
-use Rattle.soundness_laws.proofs.Finalizers.{holder_is_unmet}
+use Rattle.content_laws.proofs.UnmetHolders.{holder_is_unmet}
 
 -- a constructor of the class among the frames is a constructor
 made_is_being_made : (p : Program) (w : ℕ) (c : ClassId) (frs : List Frame) → is_made_in p w c frs ≡ true → is_being_made p frs w ≡ true

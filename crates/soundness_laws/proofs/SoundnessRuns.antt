@@ -30,6 +30,7 @@ use Rattle.content_laws.specs.LedgerRunsSteps.{step}
 use Rattle.content_laws.specs.Moves.{has_body}
 use Rattle.run_command.specs.Mains.{is_main_in}
 use Rattle.content_laws.specs.Frames.{HaveTargets}
+use Rattle.content_laws.specs.Linking.{LinkedAreAliases}
 use Rattle.content_laws.proofs.ThrownLaws.{targets_at_start, targets_step}
 use Rattle.content_laws.specs.Safety.{IsMain, IsSafe}
 use Rattle.content_laws.specs.LibraryClasses.{GivesLibraryClasses, ThrowsMadeClasses}
@@ -48,7 +49,7 @@ use Rattle.content_laws.proofs.GivenValues.{given_fits}
 use Rattle.content_laws.specs.Types.{TopHoldsWhatIsThere}
 use Rattle.content_laws.proofs.CoveringLaws.{types_at_start, types_step}
 use Rattle.content_laws.proofs.CoveringLaws.{ranges_at_start, ranges_step}
-use Rattle.content_laws.proofs.Runs.{fields_hold_at_start, fields_hold_step}
+use Rattle.content_laws.proofs.Runs.{fields_hold_at_start, fields_hold_step, top_stores_readily}
 use Rattle.content_laws.proofs.CoveringLaws.{being_made_at_start, being_made_step, covered_at_start, covered_step, fields_own_at_start, fields_own_step, linked_are_aliases_at_start, linked_are_aliases_step}
 use Rattle.content_laws.proofs.Chains.{object_there}
 use Rattle.content_laws.proofs.NameCounts.{accepted_names}
@@ -83,34 +84,37 @@ use Rattle.soundness_laws.proofs.Holders.{top_runs_alone}
 use Rattle.soundness_laws.proofs.KeptPromises.{TopShowsOperands}
 use Rattle.soundness_laws.proofs.PromisedOperands.{operands_shown}
 use Rattle.soundness_laws.proofs.SparedOwned.{apart_at_end}
+use Rattle.soundness_laws.proofs.OnObjects.{objects_at_start, objects_step}
 use Rattle.soundness_laws.proofs.Steps.{step_agrees}
-use Rattle.soundness_laws.proofs.Supporting.{supported}
+use Rattle.soundness_laws.proofs.Supporting.{stores_into_lent, supported}
 
 pub agree_at_start : (p : Program) → Accept p → GivesLibraryClasses p → (main : MethodId) (choices : Choices) → IsMain p main → Agree p (start_config p main choices)
 agree_at_start p ac gives main choices is = start_agrees p ac main gives choices is
 
-top_supported : (p : Program) (ac : Accept p) (forms : HasPlainForms p) (h : HeapContents) (es : List Entry) (frs : List Frame) → Agrees p frs h es → FieldsHold p frs h → AreCovered p h frs → AreFilled p h frs → IsSupported p h frs
-top_supported p ac forms h es [] agrees fields covered filled = tt
-top_supported p ac forms h es (fr ∷ frs) agrees fields covered filled = (
-  supported p ac forms h fr frs agrees.standing.0 agrees.standing.1 agrees.stacked fields.contents covered.0 covered.2 fields.unfinished fields.new filled.1,
+top_supported : (p : Program) (ac : Accept p) (forms : HasPlainForms p) (h : HeapContents) (es : List Entry) (frs : List Frame) → Agrees p frs h es → FieldsHold p frs h → AreCovered p h frs → AreFilled p h frs
+    → FieldsOwn p h → All (λ (f : Frame). LocalsInRange h f.locals) frs → HaveTargets p frs → LinkedAreAliases p h → AllActInSight p h frs → IsSupported p h frs
+top_supported p ac forms h es [] agrees fields covered filled owned ranges targets linked sight = tt
+top_supported p ac forms h es (fr ∷ frs) agrees fields covered filled owned ranges targets linked sight = (
+  supported p ac forms h fr frs agrees.standing.0 agrees.standing.1 agrees.stacked fields.contents covered.0 covered.2 fields.unfinished fields.new filled.1 agrees.links owned (All-head (λ (f : Frame). LocalsInRange h f.locals) fr frs ranges) targets.0 linked sight.0,
   top_runs_alone p ac forms h (fr ∷ frs) agrees.standing agrees.stacked fields.contents fields.new filled,
+  stores_into_lent p ac forms h fr frs agrees.standing.0 agrees.standing.1 agrees.stacked fields.contents covered.0 covered.2 fields.unfinished fields.new filled.1 agrees.links owned (All-head (λ (f : Frame). LocalsInRange h f.locals) fr frs ranges) targets.0 linked sight.0,
 )
 
 -- what the end of the top frame shows of what the one below has lent
-top_shows : (p : Program) (ac : Accept p) (forms : HasPlainForms p) (h : HeapContents) (es : List Entry) (frs : List Frame) → Agrees p frs h es → FieldsHold p frs h → AreCovered p h frs → All (λ (f : Frame). LocalsInRange h f.locals) frs → FieldsOwn p h → HaveArguments p frs
+top_shows : (p : Program) (ac : Accept p) (forms : HasPlainForms p) (h : HeapContents) (es : List Entry) (frs : List Frame) → Agrees p frs h es → FieldsHold p frs h → AreCovered p h frs → All (λ (f : Frame). LocalsInRange h f.locals) frs → FieldsOwn p h → HaveTargets p frs → HaveArguments p frs
     → TopEndsByException p h frs → TopShowsOperands p h frs
-top_shows p ac forms h es [] agrees fields covered ranges owned given exits = tt
-top_shows p ac forms h es (fr ∷ []) agrees fields covered ranges owned given exits = tt
-top_shows p ac forms h es (fr ∷ caller ∷ frs) agrees fields covered ranges owned given exits =
+top_shows p ac forms h es [] agrees fields covered ranges owned targets given exits = tt
+top_shows p ac forms h es (fr ∷ []) agrees fields covered ranges owned targets given exits = tt
+top_shows p ac forms h es (fr ∷ caller ∷ frs) agrees fields covered ranges owned targets given exits =
     λ below i j s t q o x anew w here is there row normal thrown before done heavy mine stays.
     operands_shown p ac forms h fr caller frs agrees.standing.0 agrees.stacked.0 covered.0 covered.2 given.0
-    (apart_at_end p ac forms h es fr caller frs agrees fields covered (All-head (λ (f : Frame). LocalsInRange h f.locals) caller frs (All-tail (λ (f : Frame). LocalsInRange h f.locals) fr (caller ∷ frs) ranges)) owned) exits below i j s t q here is there row normal thrown o x anew w before done heavy mine stays
+    (apart_at_end p ac forms h es fr caller frs agrees fields covered (All-head (λ (f : Frame). LocalsInRange h f.locals) caller frs (All-tail (λ (f : Frame). LocalsInRange h f.locals) fr (caller ∷ frs) ranges)) owned targets.1.0) exits below i j s t q here is there row normal thrown o x anew w before done heavy mine stays
 
 pub agree_step : (p : Program) → Accept p → HasPlainForms p → GivesLibraryClasses p → ThrowsMadeClasses p → (c d : Config) → Agree p c → HaveTargets p c.frames → FieldsHold p c.frames c.heap → AllActInSight p c.heap c.frames → AreCovered p c.heap c.frames → AreInRange c
-    → AreBeingMade p c.heap c.frames → HaveArguments p c.frames → TopEndsByException p c.heap c.frames → AreFilled p c.heap c.frames → FieldsOwn p c.heap → step p c ≡ went d → Agree p d
-agree_step p ac forms gives throws c d agrees targets fields sight covered ranges making given exits filled owned is =
-    step_agrees p ac forms (accepted_names p ac) gives throws c d agrees targets fields sight covered (top_supported p ac forms c.heap c.entries c.frames agrees fields covered filled) ranges making
-    (top_shows p ac forms c.heap c.entries c.frames agrees fields covered ranges.frames owned given exits) owned is
+    → AreBeingMade p c.heap c.frames → HaveArguments p c.frames → TopEndsByException p c.heap c.frames → AreFilled p c.heap c.frames → FieldsOwn p c.heap → LinkedAreAliases p c.heap → step p c ≡ went d → Agree p d
+agree_step p ac forms gives throws c d agrees targets fields sight covered ranges making given exits filled owned linked is =
+    step_agrees p ac forms (accepted_names p ac) gives throws c d agrees targets fields sight covered (top_supported p ac forms c.heap c.entries c.frames agrees fields covered filled owned ranges.frames targets linked sight) ranges making
+    (top_shows p ac forms c.heap c.entries c.frames agrees fields covered ranges.frames owned targets given exits) owned is
 
 -- an exception by which the top frame ends has a class
 top_exits : (p : Program) (ac : Accept p) (h : HeapContents) (frs : List Frame) → AllStand p frs → All (λ (fr : Frame). LocalsInRange h fr.locals) frs → HaveThrown p frs → TopEndsByException p h frs
@@ -176,10 +180,10 @@ holds_step p ac files plain c d holds is =
     let exits = top_exits p ac c.heap c.frames holds.agree.standing holds.ranges.frames holds.thrown in
     let declared = top_declared p ac c.heap c.frames exits (λ bound own. (holds.values bound own).frames) in
     let raises = top_raises p c.heap c.frames (raised_values_are_exceptions p ac files.texts c.heap c.frames (holds.values p.core.throwable files.texts).frames) in
-    let sight = acts_in_sight p ac files.light_texts files.text_fields c.heap c.frames holds.agree.links (λ bound own. (holds.values bound own).frames) holds.types.frames holds.aliases holds.reached
-    (all_update_texts p ac forms files.texts files.light_texts c.heap c.frames (holds.values p.core.throwable files.texts).frames holds.types.frames holds.types.fields holds.aliases) in
+    let sight = acts_in_sight p ac files.light_texts files.text_fields forms.library files.given.string c.heap c.frames holds.agree.standing holds.agree.links (λ bound own. (holds.values bound own).frames) holds.types.frames holds.aliases holds.reached
+    (all_update_texts p ac forms files.texts files.light_texts c.heap c.frames (holds.values p.core.throwable files.texts).frames holds.types.frames holds.types.fields holds.aliases) holds.objects in
     let alone = top_runs_alone p ac forms c.heap c.frames holds.agree.standing holds.agree.stacked holds.fields.contents holds.fields.new holds.filled in
-    let agree' = agree_step p ac forms files.given files.exceptions c d holds.agree holds.targets holds.fields sight holds.covered holds.ranges holds.making holds.arguments exits holds.filled holds.owned is in record {
+    let agree' = agree_step p ac forms files.given files.exceptions c d holds.agree holds.targets holds.fields sight holds.covered holds.ranges holds.making holds.arguments exits holds.filled holds.owned holds.aliases is in record {
       agree = agree';
       targets = targets_step p ac c d holds.targets is;
       types = types_step p ac forms files.given.string c d holds.agree.classes (top_there c.heap c.frames holds.ranges.frames) holds.types is;
@@ -187,14 +191,16 @@ holds_step p ac files plain c d holds is =
       covered = covered_step p ac forms alike (accepted_names p ac) files.light_texts c d holds.agree holds.targets holds.types holds.ranges holds.fields holds.making holds.aliases holds.owned holds.covered holds.arguments declared raises sight alone is;
       making = being_made_step p ac forms alike (accepted_names p ac) files.light_texts c d holds.agree holds.targets holds.types holds.ranges holds.fields holds.making holds.aliases holds.owned holds.covered holds.arguments declared raises sight alone is;
       aliases = linked_are_aliases_step p ac forms alike (accepted_names p ac) files.light_texts c d holds.agree holds.targets holds.types holds.ranges holds.fields holds.making holds.aliases holds.owned holds.covered holds.arguments declared raises sight alone is;
-      fields = fields_hold_step p ac forms c d holds.agree holds.targets holds.ranges holds.covered holds.fields
+      fields = fields_hold_step p ac forms c d holds.agree holds.targets holds.ranges holds.covered holds.fields holds.owned holds.aliases
           (λ fr caller rest frames. top_making p c.heap c.frames fr caller rest frames holds.making) sight agree'.links holds.arguments (top_ends_by_class p c.heap c.frames exits) is;
       owned = fields_own_step p ac forms alike (accepted_names p ac) files.light_texts c d holds.agree holds.targets holds.types holds.ranges holds.fields holds.making holds.aliases holds.owned holds.covered holds.arguments declared raises sight alone is;
       arguments = arguments_step p ac forms c d holds.agree.classes holds.agree.standing holds.targets holds.arguments is;
       reached = links_reach_aliased_step p ac forms files.light_texts c d holds.agree holds.targets holds.ranges holds.fields holds.making holds.values holds.reached is;
       values = classes_step p ac forms (plain_results p ac files plain) c d holds.agree holds.targets exits holds.values is;
       thrown = thrown_step p ac forms files.texts c d holds.agree holds.targets holds.values holds.thrown is;
-      filled = filled_step p ac forms c d holds.agree.classes holds.agree.standing holds.targets holds.ranges holds.fields.new holds.filled sight is;
+      filled = filled_step p ac forms c d holds.agree.classes holds.agree.standing holds.targets holds.ranges holds.fields.new holds.filled sight holds.fields.unfinished
+          (top_stores_readily p ac forms c holds.agree holds.targets holds.ranges holds.covered holds.fields holds.owned holds.aliases sight) is;
+      objects = objects_step p ac forms files.given c d holds.agree.standing holds.agree.classes holds.targets holds.objects is;
     }
 
 module _ (p : Program) (ac : Accept p) (gives : GivesLibraryClasses p) (main : MethodId) (choices : Choices) (is : IsMain p main) where
@@ -218,6 +224,7 @@ module _ (p : Program) (ac : Accept p) (gives : GivesLibraryClasses p) (main : M
         values = classes_at_start p ac main m choices at body;
         thrown = thrown_at_start p main choices;
         filled = filled_at_start p main choices;
+        objects = objects_at_start p main m choices at (static_main m main');
       }
 
 module _ (p : Program) (ac : Accept p) (files : MeetsFileConditions p) (plain : IsPlain p) where

@@ -13,11 +13,12 @@ use Rattle.content_laws.specs.Arguments.{HaveArguments}
 use Rattle.content_laws.specs.ClassValues.{HaveClasses}
 use Rattle.content_laws.specs.Thrown.{HaveThrown}
 use Rattle.content_laws.specs.Filled.{AreFilled}
+use Rattle.content_laws.specs.Sight.{RunOnObjects}
 
 -- The frames and the heap agree with the facts of the flow rules, `this` stands where it is taken, no object stands where the static type is
 -- no class type, each object that is held is there, the places of frames are in facts that are true of what they hold, what is being made
 -- is not finished, what is linked is an alias, of an argument that some method takes, fields hold what they own, and own what they hold, and calls on links lead to their ends, frames hold the arguments of their calls, an object of a class or null stands where the static
--- type is under the class, exceptions on their way out stand in their temps, and constructors have stored what the owning fields of their objects hold.
+-- type is under the class, exceptions on their way out stand in their temps, constructors have stored what the owning fields of their objects hold, and frames with a `this` run on objects.
 pub record Holds (p : Program) (c : Config) : Type 0 where
   pub agree : Agree p c
   pub targets : HaveTargets p c.frames
@@ -33,3 +34,4 @@ pub record Holds (p : Program) (c : Config) : Type 0 where
   pub values : HaveClasses p c
   pub thrown : HaveThrown p c.frames
   pub filled : AreFilled p c.heap c.frames
+  pub objects : RunOnObjects p c.frames

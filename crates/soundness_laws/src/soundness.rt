@@ -12,6 +12,7 @@ ghost use Rattle.content_laws.specs.LedgerRunsSteps.{step};
 ghost use Rattle.content_laws.specs.Safety.{IsMain, IsSafe, IsSafeAt};
 ghost use Rattle.content_laws.specs.Frames.{HaveTargets};
 ghost use Rattle.content_laws.specs.Agreement.{Agree};
+ghost use Rattle.content_laws.specs.Linking.{LinkedAreAliases};
 ghost use Rattle.content_laws.specs.LibraryClasses.{GivesLibraryClasses, ThrowsMadeClasses};
 ghost use Rattle.content_laws.specs.PlainForms.{HasPlainForms};
 ghost use Rattle.content_laws.specs.FieldContents.{FieldsHold, FieldsOwn, HaveContents};
@@ -40,7 +41,7 @@ pub fn holds_at_start()
 /// Each step that is not stray keeps the agreement with the facts, in an accepted program of the plain forms, by what else holds.
 pub fn agree_step()
     ensures { (p : Program) → Accept p → HasPlainForms p → GivesLibraryClasses p → ThrowsMadeClasses p → (c d : Config) → Agree p c → HaveTargets p c.frames → FieldsHold p c.frames c.heap → AllActInSight p c.heap c.frames → AreCovered p c.heap c.frames
-        → AreInRange c → AreBeingMade p c.heap c.frames → HaveArguments p c.frames → TopEndsByException p c.heap c.frames → AreFilled p c.heap c.frames → FieldsOwn p c.heap → step p c ≡ went d → Agree p d }
+        → AreInRange c → AreBeingMade p c.heap c.frames → HaveArguments p c.frames → TopEndsByException p c.heap c.frames → AreFilled p c.heap c.frames → FieldsOwn p c.heap → LinkedAreAliases p c.heap → step p c ≡ went d → Agree p d }
 {}
 
 /// Each step that is not stray keeps all invariants, in an accepted plain program.

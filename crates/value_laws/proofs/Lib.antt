@@ -17,7 +17,7 @@ mod CaughtClasses
 mod ClassFields
 mod ClassOwningFields
 mod ClassBegun
-mod Made
+pub mod Made
 pub mod ClassLaws
 pub mod ClassArguments
 pub mod TextValues
@@ -57,6 +57,7 @@ pub use Rattle.frame_laws.proofs.EntryFacts
 pub use Rattle.frame_laws.proofs.FieldResets
 pub use Rattle.frame_laws.proofs.HeldPlaces
 pub use Rattle.frame_laws.proofs.LentThis
+pub use Rattle.frame_laws.proofs.ThisTemps
 pub use Rattle.frame_laws.proofs.FactEnds
 pub use Rattle.frame_laws.proofs.FactOrigins
 pub use Rattle.dispatch_laws.proofs.FieldPlaces
@@ -109,6 +110,7 @@ pub use Rattle.dispatch_laws.proofs.StartReached
 pub use Rattle.frame_laws.proofs.Steps
 pub use Rattle.dispatch_laws.proofs.ResetsUp
 pub use Rattle.dispatch_laws.proofs.StoredObjects
+pub use Rattle.dispatch_laws.proofs.StoreResets
 pub use Rattle.frame_laws.proofs.Stores
 pub use Rattle.frame_laws.proofs.Storing
 pub use Rattle.frame_laws.proofs.TargetBegun
@@ -126,6 +128,8 @@ pub use Rattle.frame_laws.proofs.Tops
 pub use Rattle.frame_laws.proofs.Spared
 pub use Rattle.frame_laws.proofs.SparingCalls
 pub use Rattle.frame_laws.proofs.SparingEnds
+pub use Rattle.frame_laws.proofs.SettledFrames
+pub use Rattle.frame_laws.proofs.StoreWays
 pub use Rattle.frame_laws.proofs.SparingStays
 pub use Rattle.frame_laws.proofs.WaysOverSteps
 pub use Rattle.frame_laws.proofs.OldObjects

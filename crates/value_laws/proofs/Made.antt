@@ -283,7 +283,7 @@ names_making p bound typed a named row kind makes = absurd makes
 -- ---- `this` of a call
 
 -- what runs for an object of the class is declared by the class or one above it, unless it is the named method
-runs_above : (p : Program) → IsTypedProgram p → (named : MethodId) (x : Method) (c : ClassId) (running : Method) → method_at p (overriding p named x c) ≡ Some running
+pub runs_above : (p : Program) → IsTypedProgram p → (named : MethodId) (x : Method) (c : ClassId) (running : Method) → method_at p (overriding p named x c) ≡ Some running
     → (overriding p named x c ≡ named) ⊎ (is_under p c running.class ≡ true)
 runs_above p typed named x c running at = go (x.is_private || not (is_under p c x.class)) (method_run p x c) refl at
   where

@@ -11,6 +11,7 @@ pub use Rattle.frame_laws.specs.Agreement
 pub use Rattle.dispatch_laws.specs.AgreementConditions
 pub use Rattle.frame_laws.specs.Aliases
 pub use Rattle.frame_laws.specs.Anew
+pub use Rattle.frame_laws.specs.Lending
 pub use Rattle.dispatch_laws.specs.AnnotationCases
 pub use Rattle.frame_laws.specs.Arguments
 pub use Rattle.frame_laws.specs.CalledRows
