@@ -6,6 +6,7 @@ pub mod WaysOverSteps
 pub mod OldObjects
 pub mod SettledFrames
 pub mod StoreWays
+pub mod MadeWays
 pub mod SparingEnds
 pub mod Tests
 pub use Rattle.place_laws.proofs.Alike

@@ -23,8 +23,8 @@ use Rattle.ledger_runs.specs.Configuration.{Frame}
 use Rattle.agreement.specs.Chains.{HaveEnds}
 use Rattle.agreement.proofs.Tops.{ends_above, no_way_round}
 use Rattle.agreement.specs.FieldContents.{AreNew, AreUnfinished, DeclaresOwning, RunOnOthers}
-use Rattle.agreement.specs.PlaceFacts.{EndsBelow, IsHeavyObject, IsSpared, RunsOn, is_frame_from}
-use Rattle.agreement.specs.Renewing.{HasInHand, IsHeldBy, IsLentFrom, is_declared_beside, is_renewed}
+use Rattle.agreement.specs.PlaceFacts.{EndsBelow, IsSpared, RunsOn, is_frame_from}
+use Rattle.agreement.specs.Renewing.{HasInHand, IsHeldBy, IsLentFrom, IsMadeBy, IsWholeObject, is_declared_beside, is_renewed}
 
 -- ---- frames
 
@@ -93,25 +93,36 @@ module _ (p : Program) (h : HeapContents) (have : HaveEnds h) (below : List Fram
       constructor : constructs (method_at p fr.method) ≡ true
       constructor = (and_parts (constructs (method_at p fr.method)) (not (is_present (alias_in (method_at p fr.method)))) makes).0
 
+  -- nor does one make it
+  making_above : (fr : Frame) (mid : List Frame) → AreNew p (fr ∷ (mid ++ below)) → AreUnfinished p h (fr ∷ (mid ++ below)) → (o : ℕ) (x : Object) → IsWithin h t o → object_at h o ≡ Some x → IsMadeBy p fr o → ⊥
+  making_above fr mid new unfinished o x up at made =
+      let here = declares p fr.method made.field made.declared in
+      let makes = (and_parts (constructs (method_at p fr.method)) (not (is_present (alias_in (method_at p fr.method)))) made.alone).0 in
+      let open' = unfinished.0 o x here makes made.runs at in
+      let same = same_object o x up at (ap is_field_owner (have.unfinished o x at open')) in
+      elsewhere mid below o (new.0 o here makes made.runs) (subst (λ (w : ℕ). RunsOn w below) same.0 (known.older (ap (λ (v : Object). v.finished) same.1 ∙ open')))
+
   -- the way from what is lent to a frame from there on, where what is lent to the last of these is none of this
-  module _ (rest : (o : ℕ) (x : Object) → IsWithin h t o → object_at h o ≡ Some x → IsHeavyObject p x → IsLentFrom p h below o x.owner → ⊥) where
-    pub lent_above : (mid : List Frame) → AreNew p (mid ++ below) → AreUnfinished p h (mid ++ below) → (o : ℕ) (x : Object) → IsWithin h t o → object_at h o ≡ Some x → IsHeavyObject p x → IsLentFrom p h (mid ++ below) o x.owner → ⊥
+  module _ (rest : (o : ℕ) (x : Object) → IsWithin h t o → object_at h o ≡ Some x → IsWholeObject p x → IsLentFrom p h below o x.owner → ⊥) where
+    pub lent_above : (mid : List Frame) → AreNew p (mid ++ below) → AreUnfinished p h (mid ++ below) → (o : ℕ) (x : Object) → IsWithin h t o → object_at h o ≡ Some x → IsWholeObject p x → IsLentFrom p h (mid ++ below) o x.owner → ⊥
     lent_above [] new unfinished o x up at heavy lent = rest o x up at heavy lent
     lent_above (fr ∷ mid) new unfinished o x up at heavy (renewed, inl owner) = owned_above (length (mid ++ below)) o x (length_both mid below) up at owner
     lent_above (fr ∷ mid) new unfinished o x up at heavy (renewed, inr (inl lent)) = lent_above mid new.1 unfinished.1 o x up at heavy lent
     lent_above (fr ∷ mid) new unfinished o x up at heavy (renewed, inr (inr (inl held))) = made_above fr mid new unfinished o x up at held
-    lent_above (fr ∷ mid) new unfinished o x up at heavy (renewed, inr (inr (inr held))) =
+    lent_above (fr ∷ mid) new unfinished o x up at heavy (renewed, inr (inr (inr (inl held)))) =
         lent_above mid new.1 unfinished.1 held.holder held.object
-        (within_further h t o held.holder up (by_field o held.holder held.holder held.field x at held.owns (itself held.holder))) held.at (held.finished, held.heavy) held.lends
+        (within_further h t o held.holder up (by_field o held.holder held.holder held.field x at held.owns (itself held.holder))) held.at (held.whole, held.heavy) held.lends
+    lent_above (fr ∷ mid) new unfinished o x up at heavy (renewed, inr (inr (inr (inr made)))) = making_above fr mid new unfinished o x up at made.0
 
     -- and so it is with what a frame from there on has in hand
-    in_hand_above : (fr : Frame) (mid : List Frame) → AreNew p (fr ∷ (mid ++ below)) → AreUnfinished p h (fr ∷ (mid ++ below)) → (x : Object) → object_at h t ≡ Some x → IsHeavyObject p x
+    in_hand_above : (fr : Frame) (mid : List Frame) → AreNew p (fr ∷ (mid ++ below)) → AreUnfinished p h (fr ∷ (mid ++ below)) → (x : Object) → object_at h t ≡ Some x → IsWholeObject p x
         → HasInHand p h (IsLentFrom p h (mid ++ below)) (length (mid ++ below) + 1) fr t x.owner → ⊥
     in_hand_above fr mid new unfinished x at heavy (inl owner) = owned_above (length (mid ++ below)) t x (length_both mid below) (itself t) at owner
     in_hand_above fr mid new unfinished x at heavy (inr (inl lent)) = lent_above mid new.1 unfinished.1 t x (itself t) at heavy lent
     in_hand_above fr mid new unfinished x at heavy (inr (inr (inl held))) = made_above fr mid new unfinished t x (itself t) at held
-    in_hand_above fr mid new unfinished x at heavy (inr (inr (inr held))) =
-        lent_above mid new.1 unfinished.1 held.holder held.object (by_field t held.holder held.holder held.field x at held.owns (itself held.holder)) held.at (held.finished, held.heavy) held.lends
+    in_hand_above fr mid new unfinished x at heavy (inr (inr (inr (inl held)))) =
+        lent_above mid new.1 unfinished.1 held.holder held.object (by_field t held.holder held.holder held.field x at held.owns (itself held.holder)) held.at (held.whole, held.heavy) held.lends
+    in_hand_above fr mid new unfinished x at heavy (inr (inr (inr (inr made)))) = making_above fr mid new unfinished t x (itself t) at made.0
 
   -- both are above the target
   comparable : (o : ℕ) → IsWithin h t o → IsComparable h o z
@@ -120,7 +131,7 @@ module _ (p : Program) (h : HeapContents) (have : HaveEnds h) (below : List Fram
   -- ---- what is spared
 
   -- the call that began the frame renews what is on the way
-  renewed_below : IsSpared p h below z → (o : ℕ) (x : Object) → IsWithin h t o → object_at h o ≡ Some x → IsHeavyObject p x → IsLentFrom p h below o x.owner → ⊥
+  renewed_below : IsSpared p h below z → (o : ℕ) (x : Object) → IsWithin h t o → object_at h o ≡ Some x → IsWholeObject p x → IsLentFrom p h below o x.owner → ⊥
   renewed_below spared o x up at heavy lent = go below spared lent
     where
       go : (frs : List Frame) → IsSpared p h frs z → IsLentFrom p h frs o x.owner → ⊥
@@ -130,7 +141,7 @@ module _ (p : Program) (h : HeapContents) (have : HaveEnds h) (below : List Fram
 -- A reset reaches no object `z` that the call spares which began the frame on `below`, and whose way up ends below that frame: here the target `t` is in hand of that frame, or of one
 -- above it.
 pub spared_is_not_reached : (p : Program) (h : HeapContents) → HaveEnds h → (below : List Frame) (z t : ℕ) → IsSpared p h below z → EndsBelow h below z → (fr : Frame) (mid : List Frame)
-    → AreNew p (fr ∷ (mid ++ below)) → AreUnfinished p h (fr ∷ (mid ++ below)) → (x : Object) → object_at h t ≡ Some x → IsHeavyObject p x
+    → AreNew p (fr ∷ (mid ++ below)) → AreUnfinished p h (fr ∷ (mid ++ below)) → (x : Object) → object_at h t ≡ Some x → IsWholeObject p x
     → HasInHand p h (IsLentFrom p h (mid ++ below)) (length (mid ++ below) + 1) fr t x.owner → IsWithin h t z → ⊥
 spared_is_not_reached p h have below z t spared known fr mid new unfinished x at heavy hand within =
     in_hand_above p h have below z t known within (renewed_below p h have below z t known within spared) fr mid new unfinished x at heavy hand
@@ -174,17 +185,18 @@ module _ (p : Program) (h : HeapContents) (have : HaveEnds h) (g : Frame) (below
       go (inr above) = elim (on_from_holder h z w o f y keeps.at keeps.owns above) [ inl same ↦ sym same | inr round ↦ absurd (no_way_round h have o w v x at owned round) ]
 
   -- so nothing on the way is in hand of the frame while it waits
-  waiting : (o : ℕ) (x : Object) → IsWithin h t o → object_at h o ≡ Some x → IsHeavyObject p x → IsLentFrom p h (g ∷ below) o x.owner → ⊥
+  waiting : (o : ℕ) (x : Object) → IsWithin h t o → object_at h o ≡ Some x → IsWholeObject p x → IsLentFrom p h (g ∷ below) o x.owner → ⊥
   waiting o x up at heavy (renewed, inl owner) = owned_above p h have below z t known within (length below) o x (omega arith) up at owner
   waiting o x up at heavy (renewed, inr (inl lent)) = true≢false (sym renewed ∙ ap (is_renewed p h g) (keeps.one o x.owner lent) ∙ keeps.holder)
   waiting o x up at heavy (renewed, inr (inr (inl held))) = true≢false (sym (and_parts (constructs (method_at p g.method)) (not (is_present (alias_in (method_at p g.method)))) held.0).0 ∙ keeps.method)
-  waiting o x up at heavy (renewed, inr (inr (inr held))) =
+  waiting o x up at heavy (renewed, inr (inr (inr (inl held)))) =
       let same : held.holder ≡ w = (let both : values.Object held.holder ≡ values.Object w = sym held.runs ∙ keeps.runs in cc) in
       true≢false (sym renewed ∙ ap (is_renewed p h g) (sibling o x held.field at (held.owns ∙ ap (λ (n : ℕ). owners.Field n held.field) same) up) ∙ keeps.content)
+  waiting o x up at heavy (renewed, inr (inr (inr (inr made)))) = true≢false (sym (and_parts (constructs (method_at p g.method)) (not (is_present (alias_in (method_at p g.method)))) made.0.alone).0 ∙ keeps.method)
 
 -- A reset whose target is in hand of a frame above `g` reaches no such content.
 pub content_is_not_reached : (p : Program) (h : HeapContents) → HaveEnds h → (g : Frame) (below : List Frame) (w : ℕ) (f : FieldId) (z : ℕ) (y : Object) → KeepsContent p h g below w f z y → (t : ℕ) → EndsBelow h below z
-    → (fr : Frame) (mid : List Frame) → AreNew p (fr ∷ (mid ++ (g ∷ below))) → AreUnfinished p h (fr ∷ (mid ++ (g ∷ below))) → (x : Object) → object_at h t ≡ Some x → IsHeavyObject p x
+    → (fr : Frame) (mid : List Frame) → AreNew p (fr ∷ (mid ++ (g ∷ below))) → AreUnfinished p h (fr ∷ (mid ++ (g ∷ below))) → (x : Object) → object_at h t ≡ Some x → IsWholeObject p x
     → HasInHand p h (IsLentFrom p h (mid ++ (g ∷ below))) (length (mid ++ (g ∷ below)) + 1) fr t x.owner → IsWithin h t z → ⊥
 content_is_not_reached p h have g below w f z y keeps t known fr mid new unfinished x at heavy hand within =
     in_hand_above p h have (g ∷ below) z t (ends_below_more g known) within (waiting p h have g below w f z y keeps t known within) fr mid new unfinished x at heavy hand

@@ -21,8 +21,8 @@ use Rattle.heap_laws.proofs.WaysUp.{has_holders_top, on_from_holder, one_top, ow
 use Rattle.ledger_runs.specs.Configuration.{Frame}
 use Rattle.agreement.specs.Chains.{HaveEnds}
 use Rattle.agreement.specs.FieldContents.{AreNew, AreUnfinished, DeclaresOwning, RunOnOthers}
-use Rattle.agreement.specs.PlaceFacts.{EndsBelow, IsHeavyObject, IsSpared, RunsOn, is_frame_from}
-use Rattle.agreement.specs.Renewing.{HasInHand, IsHeldBy, IsHeldByLent, IsLentFrom, IsOwnedByThis, is_renewed}
+use Rattle.agreement.specs.PlaceFacts.{EndsBelow, IsSpared, RunsOn, is_frame_from}
+use Rattle.agreement.specs.Renewing.{HasInHand, IsHeldBy, IsHeldByLent, IsLentFrom, IsMadeBy, IsOwnedByThis, IsWholeObject, is_renewed}
 use Rattle.agreement.proofs.Spared.{KeepsContent, declares, elsewhere, from_here}
 use Rattle.agreement.proofs.Tops.{ends_above, no_way_round}
 
@@ -67,6 +67,13 @@ module _ (p : Program) (h : HeapContents) (have : HaveEnds h) where
       let open' = unfinished.0 by.holder y.0 (declares p fr.method by.field by.declared) (constructor_of fr x.owner held) by.runs y.1 in
       record { object = y.0; at = y.1; unfinished = open'; unowned = have.unfinished by.holder y.0 y.1 open' }
 
+  -- what a constructor makes is not finished
+  pub making : (fr : Frame) (o : ℕ) → IsMadeBy p fr o → constructs (method_at p fr.method) ≡ true
+  making fr o made = (and_parts (constructs (method_at p fr.method)) (not (is_present (alias_in (method_at p fr.method)))) made.alone).0
+
+  pub made_open : (fr : Frame) (frs : List Frame) → AreUnfinished p h (fr ∷ frs) → (o : ℕ) (x : Object) → object_at h o ≡ Some x → IsMadeBy p fr o → x.finished ≡ false
+  made_open fr frs unfinished o x at made = unfinished.0 o x (declares p fr.method made.field made.declared) (making fr o made) made.runs at
+
   -- the way up from what a constructor has in a field ends at its object
   pub made_top : (fr : Frame) (frs : List Frame) → AreUnfinished p h (fr ∷ frs) → (o : ℕ) (x : Object) → object_at h o ≡ Some x → (held : IsHeldBy p fr x.owner) → HasTop h o (held.1).holder
   made_top fr frs unfinished o x at held =
@@ -102,8 +109,16 @@ module _ (p : Program) (h : HeapContents) (have : HaveEnds h) where
         below = ap (is_frame_from (suc (length frs) + 1)) w.unowned;
         older = λ open'. inl by.runs;
       }
-  lent_ends_below (fr ∷ frs) unfinished o x at (renewed, inr (inr (inr held))) =
+  lent_ends_below (fr ∷ frs) unfinished o x at (renewed, inr (inr (inr (inl held)))) =
       ends_further h fr frs o (content_ends_below frs o x held.holder held.field at held.owns (lent_ends_below frs unfinished.1 held.holder held.object held.at held.lends))
+  lent_ends_below (fr ∷ frs) unfinished o x at (renewed, inr (inr (inr (inr made)))) =
+      let unowned = made.1 in
+      record {
+        end = o;
+        top = record { within = itself o; object = x; at = at; unheld = ap is_field_owner unowned };
+        below = ap (is_frame_from (suc (length frs) + 1)) unowned;
+        older = λ open'. inl made.0.runs;
+      }
 
   -- ---- objects on one way
 
@@ -137,6 +152,14 @@ module _ (p : Program) (h : HeapContents) (have : HaveEnds h) where
         elsewhere [] below by.holder (new.0 by.holder (declares p c.method by.field by.declared) (constructor_of c x.owner held) by.runs)
         (subst (λ (n : ℕ). RunsOn n below) same (ends.older (ap (λ (y : Object). y.finished) one ∙ w.unfinished)))
 
+    -- nor one that it makes
+    pub not_making_here : (o u : ℕ) (x : Object) → EndsBelow h below o → object_at h u ≡ Some x → IsMadeBy p c u → HasTop h o u → ⊥
+    not_making_here o u x ends at made top =
+        let same = one_top h o ends.end u ends.top top in
+        let one = one_object ends.top.object x (object_at h u) (ap (object_at h) (sym same) ∙ ends.top.at) at in
+        elsewhere [] below u (new.0 u (declares p c.method made.field made.declared) (making c u made) made.runs)
+        (subst (λ (n : ℕ). RunsOn n below) same (ends.older (ap (λ (y : Object). y.finished) one ∙ made_open c below unfinished u x at made)))
+
     -- what is in hand on the way of an object that the frame owns is that object
     pub owned_apart : (o u : ℕ) (x y : Object) → object_at h o ≡ Some x → x.owner ≡ owners.Frame position → object_at h u ≡ Some y → InHand u y.owner → IsComparable h u o → u ≡ o
     owned_apart o u x y at owner there hand (inr down) = sym (top_is_last h o u x at (ap is_field_owner owner) down)
@@ -147,13 +170,14 @@ module _ (p : Program) (h : HeapContents) (have : HaveEnds h) where
         let w = unmade c below unfinished u y there held in
         let same = one_top h u (held.1).holder o (made_top c below unfinished u y there held) (record { within = up; object = x; at = at; unheld = ap is_field_owner owner }) in
         absurd (let never : ◌≡◌ {A = Owner} owners.Unowned (owners.Frame position) = sym w.unowned ∙ ap (λ (z : Object). z.owner) (one_object w.object x (object_at h o) (ap (object_at h) (sym same) ∙ w.at) at) ∙ owner in cc)
-    owned_apart o u x y at owner there (inr (inr (inr held))) (inl up) =
+    owned_apart o u x y at owner there (inr (inr (inr (inl held)))) (inl up) =
         absurd (no_frame_end below u o x
         (content_ends_below below u y held.holder held.field there held.owns (lent_ends_below below unfinished.1 held.holder held.object held.at held.lends))
         at owner (record { within = up; object = x; at = at; unheld = ap is_field_owner owner }))
+    owned_apart o u x y at owner there (inr (inr (inr (inr made)))) (inl up) = top_is_last h u o y there (ap is_field_owner made.1) up
 
     -- nothing in hand is on the way of an object that the call spares which began the frame, and that ends below
-    pub spared_apart : (o u : ℕ) (y : Object) → IsSpared p h below o → EndsBelow h below o → object_at h u ≡ Some y → IsHeavyObject p y → InHand u y.owner → IsComparable h u o → ⊥
+    pub spared_apart : (o u : ℕ) (y : Object) → IsSpared p h below o → EndsBelow h below o → object_at h u ≡ Some y → IsWholeObject p y → InHand u y.owner → IsComparable h u o → ⊥
     spared_apart o u y spared ends there heavy (inl mine) comes =
         let top = own_top h u y there (ap is_field_owner mine) in
         let same = tops_meet u o u ends.end comes top ends.top in
@@ -166,7 +190,7 @@ module _ (p : Program) (h : HeapContents) (have : HaveEnds h) where
     spared_apart o u y spared ends there heavy (inr (inr (inl held))) comes =
         let same = tops_meet u o (held.1).holder ends.end comes (made_top c below unfinished u y there held) ends.top in
         not_made_here o u y ends there held (subst (HasTop h o) (sym same) ends.top)
-    spared_apart o u y spared ends there heavy (inr (inr (inr held))) comes = renewed below spared held.lends
+    spared_apart o u y spared ends there heavy (inr (inr (inr (inl held)))) comes = renewed below spared held.lends
       where
         above : IsComparable h u o → IsComparable h held.holder o
         above (inl up) = elim (on_from_holder h u held.holder o held.field y there held.owns up) [
@@ -177,7 +201,10 @@ module _ (p : Program) (h : HeapContents) (have : HaveEnds h) where
 
         renewed : (frs : List Frame) → IsSpared p h frs o → IsLentFrom p h frs held.holder held.object.owner → ⊥
         renewed [] spares never = never
-        renewed (fr ∷ frs) spares lent' = true≢false (sym lent'.0 ∙ spares held.holder held.object held.at (held.finished, held.heavy) (above comes))
+        renewed (fr ∷ frs) spares lent' = true≢false (sym lent'.0 ∙ spares held.holder held.object held.at (held.whole, held.heavy) (above comes))
+    spared_apart o u y spared ends there heavy (inr (inr (inr (inr made)))) comes =
+        let same = tops_meet u o u ends.end comes (own_top h u y there (ap is_field_owner made.1)) ends.top in
+        not_making_here o u y ends there made.0 (subst (HasTop h o) (sym same) ends.top)
 
     -- nor on the way of what a field of `this` owns that is lent, but that object and `this`
     pub content_apart : (w : ℕ) (f : FieldId) (o u : ℕ) (x y : Object) → KeepsContent p h c below w f o x → EndsBelow h below o → object_at h u ≡ Some y → is_renewed p h c u ≡ true → InHand u y.owner
@@ -188,7 +215,8 @@ module _ (p : Program) (h : HeapContents) (have : HaveEnds h) where
         no_frame_end below o u y ends there mine (subst (HasTop h o) (sym same) ends.top)
     content_apart w f o u x y keeps ends there renews (inr (inl lent)) comes = true≢false (sym renews ∙ ap (is_renewed p h c) (keeps.one u y.owner lent) ∙ keeps.holder)
     content_apart w f o u x y keeps ends there renews (inr (inr (inl held))) comes = true≢false (sym (constructor_of c y.owner held) ∙ keeps.method)
-    content_apart w f o u x y keeps ends there renews (inr (inr (inr held))) comes = true≢false (sym renews ∙ ap (is_renewed p h c) (same_content comes) ∙ keeps.content)
+    content_apart w f o u x y keeps ends there renews (inr (inr (inr (inr made)))) comes = true≢false (sym (making c u made.0) ∙ keeps.method)
+    content_apart w f o u x y keeps ends there renews (inr (inr (inr (inl held)))) comes = true≢false (sym renews ∙ ap (is_renewed p h c) (same_content comes) ∙ keeps.content)
       where
         owns : y.owner ≡ owners.Field w held.field
         owns = held.owns ∙ ap (λ (n : ℕ). owners.Field n held.field) (let both : values.Object held.holder ≡ values.Object w = sym held.runs ∙ keeps.runs in (let one : held.holder ≡ w = cc in one))

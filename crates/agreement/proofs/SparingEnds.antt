@@ -20,17 +20,17 @@ use Rattle.ownership_rules.specs.MustCallSets.{is_heavy_class}
 use Rattle.ledger_runs.specs.Configuration.{Frame}
 use Rattle.agreement.specs.Chains.{HaveEnds}
 use Rattle.agreement.specs.FieldContents.{AreNew, AreUnfinished}
-use Rattle.agreement.specs.PlaceFacts.{EndsBelow, IsHeavyObject, IsHolder, IsOwnedBelow, IsSpared, OwesOrHolds, Spares, is_frame_below}
-use Rattle.agreement.specs.Renewing.{HasInHand, IsHeldBy, IsLentFrom, IsOwnedByThis, answers_for_fields, is_renewed, lends_this}
+use Rattle.agreement.specs.PlaceFacts.{EndsBelow, IsHolder, IsOwnedBelow, IsSpared, OwesOrHolds, Spares, is_frame_below}
+use Rattle.agreement.specs.Renewing.{HasInHand, IsHeldBy, IsLentFrom, IsOwnedByThis, IsWholeObject, answers_for_fields, is_renewed, lends_this}
 use Rattle.agreement.proofs.Spared.{KeepsContent}
 use Rattle.agreement.proofs.SparingCalls.{constructor_of, content_apart, lent_ends_below, made_top, not_made_here, owned_apart, spared_apart, tops_meet, unmade}
 use Rattle.agreement.proofs.Tops.{no_way_round}
 
--- The frame may count on what was called on the object: it owns the object, or a constructor that it runs has it in a field of what it makes; or the call that began the frame spared the
+-- The frame may count on what was called on the object: it owns the object, or a constructor that it runs has it in a field of what it makes, whose obligation the call does not create anew; or the call that began the frame spared the
 -- object, whose way up ends below; or a field of `this` owns it, which is lent, and whose obligation the call does not create anew.
 pub data CountsOn (p : Program) (h : HeapContents) (c : Frame) (below : List Frame) (o : ℕ) (x : Object) : Type 0 where
   counts_as_owned : x.owner ≡ owners.Frame (length below + 1) → CountsOn p h c below o x
-  counts_as_made : IsHeldBy p c x.owner → CountsOn p h c below o x
+  counts_as_made : (held : IsHeldBy p c x.owner) → is_renewed p h c (held.1).holder ≡ false → CountsOn p h c below o x
   counts_as_spared : IsSpared p h below o → EndsBelow h below o → CountsOn p h c below o x
   counts_as_content : (w : ℕ) (f : FieldId) → KeepsContent p h c below w f o x → EndsBelow h below o → CountsOn p h c below o x
 
@@ -38,9 +38,9 @@ module _ (p : Program) (h : HeapContents) (have : HaveEnds h) (c : Frame) (below
   abbrev InHand : ℕ → Owner → Type 0
   InHand u owner = HasInHand p h (IsLentFrom p h below) (length below + 1) c u owner
 
-  -- what is in hand on the way of what a constructor has in a field of its object is that object
-  pub made_apart : (o u : ℕ) (x y : Object) → object_at h o ≡ Some x → IsHeldBy p c x.owner → object_at h u ≡ Some y → InHand u y.owner → IsComparable h u o → u ≡ o
-  made_apart o u x y at held there hand comes = by hand
+  -- what is in hand on the way of what a constructor has in a field of its object is that object, or the constructor's
+  pub made_apart : (o u : ℕ) (x y : Object) → object_at h o ≡ Some x → (held : IsHeldBy p c x.owner) → (u ≡ (held.1).holder → ⊥) → object_at h u ≡ Some y → InHand u y.owner → IsComparable h u o → u ≡ o
+  made_apart o u x y at held other_than there hand comes = by hand
     where
       w : ℕ
       w = (held.1).holder
@@ -66,7 +66,8 @@ module _ (p : Program) (h : HeapContents) (have : HaveEnds h) (c : Frame) (below
           sibling : IsComparable h u o → u ≡ o
           sibling (inl up) = elim (on_from_holder h u w o (other.1).field y there owns up) [ inl same ↦ same | inr round ↦ absurd (no_way_round h have o w (held.1).field x at (held.1).owns round) ]
           sibling (inr down) = elim (on_from_holder h o w u (held.1).field x at (held.1).owns down) [ inl same ↦ sym same | inr round ↦ absurd (no_way_round h have u w (other.1).field y there owns round) ]
-      by (inr (inr (inr lends))) = absurd (true≢false (sym (constructor_of p h have c x.owner held) ∙ lends.method))
+      by (inr (inr (inr (inl lends)))) = absurd (true≢false (sym (constructor_of p h have c x.owner held) ∙ lends.method))
+      by (inr (inr (inr (inr made)))) = absurd (other_than (let both : values.Object u ≡ values.Object (held.1).holder = sym made.0.runs ∙ (held.1).runs in cc))
 
   -- what the frame owns is owned below the frame above it
   pub owned_is_below : (a : Owner) → a ≡ owners.Frame (length below + 1) → IsOwnedBelow p (c ∷ below) a
@@ -77,7 +78,7 @@ module _ (p : Program) (h : HeapContents) (have : HaveEnds h) (c : Frame) (below
   held_is_below a answers keeps by = inr (answers, keeps, by)
 
   -- what the frame renews while it waits, on the way of object `o`, is in its hands, and it does not renew that object
-  pub counted_is_spared : (o : ℕ) (x : Object) → object_at h o ≡ Some x → ((u : ℕ) (y : Object) → object_at h u ≡ Some y → IsHeavyObject p y → IsComparable h u o → is_renewed p h c u ≡ true → InHand u y.owner)
+  pub counted_is_spared : (o : ℕ) (x : Object) → object_at h o ≡ Some x → ((u : ℕ) (y : Object) → object_at h u ≡ Some y → IsWholeObject p y → IsComparable h u o → is_renewed p h c u ≡ true → InHand u y.owner)
       → is_renewed p h c o ≡ false → CountsOn p h c below o x → Spares p h c o
   counted_is_spared o x at hands old counts u y there heavy comes = unrenewed (is_renewed p h c u) refl
     where
@@ -86,7 +87,8 @@ module _ (p : Program) (h : HeapContents) (have : HaveEnds h) (c : Frame) (below
 
       never : is_renewed p h c u ≡ true → CountsOn p h c below o x → ⊥
       never renews (counts_as_owned owner) = same_as (owned_apart p h have c below new unfinished o u x y at owner there (hands u y there heavy comes renews) comes) renews
-      never renews (counts_as_made held) = same_as (made_apart o u x y at held there (hands u y there heavy comes renews) comes) renews
+      never renews (counts_as_made held keeps) =
+          same_as (made_apart o u x y at held (λ same. true≢false (sym renews ∙ ap (is_renewed p h c) same ∙ keeps)) there (hands u y there heavy comes renews) comes) renews
       never renews (counts_as_spared spares ends) = spared_apart p h have c below new unfinished o u y spares ends there heavy (hands u y there heavy comes renews) comes
       never renews (counts_as_content w f keeps ends) = content_apart p h have c below new unfinished w f o u x y keeps ends there renews (hands u y there heavy comes renews) comes
 

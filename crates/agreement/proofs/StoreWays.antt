@@ -23,7 +23,7 @@ use Rattle.ledger_runs.specs.Configuration.{Frame}
 use Rattle.agreement.specs.Chains.{HaveEnds}
 use Rattle.agreement.specs.FieldContents.{AreNew, AreUnfinished}
 use Rattle.agreement.specs.PlaceFacts.{EndsBelow, IsAnswered, IsContentOfThis, IsHeavyObject, IsInFieldBelow, IsOld, IsOwnedBelow, IsSpared, OwesOrHolds, Spares, is_frame_below, is_frame_from, is_given_up, leaves_all}
-use Rattle.agreement.specs.Renewing.{HasInHand, IsHeldByLent, IsLentFrom, IsOwnedByThis, answers_for_fields, is_renewed, lends_this, makes_alone, reopens}
+use Rattle.agreement.specs.Renewing.{HasInHand, HasOwningField, IsHeldByLent, IsLentFrom, IsOwnedByThis, IsWhole, IsWholeObject, answers_for_fields, is_renewed, lends_this, makes_alone, reopens}
 use Rattle.agreement.proofs.SettledFrames.{IsOnTheWay, way_goes_down}
 use Rattle.agreement.proofs.Spared.{from_here}
 use Rattle.agreement.proofs.SparingCalls.{lent_ends_below}
@@ -52,7 +52,7 @@ given_up_parts (owners.Field v f) n is = absurd (true≢false (sym is))
 given_up_parts owners.Library n is = absurd (true≢false (sym is))
 given_up_parts owners.Unowned n is = absurd (true≢false (sym is))
 
-module _ (p : Program) (h k : HeapContents) (have : HaveEnds h) (unlinked : HoldersAreUnlinked (is_heavy_class p) h) (m w : ℕ) (y : Object) (there : object_at h w ≡ Some y) (heavy : IsHeavyObject p y) (single : y.link ≡ None) (bears : OwesOrHolds p h w y) (stores : StoresInto p h k m w) where
+module _ (p : Program) (h k : HeapContents) (have : HaveEnds h) (unlinked : HoldersAreUnlinked (is_heavy_class p) h) (m w : ℕ) (y : Object) (there : object_at h w ≡ Some y) (heavy : IsWholeObject p y) (single : y.link ≡ None) (bears : OwesOrHolds p h w y) (stores : StoresInto p h k m w) where
   -- what a field owns is finished
   owned_done : (o : ℕ) (x : Object) (v : ℕ) (f : FieldId) → object_at h o ≡ Some x → x.owner ≡ owners.Field v f → x.finished ≡ true
   owned_done o x v f at owned = go x.finished refl
@@ -178,14 +178,18 @@ module _ (p : Program) (h k : HeapContents) (have : HaveEnds h) (unlinked : Hold
   inner_not_renewed g gs way one ends u c x f inner at owned anew = way ends (λ o z up at' wide lent.
       no_way_round h have c w f x at owned (within_further h w o c up (subst (λ (n : ℕ). IsWithin h n c) (one u o anew lent.0) inner)))
 
+  whole_then : (z x : Object) → z.class ≡ x.class → z.finished ≡ x.finished → IsWhole p x → IsWhole p z
+  whole_then z x class done (inl is) = inl (done ∙ is)
+  whole_then z x class done (inr fields) = inr (subst (HasOwningField p) (sym class) fields)
+
   spared_by_one : (g : Frame) (gs : List Frame) → IsOnTheWay p h have unlinked w y there heavy single bears (g ∷ gs) → RenewsAlike g → (o : ℕ) (x' : Object) → object_at h o ≡ Some x' → is_heavy_class p x'.class ≡ true → EndsBelow h (g ∷ gs) o → IsAnswered k o → Spares p k g o → Spares p h g o
   spared_by_one g gs way alike o x' at'' wide'' ends answered spared u x at wide comes = by comes
     where
       now : (z : Object) × (object_at k u ≡ Some z) × (z.class ≡ x.class) × (z.finished ≡ x.finished) × (z.link ≡ x.link)
       now = stores.objects u x at
 
-      wide_now : IsHeavyObject p now.0
-      wide_now = (now.3 ∙ wide.0, ap (is_heavy_class p) now.2 ∙ wide.1)
+      wide_now : IsWholeObject p now.0
+      wide_now = (whole_then now.0 x now.2 now.3 wide.0, ap (is_heavy_class p) now.2 ∙ wide.1)
 
       still : IsComparable k u o → is_renewed p h g u ≡ false
       still comes' = sym (alike.alike u) ∙ spared u now.0 now.1 wide_now comes'
@@ -212,12 +216,20 @@ module _ (p : Program) (h k : HeapContents) (have : HaveEnds h) (unlinked : Hold
   spared_before [] way alike o x at wide ends answered spared = tt
   spared_before (g ∷ gs) way alike o x at wide ends answered spared = λ u x' at' wide' comes. spared_by_one g gs way alike.0 o x at wide ends answered spared u x' at' wide' comes
 
+  -- where the owner of an object of a class with an obligation goes
+  goes_whole : (o : ℕ) (x z : Object) → object_at h o ≡ Some x → object_at k o ≡ Some z → is_heavy_class p x.class ≡ true → StoredOwner m w x.owner z.owner
+  goes_whole o x z at now wide = go x.finished refl
+    where
+      go : (b : Bool) → x.finished ≡ b → StoredOwner m w x.owner z.owner
+      go true done = stores.owner o x z at now (done, wide)
+      go false open' = stays (stores.unmade o x z at now open')
+
   -- what is lent to frames on the way stays so, and keeps its owner
   abbrev pub StaysLent : List Frame → Type 0
-  StaysLent gs = (o : ℕ) (x z : Object) → object_at h o ≡ Some x → object_at k o ≡ Some z → IsHeavyObject p x → IsLentFrom p h gs o x.owner → (z.owner ≡ x.owner) × IsLentFrom p k gs o z.owner
+  StaysLent gs = (o : ℕ) (x z : Object) → object_at h o ≡ Some x → object_at k o ≡ Some z → IsWholeObject p x → IsLentFrom p h gs o x.owner → (z.owner ≡ x.owner) × IsLentFrom p k gs o z.owner
 
   lent_to_one : (g : Frame) (gs : List Frame) → length (g ∷ gs) ≤ m → AreUnfinished p h (g ∷ gs) → RenewsAlike g → IsOnTheWay p h have unlinked w y there heavy single bears (g ∷ gs) → StaysLent gs → StaysLent (g ∷ gs)
-  lent_to_one g gs low unfinished alike way lower o x z at now wide lent = by_owner (stores.owner o x z at now wide)
+  lent_to_one g gs low unfinished alike way lower o x z at now wide lent = by_owner (goes_whole o x z at now wide.1)
     where
       ends : EndsBelow h (g ∷ gs) o
       ends = lent_ends_below p h have (g ∷ gs) unfinished o x at lent
@@ -226,9 +238,10 @@ module _ (p : Program) (h k : HeapContents) (have : HaveEnds h) (unlinked : Hold
       by_hand same (inl owner) = inl (same ∙ owner)
       by_hand same (inr (inl lent')) = inr (inl (lower o x z at now wide lent').1)
       by_hand same (inr (inr (inl held))) = inr (inr (inl (held.0, subst (IsOwnedByThis p g) (sym same) held.1)))
-      by_hand same (inr (inr (inr held))) =
+      by_hand same (inr (inr (inr (inr made)))) = inr (inr (inr (inr (made.0, same ∙ made.1))))
+      by_hand same (inr (inr (inr (inl held)))) =
           let v = stores.objects held.holder held.object held.at in
-          inr (inr (inr (record {
+          inr (inr (inr (inl (record {
             holder = held.holder;
             field = held.field;
             owns = same ∙ held.owns;
@@ -236,11 +249,11 @@ module _ (p : Program) (h k : HeapContents) (have : HaveEnds h) (unlinked : Hold
             method = held.method;
             object = v.0;
             at = v.1;
-            finished = v.3 ∙ held.finished;
-            unlinked = v.4 ∙ held.unlinked;
+            whole = whole_then v.0 held.object v.2 v.3 held.whole;
+            unlinked = λ done. v.4 ∙ held.unlinked (sym v.3 ∙ done);
             heavy = ap (is_heavy_class p) v.2 ∙ held.heavy;
-            lends = (lower held.holder held.object v.0 held.at v.1 (held.finished, held.heavy) held.lends).1;
-          })))
+            lends = (lower held.holder held.object v.0 held.at v.1 (held.whole, held.heavy) held.lends).1;
+          }))))
 
       by_owner : StoredOwner m w x.owner z.owner → (z.owner ≡ x.owner) × IsLentFrom p k (g ∷ gs) o z.owner
       by_owner (stays same) = (same, (alike.alike o ∙ lent.0, by_hand same lent.1))

@@ -126,6 +126,17 @@ module _ (p : Program) (h k : HeapContents) (have : HaveEnds h) (unlinked : Hold
   comparable_still a b x y at there first second (inr down) =
       inr (way_stays b a y there second.1 (λ away z at' open'. true≢false (sym first.0 ∙ ap (λ (u : Object). u.finished) (one_object x z (object_at h a) at at') ∙ open')) down)
 
+  -- so it is where the second is finished, and ends below, and the first is not finished
+  pub comparable_below : (a b : ℕ) (x y : Object) → object_at h a ≡ Some x → object_at h b ≡ Some y → is_heavy_class p x.class ≡ true → IsHeavyObject p y → EndsBelow h frs b → IsComparable h a b → IsComparable k a b
+  comparable_below a b x y at there first second below (inl up) =
+      inl (way_stays a b x at first (λ away z at' open'. true≢false (sym second.0 ∙ ap (λ (u : Object). u.finished) (one_object y z (object_at h b) there at') ∙ open')) up)
+  comparable_below a b x y at there first second below (inr down) = inr (way_stays b a y there second.1 (λ away z at' open'. keeps.none a away (runs z at' open')) down)
+    where
+      runs : (z : Object) → object_at h a ≡ Some z → z.finished ≡ false → RunsOn a frs
+      runs z at' open' =
+          let end = one_top h b below.end a below.top (record { within = down; object = z; at = at'; unheld = ap is_field_owner (have.unfinished a z at' open') }) in
+          subst (λ (n : ℕ). RunsOn n frs) end (below.older (ap (λ (u : Object). u.finished) (one_object below.top.object z (object_at h below.end) below.top.at (ap (object_at h) end ∙ at')) ∙ open'))
+
   -- no field owns what is not finished before the step
   pub unmade_unheld : (o : ℕ) (x y : Object) → object_at h o ≡ Some x → object_at k o ≡ Some y → x.finished ≡ false → is_field_owner y.owner ≡ false
   unmade_unheld o x y before at open' = elim (keeps.unmade o x y before at open') [ inl still ↦ ap is_field_owner still.1 | inr away ↦ away.1 ]

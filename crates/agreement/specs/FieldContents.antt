@@ -37,6 +37,7 @@ use Rattle.heap_laws.specs.Leading.{Leads}
 use Rattle.agreement.specs.PlainForms.{run_by}
 use Rattle.agreement.specs.Renewable.{IsFollowed}
 use Rattle.agreement.specs.PlaceFacts.{OwesOrHolds, is_heavy_in}
+use Rattle.agreement.specs.Renewing.{IsMadeBy}
 use Rattle.agreement.specs.Safety.{constructs_object}
 
 -- the names that the method promises to call on what the field of `this` holds
@@ -97,6 +98,17 @@ IsFieldOfClass p f c = (field : Field) × (field_at p f ≡ Some field) × (fiel
 abbrev pub FieldsOwn : Program → HeapContents → Type 0
 FieldsOwn p h = (w : ℕ) (y : Object) (f : FieldId) (o : ℕ) (x : Object) → object_at h w ≡ Some y → is_owning p f ≡ true → is_heavy_in p (Some f) ≡ true → root_of h (field_value p h w f) ≡ Some o
     → object_at h o ≡ Some x → is_heavy_class p x.class ≡ true → IsFieldOfClass p f y.class × (y.finished ≡ true → OwesOrHolds p h o x → (x.owner ≡ owners.Field w f) ⊎ ((root h w ≡ o) × (y.link ≡ None → is_library_owner y.owner ≡ true)))
+
+-- What the frame makes, by a constructor without an aliased argument of a class with owning fields: what these fields hold they own, where their types have an obligation, and the object may owe a call, or
+-- a field of it owns something. (Where a constructor has ended by an exception, its object's fields own nothing any more.)
+abbrev pub MakerOwns : Program → HeapContents → Frame → Type 0
+MakerOwns p h fr = (w : ℕ) (f : FieldId) (o : ℕ) (x : Object) → IsMadeBy p fr w → is_owning p f ≡ true → is_heavy_in p (Some f) ≡ true → root_of h (field_value p h w f) ≡ Some o
+    → object_at h o ≡ Some x → is_heavy_class p x.class ≡ true → OwesOrHolds p h o x → x.owner ≡ owners.Field w f
+
+-- so do all of these frames
+abbrev pub MakersOwn : Program → HeapContents → List Frame → Type 0
+MakersOwn p h [] = Unit {0}
+MakersOwn p h (fr ∷ frs) = MakerOwns p h fr × MakersOwn p h frs
 
 -- what fields own owning fields own, and it is followed
 abbrev pub OwningFieldsOwn : Program → HeapContents → Type 0

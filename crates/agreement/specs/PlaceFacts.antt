@@ -48,7 +48,7 @@ use Rattle.place_laws.specs.Places.{HasPlacesAlone}
 use Rattle.agreement.specs.PlainForms.{is_lent_parameter}
 use Rattle.fact_laws.specs.Going.{is_in_this}
 use Rattle.heap_laws.specs.Holders.{HasTop, IsComparable}
-use Rattle.agreement.specs.Renewing.{IsLentFrom, IsOwnedByThis, answers_for_fields, fact_as, is_of_heavy_class, is_renewed, is_reread, lends_this, makes_alone, reopens}
+use Rattle.agreement.specs.Renewing.{HasOwningField, IsLentFrom, IsOwnedByThis, IsWholeObject, answers_for_fields, fact_as, is_of_heavy_class, is_renewed, is_reread, lends_this, makes_alone, reopens}
 
 -- the object is not finished yet, or the library does not own it. (What the library owns it owns for ever. An alias of null is the library's.)
 abbrev pub may_owe : Object → Bool
@@ -57,10 +57,6 @@ may_owe x = not (x.finished && is_library_owner x.owner)
 -- a field of the object owns a finished object whose class has an obligation
 abbrev pub IsHolder : Program → HeapContents → ℕ → Type 0
 IsHolder p h w = (c : ℕ) × (y : Object) × (object_at h c ≡ Some y) × (y.finished ≡ true) × (is_heavy_class p y.class ≡ true) × (is_held_by y.owner w ≡ true)
-
--- the class declares an owning field
-abbrev pub HasOwningField : Program → ClassId → Type 0
-HasOwningField p c = (f : FieldId) × (field : Field) × (field_at p f ≡ Some field) × (field.owning ≡ true) × (field.class ≡ c)
 
 -- no constructor of the class makes an alias
 abbrev pub MakesNoAlias : Program → ClassId → Type 0
@@ -232,9 +228,9 @@ IsOwnedBelow p frs owner = (is_frame_below (length frs + 1) owner ≡ true) ⊎ 
 abbrev pub IsHeavyObject : Program → Object → Type 0
 IsHeavyObject p x = (x.finished ≡ true) × (is_heavy_class p x.class ≡ true)
 
--- the call at which the frame waits creates the obligation of no such object anew that is within this one, or that this one is within
+-- the call at which the frame waits creates the obligation of no such object anew, finished or with owning fields, that is within this one, or that this one is within
 abbrev pub Spares : Program → HeapContents → Frame → ℕ → Type 0
-Spares p h fr o = (u : ℕ) (x : Object) → object_at h u ≡ Some x → IsHeavyObject p x → IsComparable h u o → is_renewed p h fr u ≡ false
+Spares p h fr o = (u : ℕ) (x : Object) → object_at h u ≡ Some x → IsWholeObject p x → IsComparable h u o → is_renewed p h fr u ≡ false
 
 -- the call that began a frame, where `frs` are the frames below it, spares the object
 abbrev pub IsSpared : Program → HeapContents → List Frame → ℕ → Type 0
@@ -325,8 +321,8 @@ is_owning_fact p o f = is_heavy_class p o.class && is_own f.mode
 -- in a frame that answers for the fields of `this`, and does not lend it, that a field holds a finished object, and its class has an obligation, it is not given away, and one of its places is that of the owning field
 -- that owns the
 -- object, the one place of it that is `this`'s. Where it says that the object is lent, the call that began the frame creates the object's obligation anew,
--- and the way leads to a frame that waits for such a call and has the object in hand; it is not given away. Where it is the fact of `this` in a constructor, the object is not finished; else what is lent
--- is finished, if its class has owning fields.
+-- and the way leads to a frame that waits for such a call and has the object in hand; it is not given away. Where it is the fact of `this` in a constructor, the object is not finished; else that is so too of what
+-- is lent and not finished, if its class has owning fields, and it is none that the frame makes.
 -- Where the fact is that of a lent parameter, or of `this`, it says never that the frame owns an object with an obligation, and that a field holds it in a
 -- constructor with an aliased argument alone. What it then knows of a finished object to be called was called, or was asked for before, as the fact is read while the frame waits, where the object was old, the call
 -- that began the frame spares it, and it was not given up; then the call at which the frame waits does not create its obligation anew.
@@ -347,7 +343,8 @@ pub record Covers (p : Program) (h : HeapContents) (away anew : Bool) (old : ℕ
       → (away ≡ false) × IsInField p fr fact.places x.owner
   pub lends : fact.mode ≡ modes.Lent → x.finished ≡ true → (away ≡ false) × IsLentFrom p h frs o x.owner
   pub makes : constructs (method_at p fr.method) ≡ true → is_this_origin origin.kind ≡ true → x.finished ≡ false
-  pub complete : fact.mode ≡ modes.Lent → (constructs (method_at p fr.method) && is_this_origin origin.kind) ≡ false → HasOwningField p x.class → x.finished ≡ true
+  pub begun : fact.mode ≡ modes.Lent → (constructs (method_at p fr.method) && is_this_origin origin.kind) ≡ false → HasOwningField p x.class → x.finished ≡ false
+      → (away ≡ false) × IsLentFrom p h frs o x.owner × (constructs (method_at p fr.method) ≡ true → fr.locals.this ≡ values.Object o → ⊥)
   pub unrenewed : x.finished ≡ true → tells_calls p fr.method origin fact ≡ true → IsApart p h old frs fr o x.owner fact → anew ≡ false
   pub known : x.finished ≡ true → tells_calls p fr.method origin fact ≡ true → IsApart p h old frs fr o x.owner fact → anew ≡ false
       → set.is_subset fact.called (set.union (asked_of p (method_at p fr.method) origin.kind) x.called) ≡ true

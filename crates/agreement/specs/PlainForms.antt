@@ -1,4 +1,4 @@
--- The forms of steps and calls that the laws on safety speak of: no constructor of a class with owning fields creates the obligation of its object anew.
+-- The forms of steps and calls that the laws on safety speak of: no constructor with an aliased argument of a class with owning fields creates the obligation of its object anew.
 use Rattle.std.specs.Prelude.{◌≡◌, ℕ, Bool, true, false, not, ◌&&◌, ◌||◌, ◌⊎◌, Option, Some, None, List, slice_get}
 use Rattle.std.specs.List.{All, list_all, list_any}
 use Rattle.std.specs.FinSet as set
@@ -23,7 +23,7 @@ use Rattle.program_model.specs.Lookups.{body_at, field_at, method_at}
 use Rattle.program_model.specs.Overrides.{are_types, is_abstract, is_library}
 use Rattle.program_model.specs.SuperTests.{has_class, is_under}
 use Rattle.program_model.specs.Validity.{is_class_type}
-use Rattle.ownership_rules.specs.Bodies.{alias_in, constructs, has_field_place, is_class_of, is_constructor, is_constructor_kind, method_of, reset_in}
+use Rattle.ownership_rules.specs.Bodies.{alias_in, constructs, has_field_place, is_alias_constructor, is_class_of, is_constructor, is_constructor_kind, method_of, reset_in}
 use Rattle.ownership_rules.specs.MustCallSets.{Names, is_empty, must_of, must_of_optional, must_of_type}
 use Rattle.must_call_sets.specs.OwningCases.{gives_as_alias}
 use Rattle.ownership_rules.specs.OverrideCases.{has_other_owning, has_other_result, has_wider_result}
@@ -154,9 +154,9 @@ abbrev pub all_owe_nothing : Program → Option VType → Bool
 all_owe_nothing p (Some (types.Obj c)) = not (is_under p p.core.string c) && list_all (λ (k : Class). not (has_class k.above.items c) || owes_nothing p k) p.classes.items
 all_owe_nothing p t = false
 
--- A call that creates an obligation anew, at the control `k` of a constructor, does so of `this` only where no owning field has a place.
+-- A call that creates an obligation anew, at the control `k` of a constructor with an aliased argument, does so of `this` only where no owning field has a place.
 pub record IsPlainReset (p : Program) (b : BodyId) (k : List Todo) (a : Action) : Type 0 where
-  pub constructor : is_constructor p b ≡ true → is_reset_of_this p a ≡ true → (f : FieldId) → has_field_place p b f ≡ false
+  pub aliased : is_alias_constructor p b ≡ true → is_reset_of_this p a ≡ true → (f : FieldId) → has_field_place p b f ≡ false
 
 -- the action at the control creates no obligation anew, or does so plainly
 abbrev pub ResetsPlainly : Program → BodyId → List Todo → Action → Type 0
@@ -181,7 +181,7 @@ abbrev pub StoresObligations : Program → BodyId → FieldId → Type 0
 StoresObligations p b f = (is_constructor p b ≡ true) ⊎ (not (is_empty (must_of_optional p (field_type p f))) ≡ true)
 
 -- Each step that a control of a body can reach has one of the plain forms; owning fields are stored by `=` in such bodies of the class that
--- declares them, and otherwise by `+=` on texts alone; no super constructor is called behind such a store; no class with owning fields is the one whose constructor is called so, nor has it another one under it; and
+-- declares them, and otherwise by `+=` on texts alone; no super constructor is called behind such a store, nor behind a call that creates the obligation of `this` anew; no class with owning fields is the one whose constructor is called so, nor has it another one under it; and
 -- objects with owning fields run their own must-call methods. All classes above one of the library are the library's, and so is the class of what a method of it gives. Where bodies call what creates an obligation anew, they do so plainly.
 pub record HasPlainForms (p : Program) : Type 0 where
   pub steps : (b : BodyId) {k : List Todo} (i : ℕ) (t : Move (List Todo)) → Comes (relation_of p b) k

@@ -2,6 +2,7 @@
 -- are read, and where the owner of an object is that a frame has in such a call's hands.
 use Rattle.std.specs.Prelude.{◌≡◌, ◌⊎◌, ℕ, ◌+◌, Bool, true, false, not, ◌&&◌, ◌||◌, Option, Some, None, List, [], ◌∷◌, length}
 use Rattle.std.specs.List.{list_any}
+use Rattle.program_model.specs.declared.kinds.ClassId.{ClassId}
 use Rattle.program_model.specs.declared.kinds.FieldId.{FieldId}
 use Rattle.program_model.specs.declared.kinds.MethodId.{MethodId}
 use Rattle.program_model.specs.declared.program.Field.{Field}
@@ -106,7 +107,19 @@ pub record IsOwnedByThis (p : Program) (fr : Frame) (owner : Owner) : Type 0 whe
 abbrev pub IsHeldBy : Program → Frame → Owner → Type 0
 IsHeldBy p fr owner = (makes_alone (method_at p fr.method) ≡ true) × IsOwnedByThis p fr owner
 
--- A field of `this` of the frame, which runs no constructor, owns the object; and `this`, which is finished and linked to none, and whose class has an obligation, is lent to the frame, as
+-- the class declares an owning field
+abbrev pub HasOwningField : Program → ClassId → Type 0
+HasOwningField p c = (f : FieldId) × (field : Field) × (field_at p f ≡ Some field) × (field.owning ≡ true) × (field.class ≡ c)
+
+-- the object is finished, or its class has owning fields
+abbrev pub IsWhole : Program → Object → Type 0
+IsWhole p x = (x.finished ≡ true) ⊎ HasOwningField p x.class
+
+-- such an object whose class has an obligation
+abbrev pub IsWholeObject : Program → Object → Type 0
+IsWholeObject p x = IsWhole p x × (is_heavy_class p x.class ≡ true)
+
+-- A field of `this` of the frame, which runs no constructor, owns the object; and `this`, which is linked to none, if it is finished, and whose class has an obligation, is lent to the frame, as
 -- `lent` says of its number and its owner.
 pub record IsHeldByLent (p : Program) (h : HeapContents) (lent : ℕ → Owner → Type 0) (fr : Frame) (owner : Owner) : Type 0 where
   pub holder : ℕ
@@ -116,18 +129,25 @@ pub record IsHeldByLent (p : Program) (h : HeapContents) (lent : ℕ → Owner �
   pub method : constructs (method_at p fr.method) ≡ false
   pub object : Object
   pub at : object_at h holder ≡ Some object
-  pub finished : object.finished ≡ true
-  pub unlinked : object.link ≡ None
+  pub whole : IsWhole p object
+  pub unlinked : object.finished ≡ true → object.link ≡ None
   pub heavy : is_heavy_class p object.class ≡ true
   pub lends : lent holder object.owner
 
+-- the frame runs a constructor without an aliased argument, of a class with owning fields, on the object
+pub record IsMadeBy (p : Program) (fr : Frame) (o : ℕ) : Type 0 where
+  pub alone : makes_alone (method_at p fr.method) ≡ true
+  pub field : FieldId
+  pub declared : is_declared_beside p fr.method (field_at p field) ≡ true
+  pub runs : fr.locals.this ≡ values.Object o
+
 -- The frame, at position `n`, may have the obligation of an object with this number and this owner created anew: it owns it, or has it lent; or a field of `this` owns it, in a
--- constructor, or where `this` is lent to the frame.
+-- constructor, or where `this` is lent to the frame; or the frame makes it, and nobody owns it.
 abbrev pub HasInHand : Program → HeapContents → (ℕ → Owner → Type 0) → ℕ → Frame → ℕ → Owner → Type 0
-HasInHand p h lent n fr o owner = (owner ≡ owners.Frame n) ⊎ (lent o owner ⊎ (IsHeldBy p fr owner ⊎ IsHeldByLent p h lent fr owner))
+HasInHand p h lent n fr o owner = (owner ≡ owners.Frame n) ⊎ (lent o owner ⊎ (IsHeldBy p fr owner ⊎ (IsHeldByLent p h lent fr owner ⊎ (IsMadeBy p fr o × (owner ≡ owners.Unowned)))))
 
 -- A frame, where `frs` are the frames below it, began with a call that creates the obligation of object `o` anew: the frame that waits for this call has the object in hand.
--- So the way leads down the stack, and up to the object whose field owns it, until a frame owns the object, or has it in a field of the object that its constructor makes.
+-- So the way leads down the stack, and up to the object whose field owns it, until a frame owns the object, or makes it, or has it in a field of the object that its constructor makes.
 abbrev pub IsLentFrom : Program → HeapContents → List Frame → ℕ → Owner → Type 0
 IsLentFrom p h [] o owner = ⊥
 IsLentFrom p h (fr ∷ frs) o owner = (is_renewed p h fr o ≡ true) × HasInHand p h (IsLentFrom p h frs) (length frs + 1) fr o owner

@@ -53,8 +53,9 @@ use Rattle.covering_laws.proofs.StoringThis.{IsReopened}
 use Rattle.covering_laws.specs.Holders.{HoldersAreUnlinked}
 use Rattle.covering_laws.proofs.Ready.{step_there}
 use Rattle.covering_laws.proofs.Unmet.{may_lies}
-use Rattle.covering_laws.specs.FieldContents.{FieldsHold, FieldsOwn, HaveContents, IsContent, IsKept, LinksLead, OwningFieldsOwn, has_obligation, is_made_in, promised_on}
+use Rattle.covering_laws.specs.FieldContents.{FieldsHold, FieldsOwn, HaveContents, IsContent, IsKept, LinksLead, OwningFieldsOwn, has_obligation, is_made_in, makes_holder, promised_on}
 use Rattle.covering_laws.specs.PlaceFacts.{IsCovered, MayStore, OwesOrHolds, gives_none, may_owe, renews_none}
+use Rattle.covering_laws.specs.Renewing.{IsLentFrom}
 use Rattle.covering_laws.specs.Renewable.{IsFollowed}
 use Rattle.covering_laws.specs.Sight.{ActsInSight}
 use Rattle.covering_laws.proofs.KeptArguments.{argument_alone, this_alone}
@@ -165,6 +166,7 @@ module _ (p : Program) (ac : Accept p) (forms' : HasPlainForms p) (h : HeapConte
     (bounded : (o : ℕ) (x : Object) → object_at h o ≡ Some x → x.link ≡ None → is_unmet x ≡ true → (t : VType) → may_move p t x ≡ true → set.is_subset x.must (must_of p x.class) ≡ true)
     (owned : FieldsOwn p h) (holders : HoldersAreUnlinked (is_heavy_class p) h) (of_class : (field : Field) → field_at p f ≡ Some field → self.class ≡ field.class)
     (storing : ((self.finished ≡ false) × (constructs (method_at p fr.method) ≡ true)) ⊎ IsReopened p h frs fr w self)
+    (below : self.finished ≡ false → IsLentFrom p h frs w self.owner → (field : Field) → field_at p f ≡ Some field → is_made_in p w field.class frs ≡ true)
     (heavy_bounded : is_alias_constructor p st.number ≡ false → (o : ℕ) (x : Object) → object_at h o ≡ Some x → IsMovedIn p h f (temp_value fr.locals d) o x → is_heavy_class p x.class ≡ true → set.is_subset x.must (must_of p x.class) ≡ true) where
   abbrev v : Value
   v = temp_value fr.locals d
@@ -172,13 +174,6 @@ module _ (p : Program) (ac : Accept p) (forms' : HasPlainForms p) (h : HeapConte
   -- the value is the argument of an alias
   abbrev bound : Bool
   bound = is_bound h (method_at p fr.method) fr.locals v
-
-  -- a constructor makes the holder where it is not finished
-  young : self.finished ≡ false → constructs (method_at p fr.method) ≡ true
-  young open' = elim storing [
-    | inl makes ↦ makes.1
-    | inr reopened ↦ absurd (true≢false (sym reopened.heavy.0 ∙ open'))
-  ]
 
   -- the frame's method creates its obligation anew where it is
   reopened : self.finished ≡ true → IsReopened p h frs fr w self
@@ -376,9 +371,12 @@ module _ (p : Program) (ac : Accept p) (forms' : HasPlainForms p) (h : HeapConte
       is_done = left_holder.2.finished ∙ holder.2.finished
 
       making : self.finished ≡ false → is_made_in p w field.class (fr ∷ frs) ≡ true
-      making open' = elim form [
-        | inl none ↦ rw (young open', in_class, this, eq-eqb w w refl, same_alias (method_at p fr.method), none) refl
-        | inr alias ↦ absurd (true≢false (sym (heavy_is_bound (young open') open' alias.0 alias.1 o x at heavy moved) ∙ not_bound))
+      making open' = elim storing [
+        | inl makes ↦ elim form [
+          | inl none ↦ rw (makes.1, in_class, this, eq-eqb w w refl, same_alias (method_at p fr.method), none) refl
+          | inr alias ↦ absurd (true≢false (sym (heavy_is_bound makes.1 open' alias.0 alias.1 o x at heavy moved) ∙ not_bound))
+        ]
+        | inr opens ↦ or_right (makes_holder p w field.class fr) (is_made_in p w field.class frs) (below open' opens.lent field declared.1)
       ]
 
       -- so the frame runs no constructor with an aliased argument

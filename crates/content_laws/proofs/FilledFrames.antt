@@ -10,13 +10,13 @@ use Rattle.program_model.specs.declared.program.Field.{Field}
 use Rattle.program_model.specs.declared.program.Program.{Program}
 use Rattle.program_model.specs.Lookups.{field_at, method_at}
 use Rattle.must_call_sets.specs.Bodies.{constructs, is_class_of, is_field_in, method_in, method_of}
+use Rattle.java_control.specs.Calls.{is_reset_of_this}
 use Rattle.java_control.specs.Control.{Step}
 use Rattle.java_control.specs.declared.action.Action.{Action}
 use Rattle.covering_laws.specs.Paths.{move_of}
 use Rattle.covering_laws.specs.Accept.{Accept}
 use Rattle.ledger_state.specs.Contents.{HeapContents}
 use Rattle.ledger_state.specs.Fields.{field_value}
-use Rattle.ledger_state.specs.Heaps.{object_at}
 use Rattle.ledger_state.specs.declared.array.ArrayObject.{ArrayObject}
 use Rattle.ledger_state.specs.Values.{number_of}
 use Rattle.ledger_state.specs.declared.object.Object.{Object}
@@ -29,13 +29,18 @@ use Rattle.covering_laws.specs.LedgerFramesFrames.{frame_after}
 use Rattle.ledger_steps.specs.CallSteps.{self_begun}
 use Rattle.covering_laws.specs.Agreement.{Stands}
 use Rattle.covering_laws.specs.PlainForms.{HasPlainForms}
-use Rattle.covering_laws.specs.Storing.{HasStored, onward, stored}
+use Rattle.covering_laws.specs.Storing.{HasStored, onward, opened, stored}
 use Rattle.covering_laws.specs.Nexts.{IsStartMove}
-use Rattle.covering_laws.proofs.Ready.{step_there}
+use Rattle.covering_laws.proofs.CallWays.{one_action}
+use Rattle.covering_laws.proofs.GivenAway.{at_any}
+use Rattle.covering_laws.proofs.Ready.{step_here, step_there}
+use Rattle.covering_laws.proofs.ThisOperands.{reset_of_this_is}
+use Rattle.covering_laws.proofs.Unmet.{call_may}
+use Rattle.covering_laws.specs.Renewing.{lends_this}
 use Rattle.covering_laws.specs.FieldContents.{AreNew, AreUnfinished, DeclaresOwning, RunOnOthers}
 use Rattle.covering_laws.specs.Ranges.{FieldsInRange, LocalsInRange}
 use Rattle.content_laws.proofs.ContentFrames.{constructor_new, new_object}
-use Rattle.content_laws.specs.Filled.{AreFilled, IsFilled}
+use Rattle.content_laws.specs.Filled.{AreFilled, IsFilled, IsReady}
 use Rattle.content_laws.proofs.FilledStores.{IsStore, new_holds_none}
 use Rattle.content_laws.proofs.Goes.{there}
 
@@ -46,17 +51,23 @@ no_object c is none = let never : Some c ≡ None = sym (ap number_of is) ∙ no
 abbrev pub KeepsOwning : Program → HeapContents → HeapContents → Type 0
 KeepsOwning p h k = (u : ℕ) (g : FieldId) (x : Field) → field_at p g ≡ Some x → x.owning ≡ true → field_value p k u g ≡ field_value p h u g
 
--- a step of the frame stores it: a constructor runs, or the object is finished
-abbrev pub IsReadyStore : Program → HeapContents → Frame → Action → ℕ → FieldId → Type 0
-IsReadyStore p h fr a u g = IsStore fr.locals a u g × ((constructs (method_at p fr.method) ≡ true) ⊎ ((y : Object) → object_at h u ≡ Some y → y.finished ≡ true))
+-- or the step of the frame, which stands on these, stores it, which is ready; or it holds no object
+abbrev pub StoresOwning : Program → HeapContents → HeapContents → Frame → List Frame → Action → Type 0
+StoresOwning p h k fr frs a = (u : ℕ) (g : FieldId) (x : Field) → field_at p g ≡ Some x → x.owning ≡ true
+    → (field_value p k u g ≡ field_value p h u g) ⊎ ((IsStore fr.locals a u g × IsReady p h fr frs u) ⊎ (number_of (field_value p k u g) ≡ None))
 
--- or the step of the frame stores it, or it holds no object
-abbrev pub StoresOwning : Program → HeapContents → HeapContents → Frame → Action → Type 0
-StoresOwning p h k fr a = (u : ℕ) (g : FieldId) (x : Field) → field_at p g ≡ Some x → x.owning ≡ true
-    → (field_value p k u g ≡ field_value p h u g) ⊎ (IsReadyStore p h fr a u g ⊎ (number_of (field_value p k u g) ≡ None))
+pub keeps_stores : (p : Program) (h k : HeapContents) (fr : Frame) (frs : List Frame) (a : Action) → KeepsOwning p h k → StoresOwning p h k fr frs a
+keeps_stores p h k fr frs a keeps u g x declared owning = inl (keeps u g x declared owning)
 
-pub keeps_stores : (p : Program) (h k : HeapContents) (fr : Frame) (a : Action) → KeepsOwning p h k → StoresOwning p h k fr a
-keeps_stores p h k fr a keeps u g x declared owning = inl (keeps u g x declared owning)
+-- above fewer frames
+further : (p : Program) (h k : HeapContents) (fr y : Frame) (ys : List Frame) (a : Action) → StoresOwning p h k fr (y ∷ ys) a → StoresOwning p h k fr ys a
+further p h k fr y ys a stores u g x declared owning = elim (stores u g x declared owning) [
+  | inl same ↦ inl same
+  | inr more ↦ inr (elim more [
+    | inl (store, ready) ↦ inl (store, elim ready [ inl makes ↦ inl makes | inr other ↦ inr (elim other [ inl done ↦ inl done | inr lend ↦ inr lend.1 ]) ])
+    | inr none ↦ inr none
+  ])
+]
 
 -- frames that wait stay as they are
 pub same_filled : (p : Program) (h k : HeapContents) → KeepsOwning p h k → (frs : List Frame) → AreFilled p h frs → AreFilled p k frs
@@ -64,20 +75,29 @@ same_filled p h k keeps [] all = tt
 same_filled p h k keeps (fr ∷ frs) all =
     (λ b w c f x id new this declared owning class value. all.0 b w c f x id new this declared owning class (sym (keeps w f x declared owning) ∙ value), same_filled p h k keeps frs all.1)
 
-module _ (p : Program) (forms : HasPlainForms p) (h k : HeapContents) (fr : Frame) (st : Stands p fr) (i : ℕ) (s : Step) (here : slice_get (frame_steps p fr) i ≡ Some s) (stores : StoresOwning p h k fr s.action) where
+-- where the frame stands at a call that creates the obligation of `this` anew, the step is such a call
+pub lends_here : (p : Program) (fr : Frame) → Stands p fr → (i : ℕ) (s : Step) → slice_get (frame_steps p fr) i ≡ Some s → lends_this p fr ≡ true → is_reset_of_this p s.action ≡ true
+lends_here p fr st i s here lends =
+    let t = at_any (λ (u : Step). is_reset_of_this p u.action) (frame_steps p fr) lends in
+    let is = reset_of_this_is p t.1.action t.3 in
+    ap (is_reset_of_this p) (one_action p st.number fr.control t.0 i t.1 s (step_here p fr st t.0 t.1 t.2) (step_here p fr st i s here) (call_may t.1.action is.0)) ∙ t.3
+
+module _ (p : Program) (forms : HasPlainForms p) (h k : HeapContents) (fr : Frame) (st : Stands p fr) (i : ℕ) (s : Step) (here : slice_get (frame_steps p fr) i ≡ Some s) where
   same_body : (b : BodyId) → body_id p fr.method ≡ Some b → b ≡ st.number
   same_body b id = let both : Some b ≡ Some st.number = sym id ∙ st.id in cc
 
   -- the frame that takes the step
-  pub top_filled : (v : Value) → IsFilled p h fr → IsFilled p k (frame_after p h fr s v)
-  top_filled v filled b w c f x id new this declared owning class value = elim (stores w f x declared owning) [
-    | inl same ↦ subst (λ (n : BodyId). HasStored p n s.to) (sym (same_body b id))
-        (onward i (move_of s) (filled st.number w c f x st.id new this declared owning class (sym same ∙ value)) (step_there p fr st i s here))
+  pub top_filled : (v : Value) (frs : List Frame) → StoresOwning p h k fr frs s.action → IsFilled p h fr → IsFilled p k (frame_after p h fr s v)
+  top_filled v frs stores filled b w c f x id new this declared owning class value = inl (subst (λ (n : BodyId). HasStored p n s.to) (sym (same_body b id)) (elim (stores w f x declared owning) [
+    | inl same ↦ elim (filled st.number w c f x st.id new this declared owning class (sym same ∙ value)) [
+      | inl has ↦ onward i (move_of s) has (step_there p fr st i s here)
+      | inr lends ↦ opened i (move_of s) st.control (step_there p fr st i s here) (lends_here p fr st i s here lends)
+    ]
     | inr new ↦ elim new [
-      | inl (store, ready) ↦ subst (λ (n : BodyId). HasStored p n s.to) (sym (same_body b id)) (stored i (move_of s) f store.0 st.control (step_there p fr st i s here) store.1)
+      | inl (store, ready) ↦ stored i (move_of s) f store.0 st.control (step_there p fr st i s here) store.1
       | inr none ↦ absurd (no_object c value none)
     ]
-  ]
+  ]))
 
   -- a method of the class that declares the field stores it
   storing : (u : ℕ) (g : FieldId) → IsStore fr.locals s.action u g → DeclaresOwning p fr.method
@@ -92,27 +112,28 @@ module _ (p : Program) (forms : HasPlainForms p) (h k : HeapContents) (fr : Fram
           let parts = and_parts x.owning (is_class_of x.class (method_of p st.number)) place in
           (g, x, at, parts.0, sym (ap (is_class_of x.class) method) ∙ parts.1)
 
-  -- those that wait run on other objects, where a constructor stores; and where the object is finished, they run no constructor of such a class on it
-  waiting : (gs : List Frame) → All (λ (y : Frame). LocalsInRange h y.locals) gs → AreUnfinished p h gs
+  -- those that wait run on other objects, where a constructor stores; where the object is finished, they run no constructor of such a class on it; and else they lend it
+  waiting : (gs : List Frame) → StoresOwning p h k fr gs s.action → All (λ (y : Frame). LocalsInRange h y.locals) gs → AreUnfinished p h gs
       → ((u : ℕ) (g : FieldId) → IsStore fr.locals s.action u g → constructs (method_at p fr.method) ≡ true → RunOnOthers u gs) → AreFilled p h gs → AreFilled p k gs
-  waiting [] in' open' others all = tt
-  waiting (y ∷ ys) in' open' others all = (
+  waiting [] stores in' open' others all = tt
+  waiting (y ∷ ys) stores in' open' others all = (
     λ b w c f x id new this declared owning class value. elim (stores w f x declared owning) [
       | inl same ↦ all.0 b w c f x id new this declared owning class (sym same ∙ value)
       | inr new' ↦ elim new' [
         | inl (store, inl makes) ↦ absurd ((others w f store makes).0 this)
-        | inl (store, inr done) ↦ (let z = there h w ((All-head (λ (x : Frame). LocalsInRange h x.locals) y ys in').this w (ap number_of this)) in
+        | inl (store, inr (inl done)) ↦ (let z = there h w ((All-head (λ (x : Frame). LocalsInRange h x.locals) y ys in').this w (ap number_of this)) in
             absurd (true≢false (sym (done z.0 z.1) ∙ open'.0 w z.0 (f, x, declared, owning, class) new this z.1)))
+        | inl (store, inr (inr lend)) ↦ inr (lend.0 (f, x, declared, owning, class) new this)
         | inr none ↦ absurd (no_object c value none)
       ]
     ],
-    waiting ys (All-tail (λ (x : Frame). LocalsInRange h x.locals) y ys in') open'.1 (λ u g store makes. (others u g store makes).1) all.1,
+    waiting ys (further p h k fr y ys s.action stores) (All-tail (λ (x : Frame). LocalsInRange h x.locals) y ys in') open'.1 (λ u g store makes. (others u g store makes).1) all.1,
   )
 
-  pub went_filled : (v : Value) (frs : List Frame) → All (λ (y : Frame). LocalsInRange h y.locals) frs → AreUnfinished p h frs → AreNew p (fr ∷ frs) → AreFilled p h (fr ∷ frs) → AreFilled p k (frame_after p h fr s v ∷ frs)
-  went_filled v frs in' open' new all = (
-    top_filled v all.0,
-    waiting frs in' open' (λ u g store makes. new.0 u (storing u g store) makes store.2) all.1,
+  pub went_filled : (v : Value) (frs : List Frame) → StoresOwning p h k fr frs s.action → All (λ (y : Frame). LocalsInRange h y.locals) frs → AreUnfinished p h frs → AreNew p (fr ∷ frs) → AreFilled p h (fr ∷ frs) → AreFilled p k (frame_after p h fr s v ∷ frs)
+  went_filled v frs stores in' open' new all = (
+    top_filled v frs stores all.0,
+    waiting frs stores in' open' (λ u g store makes. new.0 u (storing u g store) makes store.2) all.1,
   )
 
 -- ---- the frame that begins

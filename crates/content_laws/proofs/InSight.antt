@@ -51,7 +51,7 @@ use Rattle.covering_laws.specs.Choosing.{frame_steps}
 use Rattle.covering_laws.specs.Configuration.{Frame}
 use Rattle.covering_laws.specs.ClassOperands.{IsNotAboveString, IsOfClass, OfClass, own_type, type_of_field}
 use Rattle.covering_laws.proofs.Bodies.{running_method}
-use Rattle.covering_laws.specs.Agreement.{AllStand, Stands}
+use Rattle.covering_laws.specs.Agreement.{AllStand, IsStacked, Stands}
 use Rattle.covering_laws.specs.ClassValues.{FrameFitsClass, FramesFitClass, IsOnInstance}
 use Rattle.covering_laws.specs.HeapAnew.{finished_root, target_root}
 use Rattle.covering_laws.specs.Heaps.{HasEarlierLinks}
@@ -61,7 +61,9 @@ use Rattle.covering_laws.specs.Objects.{object_class}
 use Rattle.covering_laws.specs.Operands as operands
 use Rattle.covering_laws.specs.Operands.{NoObject, params_of}
 use Rattle.covering_laws.specs.Renewable.{IsFollowed, IsRenewable, renews_each, takes_each}
-use Rattle.covering_laws.specs.Sight.{ActsInSight, AllActInSight, IsOnObject, RunOnObjects}
+use Rattle.covering_laws.specs.Making.{AreBeingMade}
+use Rattle.covering_laws.proofs.MadeTargets.{makes_this}
+use Rattle.covering_laws.specs.Sight.{ActsInSight, AllActInSight, IsOnObject, MakesThis, RunOnObjects}
 use Rattle.covering_laws.specs.TextUpdates.{AllUpdateTexts, UpdatesTexts}
 use Rattle.covering_laws.specs.Types.{IsNoObjectButText, KeepAll, KeepsTypes, is_text}
 use Rattle.covering_laws.specs.Values.{FitsClass, HasClassUnder}
@@ -710,15 +712,23 @@ module _ (p : Program) (ac : Accept p) where
             let same : self.class ≡ u.0 = (let both : Some self.class ≡ Some u.0 = sym (ap class_in at) ∙ u.1 in cc) in
             ap (λ (e : ClassId). is_under p e n.class) same ∙ u.2
 
-    pub frame_in_sight : ((c d : ClassId) → is_under p c d ≡ true → is_library p c ≡ true → is_library p d ≡ true) → is_library p p.core.string ≡ true → Stands p fr → UpdatesTexts p h fr → IsOnObject p fr → ActsInSight p h fr
-    frame_in_sight library string st updates on = record { renews = renews; stores = stores; updates = updates; stands = stands library string st; on = on; receives = receives library string st }
+    pub frame_in_sight : ((c d : ClassId) → is_under p c d ≡ true → is_library p c ≡ true → is_library p d ≡ true) → is_library p p.core.string ≡ true → Stands p fr → UpdatesTexts p h fr → IsOnObject p fr → MakesThis p h fr → ActsInSight p h fr
+    frame_in_sight library string st updates on makes = record { renews = renews; stores = stores; updates = updates; stands = stands library string st; on = on; receives = receives library string st; makes = makes }
+
+stacked_below : (p : Program) (h : HeapContents) (fr : Frame) (frs : List Frame) → IsStacked p h (fr ∷ frs) → IsStacked p h frs
+stacked_below p h fr [] stacked = tt
+stacked_below p h fr (caller ∷ frs) stacked = stacked.1
+
+making_below : (p : Program) (h : HeapContents) (fr : Frame) (frs : List Frame) → AreBeingMade p h (fr ∷ frs) → AreBeingMade p h frs
+making_below p h fr [] making = tt
+making_below p h fr (caller ∷ frs) making = making.2
 
 -- the next step of each frame is seen
 pub acts_in_sight : (p : Program) → Accept p → HasLightTexts p → OwnsNoRenewedText p → ((c d : ClassId) → is_under p c d ≡ true → is_library p c ≡ true → is_library p d ≡ true) → is_library p p.core.string ≡ true
     → (h : HeapContents) (frs : List Frame) → AllStand p frs → HasEarlierLinks h → ((bound : ClassId) → IsNotAboveString p bound → FramesFitClass p bound h frs) → KeepAll (is_text p h) p frs
-    → LinkedAreAliases p h → LinksReachAliased p h → AllUpdateTexts p h frs → RunOnObjects p frs → AllActInSight p h frs
-acts_in_sight p ac light fields library string h [] standing links keeps types' aliases reached updates on = tt
-acts_in_sight p ac light fields library string h (fr ∷ frs) standing links keeps types' aliases reached updates on = (
-  frame_in_sight p ac light fields h links aliases reached fr (λ bound own. (keeps bound own).0) types'.0 library string standing.0 updates.0 on.0,
-  acts_in_sight p ac light fields library string h frs standing.1 links (λ bound own. (keeps bound own).1) types'.1 aliases reached updates.1 on.1,
+    → LinkedAreAliases p h → LinksReachAliased p h → AllUpdateTexts p h frs → RunOnObjects p frs → IsStacked p h frs → AreBeingMade p h frs → AllActInSight p h frs
+acts_in_sight p ac light fields library string h [] standing links keeps types' aliases reached updates on stacked making = tt
+acts_in_sight p ac light fields library string h (fr ∷ frs) standing links keeps types' aliases reached updates on stacked making = (
+  frame_in_sight p ac light fields h links aliases reached fr (λ bound own. (keeps bound own).0) types'.0 library string standing.0 updates.0 on.0 (makes_this p ac h links fr frs standing stacked making),
+  acts_in_sight p ac light fields library string h frs standing.1 links (λ bound own. (keeps bound own).1) types'.1 aliases reached updates.1 on.1 (stacked_below p h fr frs stacked) (making_below p h fr frs making),
 )

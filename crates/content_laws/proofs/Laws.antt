@@ -51,7 +51,7 @@ module _ (p : Program) (ac : Accept p) (forms : HasPlainForms p) where
   carried c d is all = subst (λ (x : Config). AreFilled p x.heap x.frames) (same_went c d is) all
 
   module _ (c d : Config) (fr : Frame) (frs : List Frame) (st : Stands p fr) (ranges : AreInRange c) (in' : All (λ (x : Frame). LocalsInRange c.heap x.locals) (fr ∷ frs)) (new : AreNew p (fr ∷ frs))
-      (all : AreFilled p c.heap (fr ∷ frs)) (same_frames : AreFilled p c.heap c.frames) (sight : ActsInSight p c.heap fr) (open' : AreUnfinished p c.heap (fr ∷ frs)) (ready : StoresReadily p c.heap fr) where
+      (all : AreFilled p c.heap (fr ∷ frs)) (same_frames : AreFilled p c.heap c.frames) (sight : ActsInSight p c.heap fr) (open' : AreUnfinished p c.heap (fr ∷ frs)) (ready : StoresReadily p c.heap fr frs) where
     waits_in : All (λ (x : Frame). LocalsInRange c.heap x.locals) frs
     waits_in = All-tail (λ (x : Frame). LocalsInRange c.heap x.locals) fr frs in'
 
@@ -65,7 +65,7 @@ module _ (p : Program) (ac : Accept p) (forms : HasPlainForms p) where
         let keeps : KeepsOwning p c.heap k =
         fields_keep p c.heap k (returned_grows p (length below + 1) fr.locals.this caller.locals t.action (method_at p fr.method) (method_at p named) v e c.heap).fields in
         carried (returned p c fr caller below pos q e named t) d same
-        (went_filled p forms c.heap k caller waits back.0 t back.1 (keeps_stores p c.heap k caller t.action keeps) given below (All-tail (λ (x : Frame). LocalsInRange c.heap x.locals) caller below in'') open''.1 new' all')
+        (went_filled p forms c.heap k caller waits back.0 t back.1 given below (keeps_stores p c.heap k caller below t.action keeps) (All-tail (λ (x : Frame). LocalsInRange c.heap x.locals) caller below in'') open''.1 new' all')
     returned_all caller below pos q (StrayBack e at) waits in'' open'' new' all' back same = absurd (let never : stray e at ≡ went d = same in cc)
     returned_all caller below pos q NoWay waits in'' open'' new' all' back same = carried c d same same_frames
 
@@ -79,11 +79,11 @@ module _ (p : Program) (ac : Accept p) (forms : HasPlainForms p) where
     moved_all standing (Inner e s) next same =
         let v = thrown_value c.heap e (made_value p c.heap c.arrays c.statics (next_choice c.choices c.used) fr.locals s.action) in
         carried (within p c fr frs e s) d same
-        (went_filled p forms c.heap (within p c fr frs e s).heap fr st next.0 s next.1
+        (went_filled p forms c.heap (within p c fr frs e s).heap fr st next.0 s next.1 v frs
         (λ u g x declared owning. elim (inner_owning p c.heap fr.method fr.locals e s.action s.pos (held_by (frame_after p c.heap fr s v ∷ frs)) (λ f d w this is own held. (sight.updates next.0 s f d w this next.1 is own held).0) u g x declared owning) [
           | inl same ↦ inl same
           | inr more ↦ inr (elim more [ inl store ↦ inl (store, ready next.0 s g store.0 u next.1 store.1 store.2) | inr none ↦ inr none ])
-        ]) v frs waits_in open'.1 new all)
+        ]) waits_in open'.1 new all)
     moved_all standing (Start named runs a pos) next same =
         let k : HeapContents = (began p c fr frs named runs a pos).heap in
         let keeps : KeepsOwning p c.heap k = fields_keep p c.heap k (began_grows p fr.locals a (method_at p named) (suc (suc (length frs))) c.heap).fields in
@@ -93,8 +93,8 @@ module _ (p : Program) (ac : Accept p) (forms : HasPlainForms p) where
         let k : HeapContents = (library_went p c fr frs named m x s).heap in
         let v = conduct_value (length (arguments_shared c.arrays fr.locals s.action (method_at p named))) (method_at p m) (positions fr.locals s.action (next_number c.heap) x) (next_number c.heap) x in
         carried (library_went p c fr frs named m x s) d same
-        (went_filled p forms c.heap k fr st next.index s next.here
-        (keeps_stores p c.heap k fr s.action (fields_keep p c.heap k (library_grows p fr.locals s.action (method_at p named) (method_at p m) x (length frs + 1) c.heap).fields)) v frs waits_in open'.1 new all)
+        (went_filled p forms c.heap k fr st next.index s next.here v frs
+        (keeps_stores p c.heap k fr frs s.action (fields_keep p c.heap k (library_grows p fr.locals s.action (method_at p named) (method_at p m) x (length frs + 1) c.heap).fields)) waits_in open'.1 new all)
     moved_all standing (End pos q) next same = end_all frs pos q standing waits_in open'.1 new.1 all.1 same
     moved_all standing (Stray e pos) next same = absurd (let never : stray e pos ≡ went d = same in cc)
     moved_all standing Rest next same = carried c d same same_frames

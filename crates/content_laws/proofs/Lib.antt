@@ -41,6 +41,8 @@ pub use Rattle.covering_laws.proofs.CallNames
 pub use Rattle.covering_laws.proofs.CallWays
 pub use Rattle.covering_laws.proofs.Calls
 pub use Rattle.covering_laws.proofs.Carried
+pub use Rattle.covering_laws.proofs.GivenAway
+pub use Rattle.covering_laws.proofs.MadeWays
 pub use Rattle.covering_laws.proofs.Readings
 pub use Rattle.covering_laws.proofs.Cases
 pub use Rattle.covering_laws.proofs.Chains
@@ -52,7 +54,9 @@ pub use Rattle.covering_laws.proofs.Constructors
 pub use Rattle.covering_laws.proofs.Counts
 pub use Rattle.covering_laws.proofs.CoveredArguments
 pub use Rattle.covering_laws.proofs.CoveringLaws
+pub use Rattle.covering_laws.proofs.RenewingFrames
 pub use Rattle.covering_laws.proofs.SaidFacts
+pub use Rattle.covering_laws.proofs.SettledFrames
 pub use Rattle.covering_laws.proofs.Storing as CoveringStoring
 pub use Rattle.covering_laws.proofs.DispatchOwners
 pub use Rattle.covering_laws.proofs.Emptied

@@ -37,7 +37,10 @@ use Rattle.covering_laws.proofs.Cases.{next_is}
 use Rattle.covering_laws.proofs.Returns.{back_is}
 use Rattle.covering_laws.specs.FieldContents.{FieldsHold, FieldsOwn, IsBeingMade, is_made_in}
 use Rattle.covering_laws.specs.PlaceFacts.{AreCovered, IsCovered, IsOld, gives_none, renews_none}
-use Rattle.covering_laws.specs.Ranges.{AreInRange, FieldsInRange}
+use Rattle.covering_laws.specs.Ranges.{AreInRange, FieldsInRange, LocalsInRange}
+use Rattle.covering_laws.proofs.RenewingFrames.{all_renew_in_hand}
+use Rattle.covering_laws.proofs.ContentHolders.{contents_have_holders}
+use Rattle.std.proofs.lemmas.List.Elements.{All-tail}
 use Rattle.content_laws.proofs.ContentFrames.{begun_method}
 use Rattle.content_laws.proofs.Goes.{contents_go_on, leaves_goes, leaves_roots}
 use Rattle.content_laws.proofs.Leaves.{end_frame_leaves}
@@ -98,7 +101,7 @@ module _ (p : Program) (ac : Accept p) (forms' : HasPlainForms p) (c d : Config)
       (hold : FieldsHold p (fr ∷ frs) c.heap) → KeepsTargets p fr → HaveArguments p (fr ∷ frs) → EndsByClass p c.heap fr → c.frames ≡ fr ∷ frs → (mv : Move) → IsNext p c.heap c.arrays fr.method fr.locals (frame_steps p fr) mv → moved p c fr frs mv ≡ went d
       → FieldsHold p d.frames d.heap
   moved_hold fr frs agrees old aged covered in' ranges hold targets given exits frames (Inner e s) next same =
-      carried (within p c fr frs e s) same (inner_step p ac forms' c fr frs agrees old covered in' ranges hold (subst (λ (gs : List Frame). AllActInSight p c.heap gs) frames sight).0 targets owned aliases e s next.0 next.1 next.2 (links_then (within p c fr frs e s) same))
+      carried (within p c fr frs e s) same (inner_step p ac forms' c fr frs agrees old covered in' ranges hold (subst (λ (gs : List Frame). AllActInSight p c.heap gs) frames sight).0 (subst (λ (gs : List Frame). AllActInSight p c.heap gs) frames sight).1 targets owned aliases e s next.0 next.1 next.2 (links_then (within p c fr frs e s) same))
   moved_hold fr frs agrees old aged covered in' ranges hold targets given exits frames (Start named runs a pos) next same =
       carried (began p c fr frs named runs a pos) same (began_hold p ac forms' c fr frs agrees old covered in' ranges hold named runs a pos next (links_then (began p c fr frs named runs a pos) same))
   moved_hold fr frs agrees old aged covered in' ranges hold targets given exits frames (Library named m x s) next same =
@@ -127,7 +130,9 @@ top_stores_readily p ac forms c agrees targets in' covered hold owned aliases si
   where
     by : (frs : List Frame) → Agrees p frs c.heap c.entries → HaveTargets p frs → LocalsIn c.heap frs → AreCovered p c.heap frs → FieldsHold p frs c.heap → AllActInSight p c.heap frs → TopStoresReadily p c.heap frs
     by [] agrees' targets' ranges covered' hold' sight' = tt
-    by (fr ∷ frs) agrees' targets' ranges covered' hold' sight' = stores_readily p ac forms c fr frs agrees' covered'.0 covered'.2 ranges in'.fields hold' sight'.0 targets'.0 owned aliases
+    by (fr ∷ frs) agrees' targets' ranges covered' hold' sight' = stores_readily p ac forms c fr frs agrees' covered'.0 covered'.2 ranges in'.fields hold' sight'.0 sight'.1 targets'.0 owned aliases
+        (all_renew_in_hand p ac forms c.heap agrees'.ends agrees'.links owned (contents_have_holders p ac (fr ∷ frs) c.heap hold'.contents) fr frs agrees'.standing.1 targets'.1 agrees'.stacked
+        (All-tail (λ (x : Frame). LocalsInRange c.heap x.locals) fr frs ranges) covered'.0 covered'.3 hold'.unfinished.1 sight'.1)
 
 pub fields_hold_at_start : (p : Program) (main : MethodId) (m : Method) (choices : Choices) → method_at p main ≡ Some m → constructs (Some m) ≡ false
     → FieldsHold p (start_config p main choices).frames (start_config p main choices).heap

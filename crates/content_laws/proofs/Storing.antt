@@ -5,11 +5,12 @@ use Rattle.program_model.specs.declared.program.Program.{Program}
 use Rattle.java_control.specs.Remaining.{Todo}
 use Rattle.covering_laws.specs.Paths.{Comes, Move, on, relation_of}
 use Rattle.covering_laws.specs.PlainForms.{calls_constructor}
-use Rattle.covering_laws.specs.Storing.{HasStored, onward, stored}
+use Rattle.covering_laws.specs.Storing.{HasStored, onward, opened, stored}
 
 -- a control behind a store is one that is reached
 pub stored_comes : (p : Program) (b : BodyId) (k : List Todo) → HasStored p b k → Comes (relation_of p b) k
 stored_comes p b _ (stored i t f d comes at is) = on i t comes at
+stored_comes p b _ (opened i t comes at is) = on i t comes at
 stored_comes p b _ (onward {k} i t before at) = on i t (stored_comes p b k before) at
 
 pub no_supers : (p : Program) → ((b : BodyId) (k : List Todo) (i : ℕ) (t : Move (List Todo)) → Comes (relation_of p b) k → slice_get ((relation_of p b).next k) i ≡ Some t → calls_constructor p t.action ≡ true → ⊥)

@@ -6,7 +6,7 @@ use Rattle.covering_laws.specs.Holders.{HoldersAreUnlinked}
 use Rattle.std.proofs.lemmas.Bool.{or_left, and_parts}
 use Rattle.std.specs.Prelude.{◌<◌, ◌≤◌, ◌||◌, ◌&&◌, not}
 use Rattle.std.specs.FinSet as set
-use Rattle.std.proofs.Common.{Bool, List, None, Option, Some, ap, arith, false, if◌then◌else◌, inl, inr, length, refl, slice_get, subst, sym, true, true≢false, ℕ, ◌+◌, ◌∙◌, ◌∷◌, ◌≡◌, ◌⊎◌}
+use Rattle.std.proofs.Common.{Bool, List, None, Option, Some, ap, arith, false, if◌then◌else◌, inl, inr, length, refl, slice_get, subst, sym, true, true≢false, ℕ, ◌+◌, ◌∙◌, ◌∷◌, ◌≡◌, ◌⊎◌, []}
 use Rattle.std.proofs.lemmas.List.Elements.{All-head, All-tail}
 use Rattle.rlc_base.specs.declared.name_id.NameId.{NameId}
 use Rattle.rlc_base.specs.declared.place.Pos.{Pos}
@@ -18,7 +18,7 @@ use Rattle.program_model.specs.declared.program.Field.{Field}
 use Rattle.program_model.specs.declared.program.Method.{Method}
 use Rattle.program_model.specs.declared.program.Program.{Program}
 use Rattle.program_model.specs.Lookups.{field_at, method_at}
-use Rattle.must_call_sets.specs.Bodies.{is_field_in, reset_in, constructs, is_alias_constructor}
+use Rattle.must_call_sets.specs.Bodies.{is_field_in, reset_in, constructs, is_alias_constructor, is_class_of}
 use Rattle.must_call_sets.specs.MustCallSets.{is_heavy_class, must_of, must_of_type}
 use Rattle.java_control.specs.Control.{Step}
 use Rattle.java_control.specs.Owned.{is_owning, is_owning_field}
@@ -58,9 +58,9 @@ use Rattle.covering_laws.specs.Nexts.{IsInnerStep, IsLibraryMove, IsStartMove}
 use Rattle.covering_laws.proofs.NameCounts.{accepted_names}
 use Rattle.covering_laws.proofs.Ready.{step_there}
 use Rattle.covering_laws.proofs.Stacks.{tracked_bounded}
-use Rattle.covering_laws.specs.FieldContents.{FieldsHold, is_made_in, makes_holder, FieldsOwn}
+use Rattle.covering_laws.specs.FieldContents.{FieldsHold, is_made_in, makes_holder, FieldsOwn, AreNew, AreUnfinished}
 use Rattle.covering_laws.specs.PlaceFacts.{IsCovered, gives_none, renews_none, Covers, IsKeyed, is_heavy_in, owned as is_owned_key, unowned}
-use Rattle.covering_laws.specs.Renewing.{lends_this}
+use Rattle.covering_laws.specs.Renewing.{lends_this, IsLentFrom, IsMadeBy, is_declared_beside}
 use Rattle.covering_laws.specs.Ranges.{FieldsInRange, LocalsInRange}
 use Rattle.covering_laws.proofs.Configs.{frames_stay}
 use Rattle.covering_laws.proofs.Steps.{IsFuller, owning_fuller}
@@ -75,6 +75,9 @@ use Rattle.covering_laws.specs.Stores.{IsMovedIn}
 use Rattle.covering_laws.specs.Linking.{LinkedAreAliases}
 use Rattle.program_model.specs.SuperTests.{is_under}
 use Rattle.covering_laws.specs.Facts.{has, is_held, is_own}
+use Rattle.covering_laws.proofs.MadeWays.{MakesOfClass, made_below}
+use Rattle.covering_laws.proofs.Cases.{same_class}
+use Rattle.covering_laws.proofs.SettledFrames.{AllRenewInHand, IsOnTheWay, making_lends, way_begins, way_goes_down}
 use Rattle.content_laws.proofs.Ends.{heavy_field_by}
 use Rattle.content_laws.proofs.ContentFrames.{callee_dispatched, callee_fresh, callee_new, callee_unfinished}
 use Rattle.content_laws.proofs.Goes.{contents_go_on, dispatched_on, goes_forth, goes_further, lose_goes, self_goes, there, unfinished_on, not_the_librarys_owes}
@@ -84,7 +87,7 @@ use Rattle.content_laws.proofs.Renewals.{CreatesAnew, linked_before, renewed_hol
 use Rattle.content_laws.proofs.LibraryResets.{library_renews, position_none, read_resets_nothing, same_interest}
 use Rattle.covering_laws.proofs.Renewed.{says_nothing, without_reset}
 use Rattle.covering_laws.specs.HeapAnew.{is_anew}
-use Rattle.covering_laws.specs.Sight.{ActsInSight}
+use Rattle.covering_laws.specs.Sight.{ActsInSight, AllActInSight}
 use Rattle.covering_laws.specs.TextUpdates.{IsLeftByText, IsLightStore, UpdatesTexts}
 use Rattle.covering_laws.proofs.TextStores.{light_back, light_fields, light_forward, light_links, row_light, store_count}
 use Rattle.covering_laws.specs.Callees.{callee_in}
@@ -94,7 +97,7 @@ use Rattle.content_laws.proofs.Steps.{lost, owning_on, same_after, IsSameFrame, 
 use Rattle.content_laws.proofs.LibraryNotes.{no_library_note}
 use Rattle.content_laws.proofs.ContentStores.{is_anew as is_anew_at, left_links, may_library, renews, store_forth, store_owning, stored_contents, stored_leads}
 use Rattle.content_laws.proofs.Promised.{promises_its_own}
-use Rattle.content_laws.specs.Filled.{StoresReadily}
+use Rattle.content_laws.specs.Filled.{StoresReadily, MakersLend}
 use Rattle.content_laws.specs.Going.{Goes, IsNotedBy, NoName, PromisesItsOwn}
 
 -- the name of the call is one of the table
@@ -122,6 +125,28 @@ own_mode modes.Alias is = absurd (true≢false (sym is))
 own_mode modes.Held is = absurd (true≢false (sym is))
 own_mode modes.Lent is = absurd (true≢false (sym is))
 own_mode modes.None is = absurd (true≢false (sym is))
+
+-- a frame that makes the object runs a constructor of its class
+made_class : (p : Program) → HasPlainForms p → (h : HeapContents) (g : Frame) → ActsInSight p h g → (w : ℕ) (self : Object) → object_at h w ≡ Some self → (c : ClassId) → self.class ≡ c → IsMadeBy p g w → is_class_of c (method_at p g.method) ≡ true
+made_class p forms h g sight w self at c same made = by_field (field_at p made.field) refl made.declared
+  where
+    by_field : (x : Option Field) → field_at p made.field ≡ x → is_declared_beside p g.method x ≡ true → is_class_of c (method_at p g.method) ≡ true
+    by_field None none never = absurd (true≢false (sym never))
+    by_field (Some x) known declared = by_method (method_at p g.method) refl parts.1
+      where
+        parts : (x.owning ≡ true) × (is_class_of x.class (method_at p g.method) ≡ true)
+        parts = and_parts x.owning (is_class_of x.class (method_at p g.method)) declared
+
+        by_method : (m : Option Method) → method_at p g.method ≡ m → is_class_of x.class m ≡ true → is_class_of c (method_at p g.method) ≡ true
+        by_method None none never = absurd (true≢false (sym never))
+        by_method (Some m) found among =
+            let one : x.class ≡ m.class = same_class x.class m.class among in
+            let its : self.class ≡ x.class = forms.alone self.class made.field x known parts.0 (ap (is_under p self.class) one ∙ sight.stands w self m made.runs at found) in
+            ap (λ (d : ClassId). is_class_of d (method_at p g.method)) (sym same ∙ its) ∙ parts.1
+
+made_classes : (p : Program) → HasPlainForms p → (h : HeapContents) (w : ℕ) (self : Object) → object_at h w ≡ Some self → (c : ClassId) → self.class ≡ c → (gs : List Frame) → AllActInSight p h gs → MakesOfClass p w c gs
+made_classes p forms h w self at c same [] sights = tt
+made_classes p forms h w self at c same (g ∷ gs) sights = (made_class p forms h g sights.0 w self at c same, made_classes p forms h w self at c same gs sights.1)
 
 module _ (p : Program) (ac : Accept p) (forms' : HasPlainForms p) (c : Config) (fr : Frame) (frs : List Frame) (agrees : Agrees p (fr ∷ frs) c.heap c.entries) (old : ℕ → Bool) (covered : IsCovered p c.heap gives_none renews_none old frs fr)
     (in' : LocalsIn c.heap (fr ∷ frs)) (ranges : FieldsInRange c.heap) (hold : FieldsHold p (fr ∷ frs) c.heap) where
@@ -215,7 +240,7 @@ module _ (p : Program) (ac : Accept p) (forms' : HasPlainForms p) (c : Config) (
   unlinked = contents_have_holders p ac (fr ∷ frs) h hold.contents
 
   -- a store into an owning field of `this`
-  module _ (sight : ActsInSight p h fr) (targets : KeepsTargets p fr) (owned : FieldsOwn p h) (aliases : LinkedAreAliases p h) (i : ℕ) (s : Step) (here : slice_get (frame_steps p fr) i ≡ Some s) (f : FieldId) (t : ℕ)
+  module _ (sight : ActsInSight p h fr) (sights : AllActInSight p h frs) (targets : KeepsTargets p fr) (owned : FieldsOwn p h) (aliases : LinkedAreAliases p h) (i : ℕ) (s : Step) (here : slice_get (frame_steps p fr) i ≡ Some s) (f : FieldId) (t : ℕ)
       (is : s.action ≡ actions.PutOwn f t) where
     abbrev v : Value
     v = thrown_value h None (made_value p h c.arrays c.statics (next_choice c.choices c.used) fr.locals s.action)
@@ -293,6 +318,10 @@ module _ (p : Program) (ac : Accept p) (forms' : HasPlainForms p) (c : Config) (
           by (is_owned_key c in' mine) = of_cover c in'
           by (unowned u) = of_cover u.covers u.here
 
+      -- a frame below makes the object, where it is not finished and lent
+      below_makes : (self.0).finished ≡ false → IsLentFrom p h frs w (self.0).owner → (field : Field) → field_at p f ≡ Some field → is_made_in p w field.class frs ≡ true
+      below_makes open' lent field at = made_below p h agrees.ends w self.0 self.1 open' field.class frs (made_classes p forms' h w self.0 self.1 field.class (of_class field at) frs sights) lent
+
       same : IsSameFrame fr after
       same = same_after p h fr s v
 
@@ -303,13 +332,13 @@ module _ (p : Program) (ac : Accept p) (forms' : HasPlainForms p) (c : Config) (
       whole = stored_owning p h w f tied (temp_value fr.locals t)
 
       forth : Evolves h plain
-      forth = store_forth p ac forms' h fr frs st links old covered hold i s here f t is w this self.0 self.1 bounded owned unlinked of_class storing heavy_bounded
+      forth = store_forth p ac forms' h fr frs st links old covered hold i s here f t is w this self.0 self.1 bounded owned unlinked of_class storing below_makes heavy_bounded
 
       abbrev anew : ℕ → Bool
-      anew = is_anew_at p ac forms' h fr frs st links old covered hold i s here f t is w this self.0 self.1 bounded owned unlinked of_class storing heavy_bounded
+      anew = is_anew_at p ac forms' h fr frs st links old covered hold i s here f t is w this self.0 self.1 bounded owned unlinked of_class storing below_makes heavy_bounded
 
       turned : Renews p anew plain whole
-      turned = renews p ac forms' h fr frs st links old covered hold i s here f t is w this self.0 self.1 bounded owned unlinked of_class storing heavy_bounded
+      turned = renews p ac forms' h fr frs st links old covered hold i s here f t is w this self.0 self.1 bounded owned unlinked of_class storing below_makes heavy_bounded
 
       full : IsFuller h whole
       full = owning_fuller p h w f tied (temp_value fr.locals t) (top.this w (ap number_of this)) (top.temps t) ranges
@@ -317,11 +346,11 @@ module _ (p : Program) (ac : Accept p) (forms' : HasPlainForms p) (c : Config) (
       store_held : IsHeld whole
       store_held = (
         (full.fields, full.count),
-        left_links p ac forms' h fr frs st links old covered hold i s here f t is w this self.0 self.1 bounded owned unlinked of_class storing heavy_bounded,
+        left_links p ac forms' h fr frs st links old covered hold i s here f t is w this self.0 self.1 bounded owned unlinked of_class storing below_makes heavy_bounded,
         record {
-          contents = stored_contents p ac forms' h fr frs st links old covered hold i s here f t is w this self.0 self.1 bounded owned unlinked of_class storing heavy_bounded own after (same_makes p fr after frs same);
-          owning = store_owning p ac forms' h fr frs st links old covered hold i s here f t is w this self.0 self.1 bounded owned unlinked of_class storing heavy_bounded sight;
-          leads = stored_leads p ac forms' h fr frs st links old covered hold i s here f t is w this self.0 self.1 bounded owned unlinked of_class storing heavy_bounded;
+          contents = stored_contents p ac forms' h fr frs st links old covered hold i s here f t is w this self.0 self.1 bounded owned unlinked of_class storing below_makes heavy_bounded own after (same_makes p fr after frs same);
+          owning = store_owning p ac forms' h fr frs st links old covered hold i s here f t is w this self.0 self.1 bounded owned unlinked of_class storing below_makes heavy_bounded sight;
+          leads = stored_leads p ac forms' h fr frs st links old covered hold i s here f t is w this self.0 self.1 bounded owned unlinked of_class storing below_makes heavy_bounded;
           new = same_new p fr after frs same hold.new;
           fresh = same_fresh p fr after frs same hold.fresh;
           unfinished = same_unfinished p fr after frs same whole (unfinished_renewed p anew plain whole turned (fr ∷ frs) (unfinished_on p h plain forth (fr ∷ frs) (this_in h (fr ∷ frs) in') hold.unfinished));
@@ -342,21 +371,32 @@ module _ (p : Program) (ac : Accept p) (forms' : HasPlainForms p) (c : Config) (
         kept : IsHeld (Stored (number_of fr.locals.this))
         kept = by_this fr.locals.this refl
 
-  -- where the frame stores into an owning field of `this`, it runs a constructor, or `this` is finished
-  pub stores_readily : ActsInSight p h fr → KeepsTargets p fr → FieldsOwn p h → LinkedAreAliases p h → StoresReadily p h fr
-  stores_readily sight targets owned aliases i s f d w here is this = elim (storing sight targets owned aliases i s here f d is w this) [
+  -- where the frame stores into an owning field of `this`, it runs a constructor, or `this` is finished, or the constructor that makes it lends it
+  pub stores_readily : ActsInSight p h fr → AllActInSight p h frs → KeepsTargets p fr → FieldsOwn p h → LinkedAreAliases p h → AllRenewInHand p h frs → StoresReadily p h fr frs
+  stores_readily sight sights targets owned aliases renews i s f d w here is this = elim (storing sight sights targets owned aliases i s here f d is w this) [
     | inl makes ↦ inl makes.1
-    | inr opens ↦ inr (λ y at. (let x = self sight targets owned aliases i s here f d is w this in
-        ap (λ (u : Object). u.finished) (let both : Some y ≡ Some x.0 = sym at ∙ x.1 in (let one : y ≡ x.0 = cc in one)) ∙ opens.heavy.0))
+    | inr opens ↦ inr (inr (lend opens frs hold.new.1 hold.unfinished.1 renews
+        (λ opens'. way_begins p h agrees.ends unlinked w it.0 it.1 opens.heavy opens.single (inr (inr opens.stores)) frs opens.lent)))
   ]
+    where
+      it : (x : Object) × (object_at h w ≡ Some x)
+      it = self sight sights targets owned aliases i s here f d is w this
 
-  pub inner_step : ActsInSight p h fr → KeepsTargets p fr → FieldsOwn p h → LinkedAreAliases p h → (e : Option ClassId) (s : Step) (i : ℕ) → slice_get (frame_steps p fr) i ≡ Some s → IsInnerStep p h c.arrays fr.method fr.locals e s → HasEarlierLinks (within p c fr frs e s).heap
+      lend : IsReopened p h frs fr w it.0 → (gs : List Frame) → AreNew p gs → AreUnfinished p h gs → AllRenewInHand p h gs
+          → ((opens : IsReopened p h frs fr w it.0) → IsOnTheWay p h agrees.ends unlinked w it.0 it.1 opens.heavy opens.single (inr (inr opens.stores)) gs) → MakersLend p w gs
+      lend opens [] new open' renews' way = tt
+      lend opens (g ∷ gs) new open' renews' way = (
+        (λ declares makes runs. making_lends p h agrees.ends unlinked w it.0 it.1 opens.heavy opens.single (inr (inr opens.stores)) g gs (way opens) new open'.1 renews'.0 renews'.1 runs makes),
+        lend opens gs new.1 open'.1 renews'.1 (λ opens'. way_goes_down p h agrees.ends unlinked w it.0 it.1 opens'.heavy opens'.single (inr (inr opens'.stores)) g gs new open' (way opens')),
+      )
+
+  pub inner_step : ActsInSight p h fr → AllActInSight p h frs → KeepsTargets p fr → FieldsOwn p h → LinkedAreAliases p h → (e : Option ClassId) (s : Step) (i : ℕ) → slice_get (frame_steps p fr) i ≡ Some s → IsInnerStep p h c.arrays fr.method fr.locals e s → HasEarlierLinks (within p c fr frs e s).heap
       → Done (within p c fr frs e s)
-  inner_step sight targets owned aliases e s i here next now = elim next [
+  inner_step sight sights targets owned aliases e s i here next now = elim next [
     | inl plain ↦ row_hold sight.updates e i s here plain.row now
     | inr more ↦ elim more [
       | inl null ↦ inner_hold e i s here (nothing_stored e (call_stores_nothing fr.locals s.action null.row)) now
-      | inr store ↦ subst (λ (x : Option ClassId). Done (within p c fr frs x s)) (sym store.normal) (store_hold sight targets owned aliases i s here store.field store.temp store.action)
+      | inr store ↦ subst (λ (x : Option ClassId). Done (within p c fr frs x s)) (sym store.normal) (store_hold sight sights targets owned aliases i s here store.field store.temp store.action)
     ]
   ]
 

@@ -24,7 +24,7 @@ pub fn fields_filled_at_start()
 
 /// Each step that is not stray leaves frames whose constructors have stored what the owning fields of their objects hold, in an accepted program of the
 /// plain forms: a field of a new object holds no object, and the constructors of the class that declares an owning field alone store one there,
-/// while the object is not finished.
+/// while the object is not finished, and methods that they call on it.
 pub fn fields_filled_step()
     ensures { (p : Program) → Accept p → HasPlainForms p → (c d : Config) → HasMadeClasses p c.heap → AllStand p c.frames → HaveTargets p c.frames → AreInRange c → AreNew p c.frames
         → AreFilled p c.heap c.frames → AllActInSight p c.heap c.frames → AreUnfinished p c.heap c.frames → TopStoresReadily p c.heap c.frames → step p c ≡ went d → AreFilled p d.heap d.frames }

@@ -1,12 +1,16 @@
 -- The facts of the operand of which the result of a call is an alias have the result's temp after the call.
-use Rattle.std.proofs.Common.{◌≡◌, ◌∙◌, ℕ, true, true≢false, Option, Some, None, false, refl, sym, ap, subst}
+use Rattle.std.proofs.Common.{◌≡◌, ◌∙◌, ◌⊎◌, inl, inr, ℕ, true, true≢false, Option, Some, None, false, refl, sym, ap, subst}
 use Rattle.std.proofs.lemmas.Bool.{and_from, or_left}
+use Rattle.program_model.specs.declared.kinds.MethodId.{MethodId}
 use Rattle.program_model.specs.declared.program.Program.{Program}
-use Rattle.ledger_obligations.specs.Bodies.{alias_in}
+use Rattle.program_model.specs.Lookups.{method_at}
+use Rattle.ledger_obligations.specs.Bodies.{alias_in, constructs}
+use Rattle.java_control.specs.Calls.{called_method}
 use Rattle.java_control.specs.Control.{Step}
 use Rattle.java_control.specs.PlaceNumbers.{IsSmall}
 use Rattle.java_control.specs.Sources.{source}
 use Rattle.java_control.specs.declared.action.Action.{Action}
+use Rattle.java_control.specs.declared.action.Action.TheVariants as actions
 use Rattle.java_control.specs.declared.action.Edge.{Edge}
 use Rattle.java_control.specs.declared.action.Edge.TheVariants as edges
 use Rattle.java_control.specs.declared.place.Place.{Place}
@@ -15,6 +19,10 @@ use Rattle.ownership_rules.specs.Callees.{callee, holds_operand}
 use Rattle.ownership_rules.specs.Facts.{PlaceSet, has, has_temp}
 use Rattle.ownership_rules.specs.SmallActions.{IsSmallTemp}
 use Rattle.ownership_rules.proofs.SmallOperands.{operand_has_room}
+use Rattle.value_laws.specs.Arguments.{has_receiver}
+use Rattle.value_laws.specs.FieldContents.{is_new}
+use Rattle.value_laws.specs.Naming.{IsOfItsKind}
+use Rattle.value_laws.specs.PlainForms.{IsPlainAction}
 use Rattle.value_laws.specs.Aliases.{alias_operand, gives_alias}
 use Rattle.value_laws.specs.Aliases as aliases
 use Rattle.value_laws.specs.PlaceRows.{places_after}
@@ -64,3 +72,16 @@ gives_operand p a edges.NonNull held gives = absurd (true≢false (sym gives))
 gives_operand p a edges.True held gives = absurd (true≢false (sym gives))
 gives_operand p a edges.False held gives = absurd (true≢false (sym gives))
 gives_operand p a (edges.Throws c) held gives = absurd (true≢false (sym gives))
+
+-- a super constructor has no alias, so a method with one is called, or a `new` ends
+pub alias_kind : (p : Program) (a : Action) (named : MethodId) → IsPlainAction p a → IsOfItsKind p a → called_method a ≡ Some named → (k : ℕ) → alias_in (method_at p named) ≡ Some k
+    → (is_new a ≡ true) ⊎ ((is_new a ≡ false) × (constructs (method_at p named) ≡ false) × (has_receiver a ≡ true))
+alias_kind p actions.Skip named form kind calls k some = absurd (let never : None ≡ Some named = calls in cc)
+alias_kind p (actions.Call m d n f) named form kind calls k some =
+    let same : m ≡ named = (let both : Some m ≡ Some named = calls in (let one : m ≡ named = cc in one)) in
+    inr (refl, ap (λ (z : MethodId). constructs (method_at p z)) (sym same) ∙ kind, refl)
+alias_kind p (actions.New m d n) named form kind calls k some = inl refl
+alias_kind p (actions.Super m d n) named form kind calls k some =
+    let same : m ≡ named = (let both : Some m ≡ Some named = calls in (let one : m ≡ named = cc in one)) in
+    absurd (let never : None ≡ Some k = sym form.2 ∙ ap (λ (z : MethodId). alias_in (method_at p z)) same ∙ some in cc)
+alias_kind p a named form kind calls k some = absurd (let never : None ≡ Some named = calls in cc)

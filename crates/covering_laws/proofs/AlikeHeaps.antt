@@ -10,7 +10,7 @@ use Rattle.value_laws.specs.Configuration.{Frame}
 use Rattle.value_laws.specs.HeapAnew.{is_field_owner}
 use Rattle.value_laws.specs.Holders.{FieldsGoOnOwning, HasTop, IsComparable, IsWithin}
 use Rattle.value_laws.specs.PlaceFacts.{EndsBelow, IsAnswered, IsHeavyObject, IsOld, IsOwnedBelow, IsSpared, is_frame_from, is_given_up}
-use Rattle.value_laws.specs.Renewing.{is_renewed}
+use Rattle.value_laws.specs.Renewing.{HasOwningField, IsWhole, IsWholeObject, is_renewed}
 use Rattle.value_laws.proofs.WaysUp.{within_goes_on}
 use Rattle.covering_laws.proofs.Owners.{HoldersStay, KeepsFinished, holders_stay, keeps_finished}
 
@@ -70,12 +70,20 @@ module _ (h k : HeapContents) (alike : AreAlike h k) where
   pub answered_alike : (o : ℕ) → IsAnswered h o → IsAnswered k o
   answered_alike o (e, top, kept) = let now = top_alike o e top in (e, now.0, ap is_given_up now.1.owner ∙ kept)
 
+-- a whole object is whole
+pub whole_alike : (p : Program) (x y : Object) → IsAlike x y → IsWhole p x → IsWhole p y
+whole_alike p x y same (inl done) = inl (same.finished ∙ done)
+whole_alike p x y same (inr fields) = inr (subst (HasOwningField p) (sym same.class) fields)
+
+whole_object_alike : (p : Program) (x y : Object) → IsAlike x y → IsWholeObject p x → IsWholeObject p y
+whole_object_alike p x y same whole = (whole_alike p x y same whole.0, ap (is_heavy_class p) same.class ∙ whole.1)
+
 -- what the call that began the frame spares in the one heap it spares in the other, where it creates the same obligations anew
 pub spared_alike : (p : Program) (h k : HeapContents) → AreAlike h k → ((fr : Frame) (o : ℕ) → is_renewed p k fr o ≡ is_renewed p h fr o) → (frs : List Frame) (o : ℕ) → IsSpared p h frs o → IsSpared p k frs o
 spared_alike p h k alike same [] o spared = tt
 spared_alike p h k alike same (fr ∷ frs) o spared = λ u y there heavy comes.
     let x = alike.back u y there in
-    same fr u ∙ spared u x.0 x.1 (heavy_alike k h (alike_turned h k alike) p y x.0 (alike_back x.0 y x.2) heavy) (comparable_alike k h (alike_turned h k alike) u o comes)
+    same fr u ∙ spared u x.0 x.1 (whole_object_alike p y x.0 (alike_back x.0 y x.2) heavy) (comparable_alike k h (alike_turned h k alike) u o comes)
 
 -- what was old for a frame is so
 pub old_alike : (p : Program) (h k : HeapContents) → AreAlike h k → (frs : List Frame) (fr : Frame) (old : ℕ → Bool) → IsOld p h frs fr old → IsOld p k frs fr old

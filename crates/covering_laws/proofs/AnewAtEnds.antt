@@ -44,18 +44,18 @@ use Rattle.value_laws.specs.HeapAnew.{IsEmptied}
 use Rattle.value_laws.specs.Holders.{IsWithin, by_field, itself}
 use Rattle.value_laws.specs.Outcomes.{IsCallRow}
 use Rattle.value_laws.specs.Paths.{Reach, move_of, relation_of}
-use Rattle.value_laws.specs.PlaceFacts.{AreCovered, AreWaiting, Covers, IsCovered, IsHeavyObject, IsKeyed, IsOld, IsOwned, IsTrueOf, IsUnowned, OwesOrHolds, OwnersBelow, claims, gives_away, gives_none, is_frame_from, owned, renews_none, unowned, HasOwningField, is_lent_place}
+use Rattle.value_laws.specs.PlaceFacts.{AreCovered, AreWaiting, Covers, IsCovered, IsHeavyObject, IsKeyed, IsOld, IsOwned, IsTrueOf, IsUnowned, OwesOrHolds, OwnersBelow, claims, gives_away, gives_none, is_frame_from, owned, renews_none, unowned, is_lent_place}
 use Rattle.value_laws.specs.PlaceRows.{places_after}
 use Rattle.value_laws.specs.Places.{place_value}
 use Rattle.value_laws.specs.PlainForms.{HasPlainForms}
-use Rattle.value_laws.specs.Renewing.{HasInHand, IsHeldBy, IsLentFrom, fact_as, renews, IsOwnedByThis, answers_for_fields, is_declared_beside, is_renewed, lends_this, makes_alone, reopens}
+use Rattle.value_laws.specs.Renewing.{HasInHand, HasOwningField, IsHeldBy, IsLentFrom, IsOwnedByThis, IsWhole, answers_for_fields, fact_as, is_declared_beside, is_renewed, lends_this, makes_alone, renews, reopens}
 use Rattle.value_laws.proofs.FrameFollowing.{breaks_nothing}
 use Rattle.value_laws.proofs.HeapLaws.{numbers_are_in_range}
 use Rattle.value_laws.proofs.Needs.{origin_needs_all}
 use Rattle.value_laws.proofs.Ready.{step_there}
 use Rattle.value_laws.proofs.Resetting.{answered_target}
 use Rattle.value_laws.proofs.RootLaws.{one_object}
-use Rattle.value_laws.proofs.SparingCalls.{lent_ends_below, made_top, not_made_here, owned_apart}
+use Rattle.value_laws.proofs.SparingCalls.{lent_ends_below, made_open, made_top, not_made_here, owned_apart}
 use Rattle.value_laws.proofs.SparingEnds.{made_apart}
 use Rattle.value_laws.proofs.Tracking.{same_body}
 use Rattle.value_laws.proofs.WaysUp.{StepsUp, ends, finished_on_the_way, goes, steps_up}
@@ -63,7 +63,7 @@ use Rattle.covering_laws.proofs.AlikeHeaps.{AreAlike, IsAlike, alike_holders, ol
 use Rattle.covering_laws.proofs.GivenArguments.{away_moves}
 use Rattle.covering_laws.proofs.HeavyFields.{claims_by, claims_owned, answers_by}
 use Rattle.covering_laws.proofs.InFields.{held_by_this}
-use Rattle.covering_laws.proofs.Owners.{HoldersStay, KeepsGifts, OwnerGoes, OwnersGo, StaysApart, WaysGo, held_at, left, passed, stays, AllKeepGifts, IsNewTo, from_frame}
+use Rattle.covering_laws.proofs.Owners.{HoldersStay, KeepsGifts, OwnerGoes, OwnersGo, StaysApart, WaysGo, held_at, left, passed, stays, AllKeepGifts, IsNewTo, from_frame, whole_still}
 use Rattle.covering_laws.proofs.ReachedAbove.{IsReachedBy, AllRenewIt, IsOwnedHere, all_renew_it, content_in_hand}
 use Rattle.covering_laws.proofs.RenewedOperands.{HoldsLent, step_renews, IsHeldOrLent}
 use Rattle.covering_laws.proofs.ResetCovers.{IsRenewed, Turns, bears_before, keyed_same, keyed_unmade, not_lent, owned_anew, same_held, true_anew, unowned_anew, waiting_anew}
@@ -115,6 +115,10 @@ module _ (p : Program) (fr : Frame) (frs : List Frame) (h k : HeapContents) (way
   pub field_stays : (o : ℕ) (x y : Object) (w : ℕ) (f : FieldId) → object_at h o ≡ Some x → object_at k o ≡ Some y → IsHeavyObject p x → x.owner ≡ owners.Field w f → (z : Object) → object_at h w ≡ Some z → z.finished ≡ true
       → y.owner ≡ x.owner
   field_stays o x y w f before now heavy own z there done = field_by x.owner y.owner w f own (go_on o x y before now heavy.0 heavy.1) (λ new. true≢false (sym done ∙ new.1 z there))
+
+  -- so does a field of the `this` of the frame
+  pub this_stays : (o : ℕ) (x y : Object) (w : ℕ) (f : FieldId) → object_at h o ≡ Some x → object_at k o ≡ Some y → IsHeavyObject p x → x.owner ≡ owners.Field w f → fr.locals.this ≡ values.Object w → y.owner ≡ x.owner
+  this_stays o x y w f before now heavy own this = field_by x.owner y.owner w f own (go_on o x y before now heavy.0 heavy.1) (λ new. new.0.0 this)
 
   pub held_stays : (o : ℕ) (x y : Object) → object_at h o ≡ Some x → object_at k o ≡ Some y → IsHeavyObject p x → IsOwnedByThis p fr x.owner → y.owner ≡ x.owner
   held_stays o x y before now heavy held = field_by x.owner y.owner held.holder held.field held.owns (go_on o x y before now heavy.0 heavy.1) (λ new. new.0.0 held.runs)
@@ -196,8 +200,8 @@ module _ (p : Program) (ac : Accept p) (forms : HasPlainForms p) (h k j : HeapCo
     (mine : (o : ℕ) (x y : Object) → object_at h o ≡ Some x → object_at k o ≡ Some y → x.finished ≡ true → is_heavy_class p x.class ≡ true → gives_away p h fr.locals t.action o x.class ≡ false
     → x.owner ≡ owners.Frame (length frs + 1) → y.owner ≡ owners.Frame (length frs + 1))
     (later : HaveEnds k) (new : AreNew p (fr ∷ frs)) (unready : AreUnfinished p h (fr ∷ frs)) (unready' : AreUnfinished p k (fr ∷ frs)) (aged : IsOld p k frs after old)
-    (opened : reopens (method_at p fr.method) ≡ true → (w : ℕ) (y : Object) → fr.locals.this ≡ values.Object w → object_at h w ≡ Some y → is_heavy_class p y.class ≡ true → OwesOrHolds p h w y → y.link ≡ None → HasOwningField p y.class
-    → (y.finished ≡ true) × IsLentFrom p h frs w y.owner)
+    (opened : reopens (method_at p fr.method) ≡ true → (w : ℕ) (y : Object) → fr.locals.this ≡ values.Object w → object_at h w ≡ Some y → is_heavy_class p y.class ≡ true → OwesOrHolds p h w y → y.link ≡ None → IsWhole p y
+    → IsLentFrom p h frs w y.owner)
     (renews' : AllRenewInHand p h frs)
     (declares : (o : ℕ) (x : Object) (w : ℕ) (f : FieldId) (y : Object) → object_at h o ≡ Some x → is_heavy_class p x.class ≡ true → x.owner ≡ owners.Field w f → object_at h w ≡ Some y → HasOwningField p y.class)
     (after_method : after.method ≡ fr.method) (after_this : after.locals.this ≡ fr.locals.this) where
@@ -273,7 +277,7 @@ module _ (p : Program) (ac : Accept p) (forms : HasPlainForms p) (h k j : HeapCo
         by : IsKeyed p h (gives goal risen.object.class) (renewed goal) old frs fr (places.Temp temp.0) goal risen.object → OwnsHere ⊎ IsHeldOrLent p h frs fr goal risen.object.owner
         by (owned c in' key) = elim (claims_by p (method_at p fr.method) c.origin c.fact key.owning) [
           | inl own ↦ inl (c, in', key, own)
-          | inr held ↦ inr (holds goal risen.object risen.at risen.heavy.1 owes_goal risen.heavy.0 renews_goal (gives goal risen.object.class) (renewed goal) c held.0 held.1
+          | inr held ↦ inr (holds goal risen.object risen.at risen.heavy.1 owes_goal (inl risen.heavy.0) renews_goal (gives goal risen.object.class) (renewed goal) c held.0 held.1
               (claims_owned p (method_at p fr.method) c.origin c.fact key.owning).0)
         ]
         by (unowned u) =
@@ -316,28 +320,38 @@ module _ (p : Program) (ac : Accept p) (forms : HasPlainForms p) (h k j : HeapCo
 
     -- what the frame does not own keeps its owner
     other_next : IsHeldOrLent p h frs fr goal risen.object.owner → (next.0.owner ≡ risen.object.owner) × IsHeldOrLent p k frs fr goal next.0.owner
-    other_next (inl lent) = let kept = others.keeps goal risen.object next.0 risen.at next.1 risen.heavy.0 risen.heavy.1 lent in (kept.0, inl kept.1)
+    other_next (inl lent) = let kept = others.keeps goal risen.object next.0 risen.at next.1 (inl risen.heavy.0, risen.heavy.1) lent in (kept.0, inl kept.1)
     other_next (inr (inl held)) =
         let stay = held_stays p fr frs h k ways go_on goal risen.object next.0 risen.at next.1 risen.heavy held.1 in (stay, inr (inl (subst (IsHeldBy p fr) (sym stay) held)))
-    other_next (inr (inr held)) =
-        let y = ways.objects held.holder held.object held.at in
-        let kept = others.keeps held.holder held.object y.0 held.at y.1 held.finished held.heavy held.lends in
-        let stay = field_stays p fr frs h k ways go_on goal risen.object next.0 held.holder held.field risen.at next.1 risen.heavy held.owns held.object held.at held.finished in (
-          stay,
-          inr (inr (record {
-            holder = held.holder;
-            field = held.field;
-            owns = stay ∙ held.owns;
-            runs = held.runs;
-            method = held.method;
-            object = y.0;
-            at = y.1;
-            finished = (y.3 held.finished).0;
-            unlinked = (y.3 held.finished).1 ∙ held.unlinked;
-            heavy = ap (is_heavy_class p) y.2 ∙ held.heavy;
-            lends = kept.1;
-          })),
-        )
+    other_next (inr (inr (inl held))) = (
+      stay,
+      inr (inr (inl (record {
+        holder = held.holder;
+        field = held.field;
+        owns = stay ∙ held.owns;
+        runs = held.runs;
+        method = held.method;
+        object = y.0;
+        at = y.1;
+        whole = whole_still p held.object y.0 y.2 (λ was. (y.3 was).0) held.whole;
+        unlinked = λ now. link held.object.finished refl now;
+        heavy = ap (is_heavy_class p) y.2 ∙ held.heavy;
+        lends = (others.keeps held.holder held.object y.0 held.at y.1 (held.whole, held.heavy) held.lends).1;
+      }))),
+    )
+      where
+        y : (z : Object) × (object_at k held.holder ≡ Some z) × (z.class ≡ held.object.class) × (held.object.finished ≡ true → (z.finished ≡ true) × (z.link ≡ held.object.link))
+        y = ways.objects held.holder held.object held.at
+
+        stay : next.0.owner ≡ risen.object.owner
+        stay =
+            field_by p fr frs h k ways go_on risen.object.owner next.0.owner held.holder held.field held.owns (go_on goal risen.object next.0 risen.at next.1 risen.heavy.0 risen.heavy.1)
+            (λ new'. new'.0.0 held.runs)
+
+        link : (b : Bool) → held.object.finished ≡ b → y.0.finished ≡ true → y.0.link ≡ None
+        link true was now = (y.3 was).1 ∙ held.unlinked was
+        link false open' now = elim (ways.unmade held.holder held.object y.0 held.at y.1 open') [ inl still ↦ absurd (true≢false (sym now ∙ still.0)) | inr away ↦ absurd (away.0.0 held.runs) ]
+    other_next (inr (inr (inr made))) = absurd (true≢false (sym risen.heavy.0 ∙ made_open p h ways.have fr frs unready goal risen.object risen.at made.0))
 
     in_hand_next : HasInHand p k (IsLentFrom p k frs) at fr goal next.0.owner
     in_hand_next = elim hand [
@@ -392,7 +406,7 @@ module _ (p : Program) (ac : Accept p) (forms : HasPlainForms p) (h k j : HeapCo
       owned_next = ap (λ (u : Object). u.owner) (one_object next.0 z (object_at k o) (ap (object_at k) (sym owned_goal) ∙ next.1) now) ∙ own
 
       owned_not_lent : IsLentFrom p h frs o x.owner → ⊥
-      owned_not_lent lent = not_lent p h frs o x.owner (sym (others.keeps o x z before now done heavy lent).0 ∙ own) lent
+      owned_not_lent lent = not_lent p h frs o x.owner (sym (others.keeps o x z before now (inl done, heavy) lent).0 ∙ own) lent
 
       -- a fact goes on owning it
       goes_on : StopsOwning p h fr old frs gives renewed Goes o → ⊥
@@ -404,7 +418,8 @@ module _ (p : Program) (ac : Accept p) (forms : HasPlainForms p) (h k j : HeapCo
           not_own : risen.object.owner ≡ owners.Frame at → IsHeldOrLent p h frs fr goal risen.object.owner → ⊥
           not_own its (inl lent) = not_lent p h frs goal risen.object.owner its lent
           not_own its (inr (inl held)) = let never : owners.Field held.1.holder held.1.field ≡ owners.Frame at = sym held.1.owns ∙ its in cc
-          not_own its (inr (inr held)) = let never : owners.Field held.holder held.field ≡ owners.Frame at = sym held.owns ∙ its in cc
+          not_own its (inr (inr (inl held))) = let never : owners.Field held.holder held.field ≡ owners.Frame at = sym held.owns ∙ its in cc
+          not_own its (inr (inr (inr made))) = let never : ◌≡◌ {A = Owner} owners.Unowned (owners.Frame at) = sym made.1 ∙ its in cc
 
           still : StopsOwning p h fr old frs gives renewed Goes goal → OwnsHere → ⊥
           still ends' (c, in', key, own') =
@@ -431,16 +446,19 @@ module _ (p : Program) (ac : Accept p) (forms : HasPlainForms p) (h k j : HeapCo
         bears : OwesOrHolds p h held.holder this.0
         bears = inr (inl (o, x, before, done, heavy, held_at x.owner held.holder held.field held.owns))
 
-        lends : (this.0.finished ≡ true) × IsLentFrom p h frs held.holder this.0.owner
-        lends = opened opens held.holder this.0 held.runs this.1 this.3 bears this.2 (declares o x held.holder held.field this.0 before heavy held.owns this.1)
+        whole : IsWhole p this.0
+        whole = inr (declares o x held.holder held.field this.0 before heavy held.owns this.1)
+
+        lends : IsLentFrom p h frs held.holder this.0.owner
+        lends = opened opens held.holder this.0 held.runs this.1 this.3 bears this.2 whole
 
         content_goal : goal ≡ o
         content_goal =
-            content_in_hand p h ways.have fr frs o x before ways.unlinked held.holder held.field held.owns held.runs this.0 this.1 (lends.0, this.3) this.2 bears opens lends.1 goal risen.object risen.at risen.within renews' in_hand
+            content_in_hand p h ways.have fr frs o x before ways.unlinked held.holder held.field held.owns held.runs this.0 this.1 (whole, this.3) this.2 bears opens lends goal risen.object risen.at risen.within renews' in_hand
 
         -- one object is lent
         content_not_lent : IsLentFrom p h frs o x.owner → ⊥
-        content_not_lent lent = no_way_round h ways.have o held.holder held.field x before held.owns (subst (λ (m : ℕ). IsWithin h m o) (lent_once frs renews' lent lends.1) (itself o))
+        content_not_lent lent = no_way_round h ways.have o held.holder held.field x before held.owns (subst (λ (m : ℕ). IsWithin h m o) (lent_once frs renews' lent lends) (itself o))
           where
             lent_once : (gs : List Frame) → AllRenewInHand p h gs → IsLentFrom p h gs o x.owner → IsLentFrom p h gs held.holder this.0.owner → o ≡ held.holder
             lent_once [] all never second = absurd never
@@ -448,7 +466,7 @@ module _ (p : Program) (ac : Accept p) (forms : HasPlainForms p) (h k j : HeapCo
 
       held_goal : (goal ≡ o) × (IsLentFrom p h frs o x.owner → ⊥)
       held_goal = elim (answers_by (method_at p fr.method) answers) [
-        | inl alone ↦ (made_apart p h ways.have fr frs new unready o goal x risen.object before (alone, held) risen.at in_hand (inl risen.within), held_not_lent alone)
+        | inl alone ↦ (made_apart p h ways.have fr frs new unready o goal x risen.object before (alone, held) (λ same. no_way_round h ways.have o held.holder held.field x before held.owns (subst (λ (m : ℕ). IsWithin h m o) same risen.within)) risen.at in_hand (inl risen.within), held_not_lent alone)
         | inr opens ↦ (content_goal opens, content_not_lent opens)
       ]
 

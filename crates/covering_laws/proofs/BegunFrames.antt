@@ -26,19 +26,20 @@ use Rattle.value_laws.specs.Paths.{Reach, entered, relation_of}
 use Rattle.ledger_state.specs.Contents.{HeapContents}
 use Rattle.ledger_state.specs.Heaps.{root_of}
 use Rattle.ledger_state.specs.declared.object.Object.{Object}
+use Rattle.ledger_state.specs.declared.value.Value.TheVariants as values
 use Rattle.value_laws.specs.Places.{place_value}
 use Rattle.value_laws.specs.Configuration.{Frame}
 use Rattle.value_laws.proofs.PlaceLaws.{single_place-alone}
 use Rattle.value_laws.specs.Agreement.{Stands}
 use Rattle.value_laws.specs.PlainForms.{is_lent_parameter}
-use Rattle.value_laws.specs.PlaceFacts.{Covers, HasOwningField, IsInField, IsTrueOf, asked_of, claims, fits_field, is_heavy_field, is_lent, is_owning_fact}
+use Rattle.value_laws.specs.PlaceFacts.{Covers, IsInField, IsTrueOf, asked_of, claims, fits_field, is_heavy_field, is_lent, is_owning_fact}
 use Rattle.covering_laws.proofs.HeavyFields.{tells_by}
 use Rattle.covering_laws.proofs.Births.{at_itself, at_one}
 use Rattle.rlc_base.proofs.SetLaws.{empty_within, within_trans, within_union_left}
 use Rattle.ownership_rules.specs.Facts.{has, is_held, is_own, is_this_origin}
 use Rattle.std.specs.Prelude.{◌||◌, if◌then◌else◌}
 use Rattle.ledger_obligations.specs.Bodies.{constructs}
-use Rattle.value_laws.specs.Renewing.{IsLentFrom, answers_for_fields, lends_this, reopens}
+use Rattle.value_laws.specs.Renewing.{HasOwningField, IsLentFrom, answers_for_fields, lends_this, reopens}
 
 pub not_own : (a b : Bool) → (a || b) ≡ false → a ≡ false
 not_own true b is = is
@@ -75,7 +76,7 @@ lent_unowned p s k x c type lent = by x.owning refl
     by false other = not_and (is_heavy_class p c) (is_own (parameter_mode s k x)) (rw other (not_own _ _ (lent_or_none _ _)))
 
 module _ (p : Program) (k : HeapContents) (fr : Frame) (st : Stands p fr) (starts : fr.control ≡ start_of p st.number) (old : ℕ → Bool) (frs : List Frame) where
-  -- A place is covered by its birth at the entry. What is born as lent is so from a frame below, and finished where its class has owning fields. Of what is lent to the frame, or a field of `this` holds,
+  -- A place is covered by its birth at the entry. What is born as lent is so from a frame below, and none that the frame makes, where it is not finished and its class has owning fields. Of what is lent to the frame, or a field of `this` holds,
   -- the names that its fact knows are asked for. The place of an owning field is born as
   -- held, and its class has an obligation where the field's type has one.
   pub entered_covers : (q : Place) (o : ℕ) (y : Object) (g : Origin) (mode : Mode) (names : Names) (full : Bool) (n : ℕ) → IsSmall q
@@ -86,12 +87,13 @@ module _ (p : Program) (k : HeapContents) (fr : Frame) (st : Stands p fr) (start
       → (y.finished ≡ true → is_held mode ≡ true → answers_for_fields (method_at p fr.method) ≡ true → lends_this p fr ≡ false → is_heavy_class p g.class ≡ true → IsInField p fr (fact_at q mode names full).places y.owner)
       → (mode ≡ modes.Lent → y.finished ≡ true → IsLentFrom p k frs o y.owner)
       → (constructs (method_at p fr.method) ≡ true → is_this_origin g.kind ≡ true → y.finished ≡ false)
-      → (mode ≡ modes.Lent → (constructs (method_at p fr.method) && is_this_origin g.kind) ≡ false → HasOwningField p y.class → y.finished ≡ true)
+      → (mode ≡ modes.Lent → (constructs (method_at p fr.method) && is_this_origin g.kind) ≡ false → HasOwningField p y.class → y.finished ≡ false
+      → IsLentFrom p k frs o y.owner × (constructs (method_at p fr.method) ≡ true → fr.locals.this ≡ values.Object o → ⊥))
       → ((j : ℕ) → q ≡ places.Field j → is_heavy_class p g.class ≡ true → fits_field p fr.method j g.class ≡ true)
       → ((j : ℕ) → q ≡ places.Field j → is_heavy_field p fr.method q ≡ true → (mode ≡ modes.Held) × (is_heavy_class p g.class ≡ true))
       → (reopens (method_at p fr.method) ≡ false → (j : ℕ) → q ≡ places.Field j → mode ≡ modes.Held)
       → (c : Covers p k false false old frs fr o y) × (has c.fact.places q ≡ true) × (c.origin ≡ g) × (c.fact ≡ fact_at q mode names full)
-  entered_covers q o y g mode names full n small birth root truth lent' none in_field lends makes complete wide held field =
+  entered_covers q o y g mode names full n small birth root truth lent' none in_field lends makes begun wide held field =
       let covers : Covers p k false false old frs fr o y = record {
         body = st.number;
         id = st.id;
@@ -105,7 +107,7 @@ module _ (p : Program) (k : HeapContents) (fr : Frame) (st : Stands p fr) (start
         lent = λ lent. (let is = lent' lent in (is.0, λ held'. absurd (true≢false (sym held' ∙ is.1))));
         lends = λ lent done. (refl, lends lent done);
         makes = makes;
-        complete = complete;
+        begun = λ lent other fields open'. (let is = begun lent other fields open' in (refl, is.0, is.1));
         unrenewed = λ done tells apart. refl;
         known = λ done tells apart stays.
             elim (tells_by p fr.method g (fact_at q mode names full) tells) [

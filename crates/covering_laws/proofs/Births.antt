@@ -69,7 +69,7 @@ module _ (p : Program) (k : HeapContents) (fr : Frame) (st : Stands p fr) (i : �
         true' = λ claimed mine keeps. true_as p anew y g (fact_at q mode no_names full) (origin_needs_all p st.number g after.control (fact_at q mode no_names full) there) (truth claimed);
         lends = λ lent done. absurd (alone' lent);
         makes = λ constructor this. absurd (true≢false (sym this ∙ aside));
-        complete = λ lent other fields. absurd (alone' lent);
+        begun = λ lent. absurd (alone' lent);
         unrenewed = λ done tells apart. absurd (silent tells);
         lent = λ lent. absurd (true≢false (sym lent ∙ unlent (method_at p after.method)));
         free = λ done held answers keeps heavy. absurd (true≢false (sym held ∙ unheld));

@@ -153,7 +153,7 @@ module _ (p : Program) (ac : Accept p) (k : HeapContents) (fr : Frame) (st : Sta
             );
         lends = λ lent done. absurd (let never : modes.Held ≡ modes.Lent = lent in cc);
         makes = λ constructor this. absurd (true≢false (sym this));
-        complete = λ lent other fields. absurd (let never : modes.Held ≡ modes.Lent = lent in cc);
+        begun = λ lent. absurd (let never : modes.Held ≡ modes.Lent = lent in cc);
         unrenewed = λ done tells apart. sure (tells_apart p after.method origin fact tells);
         known = λ done tells apart stays. empty_within _;
         fields = λ j inside wide is. subst (λ (l : ℕ). fits_field p after.method l c ≡ true) (number_is j inside is) fits_here;

@@ -14,9 +14,11 @@ use Rattle.value_laws.specs.Choosing.{frame_steps}
 use Rattle.value_laws.specs.Outcomes.{IsCallRow}
 use Rattle.value_laws.specs.Agreement.{Stands}
 use Rattle.value_laws.specs.FieldContents.{AreNew, AreUnfinished}
+use Rattle.value_laws.specs.Frames.{KeepsTargets}
 use Rattle.value_laws.specs.Holders.{itself}
 use Rattle.value_laws.specs.PlainForms.{HasPlainForms}
 use Rattle.value_laws.specs.PlaceFacts.{Covers, IsCovered, IsKeyed, IsOld, IsSpared, IsUnowned, OwesOrHolds, gives_none, is_frame_from, is_given, owned, renews_none, unowned}
+use Rattle.covering_laws.specs.Sight.{MakesThis}
 use Rattle.covering_laws.proofs.GivenArguments.{away_owner}
 use Rattle.covering_laws.proofs.GivenAway.{given_at_step}
 use Rattle.covering_laws.proofs.Owners.{lent_not_from}
@@ -30,7 +32,7 @@ use Rattle.covering_laws.proofs.InFields.{held_in_field, held_unowned}
 use Rattle.covering_laws.proofs.WaitingTargets.{renewed_at_step}
 
 module _ (p : Program) (ac : Accept p) (forms : HasPlainForms p) (h : HeapContents) (have : HaveEnds h) (fr : Frame) (st : Stands p fr) (old : ℕ → Bool) (frs : List Frame) (is : IsOld p h frs fr old) (new : AreNew p (fr ∷ frs))
-    (unfinished : AreUnfinished p h (fr ∷ frs)) (i : ℕ) (s : Step) (here : slice_get (frame_steps p fr) i ≡ Some s) (row : IsCallRow s.action) (covered : IsCovered p h gives_none renews_none old frs fr) (holds : HoldsLent p h old frs fr st) where
+    (unfinished : AreUnfinished p h (fr ∷ frs)) (i : ℕ) (s : Step) (here : slice_get (frame_steps p fr) i ≡ Some s) (row : IsCallRow s.action) (covered : IsCovered p h gives_none renews_none old frs fr) (holds : HoldsLent p h old frs fr st) (targets : KeepsTargets p fr) (makes : MakesThis p h fr) where
   -- what no frame from this one on owns is not given away
   known_kept : (o : ℕ) (x : Object) → object_at h o ≡ Some x → is_heavy_class p x.class ≡ true → OwesOrHolds p h o x → is_frame_from (length frs + 1) x.owner ≡ false → is_given p h fr o x.class ≡ false
   known_kept o x there heavy owes apart = go (is_given p h fr o x.class) refl
@@ -55,8 +57,8 @@ module _ (p : Program) (ac : Accept p) (forms : HasPlainForms p) (h : HeapConten
       where
         go : (b : Bool) → is_renewed p h fr o ≡ b → is_renewed p h fr o ≡ false
         go false none = none
-        go true some = absurd (spared_apart p h have fr frs new unfinished o o x spared (is.ends o x there (done, heavy) was) there (done, heavy)
-            (renewed_answered p ac forms h fr st old frs i s here row covered holds o x there heavy owes (renewed_at_step p h fr st i s o here row some) done) (inl (itself o)))
+        go true some = absurd (spared_apart p h have fr frs new unfinished o o x spared (is.ends o x there (done, heavy) was) there (inl done, heavy)
+            (renewed_answered p ac forms h fr st old frs i s here row covered holds have targets makes o x there heavy owes (renewed_at_step p h fr st i s o here row some) (inl done)) (inl (itself o)))
 
     waiting : Covers p h false false old frs fr o x → Covers p h away anew old frs fr o x
     waiting c = record {
@@ -70,7 +72,7 @@ module _ (p : Program) (ac : Accept p) (forms : HasPlainForms p) (h : HeapConten
       true' = λ claimed spared kept. true_as p anew x c.origin c.fact (origin_needs_all p c.body c.origin fr.control c.fact c.reached) (c.true' claimed refl kept);
       lends = λ mode done. (let lent = (c.lends mode done).1 in (known_kept o x there heavy owes (lent_not_from p h frs o x.owner lent), lent));
       makes = c.makes;
-      complete = c.complete;
+      begun = λ mode other fields open'. (let lent = c.begun mode other fields open' in (known_kept o x there heavy owes (lent_not_from p h frs o x.owner lent.1), lent.1, lent.2));
       unrenewed = λ done tells apart. not_renewed done apart.0 apart.1;
       free = λ done held answers keeps claims'. (
         known_kept o x there heavy owes (held_unowned p h false false old frs fr o x c done held answers keeps claims' (length frs + 1)),

@@ -1,15 +1,19 @@
 -- A constructor stores into an owning field of the object that its `new` makes: nothing is reset, and no other frame runs on the object.
+use Rattle.program_model.specs.declared.program.Method.{Method}
+use Rattle.std.proofs.lemmas.Bool.{and_parts, not-true}
+use Rattle.covering_laws.proofs.Following.{method_here}
+use Rattle.value_laws.specs.Renewing.{IsMadeBy}
 use Rattle.std.specs.Prelude.{◌&&◌}
 use Rattle.std.specs.FinSet as set
-use Rattle.std.proofs.Common.{◌≡◌, ◌⊎◌, inl, inr, ℕ, ◌+◌, ◌<◌, Bool, true, false, Some, None, List, ◌∷◌, length, slice_get, nat_eq, eq-eqb, eqb-true, refl, sym, ap, ◌∙◌, subst, true≢false, arith}
+use Rattle.std.proofs.Common.{◌≡◌, ◌⊎◌, inl, inr, ℕ, ◌+◌, ◌<◌, Bool, true, false, Some, None, List, ◌∷◌, length, slice_get, nat_eq, eq-eqb, eqb-true, refl, sym, ap, ◌∙◌, subst, true≢false, arith, [], not, Option}
 use Rattle.std.proofs.lemmas.List.Elements.{All-head, All-tail}
 use Rattle.program_model.specs.declared.kinds.FieldId.{FieldId}
 use Rattle.program_model.specs.declared.program.Field.{Field}
 use Rattle.program_model.specs.declared.program.Program.{Program}
 use Rattle.program_model.specs.Lookups.{field_at, method_at}
-use Rattle.ledger_obligations.specs.Bodies.{constructs}
+use Rattle.ledger_obligations.specs.Bodies.{constructs, alias_in, alias_position, is_alias_constructor, is_constructor}
 use Rattle.ledger_obligations.specs.MustCallSets.{is_heavy_class}
-use Rattle.ownership_rules.specs.Signatures.{type_of_field}
+use Rattle.ownership_rules.specs.Signatures.{type_of_field, is_present}
 use Rattle.java_control.specs.Control.{Step}
 use Rattle.java_control.specs.Owned.{is_owning}
 use Rattle.java_control.specs.declared.place.Place.TheVariants as places
@@ -35,7 +39,7 @@ use Rattle.value_laws.specs.PlainForms.{HasPlainForms}
 use Rattle.value_laws.proofs.StoredObjects.{stored_goes_on, unfinished_stays, no_reset}
 use Rattle.value_laws.specs.Stores.{IsStored}
 use Rattle.value_laws.proofs.RootLaws.{one_object}
-use Rattle.value_laws.specs.FieldContents.{DeclaresOwning, FieldsHold, FieldsOwn, IsFieldOfClass, RunOnOthers}
+use Rattle.value_laws.specs.FieldContents.{DeclaresOwning, FieldsHold, FieldsOwn, IsFieldOfClass, RunOnOthers, MakersOwn}
 use Rattle.value_laws.specs.PlaceFacts.{AreCovered, IsCovered, gives_none, renews_none}
 use Rattle.value_laws.specs.Ranges.{FieldsInRange, LocalsInRange}
 use Rattle.covering_laws.proofs.LocalSteps.{LocalsIn, all_there, holds_there}
@@ -46,7 +50,7 @@ use Rattle.covering_laws.proofs.OwnerSteps.{movable}
 use Rattle.covering_laws.proofs.StoreOwners.{store_below, store_owners_go}
 use Rattle.covering_laws.proofs.StoreSteps.{others_stay}
 use Rattle.covering_laws.proofs.Waiting.{AllHeldBefore, AllKeep, all_held_before, all_ready, all_wait, frames_ready, old_as, ways_go_on, HoldsThere, this_was, keeps_roots}
-use Rattle.covering_laws.proofs.StoreMoves.{after, back, bound, carries, forth, heap_is, holds_other', keeps_owning, moved, moved_unfinished, moves_from, owned_here, roots, store_heap, top_stores, v, was, IsJoined, moved_linked, moved_nobody, moved_classes}
+use Rattle.covering_laws.proofs.StoreMoves.{after, back, bound, carries, forth, heap_is, holds_other', keeps_owning, moved, moved_unfinished, moves_from, owned_here, roots, store_heap, top_stores, v, was, IsJoined, moved_linked, moved_nobody, moved_classes, ArePlain, makers_own, makes_on}
 
 module _ (p : Program) (ac : Accept p) (forms : HasPlainForms p) (h : HeapContents) (links : HasEarlierLinks h) (ranges : FieldsInRange h) (fr : Frame) (frs : List Frame) (st : Stands p fr) (hold : FieldsHold p (fr ∷ frs) h)
     (i : ℕ) (s : Step) (here : slice_get (frame_steps p fr) i ≡ Some s) (f : FieldId) (d : ℕ) (is : s.action ≡ actions.PutOwn f d) (made : Value) (w : ℕ) (this : fr.locals.this ≡ values.Object w) (self : Object)
@@ -140,13 +144,31 @@ module _ (p : Program) (ac : Accept p) (forms : HasPlainForms p) (h : HeapConten
       fields_own_on p h k links ranges have.unfinished (field_goes old covered) (carried_as_before p h k (carries p ac forms h links fr frs st i s here f d is made w this self there (λ makes'. unmade')) (holders_were p (Some w) frs (length frs + 1) h k ways (owners_go old covered))) (inl (roots p ac forms h links fr frs st i s here f d is made w this self there (λ makes'. unmade')))
       (none_finished p h k (moved_unfinished p ac forms h links fr frs st i s here f d is made w this self there (λ makes'. unmade'))) held
 
+  -- of what frames make, the fields own what they hold
+  none_below : (gs : List Frame) → RunOnOthers w gs → ArePlain p w (is_alias_constructor p st.number ≡ false) gs
+  none_below [] others = tt
+  none_below (x ∷ xs) others = ((λ maker. absurd (others.0 maker.runs)), none_below xs others.1)
+
+  made_makers : LocalsIn h (fr ∷ frs) → AreCovered p h (fr ∷ frs) → MakersOwn p h (fr ∷ frs) → MakersOwn p k (fr ∷ frs)
+  made_makers in' (old, is_old, covered, waits, below) = makers_own p ac forms h links fr frs st i s here f d is made w this self there (λ makes'. unmade') old covered (holds_there p h ranges fr (All-head (λ (x : Frame). LocalsInRange h x.locals) fr frs in'))
+      (holders_were p (Some w) frs (length frs + 1) h k ways (owners_go old covered)) ranges (fr ∷ frs) (plain, none_below frs nowhere)
+    where
+      plain : IsMadeBy p fr w → is_alias_constructor p st.number ≡ false
+      plain maker = go (is_alias_constructor p st.number) refl
+        where
+          go : (b : Bool) → is_alias_constructor p st.number ≡ b → is_alias_constructor p st.number ≡ false
+          go false none = none
+          go true aliased = absurd (true≢false (sym (ap (λ (m : Option Method). is_present (alias_in m)) (sym (method_here p fr st)) ∙ (and_parts (is_constructor p st.number) (is_present (alias_position p st.number)) aliased).1)
+              ∙ not-true (is_present (alias_in (method_at p fr.method))) (and_parts (constructs (method_at p fr.method)) (not (is_present (alias_in (method_at p fr.method)))) maker.alone).1))
+
   -- ---- the heap of the step
 
-  pub new_joined : LocalsIn h (fr ∷ frs) → AreCovered p h (fr ∷ frs) → FieldsOwn p h → IsJoined p h (store_heap p ac forms h links fr frs st i s here f d is made w this self there (λ makes'. unmade')) (after p ac forms h links fr frs st i s here f d is made w this self there (λ makes'. unmade')) frs
-  new_joined in' all held = subst (λ (j : HeapContents). IsJoined p h j (after p ac forms h links fr frs st i s here f d is made w this self there (λ makes'. unmade')) frs) (sym same_heap) (record {
+  pub new_joined : LocalsIn h (fr ∷ frs) → AreCovered p h (fr ∷ frs) → FieldsOwn p h → MakersOwn p h (fr ∷ frs) → IsJoined p h (store_heap p ac forms h links fr frs st i s here f d is made w this self there (λ makes'. unmade')) (after p ac forms h links fr frs st i s here f d is made w this self there (λ makes'. unmade')) frs
+  new_joined in' all held makers = subst (λ (j : HeapContents). IsJoined p h j (after p ac forms h links fr frs st i s here f d is made w this self there (λ makes'. unmade')) frs) (sym same_heap) (record {
     covered' = made_covered in' all;
     held = made_held_before in';
     owns = made_owns all held;
+    makers = makes_on p k fr (after p ac forms h links fr frs st i s here f d is made w this self there (λ makes'. unmade')) frs refl refl (made_makers in' all makers);
     were = moved_linked p ac forms h links fr frs st i s here f d is made w this self there (λ makes'. unmade');
     classes = moved_classes p ac forms h links fr frs st i s here f d is made w this self there (λ makes'. unmade');
     nobody = moved_nobody p ac forms h links fr frs st i s here f d is made w this self there (λ makes'. unmade') have.unfinished;

@@ -1,23 +1,22 @@
 -- What a frame that waits counts on as the frame above it ends: the objects of its facts that are sure were old when that frame began, the call spares them, and nobody has given them up.
-use Rattle.std.proofs.Common.{◌≡◌, ◌⊎◌, inl, inr, ℕ, ◌+◌, Bool, true, false, true≢false, ◌&&◌, ◌||◌, Option, None, Some, List, [], ◌∷◌, length, slice_get, refl, sym, ap, ◌∙◌, subst, eq-eqb}
-use Rattle.std.proofs.lemmas.Bool.{and_from, or_right}
+use Rattle.std.proofs.Common.{◌≡◌, ◌⊎◌, inl, inr, ℕ, ◌+◌, Bool, true, false, true≢false, not, ◌||◌, None, Some, List, [], ◌∷◌, length, slice_get, refl, sym, ap, ◌∙◌, subst, eq-eqb}
+use Rattle.std.proofs.lemmas.Bool.{and_from, and_parts, not-true, or_right}
 use Rattle.program_model.specs.declared.kinds.BodyId.{BodyId}
-use Rattle.program_model.specs.declared.kinds.ClassId.{ClassId}
 use Rattle.program_model.specs.declared.kinds.FieldId.{FieldId}
 use Rattle.program_model.specs.declared.program.Method.{Method}
 use Rattle.program_model.specs.declared.program.Program.{Program}
 use Rattle.program_model.specs.Lookups.{method_at}
 use Rattle.program_model.specs.Overrides.{is_library}
-use Rattle.ledger_obligations.specs.Bodies.{constructs}
+use Rattle.ledger_obligations.specs.Bodies.{alias_in, constructs, reset_in}
 use Rattle.ledger_obligations.specs.MustCallSets.{is_heavy_class}
 use Rattle.ledger_obligations.specs.Obligations.{is_held_by, is_unmet}
-use Rattle.ownership_rules.specs.Facts.{has, has_part, is_held, is_own, is_this_origin}
+use Rattle.ownership_rules.specs.Signatures.{is_position, is_present}
+use Rattle.ownership_rules.specs.Facts.{has, has_part, is_held, is_own}
 use Rattle.java_control.specs.Calls.{is_reset_of_this}
 use Rattle.java_control.specs.Control.{Step}
-use Rattle.java_control.specs.declared.fact.Mode.TheVariants as modes
 use Rattle.java_control.specs.declared.place.Place.TheVariants as places
 use Rattle.ledger_state.specs.Contents.{HeapContents}
-use Rattle.ledger_state.specs.Heaps.{object_at, root_of}
+use Rattle.ledger_state.specs.Heaps.{object_at}
 use Rattle.ledger_state.specs.declared.entry.Owner.{Owner}
 use Rattle.ledger_state.specs.declared.entry.Owner.TheVariants as owners
 use Rattle.ledger_state.specs.declared.object.Object.{Object}
@@ -27,18 +26,14 @@ use Rattle.value_laws.specs.CalledRows.{is_emptied}
 use Rattle.value_laws.specs.Chains.{HaveEnds}
 use Rattle.value_laws.specs.Choosing.{body_id, frame_steps}
 use Rattle.value_laws.specs.Configuration.{Frame}
-use Rattle.value_laws.specs.FieldContents.{AreNew, AreUnfinished, FieldsOwn, HaveContents, IsContent}
-use Rattle.value_laws.specs.Frames.{KeepsTargets}
+use Rattle.value_laws.specs.FieldContents.{AreNew, AreUnfinished, HaveContents, IsContent}
 use Rattle.value_laws.specs.HeapAnew.{is_field_owner}
-use Rattle.value_laws.specs.Heaps.{HasEarlierLinks}
 use Rattle.value_laws.specs.Holders.{HoldersAreUnlinked, by_field, itself}
 use Rattle.value_laws.specs.Paths.{Reach, relation_of}
-use Rattle.value_laws.specs.PlaceFacts.{Covers, HasOwningField, IsAnswered, IsApart, IsCovered, IsHeavyObject, IsOld, IsOwned, OwesOrHolds, Spares, is_given, is_given_up, tells_calls}
+use Rattle.value_laws.specs.PlaceFacts.{Covers, IsAnswered, IsApart, IsCovered, IsOld, IsOwned, OwesOrHolds, Spares, is_given, is_given_up, tells_calls}
 use Rattle.value_laws.specs.PlainForms.{HasPlainForms}
-use Rattle.value_laws.specs.Ranges.{LocalsInRange}
-use Rattle.value_laws.specs.Renewing.{IsHeldBy, IsLentFrom, IsOwnedByThis, answers_for_fields, is_renewed, is_reread, lends_this, makes_alone, reopens}
+use Rattle.value_laws.specs.Renewing.{IsHeldBy, IsLentFrom, IsOwnedByThis, IsWholeObject, answers_for_fields, is_renewed, is_reread, lends_this, makes_alone, reopens}
 use Rattle.value_laws.proofs.HeldPlaces.{held_in_this}
-use Rattle.value_laws.proofs.HeapLaws.{roots_of_links-itself}
 use Rattle.value_laws.proofs.RootLaws.{one_object}
 use Rattle.value_laws.proofs.SettledFrames.{AllRenewInHand, RenewsInHand}
 use Rattle.value_laws.proofs.Spared.{KeepsContent}
@@ -47,9 +42,8 @@ use Rattle.value_laws.proofs.SparingEnds.{CountsOn, comparable_bears, counted_is
 use Rattle.value_laws.proofs.Tracking.{same_body}
 use Rattle.covering_laws.specs.Covering.{IsCountedOn}
 use Rattle.covering_laws.proofs.Bodies.{running_method}
-use Rattle.covering_laws.proofs.HeavyFields.{answers_by, claims_by, claims_owned, reopening_answers}
+use Rattle.covering_laws.proofs.HeavyFields.{answers_by, claims_by, claims_owned}
 use Rattle.covering_laws.proofs.InFields.{held_by_this}
-use Rattle.covering_laws.proofs.LentHolders.{no_constructor, this_covers}
 use Rattle.covering_laws.proofs.SaidFacts.{lends_by_step}
 use Rattle.covering_laws.proofs.ThisFacts.{lent_in_body, lent_not_held}
 
@@ -67,8 +61,10 @@ lent_answered p h have (fr ∷ frs) unfinished o x at (renewed, inr (inr (inl he
     let w = unmade p h have fr frs unfinished o x at held in
     content_answered h o x held.1.holder held.1.field at held.1.owns
     (held.1.holder, record { within = itself held.1.holder; object = w.object; at = w.at; unheld = ap is_field_owner w.unowned }, ap is_given_up w.unowned)
-lent_answered p h have (fr ∷ frs) unfinished o x at (renewed, inr (inr (inr held))) =
+lent_answered p h have (fr ∷ frs) unfinished o x at (renewed, inr (inr (inr (inl held)))) =
     content_answered h o x held.holder held.field at held.owns (lent_answered p h have frs unfinished.1 held.holder held.object held.at held.lends)
+lent_answered p h have (fr ∷ frs) unfinished o x at (renewed, inr (inr (inr (inr made)))) =
+    (o, record { within = itself o; object = x; at = at; unheld = ap is_field_owner made.1 }, ap is_given_up made.1)
 
 -- one object is lent to a frame at most
 one_lent : (p : Program) (h : HeapContents) (frs : List Frame) → AllRenewInHand p h frs → (a b : ℕ) (u v : Owner) → IsLentFrom p h frs a u → IsLentFrom p h frs b v → a ≡ b
@@ -78,8 +74,8 @@ one_lent p h (fr ∷ frs) all a b u v first second = all.0.one a b first.0 secon
 -- ---- what is counted on
 
 -- `stack` are all frames, `fr` the one that ends; `old` and `older` are what was old for it and for the caller when they began.
-module _ (p : Program) (ac : Accept p) (forms : HasPlainForms p) (h : HeapContents) (links : HasEarlierLinks h) (have : HaveEnds h) (unlinked : HoldersAreUnlinked (is_heavy_class p) h) (owned : FieldsOwn p h) (stack : List Frame)
-    (contents : HaveContents p stack h) (fr caller : Frame) (rest : List Frame) (below : Stands p caller) (mine : LocalsInRange h caller.locals) (targets : KeepsTargets p caller) (j : ℕ) (t : Step)
+module _ (p : Program) (ac : Accept p) (forms : HasPlainForms p) (h : HeapContents) (have : HaveEnds h) (unlinked : HoldersAreUnlinked (is_heavy_class p) h) (stack : List Frame)
+    (contents : HaveContents p stack h) (fr caller : Frame) (rest : List Frame) (below : Stands p caller) (j : ℕ) (t : Step)
     (there : slice_get (frame_steps p caller) j ≡ Some t) (old older : ℕ → Bool) (aged : IsOld p h (caller ∷ rest) fr old) (up : (o : ℕ) → older o ≡ true → old o ≡ true) (was_old : IsOld p h rest caller older)
     (waiting : IsCovered p h (is_given p h caller) (is_reread p h caller) older rest caller) (renews : RenewsInHand p h caller rest) (all_renew : AllRenewInHand p h rest) (news : AreNew p (caller ∷ rest)) (unready : AreUnfinished p h (caller ∷ rest)) where
   run : (x : Method) × (method_at p caller.method ≡ Some x) × (is_library p x.class ≡ false)
@@ -100,17 +96,8 @@ module _ (p : Program) (ac : Accept p) (forms : HasPlainForms p) (h : HeapConten
       (o, record { within = itself o; object = x; at = before; unheld = ap is_field_owner owner }, ap is_given_up owner),
     )
 
-    by_maker : makes_alone (method_at p caller.method) ≡ true → IsOwnedByThis p caller x.owner → Spares p h caller o × IsAnswered h o
-    by_maker alone by =
-        let held : IsHeldBy p caller x.owner = (alone, by) in
-        let w = unmade p h have caller rest unready o x before held in (
-          spares (counts_as_made held),
-          content_answered h o x by.holder by.field before by.owns
-              (by.holder, record { within = itself by.holder; object = w.object; at = w.at; unheld = ap is_field_owner w.unowned }, ap is_given_up w.unowned),
-        )
-
-    -- a field of `this` owns it, which is lent to the caller
-    module _ (opens : reopens (method_at p caller.method) ≡ true) (keeps : lends_this p caller ≡ false) (by : IsOwnedByThis p caller x.owner) where
+    -- a field of `this` owns it, which the caller does not lend
+    module _ (keeps : lends_this p caller ≡ false) (by : IsOwnedByThis p caller x.owner) where
       abbrev w : ℕ
       w = by.holder
 
@@ -120,45 +107,50 @@ module _ (p : Program) (ac : Accept p) (forms : HasPlainForms p) (h : HeapConten
       content : IsContent p stack h o x w by.field
       content = contents o x w by.field before (or_right (is_unmet x) (is_heavy_class p x.class) heavy) by.owns
 
-      declares : HasOwningField p holder.0.class
-      declares = (by.field, content.field, content.declared, content.owning, sym content.class ∙ ap (λ (y : Object). y.class) (one_object content.holder holder.0 (object_at h w) content.at holder.1))
+      whole : IsWholeObject p holder.0
+      whole = (inr (by.field, content.field, content.declared, content.owning, sym content.class ∙ ap (λ (y : Object). y.class) (one_object content.holder holder.0 (object_at h w) content.at holder.1)), holder.3)
 
       holds : OwesOrHolds p h w holder.0
       holds = inr (inl (o, x, before, done, heavy, ap (λ (a : Owner). is_held_by a w) by.owns ∙ eq-eqb w w refl))
 
-      plain : constructs (method_at p caller.method) ≡ false
-      plain = no_constructor p ac forms h links owned caller mine below older rest targets (reopening_answers (method_at p caller.method) opens) (is_given p h caller) (is_reread p h caller) waiting opens
-
-      this : (c : Covers p h (is_given p h caller w holder.0.class) (is_reread p h caller w holder.0.owner) older rest caller w holder.0) × (c.fact.mode ≡ modes.Lent)
-      this = this_covers p ac forms h links owned caller mine below older rest targets (reopening_answers (method_at p caller.method) opens) (is_given p h caller) (is_reread p h caller) waiting w holder.0
-          (ap (root_of h) by.runs ∙ ap Some (roots_of_links-itself h w holder.0 holder.1 holder.2)) holder.1 holder.3 holds
-
-      finished : holder.0.finished ≡ true
-      finished = this.0.complete this.1 (ap (λ (b : Bool). b && is_this_origin this.0.origin.kind) plain) declares
-
-      lent : IsLentFrom p h rest w holder.0.owner
-      lent = (this.0.lends this.1 finished).1
-
-      keeps_content : KeepsContent p h caller rest w by.field o x
-      keeps_content = record {
-        at = before;
-        owns = by.owns;
-        runs = by.runs;
-        method = plain;
-        holder = go (is_renewed p h caller w) refl;
-        content = unrenewed;
-        one = λ a b is. one_lent p h rest all_renew a w b holder.0.owner is lent;
-      }
+      -- the call does not create its obligation anew
+      kept : (reopens (method_at p caller.method) ≡ true) ⊎ (constructs (method_at p caller.method) ≡ true) → is_renewed p h caller w ≡ false
+      kept runs = go (is_renewed p h caller w) refl
         where
           go : (b : Bool) → is_renewed p h caller w ≡ b → is_renewed p h caller w ≡ false
           go false none = none
-          go true renewed = absurd (true≢false (sym (renews.this w holder.0 by.runs holder.1 (finished, holder.3) holds holder.2 opens renewed) ∙ keeps))
+          go true renewed = absurd (true≢false (sym (renews.this w holder.0 by.runs holder.1 whole holds holder.2 runs renewed) ∙ keeps))
 
-      by_lent : Spares p h caller o × IsAnswered h o
-      by_lent = (
-        spares (counts_as_content w by.field keeps_content (content_ends_below p h have rest o x w by.field before by.owns (lent_ends_below p h have rest unready.1 w holder.0 holder.1 lent))),
-        content_answered h o x w by.field before by.owns (lent_answered p h have rest unready.1 w holder.0 holder.1 lent),
-      )
+      -- in a constructor
+      by_maker : makes_alone (method_at p caller.method) ≡ true → Spares p h caller o × IsAnswered h o
+      by_maker alone =
+          let held : IsHeldBy p caller x.owner = (alone, by) in
+          let made = unmade p h have caller rest unready o x before held in (
+            spares (counts_as_made held (kept (inr (and_parts (constructs (method_at p caller.method)) (not (is_present (alias_in (method_at p caller.method)))) alone).0))),
+            content_answered h o x w by.field before by.owns (w, record { within = itself w; object = made.object; at = made.at; unheld = ap is_field_owner made.unowned }, ap is_given_up made.unowned),
+          )
+
+      -- or `this` is lent to the caller
+      module _ (opens : reopens (method_at p caller.method) ≡ true) where
+        lent : IsLentFrom p h rest w holder.0.owner
+        lent = renews.lent w holder.0 by.runs holder.1 whole holds holder.2 opens
+
+        keeps_content : KeepsContent p h caller rest w by.field o x
+        keeps_content = record {
+          at = before;
+          owns = by.owns;
+          runs = by.runs;
+          method = not-true (constructs (method_at p caller.method)) (and_parts (not (constructs (method_at p caller.method))) (is_position (reset_in (method_at p caller.method)) 0) opens).0;
+          holder = kept (inl opens);
+          content = unrenewed;
+          one = λ a b is. one_lent p h rest all_renew a w b holder.0.owner is lent;
+        }
+
+        by_lent : Spares p h caller o × IsAnswered h o
+        by_lent = (
+          spares (counts_as_content w by.field keeps_content (content_ends_below p h have rest o x w by.field before by.owns (lent_ends_below p h have rest unready.1 w holder.0 holder.1 lent))),
+          content_answered h o x w by.field before by.owns (lent_answered p h have rest unready.1 w holder.0 holder.1 lent),
+        )
 
     -- a fact that says that a field holds the object has a part of `this`: where the call does not empty it, the caller keeps `this`
     keeps_this : (c : Its) → is_held c.fact.mode ≡ true → answers_for_fields (method_at p caller.method) ≡ true → is_emptied p t.action c.fact.places ≡ false → lends_this p caller ≡ false
@@ -192,7 +184,7 @@ module _ (p : Program) (ac : Accept p) (forms : HasPlainForms p) (h : HeapConten
         held_by held answers =
             let keeps = keeps_this c held answers full in
             let its = held_by_this p h (is_given p h caller o x.class) (is_reread p h caller o x.owner) older rest caller o x c done held answers keeps (claims_owned p (method_at p caller.method) c.origin c.fact key.owning).0 in
-            let both : Spares p h caller o × IsAnswered h o = elim (answers_by (method_at p caller.method) answers) [ inl alone ↦ by_maker alone its | inr opens ↦ by_lent opens keeps its ] in
+            let both : Spares p h caller o × IsAnswered h o = elim (answers_by (method_at p caller.method) answers) [ inl alone ↦ by_maker keeps its alone | inr opens ↦ by_lent keeps its opens ] in
             (aged.below o x before (done, heavy) (held_is_below p h have caller rest news unready x.owner answers keeps its), both.0, both.1)
 
         by : (is_own c.fact.mode ≡ true) ⊎ ((is_held c.fact.mode ≡ true) × (answers_for_fields (method_at p caller.method) ≡ true)) → IsCountedOn p h old (caller ∷ rest) fr o x

@@ -20,7 +20,7 @@ use Rattle.value_laws.specs.Agreement.{Agree}
 use Rattle.value_laws.specs.PlainForms.{HasPlainForms}
 use Rattle.value_laws.specs.Frames.{HaveTargets}
 use Rattle.value_laws.specs.Types.{HaveTypes}
-use Rattle.value_laws.specs.FieldContents.{FieldsHold, FieldsOwn, TopRunsAlone}
+use Rattle.value_laws.specs.FieldContents.{FieldsHold, FieldsOwn, MakersOwn, TopRunsAlone}
 use Rattle.value_laws.specs.PlaceFacts.{AreCovered}
 use Rattle.value_laws.specs.Ranges.{AreInRange}
 use Rattle.covering_laws.specs.Making.{AreBeingMade}
@@ -38,28 +38,36 @@ pub covered_at_start : (p : Program) → Accept p → (main : MethodId) (m : Met
 covered_at_start p ac main m choices named body = starts.covered_at_start p ac main m choices named body
 
 pub covered_step : (p : Program) → Accept p → HasPlainForms p → HasPlainRuns p → HasSmallInterests p → HasLightTexts p → (c d : Config) → Agree p c → HaveTargets p c.frames → HaveTypes p c → AreInRange c
-    → FieldsHold p c.frames c.heap → AreBeingMade p c.heap c.frames → LinkedAreAliases p c.heap → FieldsOwn p c.heap → AreCovered p c.heap c.frames → HaveArguments p c.frames → TopEndsAsDeclared p c.heap c.frames → TopRaisesExceptions p c.heap c.frames → AllActInSight p c.heap c.frames → TopRunsAlone p c.heap c.frames → step p c ≡ went d → AreCovered p d.heap d.frames
-covered_step p ac forms runs names texts c d agrees targets types ranges fields making linked owned covered args exits raises sight alone is = (kept_step p ac forms runs names texts c d agrees targets types ranges fields making linked owned covered args exits raises sight alone is).0
+    → FieldsHold p c.frames c.heap → AreBeingMade p c.heap c.frames → LinkedAreAliases p c.heap → FieldsOwn p c.heap → MakersOwn p c.heap c.frames → AreCovered p c.heap c.frames → HaveArguments p c.frames → TopEndsAsDeclared p c.heap c.frames → TopRaisesExceptions p c.heap c.frames → AllActInSight p c.heap c.frames → TopRunsAlone p c.heap c.frames → step p c ≡ went d → AreCovered p d.heap d.frames
+covered_step p ac forms runs names texts c d agrees targets types ranges fields making linked owned makers covered args exits raises sight alone is = (kept_step p ac forms runs names texts c d agrees targets types ranges fields making linked owned makers covered args exits raises sight alone is).0
 
 pub being_made_at_start : (p : Program) (main : MethodId) (choices : Choices) → AreBeingMade p (start_config p main choices).heap (start_config p main choices).frames
 being_made_at_start p main choices = starts.being_made_at_start p main choices
 
 pub being_made_step : (p : Program) → Accept p → HasPlainForms p → HasPlainRuns p → HasSmallInterests p → HasLightTexts p → (c d : Config) → Agree p c → HaveTargets p c.frames → HaveTypes p c → AreInRange c
-    → FieldsHold p c.frames c.heap → AreBeingMade p c.heap c.frames → LinkedAreAliases p c.heap → FieldsOwn p c.heap → AreCovered p c.heap c.frames → HaveArguments p c.frames → TopEndsAsDeclared p c.heap c.frames → TopRaisesExceptions p c.heap c.frames → AllActInSight p c.heap c.frames → TopRunsAlone p c.heap c.frames → step p c ≡ went d → AreBeingMade p d.heap d.frames
-being_made_step p ac forms runs names texts c d agrees targets types ranges fields making linked owned covered args exits raises sight alone is = (kept_step p ac forms runs names texts c d agrees targets types ranges fields making linked owned covered args exits raises sight alone is).1
+    → FieldsHold p c.frames c.heap → AreBeingMade p c.heap c.frames → LinkedAreAliases p c.heap → FieldsOwn p c.heap → MakersOwn p c.heap c.frames → AreCovered p c.heap c.frames → HaveArguments p c.frames → TopEndsAsDeclared p c.heap c.frames → TopRaisesExceptions p c.heap c.frames → AllActInSight p c.heap c.frames → TopRunsAlone p c.heap c.frames → step p c ≡ went d → AreBeingMade p d.heap d.frames
+being_made_step p ac forms runs names texts c d agrees targets types ranges fields making linked owned makers covered args exits raises sight alone is = (kept_step p ac forms runs names texts c d agrees targets types ranges fields making linked owned makers covered args exits raises sight alone is).1
 
 pub linked_are_aliases_at_start : (p : Program) (main : MethodId) (choices : Choices) → LinkedAreAliases p (start_config p main choices).heap
 linked_are_aliases_at_start p main choices = starts.linked_are_aliases_at_start p main choices
 
 pub linked_are_aliases_step : (p : Program) → Accept p → HasPlainForms p → HasPlainRuns p → HasSmallInterests p → HasLightTexts p → (c d : Config) → Agree p c → HaveTargets p c.frames → HaveTypes p c → AreInRange c
-    → FieldsHold p c.frames c.heap → AreBeingMade p c.heap c.frames → LinkedAreAliases p c.heap → FieldsOwn p c.heap → AreCovered p c.heap c.frames → HaveArguments p c.frames → TopEndsAsDeclared p c.heap c.frames → TopRaisesExceptions p c.heap c.frames → AllActInSight p c.heap c.frames → TopRunsAlone p c.heap c.frames → step p c ≡ went d → LinkedAreAliases p d.heap
-linked_are_aliases_step p ac forms runs names texts c d agrees targets types ranges fields making linked owned covered args exits raises sight alone is =
-    (kept_step p ac forms runs names texts c d agrees targets types ranges fields making linked owned covered args exits raises sight alone is).2
+    → FieldsHold p c.frames c.heap → AreBeingMade p c.heap c.frames → LinkedAreAliases p c.heap → FieldsOwn p c.heap → MakersOwn p c.heap c.frames → AreCovered p c.heap c.frames → HaveArguments p c.frames → TopEndsAsDeclared p c.heap c.frames → TopRaisesExceptions p c.heap c.frames → AllActInSight p c.heap c.frames → TopRunsAlone p c.heap c.frames → step p c ≡ went d → LinkedAreAliases p d.heap
+linked_are_aliases_step p ac forms runs names texts c d agrees targets types ranges fields making linked owned makers covered args exits raises sight alone is =
+    (kept_step p ac forms runs names texts c d agrees targets types ranges fields making linked owned makers covered args exits raises sight alone is).2
 
 pub fields_own_at_start : (p : Program) (main : MethodId) (choices : Choices) → FieldsOwn p (start_config p main choices).heap
 fields_own_at_start p main choices = starts.fields_own_at_start p main choices
 
 pub fields_own_step : (p : Program) → Accept p → HasPlainForms p → HasPlainRuns p → HasSmallInterests p → HasLightTexts p → (c d : Config) → Agree p c → HaveTargets p c.frames → HaveTypes p c → AreInRange c
-    → FieldsHold p c.frames c.heap → AreBeingMade p c.heap c.frames → LinkedAreAliases p c.heap → FieldsOwn p c.heap → AreCovered p c.heap c.frames → HaveArguments p c.frames → TopEndsAsDeclared p c.heap c.frames → TopRaisesExceptions p c.heap c.frames → AllActInSight p c.heap c.frames → TopRunsAlone p c.heap c.frames → step p c ≡ went d → FieldsOwn p d.heap
-fields_own_step p ac forms runs names texts c d agrees targets types ranges fields making linked owned covered args exits raises sight alone is =
-    (kept_step p ac forms runs names texts c d agrees targets types ranges fields making linked owned covered args exits raises sight alone is).3
+    → FieldsHold p c.frames c.heap → AreBeingMade p c.heap c.frames → LinkedAreAliases p c.heap → FieldsOwn p c.heap → MakersOwn p c.heap c.frames → AreCovered p c.heap c.frames → HaveArguments p c.frames → TopEndsAsDeclared p c.heap c.frames → TopRaisesExceptions p c.heap c.frames → AllActInSight p c.heap c.frames → TopRunsAlone p c.heap c.frames → step p c ≡ went d → FieldsOwn p d.heap
+fields_own_step p ac forms runs names texts c d agrees targets types ranges fields making linked owned makers covered args exits raises sight alone is =
+    (kept_step p ac forms runs names texts c d agrees targets types ranges fields making linked owned makers covered args exits raises sight alone is).3
+
+pub makers_own_at_start : (p : Program) (main : MethodId) (choices : Choices) → MakersOwn p (start_config p main choices).heap (start_config p main choices).frames
+makers_own_at_start p main choices = starts.makers_own_at_start p main choices
+
+pub makers_own_step : (p : Program) → Accept p → HasPlainForms p → HasPlainRuns p → HasSmallInterests p → HasLightTexts p → (c d : Config) → Agree p c → HaveTargets p c.frames → HaveTypes p c → AreInRange c
+    → FieldsHold p c.frames c.heap → AreBeingMade p c.heap c.frames → LinkedAreAliases p c.heap → FieldsOwn p c.heap → MakersOwn p c.heap c.frames → AreCovered p c.heap c.frames → HaveArguments p c.frames → TopEndsAsDeclared p c.heap c.frames → TopRaisesExceptions p c.heap c.frames → AllActInSight p c.heap c.frames → TopRunsAlone p c.heap c.frames → step p c ≡ went d → MakersOwn p d.heap d.frames
+makers_own_step p ac forms runs names texts c d agrees targets types ranges fields making linked owned makers covered args exits raises sight alone is =
+    (kept_step p ac forms runs names texts c d agrees targets types ranges fields making linked owned makers covered args exits raises sight alone is).4

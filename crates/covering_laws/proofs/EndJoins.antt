@@ -51,7 +51,7 @@ use Rattle.value_laws.proofs.CallNames.{IsReceiver, object_with_root, operand_ha
 use Rattle.value_laws.proofs.Ready.{call_sets, plain_call, plain_step, step_there}
 use Rattle.value_laws.proofs.Unmet.{way_of_call}
 use Rattle.value_laws.specs.Types.{GivesAsNamed, KeepsTypes, is_text}
-use Rattle.value_laws.specs.FieldContents.{AreNew, AreUnfinished, FieldsOwn, HaveContents, IsBeingMade, IsDispatched, LinksLead, is_new, RunOnOthers, TopRunsAlone}
+use Rattle.value_laws.specs.FieldContents.{AreNew, AreUnfinished, FieldsOwn, HaveContents, MakersOwn, IsBeingMade, IsDispatched, LinksLead, is_new, RunOnOthers, TopRunsAlone}
 use Rattle.value_laws.specs.PlaceFacts.{AreWaiting, Covers, IsCovered, IsHolder, IsOld, OwesOrHolds, OwnersBelow, gives_none, is_given, may_owe, renews_none, AreCovered, is_frame_from, MayStore, is_idle}
 use Rattle.covering_laws.proofs.OlderHolders.{alias_holds_nothing, field_of_owner}
 use Rattle.value_laws.specs.Renewing.{is_renewed, is_reread, renews}
@@ -69,7 +69,7 @@ use Rattle.covering_laws.proofs.SaidFacts.{ends_lend_nothing, said_apart}
 use Rattle.covering_laws.proofs.IdleCalls.{LendsItsOwn, idle_over_call}
 use Rattle.covering_laws.proofs.WholeThis.{IsSingleThis}
 use Rattle.value_laws.proofs.AliasConducts.{gives_object}
-use Rattle.covering_laws.proofs.AliasPlaces.{from_operand, gives_operand}
+use Rattle.covering_laws.proofs.AliasPlaces.{alias_kind, from_operand, gives_operand}
 use Rattle.covering_laws.proofs.AliasResults.{argument_is_result, result_is_argument}
 use Rattle.covering_laws.proofs.CallNotes.{no_receiver, noted_at, plain_interest_in}
 use Rattle.covering_laws.proofs.KnownNames.{operand_holds}
@@ -120,7 +120,7 @@ use Rattle.covering_laws.proofs.LeftOut.{left_out_bears}
 use Rattle.covering_laws.proofs.RenewedOperands.{HoldsLent}
 use Rattle.covering_laws.proofs.StepWays.{end_births, end_unowned, ways_by}
 use Rattle.covering_laws.proofs.AlikeHeaps.{AreAlike}
-use Rattle.covering_laws.proofs.AnewAtEnds.{AllTurned, all_anew, content_declares, field_stays}
+use Rattle.covering_laws.proofs.AnewAtEnds.{AllTurned, all_anew, content_declares, this_stays}
 use Rattle.covering_laws.proofs.WaitingTargets.{renewed_at_step, target_temp}
 use Rattle.covering_laws.proofs.ThisOperands.{lends_target}
 use Rattle.value_laws.specs.Holders.{HoldersAreUnlinked}
@@ -201,17 +201,8 @@ module _ (p : Program) (ac : Accept p) (forms : HasPlainForms p) (runs' : HasPla
   named_is : (m' : MethodId) → called_method t.action ≡ Some m' → m' ≡ named
   named_is m' it = let both : Some m' ≡ Some named = sym it ∙ back.calls in (let one : m' ≡ named = cc in one)
 
-  -- a super constructor has no alias, so a method with one is called, or a `new` ends
-  alias_kind : (k : ℕ) → named_there.0.sig.alias ≡ Some k → (is_new t.action ≡ true) ⊎ ((is_new t.action ≡ false) × (constructs m ≡ false) × (has_receiver t.action ≡ true))
-  alias_kind k some = go t.action refl
-    where
-      go : (a : Action) → t.action ≡ a → (is_new a ≡ true) ⊎ ((is_new a ≡ false) × (constructs m ≡ false) × (has_receiver a ≡ true))
-      go actions.Skip is' = absurd (let never : None ≡ Some named = sym (ap called_method is') ∙ back.calls in cc)
-      go (actions.Call m' d n' f) is' = inr (refl, ap (λ (z : MethodId). constructs (method_at p z)) (sym (named_is m' (ap called_method is'))) ∙ subst (IsOfItsKind p) is' kind, refl)
-      go (actions.New m' d n') is' = inl refl
-      go (actions.Super m' d n') is' =
-          absurd (let never : None ≡ Some k = sym (subst (IsPlainAction p) is' form).2 ∙ ap (λ (z : MethodId). alias_in (method_at p z)) (named_is m' (ap called_method is')) ∙ ap alias_in named_there.1 ∙ some in cc)
-      go a is' = absurd (let never : None ≡ Some named = sym (ap called_method is') ∙ back.calls in cc)
+  call_kind : (k : ℕ) → named_there.0.sig.alias ≡ Some k → (is_new t.action ≡ true) ⊎ ((is_new t.action ≡ false) × (constructs m ≡ false) × (has_receiver t.action ≡ true))
+  call_kind k some = alias_kind p t.action named form kind back.calls k (ap alias_in named_there.1 ∙ some)
 
   -- the argument of which the object of a `new` is to be an alias
   abbrev target : Option ℕ
@@ -477,9 +468,9 @@ module _ (p : Program) (ac : Accept p) (forms : HasPlainForms p) (runs' : HasPla
   pub caller_owns : (o : ℕ) (x y : Object) → object_at h o ≡ Some x → object_at K o ≡ Some y → x.finished ≡ true → is_heavy_class p x.class ≡ true → x.owner ≡ owners.Frame at → y.owner ≡ owners.Frame at
   caller_owns = end_keeps_own p at fr.locals.this caller.locals t.action (method_at p fr.method) plain v e h no_reset unmade result_owner
 
-  -- what fields hold they own
-  pub ended_owns : FieldsOwn p h → FieldsOwn p K
-  ended_owns = fields_own_at_end p ac forms h links ranges ends fr caller old rest st covered (ends_lend_nothing p fr st i s q here is) args back.index t back.here named makes itself new_makes (λ m' d n' is'. named_is m' (ap called_method is'))
+  -- what fields hold they own, and so it is with what constructors make
+  fields_then : (FieldsOwn p h → FieldsOwn p K) × (MakersOwn p h (caller ∷ rest) → MakersOwn p K (caller ∷ rest))
+  fields_then = fields_own_at_end p ac forms h links ranges ends fr caller old rest st covered (ends_lend_nothing p fr st i s q here is) args back.index t back.here named makes itself new_makes (λ m' d n' is'. named_is m' (ap called_method is'))
       plain (plain_alias ∙ sym (ap alias_in named_there.1)) no_reset at v e unmade result_owner roots
       (λ normal' new k to. (self normal' new k to, (self_made new).1, object normal' new k to, others_keep normal' new k to, made_keep normal' new k to, linked_root normal' new k to)) fields carries holders goes_on
     where
@@ -491,6 +482,12 @@ module _ (p : Program) (ac : Accept p) (forms : HasPlainForms p) (runs' : HasPla
           go (actions.New m' d n') is' one =
               ap (λ (z : MethodId). constructs (method_at p z)) (subst (λ (a : Action). RunsItself a named fr.method) is' itself ∙ sym (named_is m' (ap called_method is'))) ∙ subst (IsOfItsKind p) is' kind
           go a is' one = absurd (true≢false (sym one))
+
+  pub ended_owns : FieldsOwn p h → FieldsOwn p K
+  ended_owns = fields_then.0
+
+  pub ended_makers : MakersOwn p h (caller ∷ rest) → MakersOwn p K (after ∷ rest)
+  ended_makers own = let then' = fields_then.1 own in (λ w f o x made. then'.0 w f o x (record { alone = made.alone; field = made.field; declared = made.declared; runs = made.runs }), then'.1)
 
   -- ---- a result that is an alias
 
@@ -642,7 +639,7 @@ module _ (p : Program) (ac : Accept p) (forms : HasPlainForms p) (runs' : HasPla
   module _ (stand : AllStand p rest) (aged : IsOld p h (caller ∷ rest) fr old) (older : ℕ → Bool) (up : (o : ℕ) → older o ≡ true → old o ≡ true) (was_old : IsOld p h rest caller older)
       (waiting : IsCovered p h (is_given p h caller) (is_reread p h caller) older rest caller) (lower : AreWaiting p h older rest) (holds : HoldsLent p h older rest caller below) (news : AreNew p (caller ∷ rest))
       (unready : AreUnfinished p h (caller ∷ rest)) (owned : FieldsOwn p h) (renews' : RenewsInHand p h caller rest) (all_renew : AllRenewInHand p h rest)
-      (single : IsSingleThis p h caller) (lending : LendsItsOwn p caller t) where
+      (single : IsSingleThis p h caller) (lending : LendsItsOwn p caller t) (makers : MakersOwn p h (caller ∷ rest)) where
     pub gifts : AllKeepGifts p h K rest
     gifts = small_gifts p ac h K rest stand all_roots.1
 
@@ -657,7 +654,7 @@ module _ (p : Program) (ac : Accept p) (forms : HasPlainForms p) (runs' : HasPla
         → OwesOrHolds p h o x → IsSureOf p ac h K links carries fields caller below back.index t back.here local inside all_roots.0 V older rest (is_given p h caller o x.class) (is_renewed p h caller o) o x c → is_emptied p t.action c.fact.places ≡ false
         → is_renewed p h caller o ≡ false → IsCountedOn p h old (caller ∷ rest) fr o x
     counted_here o x c before done heavy owes sure full spared =
-        counted p ac forms h links ends unlinked owned (fr ∷ caller ∷ rest) contents fr caller rest below caller_in targets back.index t back.here old older aged up was_old waiting renews' all_renew news unready o x before done heavy owes spared c sure full
+        counted p ac forms h ends unlinked (fr ∷ caller ∷ rest) contents fr caller rest below back.index t back.here old older aged up was_old waiting renews' all_renew news unready o x before done heavy owes spared c sure full
 
     -- ---- what the call gives
 
@@ -669,7 +666,7 @@ module _ (p : Program) (ac : Accept p) (forms : HasPlainForms p) (runs' : HasPla
         let k = operand.1.0 in
         let position : named_there.0.sig.alias ≡ Some k = ap alias_in (sym same_callee) ∙ operand.1.1 in
         let root' = operand_holds p h caller.method caller.locals t.action o k c.fact.places local.small (operand_has_position p t.action c.fact.places k local.small operand.1.2) (said_apart p h rest caller o c.fact c.places said) operand.1.2 in
-        elim (alias_kind k position) [
+        elim (call_kind k position) [
           | inl new ↦ new_to_result k position (normal operand.0) new o root'
           | inr called' ↦ to_result k position operand.0 called'.0 called'.1 called'.2 o x before heavy owes root'
         ]
@@ -714,7 +711,7 @@ module _ (p : Program) (ac : Accept p) (forms : HasPlainForms p) (runs' : HasPla
         by_end k some None none =
             let earlier = was o y now in
             let edge = back.normal none in
-            inr (inr (from_operand p h caller below t local place o small local' there edge k (ap alias_in same_callee ∙ some) (elim (alias_kind k some) [
+            inr (inr (from_operand p h caller below t local place o small local' there edge k (ap alias_in same_callee ∙ some) (elim (call_kind k some) [
               | inl new ↦ new_to_operand k some none new o y root' now owes
               | inr called' ↦ to_operand k some edge called'.0 called'.1 called'.2 o earlier.0 earlier.1 (ap (is_heavy_class p) (sym earlier.2) ∙ heavy) (bore_before p h K holders o earlier.0 y earlier.1 earlier.3 owes) root'
             ])))
@@ -745,7 +742,7 @@ module _ (p : Program) (ac : Accept p) (forms : HasPlainForms p) (runs' : HasPla
         aliased
         (λ place o y small out root' now heavy owes.
         left_out_bears p ac forms h K texts stored links carries fields caller below back.index t back.here local inside all_roots.0 V older rest (is_given p h caller) (is_renewed p h caller) waiting ready.0 others owned
-        (fr ∷ caller ∷ rest) contents ends (field_stays p caller rest h K ways goes_on) caller_in targets single (λ u renewed resets. lends_target p ac caller below targets h u (any_at (λ (z : Step). is_reset_of_this p z.action) (frame_steps p caller) back.index t back.here resets) renewed) place o y small out root' now heavy owes)
+        (fr ∷ caller ∷ rest) contents ends (this_stays p caller rest h K ways goes_on) caller_in targets single (λ u renewed resets. lends_target p ac caller below targets h u (any_at (λ (z : Step). is_reset_of_this p z.action) (frame_steps p caller) back.index t back.here resets) renewed) unready makers place o y small out root' now heavy owes)
         (λ place o y small local' none' there value root now heavy owes. made place o y small local' there value root now heavy owes)
 
     -- `this` of the caller, where it is finished and linked to none, was so
@@ -793,6 +790,6 @@ module _ (p : Program) (ac : Accept p) (forms : HasPlainForms p) (runs' : HasPla
           all_anew p ac forms h K j caller after rest below back.index t back.here back.row same fields' alike (is_given p h caller) (is_renewed p h caller) older
           (λ o c gives'. given_at_step p h caller below back.index t o c back.here back.row gives') read_here waiting holds ways goes_on others (small_gifts p ac h K (caller ∷ rest) (below, stand) all_roots).0 gifts carries ready.0
           (λ o x y before now done heavy kept owner. caller_owns o x y before now done heavy owner) later news unready unready' still_old
-          (λ opens w y this at' heavy' bears none declares. let done = renews'.whole w y this at' heavy' bears none opens declares in (done, renews'.lent w y this at' (done, heavy') bears none opens)) all_renew
+          (λ opens w y this at' heavy' bears none whole. renews'.lent w y this at' (whole, heavy') bears none opens) all_renew
           (content_declares p (fr ∷ caller ∷ rest) h contents) refl refl turns (λ place o y small open' root now heavy owes. caller_from place o y small root now heavy owes) rest_waiting
           (λ n y now. let z = alike.back n y now in ap (is_frame_from (at + 1)) z.2.owner ∙ ended_below low n z.0 z.1)

@@ -41,7 +41,7 @@ use Rattle.value_laws.specs.Arguments.{HasArguments}
 use Rattle.value_laws.specs.Chains.{HaveEnds}
 use Rattle.value_laws.specs.Choosing.{body_id, frame_steps}
 use Rattle.value_laws.specs.Configuration.{Frame}
-use Rattle.value_laws.specs.FieldContents.{FieldsOwn, IsFieldOfClass, is_new}
+use Rattle.value_laws.specs.FieldContents.{FieldsOwn, IsFieldOfClass, MakersOwn, is_new}
 use Rattle.value_laws.specs.Heaps.{HasEarlierLinks, IsKeptOr}
 use Rattle.value_laws.specs.Paths.{Reach, relation_of}
 use Rattle.value_laws.specs.PlaceFacts.{Covers, IsCovered, OwesOrHolds, gives_none, is_heavy_in, may_owe, renews_none}
@@ -57,6 +57,7 @@ use Rattle.value_laws.proofs.Returned.{end_back, gone_back, result_back}
 use Rattle.value_laws.proofs.RootLaws.{one_object}
 use Rattle.covering_laws.proofs.Constructors.{parameter_holds, spoken}
 use Rattle.covering_laws.proofs.EndOwners.{number_value, same_new}
+use Rattle.covering_laws.proofs.MakersOwning.{all_made_kept, makers_own_on}
 use Rattle.covering_laws.proofs.FieldOwners.{LinksObject, NewOwn, carried_as_before, field_stays, fields_own_on, finished_keep, held_in_range}
 use Rattle.value_laws.specs.Renewing.{lends_this}
 use Rattle.covering_laws.proofs.Following.{method_here, same_body}
@@ -391,6 +392,9 @@ module _ (p : Program) (ac : Accept p) (forms : HasPlainForms p) (h : HeapConten
         library_owns None u linked none = ap is_library_owner linked.1
         library_owns (Some k) u linked none = absurd (let never : None ≡ Some _ = sym none ∙ linked.2 in cc)
 
-    pub fields_own_at_end : FieldsOwn p h → FieldsOwn p K
-    fields_own_at_end owned =
-        fields_own_on p h K links ranges have.unfinished (field_stays p h K fields (finished_keep p None (caller ∷ rest) at h K have.unfinished goes)) (carried_as_before p h K carries holders) roots_go new_own owned
+    pub fields_own_at_end : (FieldsOwn p h → FieldsOwn p K) × (MakersOwn p h (caller ∷ rest) → MakersOwn p K (caller ∷ rest))
+    fields_own_at_end = (
+      λ owned. fields_own_on p h K links ranges have.unfinished (field_stays p h K fields (finished_keep p None (caller ∷ rest) at h K have.unfinished goes)) (carried_as_before p h K carries holders) roots_go new_own owned,
+      makers_own_on p h K links ranges have.unfinished fields (carried_as_before p h K carries holders) roots_go (caller ∷ rest)
+          (all_made_kept p None (caller ∷ rest) at h K have.unfinished goes (caller ∷ rest) (λ w others. others)),
+    )

@@ -18,10 +18,10 @@ use Rattle.value_laws.specs.CalledRows.{called_after}
 use Rattle.value_laws.specs.Configuration.{Frame}
 use Rattle.value_laws.specs.FactGoing.{GoesAs}
 use Rattle.value_laws.specs.Paths.{Reach, relation_of}
-use Rattle.value_laws.specs.PlaceFacts.{HasOwningField, is_idle, is_settled}
+use Rattle.value_laws.specs.PlaceFacts.{is_idle, is_settled}
 use Rattle.value_laws.specs.PlaceRows.{places_after}
 use Rattle.value_laws.specs.PlainForms.{HasPlainForms}
-use Rattle.value_laws.specs.Renewing.{is_of_heavy_class, reopens}
+use Rattle.value_laws.specs.Renewing.{HasOwningField, is_of_heavy_class, reopens}
 use Rattle.value_laws.proofs.ThisTemps.{none_held}
 use Rattle.covering_laws.proofs.Bodies.{running_method}
 use Rattle.covering_laws.proofs.HeavyFields.{has_place_here}

@@ -71,7 +71,7 @@ module _ (p : Program) (frs : List Frame) (fr : Frame) (plain : constructs (meth
       free = λ done held answers. absurd (true≢false (sym answers ∙ answers_not));
       lends = λ lent. absurd (let never : modes.Held ≡ modes.Lent = sym followed.held ∙ lent in cc);
       makes = λ makes. absurd (true≢false (sym makes ∙ plain));
-      complete = λ lent. absurd (let never : modes.Held ≡ modes.Lent = sym followed.held ∙ lent in cc);
+      begun = λ lent. absurd (let never : modes.Held ≡ modes.Lent = sym followed.held ∙ lent in cc);
       unrenewed = λ done tells apart. absurd (true≢false (sym (held_is_idle followed.fact followed.held) ∙ apart.3));
       known = λ done tells apart. absurd (true≢false (sym (held_is_idle followed.fact followed.held) ∙ apart.3));
       fields = λ m less wide' there. ap (λ (i : ℕ). fits_field p fr.method i followed.origin.class) (its_field m less there) ∙ its_fit;

@@ -70,8 +70,9 @@ use Rattle.covering_laws.proofs.Gifts.{all_keep_gifts}
 use Rattle.covering_laws.proofs.InnerSteps.{HoldsNoneHeavy, carries, classes, fields, heap, inner_covered, inner_ways, linked_were, none_heavy, owners_below, owners_go, roots, unfinished, value, inner_nobody}
 use Rattle.value_laws.specs.Chains.{HaveEnds}
 use Rattle.value_laws.specs.Holders.{HoldersAreUnlinked, UnfinishedAreUnowned}
-use Rattle.value_laws.specs.FieldContents.{FieldsOwn}
-use Rattle.covering_laws.proofs.FieldOwners.{fields_own_by}
+use Rattle.value_laws.specs.FieldContents.{FieldsOwn, MakersOwn}
+use Rattle.covering_laws.proofs.FieldOwners.{carried_as_before, fields_own_by}
+use Rattle.covering_laws.proofs.MakersOwning.{all_made_kept, makers_own_on}
 use Rattle.covering_laws.proofs.Owners.{AllKeepGifts, OwnersGo, WaysGo, holders_were, old_kept, owners_kept, stays_apart}
 use Rattle.covering_laws.proofs.LightExceptions.{exceptions_are_light, operation_is_light}
 use Rattle.covering_laws.proofs.LocalSteps.{LocalsIn, all_there, holds_there, local_step, names_members}
@@ -299,3 +300,20 @@ module _ (p : Program) (ac : Accept p) (forms : HasPlainForms p) (c : Config) (t
     where
       goes : OwnersGo p None [] 1 h heap_then
       goes = owners_go p ac forms h links fr st i s here local step.row step.test e made updates [] 1
+
+  -- so do the fields of what these frames make
+  pub plain_makers : HaveEnds h → HoldersAreUnlinked (is_heavy_class p) h → (frs : List Frame) → MakersOwn p h (fr ∷ frs) → MakersOwn p heap_then (after ∷ frs)
+  plain_makers have unlinked frs makers =
+      (λ w f o x made' owning heavy held at wide owes. kept.0 w f o x (record { alone = made'.alone; field = made'.field; declared = made'.declared; runs = made'.runs }) owning heavy held at wide owes, kept.1)
+    where
+      goes : OwnersGo p None (fr ∷ frs) 1 h heap_then
+      goes = owners_go p ac forms h links fr st i s here local step.row step.test e made updates (fr ∷ frs) 1
+
+      ways : WaysGo p None (fr ∷ frs) 1 h heap_then
+      ways = inner_ways p ac forms h links fr st i s here local step.row step.test e made updates have unlinked (fr ∷ frs) 1
+
+      kept : MakersOwn p heap_then (fr ∷ frs)
+      kept =
+          makers_own_on p h heap_then links ranges have.unfinished (fields p ac forms h links fr st i s here local step.row step.test e made updates)
+          (carried_as_before p h heap_then (carries p ac forms h links fr st i s here local step.row step.test e made updates) (holders_were p None (fr ∷ frs) 1 h heap_then ways goes)) (inl plain_roots) (fr ∷ frs)
+          (all_made_kept p None (fr ∷ frs) 1 h heap_then have.unfinished goes (fr ∷ frs) (λ w none. none)) makers

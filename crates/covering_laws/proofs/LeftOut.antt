@@ -1,13 +1,16 @@
 -- A step that creates the obligation of `this` anew leaves the fields of `this` out of the facts that go on: what one of them holds is in a fact that the step bears for it. Where the frame answers for the fields
 -- of `this`, the field owns it.
-use Rattle.std.proofs.Common.{◌≡◌, inl, inr, ℕ, Bool, true, false, not, ◌&&◌, true≢false, Option, Some, None, List, slice_get, refl, sym, ap, ◌∙◌, subst}
+use Rattle.std.proofs.Common.{eq-eqb, ◌∷◌, ◌≡◌, inl, inr, ℕ, Bool, true, false, not, ◌&&◌, true≢false, Option, Some, None, List, slice_get, refl, sym, ap, ◌∙◌, subst}
 use Rattle.program_model.specs.declared.kinds.ClassId.{ClassId}
 use Rattle.program_model.specs.declared.kinds.FieldId.{FieldId}
 use Rattle.program_model.specs.declared.kinds.VType.{VType}
 use Rattle.program_model.specs.declared.kinds.VType.TheVariants as types
 use Rattle.program_model.specs.declared.program.Field.{Field}
 use Rattle.program_model.specs.declared.program.Program.{Program}
-use Rattle.program_model.specs.Lookups.{method_at}
+use Rattle.program_model.specs.Lookups.{field_at, method_at}
+use Rattle.program_model.specs.SuperTests.{is_class}
+use Rattle.program_model.specs.declared.program.Method.{Method}
+use Rattle.value_laws.proofs.MadeWays.{made_owns}
 use Rattle.program_model.specs.Validity.{is_class_type}
 use Rattle.ledger_obligations.specs.MustCallSets.{is_empty, is_heavy_class, must_of_optional, must_of_type}
 use Rattle.ownership_rules.specs.Signatures.{is_present, type_of_field}
@@ -38,24 +41,24 @@ use Rattle.value_laws.specs.Places.{field_place_value, owning_field_beside, plac
 use Rattle.value_laws.specs.Frames.{KeepsTargets}
 use Rattle.value_laws.specs.PlainForms.{HasPlainForms}
 use Rattle.value_laws.specs.Ranges.{LocalsInRange}
-use Rattle.value_laws.specs.Renewing.{answers_for_fields, reopens}
+use Rattle.value_laws.specs.Renewing.{answers_for_fields, is_declared_beside, makes_alone, reopens}
 use Rattle.value_laws.proofs.Ready.{resets_plainly}
-use Rattle.ledger_obligations.specs.Bodies.{alias_in, constructs}
-use Rattle.std.proofs.lemmas.Bool.{and_parts}
+use Rattle.ledger_obligations.specs.Bodies.{alias_in, constructs, is_class_of, method_of}
+use Rattle.std.proofs.lemmas.Bool.{and_from, or_left}
 use Rattle.covering_laws.proofs.Bodies.{running_method}
 use Rattle.covering_laws.proofs.Following.{method_here}
 use Rattle.covering_laws.proofs.HeavyFields.{answers_by, reopening_answers}
 use Rattle.covering_laws.proofs.LendingFrames.{opens_at}
-use Rattle.covering_laws.proofs.Resets.{constructor_elsewhere}
-use Rattle.covering_laws.proofs.WholeThis.{IsSingleThis, whole_this}
+use Rattle.covering_laws.proofs.Resets.{resets_elsewhere}
+use Rattle.covering_laws.proofs.WholeThis.{IsLentThis, IsSingleThis, lent_kept, whole_this}
 use Rattle.value_laws.specs.Chains.{HaveEnds}
-use Rattle.value_laws.specs.FieldContents.{FieldsOwn, HaveContents}
+use Rattle.value_laws.specs.FieldContents.{AreUnfinished, FieldsOwn, HaveContents, MakersOwn}
 use Rattle.value_laws.specs.Types.{StoredHoldNone, is_text}
 use Rattle.value_laws.proofs.FieldPlaces.{IsBeside}
 use Rattle.value_laws.proofs.ValueTypeFields.{field_of_none}
 use Rattle.covering_laws.specs.Texts.{TextsAreLight}
 use Rattle.covering_laws.proofs.BirthsAnew.{born_anew, fact, field, has_place, origin, ran}
-use Rattle.covering_laws.proofs.HeldBirths.{field_owned, field_true}
+use Rattle.covering_laws.proofs.HeldBirths.{field_owned, owned_true}
 use Rattle.covering_laws.proofs.Owners.{StaysApart}
 use Rattle.covering_laws.proofs.TopSteps.{IsBornAnew, IsLocalStep}
 use Rattle.covering_laws.proofs.Waiting.{Carries, HoldsThere, IsCarried, KeepsFieldsButTexts, KeepsReady, KeepsRootsOf, bore_before, kept_place, kept_root, numbered}
@@ -70,10 +73,11 @@ module _ (p : Program) (ac : Accept p) (forms : HasPlainForms p) (h k : HeapCont
     (roots : KeepsRootsOf p h k fr) (v : Value) (old : ℕ → Bool) (frs : List Frame) (gives : ℕ → ClassId → Bool) (renewed : ℕ → Bool)
     (covered : IsCovered p h gives (λ o owner. renewed o) old frs fr) (ready : KeepsReady p h k fr) (others : StaysApart p h k frs fr) (owned : FieldsOwn p h) (stack : List Frame)
     (contents : HaveContents p stack h) (have : HaveEnds h)
-    (keeps : (o : ℕ) (x y : Object) (w : ℕ) (f : FieldId) → object_at h o ≡ Some x → object_at k o ≡ Some y → IsHeavyObject p x → x.owner ≡ owners.Field w f → (z : Object) → object_at h w ≡ Some z → z.finished ≡ true → y.owner ≡ x.owner)
+    (keeps : (o : ℕ) (x y : Object) (w : ℕ) (f : FieldId) → object_at h o ≡ Some x → object_at k o ≡ Some y → IsHeavyObject p x → x.owner ≡ owners.Field w f → fr.locals.this ≡ values.Object w → y.owner ≡ x.owner)
     (mine : LocalsInRange h fr.locals) (targets : KeepsTargets p fr)
     (single : IsSingleThis p h fr)
-    (renewed_this : (o : ℕ) → renewed o ≡ true → is_reset_of_this p s.action ≡ true → root_of h fr.locals.this ≡ Some o) where
+    (renewed_this : (o : ℕ) → renewed o ≡ true → is_reset_of_this p s.action ≡ true → root_of h fr.locals.this ≡ Some o)
+    (unready : AreUnfinished p h (fr ∷ frs)) (makers : MakersOwn p h (fr ∷ frs)) where
   abbrev after : Frame
   after = frame_after p h fr s v
 
@@ -101,14 +105,36 @@ module _ (p : Program) (ac : Accept p) (forms : HasPlainForms p) (h k : HeapCont
     bore : OwesOrHolds p h o before.0
     bore = bore_before p h k others.holders o before.0 y before.1 before.3 owes
 
-    -- a constructor in which an owning field has a place creates the obligation of `this` not anew
-    opens : answers_for_fields (method_at p fr.method) ≡ true → reopens (method_at p fr.method) ≡ true
-    opens answers = elim (answers_by (method_at p fr.method) answers) [
-      | inr is ↦ is
-      | inl alone ↦ absurd (true≢false (sym (has_place p ac k fr st i s here resets after old frs refl refl n room f beside)
-          ∙ constructor_elsewhere p st.number fr.control s.action (resets_plainly p ac forms fr st i s here)
-          (ap constructs (method_here p fr st) ∙ (and_parts (constructs (method_at p fr.method)) (not (is_present (alias_in (method_at p fr.method)))) alone).0) resets f))
-    ]
+    -- a constructor that creates the obligation of `this` anew, and in which an owning field has a place, has no aliased argument
+    unaliased : constructs (method_at p fr.method) ≡ true → makes_alone (method_at p fr.method) ≡ true
+    unaliased makes = go (is_present (alias_in (method_at p fr.method))) refl
+      where
+        go : (b : Bool) → is_present (alias_in (method_at p fr.method)) ≡ b → makes_alone (method_at p fr.method) ≡ true
+        go false none = and_from (constructs (method_at p fr.method)) (not (is_present (alias_in (method_at p fr.method)))) makes (ap not none)
+        go true has' =
+            absurd (true≢false (sym (has_place p ac k fr st i s here resets after old frs refl refl n room f beside)
+            ∙ resets_elsewhere p st.number fr.control s.action (resets_plainly p ac forms fr st i s here)
+            (and_from (constructs (method_of p st.number)) (is_present (alias_in (method_of p st.number))) (ap constructs (method_here p fr st) ∙ makes) (ap (λ (m : Option Method). is_present (alias_in m)) (method_here p fr st) ∙ has')) resets f))
+
+    -- the field is one of the class of the method
+    here_declared : is_declared_beside p fr.method (field_at p f) ≡ true
+    here_declared =
+        let run = running_method p ac fr st in
+        ap (is_declared_beside p fr.method) declared.at
+        ∙ and_from declared.field.owning (is_class_of declared.field.class (method_at p fr.method)) declared.owning
+        (ap (is_class_of declared.field.class) run.1 ∙ ap (λ (d : ClassId). is_class d run.0.class) declared.class ∙ eq-eqb run.0.class.0 run.0.class.0 refl)
+
+    -- the field owns what it holds
+    module _ (own : is_owning p f ≡ true) (typed : is_heavy_in p (Some f) ≡ true) (w : ℕ) (this : fr.locals.this ≡ values.Object w) (holds : root_of h (field_value p h w f) ≡ Some o) where
+      made_owned : makes_alone (method_at p fr.method) ≡ true → before.0.owner ≡ owners.Field w f
+      made_owned alone = makers.0 w f o before.0 (record { alone = alone; field = f; declared = here_declared; runs = this }) own typed holds before.1 wide bore
+
+      lent_owned : (c : ClassId) → IsLentThis p h frs w → before.0.owner ≡ owners.Field w f
+      lent_owned c it = go it.object.finished refl
+        where
+          go : (b : Bool) → it.object.finished ≡ b → before.0.owner ≡ owners.Field w f
+          go true done = field_owned p h stack owned contents have w it.object it.at done it.unlinked (lent_kept p h frs w it.object.owner it.lent) f own typed o before.0 holds before.1 wide bore
+          go false open' = made_owns p h have w it.object it.at open' c frs makers.1 it.lent f o before.0 own typed holds before.1 wide bore
 
     of_class : (c : ClassId) → declared.field.vtype ≡ types.Obj c → Born (places.Field n) o y
     of_class c type = born_anew p ac k fr st i s here resets after old frs refl refl n room f beside c type refl (renewed o) o before.0 y (λ done. (before.3 done).0) root held sure
@@ -119,8 +145,7 @@ module _ (p : Program) (ac : Accept p) (forms : HasPlainForms p) (h k : HeapCont
             go : (b : Bool) → renewed o ≡ b → b ≡ false
             go false is = refl
             go true is = absurd (elim (opens_at p ac forms h fr st i s here resets gives (λ u owner. renewed u) old frs covered o before.0 (renewed_this o is resets) before.1 wide bore) [
-              | inl makes ↦ true≢false (sym (has_place p ac k fr st i s here resets after old frs refl refl n room f beside)
-                  ∙ constructor_elsewhere p st.number fr.control s.action (resets_plainly p ac forms fr st i s here) (ap constructs (method_here p fr st) ∙ makes) resets f)
+              | inl makes ↦ true≢false (sym (or_left (makes_alone (method_at p fr.method)) (reopens (method_at p fr.method)) (unaliased makes)) ∙ none)
               | inr opens' ↦ true≢false (sym (reopening_answers (method_at p fr.method) opens') ∙ none)
             ])
 
@@ -129,14 +154,16 @@ module _ (p : Program) (ac : Accept p) (forms : HasPlainForms p) (h k : HeapCont
         held answers full =
             let it = object_of p h fr.locals.this f o in_field in
             let typed : is_heavy_in p (Some f) ≡ true = ap (λ (x : Option Field). not (is_empty (must_of_optional p (type_of_field x)))) declared.at ∙ ap (λ (t : VType). not (is_empty (must_of_type p t))) type ∙ full in
-            let whole = whole_this p ac forms h links owned fr mine st old frs targets gives (λ u owner. renewed u) covered single (opens answers) n f (ran p ac k fr st i s here resets after old frs refl refl n room f beside)
-            (running_method p ac fr st).1 declared c type full typed it.0 it.1 o before.0 it.2 before.1 wide in
             let own : is_owning p f ≡ true = ap is_owning_field declared.at ∙ declared.owning in
-            let mine = field_owned p h stack owned contents have it.0 whole.object whole.at whole.finished whole.unlinked whole.kept f own typed o before.0 it.2 before.1 wide bore in
-            let truth = field_true p h stack owned contents have it.0 whole.object whole.at whole.finished whole.unlinked whole.kept f own typed o before.0 it.2 before.1 wide bore s.pos declared.field c declared.at type in (
+            let mine' : before.0.owner ≡ owners.Field it.0 f = elim (answers_by (method_at p fr.method) answers) [
+              | inl alone ↦ made_owned own typed it.0 it.1 it.2 alone
+              | inr opens ↦ lent_owned own typed it.0 it.1 it.2 c (whole_this p ac forms h links owned fr mine st old frs targets have unready gives (λ u owner. renewed u) covered single opens n f (ran p ac k fr st i s here resets after old frs refl refl n room f beside)
+                  (running_method p ac fr st).1 declared c type full typed it.0 it.1 o before.0 it.2 before.1 wide)
+            ] in
+            let truth = owned_true p h stack contents have it.0 f o before.0 before.1 wide mine' s.pos declared.field c declared.at type in (
               it.0,
               it.1,
-              keeps o before.0 y it.0 f before.1 at (truth.finished, wide) mine whole.object whole.at whole.finished ∙ mine,
+              keeps o before.0 y it.0 f before.1 at (truth.finished, wide) mine' it.1 ∙ mine',
               record { finished = truth.finished; class = truth.class; bounded = truth.bounded; need = truth.need; called = truth.called },
             )
 

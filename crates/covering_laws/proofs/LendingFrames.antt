@@ -39,9 +39,9 @@ use Rattle.value_laws.specs.Configuration.{Frame}
 use Rattle.value_laws.specs.Lending.{may_be_lent}
 use Rattle.value_laws.specs.Outcomes.{IsCallRow}
 use Rattle.value_laws.specs.Paths.{Reach, move_of, relation_of}
-use Rattle.value_laws.specs.PlaceFacts.{Covers, HasOwningField, IsCovered, MakesNoAlias, MayStore, OwesOrHolds, is_lent}
+use Rattle.value_laws.specs.PlaceFacts.{Covers, IsCovered, MakesNoAlias, MayStore, OwesOrHolds, is_lent}
 use Rattle.value_laws.specs.PlainForms.{HasPlainForms}
-use Rattle.value_laws.specs.Renewing.{reopens}
+use Rattle.value_laws.specs.Renewing.{HasOwningField, reopens}
 use Rattle.value_laws.specs.StepTargets.{FindsIt, HasThis}
 use Rattle.ledger_state.specs.Values.{number_of}
 use Rattle.value_laws.proofs.Chains.{object_there}

@@ -26,6 +26,7 @@ pub mod Waiting
 pub mod StepWays
 pub mod FieldOwners
 pub mod FieldOwnersAtEnds
+pub mod MakersOwning
 pub mod AlikeHeaps
 pub mod ReachedAbove
 pub mod Finalizers
@@ -66,6 +67,7 @@ pub mod BirthsAnew
 pub mod HeldBirths
 pub mod WholeThis
 pub mod LeftOut
+pub mod ThisLent
 pub mod LentHolders
 pub mod LightExceptions
 pub mod Bodies
@@ -101,6 +103,8 @@ pub mod ResetJoins
 pub mod StartOwners
 pub mod StartHeaps
 pub mod CallersWait
+pub mod StartMakers
+pub mod SuperTargets
 pub mod StartJoins
 pub mod ResultOwners
 pub mod EndOwners
@@ -130,6 +134,7 @@ pub use Rattle.value_laws.proofs.CallNames
 pub use Rattle.value_laws.proofs.CallWays
 pub use Rattle.value_laws.proofs.Calls
 pub use Rattle.value_laws.proofs.Carried
+pub use Rattle.value_laws.proofs.MadeWays
 pub use Rattle.value_laws.proofs.Readings
 pub use Rattle.value_laws.proofs.Cases
 pub use Rattle.value_laws.proofs.ClassArguments
@@ -187,6 +192,7 @@ pub use Rattle.value_laws.proofs.Returns
 pub use Rattle.value_laws.proofs.Root
 pub use Rattle.value_laws.proofs.RootLaws
 pub use Rattle.value_laws.proofs.SetLaws
+pub use Rattle.value_laws.proofs.SettledFrames
 pub use Rattle.value_laws.proofs.SignedPromises
 pub use Rattle.value_laws.proofs.Stacks
 pub use Rattle.value_laws.proofs.StartReached

@@ -79,7 +79,7 @@ use Rattle.value_laws.proofs.Ready.{call_sets, plain_step, row_gives_none, step_
 use Rattle.value_laws.proofs.Unmet.{way_of_call}
 use Rattle.value_laws.specs.Typed.{IsLibraryConstant, NamesMembers}
 use Rattle.value_laws.proofs.Moved.{IsConstantRead}
-use Rattle.value_laws.specs.FieldContents.{HaveContents, LinksLead, FieldsOwn}
+use Rattle.value_laws.specs.FieldContents.{AreUnfinished, HaveContents, LinksLead, FieldsOwn, MakersOwn}
 use Rattle.value_laws.specs.Types.{StoredHoldNone, is_text}
 use Rattle.value_laws.proofs.RootLaws.{one_object}
 use Rattle.covering_laws.specs.Texts.{TextsAreLight}
@@ -117,7 +117,7 @@ use Rattle.covering_laws.proofs.ContentHolders.{contents_have_holders}
 use Rattle.covering_laws.proofs.LeftOut.{left_out_bears}
 use Rattle.program_model.specs.Overrides.{is_library}
 use Rattle.covering_laws.proofs.WholeThis.{IsSingleThis}
-use Rattle.covering_laws.proofs.AnewAtEnds.{field_stays}
+use Rattle.covering_laws.proofs.AnewAtEnds.{this_stays}
 use Rattle.covering_laws.proofs.IdleFacts.{idle_stays}
 use Rattle.covering_laws.proofs.IdleCalls.{LendsItsOwn, idle_over_call}
 use Rattle.covering_laws.proofs.SaidFacts.{said_apart}
@@ -144,7 +144,7 @@ use Rattle.value_laws.specs.PlaceRows.{places_after}
 module _ (p : Program) (ac : Accept p) (forms : HasPlainForms p) (names : HasSmallInterests p) (h : HeapContents) (links : HasEarlierLinks h) (ranges : FieldsInRange h) (fr : Frame) (old : ℕ → Bool) (frs : List Frame) (st : Stands p fr)
     (mine : LocalsInRange h fr.locals) (arrays : List ArrayObject) (named runs : MethodId) (d : Conduct) (s : Step) (next : IsLibraryMove p h arrays fr.locals (frame_steps p fr) named runs d s) (count : ℕ)
     (leads : LinksLead p h) (contents : HaveContents p (fr ∷ frs) h) (have : HaveEnds h) (texts : TextsAreLight p h) (stored : StoredHoldNone (is_text p h) p h) (fields_own : FieldsOwn p h) (targets : KeepsTargets p fr)
-    (single : IsSingleThis p h fr) (lending : LendsItsOwn p fr s) where
+    (single : IsSingleThis p h fr) (lending : LendsItsOwn p fr s) (unready : AreUnfinished p h (fr ∷ frs)) (makers : MakersOwn p h (fr ∷ frs)) where
   -- the position of the frame
   abbrev at : ℕ
   at = length frs + 1
@@ -619,7 +619,7 @@ module _ (p : Program) (ac : Accept p) (forms : HasPlainForms p) (names : HasSma
         library_alias p ac h links arrays l s.action s.edge c.fact.places named runs (without_reset m) d at count o local.small form same_callee next.answers operands_there next.by (λ e is. let way = next.thrown e is in (way.0, way.2))
         (λ k below held. operand_holds p h fr.method l s.action o k c.fact.places local.small below (said_apart p h frs fr o c.fact c.places said) held) gives)
         (left_out_bears p ac forms h K texts stored links carries (but_texts p h K (library_keeps p l s.action (without_reset m) ran at h no_reset links d)) fr st next.index s next.here local inside (keeps_roots p h K roots fr inside) v old frs gives_none (λ o. false) covered (all_ready p h K (library_unfinished p l s.action (without_reset m) ran at h no_reset links d) fr)
-        (call_apart covered others) fields_own (fr ∷ frs) contents have (field_stays p fr frs h K library_ways (call_goes covered)) mine targets single (λ o never resets. absurd (true≢false (sym never))))
+        (call_apart covered others) fields_own (fr ∷ frs) contents have (this_stays p fr frs h K library_ways (call_goes covered)) mine targets single (λ o never resets. absurd (true≢false (sym never))) unready makers)
         (λ q o y small local' none' there is root' now heavy owes. made q o y small local' there is root' now heavy owes)
 
     pub call_top : IsCovered p h gives_none renews_none old frs fr → IsOld p h frs fr old → LocalsIn h frs → IsCovered p K gives_none renews_none old frs after

@@ -10,6 +10,7 @@ use Rattle.java_control.specs.declared.place.Place.{Place}
 use Rattle.java_control.specs.declared.place.Place.TheVariants as places
 use Rattle.ledger_obligations.specs.MustCallSets.{is_heavy_class}
 use Rattle.ledger_state.specs.Contents.{HeapContents}
+use Rattle.ledger_state.specs.Fields.{field_value}
 use Rattle.ledger_state.specs.Heaps.{object_at, root_of, same_root}
 use Rattle.ledger_state.specs.Locals as locals
 use Rattle.ledger_state.specs.Locals.{temp_value, variable_value, temp_in}
@@ -32,7 +33,7 @@ use Rattle.value_laws.proofs.HeapLaws.{root_of_changed, changed_object_at-object
 use Rattle.value_laws.specs.HeapAnew.{is_field_owner}
 use Rattle.value_laws.specs.Holders.{IsComparable, IsWithin, UnfinishedAreUnowned, by_field, itself}
 use Rattle.value_laws.specs.PlaceFacts.{AreCovered, AreWaiting, EndsBelow, IsCovered, IsHolder, IsSpared, OwesOrHolds, OwnersBelow, gives_none, is_frame_below, is_frame_from, is_given, may_owe, renews_none, IsAnswered, IsOwnedBelow, IsOld, MayStore, is_given_up}
-use Rattle.value_laws.specs.FieldContents.{FieldsOwn}
+use Rattle.value_laws.specs.FieldContents.{FieldsOwn, MakersOwn}
 use Rattle.covering_laws.proofs.FieldOwners.{fields_own_as}
 use Rattle.covering_laws.proofs.Gifts.{gifts_same}
 use Rattle.covering_laws.proofs.OwnerSteps.{frame_is, given_up_free}
@@ -40,7 +41,7 @@ use Rattle.covering_laws.proofs.Owners.{KeepsGifts, KeepsOwn, KeepsOwners, Stays
 use Rattle.covering_laws.proofs.Waiting.{AllGoOn, AllHeldBefore, IsCarried, KeepsReady, KeepsUnfinished, bore_before, given_alike, reread_alike, same_place, stays_covered}
 use Rattle.covering_laws.proofs.LinkedExceptions.{LinkedWere}
 use Rattle.covering_laws.proofs.GivenAway.{at_any}
-use Rattle.value_laws.specs.Renewing.{IsLentFrom, is_renewed, is_reread, renews}
+use Rattle.value_laws.specs.Renewing.{HasOwningField, IsLentFrom, IsWhole, is_renewed, is_reread, renews}
 use Rattle.value_laws.proofs.Readings.{renewed_operand}
 use Rattle.java_control.specs.Control.{Step}
 use Rattle.program_model.specs.declared.kinds.FieldId.{FieldId}
@@ -291,10 +292,19 @@ module _ (p : Program) (k : HeapContents) (held : List (List Value)) where
   ]
   lent_kept (fr ∷ frs) there o x y before at (renews', inr (inl on)) = lent_kept frs there.1 o x y before at on
   lent_kept (fr ∷ frs) there o x y before at (renews', inr (inr (inl held'))) = field_kept o x y before at held'.1.holder held'.1.field held'.1.owns
-  lent_kept (fr ∷ frs) there o x y before at (renews', inr (inr (inr held'))) = field_kept o x y before at held'.holder held'.field held'.owns
+  lent_kept (fr ∷ frs) there o x y before at (renews', inr (inr (inr (inl held')))) = field_kept o x y before at held'.holder held'.field held'.owns
+  lent_kept (fr ∷ frs) there o x y before at (renews', inr (inr (inr (inr made)))) = elim (owner_after o x y before at) [
+    | inl same ↦ same
+    | inr lost ↦ absurd (true≢false (sym (ap (λ (a : Owner). owner_holds k held a o) made.1) ∙ lost.0))
+  ]
 
   same_gifts : (fr : Frame) → KeepsGifts p k left fr
   same_gifts fr = gifts_same p k left fr (λ i s here n. root_stays (operand_of fr.locals s.action n))
+
+  -- an object that is finished, or whose class has owning fields, is so still
+  whole_after : (x y : Object) → y.class ≡ x.class → y.finished ≡ x.finished → IsWhole p x → IsWhole p y
+  whole_after x y class done (inl is) = inl (done ∙ is)
+  whole_after x y class done (inr fields) = inr (subst (HasOwningField p) (sym class) fields)
 
   -- and it is lent still
   lent_still : (frs : List Frame) → AreHeld frs → (o : ℕ) (owner : Owner) → IsLentFrom p k frs o owner → IsLentFrom p left frs o owner
@@ -302,11 +312,12 @@ module _ (p : Program) (k : HeapContents) (held : List (List Value)) where
   lent_still (fr ∷ frs) there o owner (renews', inl own) = ((same_gifts fr o).1 ∙ renews', inl own)
   lent_still (fr ∷ frs) there o owner (renews', inr (inl on)) = ((same_gifts fr o).1 ∙ renews', inr (inl (lent_still frs there.1 o owner on)))
   lent_still (fr ∷ frs) there o owner (renews', inr (inr (inl held'))) = ((same_gifts fr o).1 ∙ renews', inr (inr (inl held')))
-  lent_still (fr ∷ frs) there o owner (renews', inr (inr (inr held'))) =
+  lent_still (fr ∷ frs) there o owner (renews', inr (inr (inr (inr made)))) = ((same_gifts fr o).1 ∙ renews', inr (inr (inr (inr made))))
+  lent_still (fr ∷ frs) there o owner (renews', inr (inr (inr (inl held')))) =
       let y = after held'.holder held'.object held'.at in
       let same = lent_kept frs there.1 held'.holder held'.object y.0 held'.at y.1 held'.lends in (
         (same_gifts fr o).1 ∙ renews',
-        inr (inr (inr (record {
+        inr (inr (inr (inl (record {
           holder = held'.holder;
           field = held'.field;
           owns = held'.owns;
@@ -314,11 +325,11 @@ module _ (p : Program) (k : HeapContents) (held : List (List Value)) where
           method = held'.method;
           object = y.0;
           at = y.1;
-          finished = y.2.finished ∙ held'.finished;
-          unlinked = y.2.link ∙ held'.unlinked;
+          whole = whole_after held'.object y.0 y.2.class y.2.finished held'.whole;
+          unlinked = λ done. y.2.link ∙ held'.unlinked (sym y.2.finished ∙ done);
           heavy = ap (is_heavy_class p) y.2.class ∙ held'.heavy;
           lends = subst (IsLentFrom p left frs held'.holder) (sym same) (lent_still frs there.1 held'.holder held'.object.owner held'.lends);
-        }))),
+        })))),
       )
 
   -- what the call spares it spared
@@ -326,7 +337,7 @@ module _ (p : Program) (k : HeapContents) (held : List (List Value)) where
   spared_then [] o spared = tt
   spared_then (fr ∷ frs) o spared = λ u x at heavy comes.
       let y = after u x at in
-      sym (same_gifts fr u).1 ∙ spared u y.0 y.1 (y.2.finished ∙ heavy.0, ap (is_heavy_class p) y.2.class ∙ heavy.1) (comparable_then u o comes)
+      sym (same_gifts fr u).1 ∙ spared u y.0 y.1 (whole_after x y.0 y.2.class y.2.finished heavy.0, ap (is_heavy_class p) y.2.class ∙ heavy.1) (comparable_then u o comes)
 
   -- what a field owns it owned
   holder_was : (w : ℕ) → IsHolder p left w → IsHolder p k w
@@ -339,6 +350,18 @@ module _ (p : Program) (k : HeapContents) (held : List (List Value)) where
   pub lost_owns : FieldsOwn p k → FieldsOwn p left
   lost_owns = fields_own_as p k left (λ w f own. refl) root_stays
       (λ o y now. let x = was_there o y now in (x.0, x.1, x.2.class, x.2.finished, (λ owes. bore_before p k left (λ w ready holds. inl (holder_was w holds)) o x.0 y x.1 (λ done. (x.2, library_still o x.0 y x.1 now)) owes), (λ w f own. field_kept o x.0 y x.1 now w f own), x.2.link, library_still o x.0 y x.1 now))
+
+  -- so do constructors what they have in the fields of what they make
+  pub lost_makers : (frs : List Frame) → MakersOwn p k frs → MakersOwn p left frs
+  lost_makers [] owned = tt
+  lost_makers (fr ∷ frs) owned = (
+    λ w f o y made owning heavy found now wide owes.
+        let x = was_there o y now in
+        let own = owned.0 w f o x.0 made owning heavy (sym (root_stays (field_value p k w f)) ∙ found) x.1 (ap (is_heavy_class p) (sym x.2.class) ∙ wide)
+        (bore_before p k left (λ u ready holds. inl (holder_was u holds)) o x.0 y x.1 (λ done. (x.2, library_still o x.0 y x.1 now)) owes) in
+        field_kept o x.0 y x.1 now w f own ∙ own,
+    lost_makers frs owned.1,
+  )
 
   module _ (nobody : UnfinishedAreUnowned k) where
     -- what is not finished nobody owns
@@ -363,7 +386,7 @@ module _ (p : Program) (k : HeapContents) (held : List (List Value)) where
       apart = λ o x y before at done heavy none. apart_still (length frs + 1) o x y before at none;
       free = λ o x y before at done heavy none. apart_still 0 o x y before at none;
       content = λ o x y w f before at done heavy plain this own. owned_before o x y before at w f own;
-      keeps = λ o x y before at done heavy lent. (let same = lent_kept frs lower o x y before at lent in (same, subst (IsLentFrom p left frs o) (sym same) (lent_still frs lower o x.owner lent)));
+      keeps = λ o x y before at whole lent. (let same = lent_kept frs lower o x y before at lent in (same, subst (IsLentFrom p left frs o) (sym same) (lent_still frs lower o x.owner lent)));
       ends = λ o x at heavy ends. ends_still frs o ends;
       below = λ o x y before at heavy is. below_then frs o x y before at is;
       answered = λ o x at heavy is. answered_then o is;

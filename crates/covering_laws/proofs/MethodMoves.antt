@@ -1,5 +1,6 @@
 -- A method that creates the obligation of `this` anew stores into an owning field of `this`, which is finished and lent to it: what the field held is given up, and what the frame owned moves into it. (What is left
 -- is the reset of `this`, and of what holds it.)
+use Rattle.covering_laws.specs.Sight.{AllActInSight}
 use Rattle.std.specs.Prelude.{◌&&◌, not}
 use Rattle.std.specs.FinSet as set
 use Rattle.std.proofs.Common.{◌≡◌, ◌⊎◌, inl, inr, ℕ, ◌+◌, ◌<◌, Bool, true, false, Some, None, List, ◌∷◌, length, slice_get, nat_eq, eq-eqb, eqb-true, refl, sym, ap, ◌∙◌, subst, true≢false, arith, Option, [], not, ◌&&◌}
@@ -28,14 +29,14 @@ use Rattle.ledger_steps.specs.LedgerCallsCalls as ledger_calls
 use Rattle.value_laws.specs.Configuration.{Frame}
 use Rattle.value_laws.specs.Choosing.{frame_steps}
 use Rattle.value_laws.specs.Chains.{HaveEnds}
-use Rattle.value_laws.specs.Heaps.{HasEarlierLinks, GoesOn}
+use Rattle.value_laws.specs.Heaps.{HasEarlierLinks}
 use Rattle.value_laws.specs.Holders.{HoldersAreUnlinked}
 use Rattle.value_laws.specs.Agreement.{Stands, AllStand, IsCalledFrom}
 use Rattle.value_laws.specs.PlainForms.{HasPlainForms}
 use Rattle.value_laws.proofs.StoredObjects.{stored_goes_on}
-use Rattle.value_laws.specs.Stores.{IsStored, IsMovedIn}
+use Rattle.value_laws.specs.Stores.{IsMovedIn}
 use Rattle.value_laws.proofs.RootLaws.{one_object}
-use Rattle.value_laws.specs.FieldContents.{FieldsHold, FieldsOwn, IsFieldOfClass}
+use Rattle.value_laws.specs.FieldContents.{FieldsHold, FieldsOwn, IsFieldOfClass, MakersOwn}
 use Rattle.value_laws.specs.PlaceFacts.{IsCovered, gives_none, renews_none, is_heavy_in, OwesOrHolds, owned, IsOld, AreWaiting, OwnersBelow, leaves_all, takes_nothing}
 use Rattle.value_laws.specs.Ranges.{FieldsInRange, LocalsInRange}
 use Rattle.covering_laws.proofs.LocalSteps.{LocalsIn, all_there, holds_there}
@@ -43,9 +44,9 @@ use Rattle.covering_laws.proofs.FieldOwners.{FieldGoes, carried_as_before, field
 use Rattle.covering_laws.proofs.Gifts.{all_keep_gifts}
 use Rattle.covering_laws.proofs.Owners.{AllKeepGifts, StaysApart, old_kept, AllKeepOwners}
 use Rattle.covering_laws.proofs.OwnerSteps.{movable_owes}
-use Rattle.covering_laws.proofs.StoreOwners.{store_below, store_keeps_library}
-use Rattle.covering_laws.proofs.Waiting.{all_ready, frames_ready, old_as, HoldsThere, this_was, keeps_roots, AllGoOn, AllKeepSaid, all_keep_roots, all_wait_said, bore_before, value_root}
-use Rattle.covering_laws.proofs.StoreMoves.{after, back, bound, carries, forth, holds_other', keeps_owning, moved, moved_unfinished, roots, top_stores, v, field_takes, holds_here', plain_from, room, value_is}
+use Rattle.covering_laws.proofs.StoreOwners.{store_below}
+use Rattle.covering_laws.proofs.Waiting.{all_ready, frames_ready, old_as, HoldsThere, this_was, keeps_roots, AllGoOn, AllKeepSaid, all_keep_roots, all_wait_said, value_root}
+use Rattle.covering_laws.proofs.StoreMoves.{after, back, bound, carries, forth, holds_other', keeps_owning, moved, moved_unfinished, roots, top_stores, v, holds_here', plain_from, room, ArePlain, makers_own, value_owned}
 use Rattle.std.proofs.lemmas.Bool.{and_parts, not-true}
 use Rattle.program_model.specs.declared.kinds.ClassId.{ClassId}
 use Rattle.program_model.specs.declared.program.Method.{Method}
@@ -89,7 +90,7 @@ module _ (p : Program) (ac : Accept p) (forms : HasPlainForms p) (h : HeapConten
     (targets : HaveTargets p frs) (hold : FieldsHold p (fr ∷ frs) h) (i : ℕ) (s : Step) (here : slice_get (frame_steps p fr) i ≡ Some s) (f : FieldId) (d : ℕ) (is : s.action ≡ actions.PutOwn f d) (made : Value) (w : ℕ)
     (this : fr.locals.this ≡ values.Object w) (self : Object) (there : object_at h w ≡ Some self) (reopened : IsReopened p h frs fr w self) (class : IsFieldOfClass p f self.class) (have : HaveEnds h) (unlinked : HoldersAreUnlinked (is_heavy_class p) h)
     (in' : LocalsIn h (fr ∷ frs)) (owned : FieldsOwn p h) (texts : TextsAreLight p h) (types : KeepsTypes (is_text p h) p fr) (old : ℕ → Bool) (is_old : IsOld p h frs fr old) (covered : IsCovered p h gives_none renews_none old frs fr)
-    (waits : AreWaiting p h old frs) (below : OwnersBelow h (length frs + 1)) where
+    (waits : AreWaiting p h old frs) (below : OwnersBelow h (length frs + 1)) (sights : AllActInSight p h frs) where
   plain_method : constructs (method_at p fr.method) ≡ false
   plain_method = opens_no_constructor (method_at p fr.method) reopened.opens
 
@@ -122,10 +123,10 @@ module _ (p : Program) (ac : Accept p) (forms : HasPlainForms p) (h : HeapConten
   others_in : LocalsIn h frs
   others_in = All-tail (λ (x : Frame). LocalsInRange h x.locals) fr frs in'
 
-  all_renew : AllRenewInHand p h frs
-  all_renew = all_renew_in_hand p ac forms h have links owned unlinked fr frs standing targets stacked others_in old waits
+  pub all_renew : AllRenewInHand p h frs
+  all_renew = all_renew_in_hand p ac forms h have links owned unlinked fr frs standing targets stacked others_in old waits hold.unfinished.1 sights
 
-  gifts : AllKeepGifts p h k frs
+  pub gifts : AllKeepGifts p h k frs
   gifts = all_keep_gifts p h k (roots p ac forms h links fr frs st i s here f d is made w this self there unmade) frs others_in
 
   alike_from : (gs : List Frame) → AllRenewInHand p h gs → AllKeepGifts p h k gs → AllRenewAlike p h k have unlinked n w self there reopened.heavy reopened.single bears stores_into gs
@@ -211,30 +212,7 @@ module _ (p : Program) (ac : Accept p) (forms : HasPlainForms p) (h : HeapConten
           )
         where
           takes : is_heavy_in p (Some f) ≡ true → (o : ℕ) (z : Object) → root_of k (field_value p k w f) ≡ Some o → object_at k o ≡ Some z → is_heavy_class p z.class ≡ true → OwesOrHolds p k o z → z.owner ≡ owners.Field w f
-          takes heavy o z root at wide owes = elim (value_is p ac forms h links fr frs st i s here f d is made w this self there unmade old covered not_aliased heavy o b.0 root_before b.1 wide' owes') [
-            | inl own ↦ field_takes p ac forms h links fr frs st i s here f d is made w this self there unmade o b.0 z b.1 at wide' root_before own.1 own.2 not_aliased own.0
-            | inr field ↦ by field b.2
-          ]
-            where
-              b : (x : Object) × (object_at h o ≡ Some x) × IsStored p h w f (v p ac forms h links fr frs st i s here f d is made w this self there unmade) o x z
-              b = back p ac forms h links fr frs st i s here f d is made w this self there unmade o z at
-
-              root_before : root_of h (v p ac forms h links fr frs st i s here f d is made w this self there unmade) ≡ Some o
-              root_before = sym (value_root h k (roots p ac forms h links fr frs st i s here f d is made w this self there unmade) (v p ac forms h links fr frs st i s here f d is made w this self there unmade) (inside (places.Temp d) (room p ac forms h links fr frs st i s here f d is made w this self there unmade old covered))) ∙ ap (root_of k) (sym (holds_here' p ac forms h links fr frs st i s here f d is made w this self there unmade)) ∙ root
-
-              on : GoesOn b.0 z
-              on = stored_goes_on p h w f (v p ac forms h links fr frs st i s here f d is made w this self there unmade) o b.0 z b.2
-
-              wide' : is_heavy_class p (b.0).class ≡ true
-              wide' = ap (is_heavy_class p) (sym on.class) ∙ wide
-
-              owes' : OwesOrHolds p h o b.0
-              owes' = bore_before p h k apart.holders o b.0 z b.1 (λ done. (on, store_keeps_library p h k w f (v p ac forms h links fr frs st i s here f d is made w this self there unmade) (back p ac forms h links fr frs st i s here f d is made w this self there unmade) o b.0 z b.1 at done)) owes
-
-              by : (b.0).owner ≡ owners.Field w f → IsStored p h w f (v p ac forms h links fr frs st i s here f d is made w this self there unmade) o b.0 z → z.owner ≡ owners.Field w f
-              by field (inl same) = ap (λ (m : Object). m.owner) same ∙ field
-              by field (inr (inl gone)) = absurd (gone.0.other root_before)
-              by field (inr (inr into)) = ap (λ (m : Object). m.owner) into.1
+          takes heavy o z root at wide owes = value_owned p ac forms h links fr frs st i s here f d is made w this self there unmade old covered inside apart.holders o z at wide owes not_aliased heavy root
 
       other : ((u ≡ w) × (g ≡ f) → ⊥) → FieldGoes p h k u g
       other apart' = inl (inl (holds_other' p ac forms h links fr frs st i s here f d is made w this self there unmade u g apart'), keeps_owning p ac forms h links fr frs st i s here f d is made w this self there unmade old covered u g apart')
@@ -246,3 +224,11 @@ module _ (p : Program) (ac : Accept p) (forms : HasPlainForms p) (h : HeapConten
 
   pub moved_owns : FieldsOwn p k
   moved_owns = fields_own_on p h k links ranges have.unfinished field_goes (carried_as_before p h k (carries p ac forms h links fr frs st i s here f d is made w this self there unmade) apart.holders) (inl (roots p ac forms h links fr frs st i s here f d is made w this self there unmade)) (none_finished p h k (moved_unfinished p ac forms h links fr frs st i s here f d is made w this self there unmade)) owned
+
+  -- so it is with what frames make
+  all_plain : (gs : List Frame) → ArePlain p w (is_alias_constructor p st.number ≡ false) gs
+  all_plain [] = tt
+  all_plain (x ∷ xs) = ((λ maker. not_aliased), all_plain xs)
+
+  pub moved_makers : MakersOwn p h (fr ∷ frs) → MakersOwn p k (fr ∷ frs)
+  moved_makers = makers_own p ac forms h links fr frs st i s here f d is made w this self there unmade old covered inside apart.holders ranges (fr ∷ frs) (all_plain (fr ∷ frs))

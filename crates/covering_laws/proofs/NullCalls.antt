@@ -44,8 +44,9 @@ use Rattle.value_laws.proofs.Unmet.{way_of_call}
 use Rattle.value_laws.specs.PlaceFacts.{AreCovered, IsUnowned, gives_none}
 use Rattle.value_laws.specs.Ranges.{FieldsInRange, LocalsInRange}
 use Rattle.covering_laws.proofs.CallSteps.{call_covered}
-use Rattle.value_laws.specs.FieldContents.{FieldsOwn}
-use Rattle.covering_laws.proofs.FieldOwners.{fields_own_by}
+use Rattle.value_laws.specs.FieldContents.{FieldsOwn, MakersOwn}
+use Rattle.covering_laws.proofs.FieldOwners.{carried_as_before, fields_own_by}
+use Rattle.covering_laws.proofs.MakersOwning.{all_made_kept, makers_own_on}
 use Rattle.covering_laws.proofs.Gifts.{all_keep_gifts}
 use Rattle.covering_laws.proofs.InnerJoins.{exception_class_is}
 use Rattle.covering_laws.proofs.InnerSteps.{no_object, same_goes_on}
@@ -176,6 +177,22 @@ module _ (p : Program) (ac : Accept p) (forms : HasPlainForms p) (h : HeapConten
       ways : WaysGo p None [] 1 h k
       ways = ways_by p None [] 1 h k have unlinked (thrown_unowned p (Some npe) h have.unfinished) (thrown_count p (Some npe) h) (thrown_carries p h links npe) (thrown_births p (Some npe) 1 h) no_other (thrown_unfinished p h links npe)
           (λ o never. absurd never) (λ w never. absurd (let no : None ≡ Some w = never in cc))
+
+  -- so do the fields of what these frames make
+  pub null_makers : HaveEnds h → HoldersAreUnlinked (is_heavy_class p) h → (frs : List Frame) → MakersOwn p h (fr ∷ frs) → MakersOwn p k (after ∷ frs)
+  null_makers have unlinked frs makers = (λ w f o x made' owning heavy held at wide owes. kept.0 w f o x (record { alone = made'.alone; field = made'.field; declared = made'.declared; runs = made'.runs }) owning heavy held at wide owes, kept.1)
+    where
+      goes : OwnersGo p None (fr ∷ frs) 1 h k
+      goes = thrown_owners_go p (Some npe) h None (fr ∷ frs) 1
+
+      ways : WaysGo p None (fr ∷ frs) 1 h k
+      ways = ways_by p None (fr ∷ frs) 1 h k have unlinked (thrown_unowned p (Some npe) h have.unfinished) (thrown_count p (Some npe) h) (thrown_carries p h links npe) (thrown_births p (Some npe) 1 h) no_other (thrown_unfinished p h links npe)
+          (λ o never. absurd never) (λ w never. absurd (let no : None ≡ Some w = never in cc))
+
+      kept : MakersOwn p k (fr ∷ frs)
+      kept =
+          makers_own_on p h k links ranges have.unfinished (but_texts p h k (thrown_fields p h links npe)) (carried_as_before p h k (thrown_carries p h links npe) (holders_were p None (fr ∷ frs) 1 h k ways goes)) (inl (thrown_roots p h links npe)) (fr ∷ frs)
+          (all_made_kept p None (fr ∷ frs) 1 h k have.unfinished goes (fr ∷ frs) (λ w none. none)) makers
 
   pub null_covered : HaveEnds h → HoldersAreUnlinked (is_heavy_class p) h → (frs : List Frame) → LocalsIn h (fr ∷ frs) → AreCovered p h (fr ∷ frs) → AreCovered p k (after ∷ frs)
   null_covered have unlinked frs in' (old, is, covered, waits, below) = (

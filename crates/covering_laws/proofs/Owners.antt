@@ -1,6 +1,6 @@
 -- Who owns objects as a step goes, and what the frames were given.
 use Rattle.std.specs.Prelude.{nat_lt}
-use Rattle.std.proofs.Common.{◌≡◌, ◌⊎◌, eq-eqb, ℕ, ◌+◌, ◌<◌, ◌≤◌, Bool, true, false, not, ◌&&◌, ◌||◌, Option, Some, None, List, [], ◌∷◌, length, lt-ltb, ltb-true, refl, sym, ap, ◌∙◌, subst, inl, inr, true≢false, arith}
+use Rattle.std.proofs.Common.{◌≡◌, ◌⊎◌, eq-eqb, ℕ, ◌+◌, ◌<◌, ◌≤◌, Bool, true, false, not, ◌&&◌, Option, Some, None, List, [], ◌∷◌, length, lt-ltb, ltb-true, refl, sym, ap, ◌∙◌, subst, inl, inr, true≢false, arith}
 use Rattle.std.proofs.lemmas.Bool.{and_parts, not-true}
 use Rattle.std.proofs.lemmas.Bool.Decides.{nat_tests}
 use Rattle.program_model.specs.declared.kinds.ClassId.{ClassId}
@@ -29,11 +29,10 @@ use Rattle.value_laws.specs.FieldContents.{RunOnOthers}
 use Rattle.value_laws.specs.Chains.{HaveEnds}
 use Rattle.value_laws.specs.HeapAnew.{is_field_owner}
 use Rattle.value_laws.specs.Holders.{HoldersAreUnlinked}
-use Rattle.value_laws.specs.PlaceFacts.{EndsBelow, IsAnswered, IsApart, IsHeavyObject, IsHolder, IsInFieldBelow, IsOld, IsOwnedBelow, IsSpared, MayStore, RunsOn, is_frame_below, is_frame_from, is_given, is_given_up, is_idle, leaves_all, takes_nothing}
-use Rattle.value_laws.specs.Renewing.{IsLentFrom, IsOwnedByThis, answers_for_fields, is_field_of, is_renewed, lends_this, was_renewed}
+use Rattle.value_laws.specs.PlaceFacts.{EndsBelow, IsAnswered, IsApart, IsHeavyObject, IsHolder, IsOld, IsOwnedBelow, IsSpared, MayStore, RunsOn, is_frame_below, is_frame_from, is_given, is_given_up, is_idle, leaves_all, takes_nothing}
+use Rattle.value_laws.specs.Renewing.{HasOwningField, IsLentFrom, IsMadeBy, IsOwnedByThis, IsWhole, IsWholeObject, answers_for_fields, is_renewed, lends_this, was_renewed}
 use Rattle.value_laws.proofs.RootLaws.{one_object}
-use Rattle.value_laws.proofs.WaysOverSteps.{KeepsWays, answered_before, below_before, comparable_still, ends_below_still, unmade_unheld}
-use Rattle.value_laws.proofs.WaysUp.{top_is_last}
+use Rattle.value_laws.proofs.WaysOverSteps.{KeepsWays, answered_before, below_before, comparable_below, ends_below_still}
 
 -- ---- the owner of an object, before a step and after it
 
@@ -62,6 +61,11 @@ keeps_finished h k goes n done = by (object_at h n) refl done
     by : (z : Option Object) → object_at h n ≡ z → finished_in z ≡ true → finished_in (object_at k n) ≡ true
     by None none never = absurd (true≢false (sym never))
     by (Some x) some is = (let y = goes n x some is in ap finished_in y.1 ∙ y.2)
+
+-- so is what has owning fields
+pub whole_still : (p : Program) (x y : Object) → y.class ≡ x.class → (x.finished ≡ true → y.finished ≡ true) → IsWhole p x → IsWhole p y
+whole_still p x y class goes (inl done) = inl (goes done)
+whole_still p x y class goes (inr fields) = inr (subst (HasOwningField p) (sym class) fields)
 
 -- ---- what fields own
 
@@ -106,7 +110,7 @@ pub record StaysApart (p : Program) (h k : HeapContents) (frs : List Frame) (fr 
   pub free : (o : ℕ) (x y : Object) → object_at h o ≡ Some x → object_at k o ≡ Some y → x.finished ≡ true → is_heavy_class p x.class ≡ true → is_frame_from 0 x.owner ≡ false → is_frame_from 0 y.owner ≡ false
   pub content : (o : ℕ) (x y : Object) (w : ℕ) (f : FieldId) → object_at h o ≡ Some x → object_at k o ≡ Some y → x.finished ≡ true → is_heavy_class p x.class ≡ true → leaves_all p (method_at p fr.method) ≡ true
       → fr.locals.this ≡ values.Object w → y.owner ≡ owners.Field w f → x.owner ≡ owners.Field w f
-  pub keeps : (o : ℕ) (x y : Object) → object_at h o ≡ Some x → object_at k o ≡ Some y → x.finished ≡ true → is_heavy_class p x.class ≡ true → IsLentFrom p h frs o x.owner → (y.owner ≡ x.owner) × IsLentFrom p k frs o y.owner
+  pub keeps : (o : ℕ) (x y : Object) → object_at h o ≡ Some x → object_at k o ≡ Some y → IsWholeObject p x → IsLentFrom p h frs o x.owner → (y.owner ≡ x.owner) × IsLentFrom p k frs o y.owner
   pub ends : (o : ℕ) (x : Object) → object_at h o ≡ Some x → is_heavy_class p x.class ≡ true → EndsBelow h frs o → EndsBelow k frs o
   pub below : (o : ℕ) (x y : Object) → object_at h o ≡ Some x → object_at k o ≡ Some y → IsHeavyObject p x → IsOwnedBelow p frs y.owner → IsOwnedBelow p frs x.owner
   pub late : (o : ℕ) (y : Object) → object_at k o ≡ Some y → ((x : Object) → object_at h o ≡ Some x → x.finished ≡ true → ⊥) → (is_field_owner y.owner ≡ false) × (is_frame_below (length frs + 1) y.owner ≡ false)
@@ -209,8 +213,19 @@ pub record IsHeldAmong (frs : List Frame) (owner : Owner) : Type 0 where
   pub held : is_held_by owner holder ≡ true
   pub runs : RunsOn holder frs
 
--- what is lent is owned by a frame below, or by such a field
-pub lent_owner : (p : Program) (h : HeapContents) (frs : List Frame) (o : ℕ) (owner : Owner) → IsLentFrom p h frs o owner → (is_frame_below (length frs + 1) owner ≡ true) ⊎ IsHeldAmong frs owner
+-- one of these frames makes the object
+abbrev pub IsMadeAmong : Program → List Frame → ℕ → Type 0
+IsMadeAmong p [] o = ⊥
+IsMadeAmong p (fr ∷ frs) o = IsMadeBy p fr o ⊎ IsMadeAmong p frs o
+
+made_runs : (p : Program) (frs : List Frame) (o : ℕ) → IsMadeAmong p frs o → RunsOn o frs
+made_runs p [] o made = made
+made_runs p (fr ∷ frs) o (inl made) = inl made.runs
+made_runs p (fr ∷ frs) o (inr made) = inr (made_runs p frs o made)
+
+-- what is lent is owned by a frame below, or by such a field, or one of the frames makes it, and nobody owns it
+pub lent_owner : (p : Program) (h : HeapContents) (frs : List Frame) (o : ℕ) (owner : Owner) → IsLentFrom p h frs o owner
+    → (is_frame_below (length frs + 1) owner ≡ true) ⊎ (IsHeldAmong frs owner ⊎ (IsMadeAmong p frs o × (owner ≡ owners.Unowned)))
 lent_owner p h [] o owner is = absurd is
 lent_owner p h (fr ∷ frs) o owner (renews, inl own) = inl (as_next frs fr owner (ap (is_frame_below (length frs + 1 + 1)) own ∙ lt-ltb (length frs + 1) (length frs + 1 + 1) (omega arith)))
   where
@@ -221,11 +236,14 @@ lent_owner p h (fr ∷ frs) o owner (renews, inr (inl on)) = go (lent_owner p h 
     higher : (n : ℕ) (a : Owner) → is_frame_below n a ≡ true → is_frame_below (n + 1) a ≡ true
     higher n a low = (let low' = frame_below n a low in ap (is_frame_below (n + 1)) low'.1 ∙ lt-ltb low'.0 (n + 1) (let less = low'.2 in omega (arith, less)))
 
-    go : (is_frame_below (length frs + 1) owner ≡ true) ⊎ IsHeldAmong frs owner → (is_frame_below (length (fr ∷ frs) + 1) owner ≡ true) ⊎ IsHeldAmong (fr ∷ frs) owner
+    go : (is_frame_below (length frs + 1) owner ≡ true) ⊎ (IsHeldAmong frs owner ⊎ (IsMadeAmong p frs o × (owner ≡ owners.Unowned)))
+        → (is_frame_below (length (fr ∷ frs) + 1) owner ≡ true) ⊎ (IsHeldAmong (fr ∷ frs) owner ⊎ (IsMadeAmong p (fr ∷ frs) o × (owner ≡ owners.Unowned)))
     go (inl low) = inl (ap (λ (n : ℕ). is_frame_below n owner) (let number : length (fr ∷ frs) + 1 ≡ length frs + 1 + 1 = omega arith in number) ∙ higher (length frs + 1) owner low)
-    go (inr held) = inr (record { holder = held.holder; held = held.held; runs = inr held.runs })
-lent_owner p h (fr ∷ frs) o owner (renews, inr (inr (inl held))) = inr (record { holder = held.1.holder; held = held_at owner held.1.holder held.1.field held.1.owns; runs = inl held.1.runs })
-lent_owner p h (fr ∷ frs) o owner (renews, inr (inr (inr held))) = inr (record { holder = held.holder; held = held_at owner held.holder held.field held.owns; runs = inl held.runs })
+    go (inr (inl held)) = inr (inl (record { holder = held.holder; held = held.held; runs = inr held.runs }))
+    go (inr (inr made)) = inr (inr (inr made.0, made.1))
+lent_owner p h (fr ∷ frs) o owner (renews, inr (inr (inl held))) = inr (inl (record { holder = held.1.holder; held = held_at owner held.1.holder held.1.field held.1.owns; runs = inl held.1.runs }))
+lent_owner p h (fr ∷ frs) o owner (renews, inr (inr (inr (inl held)))) = inr (inl (record { holder = held.holder; held = held_at owner held.holder held.field held.owns; runs = inl held.runs }))
+lent_owner p h (fr ∷ frs) o owner (renews, inr (inr (inr (inr made)))) = inr (inr (inl made.0, made.1))
 
 -- a frame owns it no more than a field does
 pub held_no_frame : (i : ℕ) (owner : Owner) (w : ℕ) → is_held_by owner w ≡ true → is_frame_from i owner ≡ false
@@ -240,7 +258,8 @@ held_no_frame i owners.Unowned w held = refl
 pub lent_not_from : (p : Program) (h : HeapContents) (frs : List Frame) (o : ℕ) (owner : Owner) → IsLentFrom p h frs o owner → is_frame_from (length frs + 1) owner ≡ false
 lent_not_from p h frs o owner lent = elim (lent_owner p h frs o owner lent) [
   | inl low ↦ (let it = frame_below (length frs + 1) owner low in no_frame_at (length frs + 1) owner it.0 it.1 it.2)
-  | inr held ↦ held_no_frame (length frs + 1) owner held.holder held.held
+  | inr (inl held) ↦ held_no_frame (length frs + 1) owner held.holder held.held
+  | inr (inr made) ↦ ap (is_frame_from (length frs + 1)) made.1
 ]
   where
     no_frame_at : (i : ℕ) (a : Owner) (n : ℕ) → a ≡ owners.Frame n → n < i → is_frame_from i a ≡ false
@@ -326,13 +345,22 @@ module _ (p : Program) (into : Option ℕ) (leaving : List Frame) (j : ℕ) (h k
   apart_by i a b below (left none' then' fields others) none = no_frame_from 0 i b (omega arith) then'
 
   -- what is lent to frames keeps its owner, where what a field gives up is one of an object on which none of these runs
-  owner_kept : (frs : List Frame) → length frs + 1 ≤ j → ((w : ℕ) → RunOnOthers w leaving → RunOnOthers w frs) → (o : ℕ) (x y : Object) → object_at h o ≡ Some x → object_at k o ≡ Some y → x.finished ≡ true → is_heavy_class p x.class ≡ true
+  owner_kept : (frs : List Frame) → length frs + 1 ≤ j → ((w : ℕ) → RunOnOthers w leaving → RunOnOthers w frs) → (o : ℕ) (x y : Object) → object_at h o ≡ Some x → object_at k o ≡ Some y → is_heavy_class p x.class ≡ true
       → IsLentFrom p h frs o x.owner → y.owner ≡ x.owner
-  owner_kept frs below spared o x y before at done heavy lent = elim (lent_owner p h frs o x.owner lent) [
-    | inl low ↦ by x.owner y.owner (go_on o x y before at done heavy) (frame_below (length frs + 1) x.owner low)
-    | inr held ↦ of_field x.owner y.owner (go_on o x y before at done heavy) held.holder held.held held.runs
-  ]
+  owner_kept frs below spared o x y before at heavy lent = go x.finished refl (lent_owner p h frs o x.owner lent)
     where
+      of_none : (a b : Owner) → OwnerGoes h into leaving j a b → a ≡ owners.Unowned → b ≡ a
+      of_none a b (stays same) none = same
+      of_none a b (passed from goes low') none = absurd (true≢false (sym from ∙ ap (is_frame_from j) none))
+      of_none a b (left field then' fields others) none = absurd (true≢false (sym field ∙ ap is_field_owner none))
+
+      -- nobody owns what is not finished: a frame makes it, so it stays so
+      unmade_kept : x.finished ≡ false → IsMadeAmong p frs o → x.owner ≡ owners.Unowned → y.owner ≡ x.owner
+      unmade_kept open' made none = elim (ways.unmade o x y before at open') [
+        | inl still ↦ still.1 ∙ sym none
+        | inr away ↦ absurd (runs_on_none o frs (spared o away.0) (made_runs p frs o made))
+      ]
+
       by : (a b : Owner) → OwnerGoes h into leaving j a b → (n : ℕ) × (a ≡ owners.Frame n) × (n < length frs + 1) → b ≡ a
       by a b (stays same) (n, is, less) = same
       by a b (passed from goes low') (n, is, less) = absurd (owned_below n j a is (omega (arith, below, less)) from)
@@ -343,17 +371,39 @@ module _ (p : Program) (into : Option ℕ) (leaving : List Frame) (j : ℕ) (h k
       of_field a b (passed from goes low') w held runs = absurd (true≢false (sym from ∙ held_no_frame j a w held))
       of_field a b (left none then' fields others) w held runs = absurd (runs_on_none w frs (spared w (others w held).0) runs)
 
+      go : (b : Bool) → x.finished ≡ b → (is_frame_below (length frs + 1) x.owner ≡ true) ⊎ (IsHeldAmong frs x.owner ⊎ (IsMadeAmong p frs o × (x.owner ≡ owners.Unowned))) → y.owner ≡ x.owner
+      go true done (inl low) = by x.owner y.owner (go_on o x y before at done heavy) (frame_below (length frs + 1) x.owner low)
+      go true done (inr (inl held)) = of_field x.owner y.owner (go_on o x y before at done heavy) held.holder held.held held.runs
+      go true done (inr (inr made)) = of_none x.owner y.owner (go_on o x y before at done heavy) made.1
+      go false open' (inl low) = absurd (true≢false (sym low ∙ ap (is_frame_below (length frs + 1)) (ways.have.unfinished o x before open')))
+      go false open' (inr (inl held)) = absurd (true≢false (sym held.held ∙ ap (λ (a : Owner). is_held_by a held.holder) (ways.have.unfinished o x before open')))
+      go false open' (inr (inr made)) = unmade_kept open' made.0 made.1
+
+  -- what is lent, and finished then, was so
+  finished_still : (frs : List Frame) → ((w : ℕ) → RunOnOthers w leaving → RunOnOthers w frs) → (o : ℕ) (x y : Object) → object_at h o ≡ Some x → object_at k o ≡ Some y → IsLentFrom p h frs o x.owner → y.finished ≡ true → x.finished ≡ true
+  finished_still frs spared o x y before at lent done = go x.finished refl (lent_owner p h frs o x.owner lent)
+    where
+      go : (b : Bool) → x.finished ≡ b → (is_frame_below (length frs + 1) x.owner ≡ true) ⊎ (IsHeldAmong frs x.owner ⊎ (IsMadeAmong p frs o × (x.owner ≡ owners.Unowned))) → x.finished ≡ true
+      go true was owner = was
+      go false open' (inl low) = absurd (true≢false (sym low ∙ ap (is_frame_below (length frs + 1)) (ways.have.unfinished o x before open')))
+      go false open' (inr (inl held)) = absurd (true≢false (sym held.held ∙ ap (λ (a : Owner). is_held_by a held.holder) (ways.have.unfinished o x before open')))
+      go false open' (inr (inr made)) = elim (ways.unmade o x y before at open') [
+        | inl still ↦ absurd (true≢false (sym done ∙ still.0))
+        | inr away ↦ absurd (runs_on_none o frs (spared o away.0) (made_runs p frs o made.0))
+      ]
+
   -- and it is lent still
   lent_still : (frs : List Frame) → length frs + 1 ≤ j → ((w : ℕ) → RunOnOthers w leaving → RunOnOthers w frs) → AllKeepGifts p h k frs → (o : ℕ) (owner : Owner) → IsLentFrom p h frs o owner → IsLentFrom p k frs o owner
   lent_still [] below spared gifts o owner lent = lent
   lent_still (fr ∷ frs) below spared gifts o owner (renews, inl own) = ((gifts.0 o).1 ∙ renews, inl own)
   lent_still (fr ∷ frs) below spared gifts o owner (renews, inr (inl on)) = ((gifts.0 o).1 ∙ renews, inr (inl (lent_still frs (omega (arith, below)) (λ w none. (spared w none).1) gifts.1 o owner on)))
   lent_still (fr ∷ frs) below spared gifts o owner (renews, inr (inr (inl held))) = ((gifts.0 o).1 ∙ renews, inr (inr (inl held)))
-  lent_still (fr ∷ frs) below spared gifts o owner (renews, inr (inr (inr held))) =
+  lent_still (fr ∷ frs) below spared gifts o owner (renews, inr (inr (inr (inr made)))) = ((gifts.0 o).1 ∙ renews, inr (inr (inr (inr made))))
+  lent_still (fr ∷ frs) below spared gifts o owner (renews, inr (inr (inr (inl held)))) =
       let y = ways.objects held.holder held.object held.at in
-      let same = owner_kept frs (omega (arith, below)) (λ w none. (spared w none).1) held.holder held.object y.0 held.at y.1 held.finished held.heavy held.lends in (
+      let same = owner_kept frs (omega (arith, below)) (λ w none. (spared w none).1) held.holder held.object y.0 held.at y.1 held.heavy held.lends in (
         (gifts.0 o).1 ∙ renews,
-        inr (inr (inr (record {
+        inr (inr (inr (inl (record {
           holder = held.holder;
           field = held.field;
           owns = held.owns;
@@ -361,11 +411,13 @@ module _ (p : Program) (into : Option ℕ) (leaving : List Frame) (j : ℕ) (h k
           method = held.method;
           object = y.0;
           at = y.1;
-          finished = (y.3 held.finished).0;
-          unlinked = (y.3 held.finished).1 ∙ held.unlinked;
+          whole = whole_still p held.object y.0 y.2 (λ done. (y.3 done).0) held.whole;
+          unlinked = λ done. (
+              let was = finished_still frs (λ w none. (spared w none).1) held.holder held.object y.0 held.at y.1 held.lends done in
+              (y.3 was).1 ∙ held.unlinked was);
           heavy = ap (is_heavy_class p) y.2 ∙ held.heavy;
           lends = subst (IsLentFrom p k frs held.holder) (sym same) (lent_still frs (omega (arith, below)) (λ w none. (spared w none).1) gifts.1 held.holder held.object.owner held.lends);
-        }))),
+        })))),
       )
 
   -- the ways up from what ends below a frame at this position or below
@@ -419,12 +471,12 @@ module _ (p : Program) (into : Option ℕ) (leaving : List Frame) (j : ℕ) (h k
       by_free a b (left none' then' fields others) unheld none = no_field b fields
 
   -- what is spared was so
-  spared_then : (frs : List Frame) → length frs + 1 ≤ j → RunsNoneOn into frs → ((w : ℕ) → RunOnOthers w leaving → RunOnOthers w frs) → AllKeepGifts p h k frs → (o : ℕ) (x : Object) → object_at h o ≡ Some x → IsHeavyObject p x → IsSpared p k frs o → IsSpared p h frs o
-  spared_then [] below nowhere others gifts o x at heavy spared = tt
-  spared_then (fr ∷ frs) below nowhere others gifts o x at heavy spared = λ u z there heavy' comes.
+  spared_then : (frs : List Frame) → length frs + 1 ≤ j → RunsNoneOn into frs → ((w : ℕ) → RunOnOthers w leaving → RunOnOthers w frs) → AllKeepGifts p h k frs → (o : ℕ) (x : Object) → object_at h o ≡ Some x → IsHeavyObject p x → EndsBelow h frs o → IsSpared p k frs o → IsSpared p h frs o
+  spared_then [] below nowhere others gifts o x at heavy ends spared = tt
+  spared_then (fr ∷ frs) below nowhere others gifts o x at heavy ends spared = λ u z there heavy' comes.
       let y = ways.objects u z there in
-      let comes' = comparable_still p h k ways.have ways.unlinked (fr ∷ frs) (λ w. RunOnOthers w leaving) (ways_kept (fr ∷ frs) below nowhere others) u o z x there at heavy' heavy comes in
-      let none = spared u y.0 y.1 ((y.3 heavy'.0).0, ap (is_heavy_class p) y.2 ∙ heavy'.1) comes' in
+      let comes' = comparable_below p h k ways.have ways.unlinked (fr ∷ frs) (λ w. RunOnOthers w leaving) (ways_kept (fr ∷ frs) below nowhere others) u o z x there at heavy'.1 heavy ends comes in
+      let none = spared u y.0 y.1 (whole_still p z y.0 y.2 (λ done. (y.3 done).0) heavy'.0, ap (is_heavy_class p) y.2 ∙ heavy'.1) comes' in
       sym (gifts.0 u).1 ∙ none
 
   module _ (frs : List Frame) (fr : Frame) (below : length frs + 1 ≤ j) (gifts : AllKeepGifts p h k frs) where
@@ -441,9 +493,9 @@ module _ (p : Program) (into : Option ℕ) (leaving : List Frame) (j : ℕ) (h k
         by a b (left none then' fields others) w held runs = absurd (spared w (others w held).0 runs)
 
     module _ (nowhere : RunsNoneOn into frs) (spared : (w : ℕ) → RunOnOthers w leaving → RunOnOthers w frs) where
-      keeps_lent : (o : ℕ) (x y : Object) → object_at h o ≡ Some x → object_at k o ≡ Some y → x.finished ≡ true → is_heavy_class p x.class ≡ true → IsLentFrom p h frs o x.owner → (y.owner ≡ x.owner) × IsLentFrom p k frs o y.owner
-      keeps_lent o x y before at done heavy lent =
-          let same = owner_kept frs below spared o x y before at done heavy lent in
+      keeps_lent : (o : ℕ) (x y : Object) → object_at h o ≡ Some x → object_at k o ≡ Some y → IsWholeObject p x → IsLentFrom p h frs o x.owner → (y.owner ≡ x.owner) × IsLentFrom p k frs o y.owner
+      keeps_lent o x y before at whole lent =
+          let same = owner_kept frs below spared o x y before at whole.1 lent in
           (same, subst (IsLentFrom p k frs o) (sym same) (lent_still frs below spared gifts o x.owner lent))
 
       -- what the step made, or finished
@@ -471,7 +523,7 @@ module _ (p : Program) (into : Option ℕ) (leaving : List Frame) (j : ℕ) (h k
         ends = λ o x at heavy ends'. ends_below_still p h k ways.have ways.unlinked frs (λ w. RunOnOthers w leaving) (ways_kept frs below nowhere spared) o x at heavy ends';
         below = λ o x y before at heavy owned. below_before p h k ways.have ways.unlinked frs (λ w. RunOnOthers w leaving) (ways_kept frs below nowhere spared) o x y before at heavy owned;
         late = λ o y at none. late_here o y at none;
-        spared = λ o x at heavy ends' answered is. spared_then frs below nowhere spared gifts o x at heavy is;
+        spared = λ o x at heavy ends' answered is. spared_then frs below nowhere spared gifts o x at heavy ends' is;
         answered = λ o x at heavy answers. answered_before p h k ways.have ways.unlinked frs (λ w. RunOnOthers w leaving) (ways_kept frs below nowhere spared) o x at heavy answers;
         holders = holders_were;
       }

@@ -26,19 +26,19 @@ use Rattle.value_laws.specs.Chains.{HaveEnds}
 use Rattle.value_laws.specs.Configuration.{Frame}
 use Rattle.value_laws.specs.FieldContents.{AreNew, AreUnfinished}
 use Rattle.value_laws.specs.Holders.{HoldersAreUnlinked}
-use Rattle.value_laws.specs.PlaceFacts.{AreWaiting, IsCovered, IsHeavyObject, OwesOrHolds, is_given, is_lent_place, is_settled}
+use Rattle.value_laws.specs.PlaceFacts.{AreWaiting, IsCovered, OwesOrHolds, is_given, is_lent_place, is_settled}
 use Rattle.value_laws.specs.PlainForms.{HasPlainForms}
 use Rattle.value_laws.specs.Places.{field_place_value, owning_field_beside, place_value}
-use Rattle.value_laws.specs.Renewing.{is_of_heavy_class, is_reread, lends_this, reopens}
+use Rattle.value_laws.specs.Renewing.{IsWholeObject, is_of_heavy_class, is_reread, lends_this, reopens}
 use Rattle.value_laws.proofs.FieldPlaces.{place_of_beside}
 use Rattle.value_laws.proofs.HeapLaws.{roots_of_links-itself}
-use Rattle.value_laws.proofs.SettledFrames.{AllRenewInHand, IsOnTheWay, RenewsInHand, is_lending, is_no_constructor, is_unsettled, way_goes_down}
+use Rattle.value_laws.proofs.SettledFrames.{AllRenewInHand, IsOnTheWay, RenewsInHand, is_lending, is_unsettled, making_lends, way_goes_down}
 use Rattle.covering_laws.proofs.Bodies.{running_method}
 use Rattle.covering_laws.proofs.StoredPlaces.{idle_here}
 use Rattle.covering_laws.proofs.Waiting.{AllKeepSaid, IsIdlePlace, KeepsSaidPlaces, KeepsValue}
 
 module _ (p : Program) (ac : Accept p) (forms : HasPlainForms p) (h k : HeapContents) (have : HaveEnds h) (unlinked : HoldersAreUnlinked (is_heavy_class p) h) (w : ℕ) (f : FieldId) (y : Object) (there : object_at h w ≡ Some y)
-    (heavy : IsHeavyObject p y) (single : y.link ≡ None) (bears : OwesOrHolds p h w y) (its : (x : Field) → field_at p f ≡ Some x → y.class ≡ x.class)
+    (heavy : IsWholeObject p y) (single : y.link ≡ None) (bears : OwesOrHolds p h w y) (its : (x : Field) → field_at p f ≡ Some x → y.class ≡ x.class)
     (fields : (v : ℕ) (g : FieldId) → (v ≡ w → g ≡ f → ⊥) → field_value p k v g ≡ field_value p h v g)
     (typed : (x : Field) → field_at p f ≡ Some x → (o : ℕ) (z : Object) → root_of k (field_value p k w f) ≡ Some o → object_at k o ≡ Some z → is_heavy_class p z.class ≡ true → (c : ClassId) × (x.vtype ≡ types.Obj c)) where
   abbrev OnWay : List Frame → Type 0
@@ -51,7 +51,7 @@ module _ (p : Program) (ac : Accept p) (forms : HasPlainForms p) (h k : HeapCont
   one_false true never = absurd (never refl)
   one_false false never = refl
 
-  module _ (g : Frame) (gs : List Frame) (st : Stands p g) (unfinished : AreUnfinished p h gs) (renews : RenewsInHand p h g gs) (all : AllRenewInHand p h gs) (way : OnWay (g ∷ gs)) (old : ℕ → Bool)
+  module _ (g : Frame) (gs : List Frame) (st : Stands p g) (new : AreNew p (g ∷ gs)) (unfinished : AreUnfinished p h gs) (renews : RenewsInHand p h g gs) (all : AllRenewInHand p h gs) (way : OnWay (g ∷ gs)) (old : ℕ → Bool)
       (covered : IsCovered p h (is_given p h g) (is_reread p h g) old gs g) where
     -- the frame runs on the object, and does not lend it
     idle : (n : ℕ) → n < 16 → owning_field_beside p g.method n ≡ Some f → g.locals.this ≡ values.Object w → lends_this p g ≡ false → IsIdlePlace p k gs g (places.Field n)
@@ -63,13 +63,13 @@ module _ (p : Program) (ac : Accept p) (forms : HasPlainForms p) (h k : HeapCont
         run = running_method p ac g st
 
         plain : constructs (method_at p g.method) ≡ false
-        plain = is_no_constructor p h have unlinked w y there heavy single bears g gs way unfinished renews all this
+        plain = one_false (constructs (method_at p g.method)) (λ makes. true≢false (sym (making_lends p h have unlinked w y there heavy single bears g gs way new unfinished renews all this makes) ∙ keeps))
 
         closed : reopens (method_at p g.method) ≡ false
-        closed = one_false (reopens (method_at p g.method)) (λ opens. true≢false (sym (is_lending p h have unlinked w y there heavy single bears g gs way unfinished renews all this opens) ∙ keeps))
+        closed = one_false (reopens (method_at p g.method)) (λ opens. true≢false (sym (is_lending p h have unlinked w y there heavy single bears g gs way new unfinished renews all this opens) ∙ keeps))
 
         unsettled : is_settled p g gs ≡ false
-        unsettled = is_unsettled p h have unlinked w y there heavy single bears g gs way unfinished renews all this
+        unsettled = is_unsettled p h have unlinked w y there heavy single bears g gs way new unfinished renews all this
 
         wide : is_of_heavy_class p (method_at p g.method) ≡ true
         wide =
@@ -116,6 +116,6 @@ module _ (p : Program) (ac : Accept p) (forms : HasPlainForms p) (h k : HeapCont
   pub all_keep_said_below : (frs : List Frame) (above : ℕ → Bool) → AllStand p frs → AreNew p frs → AreUnfinished p h frs → AllRenewInHand p h frs → OnWay frs → AreWaiting p h above frs → AllKeepSaid p h k frs
   all_keep_said_below [] above stand new unfinished all way waits = tt
   all_keep_said_below (g ∷ gs) above stand new unfinished all way (old, up, is, covered, rest) = (
-    keeps_said_here g gs stand.0 unfinished.1 all.0 all.1 way old covered,
+    keeps_said_here g gs stand.0 new unfinished.1 all.0 all.1 way old covered,
     all_keep_said_below gs old stand.1 new.1 unfinished.1 all.1 (way_goes_down p h have unlinked w y there heavy single bears g gs new unfinished way) rest,
   )

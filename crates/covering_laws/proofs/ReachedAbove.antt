@@ -20,12 +20,12 @@ use Rattle.value_laws.specs.Configuration.{Frame}
 use Rattle.value_laws.specs.FieldContents.{AreNew, AreUnfinished}
 use Rattle.value_laws.specs.HeapAnew.{is_field_owner}
 use Rattle.value_laws.specs.Holders.{HasTop, HoldersAreUnlinked, IsWithin, by_field, itself}
-use Rattle.value_laws.specs.PlaceFacts.{EndsBelow, HasOwningField, IsHeavyObject, IsSpared, OwesOrHolds}
-use Rattle.value_laws.specs.Renewing.{HasInHand, IsHeldBy, IsLentFrom, IsOwnedByThis, answers_for_fields, is_renewed, lends_this, reopens}
+use Rattle.value_laws.specs.PlaceFacts.{EndsBelow, IsHeavyObject, IsSpared, OwesOrHolds}
+use Rattle.value_laws.specs.Renewing.{HasInHand, HasOwningField, IsHeldBy, IsLentFrom, IsOwnedByThis, IsWholeObject, answers_for_fields, is_renewed, lends_this, reopens}
 use Rattle.value_laws.proofs.RootLaws.{one_object}
-use Rattle.value_laws.proofs.SettledFrames.{AllRenewInHand, IsOnTheWay, RenewsInHand, is_lending, way_begins, way_goes_down}
+use Rattle.value_laws.proofs.SettledFrames.{AllRenewInHand, IsOnTheWay, RenewsInHand, is_lending, making_lends, way_begins, way_goes_down}
 use Rattle.value_laws.proofs.Spared.{declares, elsewhere, spared_is_not_reached}
-use Rattle.value_laws.proofs.SparingCalls.{constructor_of, ends_further, lent_ends_below, made_top, not_made_here, owned_apart, unmade}
+use Rattle.value_laws.proofs.SparingCalls.{constructor_of, ends_further, lent_ends_below, made_top, making, not_made_here, owned_apart, unmade}
 use Rattle.value_laws.proofs.SparingEnds.{made_apart}
 use Rattle.value_laws.proofs.Tops.{no_way_round}
 use Rattle.value_laws.proofs.WaysUp.{on_from_holder, one_top, top_is_last, within_further, within_top}
@@ -80,11 +80,17 @@ module _ (p : Program) (h : HeapContents) (have : HaveEnds h) where
     where
       begun : (fs : List Frame) → IsSpared p h fs o → IsLentFrom p h fs r.target r.object.owner → ⊥
       begun [] spares lent = lent
-      begun (fr ∷ fs) spares lent = true≢false (sym lent.0 ∙ spares r.target r.object r.at r.heavy (inl r.within))
+      begun (fr ∷ fs) spares lent = true≢false (sym lent.0 ∙ spares r.target r.object r.at (inl r.heavy.0, r.heavy.1) (inl r.within))
 
       go : (mid : List Frame) → AreNew p (mid ++ frs) → AreUnfinished p h (mid ++ frs) → IsLentFrom p h (mid ++ frs) r.target r.object.owner → ⊥
       go [] new unfinished lent = begun frs spared lent
-      go (fr ∷ mid) new unfinished lent = spared_is_not_reached p h have frs o r.target spared ends fr mid new unfinished r.object r.at r.heavy lent.1 r.within
+      go (fr ∷ mid) new unfinished lent = spared_is_not_reached p h have frs o r.target spared ends fr mid new unfinished r.object r.at (inl r.heavy.0, r.heavy.1) lent.1 r.within
+
+  -- what an object is within that nobody owns is that object
+  nobody_within : (o : ℕ) (x : Object) → object_at h o ≡ Some x → (t : ℕ) (y : Object) → object_at h t ≡ Some y → IsWithin h t o → y.owner ≡ owners.Unowned → x.owner ≡ owners.Unowned
+  nobody_within o x at t y there up nobody =
+      let same : t ≡ o = top_is_last h t o y there (ap is_field_owner nobody) up in
+      ap (λ (u : Object). u.owner) (sym (one_object y x (object_at h o) (ap (object_at h) (sym same) ∙ there) at)) ∙ nobody
 
   module _ (g : Frame) (frs : List Frame) (o : ℕ) (x : Object) (at : object_at h o ≡ Some x) where
     -- what the frame owns it renews
@@ -107,51 +113,74 @@ module _ (p : Program) (h : HeapContents) (have : HaveEnds h) where
             let same = one_top h t (held.1).holder o (made_top p h have fr (mid ++ (g ∷ frs)) unfinished t y there held) (record { within = up; object = x; at = at; unheld = ap is_field_owner owner }) in
             absurd (let never : ◌≡◌ {A = Owner} owners.Unowned (owners.Frame (length frs + 1)) =
             sym w.unowned ∙ ap (λ (u : Object). u.owner) (one_object w.object x (object_at h o) (ap (object_at h) (sym same) ∙ w.at) at) ∙ owner in cc)
-        go (fr ∷ mid) new unfinished t y there up (renews, inr (inr (inr held))) = elim (on_from_holder h t held.holder o held.field y there held.owns up) [
+        go (fr ∷ mid) new unfinished t y there up (renews, inr (inr (inr (inl held)))) = elim (on_from_holder h t held.holder o held.field y there held.owns up) [
           | inl same ↦ absurd (let never : ◌≡◌ {A = Owner} (owners.Field held.holder held.field) (owners.Frame (length frs + 1)) =
               sym held.owns ∙ ap (λ (u : Object). u.owner) (one_object y x (object_at h o) (ap (object_at h) (sym same) ∙ there) at) ∙ owner in cc)
           | inr on ↦ go mid new.1 unfinished.1 held.holder held.object held.at on held.lends
         ]
+        go (fr ∷ mid) new unfinished t y there up (renews, inr (inr (inr (inr made)))) =
+            absurd (let never : ◌≡◌ {A = Owner} owners.Unowned (owners.Frame (length frs + 1)) =
+            sym (nobody_within o x at t y there up made.1) ∙ owner in cc)
 
-    -- so it is with what its constructor has in a field
-    pub made_renewed : IsReachedBy p h (g ∷ frs) o → IsHeldBy p g x.owner → is_renewed p h g o ≡ true
-    made_renewed r held = go r.mid r.new r.unfinished r.target r.object r.at r.within r.lent
+    -- so it is with what its constructor has in a field, where it does not lend `this`
+    pub made_renewed : (unlinked : HoldersAreUnlinked (is_heavy_class p) h) (wide : IsHeavyObject p x) (says : (w : ℕ) (f : FieldId) (y : Object) → x.owner ≡ owners.Field w f → object_at h w ≡ Some y → HasOwningField p y.class)
+        → RenewsInHand p h g frs → AllRenewInHand p h frs → lends_this p g ≡ false → IsReachedBy p h (g ∷ frs) o → IsHeldBy p g x.owner → is_renewed p h g o ≡ true
+    made_renewed unlinked wide says renews below keeps r held = go r.mid r.new r.unfinished r.target r.object r.at r.within r.lent
       where
-        below : AreUnfinished p h (g ∷ frs)
-        below = unfinished_below p h r.mid (g ∷ frs) r.unfinished
+        unmade_below : AreUnfinished p h (g ∷ frs)
+        unmade_below = unfinished_below p h r.mid (g ∷ frs) r.unfinished
 
         w : ℕ
         w = (held.1).holder
 
         top : HasTop h o w
-        top = made_top p h have g frs below o x at held
+        top = made_top p h have g frs unmade_below o x at held
+
+        -- the object that it makes
+        v : (y : Object) × (object_at h w ≡ Some y) × (y.link ≡ None) × (is_heavy_class p y.class ≡ true)
+        v = unlinked o x w (held.1).field at wide.1 (held.1).owns
+
+        whole : IsWholeObject p v.0
+        whole = (inr (says w (held.1).field v.0 (held.1).owns v.1), v.3)
+
+        bears : OwesOrHolds p h w v.0
+        bears = inr (inl (o, x, at, wide.0, wide.1, held_at x.owner w (held.1).field (held.1).owns))
+
+        -- it is not lent above
+        no_lending : (mid : List Frame) → AreNew p (mid ++ (g ∷ frs)) → AreUnfinished p h (mid ++ (g ∷ frs)) → IsOnTheWay p h have unlinked w v.0 v.1 whole v.2 bears (mid ++ (g ∷ frs)) → ⊥
+        no_lending [] new unfinished way =
+            true≢false (sym (making_lends p h have unlinked w v.0 v.1 whole v.2 bears g frs way new unfinished.1 renews below (held.1).runs (constructor_of p h have g x.owner held)) ∙ keeps)
+        no_lending (fr ∷ mid) new unfinished way = no_lending mid new.1 unfinished.1 (way_goes_down p h have unlinked w v.0 v.1 whole v.2 bears fr (mid ++ (g ∷ frs)) new unfinished way)
 
         go : (mid : List Frame) → AreNew p (mid ++ (g ∷ frs)) → AreUnfinished p h (mid ++ (g ∷ frs)) → (t : ℕ) (y : Object) → object_at h t ≡ Some y → IsWithin h t o → IsLentFrom p h (mid ++ (g ∷ frs)) t y.owner
             → is_renewed p h g o ≡ true
-        go [] new unfinished t y there up lent = ap (is_renewed p h g) (sym (made_apart p h have g frs new unfinished o t x y at held there lent.1 (inl up))) ∙ lent.0
-        go (fr ∷ mid) new unfinished t y there up (renews, inl own) =
+        go [] new unfinished t y there up lent = ap (is_renewed p h g) (sym (made_apart p h have g frs new unfinished o t x y at held (λ same. no_way_round h have o w (held.1).field x at (held.1).owns (subst (λ (n : ℕ). IsWithin h n o) same up)) there lent.1 (inl up))) ∙ lent.0
+        go (fr ∷ mid) new unfinished t y there up (renewed, inl own) =
             let same : t ≡ o = top_is_last h t o y there (ap is_field_owner own) up in
             absurd (let never : ◌≡◌ {A = Owner} (owners.Field w (held.1).field) (owners.Frame (length (mid ++ (g ∷ frs)) + 1)) =
             sym (held.1).owns ∙ ap (λ (u : Object). u.owner) (sym (one_object y x (object_at h o) (ap (object_at h) (sym same) ∙ there) at)) ∙ own in cc)
-        go (fr ∷ mid) new unfinished t y there up (renews, inr (inl lent)) = go mid new.1 unfinished.1 t y there up lent
-        go (fr ∷ mid) new unfinished t y there up (renews, inr (inr (inl other))) =
+        go (fr ∷ mid) new unfinished t y there up (renewed, inr (inl lent)) = go mid new.1 unfinished.1 t y there up lent
+        go (fr ∷ mid) new unfinished t y there up (renewed, inr (inr (inl other))) =
             let same = one_top h t (other.1).holder w (made_top p h have fr (mid ++ (g ∷ frs)) unfinished t y there other)
             (record { within = within_further h t o w up top.within; object = top.object; at = top.at; unheld = top.unheld }) in
             absurd (elsewhere mid (g ∷ frs) (other.1).holder (new.0 (other.1).holder (declares p fr.method (other.1).field (other.1).declared) (constructor_of p h have fr y.owner other) (other.1).runs)
             (inl ((held.1).runs ∙ ap values.Object (sym same))))
-        go (fr ∷ mid) new unfinished t y there up (renews, inr (inr (inr lends))) = elim (on_from_holder h t lends.holder o lends.field y there lends.owns up) [
-          | inl same ↦ absurd (by_holder (let both : ◌≡◌ {A = Owner} (owners.Field lends.holder lends.field) (owners.Field w (held.1).field) =
-              sym lends.owns ∙ ap (λ (u : Object). u.owner) (one_object y x (object_at h o) (ap (object_at h) (sym same) ∙ there) at) ∙ (held.1).owns in (let one : lends.holder ≡ w = cc in one)))
+        go (fr ∷ mid) new unfinished t y there up (renewed, inr (inr (inr (inl lends)))) = elim (on_from_holder h t lends.holder o lends.field y there lends.owns up) [
+          | inl same ↦ absurd (no_lending mid new.1 unfinished.1 (way_begins p h have unlinked w v.0 v.1 whole v.2 bears (mid ++ (g ∷ frs)) (of_holder (let both : ◌≡◌ {A = Owner} (owners.Field lends.holder lends.field) (owners.Field w (held.1).field) =
+              sym lends.owns ∙ ap (λ (u : Object). u.owner) (one_object y x (object_at h o) (ap (object_at h) (sym same) ∙ there) at) ∙ (held.1).owns in (let one : lends.holder ≡ w = cc in one)))))
           | inr on ↦ go mid new.1 unfinished.1 lends.holder lends.object lends.at on lends.lends
         ]
           where
-            by_holder : lends.holder ≡ w → ⊥
-            by_holder same =
-                let z = unmade p h have g frs below o x at held in
-                true≢false (sym lends.finished ∙ ap (λ (u : Object). u.finished) (one_object lends.object z.object (object_at h w) (ap (object_at h) (sym same) ∙ lends.at) z.at) ∙ z.unfinished)
+            of_holder : lends.holder ≡ w → IsLentFrom p h (mid ++ (g ∷ frs)) w v.0.owner
+            of_holder same =
+                subst (λ (u : Object). IsLentFrom p h (mid ++ (g ∷ frs)) w u.owner) (one_object lends.object v.0 (object_at h w) (ap (object_at h) (sym same) ∙ lends.at) v.1)
+                (subst (λ (n : ℕ). IsLentFrom p h (mid ++ (g ∷ frs)) n lends.object.owner) same lends.lends)
+        go (fr ∷ mid) new unfinished t y there up (renewed, inr (inr (inr (inr made)))) =
+            absurd (let never : ◌≡◌ {A = Owner} owners.Unowned (owners.Field w (held.1).field) =
+            sym (nobody_within o x at t y there up made.1) ∙ (held.1).owns in cc)
 
     -- So it is with what a field of its `this` owns, which is lent to the frame, where this is a method that creates the obligation of `this` anew, and does not lend it.
-    module _ (unlinked : HoldersAreUnlinked (is_heavy_class p) h) (w : ℕ) (f : FieldId) (owns : x.owner ≡ owners.Field w f) (runs : g.locals.this ≡ values.Object w) (y : Object) (there : object_at h w ≡ Some y) (wide : IsHeavyObject p y)
+    module _ (unlinked : HoldersAreUnlinked (is_heavy_class p) h) (w : ℕ) (f : FieldId) (owns : x.owner ≡ owners.Field w f) (runs : g.locals.this ≡ values.Object w) (y : Object) (there : object_at h w ≡ Some y) (wide : IsWholeObject p y)
         (single : y.link ≡ None) (bears : OwesOrHolds p h w y) (opens : reopens (method_at p g.method) ≡ true) (lent : IsLentFrom p h frs w y.owner) where
       around : IsWithin h w o → ⊥
       around up = no_way_round h have o w f x at owns up
@@ -168,7 +197,9 @@ module _ (p : Program) (h : HeapContents) (have : HaveEnds h) where
           lent_once (c ∷ gs) all first second = (all.0).one t w first.0 second.0
       content_in_hand t z here up below (inr (inr (inl held))) =
           absurd (true≢false (sym (constructor_of p h have g z.owner held) ∙ not-true (constructs (method_at p g.method)) (and_parts (not (constructs (method_at p g.method))) (is_position (reset_in (method_at p g.method)) 0) opens).0))
-      content_in_hand t z here up below (inr (inr (inr held))) = elim (on_from_holder h t held.holder o held.field z here held.owns up) [
+      content_in_hand t z here up below (inr (inr (inr (inr made)))) =
+          absurd (true≢false (sym (making p h have g t made.0) ∙ not-true (constructs (method_at p g.method)) (and_parts (not (constructs (method_at p g.method))) (is_position (reset_in (method_at p g.method)) 0) opens).0))
+      content_in_hand t z here up below (inr (inr (inr (inl held)))) = elim (on_from_holder h t held.holder o held.field z here held.owns up) [
         | inl same ↦ same
         | inr on ↦ absurd (around (subst (λ (n : ℕ). IsWithin h n o) (let both : values.Object held.holder ≡ values.Object w = sym held.runs ∙ runs in (let one : held.holder ≡ w = cc in one)) on))
       ]
@@ -178,7 +209,7 @@ module _ (p : Program) (h : HeapContents) (have : HaveEnds h) where
         where
           -- `this` would be lent above
           no_lending : (mid : List Frame) → AreNew p (mid ++ (g ∷ frs)) → AreUnfinished p h (mid ++ (g ∷ frs)) → IsOnTheWay p h have unlinked w y there wide single bears (mid ++ (g ∷ frs)) → ⊥
-          no_lending [] new unfinished way = true≢false (sym (is_lending p h have unlinked w y there wide single bears g frs way unfinished.1 renews below runs opens) ∙ keeps)
+          no_lending [] new unfinished way = true≢false (sym (is_lending p h have unlinked w y there wide single bears g frs way new unfinished.1 renews below runs opens) ∙ keeps)
           no_lending (fr ∷ mid) new unfinished way = no_lending mid new.1 unfinished.1 (way_goes_down p h have unlinked w y there wide single bears fr (mid ++ (g ∷ frs)) new unfinished way)
 
           all_below : (mid : List Frame) → EndsBelow h (mid ++ (g ∷ frs)) w
@@ -202,7 +233,10 @@ module _ (p : Program) (h : HeapContents) (have : HaveEnds h) where
           go (fr ∷ mid) new unfinished t z here up (renewed, inr (inr (inl held))) =
               absurd (not_made_here p h have fr (mid ++ (g ∷ frs)) new unfinished w t z (all_below mid) here held
               (within_top h t w (held.1).holder (made_top p h have fr (mid ++ (g ∷ frs)) unfinished t z here held) (within_further h t o w up (by_field o w w f x at owns (itself w)))))
-          go (fr ∷ mid) new unfinished t z here up (renewed, inr (inr (inr held))) = elim (on_from_holder h t held.holder o held.field z here held.owns up) [
+          go (fr ∷ mid) new unfinished t z here up (renewed, inr (inr (inr (inr made)))) =
+              absurd (let never : ◌≡◌ {A = Owner} owners.Unowned (owners.Field w f) =
+              sym (nobody_within o x at t z here up made.1) ∙ owns in cc)
+          go (fr ∷ mid) new unfinished t z here up (renewed, inr (inr (inr (inl held)))) = elim (on_from_holder h t held.holder o held.field z here held.owns up) [
             | inl same ↦ absurd (no_lending mid new.1 unfinished.1 (way_begins p h have unlinked w y there wide single bears (mid ++ (g ∷ frs)) (of_holder (let both : ◌≡◌ {A = Owner} (owners.Field held.holder held.field) (owners.Field w f) =
                 sym held.owns ∙ ap (λ (u : Object). u.owner) (one_object z x (object_at h o) (ap (object_at h) (sym same) ∙ here) at) ∙ owns in (let one : held.holder ≡ w = cc in one)))))
             | inr on ↦ go mid new.1 unfinished.1 held.holder held.object held.at on held.lends
@@ -234,12 +268,12 @@ all_renew_it p h have unlinked o x at heavy says (fr ∷ frs) r renews = (here, 
     by_content opens keeps c =
         let y = unlinked o x c.holder c.field at heavy.1 c.owns in
         let bears : OwesOrHolds p h c.holder y.0 = inr (inl (o, x, at, heavy.0, heavy.1, held_at x.owner c.holder c.field c.owns)) in
-        let done = (renews.0).whole c.holder y.0 c.runs y.1 y.3 bears y.2 opens (says c.holder c.field y.0 c.owns y.1) in
-        content_renewed p h have fr frs o x at unlinked c.holder c.field c.owns c.runs y.0 y.1 (done, y.3) y.2 bears opens ((renews.0).lent c.holder y.0 c.runs y.1 (done, y.3) bears y.2 opens) r renews.0 renews.1 keeps
+        let whole : IsWholeObject p y.0 = (inr (says c.holder c.field y.0 c.owns y.1), y.3) in
+        content_renewed p h have fr frs o x at unlinked c.holder c.field c.owns c.runs y.0 y.1 whole y.2 bears opens ((renews.0).lent c.holder y.0 c.runs y.1 whole bears y.2 opens) r renews.0 renews.1 keeps
 
     here : IsOwnedHere p frs fr x.owner → is_renewed p h fr o ≡ true
     here (inl own) = owned_renewed p h have fr frs o x at r own
     here (inr (answers, keeps, c)) = elim (answers_by (method_at p fr.method) answers) [
-      | inl alone ↦ made_renewed p h have fr frs o x at r (alone, c)
+      | inl alone ↦ made_renewed p h have fr frs o x at unlinked heavy says renews.0 renews.1 keeps r (alone, c)
       | inr opens ↦ by_content opens keeps c
     ]

@@ -7,20 +7,20 @@ use Rattle.ownership_rules.specs.Signatures.{is_position, is_present}
 use Rattle.covering_laws.proofs.HeavyFields.{alone_answers, claims_by, claims_owned, held_claims, own_claims, reopening_answers}
 use Rattle.covering_laws.proofs.InFields.{held_by_this}
 use Rattle.covering_laws.proofs.Owners.{lent_not_from}
-use Rattle.std.proofs.Common.{Bool, List, Option, Some, ap, false, inl, inr, length, not, refl, slice_get, subst, sym, true, true≢false, ℕ, ◌&&◌, ◌+◌, ◌||◌, ◌∙◌, ◌≡◌, ◌⊎◌}
-use Rattle.std.proofs.lemmas.Bool.{and_from}
+use Rattle.std.proofs.Common.{Bool, List, Option, Some, ap, false, inl, inr, length, not, eqb-true, nat_eq, None, refl, slice_get, subst, sym, true, true≢false, ℕ, ◌&&◌, ◌+◌, ◌||◌, ◌∙◌, ◌≡◌, ◌⊎◌}
+use Rattle.std.proofs.lemmas.Bool.{and_from, and_parts, or_left, or_parts}
 use Rattle.program_model.specs.declared.kinds.BodyId.{BodyId}
 use Rattle.program_model.specs.declared.program.Program.{Program}
 use Rattle.program_model.specs.Lookups.{method_at}
-use Rattle.ledger_obligations.specs.Bodies.{alias_in, constructs, reset_in}
+use Rattle.ledger_obligations.specs.Bodies.{alias_in, constructs, is_alias_constructor, is_extended_constructor, is_extended_in, method_of, reset_in}
 use Rattle.ledger_obligations.specs.MustCallSets.{is_heavy_class}
 use Rattle.java_control.specs.Calls.{operand_at}
 use Rattle.java_control.specs.Control.{Step}
 use Rattle.java_control.specs.PlaceNumbers.{IsSmall}
 use Rattle.java_control.specs.declared.fact.Mode.TheVariants as modes
 use Rattle.java_control.specs.declared.place.Place.TheVariants as places
-use Rattle.ownership_rules.specs.Callees.{callee}
-use Rattle.ownership_rules.specs.Facts.{has, has_temp, is_held}
+use Rattle.ownership_rules.specs.Callees.{callee, is_this_target}
+use Rattle.ownership_rules.specs.Facts.{has, has_temp, is_held, is_lent, is_this_origin}
 use Rattle.ownership_rules.specs.MovesAtCalls.{moved_at_call}
 use Rattle.ownership_rules.specs.declared.moved.Moved.TheVariants as moves
 use Rattle.ownership_rules.specs.SmallActions.{IsSmallTemp}
@@ -34,14 +34,16 @@ use Rattle.ledger_state.specs.declared.object.Object.{Object}
 use Rattle.ledger_steps.specs.LedgerCallsCalls.{operand_of}
 use Rattle.value_laws.specs.Accept.{Accept}
 use Rattle.value_laws.specs.Agreement.{Stands}
+use Rattle.value_laws.specs.Chains.{HaveEnds}
 use Rattle.value_laws.specs.Choosing.{body_id, frame_steps}
 use Rattle.value_laws.specs.Configuration.{Frame}
+use Rattle.value_laws.specs.Frames.{KeepsTargets}
 use Rattle.value_laws.specs.Anew.{IsInHands, MayBeAnew, holds_target, is_target}
 use Rattle.value_laws.specs.Outcomes.{IsCallRow}
 use Rattle.value_laws.specs.Paths.{Reach, move_of, relation_of}
 use Rattle.value_laws.specs.PlainForms.{HasPlainForms}
 use Rattle.value_laws.specs.PlaceFacts.{Covers, IsCovered, IsKeyed, IsOwned, claims, gives_away, gives_none, OwesOrHolds, owned, renews_none, unowned}
-use Rattle.value_laws.specs.Renewing.{HasInHand, IsHeldBy, IsHeldByLent, IsLentFrom, IsOwnedByThis, answers_for_fields, is_renewed, lends_this, makes_alone, renews, reopens}
+use Rattle.value_laws.specs.Renewing.{HasInHand, HasOwningField, IsHeldBy, IsHeldByLent, IsLentFrom, IsMadeBy, IsOwnedByThis, IsWhole, answers_for_fields, is_renewed, lends_this, makes_alone, renews, reopens}
 use Rattle.value_laws.proofs.ResetTargets.{answered_targets}
 use Rattle.value_laws.proofs.Resetting.{answered_target}
 use Rattle.value_laws.proofs.Readings.{operand_renews, renewed_operand}
@@ -52,6 +54,8 @@ use Rattle.covering_laws.proofs.GivenAway.{any_at}
 use Rattle.covering_laws.proofs.OwnerSteps.{own_frame}
 use Rattle.covering_laws.proofs.KnownNames.{operand_temp}
 use Rattle.covering_laws.proofs.Resets.{this_elsewhere}
+use Rattle.covering_laws.proofs.ThisOperands.{on_this}
+use Rattle.covering_laws.specs.Sight.{MakesThis}
 
 -- ---- the frame's steps
 
@@ -93,17 +97,80 @@ claimed_owner p h away anew old frs fr o x c key kept done keeps = elim (claims_
   | inr held ↦ inr (held.1, held_by_this p h away anew old frs fr o x c done held.0 held.1 keeps (claims_owned p (method_at p fr.method) c.origin c.fact key.owning).0)
 ]
 
--- it is lent, or a field of what the frame's constructor makes owns it, or a field of `this`, which is lent
+-- the frame makes it, and nobody owns it
+abbrev pub IsMadeHere : Program → Frame → ℕ → Owner → Type 0
+IsMadeHere p fr o owner = IsMadeBy p fr o × (owner ≡ owners.Unowned)
+
+-- it is lent, or a field of what the frame's constructor makes owns it, or a field of `this`, which is lent, or the frame makes it
 abbrev pub IsHeldOrLent : Program → HeapContents → List Frame → Frame → ℕ → Owner → Type 0
-IsHeldOrLent p h frs fr o owner = IsLentFrom p h frs o owner ⊎ (IsHeldBy p fr owner ⊎ IsHeldByLent p h (IsLentFrom p h frs) fr owner)
+IsHeldOrLent p h frs fr o owner = IsLentFrom p h frs o owner ⊎ (IsHeldBy p fr owner ⊎ (IsHeldByLent p h (IsLentFrom p h frs) fr owner ⊎ IsMadeHere p fr o owner))
 
 -- so it is with what the frame creates the obligation of anew, and a fact in mode Held claims
 abbrev pub HoldsLent : (p : Program) → HeapContents → (ℕ → Bool) → List Frame → (fr : Frame) → Stands p fr → Type 0
-HoldsLent p h old frs fr st = (o : ℕ) (x : Object) → object_at h o ≡ Some x → is_heavy_class p x.class ≡ true → OwesOrHolds p h o x → x.finished ≡ true → is_renewed p h fr o ≡ true
+HoldsLent p h old frs fr st = (o : ℕ) (x : Object) → object_at h o ≡ Some x → is_heavy_class p x.class ≡ true → OwesOrHolds p h o x → IsWhole p x → is_renewed p h fr o ≡ true
     → (away anew : Bool) (c : Covers p h away anew old frs fr o x) → is_held c.fact.mode ≡ true → answers_for_fields (method_at p fr.method) ≡ true → is_heavy_class p c.origin.class ≡ true → IsHeldOrLent p h frs fr o x.owner
 
+-- ---- a fact that says that the target is lent
+
+module _ (p : Program) (ac : Accept p) (h : HeapContents) (have : HaveEnds h) (fr : Frame) (st : Stands p fr) (targets : KeepsTargets p fr) (making : MakesThis p h fr) (old : ℕ → Bool) (frs : List Frame) (i : ℕ) (s : Step)
+    (here : slice_get (frame_steps p fr) i ≡ Some s) (away anew : Bool) (o : ℕ) (x : Object) (at : object_at h o ≡ Some x) (c : Covers p h away anew old frs fr o x) (mode : c.fact.mode ≡ modes.Lent) (k : ℕ)
+    (root : root_of h (operand_of fr.locals s.action k) ≡ Some o) (may : MayBeAnew p st.number c.origin s.action k c.fact) where
+  this_made : constructs (method_at p fr.method) ≡ true → is_this_origin c.origin.kind ≡ true → HasOwningField p x.class → IsMadeBy p fr o
+  this_made makes this fields = (making alone whole o x root_this at fields).0
+    where
+      shown : (nat_eq k 0 && is_this_target s.action) ≡ true
+      shown = go (nat_eq k 0 && is_this_target s.action) refl
+        where
+          go : (b : Bool) → (nat_eq k 0 && is_this_target s.action) ≡ b → b ≡ true
+          go true is = refl
+          go false is = absurd (true≢false (sym (and_from (is_this_origin c.origin.kind) (not (nat_eq k 0 && is_this_target s.action)) this (ap not is)) ∙ may.shown))
+
+      both : (nat_eq k 0 ≡ true) × (is_this_target s.action ≡ true)
+      both = and_parts (nat_eq k 0) (is_this_target s.action) shown
+
+      root_this : root_of h fr.locals.this ≡ Some o
+      root_this = ap (root_of h) (sym (ap (operand_of fr.locals s.action) (eqb-true k 0 both.0) ∙ on_this p ac fr st targets i s here both.1)) ∙ root
+
+      partly : (a b : Bool) → (a && b) ≡ false → b ≡ true → a ≡ false
+      partly false b none is = refl
+      partly true b none is = absurd (true≢false (sym is ∙ none))
+
+      none : (is_alias_constructor p st.number || is_extended_constructor p st.number) ≡ false
+      none = partly (is_alias_constructor p st.number || is_extended_constructor p st.number) (is_lent c.fact.mode || is_held c.fact.mode && is_this_origin c.origin.kind) may.whole
+          (or_left (is_lent c.fact.mode) (is_held c.fact.mode && is_this_origin c.origin.kind) (ap is_lent mode))
+
+      neither : (is_alias_constructor p st.number ≡ false) × (is_extended_constructor p st.number ≡ false)
+      neither = or_parts (is_alias_constructor p st.number) (is_extended_constructor p st.number) none
+
+      makes' : constructs (method_of p st.number) ≡ true
+      makes' = ap constructs (method_here p fr st) ∙ makes
+
+      alone : makes_alone (method_at p fr.method) ≡ true
+      alone = and_from (constructs (method_at p fr.method)) (not (is_present (alias_in (method_at p fr.method)))) makes
+          (ap not (sym (ap (λ (m : Option Method). is_present (alias_in m)) (method_here p fr st)) ∙ sym (ap (λ (b : Bool). b && is_present (alias_in (method_of p st.number))) makes') ∙ neither.0))
+
+      whole : is_extended_in p (method_at p fr.method) ≡ false
+      whole = sym (ap (is_extended_in p) (method_here p fr st)) ∙ sym (ap (λ (b : Bool). b && is_extended_in p (method_of p st.number)) makes') ∙ neither.1
+
+  pub lent_hand : IsWhole p x → IsLentFrom p h frs o x.owner ⊎ IsMadeHere p fr o x.owner
+  lent_hand whole = go x.finished refl whole
+    where
+      by : x.finished ≡ false → HasOwningField p x.class → (a b : Bool) → constructs (method_at p fr.method) ≡ a → is_this_origin c.origin.kind ≡ b → IsLentFrom p h frs o x.owner ⊎ IsMadeHere p fr o x.owner
+      by open' fields true true makes this = inr (this_made makes this fields, have.unfinished o x at open')
+      by open' fields true false makes other = inl (c.begun mode (ap (λ (b : Bool). constructs (method_at p fr.method) && b) other ∙ no_and (constructs (method_at p fr.method))) fields open').1
+        where
+          no_and : (a : Bool) → (a && false) ≡ false
+          no_and true = refl
+          no_and false = refl
+      by open' fields false b plain is = inl (c.begun mode (ap (λ (d : Bool). d && is_this_origin c.origin.kind) plain) fields open').1
+
+      go : (b : Bool) → x.finished ≡ b → IsWhole p x → IsLentFrom p h frs o x.owner ⊎ IsMadeHere p fr o x.owner
+      go true done whole' = inl (c.lends mode done).1
+      go false open' (inl done) = absurd (true≢false (sym done ∙ open'))
+      go false open' (inr fields) = by open' fields (constructs (method_at p fr.method)) (is_this_origin c.origin.kind) refl refl
+
 module _ (p : Program) (ac : Accept p) (forms : HasPlainForms p) (h : HeapContents) (fr : Frame) (st : Stands p fr) (old : ℕ → Bool) (frs : List Frame) (i : ℕ) (s : Step) (here : slice_get (frame_steps p fr) i ≡ Some s) (row : IsCallRow s.action)
-    (covered : IsCovered p h gives_none renews_none old frs fr) (holds : HoldsLent p h old frs fr st) (o : ℕ) (x : Object) (before : object_at h o ≡ Some x) (heavy : is_heavy_class p x.class ≡ true) (owes : OwesOrHolds p h o x) where
+    (covered : IsCovered p h gives_none renews_none old frs fr) (holds : HoldsLent p h old frs fr st) (have : HaveEnds h) (targets : KeepsTargets p fr) (making : MakesThis p h fr) (o : ℕ) (x : Object) (before : object_at h o ≡ Some x) (heavy : is_heavy_class p x.class ≡ true) (owes : OwesOrHolds p h o x) where
   module _ (k : ℕ) (position : reset_in (callee p s.action) ≡ Some k) (root : root_of h (operand_of fr.locals s.action k) ≡ Some o) where
     pub temp : (n : ℕ) × (operand_at s.action k ≡ Some n) × (operand_of fr.locals s.action k ≡ temp_value fr.locals n)
     temp = operand_temp fr.locals s.action k h o root
@@ -141,23 +208,30 @@ module _ (p : Program) (ac : Accept p) (forms : HasPlainForms p) (h : HeapConten
     renewed : is_renewed p h fr o ≡ true
     renewed = step_renews p h fr i s o here (operand_renews p h fr.locals s.action o k position root)
 
+    -- the one of a fact that says that it is lent
+    its_lent : (c : Covers p h false false old frs fr o x) → has c.fact.places (places.Temp temp.0) ≡ true → c.fact.mode ≡ modes.Lent → IsWhole p x → IsLentFrom p h frs o x.owner ⊎ IsMadeHere p fr o x.owner
+    its_lent c in' mode whole =
+        let is = answer c in' in
+        lent_hand p ac h have fr st targets making old frs i s here false false o x before c mode k root
+        (subst (λ (n : ℕ). MayBeAnew p st.number c.origin s.action n c.fact) (let both : Some is.0 ≡ Some k = sym is.1 ∙ position in (let one : is.0 ≡ k = cc in one)) is.2) whole
+
     -- what the fact of the target claims
-    claimed_hand : (c : Covers p h false false old frs fr o x) → x.finished ≡ true → IsOwned p h false false old frs fr o x c → (x.owner ≡ owners.Frame (length frs + 1)) ⊎ IsHeldOrLent p h frs fr o x.owner
-    claimed_hand c done key = elim (claims_by p (method_at p fr.method) c.origin c.fact key.owning) [
+    claimed_hand : (c : Covers p h false false old frs fr o x) → IsWhole p x → IsOwned p h false false old frs fr o x c → (x.owner ≡ owners.Frame (length frs + 1)) ⊎ IsHeldOrLent p h frs fr o x.owner
+    claimed_hand c whole key = elim (claims_by p (method_at p fr.method) c.origin c.fact key.owning) [
       | inl own ↦ inl (key.owner refl own)
-      | inr held ↦ inr (holds o x before heavy owes done renewed false false c held.0 held.1 (claims_owned p (method_at p fr.method) c.origin c.fact key.owning).0)
+      | inr held ↦ inr (holds o x before heavy owes whole renewed false false c held.0 held.1 (claims_owned p (method_at p fr.method) c.origin c.fact key.owning).0)
     ]
 
-    by_place : x.finished ≡ true → IsKeyed p h false false old frs fr (places.Temp temp.0) o x → IsThere
-    by_place done (owned c in' key) = claimed_hand c done key
-    by_place done (unowned u) = elim (its_mode u.covers u.here) [
+    by_place : IsWhole p x → IsKeyed p h false false old frs fr (places.Temp temp.0) o x → IsThere
+    by_place whole (owned c in' key) = claimed_hand c whole key
+    by_place whole (unowned u) = elim (its_mode u.covers u.here) [
       | inl claimed ↦ absurd (true≢false (sym claimed ∙ u.unowned))
-      | inr lent ↦ inr (inl (u.covers.lends lent done).1)
+      | inr lent ↦ elim (its_lent u.covers u.here lent whole) [ inl is ↦ inr (inl is) | inr made ↦ inr (inr (inr (inr made))) ]
     ]
 
     -- it is not given away besides
-    pub operand_not_given : x.finished ≡ true → gives_away p h fr.locals s.action o x.class ≡ true → ⊥
-    operand_not_given done gives = by (covered (places.Temp temp.0) o x small refl (ap (root_of h) (sym temp.2) ∙ root) before heavy owes)
+    pub operand_not_given : IsWhole p x → gives_away p h fr.locals s.action o x.class ≡ true → ⊥
+    operand_not_given whole gives = by (covered (places.Temp temp.0) o x small refl (ap (root_of h) (sym temp.2) ∙ root) before heavy owes)
       where
         owner : x.owner ≡ owners.Frame (length frs + 1)
         owner = away_owner p ac h fr st old frs i s here row covered o x before heavy owes gives
@@ -166,19 +240,22 @@ module _ (p : Program) (ac : Accept p) (forms : HasPlainForms p) (h : HeapConten
         by (owned c in' key) = moves_not c in' (away_moves p ac h fr st old frs i s here row false false o x c key heavy gives)
         by (unowned u) = elim (its_mode u.covers u.here) [
           | inl claimed ↦ true≢false (sym claimed ∙ u.unowned)
-          | inr lent ↦ true≢false (sym (own_frame (length frs + 1) x.owner owner) ∙ lent_not_from p h frs o x.owner (u.covers.lends lent done).1)
+          | inr lent ↦ elim (its_lent u.covers u.here lent whole) [
+            | inl is ↦ true≢false (sym (own_frame (length frs + 1) x.owner owner) ∙ lent_not_from p h frs o x.owner is)
+            | inr made ↦ (let never : ◌≡◌ {A = Owner} owners.Unowned (owners.Frame (length frs + 1)) = sym made.1 ∙ owner in cc)
+          ]
         ]
 
-    pub operand_answered : x.finished ≡ true → IsThere
-    operand_answered done = by_place done (covered (places.Temp temp.0) o x small refl (ap (root_of h) (sym temp.2) ∙ root) before heavy owes)
+    pub operand_answered : IsWhole p x → IsThere
+    operand_answered whole = by_place whole (covered (places.Temp temp.0) o x small refl (ap (root_of h) (sym temp.2) ∙ root) before heavy owes)
 
   -- the frame has it in hand
-  pub renewed_answered : renews p h fr.locals s.action o ≡ true → x.finished ≡ true → HasInHand p h (IsLentFrom p h frs) (length frs + 1) fr o x.owner
-  renewed_answered is done = let k = renewed_operand p h fr.locals s.action o is in operand_answered k.0 k.1 k.2 done
+  pub renewed_answered : renews p h fr.locals s.action o ≡ true → IsWhole p x → HasInHand p h (IsLentFrom p h frs) (length frs + 1) fr o x.owner
+  renewed_answered is whole = let k = renewed_operand p h fr.locals s.action o is in operand_answered k.0 k.1 k.2 whole
 
-  pub renewed_not_given : renews p h fr.locals s.action o ≡ true → x.finished ≡ true → gives_away p h fr.locals s.action o x.class ≡ false
-  renewed_not_given is done = go (gives_away p h fr.locals s.action o x.class) refl
+  pub renewed_not_given : renews p h fr.locals s.action o ≡ true → IsWhole p x → gives_away p h fr.locals s.action o x.class ≡ false
+  renewed_not_given is whole = go (gives_away p h fr.locals s.action o x.class) refl
     where
       go : (b : Bool) → gives_away p h fr.locals s.action o x.class ≡ b → gives_away p h fr.locals s.action o x.class ≡ false
       go false none = none
-      go true gives = absurd (let k = renewed_operand p h fr.locals s.action o is in operand_not_given k.0 k.1 k.2 done gives)
+      go true gives = absurd (let k = renewed_operand p h fr.locals s.action o is in operand_not_given k.0 k.1 k.2 whole gives)

@@ -22,10 +22,10 @@ use Rattle.value_laws.specs.Configuration.{Frame}
 use Rattle.value_laws.specs.FieldContents.{AreNew, AreUnfinished}
 use Rattle.value_laws.specs.HeapAnew.{is_field_owner}
 use Rattle.value_laws.specs.Holders.{HasTop, HoldersAreUnlinked}
-use Rattle.value_laws.specs.PlaceFacts.{EndsBelow, IsAnswered, IsHeavyObject, IsHolder, IsInFieldBelow, IsOwnedBelow, IsSpared, MayStore, OwesOrHolds, is_frame_below, is_frame_from, is_given, is_given_up, is_settled, leaves_all}
-use Rattle.value_laws.specs.Renewing.{IsLentFrom, answers_for_fields, lends_this, makes_alone, reopens}
+use Rattle.value_laws.specs.PlaceFacts.{EndsBelow, IsAnswered, IsHolder, IsInFieldBelow, IsOwnedBelow, IsSpared, MayStore, OwesOrHolds, is_frame_below, is_frame_from, is_given, is_given_up, is_settled, leaves_all}
+use Rattle.value_laws.specs.Renewing.{IsLentFrom, IsWholeObject, answers_for_fields, lends_this, makes_alone, reopens}
 use Rattle.value_laws.proofs.RootLaws.{one_object}
-use Rattle.value_laws.proofs.SettledFrames.{AllRenewInHand, IsOnTheWay, RenewsInHand, is_lending, is_no_constructor, is_unsettled, way_begins, way_goes_down}
+use Rattle.value_laws.proofs.SettledFrames.{AllRenewInHand, IsOnTheWay, RenewsInHand, is_lending, is_unsettled, making_lends, way_begins, way_goes_down}
 use Rattle.value_laws.proofs.StoreWays.{AllRenewAlike, IsCut, StoredOwner, StoresInto, ends_below_after, heavy_above, joins, leaves, lent_after, spared_before, stays, way_or_cut}
 use Rattle.value_laws.proofs.Tops.{has_top}
 use Rattle.value_laws.proofs.WaysUp.{one_top}
@@ -46,7 +46,7 @@ gone_parts owners.Unowned is = absurd (true≢false (sym is))
 same_holder : (v w : ℕ) (f g : FieldId) → ◌≡◌ {A = Owner} (owners.Field v f) (owners.Field w g) → v ≡ w
 same_holder v w f g both = cc
 
-module _ (p : Program) (h k : HeapContents) (have : HaveEnds h) (unlinked : HoldersAreUnlinked (is_heavy_class p) h) (m w : ℕ) (y : Object) (there : object_at h w ≡ Some y) (heavy : IsHeavyObject p y) (single : y.link ≡ None)
+module _ (p : Program) (h k : HeapContents) (have : HaveEnds h) (unlinked : HoldersAreUnlinked (is_heavy_class p) h) (m w : ℕ) (y : Object) (there : object_at h w ≡ Some y) (heavy : IsWholeObject p y) (single : y.link ≡ None)
     (bears : OwesOrHolds p h w y) (may : MayStore p y.class) (stores : StoresInto p h k m w) where
   abbrev OnWay : List Frame → Type 0
   OnWay gs = IsOnTheWay p h have unlinked w y there heavy single bears gs
@@ -116,16 +116,16 @@ module _ (p : Program) (h k : HeapContents) (have : HaveEnds h) (unlinked : Hold
   -- ---- a frame that runs on the object
 
   -- it does not answer for fields without lending the object
-  lends_or_not : (g : Frame) (gs : List Frame) → OnWay (g ∷ gs) → AreUnfinished p h gs → RenewsInHand p h g gs → AllRenewInHand p h gs → g.locals.this ≡ values.Object w → answers_for_fields (method_at p g.method) ≡ true → lends_this p g ≡ true
-  lends_or_not g gs way unfinished renews all this answers = elim (answers_by (method_at p g.method) answers) [
-    | inl makes ↦ absurd (true≢false (sym (and_parts (constructs (method_at p g.method)) (not (is_present (alias_in (method_at p g.method)))) makes).0 ∙ is_no_constructor p h have unlinked w y there heavy single bears g gs way unfinished renews all this))
-    | inr opens ↦ is_lending p h have unlinked w y there heavy single bears g gs way unfinished renews all this opens
+  lends_or_not : (g : Frame) (gs : List Frame) → OnWay (g ∷ gs) → AreNew p (g ∷ gs) → AreUnfinished p h gs → RenewsInHand p h g gs → AllRenewInHand p h gs → g.locals.this ≡ values.Object w → answers_for_fields (method_at p g.method) ≡ true → lends_this p g ≡ true
+  lends_or_not g gs way new unfinished renews all this answers = elim (answers_by (method_at p g.method) answers) [
+    | inl makes ↦ making_lends p h have unlinked w y there heavy single bears g gs way new unfinished renews all this (and_parts (constructs (method_at p g.method)) (not (is_present (alias_in (method_at p g.method)))) makes).0
+    | inr opens ↦ is_lending p h have unlinked w y there heavy single bears g gs way new unfinished renews all this opens
   ]
 
-  in_no_field_below : (gs : List Frame) → OnWay gs → AreUnfinished p h gs → AllRenewInHand p h gs → (f : FieldId) → IsInFieldBelow p gs (owners.Field w f) → ⊥
-  in_no_field_below [] way unfinished all f held = held
-  in_no_field_below (g ∷ gs) way unfinished all f (answers, keeps, by) =
-      true≢false (sym (lends_or_not g gs way unfinished.1 all.0 all.1 (by.runs ∙ ap values.Object (sym (same_holder w by.holder f by.field by.owns))) answers) ∙ keeps)
+  in_no_field_below : (gs : List Frame) → OnWay gs → AreNew p gs → AreUnfinished p h gs → AllRenewInHand p h gs → (f : FieldId) → IsInFieldBelow p gs (owners.Field w f) → ⊥
+  in_no_field_below [] way new unfinished all f held = held
+  in_no_field_below (g ∷ gs) way new unfinished all f (answers, keeps, by) =
+      true≢false (sym (lends_or_not g gs way new unfinished.1 all.0 all.1 (by.runs ∙ ap values.Object (sym (same_holder w by.holder f by.field by.owns))) answers) ∙ keeps)
 
   -- ---- what stays of frames
 
@@ -151,7 +151,7 @@ module _ (p : Program) (h k : HeapContents) (have : HaveEnds h) (unlinked : Hold
         field_below [] never = never
         field_below (g ∷ hs) held' = true≢false (sym (ap is_field_owner (held'.2).owns) ∙ (gone_parts b gone).0)
     below_was a b (joins f was is) (inl low') = absurd (true≢false (sym low' ∙ ap (is_frame_below (length gs + 1)) is))
-    below_was a b (joins f was is) (inr held) = absurd (in_no_field_below gs way unfinished all f (subst (IsInFieldBelow p gs) is held))
+    below_was a b (joins f was is) (inr held) = absurd (in_no_field_below gs way new unfinished all f (subst (IsInFieldBelow p gs) is held))
 
     late : (o : ℕ) (z : Object) → object_at k o ≡ Some z → ((x : Object) → object_at h o ≡ Some x → x.finished ≡ true → ⊥) → (is_field_owner z.owner ≡ false) × (is_frame_below (length gs + 1) z.owner ≡ false)
     late o z now none = let x = stores.back o z now in by x.0 x.1 x.0.finished refl
@@ -168,7 +168,7 @@ module _ (p : Program) (h k : HeapContents) (have : HaveEnds h) (unlinked : Hold
       apart = λ o x z at now done wide none. not_from (length gs + 1) x.owner z.owner (omega (arith, low)) (goes o x z at now done wide) none;
       free = λ o x z at now done wide none. not_from 0 x.owner z.owner (omega arith) (goes o x z at now done wide) none;
       content = λ o x z v f at now done wide leaves' this owned. content_was x.owner z.owner v f (goes o x z at now done wide) leaves' this owned;
-      keeps = λ o x z at now done wide lent. lent_after p h k have unlinked m w y there heavy single bears stores gs low new unfinished alike way o x z at now (done, wide) lent;
+      keeps = λ o x z at now whole lent. lent_after p h k have unlinked m w y there heavy single bears stores gs low new unfinished alike way o x z at now whole lent;
       ends = λ o x at wide ends. ends_below_after p h k have unlinked m w y there heavy single bears stores gs low o x at wide ends;
       below = λ o x z at now wide owned. below_was x.owner z.owner (goes o x z at now wide.0 wide.1) owned;
       late = late;
@@ -193,7 +193,7 @@ module _ (p : Program) (h k : HeapContents) (have : HaveEnds h) (unlinked : Hold
         by : (a b : Owner) → Goes a b → (v : ℕ) (f : FieldId) → a ≡ owners.Field v f → fr.locals.this ≡ values.Object v → b ≡ a
         by a b (stays same) v f owns runs = same
         by a b (leaves g was gone) v f owns runs =
-            absurd (true≢false (sym (lends_or_not fr gs way unfinished.1 all.0 all.1 (runs ∙ ap values.Object (same_holder v w f g (sym owns ∙ was))) answers) ∙ keeps))
+            absurd (true≢false (sym (lends_or_not fr gs way new unfinished.1 all.0 all.1 (runs ∙ ap values.Object (same_holder v w f g (sym owns ∙ was))) answers) ∙ keeps))
         by a b (joins g was is) v f owns runs = absurd (let never : ◌≡◌ {A = Owner} (owners.Frame (m + 1)) (owners.Field v f) = sym was ∙ owns in cc)
 
     aside_here : fr.locals.this ≡ values.Object w → leaves_all p (method_at p fr.method) ≡ false
@@ -201,7 +201,7 @@ module _ (p : Program) (h k : HeapContents) (have : HaveEnds h) (unlinked : Hold
       where
         by : (b : Bool) → leaves_all p (method_at p fr.method) ≡ b → leaves_all p (method_at p fr.method) ≡ false
         by false is = is
-        by true is = absurd (true≢false (sym (leaves_settles p fr gs is) ∙ is_unsettled p h have unlinked w y there heavy single bears fr gs way unfinished.1 all.0 all.1 this))
+        by true is = absurd (true≢false (sym (leaves_settles p fr gs is) ∙ is_unsettled p h have unlinked w y there heavy single bears fr gs way new unfinished.1 all.0 all.1 this))
 
     keeps_here : (gives : ℕ → ClassId → Bool) → KeepsOwners p h k gives gs fr
     keeps_here gives = record {

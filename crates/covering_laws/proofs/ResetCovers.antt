@@ -21,6 +21,7 @@ use Rattle.ownership_rules.specs.Bodies.{reset_in}
 use Rattle.ownership_rules.specs.Callees.{callee}
 use Rattle.ownership_rules.specs.Facts.{has, is_held, is_own, need}
 use Rattle.ledger_state.specs.Contents.{HeapContents}
+use Rattle.ledger_state.specs.Fields.{field_value}
 use Rattle.ledger_state.specs.Heaps.{object_at, root_of, same_root}
 use Rattle.ledger_state.specs.declared.entry.Owner.{Owner}
 use Rattle.ledger_state.specs.declared.entry.Owner.TheVariants as owners
@@ -31,12 +32,13 @@ use Rattle.value_laws.specs.Chains.{HaveEnds}
 use Rattle.value_laws.specs.Places.{place_value}
 use Rattle.ledger_steps.specs.LedgerCallsCalls.{operand_of}
 use Rattle.value_laws.specs.Configuration.{Frame}
+use Rattle.value_laws.specs.FieldContents.{MakersOwn}
 use Rattle.value_laws.specs.Choosing.{frame_steps}
 use Rattle.ledger_obligations.specs.Obligations.{is_library_owner}
-use Rattle.value_laws.specs.PlaceFacts.{AreWaiting, Covers, HasOwningField, IsApart, IsCovered, IsInField, IsKeyed, IsOld, IsOwned, IsSpared, IsTrueOf, IsUnowned, MayStore, OwesOrHolds, asked_of, claims, gives_away, is_given, is_frame_from, is_taken_at, is_taken_by, is_taken_from, owned, tells_calls, unowned}
-use Rattle.value_laws.specs.Renewing.{IsLentFrom, fact_as, is_renewed, is_reread, lends_this, renews, renews_at}
+use Rattle.value_laws.specs.PlaceFacts.{AreWaiting, Covers, IsApart, IsCovered, IsInField, IsKeyed, IsOld, IsOwned, IsSpared, IsTrueOf, IsUnowned, MayStore, OwesOrHolds, asked_of, claims, gives_away, is_given, is_frame_from, is_taken_at, is_taken_by, is_taken_from, owned, tells_calls, unowned}
+use Rattle.value_laws.specs.Renewing.{HasOwningField, IsLentFrom, fact_as, is_renewed, is_reread, lends_this, renews, renews_at}
 use Rattle.value_laws.proofs.Needs.{origin_needs_all}
-use Rattle.covering_laws.proofs.AlikeHeaps.{AreAlike, alike_holders, alike_turned, answered_alike, old_alike, spared_alike}
+use Rattle.covering_laws.proofs.AlikeHeaps.{AreAlike, alike_holders, alike_turned, answered_alike, old_alike, spared_alike, whole_alike}
 use Rattle.covering_laws.proofs.HeavyFields.{claims_by, claims_owned}
 use Rattle.covering_laws.proofs.InFields.{held_by_this, held_in_field, held_kept}
 use Rattle.covering_laws.proofs.Owners.{HoldersStay, lent_not_from, from_frame}
@@ -148,10 +150,10 @@ module _ (p : Program) (h k : HeapContents) (same : (v : Value) → root_of k v 
   same_lent (fr ∷ frs) o w (is, inl here) = (same_renewed fr o ∙ is, inl here)
   same_lent (fr ∷ frs) o w (is, inr (inl on)) = (same_renewed fr o ∙ is, inr (inl (same_lent frs o w on)))
   same_lent (fr ∷ frs) o w (is, inr (inr (inl held))) = (same_renewed fr o ∙ is, inr (inr (inl held)))
-  same_lent (fr ∷ frs) o w (is, inr (inr (inr held))) =
+  same_lent (fr ∷ frs) o w (is, inr (inr (inr (inl held)))) =
       let y = alike.forth held.holder held.object held.at in (
         same_renewed fr o ∙ is,
-        inr (inr (inr (record {
+        inr (inr (inr (inl (record {
           holder = held.holder;
           field = held.field;
           owns = held.owns;
@@ -159,12 +161,13 @@ module _ (p : Program) (h k : HeapContents) (same : (v : Value) → root_of k v 
           method = held.method;
           object = y.0;
           at = y.1;
-          finished = y.2.finished ∙ held.finished;
-          unlinked = y.2.link ∙ held.unlinked;
+          whole = whole_alike p held.object y.0 y.2 held.whole;
+          unlinked = λ done. y.2.link ∙ held.unlinked (sym y.2.finished ∙ done);
           heavy = ap (is_heavy_class p) y.2.class ∙ held.heavy;
           lends = subst (IsLentFrom p k frs held.holder) (sym y.2.owner) (same_lent frs held.holder held.object.owner held.lends);
-        }))),
+        })))),
       )
+  same_lent (fr ∷ frs) o w (is, inr (inr (inr (inr made)))) = (same_renewed fr o ∙ is, inr (inr (inr (inr made))))
 
   -- what is spared was so
   spared_before : (frs : List Frame) (o : ℕ) → IsSpared p k frs o → IsSpared p h frs o
@@ -199,11 +202,25 @@ module _ (p : Program) (h k : HeapContents) (same : (v : Value) → root_of k v 
       unrenewed = λ done tells apart. quiet (sym finished ∙ done) tells (was_apart c.fact apart);
       known = λ done tells apart stays. known (sym finished ∙ done) tells (was_apart c.fact apart) stays;
       makes = λ new this. finished ∙ c.makes new this;
-      complete = λ mode other declares. finished ∙ c.complete mode other (subst (HasOwningField p) class declares);
+      begun = λ mode other declares open'.
+          let was = c.begun mode other (subst (HasOwningField p) class declares) (sym finished ∙ open') in
+          (was.0, subst (IsLentFrom p k frs o) (sym owner) (same_lent frs o x.owner was.1), was.2);
       fields = c.fields;
       held = c.held;
       outside = c.outside;
     }
+
+  -- what the fields of what these frames make own they own
+  pub makers_alike : (gs : List Frame) → MakersOwn p h gs → MakersOwn p k gs
+  makers_alike [] mine = tt
+  makers_alike (g ∷ gs) mine = (
+    λ w f o x made owning heavy held at wide owes.
+        let z = alike.back o x at in
+        z.2.owner
+        ∙ mine.0 w f o z.0 made owning heavy (sym (same (field_value p h w f)) ∙ ap (root_of k) (sym (fields w f owning)) ∙ held) z.1 (ap (is_heavy_class p) (sym z.2.class) ∙ wide)
+        (bears_before p h k (alike_holders p h k alike) o z.0 x z.2.class z.2.finished z.2.owner owes),
+    makers_alike gs mine.1,
+  )
 
   -- an object that is as it was
   module _ (away anew : Bool) (old : ℕ → Bool) (frs : List Frame) (fr : Frame) (o : ℕ) (x : Object) where

@@ -32,7 +32,7 @@ use Rattle.value_laws.specs.Chains.{HaveEnds}
 use Rattle.value_laws.specs.Choosing.{frame_steps}
 use Rattle.value_laws.specs.ClassValues.{IsOnInstance}
 use Rattle.value_laws.specs.Configuration.{Frame}
-use Rattle.value_laws.specs.FieldContents.{AreNew, AreUnfinished, FieldsOwn, HaveContents, LinksLead, OwningFieldsOwn}
+use Rattle.value_laws.specs.FieldContents.{AreNew, AreUnfinished, FieldsOwn, HaveContents, LinksLead, MakersOwn, OwningFieldsOwn}
 use Rattle.value_laws.specs.Frames.{frame_after, KeepsTargets}
 use Rattle.value_laws.specs.HeapAnew.{IsEmptied, is_anew}
 use Rattle.value_laws.specs.Heaps.{HasEarlierLinks}
@@ -64,7 +64,9 @@ use Rattle.covering_laws.proofs.LibraryJoins.{call_apart, call_goes, call_owner,
 use Rattle.covering_laws.proofs.LibraryTargets.{risen, was_finished}
 use Rattle.covering_laws.proofs.LocalSteps.{LocalsIn, all_there}
 use Rattle.covering_laws.proofs.MadeObjects.{grown_fields, older_or_new}
-use Rattle.covering_laws.proofs.FieldOwners.{fields_own_by, fields_own_kept}
+use Rattle.covering_laws.proofs.FieldOwners.{carried_as_before, fields_own_by, fields_own_kept}
+use Rattle.covering_laws.proofs.MakersOwning.{all_made_kept, makers_own_on}
+use Rattle.covering_laws.proofs.ResetCovers.{makers_alike}
 use Rattle.covering_laws.proofs.Owners.{AllKeepGifts, OwnersGo, holders_were}
 use Rattle.covering_laws.proofs.RenewedOperands.{HoldsLent}
 use Rattle.covering_laws.proofs.TargetRoots.{same_position}
@@ -97,7 +99,7 @@ row_by a named is = absurd (let never : None ≡ Some named = is in cc)
 module _ (p : Program) (ac : Accept p) (forms : HasPlainForms p) (names : HasSmallInterests p) (h : HeapContents) (links : HasEarlierLinks h) (ranges : FieldsInRange h) (fr : Frame) (old : ℕ → Bool) (frs : List Frame) (st : Stands p fr)
     (mine : LocalsInRange h fr.locals) (arrays : List ArrayObject) (named runs : MethodId) (d : Conduct) (s : Step) (next : IsLibraryMove p h arrays fr.locals (frame_steps p fr) named runs d s) (count : ℕ)
     (leads : LinksLead p h) (contents : HaveContents p (fr ∷ frs) h) (have : HaveEnds h) (texts : TextsAreLight p h) (stored : StoredHoldNone (is_text p h) p h) (fields_own : FieldsOwn p h) (targets : KeepsTargets p fr)
-    (single : IsSingleThis p h fr) (lending : LendsItsOwn p fr s) where
+    (single : IsSingleThis p h fr) (lending : LendsItsOwn p fr s) (unready : AreUnfinished p h (fr ∷ frs)) (makers : MakersOwn p h (fr ∷ frs)) where
   abbrev at : ℕ
   at = length frs + 1
 
@@ -149,23 +151,23 @@ module _ (p : Program) (ac : Accept p) (forms : HasPlainForms p) (names : HasSma
   -- ---- what goes on
 
   would_roots : KeepsRoots h would
-  would_roots n number = library_keeps_roots p ac forms names h links ranges fr old frs st mine arrays named runs d s next count leads contents have texts stored fields_own targets single lending n number
+  would_roots n number = library_keeps_roots p ac forms names h links ranges fr old frs st mine arrays named runs d s next count leads contents have texts stored fields_own targets single lending unready makers n number
 
   would_unfinished : KeepsUnfinished h would no_other
-  would_unfinished o x y apart before now unready = library_after_unfinished p ac forms names h links ranges fr old frs st mine arrays named runs d s next count leads contents have texts stored fields_own targets single lending o x y apart before now unready
+  would_unfinished o x y apart before now open' = library_after_unfinished p ac forms names h links ranges fr old frs st mine arrays named runs d s next count leads contents have texts stored fields_own targets single lending unready makers o x y apart before now open'
 
   pub left_unfinished : KeepsUnfinished h left no_other
-  left_unfinished o x y apart before now unready = let z = was_would o y now in z.2.finished ∙ would_unfinished o x z.0 apart before z.1 unready
+  left_unfinished o x y apart before now open' = let z = was_would o y now in z.2.finished ∙ would_unfinished o x z.0 apart before z.1 open'
 
   pub left_linked : LinkedAreAliases p h → LinkedAreAliases p left
   left_linked apart n y k there some =
       let z = was_would n y there in
-      subst (IsGivenAsAlias p) (sym z.2.class) (library_linked p ac forms names h links ranges fr old frs st mine arrays named runs d s next count leads contents have texts stored fields_own targets single lending apart n z.0 k z.1 (sym z.2.link ∙ some))
+      subst (IsGivenAsAlias p) (sym z.2.class) (library_linked p ac forms names h links ranges fr old frs st mine arrays named runs d s next count leads contents have texts stored fields_own targets single lending unready makers apart n z.0 k z.1 (sym z.2.link ∙ some))
 
   pub left_classes : (w : ℕ) (x y : Object) → object_at h w ≡ Some x → object_at left w ≡ Some y → y.class ≡ x.class
   left_classes w x y before now =
       let z = was_would w y now in
-      let u = carries p ac forms names h links ranges fr old frs st mine arrays named runs d s next count leads contents have texts stored fields_own targets single lending w z.0 z.1 (numbers_are_in_range h w x before).1 in
+      let u = carries p ac forms names h links ranges fr old frs st mine arrays named runs d s next count leads contents have texts stored fields_own targets single lending unready makers w z.0 z.1 (numbers_are_in_range h w x before).1 in
       z.2.class ∙ u.2 ∙ ap (λ (v : Object). v.class) (one_object u.0 x (object_at h w) u.1 before)
 
   left_roots : KeepsRoots h left
@@ -181,7 +183,7 @@ module _ (p : Program) (ac : Accept p) (forms : HasPlainForms p) (names : HasSma
 
   -- ---- a call that creates an obligation anew
 
-  module _ (called : called_method s.action ≡ Some named) (own : OwningFieldsOwn p h) (sight : ActsInSight p h fr) (renews : AllRenewInHand p h frs) (news : AreNew p (fr ∷ frs)) (unready : AreUnfinished p h (fr ∷ frs)) (in' : LocalsIn h (fr ∷ frs)) (is : IsOld p h frs fr old) (covered : IsCovered p h gives_none renews_none old frs fr)
+  module _ (called : called_method s.action ≡ Some named) (own : OwningFieldsOwn p h) (sight : ActsInSight p h fr) (renews : AllRenewInHand p h frs) (news : AreNew p (fr ∷ frs)) (in' : LocalsIn h (fr ∷ frs)) (is : IsOld p h frs fr old) (covered : IsCovered p h gives_none renews_none old frs fr)
       (waits : AreWaiting p h old frs) (below : OwnersBelow h (length frs + 1)) where
     instance : IsOnInstance p h fr.locals s.action m
     instance = target_is_instance p h arrays fr.locals s.action m (next.ran called).1
@@ -194,22 +196,22 @@ module _ (p : Program) (ac : Accept p) (forms : HasPlainForms p) (names : HasSma
 
     -- the frames before the reset
     would_covered : IsOld p would frs after old × IsCovered p would gives_none renews_none old frs after × AreWaiting p would old frs × OwnersBelow would (length frs + 1)
-    would_covered = library_kept p ac forms names h links ranges fr old frs st mine arrays named runs d s next count leads contents have texts stored fields_own targets single lending (inl called) in' is covered waits below
+    would_covered = library_kept p ac forms names h links ranges fr old frs st mine arrays named runs d s next count leads contents have texts stored fields_own targets single lending unready makers (inl called) in' is covered waits below
 
     gifts : AllKeepGifts p h would (fr ∷ frs)
     gifts = all_keep_gifts p h would would_roots (fr ∷ frs) in'
 
     goes : OwnersGo p None (fr ∷ frs) at h would
-    goes = call_goes p ac forms names h links ranges fr old frs st mine arrays named runs d s next count leads contents have texts stored fields_own targets single lending called row covered
+    goes = call_goes p ac forms names h links ranges fr old frs st mine arrays named runs d s next count leads contents have texts stored fields_own targets single lending unready makers called row covered
 
     later : HaveEnds would
-    later = library_ends p ac forms names h links ranges fr old frs st mine arrays named runs d s next count leads contents have texts stored fields_own targets single lending
+    later = library_ends p ac forms names h links ranges fr old frs st mine arrays named runs d s next count leads contents have texts stored fields_own targets single lending unready makers
 
     unready' : AreUnfinished p would (fr ∷ frs)
     unready' = unfinished_kept p h would (λ o x y before now open'. would_unfinished o x y (λ never. never) before now open') (fr ∷ frs) in' unready
 
     holds : HoldsLent p h old frs fr st
-    holds = holds_lent p ac forms h links fields_own fr mine st old frs targets gives_none renews_none covered unlinked
+    holds = holds_lent p ac forms h links fields_own fr mine st old frs targets have unready gives_none renews_none covered unlinked
 
     ready : KeepsReady p h would fr
     ready = all_ready p h would would_unfinished fr
@@ -242,38 +244,54 @@ module _ (p : Program) (ac : Accept p) (forms : HasPlainForms p) (names : HasSma
     pub reset_covered : AreCovered p left (after ∷ frs)
     reset_covered =
         all_anew p ac forms h would left fr after frs st next.index s next.here row same fields alike gives_none (λ o. false) old (λ o c never. absurd (true≢false (sym never))) (λ o never. absurd (true≢false (sym never))) covered holds
-        (library_ways p ac forms names h links ranges fr old frs st mine arrays named runs d s next count leads contents have texts stored fields_own targets single lending) goes
-        (call_apart p ac forms names h links ranges fr old frs st mine arrays named runs d s next count leads contents have texts stored fields_own targets single lending called row covered others) gifts.0 gifts.1
-        (carries p ac forms names h links ranges fr old frs st mine arrays named runs d s next count leads contents have texts stored fields_own targets single lending) ready
-        (call_owner p ac forms names h links ranges fr old frs st mine arrays named runs d s next count leads contents have texts stored fields_own targets single lending called row) later news unready unready' would_covered.0
-        (opened_this p ac forms h links fields_own fr mine st old frs targets gives_none renews_none covered) renews (content_declares p (fr ∷ frs) h contents) refl refl turns
-        (λ q o y small open' root now heavy owes. call_top_from p ac forms names h links ranges fr old frs st mine arrays named runs d s next count leads contents have texts stored fields_own targets single lending called row covered is others q o y small root now heavy owes)
+        (library_ways p ac forms names h links ranges fr old frs st mine arrays named runs d s next count leads contents have texts stored fields_own targets single lending unready makers) goes
+        (call_apart p ac forms names h links ranges fr old frs st mine arrays named runs d s next count leads contents have texts stored fields_own targets single lending unready makers called row covered others) gifts.0 gifts.1
+        (carries p ac forms names h links ranges fr old frs st mine arrays named runs d s next count leads contents have texts stored fields_own targets single lending unready makers) ready
+        (call_owner p ac forms names h links ranges fr old frs st mine arrays named runs d s next count leads contents have texts stored fields_own targets single lending unready makers called row) later news unready unready' would_covered.0
+        (opened_this p ac forms h links fields_own fr mine st old frs targets have unready gives_none renews_none covered) renews (content_declares p (fr ∷ frs) h contents) refl refl turns
+        (λ q o y small open' root now heavy owes. call_top_from p ac forms names h links ranges fr old frs st mine arrays named runs d s next count leads contents have texts stored fields_own targets single lending unready makers called row covered is others q o y small root now heavy owes)
         would_covered.2 (λ o y now. (let z = was_would o y now in ap (is_frame_from (length frs + 1 + 1)) z.2.owner ∙ would_covered.3 o z.0 z.1))
 
   -- ---- any call of the library, and any read of a constant
 
-  pub left_covered : AllRenewInHand p h frs → AreNew p (fr ∷ frs) → AreUnfinished p h (fr ∷ frs) → OwningFieldsOwn p h → ActsInSight p h fr → (called_method s.action ≡ Some named) ⊎ IsConstantRead s.action named → LocalsIn h (fr ∷ frs)
+  pub left_covered : AllRenewInHand p h frs → AreNew p (fr ∷ frs) → OwningFieldsOwn p h → ActsInSight p h fr → (called_method s.action ≡ Some named) ⊎ IsConstantRead s.action named → LocalsIn h (fr ∷ frs)
       → IsOld p h frs fr old → IsCovered p h gives_none renews_none old frs fr → AreWaiting p h old frs → OwnersBelow h (length frs + 1) → AreCovered p left (after ∷ frs)
-  left_covered renews news unready own sight row in' is covered waits below = by row
+  left_covered renews news own sight row in' is covered waits below = by row
     where
       plain : reset_position m ≡ None → AreCovered p left (after ∷ frs)
       plain none =
           subst (λ (n : Option Method). AreCovered p (library_heap p fr.locals s.action n r d at h) (after ∷ frs)) (plain_method m none)
-          (library_covered p ac forms names h links ranges fr old frs st mine arrays named runs d s next count leads contents have texts stored fields_own targets single lending row in' is covered waits below)
+          (library_covered p ac forms names h links ranges fr old frs st mine arrays named runs d s next count leads contents have texts stored fields_own targets single lending unready makers row in' is covered waits below)
 
       by : (called_method s.action ≡ Some named) ⊎ IsConstantRead s.action named → AreCovered p left (after ∷ frs)
       by (inr read) = plain (read_reset p s.action named (plain_step p ac forms fr st next.index s next.here) read)
       by (inl called) = elim (resets_plainly p ac forms fr st next.index s next.here) [
         | inl none ↦ plain (sym (same_position m) ∙ ap reset_in (sym (ap (callee_in p) called)) ∙ none)
-        | inr anew ↦ reset_covered called own sight renews news unready in' is covered waits below
+        | inr anew ↦ reset_covered called own sight renews news in' is covered waits below
       ]
 
   -- what fields hold they own
   pub left_owns : (called_method s.action ≡ Some named) ⊎ IsConstantRead s.action named → IsCovered p h gives_none renews_none old frs fr → FieldsOwn p h → FieldsOwn p left
   left_owns row covered held = fields_own_kept p would left fields same (λ o y now. let z = was_would o y now in (z.0, z.1, z.2.class, z.2.link, z.2.finished, z.2.owner))
       (fields_own_by p None (fr ∷ frs) at h would links ranges have.unfinished (but_texts p h would (grown_fields p h would (library_grows p fr.locals s.action (without_reset m) r d at h)))
-      (carries p ac forms names h links ranges fr old frs st mine arrays named runs d s next count leads contents have texts stored fields_own targets single lending)
-      (holders_were p None (fr ∷ frs) at h would (library_ways p ac forms names h links ranges fr old frs st mine arrays named runs d s next count leads contents have texts stored fields_own targets single lending) goes) would_roots goes would_unfinished held)
+      (carries p ac forms names h links ranges fr old frs st mine arrays named runs d s next count leads contents have texts stored fields_own targets single lending unready makers)
+      (holders_were p None (fr ∷ frs) at h would (library_ways p ac forms names h links ranges fr old frs st mine arrays named runs d s next count leads contents have texts stored fields_own targets single lending unready makers) goes) would_roots goes would_unfinished held)
     where
       goes : OwnersGo p None (fr ∷ frs) at h would
-      goes = goes_by p ac forms names h links ranges fr old frs st mine arrays named runs d s next count leads contents have texts stored fields_own targets single lending row covered
+      goes = goes_by p ac forms names h links ranges fr old frs st mine arrays named runs d s next count leads contents have texts stored fields_own targets single lending unready makers row covered
+
+  -- what the fields of what this frame makes, and those below, hold they own
+  pub left_makers : (called_method s.action ≡ Some named) ⊎ IsConstantRead s.action named → IsCovered p h gives_none renews_none old frs fr → MakersOwn p left (after ∷ frs)
+  left_makers row covered = (λ w f o x made owning heavy held at' wide owes. kept.0 w f o x (record { alone = made.alone; field = made.field; declared = made.declared; runs = made.runs }) owning heavy held at' wide owes, kept.1)
+    where
+      goes : OwnersGo p None (fr ∷ frs) at h would
+      goes = goes_by p ac forms names h links ranges fr old frs st mine arrays named runs d s next count leads contents have texts stored fields_own targets single lending unready makers row covered
+
+      kept : MakersOwn p left (fr ∷ frs)
+      kept =
+          makers_alike p would left same fields alike (fr ∷ frs)
+          (makers_own_on p h would links ranges have.unfinished (but_texts p h would (grown_fields p h would (library_grows p fr.locals s.action (without_reset m) r d at h)))
+          (carried_as_before p h would (carries p ac forms names h links ranges fr old frs st mine arrays named runs d s next count leads contents have texts stored fields_own targets single lending unready makers)
+          (holders_were p None (fr ∷ frs) at h would
+          (library_ways p ac forms names h links ranges fr old frs st mine arrays named runs d s next count leads contents have texts stored fields_own targets single lending unready makers) goes))
+          (inl would_roots) (fr ∷ frs) (all_made_kept p None (fr ∷ frs) at h would have.unfinished goes (fr ∷ frs) (λ w none. none)) makers)

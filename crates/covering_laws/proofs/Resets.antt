@@ -1,7 +1,7 @@
--- A call of the plain forms creates the obligation of `this` anew, in a constructor, only where no owning field has a place.
+-- A call of the plain forms creates the obligation of `this` anew, in a constructor with an aliased argument, only where no owning field has a place.
 use Rattle.std.specs.Prelude.{◌&&◌}
 use Rattle.std.proofs.Common.{◌≡◌, ◌∙◌, ap, eq-eqb, inl, inr, ℕ, Bool, true, false, true≢false, Option, Some, None, List, slice_get, refl, sym}
-use Rattle.std.proofs.lemmas.Bool.{and_from, and_parts}
+use Rattle.std.proofs.lemmas.Bool.{and_from}
 use Rattle.program_model.specs.declared.kinds.BodyId.{BodyId}
 use Rattle.program_model.specs.declared.kinds.ClassId.{ClassId}
 use Rattle.program_model.specs.declared.kinds.FieldId.{FieldId}
@@ -9,8 +9,7 @@ use Rattle.program_model.specs.declared.program.Method.{Method}
 use Rattle.program_model.specs.declared.program.Program.{Program}
 use Rattle.program_model.specs.Lookups.{method_at}
 use Rattle.program_model.specs.SuperTests.{is_class}
-use Rattle.ledger_obligations.specs.Bodies.{alias_position, has_field_place, is_alias_constructor, is_class_of, is_constructor, is_field_in, method_of, reset_in}
-use Rattle.ownership_rules.specs.Signatures.{is_present}
+use Rattle.ledger_obligations.specs.Bodies.{has_field_place, is_alias_constructor, is_class_of, is_field_in, method_of, reset_in}
 use Rattle.ownership_rules.specs.Callees.{callee}
 use Rattle.java_control.specs.Calls.{is_reset_of_this, is_this_form, resets_receiver}
 use Rattle.java_control.specs.PlaceNumbers.{IsSmall}
@@ -46,12 +45,9 @@ resets_nothing p actions.Skip none = refl
 resets_nothing p (actions.Call m d n form) none = and_false (is_this_form form) (resets_receiver (method_at p m)) (none_reset (method_at p m) none)
 resets_nothing p a none = refl
 
-pub constructor_elsewhere : (p : Program) (b : BodyId) (k : List Todo) (a : Action) → ResetsPlainly p b k a → is_constructor p b ≡ true → is_reset_of_this p a ≡ true → (f : FieldId) → has_field_place p b f ≡ false
-constructor_elsewhere p b k a (inr plain) makes this f = plain.constructor makes this f
-constructor_elsewhere p b k a (inl none) makes this f = absurd (true≢false (sym this ∙ resets_nothing p a none))
-
 pub resets_elsewhere : (p : Program) (b : BodyId) (k : List Todo) (a : Action) → ResetsPlainly p b k a → is_alias_constructor p b ≡ true → is_reset_of_this p a ≡ true → (f : FieldId) → has_field_place p b f ≡ false
-resets_elsewhere p b k a plain aliased = constructor_elsewhere p b k a plain (and_parts (is_constructor p b) (is_present (alias_position p b)) aliased).0
+resets_elsewhere p b k a (inr plain) aliased this f = plain.aliased aliased this f
+resets_elsewhere p b k a (inl none) aliased this f = absurd (true≢false (sym this ∙ resets_nothing p a none))
 
 -- so does each step of a body
 pub this_elsewhere : (p : Program) → HasPlainForms p → (b : BodyId) → is_alias_constructor p b ≡ true → (c : List Todo) (i : ℕ) (t : Move (List Todo)) → Comes (relation_of p b) c → slice_get ((relation_of p b).next c) i ≡ Some t

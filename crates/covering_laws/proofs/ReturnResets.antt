@@ -23,7 +23,7 @@ use Rattle.value_laws.specs.Arguments.{HasArguments}
 use Rattle.value_laws.specs.Chains.{HaveEnds}
 use Rattle.value_laws.specs.Choosing.{frame_steps}
 use Rattle.value_laws.specs.Configuration.{Frame}
-use Rattle.value_laws.specs.FieldContents.{AreNew, AreUnfinished, FieldsOwn, HaveContents, IsBeingMade, IsDispatched, LinksLead, OwningFieldsOwn, RunOnOthers, TopRunsAlone, is_new}
+use Rattle.value_laws.specs.FieldContents.{AreNew, AreUnfinished, FieldsOwn, HaveContents, IsBeingMade, IsDispatched, LinksLead, MakersOwn, OwningFieldsOwn, RunOnOthers, TopRunsAlone, is_new}
 use Rattle.value_laws.specs.Frames.{KeepsTargets, frame_after}
 use Rattle.value_laws.specs.Heaps.{HasEarlierLinks}
 use Rattle.value_laws.specs.Holders.{HoldersAreUnlinked}
@@ -46,11 +46,11 @@ use Rattle.covering_laws.proofs.EndedHeaps.{end_ends, unfinished_but}
 use Rattle.value_laws.specs.Agreement.{RunsOnSame}
 use Rattle.value_laws.specs.Types.{StoredHoldNone}
 use Rattle.covering_laws.proofs.FieldOwners.{fields_own_kept}
-use Rattle.covering_laws.proofs.EndJoins.{anew_covered, ended_apart, ended_held_before, ended_owns, ended_unfinished, was}
+use Rattle.covering_laws.proofs.EndJoins.{anew_covered, ended_apart, ended_held_before, ended_makers, ended_owns, ended_unfinished, was}
 use Rattle.covering_laws.proofs.EndTargets.{all_turned, heaps_alike, same_fields, same_roots}
 use Rattle.covering_laws.proofs.LocalSteps.{LocalsIn}
 use Rattle.covering_laws.proofs.RenewedOperands.{HoldsLent}
-use Rattle.covering_laws.proofs.ResetCovers.{same_held}
+use Rattle.covering_laws.proofs.ResetCovers.{makers_alike, same_held}
 use Rattle.covering_laws.proofs.Waiting.{AllHeldBefore, KeepsFields, KeepsUnfinished, held_before_further, IsCarried}
 use Rattle.value_laws.proofs.SettledFrames.{AllRenewInHand, RenewsInHand}
 use Rattle.covering_laws.proofs.WholeThis.{IsSingleThis}
@@ -64,6 +64,7 @@ pub record IsReturned (p : Program) (h k : HeapContents) (after : Frame) (rest :
   pub before : AllHeldBefore p h k rest
   pub owns : FieldsOwn p k
   pub class : (w : ℕ) (x y : Object) → object_at h w ≡ Some x → object_at k w ≡ Some y → y.class ≡ x.class
+  pub makers : MakersOwn p k (after ∷ rest)
   pub covered : AreCovered p k (after ∷ rest)
 
 module _ (p : Program) (ac : Accept p) (forms : HasPlainForms p) (runs' : HasPlainRuns p) (names : HasSmallInterests p) (h : HeapContents) (texts : TextsAreLight p h) (links : HasEarlierLinks h) (apart : LinkedAreAliases p h) (ranges : FieldsInRange h)
@@ -75,7 +76,7 @@ module _ (p : Program) (ac : Accept p) (forms : HasPlainForms p) (runs' : HasPla
     (stored : StoredHoldNone (is_text p h) p h) (stand : AllStand p rest) (aged : IsOld p h (caller ∷ rest) fr old) (older : ℕ → Bool) (up : (o : ℕ) → older o ≡ true → old o ≡ true) (was_old : IsOld p h rest caller older)
     (waiting : IsCovered p h (is_given p h caller) (is_reread p h caller) older rest caller) (lower : AreWaiting p h older rest) (holds : HoldsLent p h older rest caller below) (news : AreNew p (caller ∷ rest))
     (unready : AreUnfinished p h (caller ∷ rest)) (owned : FieldsOwn p h) (renews' : RenewsInHand p h caller rest) (all_renew : AllRenewInHand p h rest) (single : IsSingleThis p h caller) (lending : LendsItsOwn p caller t)
-    (own : OwningFieldsOwn p h) (sight : ActsInSight p h caller) where
+    (makers : MakersOwn p h (caller ∷ rest)) (own : OwningFieldsOwn p h) (sight : ActsInSight p h caller) where
   abbrev at : ℕ
   at = length rest + 1
 
@@ -128,7 +129,7 @@ module _ (p : Program) (ac : Accept p) (forms : HasPlainForms p) (runs' : HasPla
 
   returned_covered : OwnersBelow h (length (caller ∷ rest) + 1) → AreCovered p J (after ∷ rest)
   returned_covered low =
-      anew_covered p ac forms runs' names h texts links apart ranges fr caller rest st below targets keeps gives dispatched making mine' old covered i s q here is t named back may makes itself args exits leads ends made_after classes unheld in' alone contents unlinked fresh on_same stored stand aged older up was_old waiting lower holds news unready owned renews' all_renew single lending J roots fields_stay alike
+      anew_covered p ac forms runs' names h texts links apart ranges fr caller rest st below targets keeps gives dispatched making mine' old covered i s q here is t named back may makes itself args exits leads ends made_after classes unheld in' alone contents unlinked fresh on_same stored stand aged older up was_old waiting lower holds news unready owned renews' all_renew single lending makers J roots fields_stay alike
       (end_ends p at fr.locals.this caller.locals t.action (method_at p fr.method) (without_reset m) v e h (says_nothing m) ends unmade)
       (unfinished_but p h K (λ o. (fr.locals.this ≡ values.Object o) × (is_new t.action ≡ true)) its_unfinished (caller ∷ rest) (λ w is'. fresh w is'.1 is'.0) in' unready) turns low
 
@@ -153,12 +154,17 @@ module _ (p : Program) (ac : Accept p) (forms : HasPlainForms p) (runs' : HasPla
   returned_owns : FieldsOwn p J
   returned_owns = fields_own_kept p K J fields_stay roots (λ o y now. let z = alike.back o y now in (z.0, z.1, z.2.class, z.2.link, z.2.finished, z.2.owner)) (ended_owns p ac forms runs' names h texts links apart ranges fr caller rest st below targets keeps gives dispatched making mine' old covered i s q here is t named back may makes itself args exits leads ends made_after classes unheld in' alone contents unlinked fresh on_same stored owned)
 
+  -- so do the fields of what the frames make
+  returned_makers : MakersOwn p J (after ∷ rest)
+  returned_makers = makers_alike p K J roots fields_stay alike (after ∷ rest) (ended_makers p ac forms runs' names h texts links apart ranges fr caller rest st below targets keeps gives dispatched making mine' old covered i s q here is t named back may makes itself args exits leads ends made_after classes unheld in' alone contents unlinked fresh on_same stored makers)
+
   pub call_returned : OwnersBelow h (length (caller ∷ rest) + 1) → IsReturned p h J after rest (λ o. (fr.locals.this ≡ values.Object o) × (is_new t.action ≡ true))
   call_returned low = record {
     unfinished = returned_unfinished;
     linked = returned_apart;
     before = returned_held_before;
     owns = returned_owns;
+    makers = returned_makers;
     class = λ w x y before now.
         let z = alike.back w y now in
         let u = its_was w z.0 z.1 in

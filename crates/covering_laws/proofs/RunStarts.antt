@@ -10,7 +10,7 @@ use Rattle.ledger_state.specs.Heaps.{object_in}
 use Rattle.ledger_state.specs.declared.object.Object.{Object}
 use Rattle.value_laws.specs.Starts.{start_config}
 use Rattle.value_laws.specs.Moves.{has_body}
-use Rattle.value_laws.specs.FieldContents.{FieldsOwn}
+use Rattle.value_laws.specs.FieldContents.{FieldsOwn, MakersOwn}
 use Rattle.value_laws.specs.PlaceFacts.{AreCovered}
 use Rattle.covering_laws.specs.Making.{AreBeingMade}
 use Rattle.covering_laws.specs.Linking.{LinkedAreAliases}
@@ -47,3 +47,7 @@ linked_are_aliases_at_start p main choices k x l at some = absurd (no_object k x
 pub fields_own_at_start : (p : Program) (main : MethodId) (choices : Choices) → FieldsOwn p (start_config p main choices).heap
 unfolding start_config
 fields_own_at_start p main choices w y f o x at owning heavy held there wide = absurd (no_object w y at)
+
+pub makers_own_at_start : (p : Program) (main : MethodId) (choices : Choices) → MakersOwn p (start_config p main choices).heap (start_config p main choices).frames
+unfolding start_config
+makers_own_at_start p main choices = ((λ w f o x made owning heavy held at. absurd (no_object o x at)), tt)

@@ -130,7 +130,7 @@ module _ (p : Program) (ac : Accept p) (k : HeapContents) (fr : Frame) (st : Sta
       (λ claimed said. (owned_here (answers_by (claims_by p (method_at p fr.method) g its claimed)) (claims_owned p (method_at p fr.method) g its claimed).0).1)
       (λ lent. absurd (true≢false (sym lent ∙ field_unlent p f (method_at p fr.method)))) (λ held. within_self no_names)
       (λ done held answers keeps wide. in_field answers wide) (λ lent done. absurd (let never : modes.Held ≡ modes.Lent = lent in cc)) (λ constructor this'. absurd (true≢false (sym this')))
-      (λ lent other fields. absurd (let never : modes.Held ≡ modes.Lent = lent in cc))
+      (λ lent other fields open'. absurd (let never : modes.Held ≡ modes.Lent = lent in cc))
       (λ d same wide. subst (λ (i : ℕ). fits_field p fr.method i c ≡ true) (let is : places.Field n ≡ places.Field d = same in (let one : n ≡ d = cc in one)) fits_here)
       (λ d same heavy. (refl, sym (ap (is_heavy_in p) beside ∙ typed) ∙ heavy)) (λ other d same. refl)
 

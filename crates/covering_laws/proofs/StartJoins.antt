@@ -26,7 +26,7 @@ use Rattle.ledger_obligations.specs.OverrideCases.{differ}
 use Rattle.ledger_obligations.specs.Bodies.{constructs, is_class_of, is_constructor_kind, reset_in}
 use Rattle.ledger_obligations.specs.MustCallSets.{is_empty, is_heavy_class, must_of_optional, no_names}
 use Rattle.ownership_rules.specs.Signatures.{type_of_field}
-use Rattle.java_control.specs.Calls.{called_method}
+use Rattle.java_control.specs.Calls.{called_method, is_reset_of_this}
 use Rattle.java_control.specs.Control.{Step}
 use Rattle.java_control.specs.Owned.{is_owning_field, field_number}
 use Rattle.java_control.specs.declared.action.Action.{Action}
@@ -41,7 +41,6 @@ use Rattle.java_control.specs.declared.place.Place.{Place}
 use Rattle.java_control.specs.declared.place.Place.TheVariants as places
 use Rattle.ownership_rules.specs.Callees.{callee, callee_in}
 use Rattle.ownership_rules.specs.Facts.{has, has_temp, is_held, is_own}
-use Rattle.ownership_rules.specs.SmallActions.{IsSmallAction}
 use Rattle.ownership_rules.specs.Births.{births_at_entry, fact_at, has_this, origin_of, parameter_mode, this_mode}
 use Rattle.value_laws.specs.Paths.{move_of, Reach, relation_of}
 use Rattle.value_laws.specs.Accept.{Accept}
@@ -49,7 +48,7 @@ use Rattle.ledger_state.specs.Contents.{HeapContents}
 use Rattle.ledger_state.specs.Fields.{field_of, field_value}
 use Rattle.ledger_state.specs.Heaps.{next_number, object_at, root_of, root}
 use Rattle.ledger_state.specs.Locals.{temp_value, variable_value}
-use Rattle.ledger_state.specs.Values.{number_of, value_or_nothing}
+use Rattle.ledger_state.specs.Values.{value_or_nothing}
 use Rattle.ledger_state.specs.declared.array.ArrayObject.{ArrayObject}
 use Rattle.ledger_state.specs.declared.entry.Owner.TheVariants as owners
 use Rattle.ledger_state.specs.declared.locals.Locals.{Locals}
@@ -68,18 +67,17 @@ use Rattle.value_laws.proofs.FieldPlaces.{IsBeside, place_of_beside}
 use Rattle.value_laws.specs.Naming.{IsOfItsKind}
 use Rattle.value_laws.proofs.NamedReached.{names_what_is_there}
 use Rattle.value_laws.specs.Outcomes.{IsCallRow}
-use Rattle.value_laws.specs.Agreement.{AllStand, IsStacked, Stands}
-use Rattle.value_laws.specs.PlainForms.{HasPlainForms, IsPlainAction, calls_constructor, is_lent_parameter}
+use Rattle.value_laws.specs.Agreement.{AllStand, Stands}
+use Rattle.value_laws.specs.PlainForms.{HasPlainForms, IsPlainAction, is_lent_parameter}
 use Rattle.value_laws.specs.Nexts.{IsStartMove}
 use Rattle.value_laws.specs.Operands as operand_types
 use Rattle.value_laws.specs.Operands.{NoObject}
 use Rattle.value_laws.proofs.Entries.{HasBegun, argument_at, has_begun, same_count}
-use Rattle.value_laws.proofs.Ready.{plain_step, ready, step_there}
-use Rattle.value_laws.proofs.Unmet.{way_of_call}
+use Rattle.value_laws.proofs.Ready.{plain_step, step_there}
 use Rattle.value_laws.specs.Types.{KeepsTypes, StoredHoldNone, is_text}
 use Rattle.value_laws.proofs.ValueTypeFields.{field_is_none}
 use Rattle.value_laws.proofs.ValueTypeLaws.{argument_is_no_object}
-use Rattle.value_laws.specs.PlaceFacts.{AreCovered, AreWaiting, Covers, HasOwningField, IsCovered, IsKeyed, IsOld, IsTrueOf, IsUnowned, OwesOrHolds, OwnersBelow, asked_by, asked_of, claims, gives_none, is_frame_from, is_given, is_heavy_in, is_lent, owned, renews_none, unowned}
+use Rattle.value_laws.specs.PlaceFacts.{AreCovered, AreWaiting, Covers, IsCovered, IsKeyed, IsOld, IsTrueOf, IsUnowned, OwesOrHolds, OwnersBelow, asked_by, asked_of, claims, gives_none, is_frame_from, is_given, is_heavy_in, is_lent, owned, renews_none, unowned}
 use Rattle.covering_laws.proofs.HeavyFields.{asked_here, claims_owned, covered_at}
 use Rattle.value_laws.proofs.KeptFacts.{parameter_unheld}
 use Rattle.value_laws.specs.Ranges.{FieldsInRange, IsInRange, IsNumber, LocalsInRange}
@@ -95,38 +93,37 @@ use Rattle.covering_laws.proofs.Owners.{AllKeepGifts, HoldersWere, KeepsOwners, 
 use Rattle.covering_laws.proofs.StepWays.{start_births, start_unowned, ways_by}
 use Rattle.covering_laws.proofs.StartOwners.{below_further, held_by_lent, start_below, start_owner, start_owners_go}
 use Rattle.covering_laws.proofs.LocalSteps.{LocalsIn, all_there, holds_there}
-use Rattle.covering_laws.proofs.StartHeaps.{new_holds_nothing, start_carries, start_keeps, start_linked, start_roots, start_unfinished, new_unfinished, new_unlinked}
+use Rattle.covering_laws.proofs.StartHeaps.{start_carries, start_keeps, start_linked, start_roots, start_unfinished, new_unfinished, new_unlinked}
 use Rattle.covering_laws.proofs.Waiting.{AllHeldBefore, IsCarried, KeepsRoots, KeepsUnfinished, all_held_before, all_keep, all_wait, but_texts, frames_ready, no_other, numbered, bore_before, Continues, value_root, was_ready, new_root, AllGoOn, ways_go_on, HoldsThere, all_ready, keeps_roots, still_true, this_was}
 use Rattle.covering_laws.proofs.KnownNames.{operand_temp}
 use Rattle.covering_laws.proofs.LinkedExceptions.{LinkedWere}
 use Rattle.covering_laws.specs.Texts.{TextsAreLight}
-use Rattle.value_laws.proofs.TargetBegun.{finds}
-use Rattle.value_laws.specs.StepTargets.{FindsIt}
-use Rattle.value_laws.specs.Frames.{holds_this, KeepsTargets}
-use Rattle.value_laws.specs.Renewing.{HasInHand, IsHeldBy, IsLentFrom, is_renewed, renews, answers_for_fields, reopens}
+use Rattle.value_laws.specs.Frames.{KeepsTargets}
+use Rattle.value_laws.specs.Renewing.{HasInHand, HasOwningField, IsHeldBy, IsLentFrom, IsWhole, answers_for_fields, is_declared_beside, is_renewed, renews, reopens}
 use Rattle.covering_laws.proofs.RenewedOperands.{HoldsLent, renewed_answered, renewed_not_given, step_renews}
-use Rattle.covering_laws.proofs.MadeTargets.{HoldsReady, first_value, operand_ready}
+use Rattle.covering_laws.proofs.StartMakers.{holds_nothing, makers_then}
+use Rattle.covering_laws.proofs.SuperTargets.{not_this}
 use Rattle.covering_laws.proofs.OldAtStarts.{old_then, starts_old}
 use Rattle.covering_laws.proofs.ContentHolders.{contents_have_holders}
-use Rattle.covering_laws.specs.Making.{AreBeingMade}
+use Rattle.covering_laws.specs.Sight.{MakesThis}
 use Rattle.value_laws.proofs.OldObjects.{begins_over}
 use Rattle.value_laws.specs.Chains.{HaveEnds}
-use Rattle.value_laws.specs.FieldContents.{AreNew, AreUnfinished, FieldsOwn, HaveContents}
+use Rattle.value_laws.specs.FieldContents.{AreNew, AreUnfinished, FieldsOwn, HaveContents, MakersOwn}
 use Rattle.value_laws.specs.Holders.{HoldersAreUnlinked}
 use Rattle.value_laws.proofs.Readings.{operand_renews}
 use Rattle.covering_laws.proofs.FieldOwners.{fields_own_by}
-use Rattle.covering_laws.proofs.Following.{same_body, method_here}
+use Rattle.covering_laws.proofs.Following.{same_body}
 use Rattle.value_laws.proofs.FactOrigins.{this_own}
 use Rattle.value_laws.proofs.Growth.{began_grows}
 use Rattle.covering_laws.proofs.CallersWait.{caller_waits}
-use Rattle.covering_laws.proofs.StartWords.{locals_of, lt_or, no_number, object_value, unclaimed_mode}
+use Rattle.covering_laws.proofs.StartWords.{locals_of, lt_or, object_value, unclaimed_mode}
 use Rattle.covering_laws.specs.Linking.{LinkedAreAliases}
 use Rattle.covering_laws.proofs.OwnerSteps.{movable_owes}
 use Rattle.covering_laws.proofs.ThisEnds.{this_ends}
 use Rattle.covering_laws.proofs.ThisAtStarts.{owned_at_start, true_at_start}
 use Rattle.covering_laws.proofs.FieldBirths.{field_fact, field_origin}
 use Rattle.covering_laws.proofs.StartFields.{IsInFieldAt, field_born}
-use Rattle.covering_laws.proofs.StartKinds.{kind_by, self_is_first}
+use Rattle.covering_laws.proofs.StartKinds.{kind_by, named_makes, of_named, self_is_first, super_caller, super_self}
 
 -- what a call leaves of the heap `h` as it begins the frame `begun` on the object `self`
 pub record IsStarted (p : Program) (h k : HeapContents) (begun fr : Frame) (frs : List Frame) (self : Value) : Type 0 where
@@ -135,14 +132,15 @@ pub record IsStarted (p : Program) (h k : HeapContents) (begun fr : Frame) (frs 
   pub before : AllHeldBefore p h k (fr ∷ frs)
   pub linked : LinkedWere h k
   pub owns : FieldsOwn p k
+  pub makers : MakersOwn p k (begun ∷ fr ∷ frs)
   pub covered : AreCovered p k (begun ∷ fr ∷ frs)
 
 -- ---- the call
 
 module _ (p : Program) (ac : Accept p) (forms' : HasPlainForms p) (plain : HasPlainRuns p) (h : HeapContents) (texts : TextsAreLight p h) (links : HasEarlierLinks h) (have : HaveEnds h) (owned' : FieldsOwn p h) (linked' : LinkedAreAliases p h) (ranges : FieldsInRange h) (stored : StoredHoldNone (is_text p h) p h)
-    (fr : Frame) (frs : List Frame) (stand : AllStand p (fr ∷ frs)) (stacked : IsStacked p h (fr ∷ frs)) (keeps : KeepsTypes (is_text p h) p fr) (targets : KeepsTargets p fr) (in' : LocalsInRange h fr.locals) (lower : LocalsIn h frs) (old : ℕ → Bool) (is : IsOld p h frs fr old)
-    (covered : IsCovered p h gives_none renews_none old frs fr) (low : OwnersBelow h (length frs + 1)) (contents : HaveContents p (fr ∷ frs) h) (news : AreNew p (fr ∷ frs)) (unready : AreUnfinished p h (fr ∷ frs)) (making : AreBeingMade p h (fr ∷ frs))
-    (holds : HoldsLent p h old frs fr (stand.0)) (ready' : HoldsReady p h old frs fr (stand.0)) (arrays : List ArrayObject) (named runs : MethodId) (a : Action)
+    (fr : Frame) (frs : List Frame) (stand : AllStand p (fr ∷ frs)) (keeps : KeepsTypes (is_text p h) p fr) (targets : KeepsTargets p fr) (in' : LocalsInRange h fr.locals) (lower : LocalsIn h frs) (old : ℕ → Bool) (is : IsOld p h frs fr old)
+    (covered : IsCovered p h gives_none renews_none old frs fr) (low : OwnersBelow h (length frs + 1)) (contents : HaveContents p (fr ∷ frs) h) (news : AreNew p (fr ∷ frs)) (unready : AreUnfinished p h (fr ∷ frs)) (makes : MakesThis p h fr) (makers : MakersOwn p h (fr ∷ frs))
+    (holds : HoldsLent p h old frs fr (stand.0)) (arrays : List ArrayObject) (named runs : MethodId) (a : Action)
     (next : IsStartMove p h arrays fr.locals (frame_steps p fr) named runs a) (j : ℕ) (position : j ≡ length (fr ∷ frs) + 1) where
   abbrev st : Stands p fr
   st = stand.0
@@ -179,9 +177,6 @@ module _ (p : Program) (ac : Accept p) (forms' : HasPlainForms p) (plain : HasPl
 
   form : IsPlainAction p s.action
   form = plain_step p ac forms' fr st next.index s next.here
-
-  small : IsSmallAction p s.action
-  small = (ready p ac forms' fr st next.index s next.here (way_of_call s row)).small
 
   kind : IsOfItsKind p s.action
   kind = (names_what_is_there p ac.well_formed.valid.typed st.number st.body fr.control next.index (move_of s) st.at st.control (step_there p fr st next.index s next.here)).1
@@ -285,9 +280,9 @@ module _ (p : Program) (ac : Accept p) (forms' : HasPlainForms p) (plain : HasPl
 
   -- ---- what is lent to the frame that begins
 
-  -- the object of the operand whose obligation the call creates anew is lent to it
-  renewed_lent : (k o : ℕ) (y : Object) → next.method.sig.reset ≡ Some k → root_of h (operand_of l s.action k) ≡ Some o → object_at K o ≡ Some y → is_heavy_class p y.class ≡ true → OwesOrHolds p K o y → y.finished ≡ true → IsLentFrom p K stack o y.owner
-  renewed_lent k o y position root at heavy owes done = by (was (operand_of l s.action k) o y root (numbered h links (operand_of l s.action k) o root (operand_in_range h l in' s.action k)) at)
+  -- the object of the operand whose obligation the call creates anew is lent to it, if it is finished, or its class has owning fields
+  renewed_lent : (k o : ℕ) (y : Object) → next.method.sig.reset ≡ Some k → root_of h (operand_of l s.action k) ≡ Some o → object_at K o ≡ Some y → is_heavy_class p y.class ≡ true → OwesOrHolds p K o y → IsWhole p y → IsLentFrom p K stack o y.owner
+  renewed_lent k o y position root at heavy owes whole = by (was (operand_of l s.action k) o y root (numbered h links (operand_of l s.action k) o root (operand_in_range h l in' s.action k)) at)
     where
       target : reset_in (callee p s.action) ≡ Some k
       target = ap reset_in (same_callee ∙ next.named_at) ∙ position
@@ -299,37 +294,59 @@ module _ (p : Program) (ac : Accept p) (forms' : HasPlainForms p) (plain : HasPl
       does = operand_renews p h fr.locals s.action o k target root
 
       by : IsCarried h o y → IsLentFrom p K stack o y.owner
-      by (x, before, class, goes) = (renewed, hand (renewed_answered p ac forms' h fr st old frs next.index s next.here row covered holds o x before heavy' (bore o x y before goes owes) does done'))
+      by (x, before, class, goes) = (renewed, hand (renewed_answered p ac forms' h fr st old frs next.index s next.here row covered holds have targets makes o x before heavy' (bore o x y before goes owes) does whole'))
         where
           heavy' : is_heavy_class p x.class ≡ true
           heavy' = ap (is_heavy_class p) (sym class) ∙ heavy
 
-          done' : x.finished ≡ true
-          done' = was_ready x y (λ none. started_unfinished o x y (λ never. never) before at none) done
+          whole' : IsWhole p x
+          whole' = elim whole [ inl done ↦ inl (was_ready x y (λ none. started_unfinished o x y (λ never. never) before at none) done) | inr fields ↦ inr (subst (HasOwningField p) class fields) ]
 
           same : y.owner ≡ x.owner
           same = elim (start_owner p l s.action (method_at p named) j h links o x y before at) [
             | inl same' ↦ same'
             | inr given ↦ absurd (true≢false (sym (moved_given p h l s.action (method_at p named) o x same_callee given.1)
-                ∙ renewed_not_given p ac forms' h fr st old frs next.index s next.here row covered holds o x before heavy' (bore o x y before goes owes) does done'))
+                ∙ renewed_not_given p ac forms' h fr st old frs next.index s next.here row covered holds have targets makes o x before heavy' (bore o x y before goes owes) does whole'))
           ]
 
           -- what the caller has in hand it has so
           hand : HasInHand p h (IsLentFrom p h frs) (length frs + 1) fr o x.owner → HasInHand p K (IsLentFrom p K frs) (length frs + 1) fr o y.owner
           hand (inl own) = inl (same ∙ own)
-          hand (inr (inl lent)) = inr (inl (others'.keeps o x y before at done' heavy' lent).1)
+          hand (inr (inl lent)) = inr (inl (others'.keeps o x y before at (whole', heavy') lent).1)
           hand (inr (inr (inl held))) = inr (inr (inl (subst (IsHeldBy p fr) (sym same) held)))
-          hand (inr (inr (inr held))) = inr (inr (inr (held_by_lent p h K frs fr others' ways x.owner y.owner same held)))
+          hand (inr (inr (inr (inl held)))) = inr (inr (inr (inl (held_by_lent p h K frs fr others' ways (λ n u v was' now open'. started_unfinished n u v (λ never. never) was' now open') x.owner y.owner same held))))
+          hand (inr (inr (inr (inr made)))) = inr (inr (inr (inr (made.0, same ∙ made.1))))
 
-  -- such an object is finished, where its class has owning fields
-  renewed_ready : (k o : ℕ) (y : Object) → next.method.sig.reset ≡ Some k → root_of h (operand_of l s.action k) ≡ Some o → object_at K o ≡ Some y → is_heavy_class p y.class ≡ true → OwesOrHolds p K o y → HasOwningField p y.class → y.finished ≡ true
-  renewed_ready k o y position root at heavy owes fields = by (was (operand_of l s.action k) o y root (numbered h links (operand_of l s.action k) o root (operand_in_range h l in' s.action k)) at)
+  -- a parameter of a constructor is not the object that it makes, where this is not finished
+  renewed_apart : (k o : ℕ) (y : Object) → next.method.sig.reset ≡ Some (k + 1) → root_of h (operand_of l s.action (k + 1)) ≡ Some o → object_at K o ≡ Some y → is_heavy_class p y.class ≡ true → OwesOrHolds p K o y → HasOwningField p y.class → y.finished ≡ false
+      → constructs (method_at p begun_frame.method) ≡ true → begun_frame.locals.this ≡ values.Object o → ⊥
+  renewed_apart k o y position root at heavy owes fields open' makes' this = go s.action refl
     where
-      by : IsCarried h o y → y.finished ≡ true
-      by (x, before, class, goes) =
-          let done = operand_ready p ac forms' h links fr frs stand stacked making targets next.index s next.here old row covered holds ready' o x before (ap (is_heavy_class p) (sym class) ∙ heavy) (bore o x y before goes owes)
-          (subst (HasOwningField p) class fields) k (ap reset_in (same_callee ∙ next.named_at) ∙ position) root in
-          (goes done).0.finished ∙ done
+      number : IsNumber h o
+      number = numbered h links (operand_of l s.action (k + 1)) o root (operand_in_range h l in' s.action (k + 1))
+
+      x : IsCarried h o y
+      x = was (operand_of l s.action (k + 1)) o y root number at
+
+      unmade : (b : Bool) → x.0.finished ≡ b → x.0.finished ≡ false
+      unmade false none = none
+      unmade true done = absurd (true≢false (sym ((x.3 done).0.finished ∙ done) ∙ open'))
+
+      its : is_constructor_kind run.kind ≡ true
+      its = sym (ap constructs (ap (method_at p) begun'.method ∙ begun'.named)) ∙ makes'
+
+      go : (b : Action) → s.action ≡ b → ⊥
+      go actions.Skip it = subst IsCallRow it row
+      go (actions.New m d n) it =
+          let same : next_number h ≡ o = (let both : values.Object (next_number h) ≡ values.Object o = ap (λ (b : Action). self_begun l b h) (sym it) ∙ sym begun'.this ∙ this in (let one : next_number h ≡ o = cc in one)) in
+          let under = number.1 in
+          omega (arith, same, under)
+      go (actions.Super m d n) it =
+          not_this p ac forms' h fr st old frs next.index s next.here row covered holds have targets makes o x.0 x.1 (ap (is_heavy_class p) (sym x.2) ∙ heavy) (bore o x.0 y x.1 x.3 owes) (ap (is_reset_of_this p) it) k
+          (ap reset_in (same_callee ∙ next.named_at) ∙ position) root (unmade x.0.finished refl) (subst (HasOwningField p) x.2 fields) (super_caller p ac forms' plain h fr st arrays named runs a next m d n it its) (sym (super_self p ac forms' plain h fr st arrays named runs a next targets m d n it) ∙ sym begun'.this ∙ this)
+      go (actions.Call m d n g) it =
+          true≢false (sym (ap (λ (z : MethodId). constructs (method_at p z)) (of_named p ac forms' plain h fr st arrays named runs a next m (ap called_method it)) ∙ named_makes p ac forms' plain h fr st arrays named runs a next its) ∙ subst (IsOfItsKind p) it kind)
+      go b it = subst IsCallRow it row
 
   -- ---- the places of the frame that begins
 
@@ -405,9 +422,12 @@ module _ (p : Program) (ac : Accept p) (forms' : HasPlainForms p) (plain : HasPl
         covers truth = entered_covers p K begun_frame begun'.stands begun'.starts begun_old stack (places.Var i) o y (origin_of p (kinds.Param i) var.0.pos c None) (parameter_mode run.sig (i + 1) like.0) like.0.before true birth.0 room birth.1 root (λ claimed said. truth claimed) lent'
             (λ held. absurd (true≢false (sym held ∙ parameter_unheld run.sig (i + 1) like.0)))
             (λ done held answers keeps' wide. absurd (true≢false (sym held ∙ parameter_unheld run.sig (i + 1) like.0)))
-            (λ mode done. renewed_lent (i + 1) o y (next.fit.reset (i + 1) (lent_parameter run.sig (i + 1) like.0 mode)) operand_root at heavy owes done)
+            (λ mode done. renewed_lent (i + 1) o y (next.fit.reset (i + 1) (lent_parameter run.sig (i + 1) like.0 mode)) operand_root at heavy owes (inl done))
             (λ constructor this. absurd (no_parameter i this))
-            (λ mode other fields. renewed_ready (i + 1) o y (next.fit.reset (i + 1) (lent_parameter run.sig (i + 1) like.0 mode)) operand_root at heavy owes fields)
+            (λ mode other fields open'. (
+              renewed_lent (i + 1) o y (next.fit.reset (i + 1) (lent_parameter run.sig (i + 1) like.0 mode)) operand_root at heavy owes (inr fields),
+              λ makes' this. renewed_apart i o y (next.fit.reset (i + 1) (lent_parameter run.sig (i + 1) like.0 mode)) operand_root at heavy owes fields open' makes' this,
+            ))
             (λ k same claimed. absurd (let never : places.Var i ≡ places.Field k = same in cc)) (λ k same heavy'. absurd (let never : places.Var i ≡ places.Field k = same in cc))
             (λ opens k same. absurd (let never : places.Var i ≡ places.Field k = same in cc))
           where
@@ -477,12 +497,6 @@ module _ (p : Program) (ac : Accept p) (forms' : HasPlainForms p) (plain : HasPl
   this_unfinished : (o : ℕ) (y : Object) → root_of K begun_frame.locals.this ≡ Some o → object_at K o ≡ Some y → is_heavy_class p y.class ≡ true → OwesOrHolds p K o y → is_constructor_kind run.kind ≡ true → y.finished ≡ false
   this_unfinished o y held at heavy owes makes = go s.action refl
     where
-      named_makes : constructs (method_at p named) ≡ true
-      named_makes = ap constructs next.named_at ∙ sym next.fit.makes ∙ makes
-
-      of_named : (m : MethodId) → called_method s.action ≡ Some m → m ≡ named
-      of_named m it = let both : Some m ≡ Some named = sym it ∙ calls' in (let one : m ≡ named = cc in one)
-
       of_new : (m : MethodId) (d n : ℕ) → s.action ≡ actions.New m d n → y.finished ≡ false
       of_new m d n it =
           let self_is : begun_frame.locals.this ≡ values.Object (next_number h) = begun'.this ∙ ap (λ (b : Action). self_begun l b h) it in
@@ -492,27 +506,21 @@ module _ (p : Program) (ac : Accept p) (forms' : HasPlainForms p) (plain : HasPl
 
       of_super : (m : MethodId) (d n : ℕ) → s.action ≡ actions.Super m d n → y.finished ≡ false
       of_super m d n it =
-          let found : FindsIt p targets.body (actions.Super m d n) (holds_this l) = subst (λ (b : Action). FindsIt p targets.body b (holds_this l)) it (finds p ac fr targets next.index s next.here) in
-          let few : IsSmallAction p (actions.Super m d n) = subst (IsSmallAction p) it small in
-          let self_is : self ≡ l.this = ap (λ (b : Action). self_begun l b h) it ∙ first_value l d n found.2 few.0 ∙ found.0 few.0 in
-          let root' : root_of h l.this ≡ Some o = root_before l.this o in'.this (ap (root_of K) (sym (begun'.this ∙ self_is)) ∙ held) in
+          let root' : root_of h l.this ≡ Some o = root_before l.this o in'.this (ap (root_of K) (sym (begun'.this ∙ super_self p ac forms' plain h fr st arrays named runs a next targets m d n it)) ∙ held) in
           by root' (was l.this o y root' (numbered h links l.this o root' in'.this) at)
         where
           by : root_of h l.this ≡ Some o → IsCarried h o y → y.finished ≡ false
           by root' (x, before, class, goes) =
               let cover = covered_at p h false false old frs fr places.This o x (covered places.This o x tt refl root' before (ap (is_heavy_class p) (sym class) ∙ heavy) (bore o x y before goes owes)) in
               let reach = subst (λ (b : BodyId). Reach p b (relation_of p b) cover.0.origin fr.control cover.0.fact) (same_body cover.0.body st.number (body_id p fr.method) cover.0.id st.id) cover.0.reached in
-              let caller_makes : constructs (method_at p fr.method) ≡ true =
-              ap constructs (sym (method_here p fr st))
-              ∙ forms'.super_calls st.number next.index (move_of s) st.control (step_there p fr st next.index s next.here) (ap (calls_constructor p) it ∙ ap (λ (z : MethodId). constructs (method_at p z)) (of_named m (ap called_method it)) ∙ named_makes) in
-              started_unfinished o x y (λ never. never) before at (cover.0.makes caller_makes (this_own p ac st.number st.body st.at cover.0.origin fr.control cover.0.fact reach cover.1))
+              started_unfinished o x y (λ never. never) before at (cover.0.makes (super_caller p ac forms' plain h fr st arrays named runs a next m d n it makes) (this_own p ac st.number st.body st.at cover.0.origin fr.control cover.0.fact reach cover.1))
 
       go : (b : Action) → s.action ≡ b → y.finished ≡ false
       go actions.Skip it = absurd (subst IsCallRow it row)
       go (actions.New m d n) it = of_new m d n it
       go (actions.Super m d n) it = of_super m d n it
       go (actions.Call m d n g) it =
-          absurd (true≢false (sym (ap (λ (z : MethodId). constructs (method_at p z)) (of_named m (ap called_method it)) ∙ named_makes) ∙ subst (IsOfItsKind p) it kind))
+          absurd (true≢false (sym (ap (λ (z : MethodId). constructs (method_at p z)) (of_named p ac forms' plain h fr st arrays named runs a next m (ap called_method it)) ∙ named_makes p ac forms' plain h fr st arrays named runs a next makes) ∙ subst (IsOfItsKind p) it kind))
       go b it = absurd (subst IsCallRow it row)
 
   first_root : is_constructor_kind run.kind ≡ false → (o : ℕ) → root_of K begun_frame.locals.this ≡ Some o → root_of h (operand_of l s.action 0) ≡ Some o
@@ -524,12 +532,12 @@ module _ (p : Program) (ac : Accept p) (forms' : HasPlainForms p) (plain : HasPl
     where
       go : (b : Bool) → is_constructor_kind run.kind ≡ b → IsLentFrom p K stack o y.owner
       go true makes = absurd (true≢false (sym done ∙ this_unfinished o y root at heavy owes makes))
-      go false other = renewed_lent 0 o y (next.fit.reset 0 (lent_this run.sig run.kind other mode)) (first_root other o root) at heavy owes done
+      go false other = renewed_lent 0 o y (next.fit.reset 0 (lent_this run.sig run.kind other mode)) (first_root other o root) at heavy owes (inl done)
 
-  -- and it is finished, where its class has owning fields
-  this_ready : (o : ℕ) (y : Object) → root_of K begun_frame.locals.this ≡ Some o → object_at K o ≡ Some y → is_heavy_class p y.class ≡ true → OwesOrHolds p K o y → this_mode run.sig run.kind ≡ modes.Lent
-      → constructs (method_at p begun_frame.method) ≡ false → HasOwningField p y.class → y.finished ≡ true
-  this_ready o y root at heavy owes mode none fields = renewed_ready 0 o y (next.fit.reset 0 (lent_this run.sig run.kind other mode)) (first_root other o root) at heavy owes fields
+  -- and so it is where its class has owning fields
+  open_lent : (o : ℕ) (y : Object) → root_of K begun_frame.locals.this ≡ Some o → object_at K o ≡ Some y → is_heavy_class p y.class ≡ true → OwesOrHolds p K o y → this_mode run.sig run.kind ≡ modes.Lent
+      → constructs (method_at p begun_frame.method) ≡ false → HasOwningField p y.class → IsLentFrom p K stack o y.owner
+  open_lent o y root at heavy owes mode none fields = renewed_lent 0 o y (next.fit.reset 0 (lent_this run.sig run.kind other mode)) (first_root other o root) at heavy owes (inr fields)
     where
       other : is_constructor_kind run.kind ≡ false
       other = sym (ap constructs (ap (method_at p) begun'.method ∙ begun'.named)) ∙ none
@@ -554,7 +562,9 @@ module _ (p : Program) (ac : Accept p) (forms' : HasPlainForms p) (plain : HasPl
       )) (λ held. within_self no_names)
       (λ done held answers keeps' wide. absurd (true≢false (sym (or_right (is_own (this_mode run.sig run.kind)) (is_held (this_mode run.sig run.kind)) held) ∙ this_unowned run.sig run.kind)))
       (this_lent o y root at heavy owes) (λ constructor this. this_unfinished o y root at heavy owes (sym (ap constructs (ap (method_at p) begun'.method ∙ begun'.named)) ∙ constructor))
-      (λ mode other fields. this_ready o y root at heavy owes mode (constructor_or_not (constructs (method_at p begun_frame.method)) other) fields)
+      (λ mode other fields open'. (
+      let none = constructor_or_not (constructs (method_at p begun_frame.method)) other in
+      (open_lent o y root at heavy owes mode none fields, λ makes' this. true≢false (sym makes' ∙ none))))
       (λ k same claimed. absurd (let never : places.This ≡ places.Field k = same in cc)) (λ k same heavy'. absurd (let never : places.This ≡ places.Field k = same in cc))
       (λ opens k same. absurd (let never : places.This ≡ places.Field k = same in cc)))
       (not_owning g (fact_at places.This (this_mode run.sig run.kind) no_names true) (this_unowned run.sig run.kind))
@@ -581,28 +591,14 @@ module _ (p : Program) (ac : Accept p) (forms' : HasPlainForms p) (plain : HasPl
     held_root = root_before (field_value p h w f) o (field_in_range p h ranges (values.Object w) f) (ap (root_of K) (sym (start_keeps p l s.action (method_at p named) j h links w f (ap is_owning_field field.at ∙ field.owning)))
         ∙ ap (λ (u : Value). root_of K (field_of p K u f)) (sym holder.1) ∙ root)
 
-    -- the object of a `new` has nothing in its fields, and a super constructor runs in no class with owning fields
+    -- what a constructor that begins runs on holds nothing
     instance : run.kind ≡ methods.Ctor → ⊥
-    instance new = go s.action refl
-      where
-        self_is : self ≡ values.Object w
-        self_is = sym begun'.this ∙ holder.1
-
-        go : (b : Action) → s.action ≡ b → ⊥
-        go actions.Skip it = subst IsCallRow it row
-        go (actions.New m d c) it =
-            let number : next_number h ≡ w = (let both : values.Object (next_number h) ≡ values.Object w = ap (λ (b : Action). self_begun l b h) (sym it) ∙ self_is in (let one : next_number h ≡ w = cc in one)) in
-            no_number h (field_value p h w f) o (ap (λ (k : ℕ). number_of (field_value p h k f)) (sym number) ∙ new_holds_nothing p h f ranges) held_root
-        go (actions.Super m d c) it =
-            let itself : runs ≡ named = next.selected ∙ ap (λ (b : Action). running p h l b named) (sym next.same ∙ it) in
-            let m_is : m ≡ named = (let both : Some m ≡ Some named = ap called_method (sym it) ∙ calls' in (let one : m ≡ named = cc in one)) in
-            true≢false (sym (ap (is_class_of field.field.class) (sym (ap (λ (z : MethodId). method_at p z) itself) ∙ next.running_at) ∙ ap (is_class field.field.class) (sym field.class) ∙ eq-eqb field.field.class.0 field.field.class.0 refl)
-            ∙ forms'.parents st.number next.index (move_of s) named f field.field st.control (step_there p fr st next.index s next.here)
-            (ap (calls_constructor p) it ∙ (subst (IsPlainAction p) it form).1) calls' field.at field.owning)
-        go (actions.Call m d c g) it =
-            true≢false (sym (ap is_constructor_kind new) ∙ next.fit.makes ∙ sym (ap constructs next.named_at)
-            ∙ ap (λ (z : MethodId). constructs (method_at p z)) (let both : Some named ≡ Some m = sym calls' ∙ ap called_method it in (let one : named ≡ m = cc in one)) ∙ subst (IsOfItsKind p) it kind)
-        go b it = subst IsCallRow it row
+    instance new =
+        let its : method_at p begun_frame.method ≡ Some run = ap (method_at p) begun'.method ∙ begun'.named in
+        holds_nothing p ac forms' h links have ranges fr frs st arrays named runs a next j begun_frame its begun'.this (ap constructs its ∙ ap is_constructor_kind new) f
+        (ap (is_declared_beside p begun_frame.method) field.at ∙ and_from field.field.owning (is_class_of field.field.class (method_at p begun_frame.method)) field.owning
+        (ap (is_class_of field.field.class) its ∙ ap (is_class field.field.class) (sym field.class) ∙ eq-eqb field.field.class.0 field.field.class.0 refl))
+        w f o holder.1 held_root
 
     is_instance : run.kind ≡ methods.Instance
     is_instance = elim (kind_by p ac forms' plain h fr st arrays named runs a next w (sym begun'.this ∙ holder.1)) [ inl one ↦ one | inr new ↦ absurd (instance new) ]
@@ -640,12 +636,12 @@ module _ (p : Program) (ac : Accept p) (forms' : HasPlainForms p) (plain : HasPl
             owes' = bore o held_before.0 y held_before.1 held_before.3 owes
 
             owned : (held_before.0).owner ≡ owners.Field w f
-            owned = owned_at_start p ac forms' h links owned' linked' fr frs stand stacked making targets in' old covered holds ready' arrays named runs a next begun_frame begun'.stands runs_it opens n f field c type heavy' typed
-                w first o held_before.0 held_root held_before.1 wide contents have owes'
+            owned = owned_at_start p ac forms' h links owned' linked' fr frs stand makes targets in' old covered holds have arrays named runs a next begun_frame begun'.stands runs_it opens n f field c type heavy' typed
+                w first o held_before.0 held_root held_before.1 wide contents makers owes'
 
             truth : IsTrueOf p held_before.0 (field_origin p f field.field.pos c) (field_fact p f)
-            truth = true_at_start p ac forms' h links owned' linked' fr frs stand stacked making targets in' old covered holds ready' arrays named runs a next begun_frame begun'.stands runs_it opens n f field c type heavy' typed
-                w first o held_before.0 held_root held_before.1 wide contents have owes' field.field.pos
+            truth = true_at_start p ac forms' h links owned' linked' fr frs stand makes targets in' old covered holds have arrays named runs a next begun_frame begun'.stands runs_it opens n f field c type heavy' typed
+                w first o held_before.0 held_root held_before.1 wide contents makers owes' field.field.pos
 
     of_no_class : is_class_type field.field.vtype ≡ false → ⊥
     of_no_class none =
@@ -767,7 +763,7 @@ module _ (p : Program) (ac : Accept p) (forms' : HasPlainForms p) (plain : HasPl
     all_wait p h K links roots (start_carries p l s.action (method_at p named) j h links) go_on begun_old (fr ∷ frs) (all_keep p h K (start_keeps p l s.action (method_at p named) j h links) (fr ∷ frs))
         (all_there p h ranges (fr ∷ frs) all) (frames_ready p h K started_unfinished (fr ∷ frs)) (all_keep_gifts p h K roots (fr ∷ frs) all)
         (caller_keeps, owners_kept p None stack (length frs + 1) h K ways goes frs (omega arith) gifts tt (λ w none. none.1))
-        (old, stays_old, is, caller_waits p ac forms' h have fr st old frs is news unready next.index s next.here row covered holds, waits),
+        (old, stays_old, is, caller_waits p ac forms' h have fr st old frs is news unready next.index s next.here row covered holds targets makes, waits),
     subst (OwnersBelow K) position (start_below p l s.action (method_at p named) j h links (λ o x at. ap (λ (n : ℕ). is_frame_from n x.owner) (let number : j + 1 ≡ length frs + 1 + 1 + 1 = omega (arith, position) in number)
         ∙ below_further h (length frs + 1) low o x at)),
   )
@@ -782,5 +778,6 @@ module _ (p : Program) (ac : Accept p) (forms' : HasPlainForms p) (plain : HasPl
     before = start_held_before (fr ∷ frs) all;
     linked = started_linked;
     owns = started_owns owned';
+    makers = makers_then p ac forms' h links have ranges fr frs st arrays named runs a next j begun_frame (ap (method_at p) begun'.method ∙ begun'.named) begun'.this goes holders makers;
     covered = start_covered all waits;
   }

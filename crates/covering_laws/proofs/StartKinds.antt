@@ -1,5 +1,5 @@
--- What runs as a call begins: on an object it is an instance method or a constructor; and where it is no constructor, the object is the call's first operand.
-use Rattle.std.proofs.Common.{◌≡◌, ◌⊎◌, inl, inr, ℕ, ◌+◌, ◌≤◌, true, false, Some, List, ◌∷◌, ◌++◌, refl, sym, ap, ◌∙◌, subst, true≢false}
+-- What runs as a call begins: on an object it is an instance method or a constructor; where it is no constructor, the object is the call's first operand, and where it is one of a super class, the caller's `this`.
+use Rattle.std.proofs.Common.{◌≡◌, ◌⊎◌, inl, inr, ℕ, true, false, Some, List, refl, sym, ap, ◌∙◌, subst, true≢false}
 use Rattle.program_model.specs.declared.kinds.MethodId.{MethodId}
 use Rattle.program_model.specs.declared.kinds.MethodKind.TheVariants as methods
 use Rattle.program_model.specs.declared.program.Method.{Method}
@@ -27,9 +27,16 @@ use Rattle.value_laws.specs.Naming.{IsOfItsKind}
 use Rattle.value_laws.proofs.NamedReached.{names_what_is_there}
 use Rattle.value_laws.specs.Outcomes.{IsCallRow}
 use Rattle.value_laws.specs.Agreement.{Stands}
-use Rattle.value_laws.specs.PlainForms.{HasPlainForms, IsPlainAction}
+use Rattle.value_laws.specs.PlainForms.{HasPlainForms, IsPlainAction, calls_constructor}
 use Rattle.value_laws.specs.Nexts.{IsStartMove}
-use Rattle.value_laws.proofs.Ready.{plain_step, step_there}
+use Rattle.value_laws.specs.Frames.{KeepsTargets, holds_this}
+use Rattle.value_laws.specs.StepTargets.{FindsIt}
+use Rattle.value_laws.proofs.Ready.{plain_step, ready, step_there}
+use Rattle.value_laws.proofs.TargetBegun.{finds}
+use Rattle.value_laws.proofs.Unmet.{way_of_call}
+use Rattle.ownership_rules.specs.SmallActions.{IsSmallAction}
+use Rattle.covering_laws.proofs.Following.{method_here}
+use Rattle.covering_laws.proofs.ThisOperands.{first_value}
 use Rattle.covering_laws.specs.Running.{HasPlainRuns, is_on_object}
 use Rattle.covering_laws.proofs.Bodies.{body_is_of_program}
 use Rattle.covering_laws.proofs.EntryBirths.{constructor_kind}
@@ -56,6 +63,9 @@ module _ (p : Program) (ac : Accept p) (forms' : HasPlainForms p) (plain : HasPl
 
   form : IsPlainAction p s.action
   form = plain_step p ac forms' fr st next.index s next.here
+
+  small : IsSmallAction p s.action
+  small = (ready p ac forms' fr st next.index s next.here (way_of_call s row)).small
 
   kind : IsOfItsKind p s.action
   kind = (names_what_is_there p ac.well_formed.valid.typed st.number st.body fr.control next.index (move_of s) st.at st.control (step_there p fr st next.index s next.here)).1
@@ -94,3 +104,21 @@ module _ (p : Program) (ac : Accept p) (forms' : HasPlainForms p) (plain : HasPl
       operand actions.Skip it = refl
       operand (actions.New m d n) it = absurd (true≢false (sym (of_call m d n it) ∙ other))
       operand b it = refl
+
+  -- a constructor that begins
+  pub named_makes : is_constructor_kind run.kind ≡ true → constructs (method_at p named) ≡ true
+  named_makes makes' = ap constructs next.named_at ∙ sym next.fit.makes ∙ makes'
+
+  pub of_named : (m : MethodId) → called_method s.action ≡ Some m → m ≡ named
+  of_named m it = let both : Some m ≡ Some named = sym it ∙ calls' in (let one : m ≡ named = cc in one)
+
+  -- one of a super class runs on the caller's `this`, and a constructor calls it
+  pub super_self : KeepsTargets p fr → (m : MethodId) (d n : ℕ) → s.action ≡ actions.Super m d n → self ≡ l.this
+  super_self targets m d n it =
+      let found : FindsIt p targets.body (actions.Super m d n) (holds_this l) = subst (λ (b : Action). FindsIt p targets.body b (holds_this l)) it (finds p ac fr targets next.index s next.here) in
+      let few : IsSmallAction p (actions.Super m d n) = subst (IsSmallAction p) it small in
+      ap (λ (b : Action). self_begun l b h) it ∙ first_value l d n found.2 few.0 ∙ found.0 few.0
+
+  pub super_caller : (m : MethodId) (d n : ℕ) → s.action ≡ actions.Super m d n → is_constructor_kind run.kind ≡ true → constructs (method_at p fr.method) ≡ true
+  super_caller m d n it makes' = ap constructs (sym (method_here p fr st))
+      ∙ forms'.super_calls st.number next.index (move_of s) st.control (step_there p fr st next.index s next.here) (ap (calls_constructor p) it ∙ ap (λ (z : MethodId). constructs (method_at p z)) (of_named m (ap called_method it)) ∙ named_makes makes')

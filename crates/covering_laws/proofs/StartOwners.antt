@@ -18,7 +18,7 @@ use Rattle.value_laws.specs.Heaps.{HasEarlierLinks, IsGiven}
 use Rattle.value_laws.proofs.Begun.{begun_from}
 use Rattle.value_laws.proofs.HeapLaws.{appended_object_at-object, moved_arguments_are_older-older, numbers_are_in_range}
 use Rattle.value_laws.specs.PlaceFacts.{OwnersBelow, is_frame_from, may_owe}
-use Rattle.covering_laws.proofs.Owners.{OwnersGo, StaysApart, WaysGo, passed, stays}
+use Rattle.covering_laws.proofs.Owners.{OwnersGo, StaysApart, WaysGo, passed, stays, whole_still}
 use Rattle.value_laws.specs.Renewing.{IsHeldByLent, IsLentFrom}
 use Rattle.value_laws.specs.Configuration.{Frame}
 use Rattle.covering_laws.proofs.OwnerSteps.{KeepsLibrary, below_next, movable_owes, never_moved, own_frame, still_below}
@@ -80,10 +80,12 @@ pub below_further : (h : HeapContents) (i : ℕ) → OwnersBelow h i → OwnersB
 below_further h i below n x at = still_below (i + 1) x.owner (below n x at)
 
 -- what a field of `this` owns, which is lent to a frame, is so after a step that keeps its owner
-pub held_by_lent : (p : Program) (h k : HeapContents) (frs : List Frame) (fr : Frame) {into : Option ℕ} {below : List Frame} {j : ℕ} → StaysApart p h k frs fr → WaysGo p into below j h k → (a b : Owner) → b ≡ a
+pub held_by_lent : (p : Program) (h k : HeapContents) (frs : List Frame) (fr : Frame) {into : Option ℕ} {below : List Frame} {j : ℕ} → StaysApart p h k frs fr → WaysGo p into below j h k
+    → ((o : ℕ) (x y : Object) → object_at h o ≡ Some x → object_at k o ≡ Some y → x.finished ≡ false → y.finished ≡ false) → (a b : Owner) → b ≡ a
     → IsHeldByLent p h (IsLentFrom p h frs) fr a → IsHeldByLent p k (IsLentFrom p k frs) fr b
-held_by_lent p h k frs fr others ways a b same held =
+held_by_lent p h k frs fr others ways unfinished a b same held =
     let y = ways.objects held.holder held.object held.at in
+    let was : y.0.finished ≡ true → held.object.finished ≡ true = λ done. made held.object.finished refl (λ open'. true≢false (sym done ∙ unfinished held.holder held.object y.0 held.at y.1 open')) in
     record {
       holder = held.holder;
       field = held.field;
@@ -92,8 +94,12 @@ held_by_lent p h k frs fr others ways a b same held =
       method = held.method;
       object = y.0;
       at = y.1;
-      finished = (y.3 held.finished).0;
-      unlinked = (y.3 held.finished).1 ∙ held.unlinked;
+      whole = whole_still p held.object y.0 y.2 (λ done. (y.3 done).0) held.whole;
+      unlinked = λ done. (y.3 (was done)).1 ∙ held.unlinked (was done);
       heavy = ap (is_heavy_class p) y.2 ∙ held.heavy;
-      lends = (others.keeps held.holder held.object y.0 held.at y.1 held.finished held.heavy held.lends).1;
+      lends = (others.keeps held.holder held.object y.0 held.at y.1 (held.whole, held.heavy) held.lends).1;
     }
+  where
+    made : (b : Bool) → held.object.finished ≡ b → (held.object.finished ≡ false → ⊥) → held.object.finished ≡ true
+    made true is never = is
+    made false is never = absurd (never is)

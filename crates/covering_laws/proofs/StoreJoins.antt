@@ -27,7 +27,7 @@ use Rattle.value_laws.specs.Heaps.{HasEarlierLinks}
 use Rattle.value_laws.specs.Holders.{HoldersAreUnlinked}
 use Rattle.value_laws.specs.Agreement.{Stands, AllStand, IsCalledFrom}
 use Rattle.value_laws.specs.PlainForms.{HasPlainForms}
-use Rattle.value_laws.specs.FieldContents.{FieldsHold, FieldsOwn, IsFieldOfClass}
+use Rattle.value_laws.specs.FieldContents.{FieldsHold, FieldsOwn, IsFieldOfClass, MakersOwn}
 use Rattle.value_laws.specs.PlaceFacts.{owned, AreCovered, MakesNoAlias}
 use Rattle.value_laws.specs.Ranges.{FieldsInRange, LocalsInRange}
 use Rattle.covering_laws.proofs.LocalSteps.{LocalsIn}
@@ -50,12 +50,12 @@ use Rattle.covering_laws.proofs.ConstructorStores.{new_joined}
 use Rattle.covering_laws.proofs.MethodStores.{reset_joined}
 use Rattle.covering_laws.proofs.StoreMoves.{IsJoined}
 use Rattle.covering_laws.proofs.UnlinkedThis.{this_object, unlinked_this}
-use Rattle.covering_laws.specs.Sight.{ActsInSight}
+use Rattle.covering_laws.specs.Sight.{ActsInSight, AllActInSight}
 use Rattle.program_model.specs.SuperTests.{is_under}
 
 module _ (p : Program) (ac : Accept p) (forms : HasPlainForms p) (h : HeapContents) (links : HasEarlierLinks h) (ranges : FieldsInRange h) (fr : Frame) (frs : List Frame) (st : Stands p fr) (standing : AllStand p frs) (stacked : IsCalledFrom p h fr frs)
-    (targets : HaveTargets p (fr ∷ frs)) (hold : FieldsHold p (fr ∷ frs) h) (have : HaveEnds h) (unlinked : HoldersAreUnlinked (is_heavy_class p) h) (in' : LocalsIn h (fr ∷ frs)) (owned : FieldsOwn p h) (linked : LinkedAreAliases p h) (sight : ActsInSight p h fr)
-    (texts : TextsAreLight p h) (types : KeepsTypes (is_text p h) p fr) (covered : AreCovered p h (fr ∷ frs)) (i : ℕ) (s : Step) (here : slice_get (frame_steps p fr) i ≡ Some s) (f : FieldId) (d : ℕ) (is : s.action ≡ actions.PutOwn f d) (made : Value) where
+    (targets : HaveTargets p (fr ∷ frs)) (hold : FieldsHold p (fr ∷ frs) h) (have : HaveEnds h) (unlinked : HoldersAreUnlinked (is_heavy_class p) h) (in' : LocalsIn h (fr ∷ frs)) (owned : FieldsOwn p h) (makers : MakersOwn p h (fr ∷ frs)) (linked : LinkedAreAliases p h) (sight : ActsInSight p h fr)
+    (sights : AllActInSight p h frs) (texts : TextsAreLight p h) (types : KeepsTypes (is_text p h) p fr) (covered : AreCovered p h (fr ∷ frs)) (i : ℕ) (s : Step) (here : slice_get (frame_steps p fr) i ≡ Some s) (f : FieldId) (d : ℕ) (is : s.action ≡ actions.PutOwn f d) (made : Value) where
   -- the frame runs on an object
   on_this : (w : ℕ) × (fr.locals.this ≡ values.Object w)
   on_this = this_object p ac fr st sight.on (storing p ac forms h covered.0 frs fr st covered.2 i d s f here is)
@@ -95,10 +95,10 @@ module _ (p : Program) (ac : Accept p) (forms : HasPlainForms p) (h : HeapConten
   after = frame_after p h fr s made
 
   by_constructor : (self.0).finished ≡ false → constructs (method_at p fr.method) ≡ true → IsJoined p h store_heap after frs
-  by_constructor done makes = new_joined p ac forms h links ranges fr frs st hold i s here f d is made w this self.0 self.1 done makes class have unlinked in' covered owned
+  by_constructor done makes = new_joined p ac forms h links ranges fr frs st hold i s here f d is made w this self.0 self.1 done makes class have unlinked in' covered owned makers
 
   by_method : IsReopened p h frs fr w self.0 → IsJoined p h store_heap after frs
-  by_method opened = reset_joined p ac forms h links ranges fr frs st standing stacked targets.1 hold i s here f d is made w this self.0 self.1 opened class have unlinked in' owned texts types covered.0 covered.1 covered.2 covered.3 covered.4
+  by_method opened = reset_joined p ac forms h links ranges fr frs st standing stacked targets.1 hold i s here f d is made w this self.0 self.1 opened class have unlinked in' owned texts types covered.0 covered.1 covered.2 covered.3 covered.4 sights makers
 
   pub joined : IsJoined p h store_heap after frs
   joined = elim kind [ inl new ↦ by_constructor new.0 new.1 | inr opened ↦ by_method opened ]

@@ -1,10 +1,13 @@
 -- The top frame stores into an owning field of the object that it runs on: what moves into the field, as far as a constructor and a method that creates the obligation of `this` anew are alike. What is
 -- left is the reset of the object, where it is finished.
+use Rattle.program_model.specs.declared.kinds.MethodId.{MethodId}
+use Rattle.value_laws.specs.Ranges.{FieldsInRange}
+use Rattle.value_laws.specs.Renewing.{IsMadeBy, is_declared_beside, makes_alone}
 use Rattle.covering_laws.proofs.BeingMade.{StayOfClass}
-use Rattle.value_laws.specs.FieldContents.{FieldsOwn}
+use Rattle.value_laws.specs.FieldContents.{FieldsOwn, MakerOwns, MakersOwn}
 use Rattle.std.specs.Prelude.{◌&&◌, is_some, not}
 use Rattle.std.specs.FinSet as set
-use Rattle.std.proofs.Common.{◌≡◌, ◌⊎◌, inl, inr, ℕ, zero, suc, ◌+◌, ◌<◌, Bool, true, false, Option, Some, None, List, ◌∷◌, length, slice_get, eq-eqb, eqb-true, refl, sym, ap, ◌∙◌, subst, true≢false, arith}
+use Rattle.std.proofs.Common.{◌≡◌, ◌⊎◌, inl, inr, ℕ, zero, suc, ◌+◌, ◌<◌, Bool, true, false, Option, Some, None, List, ◌∷◌, length, slice_get, eq-eqb, eqb-true, refl, sym, ap, ◌∙◌, subst, true≢false, arith, nat_eq, []}
 use Rattle.std.proofs.lemmas.Bool.{and_from, and_parts}
 use Rattle.program_model.specs.declared.kinds.ClassId.{ClassId}
 use Rattle.program_model.specs.declared.kinds.FieldId.{FieldId}
@@ -24,7 +27,7 @@ use Rattle.value_laws.specs.Paths.{move_of}
 use Rattle.value_laws.specs.Accept.{Accept}
 use Rattle.ledger_state.specs.Contents.{HeapContents}
 use Rattle.ledger_state.specs.Fields.{field_value}
-use Rattle.ledger_state.specs.Heaps.{object_at, root_of, same_root, unfinished, put_field}
+use Rattle.ledger_state.specs.Heaps.{object_at, root_of, same_root, unfinished, put_field, root}
 use Rattle.ledger_state.specs.Locals.{temp_value, variable_value}
 use Rattle.ledger_state.specs.declared.entry.Owner.{Owner}
 use Rattle.ledger_state.specs.declared.entry.Owner.TheVariants as owners
@@ -58,23 +61,41 @@ use Rattle.value_laws.specs.PlaceFacts.{Covers, IsCovered, IsKeyed, gives_none, 
 use Rattle.covering_laws.proofs.HeavyFields.{heavy_by_fit, unclaimed_not_owning}
 use Rattle.covering_laws.proofs.KeptArguments.{argument_alone, this_alone}
 use Rattle.covering_laws.proofs.Storing.{small, none_lent, held_here}
-use Rattle.covering_laws.proofs.Owners.{StaysApart, from_frame}
+use Rattle.covering_laws.proofs.Owners.{StaysApart, from_frame, HoldersWere}
 use Rattle.covering_laws.proofs.OwnerSteps.{movable}
 use Rattle.covering_laws.proofs.StoreOwners.{store_keeps_library}
 use Rattle.covering_laws.proofs.StoreSteps.{ArgumentIsLent, FieldTakes, FieldsStay, OwnerStays, store_covered, temp_fits}
 use Rattle.covering_laws.proofs.Bodies.{argument_is_lent}
-use Rattle.covering_laws.proofs.Waiting.{Carries, KeepsRoots, KeepsUnfinished, all_ready, linked_roots, no_other, HoldsThere, AllHeldBefore}
+use Rattle.covering_laws.proofs.Waiting.{Carries, KeepsRoots, KeepsUnfinished, all_ready, linked_roots, no_other, HoldsThere, AllHeldBefore, bore_before, value_root}
 use Rattle.ownership_rules.specs.Facts.{has, is_own}
 use Rattle.covering_laws.proofs.LinkedExceptions.{LinkedWere}
 use Rattle.value_laws.proofs.StoreResets.{moves_on}
-use Rattle.covering_laws.proofs.FieldOwners.{KeepsOwning}
+use Rattle.covering_laws.proofs.FieldOwners.{KeepsOwning, held_in_range}
 use Rattle.rlc_base.proofs.SetLaws.{within_trans}
+
+-- where a frame makes the object, that is so
+abbrev pub ArePlain : Program → ℕ → Type 0 → List Frame → Type 0
+ArePlain p w A [] = Unit {0}
+ArePlain p w A (x ∷ xs) = (IsMadeBy p x w → A) × ArePlain p w A xs
+
+-- what the frame makes it goes on making
+pub makes_on : (p : Program) (k : HeapContents) (fr after : Frame) (frs : List Frame) → after.method ≡ fr.method → after.locals.this ≡ fr.locals.this → MakersOwn p k (fr ∷ frs) → MakersOwn p k (after ∷ frs)
+makes_on p k fr after frs method this own = (
+  (λ u g o z maker. own.0 u g o z (record {
+    alone = ap (λ (m : MethodId). makes_alone (method_at p m)) (sym method) ∙ maker.alone;
+    field = maker.field;
+    declared = ap (λ (m : MethodId). is_declared_beside p m (field_at p maker.field)) (sym method) ∙ maker.declared;
+    runs = sym this ∙ maker.runs;
+  })),
+  own.1,
+)
 
 -- what is so of the heap of a store: what the frames hold stays covered, and so on
 pub record IsJoined (p : Program) (h k : HeapContents) (after : Frame) (frs : List Frame) : Type 0 where
   pub covered' : AreCovered p k (after ∷ frs)
   pub held : AllHeldBefore p h k frs
   pub owns : FieldsOwn p k
+  pub makers : MakersOwn p k (after ∷ frs)
   pub were : LinkedWere h k
   pub classes : StayOfClass h k
   pub nobody : UnfinishedAreUnowned k
@@ -230,6 +251,31 @@ module _ (p : Program) (ac : Accept p) (forms : HasPlainForms p) (h : HeapConten
       let one : self ≡ x = one_object self x (object_at h w) there (ap (object_at h) same ∙ at) in
       true≢false (sym (movable p (obligations.type_of_field (field_at p f)) x moved'.may).0 ∙ ap (λ (z : Object). z.finished) (sym one) ∙ unfinished')
 
+  pub field_takes : FieldTakes p h moved (length frs + 1) fr st w f d
+  field_takes o x y before at heavy root done fit plain own = moved_takes p h w f v o x y root before may (subst (λ (b : Bool). object_at (moved_in p h w f b v) o ≡ Some y) untied at)
+    where
+      same_alias : (m : Option Method) → is_some (ledger_calls.alias_position m) ≡ is_present (alias_in m)
+      same_alias None = refl
+      same_alias (Some m) = go m.sig.alias
+        where
+          go : (a : Option ℕ) → is_some a ≡ is_present a
+          go None = refl
+          go (Some k) = refl
+
+      nothing : (a b b' c : Bool) → b ≡ b' → (a && b') ≡ false → (a && b && c) ≡ false
+      nothing true true b' c same none = absurd (true≢false (same ∙ none))
+      nothing true false b' c same none = refl
+      nothing false b b' c same none = refl
+
+      untied : bound ≡ false
+      untied = nothing (constructs (method_at p fr.method)) (is_some (ledger_calls.alias_position (method_at p fr.method))) (is_present (alias_in (method_at p fr.method)))
+          (same_root (root_of h v) (root_of_number h (ledger_calls.alias_target (parameter fr.locals) (method_at p fr.method)))) (same_alias (method_at p fr.method))
+          (ap (λ (m : Option Method). constructs m && is_present (alias_in m)) (sym body_method) ∙ plain)
+
+      may : may_move p (obligations.type_of_field (field_at p f)) x ≡ true
+      may = and_from (x.finished && not (is_library_owner x.owner)) (set.is_subset (must_of p x.class) (must_of_type p (obligations.type_of_field (field_at p f))))
+          (and_from x.finished (not (is_library_owner x.owner)) done (ap (λ (a : Owner). not (is_library_owner a)) own)) (type_moves x.class fit)
+
   module _ (old : ℕ → Bool) (covered : IsCovered p h gives_none renews_none old frs fr) where
     -- where something moves, this is no constructor with an aliased argument, or one with that of a parameter
     alias_form : (o : ℕ) (x : Object) → object_at h o ≡ Some x → is_heavy_class p x.class ≡ true → OwesOrHolds p h o x → IsMovedIn p h f v o x
@@ -319,8 +365,8 @@ module _ (p : Program) (ac : Accept p) (forms : HasPlainForms p) (h : HeapConten
         none false = refl
 
     -- another field goes on owning what it owned
-    pub keeps_owning : (u : ℕ) (g : FieldId) → ((u ≡ w) × (g ≡ f) → ⊥) → KeepsOwning p h moved u g
-    keeps_owning u g apart o x y z before at heavy own there' done = by (was o x y before at)
+    keeps_any : (u : ℕ) (g : FieldId) → ((u ≡ w) × (g ≡ f) → ⊥) → (o : ℕ) (x y : Object) → object_at h o ≡ Some x → object_at moved o ≡ Some y → is_heavy_class p x.class ≡ true → x.owner ≡ owners.Field u g → y.owner ≡ owners.Field u g
+    keeps_any u g apart o x y before at heavy own = by (was o x y before at)
       where
         one_field : owners.Field u g ≡ owners.Field w f → ⊥
         one_field both = apart (let holder : u ≡ w = cc in holder, let same : g ≡ f = cc in same)
@@ -332,6 +378,74 @@ module _ (p : Program) (ac : Accept p) (forms : HasPlainForms p) (h : HeapConten
           | inl frame ↦ absurd (let never : owners.Field u g ≡ owners.Frame (length frs + 1) = sym own ∙ frame in cc)
           | inr field ↦ absurd (one_field (sym own ∙ field))
         ]
+
+    pub keeps_owning : (u : ℕ) (g : FieldId) → ((u ≡ w) × (g ≡ f) → ⊥) → KeepsOwning p h moved u g
+    keeps_owning u g apart o x y z before at heavy own there' done = keeps_any u g apart o x y before at heavy own
+
+    -- what the field holds it owns, but for a constructor with an aliased argument
+    module _ (inside : HoldsThere p h fr) (holders : HoldersWere p h moved) where
+      -- an object in a field was there, and bore what it bears
+      module _ (o : ℕ) (z : Object) (at : object_at moved o ≡ Some z) (wide : is_heavy_class p z.class ≡ true) (owes : OwesOrHolds p moved o z) where
+        pub b : (x : Object) × (object_at h o ≡ Some x) × IsStored p h w f v o x z
+        b = back o z at
+
+        on : GoesOn b.0 z
+        on = stored_goes_on p h w f v o b.0 z b.2
+
+        wide' : is_heavy_class p (b.0).class ≡ true
+        wide' = ap (is_heavy_class p) (sym on.class) ∙ wide
+
+        owes' : OwesOrHolds p h o b.0
+        owes' = bore_before p h moved holders o b.0 z b.1 (λ done. (on, store_keeps_library p h moved w f v back o b.0 z b.1 at done)) owes
+
+        pub value_owned : is_alias_constructor p st.number ≡ false → is_heavy_in p (Some f) ≡ true → root_of moved (field_value p moved w f) ≡ Some o → z.owner ≡ owners.Field w f
+        value_owned plain heavy found = elim (value_is plain heavy o b.0 root_before b.1 wide' owes') [
+          | inl own ↦ field_takes o b.0 z b.1 at wide' root_before own.1 own.2 plain own.0
+          | inr field ↦ by field b.2
+        ]
+          where
+            root_before : root_of h v ≡ Some o
+            root_before = sym (value_root h moved roots v (inside (places.Temp d) room)) ∙ ap (root_of moved) (sym holds_here') ∙ found
+
+            by : (b.0).owner ≡ owners.Field w f → IsStored p h w f v o b.0 z → z.owner ≡ owners.Field w f
+            by field (inl same) = ap (λ (m : Object). m.owner) same ∙ field
+            by field (inr (inl gone)) = absurd (gone.0.other root_before)
+            by field (inr (inr into)) = ap (λ (m : Object). m.owner) into.1
+
+        -- another field goes on owning it
+        module _ (u : ℕ) (g : FieldId) (apart : (u ≡ w) × (g ≡ f) → ⊥) (ranges : FieldsInRange h) (own : root_of h (field_value p h u g) ≡ Some o → (b.0).owner ≡ owners.Field u g) where
+          by_value : (t : Value) → field_value p h u g ≡ t → root_of moved t ≡ Some o → z.owner ≡ owners.Field u g
+          by_value (values.Object n) value found =
+              let number = (held_in_range p h u g n ranges value).1 in
+              let same : root h n ≡ o = sym (roots n number) ∙ (let both : Some (root moved n) ≡ Some o = found in (let one : root moved n ≡ o = cc in one)) in
+              keeps_any u g apart o b.0 z b.1 at wide' (own (ap (root_of h) value ∙ ap Some same))
+          by_value values.Nothing value found = absurd (let never : None ≡ Some o = found in cc)
+          by_value t value found = absurd (let never : None ≡ Some o = found in cc)
+
+          pub other_owned : root_of moved (field_value p moved u g) ≡ Some o → z.owner ≡ owners.Field u g
+          other_owned found = by_value (field_value p h u g) refl (ap (root_of moved) (sym (holds_other' u g apart)) ∙ found)
+
+      -- so it is with the fields of what frames make
+      maker_owns : FieldsInRange h → (x : Frame) → (IsMadeBy p x w → is_alias_constructor p st.number ≡ false) → MakerOwns p h x → MakerOwns p moved x
+      maker_owns ranges x plain owned' u g o z maker owning' heavy found at wide owes = go (nat_eq u w) refl (nat_eq g.0 f.0) refl
+        where
+          other : ((u ≡ w) × (g ≡ f) → ⊥) → z.owner ≡ owners.Field u g
+          other apart = other_owned o z at wide owes u g apart ranges
+              (λ root'. owned' u g o (b o z at wide owes).0 maker owning' heavy root' (b o z at wide owes).1 (wide' o z at wide owes) (owes' o z at wide owes)) found
+
+          here' : u ≡ w → g ≡ f → z.owner ≡ owners.Field u g
+          here' one same =
+              value_owned o z at wide owes (plain (subst (IsMadeBy p x) one maker)) (ap (is_heavy_in p) (ap Some (sym same)) ∙ heavy)
+              (ap (root_of moved) (ap (field_value p moved w) (sym same) ∙ ap (λ (m : ℕ). field_value p moved m g) (sym one)) ∙ found) ∙ ap (λ (m : ℕ). owners.Field m f) (sym one) ∙ ap (owners.Field u) (sym same)
+
+          go : (a : Bool) → nat_eq u w ≡ a → (c : Bool) → nat_eq g.0 f.0 ≡ c → z.owner ≡ owners.Field u g
+          go true one true same = here' (eqb-true u w one) (ap (λ (m : ℕ). (let t : FieldId = record { 0 = m } in t)) (eqb-true g.0 f.0 same))
+          go true one false off = other (λ is'. true≢false (sym (eq-eqb g.0 f.0 (ap (λ (t : FieldId). t.0) is'.1)) ∙ off))
+          go false off c same = other (λ is'. true≢false (sym (eq-eqb u w is'.0) ∙ off))
+
+      pub makers_own : FieldsInRange h → (gs : List Frame) → ArePlain p w (is_alias_constructor p st.number ≡ false) gs → MakersOwn p h gs → MakersOwn p moved gs
+      makers_own ranges [] plain owned' = tt
+      makers_own ranges (x ∷ xs) plain owned' = (maker_owns ranges x plain.0 owned'.0, makers_own ranges xs plain.1 owned'.1)
 
     pub fields_stay : FieldsStay p h moved fr w f d
     fields_stay = record {
@@ -361,31 +475,6 @@ module _ (p : Program) (ac : Accept p) (forms : HasPlainForms p) (h : HeapConten
           | inl none ↦ inr (into.0.root, none, heavy_field o x heavy into.0)
           | inr alias ↦ elim (stays_bound o x y before at heavy owes into.0 alias.0 alias.1 alias.2) [ inl same ↦ inl (ap (λ (z : Object). z.owner) same ∙ own) | inr field ↦ absurd (no_field field) ]
         ]
-
-  pub field_takes : FieldTakes p h moved (length frs + 1) fr st w f d
-  field_takes o x y before at heavy root done fit plain own = moved_takes p h w f v o x y root before may (subst (λ (b : Bool). object_at (moved_in p h w f b v) o ≡ Some y) untied at)
-    where
-      same_alias : (m : Option Method) → is_some (ledger_calls.alias_position m) ≡ is_present (alias_in m)
-      same_alias None = refl
-      same_alias (Some m) = go m.sig.alias
-        where
-          go : (a : Option ℕ) → is_some a ≡ is_present a
-          go None = refl
-          go (Some k) = refl
-
-      nothing : (a b b' c : Bool) → b ≡ b' → (a && b') ≡ false → (a && b && c) ≡ false
-      nothing true true b' c same none = absurd (true≢false (same ∙ none))
-      nothing true false b' c same none = refl
-      nothing false b b' c same none = refl
-
-      untied : bound ≡ false
-      untied = nothing (constructs (method_at p fr.method)) (is_some (ledger_calls.alias_position (method_at p fr.method))) (is_present (alias_in (method_at p fr.method)))
-          (same_root (root_of h v) (root_of_number h (ledger_calls.alias_target (parameter fr.locals) (method_at p fr.method)))) (same_alias (method_at p fr.method))
-          (ap (λ (m : Option Method). constructs m && is_present (alias_in m)) (sym body_method) ∙ plain)
-
-      may : may_move p (obligations.type_of_field (field_at p f)) x ≡ true
-      may = and_from (x.finished && not (is_library_owner x.owner)) (set.is_subset (must_of p x.class) (must_of_type p (obligations.type_of_field (field_at p f))))
-          (and_from x.finished (not (is_library_owner x.owner)) done (ap (λ (a : Owner). not (is_library_owner a)) own)) (type_moves x.class fit)
 
   -- ---- the top frame
 

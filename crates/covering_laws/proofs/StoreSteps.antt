@@ -47,7 +47,7 @@ use Rattle.value_laws.specs.Agreement.{Stands}
 use Rattle.value_laws.specs.PlainForms.{HasPlainForms}
 use Rattle.value_laws.specs.FactGoing.{ArePlaces, IsLeft, IsTaken, StoresAs, left, taken}
 use Rattle.value_laws.specs.FieldContents.{RunOnOthers}
-use Rattle.value_laws.specs.PlaceFacts.{Covers, HasOwningField, IsApart, IsCovered, IsInField, IsKeyed, IsOld, IsOwned, IsTrueOf, IsUnowned, asked_of, claims, fits_field, fits_in, gives_none, is_frame_from, is_heavy_field, is_heavy_in, is_idle, is_lent, is_lent_place, is_owning_fact, OwesOrHolds, owned, tells_calls, unowned, renews_none}
+use Rattle.value_laws.specs.PlaceFacts.{Covers, IsApart, IsCovered, IsInField, IsKeyed, IsOld, IsOwned, IsTrueOf, IsUnowned, asked_of, claims, fits_field, fits_in, gives_none, is_frame_from, is_heavy_field, is_heavy_in, is_idle, is_lent, is_lent_place, is_owning_fact, OwesOrHolds, owned, tells_calls, unowned, renews_none}
 use Rattle.value_laws.proofs.FieldPlaces.{place_of_beside}
 use Rattle.value_laws.proofs.ValuesAfter.{IsFrom, value_is_from}
 use Rattle.covering_laws.proofs.HeavyFields.{HasPlace, alone_answers, answers_by, claims_answered, claims_as, claims_owned, heavy_here, held_claims, held_mode, held_tells, known_on, lent_not_alone, lent_tells, own_claims, owning_in_no_field, tells_apart, tells_by, unclaimed_not_owning}
@@ -56,9 +56,9 @@ use Rattle.covering_laws.proofs.Storing.{Goes, answers_here, goes, held_here, ke
 use Rattle.covering_laws.proofs.Owners.{StaysApart, apart_before, from_frame}
 use Rattle.covering_laws.proofs.InFields.{declared_by_place, gone_without, held_in_field, in_field_on, in_this, kept_without, one_field, out_of_this, owned_at, owning_out_of_this, owning_place, place_by_number}
 use Rattle.covering_laws.proofs.TopSteps.{other_alone}
-use Rattle.covering_laws.proofs.Waiting.{AllKeep, Carries, Continues, HoldsThere, IsCarried, KeepsReady, KeepsRoots, numbered, bore_before, still_true, value_root, stays_unowned, still_unfinished}
+use Rattle.covering_laws.proofs.Waiting.{AllKeep, Carries, Continues, HoldsThere, IsCarried, KeepsReady, KeepsRoots, numbered, bore_before, still_true, value_root, stays_unowned, still_unfinished, was_open}
 use Rattle.program_model.specs.Lookups.{method_at}
-use Rattle.value_laws.specs.Renewing.{answers_for_fields, lends_this, makes_alone}
+use Rattle.value_laws.specs.Renewing.{HasOwningField, answers_for_fields, lends_this, makes_alone}
 
 not_and : (a b : Bool) → b ≡ false → (a && b) ≡ false
 not_and true b is = is
@@ -321,7 +321,7 @@ module _ (p : Program) (ac : Accept p) (forms : HasPlainForms p) (h k : HeapCont
         lent = λ lent. (not_and (is_heavy_class p c.origin.class) (is_own g.mode) (ap is_own t.mode), (λ held. taken_aliased t.may lent));
         lends = λ lent done'. absurd (let never : modes.Held ≡ modes.Lent = sym t.mode ∙ lent in cc);
         makes = λ constructor this. still_unfinished x y done (c.makes constructor this);
-        complete = λ lent other fields. absurd (let never : modes.Held ≡ modes.Lent = sym t.mode ∙ lent in cc);
+        begun = λ lent. absurd (let never : modes.Held ≡ modes.Lent = sym t.mode ∙ lent in cc);
         unrenewed = λ done' tells was. refl;
         free = λ done' held answers kept heavy. (let is = taken_free t.may answers in (is.0, is.2));
         known = λ finished' tells apart stays. taken_known t.may finished' tells apart;
@@ -407,9 +407,12 @@ module _ (p : Program) (ac : Accept p) (forms : HasPlainForms p) (h k : HeapCont
         places = λ said'' u less kept one. holds_later u less (sym (same (number_of u)) ∙ one);
         true' = λ claimed mine' kept. truth g called full (claims_as p (method_at p fr.method) c.origin c.fact g (l.mode (claims_owned p (method_at p fr.method) c.origin g claimed).1) claimed);
         lent = λ lent. (stays_unowned p c.origin c.fact g l.mode (c.lent lent).0, (λ held. (c.lent lent).1 (held_before held)));
-        lends = λ lent done'. (refl, (others.keeps o x y before at (done done') broad (c.lends (l.lent lent) (done done')).1).1);
+        lends = λ lent done'. (refl, (others.keeps o x y before at (inl (done done'), broad) (c.lends (l.lent lent) (done done')).1).1);
         makes = λ constructor this. still_unfinished x y done (c.makes constructor this);
-        complete = λ lent other fields. (let was = c.complete (l.lent lent) other (subst (HasOwningField p) class fields) in (goes_on was).0.finished ∙ was);
+        begun = λ lent other fields open'.
+            let declares = subst (HasOwningField p) class fields in
+            let was = c.begun (l.lent lent) other declares (was_open x y goes_on open') in
+            (refl, (others.keeps o x y before at (inr declares, broad) was.1).1, was.2);
         unrenewed = λ done' tells was. refl;
         free = λ done' held' answers kept heavy. (refl, left_field (held_mode g.mode held') (held_in_field p h false false old frs fr o x c (done done') (held_before held') answers keeps' heavy) heavy);
         known = λ finished' tells apart stays. names g called finished' (λ was_done. c.known was_done (told tells) (apart_then o x y c.fact g before at was_done broad apart) refl);

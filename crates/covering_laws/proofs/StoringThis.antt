@@ -28,19 +28,19 @@ use Rattle.value_laws.specs.FieldContents.{AreUnfinished, FieldsOwn}
 use Rattle.value_laws.specs.Frames.{KeepsTargets}
 use Rattle.value_laws.specs.Heaps.{HasEarlierLinks}
 use Rattle.value_laws.specs.Paths.{move_of}
-use Rattle.value_laws.specs.PlaceFacts.{Covers, HasOwningField, IsCovered, IsHeavyObject, MakesNoAlias, MayStore, OwesOrHolds, gives_none, renews_none}
+use Rattle.value_laws.specs.PlaceFacts.{Covers, IsCovered, MakesNoAlias, MayStore, OwesOrHolds, gives_none, renews_none}
 use Rattle.value_laws.specs.PlainForms.{HasPlainForms, StoresFields}
 use Rattle.value_laws.specs.Ranges.{LocalsInRange}
-use Rattle.value_laws.specs.Renewing.{IsLentFrom, is_of_heavy_class, makes_alone, reopens}
+use Rattle.value_laws.specs.Renewing.{HasOwningField, IsLentFrom, IsWholeObject, is_of_heavy_class, makes_alone, reopens}
 use Rattle.value_laws.proofs.HeapLaws.{roots_of_links-itself}
 use Rattle.covering_laws.proofs.Bodies.{running_method}
 use Rattle.covering_laws.proofs.Following.{method_here, step_there}
-use Rattle.covering_laws.proofs.LentHolders.{this_covers}
+use Rattle.covering_laws.proofs.ThisLent.{lent_this}
 
 -- the frame's method creates the obligation of this object anew, which is its `this`
 pub record IsReopened (p : Program) (h : HeapContents) (frs : List Frame) (fr : Frame) (w : ℕ) (self : Object) : Type 0 where
   pub opens : reopens (method_at p fr.method) ≡ true
-  pub heavy : IsHeavyObject p self
+  pub heavy : IsWholeObject p self
   pub single : self.link ≡ None
   pub stores : MayStore p self.class
   pub lent : IsLentFrom p h frs w self.owner
@@ -93,7 +93,7 @@ module _ (p : Program) (ac : Accept p) (forms : HasPlainForms p) (h : HeapConten
   has_field = (f, its_field.field, its_field.known, its_field.owning, sym its_class)
 
   reopened : reopens (method_of p st.number) ≡ true → is_of_heavy_class p (method_of p st.number) ≡ true → IsReopened p h frs fr w self
-  reopened opens' wide' = record { opens = opens; heavy = (done, wide); single = (unlinked opens).0; stores = stores; lent = (c.0.lends c.1 done).1 }
+  reopened opens' wide' = record { opens = opens; heavy = (inr has_field, wide); single = (unlinked opens).0; stores = stores; lent = lent }
     where
       opens : reopens (method_at p fr.method) ≡ true
       opens = ap reopens (sym (method_here p fr st)) ∙ opens'
@@ -111,12 +111,9 @@ module _ (p : Program) (ac : Accept p) (forms : HasPlainForms p) (h : HeapConten
       stores : MayStore p self.class
       stores = (ap (is_library p) (its_class ∙ its_field.class) ∙ run.2, has_field, (unlinked opens).1)
 
-      c : (c : Covers p h (gives_none w self.class) (renews_none w self.owner) old frs fr w self) × (c.fact.mode ≡ modes.Lent)
-      c = this_covers p ac forms h links own fr mine st old frs targets (or_right (makes_alone (method_at p fr.method)) (reopens (method_at p fr.method)) opens) gives_none renews_none covered w self
-          (ap (root_of h) this ∙ ap Some (roots_of_links-itself h w self at (unlinked opens).0)) at wide (inr (inr stores))
-
-      done : self.finished ≡ true
-      done = c.0.complete c.1 (ap (λ (b : Bool). b && is_this_origin c.0.origin.kind) plain) has_field
+      lent : IsLentFrom p h frs w self.owner
+      lent = lent_this p ac h fr st old frs (or_right (makes_alone (method_at p fr.method)) (reopens (method_at p fr.method)) opens) gives_none renews_none covered plain w self
+          (ap (root_of h) this ∙ ap Some (roots_of_links-itself h w self at (unlinked opens).0)) at wide (inr (inr stores)) (inr has_field)
 
   pub storing_this : ((self.finished ≡ false) × (constructs (method_at p fr.method) ≡ true)) ⊎ IsReopened p h frs fr w self
   storing_this = elim form.0 [

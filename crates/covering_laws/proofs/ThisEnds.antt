@@ -35,7 +35,7 @@ use Rattle.value_laws.proofs.SparingCalls.{lent_ends_below}
 use Rattle.value_laws.proofs.WaysUp.{one_top, top_is_last}
 use Rattle.covering_laws.proofs.Following.{same_body}
 use Rattle.covering_laws.proofs.HeavyFields.{covered_at, reopening_answers}
-use Rattle.covering_laws.proofs.LentHolders.{this_covers}
+use Rattle.covering_laws.proofs.ThisLent.{this_covers}
 
 module _ (p : Program) (ac : Accept p) (forms : HasPlainForms p) (h : HeapContents) (have : HaveEnds h) (links : HasEarlierLinks h) (owned : FieldsOwn p h) (fr : Frame) (mine : LocalsInRange h fr.locals) (st : Stands p fr) (old : ℕ → Bool) (frs : List Frame)
     (targets : KeepsTargets p fr) (unfinished : AreUnfinished p h frs) (aged : IsOld p h frs fr old) (gives : ℕ → ClassId → Bool) (renewed : ℕ → Owner → Bool) (covered : IsCovered p h gives renewed old frs fr) where
@@ -82,7 +82,7 @@ module _ (p : Program) (ac : Accept p) (forms : HasPlainForms p) (h : HeapConten
 
       by_lent : reopens (method_at p fr.method) ≡ true → IsFree
       by_lent opens =
-          let c = this_covers p ac forms h links owned fr mine st old frs targets (reopening_answers (method_at p fr.method) opens) gives renewed covered w y self there wide.1 owes in
+          let c = this_covers p ac h fr st old frs (reopening_answers (method_at p fr.method) opens) gives renewed covered w y self there wide.1 owes in
           by_ends (lent_ends_below p h have frs unfinished w y there (c.0.lends c.1 wide.0).1)
 
       by_cases : (a b c : Bool) → constructs (method_at p fr.method) ≡ a → reopens (method_at p fr.method) ≡ b → is_settled p fr frs ≡ c → (a || (b || c)) ≡ true → IsFree

@@ -44,13 +44,13 @@ use Rattle.value_laws.specs.HeapAnew.{is_field_owner}
 use Rattle.value_laws.specs.Agreement.{Stands}
 use Rattle.value_laws.specs.Outcomes.{After}
 use Rattle.value_laws.specs.FactGoing.{GoesAs, is_owned_in}
-use Rattle.value_laws.specs.PlaceFacts.{Covers, HasOwningField, IsApart, IsCovered, IsKeyed, IsOld, IsOwned, IsTrueOf, IsUnowned, asked_of, claims, gives_none, is_field_place, is_frame_from, is_idle, is_lent, is_lent_place, is_owning_fact, is_settled, OwesOrHolds, owned, tells_calls, unowned}
+use Rattle.value_laws.specs.PlaceFacts.{Covers, IsApart, IsCovered, IsKeyed, IsOld, IsOwned, IsTrueOf, IsUnowned, asked_of, claims, gives_none, is_field_place, is_frame_from, is_idle, is_lent, is_lent_place, is_owning_fact, is_settled, OwesOrHolds, owned, tells_calls, unowned}
 use Rattle.covering_laws.proofs.HeavyFields.{claims_as, claims_by, claims_owned, held_mode, held_tells, known_on, lent_not_alone, lent_tells, tells_apart, tells_by, unclaimed_not_owning}
 use Rattle.value_laws.proofs.FieldResets.{reset_empties_fields, reset_leaves_this}
 use Rattle.covering_laws.proofs.InFields.{held_in_field, held_kept, held_unowned, in_field_on, in_this}
 use Rattle.covering_laws.proofs.OwnerSteps.{own_frame}
 use Rattle.value_laws.proofs.OtherPlaces.{stays_aside, left_aside}
-use Rattle.value_laws.specs.Renewing.{answers_for_fields, fact_as, is_of_heavy_class, lends_this, reopens}
+use Rattle.value_laws.specs.Renewing.{HasOwningField, answers_for_fields, fact_as, is_of_heavy_class, lends_this, reopens}
 use Rattle.value_laws.proofs.ValuesAfter.{IsFrom, value_is_from}
 use Rattle.covering_laws.proofs.Following.{followed, same_body, step_there}
 use Rattle.covering_laws.proofs.Owners.{KeepsHeld, StaysApart, apart_before}
@@ -58,7 +58,7 @@ use Rattle.covering_laws.proofs.RenewedFacts.{true_alike}
 use Rattle.covering_laws.proofs.SaidFacts.{lends_by_step}
 use Rattle.covering_laws.proofs.ThisFacts.{field_is_part, lent_in_body, lent_not_held, local_is_no_field, reset_source}
 use Rattle.value_laws.proofs.Needs.{origin_needs_all}
-use Rattle.covering_laws.proofs.Waiting.{heavy_stays, kept_root, Carries, Continues, HoldsThere, IsCarried, KeepsFieldsButTexts, KeepsReady, KeepsRootsOf, idle_as, numbered, own_not_held, bore_before, kept_place, still_true, stays_unowned, still_unfinished}
+use Rattle.covering_laws.proofs.Waiting.{heavy_stays, kept_root, Carries, Continues, HoldsThere, IsCarried, KeepsFieldsButTexts, KeepsReady, KeepsRootsOf, idle_as, numbered, own_not_held, bore_before, kept_place, still_true, stays_unowned, still_unfinished, was_open}
 use Rattle.rlc_base.proofs.SetLaws.{within_self, within_trans, within_union_right}
 use Rattle.program_model.specs.Lookups.{method_at}
 use Rattle.java_control.specs.declared.fact.Outcome.{Outcome}
@@ -385,9 +385,12 @@ module _ (p : Program) (ac : Accept p) (h k : HeapContents) (links : HasEarlierL
                   ∙ (stays_aside q small out p st.number s.edge c.fact.places s.action r.small r.sets r.moves r.makes (λ resets. absurd (not_held_anew resets held answers)) ∙ is))
                   (λ q small out is. left_aside q small out p st.number s.edge c.fact.places s.action r.small r.sets r.moves r.makes (sym (on.places (number_of q)) ∙ is)) was,
             );
-        lends = λ lent done. (refl, (others.keeps o x y before at (ready done) wide (c.lends (on.lent lent) (ready done)).1).1);
+        lends = λ lent done. (refl, (others.keeps o x y before at (inl (ready done), wide) (c.lends (on.lent lent) (ready done)).1).1);
         makes = λ constructor this. still_unfinished x y ready (c.makes constructor this);
-        complete = λ lent other fields. (let was = c.complete (on.lent lent) other (subst (HasOwningField p) class fields) in (goes was).0.finished ∙ was);
+        begun = λ lent other fields open'.
+            let declares = subst (HasOwningField p) class fields in
+            let was = c.begun (on.lent lent) other declares (was_open x y goes open') in
+            (refl, (others.keeps o x y before at (inr declares, wide) was.1).1, was.2);
         unrenewed = λ done tells apart. c.unrenewed (ready done) (tells_before tells).0 (was_apart (ready done) apart);
         known = λ done tells apart stays.
             let was_done = ready done in

@@ -32,10 +32,10 @@ use Rattle.java_control.specs.Owned.{fields_in}
 use Rattle.value_laws.specs.Heaps.{GoesOn, HasEarlierLinks, KeepsLinks}
 use Rattle.value_laws.proofs.HeapLaws.{numbers_are_in_range, roots_go_on-number, roots_of_links-absent, roots_of_links-itself, roots_of_links-there}
 use Rattle.ledger_obligations.specs.Obligations.{is_library_owner}
-use Rattle.value_laws.specs.PlaceFacts.{AreWaiting, Covers, HasOwningField, IsCovered, IsInField, IsKeyed, IsOld, IsOwned, IsTrueOf, IsUnowned, MayStore, OwesOrHolds, asked_of, is_given, is_idle, is_lent_place, is_owning_fact, is_settled, leaves_all, may_owe, owned, run_on_one, unowned}
+use Rattle.value_laws.specs.PlaceFacts.{AreWaiting, Covers, IsCovered, IsInField, IsKeyed, IsOld, IsOwned, IsTrueOf, IsUnowned, MayStore, OwesOrHolds, asked_of, is_given, is_idle, is_lent_place, is_owning_fact, is_settled, leaves_all, may_owe, owned, run_on_one, unowned}
 use Rattle.covering_laws.proofs.HeavyFields.{claims_owned, known_on, owning_in_no_field}
 use Rattle.covering_laws.proofs.InFields.{held_in_field, held_kept}
-use Rattle.value_laws.specs.Renewing.{fact_as, is_of_heavy_class, lends_this, reopens, is_reread}
+use Rattle.value_laws.specs.Renewing.{HasOwningField, fact_as, is_of_heavy_class, is_reread, lends_this, reopens}
 use Rattle.value_laws.specs.Ranges.{IsInRange, IsNumber}
 use Rattle.covering_laws.specs.Making.{HoldNone}
 use Rattle.covering_laws.specs.TextUpdates.{HoldsOrTakesText, IsLight}
@@ -142,6 +142,14 @@ still_unfinished x y was none = go y.finished refl
     go : (b : Bool) → y.finished ≡ b → y.finished ≡ false
     go false is = is
     go true is = absurd (true≢false (sym (was is) ∙ none))
+
+-- what is not finished was not
+pub was_open : (x y : Object) → (x.finished ≡ true → Continues x y) → y.finished ≡ false → x.finished ≡ false
+was_open x y goes open' = go x.finished refl
+  where
+    go : (b : Bool) → x.finished ≡ b → x.finished ≡ false
+    go false is = is
+    go true is = absurd (true≢false (sym is ∙ sym (goes is).0.finished ∙ open'))
 
 -- what is true of an object stays so as it goes on
 pub still_true : (p : Program) (x y : Object) (o : Origin) (f : Fact) → GoesOn x y → IsTrueOf p x o f → IsTrueOf p y o f
@@ -365,9 +373,12 @@ module _ (p : Program) (h k : HeapContents) (gives : ℕ → ClassId → Bool) (
             held_kept p h away anew old frs fr o x c (done finished) held answers mine claims,
             subst (IsInField p fr c.fact.places) (sym (keeps.held o x y before at (done finished) heavy answers mine was.0)) was,
           );
-      lends = λ is finished. (let was = c.lends is (done finished) in (was.0, (keeps.others.keeps o x y before at (done finished) heavy was.1).1));
+      lends = λ is finished. (let was = c.lends is (done finished) in (was.0, (keeps.others.keeps o x y before at (inl (done finished), heavy) was.1).1));
       makes = λ constructor this. still_unfinished x y done (c.makes constructor this);
-      complete = λ lent other fields. (let was = c.complete lent other (subst (HasOwningField p) class fields) in (goes was).0.finished ∙ was);
+      begun = λ lent other fields open'.
+          let declares = subst (HasOwningField p) class fields in
+          let was = c.begun lent other declares (was_open x y goes open') in
+          (was.0, (keeps.others.keeps o x y before at (inr declares, heavy) was.1).1, was.2);
       unrenewed = λ finished tells is. c.unrenewed (done finished) tells (apart_before p h k old frs fr fr o x y c.fact c.fact keeps.others aged before at (done finished) heavy is.3 is);
       known = λ finished tells is stays.
           let was_done = done finished in

@@ -1,7 +1,7 @@
 -- A frame waits for a call that creates the obligation of an object anew, or stands at one: which facts have the object, and that the frame tracks it if it owns it.
 use Rattle.covering_laws.proofs.OwnerSteps.{own_frame}
 use Rattle.covering_laws.proofs.Owners.{lent_not_from}
-use Rattle.covering_laws.proofs.RenewedOperands.{HoldsLent, IsHeldOrLent, claims_or_lends}
+use Rattle.covering_laws.proofs.RenewedOperands.{HoldsLent, IsHeldOrLent, claims_or_lends, lent_hand}
 use Rattle.std.proofs.Common.{Bool, List, None, Option, Some, ap, arith, eqb-true, false, inl, inr, length, refl, slice_get, subst, sym, true, true≢false, ℕ, ◌&&◌, ◌+◌, ◌<◌, ◌||◌, ◌∙◌, ◌≡◌, ◌⊎◌}
 use Rattle.std.specs.FinSet as set
 use Rattle.std.proofs.lemmas.Bool.{and_from, and_parts}
@@ -43,7 +43,7 @@ use Rattle.value_laws.specs.PlaceFacts.{Covers, IsCovered, IsKeyed, IsOwned, cla
 use Rattle.value_laws.specs.PlacePlaces.{HasPlacesAlone, is_local}
 use Rattle.value_laws.specs.Places.{place_value}
 use Rattle.value_laws.specs.PlainForms.{HasPlainForms}
-use Rattle.value_laws.specs.Renewing.{IsLentFrom, fact_as, is_renewed, is_reread, lends_this, answers_for_fields, renews}
+use Rattle.value_laws.specs.Renewing.{IsLentFrom, IsWhole, fact_as, is_renewed, is_reread, lends_this, answers_for_fields, renews}
 use Rattle.value_laws.specs.Steps.{RootsStay}
 use Rattle.value_laws.proofs.Carried.{local_value}
 use Rattle.value_laws.proofs.CallWays.{one_action}
@@ -51,6 +51,10 @@ use Rattle.value_laws.proofs.FactOrigins.{this_own}
 use Rattle.value_laws.proofs.FrameFollowing.{breaks_nothing}
 use Rattle.value_laws.proofs.Going.{somewhere}
 use Rattle.value_laws.proofs.Needs.{origin_needs_all}
+use Rattle.ledger_steps.specs.LedgerCallsCalls.{operand_of}
+use Rattle.value_laws.specs.Chains.{HaveEnds}
+use Rattle.value_laws.specs.Frames.{KeepsTargets}
+use Rattle.covering_laws.specs.Sight.{MakesThis}
 use Rattle.value_laws.proofs.Readings.{mode_as, places_as, renewed_operand}
 use Rattle.value_laws.proofs.Ready.{step_here, step_there}
 use Rattle.value_laws.proofs.ResetTargets.{answered_targets}
@@ -213,7 +217,7 @@ pub record OwnsTarget (p : Program) (h : HeapContents) (old : ℕ → Bool) (frs
 
 module _ (p : Program) (ac : Accept p) (forms : HasPlainForms p) (h : HeapContents) (fr : Frame) (old : ℕ → Bool) (frs : List Frame) (st : Stands p fr)
     (i : ℕ) (s : Step) (here : slice_get (frame_steps p fr) i ≡ Some s) (row : IsCallRow s.action) (covered : IsCovered p h (is_given p h fr) (is_reread p h fr) old frs fr) (holds : HoldsLent p h old frs fr st)
-    (o : ℕ) (x : Object) (at : object_at h o ≡ Some x) (heavy : is_heavy_class p x.class ≡ true) (owes : OwesOrHolds p h o x) (done : x.finished ≡ true) (renewed : is_renewed p h fr o ≡ true) where
+    (have : HaveEnds h) (targets : KeepsTargets p fr) (making : MakesThis p h fr) (o : ℕ) (x : Object) (at : object_at h o ≡ Some x) (heavy : is_heavy_class p x.class ≡ true) (owes : OwesOrHolds p h o x) (whole : IsWhole p x) (renewed : is_renewed p h fr o ≡ true) where
   abbrev away : Bool
   away = is_given p h fr o x.class
 
@@ -248,17 +252,26 @@ module _ (p : Program) (ac : Accept p) (forms : HasPlainForms p) (h : HeapConten
   pub owned_or_lent : OwnsTarget p h old frs fr o x ⊎ IsHeldOrLent p h frs fr o x.owner
   owned_or_lent = by (covered (places.Temp temp.0) o x temp.1 refl temp.2 at heavy owes)
     where
-      lent : (c : Covers p h away anew old frs fr o x) → c.fact.mode ≡ modes.Lent → IsLentFrom p h frs o x.owner
-      lent c mode = (c.lends mode done).1
+      position : (k : ℕ) × (reset_in (callee p s.action) ≡ Some k) × (root_of h (operand_of fr.locals s.action k) ≡ Some o)
+      position = renewed_operand p h fr.locals s.action o (renewed_at_step p h fr st i s o here row renewed)
+
+      lent : (c : Covers p h away anew old frs fr o x) → has c.fact.places (places.Temp temp.0) ≡ true → c.fact.mode ≡ modes.Lent → IsHeldOrLent p h frs fr o x.owner
+      lent c in' mode =
+          let is = answer p ac forms h fr old frs st i s here row away anew o x c (temp.3 c.fact.places in') in
+          elim (lent_hand p ac h have fr st targets making old frs i s here away anew o x at c mode position.0 position.2
+          (subst (λ (n : ℕ). MayBeAnew p st.number c.origin s.action n c.fact) (let both : Some is.0 ≡ Some position.0 = sym is.1 ∙ position.1 in (let one : is.0 ≡ position.0 = cc in one)) is.2) whole) [
+            | inl lends ↦ inl lends
+            | inr made ↦ inr (inr (inr made))
+          ]
 
       by : IsKeyed p h away anew old frs fr (places.Temp temp.0) o x → OwnsTarget p h old frs fr o x ⊎ IsHeldOrLent p h frs fr o x.owner
       by (owned c in' key) = elim (claims_by p (method_at p fr.method) c.origin c.fact key.owning) [
         | inl own ↦ inl (owns_target c in' key own)
-        | inr held ↦ inr (holds o x at heavy owes done renewed away anew c held.0 held.1 (claims_owned p (method_at p fr.method) c.origin c.fact key.owning).0)
+        | inr held ↦ inr (holds o x at heavy owes whole renewed away anew c held.0 held.1 (claims_owned p (method_at p fr.method) c.origin c.fact key.owning).0)
       ]
       by (unowned u) = elim (target_mode p ac forms h fr old frs st i s here row away anew o x u.covers (temp.3 u.covers.fact.places u.here)) [
         | inl claimed ↦ absurd (true≢false (sym claimed ∙ u.unowned))
-        | inr lends ↦ inr (inl (lent u.covers lends))
+        | inr lends ↦ inr (lent u.covers u.here lends)
       ]
 
   -- where the frame owns it
@@ -269,7 +282,10 @@ module _ (p : Program) (ac : Accept p) (forms : HasPlainForms p) (h : HeapConten
       | inl lent ↦ true≢false (sym (own_frame (length frs + 1) x.owner mine) ∙ lent_not_from p h frs o x.owner lent)
       | inr field ↦ elim field [
         | inl held ↦ (let never : owners.Field held.1.holder held.1.field ≡ owners.Frame (length frs + 1) = sym held.1.owns ∙ mine in cc)
-        | inr held ↦ (let never : owners.Field held.holder held.field ≡ owners.Frame (length frs + 1) = sym held.owns ∙ mine in cc)
+        | inr more ↦ elim more [
+          | inl held ↦ (let never : owners.Field held.holder held.field ≡ owners.Frame (length frs + 1) = sym held.owns ∙ mine in cc)
+          | inr made ↦ (let never : ◌≡◌ {A = Owner} owners.Unowned (owners.Frame (length frs + 1)) = sym made.1 ∙ mine in cc)
+        ]
       ]
     ])
   ]

@@ -1,5 +1,5 @@
--- The `this` of a method that creates its obligation anew, where an owning field of it, whose type has an obligation, holds an object whose class has one: it is there and finished, and lent to the frame.
-use Rattle.std.proofs.Common.{◌≡◌, ◌⊎◌, inl, inr, ℕ, ◌<◌, Bool, true, false, not, ◌&&◌, true≢false, Some, None, List, refl, sym, ap, ◌∙◌}
+-- The `this` of a method that creates its obligation anew, where an owning field of it, whose type has an obligation, holds an object whose class has one: it is there, linked to none, and lent to the frame.
+use Rattle.std.proofs.Common.{◌∷◌, ◌≡◌, ◌⊎◌, inl, inr, ℕ, ◌<◌, Bool, true, false, not, ◌&&◌, true≢false, Some, None, List, refl, sym, ap, ◌∙◌}
 use Rattle.program_model.specs.declared.kinds.ClassId.{ClassId}
 use Rattle.program_model.specs.declared.kinds.FieldId.{FieldId}
 use Rattle.program_model.specs.declared.kinds.VType.{VType}
@@ -14,7 +14,6 @@ use Rattle.std.specs.FinSet as set
 use Rattle.ledger_obligations.specs.MustCallSets.{is_heavy_class, must_of, must_of_type}
 use Rattle.ledger_obligations.specs.Obligations.{is_library_owner}
 use Rattle.java_control.specs.Owned.{is_owning_field}
-use Rattle.ownership_rules.specs.Facts.{is_this_origin}
 use Rattle.value_laws.specs.Accept.{Accept}
 use Rattle.ledger_state.specs.Contents.{HeapContents}
 use Rattle.ledger_state.specs.Fields.{field_value}
@@ -25,30 +24,28 @@ use Rattle.ledger_state.specs.declared.entry.Owner.TheVariants as owners
 use Rattle.ledger_state.specs.declared.object.Object.{Object}
 use Rattle.ledger_state.specs.declared.value.Value.TheVariants as values
 use Rattle.value_laws.specs.Agreement.{Stands}
+use Rattle.value_laws.specs.Chains.{HaveEnds}
 use Rattle.value_laws.specs.Configuration.{Frame}
-use Rattle.value_laws.specs.FieldContents.{FieldsOwn}
+use Rattle.value_laws.specs.FieldContents.{AreUnfinished, FieldsOwn}
 use Rattle.value_laws.specs.Frames.{KeepsTargets}
 use Rattle.value_laws.specs.Heaps.{HasEarlierLinks}
-use Rattle.value_laws.specs.PlaceFacts.{HasOwningField, IsCovered, MakesNoAlias, MayStore, is_heavy_in}
+use Rattle.value_laws.specs.PlaceFacts.{IsCovered, MakesNoAlias, MayStore, is_heavy_in}
 use Rattle.value_laws.specs.PlainForms.{HasPlainForms}
 use Rattle.value_laws.specs.Ranges.{LocalsInRange}
-use Rattle.value_laws.specs.Renewing.{IsLentFrom, reopens}
+use Rattle.value_laws.specs.Renewing.{HasOwningField, IsLentFrom, reopens}
 use Rattle.value_laws.proofs.Chains.{object_there}
 use Rattle.value_laws.proofs.FieldPlaces.{IsBeside}
-use Rattle.value_laws.proofs.RootLaws.{root_itself}
 use Rattle.covering_laws.proofs.Bodies.{running_method}
 use Rattle.covering_laws.proofs.ContentHolders.{field_class_is_heavy}
-use Rattle.covering_laws.proofs.HeavyFields.{reopening_answers}
-use Rattle.covering_laws.proofs.LentHolders.{no_constructor, this_covers}
+use Rattle.covering_laws.proofs.LentHolders.{opened_this}
 use Rattle.covering_laws.proofs.Owners.{lent_owner}
 
--- the object is there and finished, linked to none, and the library does not own it
-pub record IsWhole (h : HeapContents) (w : ℕ) : Type 0 where
+-- the object is there, linked to none, and lent to the frame that stands on these
+pub record IsLentThis (p : Program) (h : HeapContents) (frs : List Frame) (w : ℕ) : Type 0 where
   pub object : Object
   pub at : object_at h w ≡ Some object
-  pub finished : object.finished ≡ true
   pub unlinked : object.link ≡ None
-  pub kept : is_library_owner object.owner ≡ false
+  pub lent : IsLentFrom p h frs w object.owner
 
 -- In a method that creates the obligation of `this` anew, `this` is linked to none, and no constructor of its class makes aliases, where the class has owning fields.
 abbrev pub IsSingleThis : Program → HeapContents → Frame → Type 0
@@ -59,13 +56,16 @@ IsSingleThis p h fr =
 pub lent_kept : (p : Program) (h : HeapContents) (frs : List Frame) (o : ℕ) (a : Owner) → IsLentFrom p h frs o a → is_library_owner a ≡ false
 lent_kept p h frs o (owners.Frame i) lent = refl
 lent_kept p h frs o (owners.Field w f) lent = refl
-lent_kept p h frs o owners.Library lent = elim (lent_owner p h frs o owners.Library lent) [ inl low ↦ absurd (true≢false (sym low)) | inr held ↦ absurd (true≢false (sym held.held)) ]
+lent_kept p h frs o owners.Library lent = elim (lent_owner p h frs o owners.Library lent) [
+  | inl low ↦ absurd (true≢false (sym low))
+  | inr other ↦ elim other [ inl held ↦ absurd (true≢false (sym held.held)) | inr made ↦ absurd (let never : ◌≡◌ {A = Owner} owners.Library owners.Unowned = made.1 in cc) ]
+]
 lent_kept p h frs o owners.Released lent = refl
 lent_kept p h frs o owners.Lost lent = refl
 lent_kept p h frs o owners.Unowned lent = refl
 
 module _ (p : Program) (ac : Accept p) (forms : HasPlainForms p) (h : HeapContents) (links : HasEarlierLinks h) (owned : FieldsOwn p h) (fr : Frame) (mine : LocalsInRange h fr.locals) (st : Stands p fr) (old : ℕ → Bool) (frs : List Frame)
-    (targets : KeepsTargets p fr) (gives : ℕ → ClassId → Bool) (renewed : ℕ → Owner → Bool) (covered : IsCovered p h gives renewed old frs fr)
+    (targets : KeepsTargets p fr) (have : HaveEnds h) (unready : AreUnfinished p h (fr ∷ frs)) (gives : ℕ → ClassId → Bool) (renewed : ℕ → Owner → Bool) (covered : IsCovered p h gives renewed old frs fr)
     (single : IsSingleThis p h fr)
     (opens : reopens (method_at p fr.method) ≡ true) (n : ℕ) (f : FieldId) (m : Method) (runs : method_at p fr.method ≡ Some m) (beside : IsBeside p m n f) (c : ClassId) (type : beside.field.vtype ≡ types.Obj c)
     (heavy : is_heavy_class p c ≡ true) (typed : is_heavy_in p (Some f) ≡ true) (w : ℕ) (this : fr.locals.this ≡ values.Object w) (o : ℕ) (x : Object) (held : root_of h (field_value p h w f) ≡ Some o) (at : object_at h o ≡ Some x)
@@ -95,12 +95,10 @@ module _ (p : Program) (ac : Accept p) (forms : HasPlainForms p) (h : HeapConten
   unlinked : there.0.link ≡ None
   unlinked = (single w there.0 this there.1 opens declared).0
 
-  root : root_of h fr.locals.this ≡ Some w
-  root = ap (root_of h) this ∙ ap Some (root_itself h w there.0 there.1 unlinked)
-
-  pub whole_this : IsWhole h w
-  whole_this =
-      let c' = this_covers p ac forms h links owned fr mine st old frs targets (reopening_answers (method_at p fr.method) opens) gives renewed covered w there.0 root there.1 full (inr (inr stores)) in
-      let other = no_constructor p ac forms h links owned fr mine st old frs targets (reopening_answers (method_at p fr.method) opens) gives renewed covered opens in
-      let done = c'.0.complete c'.1 (ap (λ (b : Bool). b && is_this_origin c'.0.origin.kind) other) declared in
-      record { object = there.0; at = there.1; finished = done; unlinked = unlinked; kept = lent_kept p h frs w there.0.owner (c'.0.lends c'.1 done).1 }
+  pub whole_this : IsLentThis p h frs w
+  whole_this = record {
+    object = there.0;
+    at = there.1;
+    unlinked = unlinked;
+    lent = opened_this p ac forms h links owned fr mine st old frs targets have unready gives renewed covered opens w there.0 this there.1 full (inr (inr stores)) unlinked (inr declared);
+  }

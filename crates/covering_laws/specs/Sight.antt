@@ -1,5 +1,5 @@
 -- What the rule on owning fields sees, by static types, of the next step of a frame.
-use Rattle.std.specs.Prelude.{◌≡◌, ℕ, true, Some, List, [], ◌∷◌, slice_get}
+use Rattle.std.specs.Prelude.{◌≡◌, false, ℕ, true, Some, List, [], ◌∷◌, slice_get}
 use Rattle.program_model.specs.declared.kinds.FieldId.{FieldId}
 use Rattle.program_model.specs.declared.kinds.MethodId.{MethodId}
 use Rattle.program_model.specs.declared.program.Field.{Field}
@@ -7,6 +7,7 @@ use Rattle.program_model.specs.declared.program.Method.{Method}
 use Rattle.program_model.specs.declared.program.Program.{Program}
 use Rattle.program_model.specs.Lookups.{field_at, method_at}
 use Rattle.program_model.specs.SuperTests.{is_under}
+use Rattle.ledger_obligations.specs.Bodies.{is_extended_in}
 use Rattle.java_control.specs.Calls.{called_method}
 use Rattle.java_control.specs.Control.{Step}
 use Rattle.java_control.specs.declared.action.Action.TheVariants as actions
@@ -21,6 +22,7 @@ use Rattle.value_laws.specs.Choosing.{frame_steps}
 use Rattle.value_laws.specs.Configuration.{Frame}
 use Rattle.value_laws.specs.HeapAnew.{target_root}
 use Rattle.value_laws.specs.Renewable.{IsFollowed, IsRenewable}
+use Rattle.value_laws.specs.Renewing.{HasOwningField, IsMadeBy, makes_alone}
 use Rattle.value_laws.specs.StepTargets.{HasThis}
 use Rattle.covering_laws.specs.TextUpdates.{UpdatesTexts}
 
@@ -32,6 +34,11 @@ IsOnObject p fr = HasThis (method_at p fr.method) → (w : ℕ) × (fr.locals.th
 abbrev pub RunOnObjects : Program → List Frame → Type 0
 RunOnObjects p [] = Unit {0}
 RunOnObjects p (fr ∷ frs) = IsOnObject p fr × RunOnObjects p frs
+
+-- A constructor without an aliased argument, of a class that no other one extends, runs on the object that it makes, where this object's class has owning fields; and it is not finished.
+abbrev pub MakesThis : Program → HeapContents → Frame → Type 0
+MakesThis p h fr = makes_alone (method_at p fr.method) ≡ true → is_extended_in p (method_at p fr.method) ≡ false → (o : ℕ) (x : Object) → root_of h fr.locals.this ≡ Some o → object_at h o ≡ Some x → HasOwningField p x.class
+    → IsMadeBy p fr o × (x.finished ≡ false)
 
 -- An object whose obligation a call creates anew is of a class whose obligation may be created
 -- anew, and an object that is stored into an owning field is one that the rules of bodies follow, or its obligation is never created anew. (The object is the root of the operand, or of the value.)
@@ -46,6 +53,7 @@ pub record ActsInSight (p : Program) (h : HeapContents) (fr : Frame) : Type 0 wh
   pub on : IsOnObject p fr
   pub receives : (i : ℕ) (s : Step) (named : MethodId) (n : Method) (w : ℕ) (self : Object) → slice_get (frame_steps p fr) i ≡ Some s → called_method s.action ≡ Some named → method_at p named ≡ Some n → n.sig.reset ≡ Some 0
       → IsOnInstance p h fr.locals s.action (method_at p named) → operand_of fr.locals s.action 0 ≡ values.Object w → fr.locals.this ≡ values.Object w → object_at h w ≡ Some self → is_under p self.class n.class ≡ true
+  pub makes : MakesThis p h fr
 
 -- so it is of all of these frames
 abbrev pub AllActInSight : Program → HeapContents → List Frame → Type 0

@@ -15,6 +15,7 @@ pub use arguments::{aliased_field_holds_the_argument, argument_alone_is_stored};
 pub use ends::{contents_are_met_at_throw, promises_are_kept_at_end};
 pub use steps::{
     being_made_at_start, being_made_step, covered_at_start, covered_step, fields_own_at_start,
-    fields_own_step, linked_are_aliases_at_start, linked_are_aliases_step,
+    fields_own_step, linked_are_aliases_at_start, linked_are_aliases_step, makers_own_at_start,
+    makers_own_step,
 };
 pub use stores::overwritten_is_met;

@@ -18,7 +18,7 @@ ghost use Rattle.value_laws.specs.PlainForms.{HasPlainForms};
 ghost use Rattle.value_laws.specs.Frames.{HaveTargets};
 ghost use Rattle.value_laws.specs.Arguments.{HaveArguments};
 ghost use Rattle.value_laws.specs.Types.{HaveTypes};
-ghost use Rattle.value_laws.specs.FieldContents.{FieldsHold, FieldsOwn, TopRunsAlone};
+ghost use Rattle.value_laws.specs.FieldContents.{FieldsHold, FieldsOwn, MakersOwn, TopRunsAlone};
 ghost use Rattle.value_laws.specs.PlaceFacts.{AreCovered};
 ghost use Rattle.value_laws.specs.Ranges.{AreInRange};
 ghost use Rattle.covering_laws.specs.Making.{AreBeingMade};
@@ -37,7 +37,7 @@ pub fn covered_at_start()
 /// Each step that is not stray leaves each place of the frames in a fact that is true of what it holds.
 pub fn covered_step()
     ensures { (p : Program) → Accept p → HasPlainForms p → HasPlainRuns p → HasSmallInterests p → HasLightTexts p → (c d : Config) → Agree p c → HaveTargets p c.frames → HaveTypes p c
-        → AreInRange c → FieldsHold p c.frames c.heap → AreBeingMade p c.heap c.frames → LinkedAreAliases p c.heap → FieldsOwn p c.heap → AreCovered p c.heap c.frames
+        → AreInRange c → FieldsHold p c.frames c.heap → AreBeingMade p c.heap c.frames → LinkedAreAliases p c.heap → FieldsOwn p c.heap → MakersOwn p c.heap c.frames → AreCovered p c.heap c.frames
         → HaveArguments p c.frames → TopEndsAsDeclared p c.heap c.frames → TopRaisesExceptions p c.heap c.frames → AllActInSight p c.heap c.frames → TopRunsAlone p c.heap c.frames → step p c ≡ went d → AreCovered p d.heap d.frames }
 {}
 
@@ -49,7 +49,7 @@ pub fn being_made_at_start()
 /// Each step that is not stray leaves the objects unfinished whose constructors still run.
 pub fn being_made_step()
     ensures { (p : Program) → Accept p → HasPlainForms p → HasPlainRuns p → HasSmallInterests p → HasLightTexts p → (c d : Config) → Agree p c → HaveTargets p c.frames → HaveTypes p c
-        → AreInRange c → FieldsHold p c.frames c.heap → AreBeingMade p c.heap c.frames → LinkedAreAliases p c.heap → FieldsOwn p c.heap → AreCovered p c.heap c.frames
+        → AreInRange c → FieldsHold p c.frames c.heap → AreBeingMade p c.heap c.frames → LinkedAreAliases p c.heap → FieldsOwn p c.heap → MakersOwn p c.heap c.frames → AreCovered p c.heap c.frames
         → HaveArguments p c.frames → TopEndsAsDeclared p c.heap c.frames → TopRaisesExceptions p c.heap c.frames → AllActInSight p c.heap c.frames → TopRunsAlone p c.heap c.frames → step p c ≡ went d → AreBeingMade p d.heap d.frames }
 {}
 
@@ -61,7 +61,7 @@ pub fn linked_are_aliases_at_start()
 /// After each step that is not stray, what is linked to another object is of a class whose objects some method or constructor gives as aliases.
 pub fn linked_are_aliases_step()
     ensures { (p : Program) → Accept p → HasPlainForms p → HasPlainRuns p → HasSmallInterests p → HasLightTexts p → (c d : Config) → Agree p c → HaveTargets p c.frames → HaveTypes p c
-        → AreInRange c → FieldsHold p c.frames c.heap → AreBeingMade p c.heap c.frames → LinkedAreAliases p c.heap → FieldsOwn p c.heap → AreCovered p c.heap c.frames
+        → AreInRange c → FieldsHold p c.frames c.heap → AreBeingMade p c.heap c.frames → LinkedAreAliases p c.heap → FieldsOwn p c.heap → MakersOwn p c.heap c.frames → AreCovered p c.heap c.frames
         → HaveArguments p c.frames → TopEndsAsDeclared p c.heap c.frames → TopRaisesExceptions p c.heap c.frames → AllActInSight p c.heap c.frames → TopRunsAlone p c.heap c.frames → step p c ≡ went d → LinkedAreAliases p d.heap }
 {}
 
@@ -74,6 +74,18 @@ pub fn fields_own_at_start()
 /// and where this is finished, and the object may owe a call, or a field of it owns something, the field owns it, or the field's object is linked to it.
 pub fn fields_own_step()
     ensures { (p : Program) → Accept p → HasPlainForms p → HasPlainRuns p → HasSmallInterests p → HasLightTexts p → (c d : Config) → Agree p c → HaveTargets p c.frames → HaveTypes p c
-        → AreInRange c → FieldsHold p c.frames c.heap → AreBeingMade p c.heap c.frames → LinkedAreAliases p c.heap → FieldsOwn p c.heap → AreCovered p c.heap c.frames
+        → AreInRange c → FieldsHold p c.frames c.heap → AreBeingMade p c.heap c.frames → LinkedAreAliases p c.heap → FieldsOwn p c.heap → MakersOwn p c.heap c.frames → AreCovered p c.heap c.frames
         → HaveArguments p c.frames → TopEndsAsDeclared p c.heap c.frames → TopRaisesExceptions p c.heap c.frames → AllActInSight p c.heap c.frames → TopRunsAlone p c.heap c.frames → step p c ≡ went d → FieldsOwn p d.heap }
+{}
+
+/// A run begins without objects.
+pub fn makers_own_at_start()
+    ensures { (p : Program) (main : MethodId) (choices : Choices) → MakersOwn p (start_config p main choices).heap (start_config p main choices).frames }
+{}
+
+/// After each step that is not stray, what the owning fields hold of what a frame makes by a constructor without an aliased argument, these fields own.
+pub fn makers_own_step()
+    ensures { (p : Program) → Accept p → HasPlainForms p → HasPlainRuns p → HasSmallInterests p → HasLightTexts p → (c d : Config) → Agree p c → HaveTargets p c.frames → HaveTypes p c
+        → AreInRange c → FieldsHold p c.frames c.heap → AreBeingMade p c.heap c.frames → LinkedAreAliases p c.heap → FieldsOwn p c.heap → MakersOwn p c.heap c.frames → AreCovered p c.heap c.frames
+        → HaveArguments p c.frames → TopEndsAsDeclared p c.heap c.frames → TopRaisesExceptions p c.heap c.frames → AllActInSight p c.heap c.frames → TopRunsAlone p c.heap c.frames → step p c ≡ went d → MakersOwn p d.heap d.frames }
 {}

@@ -70,6 +70,7 @@ pub use Rattle.agreement.proofs.SparingCalls
 pub use Rattle.agreement.proofs.SparingEnds
 pub use Rattle.agreement.proofs.SettledFrames
 pub use Rattle.agreement.proofs.StoreWays
+pub use Rattle.agreement.proofs.MadeWays
 pub use Rattle.agreement.proofs.SparingStays
 pub use Rattle.agreement.proofs.WaysOverSteps
 pub use Rattle.agreement.proofs.OldObjects

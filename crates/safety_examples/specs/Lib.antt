@@ -28,3 +28,5 @@ pub mod ReconnectingPrograms
 pub mod ReconnectingControls
 pub mod ReplacingPrograms
 pub mod ReplacingControls
+pub mod OpeningPrograms
+pub mod OpeningControls

@@ -26,6 +26,8 @@
 //!   holder connects what its field holds, and `main` closes the holder, connects it, and closes it again.
 //! - A program that shows that what is said of accepted plain programs speaks of methods that store into owning fields: `reopen` of a holder closes what its field holds
 //!   and stores a new resource there, and `main` closes the holder, reopens it, and closes it again.
+//! - A program that shows that what is said of accepted plain programs speaks of constructors that call what creates the obligation of their object anew: the constructor of a
+//!   holder stores a resource and calls `reopen`, which closes this and stores a new one.
 //! - A program that shows that what is said of accepted plain programs speaks of promises that hold where a method throws: `shut` closes its argument by a call
 //!   that may throw, as both its annotations say, and `main` makes a socket and has it closed so.
 #![tactic(auto)]
@@ -38,6 +40,7 @@ mod forgetful;
 mod holding;
 mod laws;
 mod lending;
+mod opening;
 mod reconnecting;
 mod reopening;
 mod replacing;
@@ -61,6 +64,7 @@ pub use laws::{
     careful_run_ends, careless_is_not_safe,
 };
 pub use lending::{lending_has_main, lending_is_accepted, lending_is_plain, lending_is_safe};
+pub use opening::{opening_has_main, opening_is_accepted, opening_is_plain, opening_is_safe};
 pub use reconnecting::{
     reconnecting_has_main, reconnecting_is_accepted, reconnecting_is_plain, reconnecting_is_safe,
 };

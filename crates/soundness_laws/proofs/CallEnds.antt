@@ -76,7 +76,7 @@ use Rattle.content_laws.specs.Chains.{HaveEnds, IsLast}
 use Rattle.content_laws.specs.Agreement.{Agrees, Awaits, HasMadeClasses, IsAwaited, IsMadeAfter, IsMadeBy, IsTracked, Stands, Tracks, TracksAs, is_answering}
 use Rattle.content_laws.specs.Anew.{is_target}
 use Rattle.content_laws.specs.HeapAnew.{is_anew_at_end}
-use Rattle.content_laws.specs.Sight.{ActsInSight}
+use Rattle.content_laws.specs.Sight.{ActsInSight, AllActInSight}
 use Rattle.content_laws.specs.Nexts.{IsBackStep}
 use Rattle.content_laws.specs.Ranges.{LocalsInRange}
 use Rattle.content_laws.specs.Holders.{HoldersAreUnlinked}
@@ -129,7 +129,7 @@ module _ (p : Program) (ac : Accept p) (forms : HasPlainForms p) (names : HasSma
     (agrees : Agrees p (fr ∷ caller ∷ frs) h es) (i : ℕ) (s : Step) (here : slice_get (frame_steps p fr) i ≡ Some s) (q : Completion) (is : s.action ≡ actions.End q)
     (j : ℕ) (t : Step) (there : slice_get (frame_steps p caller) j ≡ Some t) (named : MethodId) (answer : IsAnswered p h fr caller q t named) (sup : Supports p h fr) (making : IsBeingMade p h fr caller)
     (shows : ShowsOperands p h fr caller (length frs + 1)) (led : LinksLead p h) (was_old : ℕ → Bool) (covered : IsCovered p h gives_none renews_none was_old (caller ∷ frs) fr) (dispatched : fields.IsDispatched p h fr caller)
-    (waiting : AreWaiting p h was_old (caller ∷ frs)) (owning : OwningFieldsOwn p h) (sight : ActsInSight p h caller) (mine' : LocalsInRange h fr.locals) (ranges : LocalsInRange h caller.locals)
+    (waiting : AreWaiting p h was_old (caller ∷ frs)) (owning : OwningFieldsOwn p h) (sight : ActsInSight p h caller) (sights : AllActInSight p h frs) (mine' : LocalsInRange h fr.locals) (ranges : LocalsInRange h caller.locals)
     (back : IsBackStep p (frame_steps p caller) (exception_class p h (thrown_in fr.locals q)) named t) (alone : TopRunsAlone p h (fr ∷ caller ∷ frs)) (unready : AreUnfinished p h (caller ∷ frs))
     (lower : All (λ (f : Frame). LocalsInRange h f.locals) frs) (held : FieldsOwn p h) (holders : HoldersAreUnlinked (is_heavy_class p) h) (targets : HaveTargets p (caller ∷ frs))
     (apart' : (o : ℕ) (x : Object) → object_at h o ≡ Some x → IsHeavyObject p x → x.owner ≡ owners.Frame (length frs + 1) → is_renewed p h caller o ≡ false → IsCountedOn p h was_old (caller ∷ frs) fr o x) where
@@ -450,7 +450,7 @@ module _ (p : Program) (ac : Accept p) (forms : HasPlainForms p) (names : HasSma
   -- ---- the object whose obligation the call creates anew
 
   holds : HoldsLent p h waiting.0 frs caller below
-  holds = holds_lent p ac forms h agrees.links held caller ranges below waiting.0 frs targets.0 (is_given p h caller) (is_reread p h caller) waiting.3 holders
+  holds = holds_lent p ac forms h agrees.links held caller ranges below waiting.0 frs targets.0 agrees.ends unready (is_given p h caller) (is_reread p h caller) waiting.3 holders
 
   -- the frame that goes on owns it
   renewed_here : (n : ℕ) (x y : Object) → object_at h n ≡ Some x → x.finished ≡ true → is_heavy_class p x.class ≡ true → may_owe x ≡ true → x.owner ≡ owners.Frame at → is_renewed p h caller n ≡ true → y.class ≡ x.class
@@ -461,7 +461,7 @@ module _ (p : Program) (ac : Accept p) (forms : HasPlainForms p) (names : HasSma
       (λ gives. given_root n x before done (gives_normally tr.0.fact.places gives) (shown gives))
     where
       it : OwnsTarget p h waiting.0 frs caller n x
-      it = its_owner p ac forms h caller waiting.0 frs below j t there answer.row waiting.3 holds n x before heavy (inl owes) done renewed mine
+      it = its_owner p ac forms h caller waiting.0 frs below j t there answer.row waiting.3 holds agrees.ends targets.0 sight.makes n x before heavy (inl owes) (inl done) renewed mine
 
       tr : (w : TracksAs p h (is_renewed p h caller n) caller n x) × (w.fact ≡ it.covers.fact) × (w.origin ≡ it.covers.origin)
       tr = covered_tracks p ac h caller waiting.0 frs below (is_given p h caller n x.class) (is_reread p h caller n x.owner) n x it.covers it.key it.own it.kept it.temp it.there (is_renewed p h caller n) (read_alike p h caller n x.owner renewed)
@@ -681,11 +681,11 @@ module _ (p : Program) (ac : Accept p) (forms : HasPlainForms p) (names : HasSma
     )
 
     hand : HasInHand p h (IsLentFrom p h frs) at caller turned.0 target.0.owner
-    hand = elim (owned_or_lent p ac forms h caller waiting.0 frs below j t there answer.row waiting.3 holds turned.0 target.0 target.1 ready_target.1
-        (target_owes p h turned.0 n target.0 x.0 target.1 x.1 turned.2 still_owes) ready_target.0 turned.1.0) [ inl it ↦ inl (it.key.owner it.kept it.own) | inr other ↦ inr other ]
+    hand = elim (owned_or_lent p ac forms h caller waiting.0 frs below j t there answer.row waiting.3 holds agrees.ends targets.0 sight.makes turned.0 target.0 target.1 ready_target.1
+        (target_owes p h turned.0 n target.0 x.0 target.1 x.1 turned.2 still_owes) (inl ready_target.0) turned.1.0) [ inl it ↦ inl (it.key.owner it.kept it.own) | inr other ↦ inr other ]
 
     someones : IsSomeones
-    someones = by (target_answered p ac forms h heap agrees.ends agrees.links held holders n x.0 y x.1 heavy finished (stays n x.0 x.1 finished) x.2 bounded caller frs agrees.standing.1.1 targets.1 lower agrees.stacked.1 waiting.0 waiting.4 unready
+    someones = by (target_answered p ac forms h heap agrees.ends agrees.links held holders n x.0 y x.1 heavy finished (stays n x.0 x.1 finished) x.2 bounded caller frs agrees.standing.1.1 targets.1 lower agrees.stacked.1 waiting.0 waiting.4 unready sights
         turned.0 target.0 target.1 turned.2 hand)
       where
         below_caller : (k : ℕ) → k ≤ length frs → IsAwaited p heap frs n y k → IsTracked p heap (after ∷ frs) n y k

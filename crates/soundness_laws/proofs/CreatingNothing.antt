@@ -9,7 +9,7 @@ use Rattle.program_model.specs.declared.kinds.MethodId.{MethodId}
 use Rattle.program_model.specs.declared.program.Method.{Method}
 use Rattle.program_model.specs.declared.program.Program.{Program}
 use Rattle.program_model.specs.Lookups.{method_at}
-use Rattle.ledger_obligations.specs.Bodies.{has_field_place, is_constructor}
+use Rattle.ledger_obligations.specs.Bodies.{has_field_place, is_alias_constructor}
 use Rattle.java_control.specs.Calls.{is_receiver, is_reset_of_this, is_this_form, resets_receiver}
 use Rattle.java_control.specs.Remaining.{Todo}
 use Rattle.java_control.specs.declared.action.Action.{Action}
@@ -48,6 +48,6 @@ module _ (p : Program) (nothing : creates_nothing p ≡ true) where
   silent (actions.Call m d n form) = and_false (is_this_form form) (resets_receiver (method_at p m)) (no_receiver m (method_at p m) refl)
   silent a = refl
 
-  pub no_call_creates : (b : BodyId) {k : List Todo} (i : ℕ) (t : Move (List Todo)) → Comes (relation_of p b) k → slice_get ((relation_of p b).next k) i ≡ Some t → is_constructor p b ≡ true
+  pub no_call_creates : (b : BodyId) {k : List Todo} (i : ℕ) (t : Move (List Todo)) → Comes (relation_of p b) k → slice_get ((relation_of p b).next k) i ≡ Some t → is_alias_constructor p b ≡ true
       → is_reset_of_this p t.action ≡ true → (f : FieldId) → has_field_place p b f ≡ false
   no_call_creates b {k} i t comes there makes this f = absurd (true≢false (sym this ∙ silent t.action))

@@ -25,12 +25,13 @@ use Rattle.content_laws.specs.Holders.{HoldersAreUnlinked, IsWithin}
 use Rattle.content_laws.specs.PlaceFacts.{AreWaiting, RunsOn, is_given, may_owe}
 use Rattle.content_laws.specs.PlainForms.{HasPlainForms}
 use Rattle.content_laws.specs.Ranges.{LocalsInRange}
-use Rattle.content_laws.specs.Renewing.{HasInHand, IsHeldBy, IsLentFrom, is_renewed, is_reread}
+use Rattle.content_laws.specs.Renewing.{HasInHand, IsHeldBy, IsLentFrom, IsMadeBy, is_renewed, is_reread}
+use Rattle.content_laws.specs.Sight.{AllActInSight}
 use Rattle.content_laws.specs.Steps.{RootsStay}
 use Rattle.content_laws.proofs.LentHolders.{holds_lent}
 use Rattle.content_laws.proofs.Readings.{renewed_on}
 use Rattle.content_laws.proofs.RootLaws.{one_object}
-use Rattle.content_laws.proofs.SparingCalls.{unmade}
+use Rattle.content_laws.proofs.SparingCalls.{made_open, unmade}
 use Rattle.content_laws.proofs.Unmet.{row_of}
 use Rattle.content_laws.proofs.WaitingTargets.{owner_awaits, tracks_anew}
 use Rattle.content_laws.proofs.WaysUp.{on_from_holder, top_is_last}
@@ -56,6 +57,12 @@ module _ (p : Program) (h : HeapContents) (have : HaveEnds h) (n : ℕ) (z : Obj
       true≢false (sym done ∙ ap (λ (u : Object). u.finished) (one_object z w.object (object_at h n) at (ap (object_at h) (sym same) ∙ w.at)) ∙ w.unfinished)
       ))
 
+  -- what a constructor makes is the last on the way, and not finished
+  no_made : (fr : Frame) (frs : List Frame) → AreUnfinished p h (fr ∷ frs) → (t : ℕ) (x : Object) → object_at h t ≡ Some x → IsMadeBy p fr t → x.owner ≡ owners.Unowned → IsWithin h t n → ⊥
+  no_made fr frs unfinished t x there made unowned up =
+      let same = top_is_last h t n x there (ap is_field_owner unowned) up in
+      true≢false (sym done ∙ ap (λ (u : Object). u.finished) (one_object z x (object_at h n) at (ap (object_at h) (sym same) ∙ there)) ∙ made_open p h have fr frs unfinished t x there made)
+
   -- so it is with what lies on the way up from what is lent
   pub lent_up : (frs : List Frame) → AreUnfinished p h frs → (t : ℕ) (x : Object) → object_at h t ≡ Some x → IsLentFrom p h frs t x.owner → IsWithin h t n → IsFieldsOrBelow frs z.owner
   lent_up [] unfinished t x there lent up = absurd lent
@@ -68,7 +75,8 @@ module _ (p : Program) (h : HeapContents) (have : HaveEnds h) (n : ℕ) (z : Obj
       higher (inl frame) = let low = frame.2 in inl (frame.0, frame.1, omega (arith, low))
       higher (inr field) = inr (field.0, field.1, field.2, inr field.3)
   lent_up (fr ∷ frs) unfinished t x there (is, inr (inr (inl held))) up = inr (made_on fr frs unfinished t x there held up)
-  lent_up (fr ∷ frs) unfinished t x there (is, inr (inr (inr held))) up =
+  lent_up (fr ∷ frs) unfinished t x there (is, inr (inr (inr (inr made)))) up = absurd (no_made fr frs unfinished t x there made.0 made.1 up)
+  lent_up (fr ∷ frs) unfinished t x there (is, inr (inr (inr (inl held)))) up =
       held_on t held.holder held.field x there held.owns up (λ owns. inr (held.holder, held.field, owns, inl held.runs)) (λ more. higher (lent_up frs unfinished.1 held.holder held.object held.at held.lends more))
     where
       higher : IsFieldsOrBelow frs z.owner → IsFieldsOrBelow (fr ∷ frs) z.owner
@@ -86,7 +94,8 @@ module _ (p : Program) (h : HeapContents) (have : HaveEnds h) (n : ℕ) (z : Obj
       higher (inl frame) = let low = frame.2 in inl (frame.0, frame.1, omega (arith, low))
       higher (inr field) = inr (field.0, field.1, field.2, inr field.3)
   hand_up fr frs unfinished t x there (inr (inr (inl held))) up = inr (made_on fr frs unfinished t x there held up)
-  hand_up fr frs unfinished t x there (inr (inr (inr held))) up =
+  hand_up fr frs unfinished t x there (inr (inr (inr (inr made)))) up = absurd (no_made fr frs unfinished t x there made.0 made.1 up)
+  hand_up fr frs unfinished t x there (inr (inr (inr (inl held)))) up =
       held_on t held.holder held.field x there held.owns up (λ owns. inr (held.holder, held.field, owns, inl held.runs)) (λ more. higher (lent_up frs unfinished.1 held.holder held.object held.at held.lends more))
     where
       higher : IsFieldsOrBelow frs z.owner → IsFieldsOrBelow (fr ∷ frs) z.owner
@@ -112,9 +121,9 @@ module _ (p : Program) (ac : Accept p) (forms : HasPlainForms p) (h k : HeapCont
 
   -- `fr` is the frame above, which began with the call; `t` is the target, or what a frame holds in a field that has the target on its way
   pub lent_awaited : (fr : Frame) (frs : List Frame) → AllStand p frs → HaveTargets p frs → IsCalledFrom p h fr frs → (above : ℕ → Bool) → AreWaiting p h above frs → All (λ (u : Frame). LocalsInRange h u.locals) frs → AreUnfinished p h frs
-      → (t : ℕ) (x : Object) → object_at h t ≡ Some x → IsLentFrom p h frs t x.owner → IsWithin h t n → IsAwaited p k frs n y j
-  lent_awaited fr [] standing targets stacked above waiting in' unfinished t x there lent up = absurd lent
-  lent_awaited fr (caller ∷ rest) standing targets stacked above waiting in' unfinished t x there (is, inl owner) up =
+      → AllActInSight p h frs → (t : ℕ) (x : Object) → object_at h t ≡ Some x → IsLentFrom p h frs t x.owner → IsWithin h t n → IsAwaited p k frs n y j
+  lent_awaited fr [] standing targets stacked above waiting in' unfinished sight t x there lent up = absurd lent
+  lent_awaited fr (caller ∷ rest) standing targets stacked above waiting in' unfinished sight t x there (is, inl owner) up =
       rw (eq-eqb (length rest + 1) j (let both : owners.Frame (length rest + 1) ≡ owners.Frame j = sym owner ∙ ap (λ (u : Object). u.owner) same_object ∙ mine in (let one : length rest + 1 ≡ j = cc in one))) now
     where
       same : t ≡ n
@@ -131,16 +140,16 @@ module _ (p : Program) (ac : Accept p) (forms : HasPlainForms p) (h k : HeapCont
 
       before : Awaits p h caller n z
       before = owner_awaits p ac forms h caller waiting.0 rest standing.0 stacked.0.index stacked.0.step stacked.0.here (row_of stacked.0.step.action stacked.0.named stacked.0.calls) waiting.3
-          (holds_lent p ac forms h links owned caller caller_in standing.0 waiting.0 rest targets.0 (is_given p h caller) (is_reread p h caller) waiting.3 unlinked)
-          n z at heavy (inl owes) done renewed (ap (λ (u : Object). u.owner) (sym same_object) ∙ owner)
+          (holds_lent p ac forms h links owned caller caller_in standing.0 waiting.0 rest targets.0 have unfinished (is_given p h caller) (is_reread p h caller) waiting.3 unlinked)
+          have targets.0 sight.0.makes n z at heavy (inl owes) (inl done) renewed (ap (λ (u : Object). u.owner) (sym same_object) ∙ owner)
 
       now : Awaits p k caller n y
       now = record {
         tracks = tracks_anew p h k (is_renewed p h caller n) (is_renewed p k caller n) caller n z y (renewed_on p h k caller n stay renewed) stay class bounded before.tracks;
         stays = before.stays;
       }
-  lent_awaited fr (caller ∷ rest) standing targets stacked above waiting in' unfinished t x there (is, inr (inl on)) up =
-      below (lent_awaited caller rest standing.1 targets.1 stacked.1 waiting.0 waiting.4 (All-tail (λ (u : Frame). LocalsInRange h u.locals) caller rest in') unfinished.1 t x there on up)
+  lent_awaited fr (caller ∷ rest) standing targets stacked above waiting in' unfinished sight t x there (is, inr (inl on)) up =
+      below (lent_awaited caller rest standing.1 targets.1 stacked.1 waiting.0 waiting.4 (All-tail (λ (u : Frame). LocalsInRange h u.locals) caller rest in') unfinished.1 sight.1 t x there on up)
     where
       lower : j ≤ length rest
       lower = low rest (lent_up p h have n z at done rest unfinished.1 t x there on up)
@@ -151,11 +160,12 @@ module _ (p : Program) (ac : Accept p) (forms : HasPlainForms p) (h k : HeapCont
           go : (b : Bool) → nat_eq (length rest + 1) j ≡ b → MatchBool b (Awaits p k caller n y) (IsAwaited p k rest n y j)
           go true here = absurd (let same = eqb-true (length rest + 1) j here in omega (arith, same, lower))
           go false other = further
-  lent_awaited fr (caller ∷ rest) standing targets stacked above waiting in' unfinished t x there (is, inr (inr (inl held))) up =
+  lent_awaited fr (caller ∷ rest) standing targets stacked above waiting in' unfinished sight t x there (is, inr (inr (inl held))) up =
       let field = made_on p h have n z at done caller rest unfinished t x there held up in no_field field.0 field.1 field.2
-  lent_awaited fr (caller ∷ rest) standing targets stacked above waiting in' unfinished t x there (is, inr (inr (inr held))) up =
+  lent_awaited fr (caller ∷ rest) standing targets stacked above waiting in' unfinished sight t x there (is, inr (inr (inr (inr made)))) up = absurd (no_made p h have n z at done caller rest unfinished t x there made.0 made.1 up)
+  lent_awaited fr (caller ∷ rest) standing targets stacked above waiting in' unfinished sight t x there (is, inr (inr (inr (inl held)))) up =
       held_on p h have n z at done t held.holder held.field x there held.owns up (λ owns. no_field held.holder held.field owns) (λ more. below more
-      (lent_awaited caller rest standing.1 targets.1 stacked.1 waiting.0 waiting.4 (All-tail (λ (u : Frame). LocalsInRange h u.locals) caller rest in') unfinished.1 held.holder held.object held.at held.lends more))
+      (lent_awaited caller rest standing.1 targets.1 stacked.1 waiting.0 waiting.4 (All-tail (λ (u : Frame). LocalsInRange h u.locals) caller rest in') unfinished.1 sight.1 held.holder held.object held.at held.lends more))
     where
       below : IsWithin h held.holder n → IsAwaited p k rest n y j → MatchBool (nat_eq (length rest + 1) j) (Awaits p k caller n y) (IsAwaited p k rest n y j)
       below more further = go (nat_eq (length rest + 1) j) refl

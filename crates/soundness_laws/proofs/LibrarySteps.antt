@@ -72,7 +72,7 @@ use Rattle.content_laws.proofs.Births.{heavy_by_unmet, made_tracks}
 use Rattle.content_laws.proofs.LibraryNames.{library_name_goes_on}
 use Rattle.content_laws.proofs.Goes.{not_the_librarys_owes}
 use Rattle.content_laws.specs.FieldContents.{AreUnfinished, FieldsOwn, LinksLead, OwningFieldsOwn}
-use Rattle.content_laws.specs.Sight.{ActsInSight}
+use Rattle.content_laws.specs.Sight.{ActsInSight, AllActInSight}
 use Rattle.content_laws.specs.Nexts.{IsConstantRead}
 use Rattle.content_laws.specs.Ranges.{LocalsInRange}
 use Rattle.content_laws.proofs.RangeValues.{operand_in_range}
@@ -188,7 +188,7 @@ pub record IsLibraryStep (p : Program) (h : HeapContents) (arrays : List ArrayOb
 module _ (p : Program) (ac : Accept p) (forms : HasPlainForms p) (names : HasSmallInterests p) (fr : Frame) (frs : List Frame) (h : HeapContents)
     (es : List Entry) (agrees : Agrees p (fr ∷ frs) h es) (i : ℕ) (s : Step) (here : slice_get (frame_steps p fr) i ≡ Some s) (named m : MethodId) (d : Conduct) (v : Value)
     (arrays : List ArrayObject) (step : IsLibraryStep p h arrays fr.locals s named m d v) (ranges : LocalsInRange h fr.locals) (led : LinksLead p h)
-    (old : ℕ → Bool) (covered : IsCovered p h gives_none renews_none old frs fr) (waiting : AreWaiting p h old frs) (owning : OwningFieldsOwn p h) (sight : ActsInSight p h fr)
+    (old : ℕ → Bool) (covered : IsCovered p h gives_none renews_none old frs fr) (waiting : AreWaiting p h old frs) (owning : OwningFieldsOwn p h) (sight : ActsInSight p h fr) (sights : AllActInSight p h frs)
     (unready : AreUnfinished p h (fr ∷ frs)) (lower : All (λ (f : Frame). LocalsInRange h f.locals) frs) (held : FieldsOwn p h) (holders : HoldersAreUnlinked (is_heavy_class p) h) (targets : HaveTargets p (fr ∷ frs)) where
   abbrev after : Frame
   after = frame_after p h fr s v
@@ -302,10 +302,10 @@ module _ (p : Program) (ac : Accept p) (forms : HasPlainForms p) (names : HasSma
     ]
       where
         by : IsCallRow s.action → called_method s.action ≡ Some named → IsSomeones
-        by row called = in_hand (target_answered p ac forms h heap agrees.ends agrees.links held holders o x y before.1 heavy done (roots_stay o x before.1) before.3 bounded fr frs agrees.standing.1 targets.1 lower agrees.stacked old waiting unready
+        by row called = in_hand (target_answered p ac forms h heap agrees.ends agrees.links held holders o x y before.1 heavy done (roots_stay o x before.1) before.3 bounded fr frs agrees.standing.1 targets.1 lower agrees.stacked old waiting unready sights
             target.target target.object target.at target.within
-            (renewed_answered p ac forms h fr agrees.standing.0 old frs i s here row covered holds target.target target.object target.at target.heavy.1
-            (target_owes p h target.target o target.object x target.at before.1 target.within owes) target.renews target.heavy.0))
+            (renewed_answered p ac forms h fr agrees.standing.0 old frs i s here row covered holds agrees.ends targets.0 sight.makes target.target target.object target.at target.heavy.1
+            (target_owes p h target.target o target.object x target.at before.1 target.within owes) target.renews (inl target.heavy.0)))
           where
             x : Object
             x = before.0
@@ -323,7 +323,7 @@ module _ (p : Program) (ac : Accept p) (forms : HasPlainForms p) (names : HasSma
             owes = not_the_librarys_owes x (ap is_library_owner (sym before.5) ∙ stays)
 
             holds : HoldsLent p h old frs fr agrees.standing.0
-            holds = holds_lent p ac forms h agrees.links held fr ranges agrees.standing.0 old frs targets.0 gives_none renews_none covered holders
+            holds = holds_lent p ac forms h agrees.links held fr ranges agrees.standing.0 old frs targets.0 agrees.ends unready gives_none renews_none covered holders
 
             -- the target of the reset, within which the object is, or that is within the object
             target : IsRisen p h fr.locals s.action o

@@ -9,7 +9,7 @@ use Rattle.program_model.specs.declared.program.Program.{Program}
 use Rattle.program_model.specs.Lookups.{field_at, method_at}
 use Rattle.program_model.specs.SuperTests.{is_class}
 use Rattle.ledger_obligations.specs.Bodies.{constructs, is_class_of, method_in, method_of}
-use Rattle.java_control.specs.Calls.{called_method}
+use Rattle.java_control.specs.Calls.{called_method, is_reset_of_this}
 use Rattle.java_control.specs.declared.action.Action.{Action}
 use Rattle.java_control.specs.declared.action.Action.TheVariants as actions
 use Rattle.content_laws.specs.Accept.{Accept}
@@ -31,6 +31,7 @@ use Rattle.content_laws.proofs.NamedReached.{names_what_is_there}
 use Rattle.content_laws.proofs.Cases.{none_runs}
 use Rattle.content_laws.proofs.Ready.{plain_call, plain_step, step_there}
 use Rattle.content_laws.proofs.Unmet.{row_of}
+use Rattle.content_laws.proofs.FilledFrames.{lends_here}
 use Rattle.soundness_laws.proofs.Programs.{is_programs}
 
 -- the object of a `new`, of the class of the constructor that runs
@@ -137,6 +138,13 @@ module _ (p : Program) (ac : Accept p) (forms : HasPlainForms p) where
           absurd (true≢false (sym class ∙ ap (λ (m : MethodId). is_class_of x.class (method_at p m)) itself ∙ none))
 
   -- a constructor of an object whose owning field holds an object is one of the class that declares the field
+  -- what creates the obligation of `this` anew calls no super constructor
+  no_super : (a : Action) → calls_constructor p a ≡ true → is_reset_of_this p a ≡ true → ⊥
+  no_super (actions.Super m d n) super never = true≢false (sym never)
+  no_super (actions.Call m d n form) never lends = true≢false (sym never)
+  no_super actions.Skip never lends = true≢false (sym never)
+  no_super a never lends = true≢false (sym never)
+
   pub class_of_maker : (h : HeapContents) (fr : Frame) (frs : List Frame) → Stands p fr → AllStand p frs → IsCalledFrom p h fr frs → constructs (method_at p fr.method) ≡ true
       → (w c : ℕ) (y : Object) (f : FieldId) (x : Field) → fr.locals.this ≡ values.Object w → object_at h w ≡ Some y → field_at p f ≡ Some x → x.owning ≡ true → y.class ≡ x.class
       → field_value p h w f ≡ values.Object c → AreFilled p h frs → is_class_of x.class (method_at p fr.method) ≡ true
@@ -160,5 +168,7 @@ module _ (p : Program) (ac : Accept p) (forms : HasPlainForms p) where
           let makes = forms.super_calls rest.0.number called.0.index (move_of called.0.step) rest.0.control step super in
           let constructor = sym (ap constructs (body_method caller rest.0)) ∙ makes in
           let own = further constructor w c y f x (sym same ∙ this) there at owning class value filled.1 in
-          let stored = filled.0 rest.0.number w c f x rest.0.id constructor (sym same ∙ this) at owning own value in
-          absurd (true≢false (sym super ∙ forms.supers rest.0.number called.0.index (move_of called.0.step) stored step))
+          elim (filled.0 rest.0.number w c f x rest.0.id constructor (sym same ∙ this) at owning own value) [
+            | inl stored ↦ absurd (true≢false (sym super ∙ forms.supers rest.0.number called.0.index (move_of called.0.step) stored step))
+            | inr lends ↦ absurd (no_super called.0.step.action super (lends_here p caller rest.0 called.0.index called.0.step called.0.here lends))
+          ]

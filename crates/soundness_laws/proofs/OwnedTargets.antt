@@ -9,6 +9,7 @@ use Rattle.java_control.specs.declared.place.Place.TheVariants as places
 use Rattle.ownership_rules.specs.Facts.{PlaceSet, has, is_own}
 use Rattle.ledger_state.specs.Contents.{HeapContents}
 use Rattle.ledger_state.specs.Heaps.{object_at, root_of}
+use Rattle.ledger_state.specs.declared.entry.Owner.{Owner}
 use Rattle.ledger_state.specs.declared.entry.Owner.TheVariants as owners
 use Rattle.ledger_state.specs.declared.object.Object.{Object}
 use Rattle.content_laws.specs.Accept.{Accept}
@@ -52,12 +53,13 @@ module _ (p : Program) (ac : Accept p) (forms : HasPlainForms p) (h : HeapConten
       not_other : IsHeldOrLent p h frs fr o x.owner → ⊥
       not_other (inl lends) = not_lent lends
       not_other (inr (inl held)) = not_held held
-      not_other (inr (inr inside)) = not_inside inside
+      not_other (inr (inr (inl inside))) = not_inside inside
+      not_other (inr (inr (inr made))) = let never : ◌≡◌ {A = Owner} owners.Unowned (owners.Frame (length frs + 1)) = sym made.1 ∙ mine in cc
 
       by : IsKeyed p h false false old frs fr (places.Temp temp.0) o x → IsInOwned
       by (owned c in' key) = elim (claims_by p (method_at p fr.method) c.origin c.fact key.owning) [
         | inl own ↦ (c, key, own, temp.3 c.fact.places in', (temp.0, in'))
-        | inr held ↦ absurd (not_other (holds o x at heavy owes done (step_renews p h fr i s o here renewed) false false c held.0 held.1 (claims_owned p (method_at p fr.method) c.origin c.fact key.owning).0))
+        | inr held ↦ absurd (not_other (holds o x at heavy owes (inl done) (step_renews p h fr i s o here renewed) false false c held.0 held.1 (claims_owned p (method_at p fr.method) c.origin c.fact key.owning).0))
       ]
       by (unowned u) = absurd (elim (target_mode p ac forms h fr old frs st i s here row false false o x u.covers (temp.3 u.covers.fact.places u.here)) [
         | inl claimed ↦ true≢false (sym claimed ∙ u.unowned)

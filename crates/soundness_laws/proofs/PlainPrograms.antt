@@ -154,5 +154,5 @@ module _ (p : Program) (ac : Accept p) where
       library = λ c d under is. files.library c d ((is_under_law p ac.well_formed.valid.typed.hierarchy c d).0 under) is;
       given = files.given.results;
       alone = owners_alone p ac files;
-      resets = λ b {k} i t comes there. inr (record { constructor = plain.calls b i t comes there });
+      resets = λ b {k} i t comes there. inr (record { aliased = plain.calls b i t comes there });
     }

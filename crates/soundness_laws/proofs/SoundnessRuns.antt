@@ -50,7 +50,7 @@ use Rattle.content_laws.specs.Types.{TopHoldsWhatIsThere}
 use Rattle.content_laws.proofs.CoveringLaws.{types_at_start, types_step}
 use Rattle.content_laws.proofs.CoveringLaws.{ranges_at_start, ranges_step}
 use Rattle.content_laws.proofs.Runs.{fields_hold_at_start, fields_hold_step, top_stores_readily}
-use Rattle.content_laws.proofs.CoveringLaws.{being_made_at_start, being_made_step, covered_at_start, covered_step, fields_own_at_start, fields_own_step, linked_are_aliases_at_start, linked_are_aliases_step}
+use Rattle.content_laws.proofs.CoveringLaws.{being_made_at_start, being_made_step, covered_at_start, covered_step, fields_own_at_start, fields_own_step, linked_are_aliases_at_start, linked_are_aliases_step, makers_own_at_start, makers_own_step}
 use Rattle.content_laws.proofs.Chains.{object_there}
 use Rattle.content_laws.proofs.NameCounts.{accepted_names}
 use Rattle.java_control.specs.Control.{Step}
@@ -102,19 +102,19 @@ top_supported p ac forms h es (fr ∷ frs) agrees fields covered filled owned ra
 
 -- what the end of the top frame shows of what the one below has lent
 top_shows : (p : Program) (ac : Accept p) (forms : HasPlainForms p) (h : HeapContents) (es : List Entry) (frs : List Frame) → Agrees p frs h es → FieldsHold p frs h → AreCovered p h frs → All (λ (f : Frame). LocalsInRange h f.locals) frs → FieldsOwn p h → HaveTargets p frs → HaveArguments p frs
-    → TopEndsByException p h frs → TopShowsOperands p h frs
-top_shows p ac forms h es [] agrees fields covered ranges owned targets given exits = tt
-top_shows p ac forms h es (fr ∷ []) agrees fields covered ranges owned targets given exits = tt
-top_shows p ac forms h es (fr ∷ caller ∷ frs) agrees fields covered ranges owned targets given exits =
+    → TopEndsByException p h frs → AllActInSight p h frs → TopShowsOperands p h frs
+top_shows p ac forms h es [] agrees fields covered ranges owned targets given exits sight = tt
+top_shows p ac forms h es (fr ∷ []) agrees fields covered ranges owned targets given exits sight = tt
+top_shows p ac forms h es (fr ∷ caller ∷ frs) agrees fields covered ranges owned targets given exits sight =
     λ below i j s t q o x anew w here is there row normal thrown before done heavy mine stays.
     operands_shown p ac forms h fr caller frs agrees.standing.0 agrees.stacked.0 covered.0 covered.2 given.0
-    (apart_at_end p ac forms h es fr caller frs agrees fields covered (All-head (λ (f : Frame). LocalsInRange h f.locals) caller frs (All-tail (λ (f : Frame). LocalsInRange h f.locals) fr (caller ∷ frs) ranges)) owned targets.1.0) exits below i j s t q here is there row normal thrown o x anew w before done heavy mine stays
+    (apart_at_end p ac forms h es fr caller frs agrees fields covered (All-head (λ (f : Frame). LocalsInRange h f.locals) caller frs (All-tail (λ (f : Frame). LocalsInRange h f.locals) fr (caller ∷ frs) ranges)) owned targets.1.0 sight.1.0.makes) exits below i j s t q here is there row normal thrown o x anew w before done heavy mine stays
 
 pub agree_step : (p : Program) → Accept p → HasPlainForms p → GivesLibraryClasses p → ThrowsMadeClasses p → (c d : Config) → Agree p c → HaveTargets p c.frames → FieldsHold p c.frames c.heap → AllActInSight p c.heap c.frames → AreCovered p c.heap c.frames → AreInRange c
     → AreBeingMade p c.heap c.frames → HaveArguments p c.frames → TopEndsByException p c.heap c.frames → AreFilled p c.heap c.frames → FieldsOwn p c.heap → LinkedAreAliases p c.heap → step p c ≡ went d → Agree p d
 agree_step p ac forms gives throws c d agrees targets fields sight covered ranges making given exits filled owned linked is =
     step_agrees p ac forms (accepted_names p ac) gives throws c d agrees targets fields sight covered (top_supported p ac forms c.heap c.entries c.frames agrees fields covered filled owned ranges.frames targets linked sight) ranges making
-    (top_shows p ac forms c.heap c.entries c.frames agrees fields covered ranges.frames owned targets given exits) owned is
+    (top_shows p ac forms c.heap c.entries c.frames agrees fields covered ranges.frames owned targets given exits sight) owned is
 
 -- an exception by which the top frame ends has a class
 top_exits : (p : Program) (ac : Accept p) (h : HeapContents) (frs : List Frame) → AllStand p frs → All (λ (fr : Frame). LocalsInRange h fr.locals) frs → HaveThrown p frs → TopEndsByException p h frs
@@ -181,19 +181,20 @@ holds_step p ac files plain c d holds is =
     let declared = top_declared p ac c.heap c.frames exits (λ bound own. (holds.values bound own).frames) in
     let raises = top_raises p c.heap c.frames (raised_values_are_exceptions p ac files.texts c.heap c.frames (holds.values p.core.throwable files.texts).frames) in
     let sight = acts_in_sight p ac files.light_texts files.text_fields forms.library files.given.string c.heap c.frames holds.agree.standing holds.agree.links (λ bound own. (holds.values bound own).frames) holds.types.frames holds.aliases holds.reached
-    (all_update_texts p ac forms files.texts files.light_texts c.heap c.frames (holds.values p.core.throwable files.texts).frames holds.types.frames holds.types.fields holds.aliases) holds.objects in
+    (all_update_texts p ac forms files.texts files.light_texts c.heap c.frames (holds.values p.core.throwable files.texts).frames holds.types.frames holds.types.fields holds.aliases) holds.objects holds.agree.stacked holds.making in
     let alone = top_runs_alone p ac forms c.heap c.frames holds.agree.standing holds.agree.stacked holds.fields.contents holds.fields.new holds.filled in
     let agree' = agree_step p ac forms files.given files.exceptions c d holds.agree holds.targets holds.fields sight holds.covered holds.ranges holds.making holds.arguments exits holds.filled holds.owned holds.aliases is in record {
       agree = agree';
       targets = targets_step p ac c d holds.targets is;
       types = types_step p ac forms files.given.string c d holds.agree.classes (top_there c.heap c.frames holds.ranges.frames) holds.types is;
       ranges = ranges_step p ac forms c d holds.agree holds.targets holds.ranges is;
-      covered = covered_step p ac forms alike (accepted_names p ac) files.light_texts c d holds.agree holds.targets holds.types holds.ranges holds.fields holds.making holds.aliases holds.owned holds.covered holds.arguments declared raises sight alone is;
-      making = being_made_step p ac forms alike (accepted_names p ac) files.light_texts c d holds.agree holds.targets holds.types holds.ranges holds.fields holds.making holds.aliases holds.owned holds.covered holds.arguments declared raises sight alone is;
-      aliases = linked_are_aliases_step p ac forms alike (accepted_names p ac) files.light_texts c d holds.agree holds.targets holds.types holds.ranges holds.fields holds.making holds.aliases holds.owned holds.covered holds.arguments declared raises sight alone is;
+      covered = covered_step p ac forms alike (accepted_names p ac) files.light_texts c d holds.agree holds.targets holds.types holds.ranges holds.fields holds.making holds.aliases holds.owned holds.makers holds.covered holds.arguments declared raises sight alone is;
+      making = being_made_step p ac forms alike (accepted_names p ac) files.light_texts c d holds.agree holds.targets holds.types holds.ranges holds.fields holds.making holds.aliases holds.owned holds.makers holds.covered holds.arguments declared raises sight alone is;
+      aliases = linked_are_aliases_step p ac forms alike (accepted_names p ac) files.light_texts c d holds.agree holds.targets holds.types holds.ranges holds.fields holds.making holds.aliases holds.owned holds.makers holds.covered holds.arguments declared raises sight alone is;
       fields = fields_hold_step p ac forms c d holds.agree holds.targets holds.ranges holds.covered holds.fields holds.owned holds.aliases
           (λ fr caller rest frames. top_making p c.heap c.frames fr caller rest frames holds.making) sight agree'.links holds.arguments (top_ends_by_class p c.heap c.frames exits) is;
-      owned = fields_own_step p ac forms alike (accepted_names p ac) files.light_texts c d holds.agree holds.targets holds.types holds.ranges holds.fields holds.making holds.aliases holds.owned holds.covered holds.arguments declared raises sight alone is;
+      owned = fields_own_step p ac forms alike (accepted_names p ac) files.light_texts c d holds.agree holds.targets holds.types holds.ranges holds.fields holds.making holds.aliases holds.owned holds.makers holds.covered holds.arguments declared raises sight alone is;
+      makers = makers_own_step p ac forms alike (accepted_names p ac) files.light_texts c d holds.agree holds.targets holds.types holds.ranges holds.fields holds.making holds.aliases holds.owned holds.makers holds.covered holds.arguments declared raises sight alone is;
       arguments = arguments_step p ac forms c d holds.agree.classes holds.agree.standing holds.targets holds.arguments is;
       reached = links_reach_aliased_step p ac forms files.light_texts c d holds.agree holds.targets holds.ranges holds.fields holds.making holds.values holds.reached is;
       values = classes_step p ac forms (plain_results p ac files plain) c d holds.agree holds.targets exits holds.values is;
@@ -219,6 +220,7 @@ module _ (p : Program) (ac : Accept p) (gives : GivesLibraryClasses p) (main : M
         aliases = linked_are_aliases_at_start p main choices;
         fields = fields_hold_at_start p main m choices at (ap is_constructor_kind (static_main m main'));
         owned = fields_own_at_start p main choices;
+        makers = makers_own_at_start p main choices;
         arguments = arguments_at_start p main choices;
         reached = links_reach_aliased_at_start p main choices;
         values = classes_at_start p ac main m choices at body;

@@ -57,7 +57,6 @@ use Rattle.soundness_laws.proofs.CallEnds.{returned_agrees}
 use Rattle.soundness_laws.proofs.CallStarts.{IsStarted, began_agrees}
 use Rattle.content_laws.specs.FieldContents.{FieldsHold, FieldsOwn, IsBeingMade}
 use Rattle.content_laws.specs.Sight.{ActsInSight, AllActInSight}
-use Rattle.content_laws.specs.TextUpdates.{UpdatesTexts}
 use Rattle.content_laws.specs.Holders.{HoldersAreUnlinked}
 use Rattle.content_laws.specs.Renewing.{is_renewed}
 use Rattle.content_laws.specs.Covering.{IsCountedOn}
@@ -136,7 +135,7 @@ module _ (p : Program) (ac : Accept p) (forms : HasPlainForms p) (names : HasSma
 
   module _ (c d : Config) (fr caller : Frame) (frs : List Frame) (i : ℕ) (s : Step) (pos : Pos) (q : Completion) (agrees : Agrees p (fr ∷ caller ∷ frs) c.heap c.entries)
       (here : slice_get (frame_steps p fr) i ≡ Some s) (is : s.action ≡ actions.End q) (before : Agree p c) (sup : IsSupported p c.heap (fr ∷ caller ∷ frs)) (making : IsBeingMade p c.heap fr caller) (keeps : ShowsOperands p c.heap fr caller (length frs + 1)) (fields : FieldsHold p (fr ∷ caller ∷ frs) c.heap)
-      (covered : AreCovered p c.heap (fr ∷ caller ∷ frs)) (sight : ActsInSight p c.heap caller) (ranges : All (λ (x : Frame). LocalsInRange c.heap x.locals) (fr ∷ caller ∷ frs)) (owned : FieldsOwn p c.heap) (targets : HaveTargets p (caller ∷ frs)) where
+      (covered : AreCovered p c.heap (fr ∷ caller ∷ frs)) (sight : ActsInSight p c.heap caller) (sights : AllActInSight p c.heap frs) (ranges : All (λ (x : Frame). LocalsInRange c.heap x.locals) (fr ∷ caller ∷ frs)) (owned : FieldsOwn p c.heap) (targets : HaveTargets p (caller ∷ frs)) where
     abbrev e : Option ClassId
     e = exception_class p c.heap (thrown_in fr.locals q)
 
@@ -163,7 +162,7 @@ module _ (p : Program) (ac : Accept p) (forms : HasPlainForms p) (names : HasSma
 
     -- what the caller owns, and its call does not create anew, is old for the frame that ends, and spared
     apart : (o : ℕ) (x : Object) → object_at c.heap o ≡ Some x → IsHeavyObject p x → x.owner ≡ owners.Frame (length frs + 1) → is_renewed p c.heap caller o ≡ false → IsCountedOn p c.heap covered.0 (caller ∷ frs) fr o x
-    apart = apart_at_end p ac forms c.heap c.entries fr caller frs agrees fields covered (All-head (λ (x : Frame). LocalsInRange c.heap x.locals) caller frs in_frames) owned targets.0
+    apart = apart_at_end p ac forms c.heap c.entries fr caller frs agrees fields covered (All-head (λ (x : Frame). LocalsInRange c.heap x.locals) caller frs in_frames) owned targets.0 sight.makes
 
     no_way : (o : Outcome) → o ≡ went c → o ≡ went d → Agree p d
     no_way o stays same = subst (Agree p) (let one : c ≡ d = (let both : went c ≡ went d = sym stays ∙ same in cc) in one) before
@@ -172,7 +171,7 @@ module _ (p : Program) (ac : Accept p) (forms : HasPlainForms p) (names : HasSma
     back_step t back =
         returned_agrees p ac forms names fr caller frs c.heap c.entries agrees i s here q is back.index t back.here w.named
         (answer c.heap fr caller q agrees.standing.0 below w t (one_call back.index t back.here) back.normal (λ x thrown. (let way = back.thrown x thrown in (way.0, way.2)))) sup.0 making keeps fields.leads covered.0 covered.2 fields.dispatched.0
-        covered.3 fields.owning sight (All-head (λ (x : Frame). LocalsInRange c.heap x.locals) fr (caller ∷ frs) ranges)
+        covered.3 fields.owning sight sights (All-head (λ (x : Frame). LocalsInRange c.heap x.locals) fr (caller ∷ frs) ranges)
         (All-head (λ (x : Frame). LocalsInRange c.heap x.locals) caller frs in_frames) back sup.1 fields.unfinished.1 (All-tail (λ (x : Frame). LocalsInRange c.heap x.locals) caller frs in_frames) owned holders targets apart
         (stands_on p ac c.heap caller below back.index t (answered fr.locals.this t.action (result_value fr.locals (method_at p fr.method) q) e) back.here) pos
 
@@ -194,7 +193,7 @@ module _ (p : Program) (ac : Accept p) (forms : HasPlainForms p) (names : HasSma
       subst (Agree p) (let one : main_ended p c fr pos q ≡ d = (let both : went (main_ended p c fr pos q) ≡ went d = same in cc) in one)
       (main_agrees p ac fr c.heap c.entries agrees i s here q is pos)
   end_agrees c d fr (caller ∷ frs) i s pos q agrees here is before sup making keeps fields covered sight ranges owned targets same =
-      ends_below c d fr caller frs i s pos q agrees here is before sup making.0 keeps fields covered sight.1.0 ranges owned targets same
+      ends_below c d fr caller frs i s pos q agrees here is before sup making.0 keeps fields covered sight.1.0 sight.1.1 ranges owned targets same
 
   -- ---- the start of a call
 
@@ -258,18 +257,18 @@ module _ (p : Program) (ac : Accept p) (forms : HasPlainForms p) (names : HasSma
 
   -- a step within the frame
   inner_step : (c : Config) (fr : Frame) (frs : List Frame) (e : Option ClassId) (s : Step) (v : Value) → Agrees p (fr ∷ frs) c.heap c.entries → (i : ℕ) → slice_get (frame_steps p fr) i ≡ Some s
-      → IsInnerStep p c.heap c.arrays fr.method fr.locals e s → IsSupported p c.heap (fr ∷ frs) → UpdatesTexts p c.heap fr → FieldsHold p (fr ∷ frs) c.heap → HaveTargets p (fr ∷ frs)
+      → IsInnerStep p c.heap c.arrays fr.method fr.locals e s → IsSupported p c.heap (fr ∷ frs) → AllActInSight p c.heap (fr ∷ frs) → FieldsHold p (fr ∷ frs) c.heap → HaveTargets p (fr ∷ frs)
       → AreCovered p c.heap (fr ∷ frs) → All (λ (x : Frame). LocalsInRange c.heap x.locals) (fr ∷ frs) → FieldsOwn p c.heap
       → Agrees p (frame_after p c.heap fr s v ∷ frs) (inner p c.heap fr.method fr.locals e s.action s.pos (held_by (frame_after p c.heap fr s v ∷ frs))).heap
       (c.entries ++ (inner p c.heap fr.method fr.locals e s.action s.pos (held_by (frame_after p c.heap fr s v ∷ frs))).lines)
-  inner_step c fr frs e s v agrees i here (inl plain) sup updates fields targets covered ranges owned =
-      inner_agrees p ac forms fr frs c.heap c.entries agrees i s here e v c.arrays (inl plain) updates fields.contents throws (stands_on p ac c.heap fr agrees.standing.0 i s v here)
-  inner_step c fr frs e s v agrees i here (inr (inl null)) sup updates fields targets covered ranges owned =
-      inner_agrees p ac forms fr frs c.heap c.entries agrees i s here e v c.arrays (inr null) updates fields.contents throws (stands_on p ac c.heap fr agrees.standing.0 i s v here)
-  inner_step c fr frs e s v agrees i here (inr (inr store)) sup updates fields targets covered ranges owned =
+  inner_step c fr frs e s v agrees i here (inl plain) sup sight fields targets covered ranges owned =
+      inner_agrees p ac forms fr frs c.heap c.entries agrees i s here e v c.arrays (inl plain) sight.0.updates fields.contents throws (stands_on p ac c.heap fr agrees.standing.0 i s v here)
+  inner_step c fr frs e s v agrees i here (inr (inl null)) sup sight fields targets covered ranges owned =
+      inner_agrees p ac forms fr frs c.heap c.entries agrees i s here e v c.arrays (inr null) sight.0.updates fields.contents throws (stands_on p ac c.heap fr agrees.standing.0 i s v here)
+  inner_step c fr frs e s v agrees i here (inr (inr store)) sup sight fields targets covered ranges owned =
       let good = sup.0.stores i s store.field store.temp here store.action in
       store_agrees p ac forms fr frs c.heap c.entries agrees i s here store.field store.temp store.action v good (sup.2 i s store.field store.temp here store.action good.holder good.object good.this good.there) targets.1 covered.0 covered.3
-      fields.unfinished.1 (All-tail (λ (x : Frame). LocalsInRange c.heap x.locals) fr frs ranges) owned (contents_have_holders p ac (fr ∷ frs) c.heap fields.contents) e store.normal
+      fields.unfinished.1 (All-tail (λ (x : Frame). LocalsInRange c.heap x.locals) fr frs ranges) owned (contents_have_holders p ac (fr ∷ frs) c.heap fields.contents) sight.1 e store.normal
       (stands_on p ac c.heap fr agrees.standing.0 i s v here)
 
   moved_agrees : (c d : Config) (fr : Frame) (frs : List Frame) (mv : Move) → Agrees p (fr ∷ frs) c.heap c.entries → IsNext p c.heap c.arrays fr.method fr.locals (frame_steps p fr) mv → moved p c fr frs mv ≡ went d
@@ -279,13 +278,13 @@ module _ (p : Program) (ac : Accept p) (forms : HasPlainForms p) (names : HasSma
       let made = made_value p c.heap c.arrays c.statics (next_choice c.choices c.used) fr.locals s.action in
       let v = thrown_value c.heap e made in
       subst (Agree p) (let one : within p c fr frs e s ≡ d = (let both : went (within p c fr frs e s) ≡ went d = same in cc) in one)
-      (inner_step c fr frs e s v agrees next.0 next.1 next.2 sup sight.0.updates fields targets covered ranges owned)
+      (inner_step c fr frs e s v agrees next.0 next.1 next.2 sup sight fields targets covered ranges owned)
   moved_agrees c d fr frs (Start named runs a pos) agrees next same before sup targets ranges making keeps fields sight covered owned =
       subst (Agree p) (let one : began p c fr frs named runs a pos ≡ d = (let both : went (began p c fr frs named runs a pos) ≡ went d = same in cc) in one)
       (begin_agrees c fr frs named runs a pos agrees next sup.0 targets.0 (All-head (λ (x : Frame). LocalsInRange c.heap x.locals) fr frs ranges) covered.0 covered.2)
   moved_agrees c d fr frs (Library named m x s) agrees next same before sup targets ranges making keeps fields sight covered owned =
       subst (Agree p) (let one : library_went p c fr frs named m x s ≡ d = (let both : went (library_went p c fr frs named m x s) ≡ went d = same in cc) in one)
-      (library_agrees p ac forms names fr frs c.heap c.entries agrees next.index s next.here named m x (call_value p c fr named m x s) c.arrays (library_step c fr named m x s next) (All-head (λ (x : Frame). LocalsInRange c.heap x.locals) fr frs ranges) fields.leads covered.0 covered.2 covered.3 fields.owning sight.0 fields.unfinished (All-tail (λ (x : Frame). LocalsInRange c.heap x.locals) fr frs ranges) owned (contents_have_holders p ac (fr ∷ frs) c.heap fields.contents) targets gives throws
+      (library_agrees p ac forms names fr frs c.heap c.entries agrees next.index s next.here named m x (call_value p c fr named m x s) c.arrays (library_step c fr named m x s next) (All-head (λ (x : Frame). LocalsInRange c.heap x.locals) fr frs ranges) fields.leads covered.0 covered.2 covered.3 fields.owning sight.0 sight.1 fields.unfinished (All-tail (λ (x : Frame). LocalsInRange c.heap x.locals) fr frs ranges) owned (contents_have_holders p ac (fr ∷ frs) c.heap fields.contents) targets gives throws
       (stands_on p ac c.heap fr agrees.standing.0 next.index s (call_value p c fr named m x s) next.here))
   moved_agrees c d fr frs (End pos q) agrees next same before sup targets ranges making keeps fields sight covered owned = end_agrees c d fr frs next.0 next.1 pos q agrees next.2 next.3 before sup making keeps fields covered sight ranges owned targets.1 same
   moved_agrees c d fr frs (Stray e pos) agrees next same before sup targets ranges making keeps fields sight covered owned = absurd (let never : stray e pos ≡ went d = same in cc)

@@ -48,6 +48,7 @@ use Rattle.content_laws.specs.Stores.{IsDisplaced, IsMovedIn, IsStored}
 use Rattle.content_laws.proofs.StoredObjects.{displaced_leaks, moved_back, moved_links, moved_takes, stored_count, stored_goes_on, unfinished_stays}
 use Rattle.content_laws.specs.Chains.{Ends, HaveEnds, IsLast, ends_here, of_field}
 use Rattle.content_laws.specs.Agreement.{Agrees, HasMadeClasses, IsAwaited, IsTracked, Stands, Tracks, is_answering}
+use Rattle.content_laws.specs.Sight.{AllActInSight}
 use Rattle.content_laws.specs.Steps.{RootsStay}
 use Rattle.content_laws.proofs.Chains.{IsOwnedAs, ends_on, given_up_last, owned_is_finished}
 use Rattle.content_laws.proofs.Landing.{landed, no_leak_in_both}
@@ -91,7 +92,7 @@ heavy_up p h holders a b (by_field o v _ g u at' owned rest) x z at heavy there 
 module _ (p : Program) (ac : Accept p) (forms : HasPlainForms p) (fr : Frame) (frs : List Frame) (h : HeapContents) (es : List Entry) (agrees : Agrees p (fr ∷ frs) h es) (i : ℕ) (s : Step)
     (here : slice_get (frame_steps p fr) i ≡ Some s) (f : FieldId) (d : ℕ) (is : s.action ≡ actions.PutOwn f d) (v : Value) (good : StoresWell p h fr f d)
     (kind : (good.object.finished ≡ false) ⊎ IsLentHolder p h fr frs d f good.holder good.object) (targets : HaveTargets p frs) (old : ℕ → Bool) (waiting : AreWaiting p h old frs) (unready : AreUnfinished p h frs)
-    (lower : All (λ (u : Frame). LocalsInRange h u.locals) frs) (content : FieldsOwn p h) (holders : HoldersAreUnlinked (is_heavy_class p) h) where
+    (lower : All (λ (u : Frame). LocalsInRange h u.locals) frs) (content : FieldsOwn p h) (holders : HoldersAreUnlinked (is_heavy_class p) h) (sight : AllActInSight p h frs) where
   abbrev after : Frame
   after = frame_after p h fr s v
 
@@ -244,7 +245,7 @@ module _ (p : Program) (ac : Accept p) (forms : HasPlainForms p) (fr : Frame) (f
         frame.0,
         same ∙ frame.1,
         below frame.0 frame.2
-            (lent_awaited p ac forms h heap agrees.ends agrees.links content holders n t.before y t.was heavy done (stays n t.before t.was) class bounded frame.0 frame.1 fr frs agrees.standing.1 targets agrees.stacked old waiting lower unready
+            (lent_awaited p ac forms h heap agrees.ends agrees.links content holders n t.before y t.was heavy done (stays n t.before t.was) class bounded frame.0 frame.1 fr frs agrees.standing.1 targets agrees.stacked old waiting lower unready sight
             w good.object good.there lent.lent was_up),
       )
       | inr field ↦ inr (field.0, field.1, same ∙ field.2)

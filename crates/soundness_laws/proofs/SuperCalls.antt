@@ -1,4 +1,4 @@
--- Behind a store into an owning field of `this` no step calls a super constructor.
+-- Behind a store into an owning field of `this`, or a call that may have made one, no step calls a super constructor.
 use Rattle.std.proofs.Common.{◌≡◌, ℕ, false, Some, List, slice_get, refl, true≢false}
 use Rattle.program_model.specs.declared.kinds.BodyId.{BodyId}
 use Rattle.program_model.specs.declared.program.Program.{Program}
@@ -12,9 +12,9 @@ use Rattle.content_laws.specs.Paths.{Move, relation_of}
 use Rattle.content_laws.specs.StepStarts.{is_super}
 use Rattle.content_laws.specs.SuperArguments.{SuperCallsPassNoThis}
 use Rattle.content_laws.proofs.Orders.{IsBehind}
-use Rattle.content_laws.proofs.StartReached.{body_there, moves_behind, store_is_behind}
+use Rattle.content_laws.proofs.StartReached.{body_there, moves_behind, reset_is_behind, store_is_behind}
 use Rattle.content_laws.specs.PlainForms.{calls_constructor}
-use Rattle.content_laws.specs.Storing.{HasStored, onward, stored}
+use Rattle.content_laws.specs.Storing.{HasStored, onward, opened, stored}
 
 no_constructor : (p : Program) (a : Action) → is_super a ≡ false → calls_constructor p a ≡ false
 no_constructor p (actions.Super m d n) is = absurd (true≢false is)
@@ -25,6 +25,9 @@ module _ (p : Program) (typed : IsTypedProgram p) (passes : SuperCallsPassNoThis
   behind b k (stored {k = j} i t f d comes there is) =
       let x = body_there p b j i t there in
       (x.0, x.1, store_is_behind p typed b x.0 x.1 passes j i t f d comes there is)
+  behind b k (opened {k = j} i t comes there lends) =
+      let x = body_there p b j i t there in
+      (x.0, x.1, reset_is_behind p typed b x.0 x.1 passes j i t comes there lends)
   behind b k (onward {k = j} i t before there) =
       let x = behind b j before in
       (x.0, x.1, (moves_behind p typed b x.0 x.1 j i t x.2 there).1)

@@ -63,7 +63,7 @@ use Rattle.content_laws.proofs.Ends.{heavy_field_by}
 use Rattle.content_laws.proofs.Following.{small_step}
 use Rattle.content_laws.proofs.HeavyFields.{own_claims}
 use Rattle.content_laws.proofs.StoreSteps.{temp_is_taken}
-use Rattle.content_laws.proofs.StoringThis.{IsItsField, its_field, storing_this}
+use Rattle.content_laws.proofs.StoringThis.{IsItsField, IsReopened, its_field, storing_this}
 use Rattle.content_laws.proofs.UnlinkedThis.{this_object, unlinked_this}
 use Rattle.content_laws.proofs.Unmet.{may_lies, nothing_to_call}
 use Rattle.content_laws.specs.Stores.{IsDisplaced, IsMovedIn}
@@ -279,10 +279,14 @@ module _ (p : Program) (ac : Accept p) (forms : HasPlainForms p) (h : HeapConten
             | inr held ↦ inr held
           ]
 
+      by_finish : IsReopened p h frs fr w self → (b : Bool) → self.finished ≡ b → (self.finished ≡ false) ⊎ IsLentHolder p h fr frs d f w self
+      by_finish opened false open' = inl open'
+      by_finish opened true done = inr (record { finished = done; single = opened.single; heavy = opened.heavy.1; lent = opened.lent; mine = owns opened.opens })
+
       lent_here : (self.finished ≡ false) ⊎ IsLentHolder p h fr frs d f w self
       lent_here = elim (storing_this p ac forms h links fields fr mine st old frs targets covered unmade i s here f d is w this' self at under unlinked) [
         | inl new ↦ inl new.0
-        | inr opened ↦ inr (record { finished = opened.heavy.0; single = opened.single; heavy = opened.heavy.1; lent = opened.lent; mine = owns opened.opens })
+        | inr opened ↦ by_finish opened self.finished refl
       ]
 
   pub stores_into_lent : StoresIntoLent p h fr frs

@@ -3,7 +3,7 @@ use Rattle.program_model.specs.declared.program.Program.{Program}
 use Rattle.content_laws.specs.Configuration.{Config}
 use Rattle.content_laws.specs.Frames.{HaveTargets}
 use Rattle.content_laws.specs.Types.{HaveTypes}
-use Rattle.content_laws.specs.FieldContents.{FieldsHold, FieldsOwn}
+use Rattle.content_laws.specs.FieldContents.{FieldsHold, FieldsOwn, MakersOwn}
 use Rattle.content_laws.specs.PlaceFacts.{AreCovered}
 use Rattle.content_laws.specs.Ranges.{AreInRange}
 use Rattle.content_laws.specs.Making.{AreBeingMade}
@@ -17,7 +17,7 @@ use Rattle.content_laws.specs.Sight.{RunOnObjects}
 
 -- The frames and the heap agree with the facts of the flow rules, `this` stands where it is taken, no object stands where the static type is
 -- no class type, each object that is held is there, the places of frames are in facts that are true of what they hold, what is being made
--- is not finished, what is linked is an alias, of an argument that some method takes, fields hold what they own, and own what they hold, and calls on links lead to their ends, frames hold the arguments of their calls, an object of a class or null stands where the static
+-- is not finished, what is linked is an alias, of an argument that some method takes, fields hold what they own, and own what they hold, those of what constructors make, too, and calls on links lead to their ends, frames hold the arguments of their calls, an object of a class or null stands where the static
 -- type is under the class, exceptions on their way out stand in their temps, constructors have stored what the owning fields of their objects hold, and frames with a `this` run on objects.
 pub record Holds (p : Program) (c : Config) : Type 0 where
   pub agree : Agree p c
@@ -30,6 +30,7 @@ pub record Holds (p : Program) (c : Config) : Type 0 where
   pub reached : LinksReachAliased p c.heap
   pub fields : FieldsHold p c.frames c.heap
   pub owned : FieldsOwn p c.heap
+  pub makers : MakersOwn p c.heap c.frames
   pub arguments : HaveArguments p c.frames
   pub values : HaveClasses p c
   pub thrown : HaveThrown p c.frames

@@ -1,5 +1,5 @@
 -- What expressions and conditions of a body become are such items, where they themselves are.
-use Rattle.std.proofs.Common.{◌≡◌, ℕ, ◌+◌, Bool, true, false, Option, Some, None, List, [], ◌∷◌, ◌++◌, length, Contains, refl, sym, ◌∙◌, true≢false, if◌then◌else◌}
+use Rattle.std.proofs.Common.{◌≡◌, ℕ, ◌+◌, Bool, true, false, Option, Some, None, List, [], ◌∷◌, ◌++◌, length, Contains, refl, sym, ◌∙◌, true≢false, if◌then◌else◌, IsSomeAnd}
 use Rattle.std.specs.List.{AllByRecursion}
 use Rattle.std.proofs.lemmas.List.Elements.{All-contains_itself, All-weaker, recursion_from_All}
 use Rattle.program_model.specs.declared.kinds.BinaryOperator.{BinaryOperator}
@@ -12,6 +12,7 @@ use Rattle.program_model.specs.declared.kinds.MethodId.{MethodId}
 use Rattle.program_model.specs.declared.kinds.UnaryOperator.{UnaryOperator}
 use Rattle.program_model.specs.declared.kinds.UnaryOperator.TheVariants as unary
 use Rattle.program_model.specs.declared.kinds.VType.{VType}
+use Rattle.program_model.specs.declared.program.Method.{Method}
 use Rattle.program_model.specs.declared.program.Program.{Program}
 use Rattle.program_model.specs.declared.tree.AssignmentTarget.{AssignmentTarget}
 use Rattle.program_model.specs.declared.tree.AssignmentTarget.TheVariants as targets
@@ -24,9 +25,10 @@ use Rattle.program_model.specs.declared.tree.ExpressionKind.TheVariants as expre
 use Rattle.program_model.specs.declared.tree.NewObject.{NewObject}
 use Rattle.program_model.specs.declared.tree.OperatorAssignment.{OperatorAssignment}
 use Rattle.program_model.specs.declared.tree.TExpr.{TExpr}
-use Rattle.program_model.specs.Lookups.{expression_at}
+use Rattle.program_model.specs.Lookups.{expression_at, method_at}
 use Rattle.program_model.specs.Trees.{assignment_operands, call_target, operands}
-use Rattle.program_model.specs.Typing.{is_this_kind, kind_in}
+use Rattle.program_model.specs.Typing as typing
+use Rattle.program_model.specs.Typing.{AreArguments, IsCall, IsCallTarget, IsOfOptionalType, is_this_kind, kind_in}
 use Rattle.rlc_base.specs.declared.place.Pos.{Pos}
 use Rattle.java_control.specs.Conditions.{binary_condition, condition_front, equal_condition, kind_condition, literal_condition, node_condition, not_equal_condition, tests_value, unary_condition}
 use Rattle.java_control.specs.Expressions.{assignment_front, binary_front, call_with, comparison_front, computes, evaluations, expression_front, field_read, field_store, new_front, postfix_front, stored, stored_at, stored_in, tested_front, type_or_null, unary_front, update_front}
@@ -62,6 +64,33 @@ same_this (Some x) = same_kind x.kind
 abbrev pub AreFree : Bool → Body → List ExprId → Type 0
 AreFree early b es = AllByRecursion (λ e. IsFree early b e) es
 
+-- the target of a call on `this` is this
+abbrev pub CallsThis : Body → CallTarget → Type 0
+CallsThis b calls.Static = Unit {0}
+CallsThis b (calls.This e) = typing.is_this b e ≡ true
+CallsThis b (calls.Super e) = typing.is_this b e ≡ true
+CallsThis b (calls.Other e) = Unit {0}
+
+abbrev pub CallsOnThis : Body → ExpressionKind → Type 0
+CallsOnThis b (expressions.Call c) = CallsThis b c.target
+CallsOnThis b k = Unit {0}
+
+-- so it is of a typed expression
+pub calls_this : (p : Program) (b : Body) (k : ExpressionKind) (t : Option VType) → IsOfOptionalType p b k t → CallsOnThis b k
+calls_this p b (expressions.Call c) t typed = by (method_at p c.method) c.target (call_of t typed)
+  where
+    call_of : (t : Option VType) → IsOfOptionalType p b (expressions.Call c) t → IsCall p b c t
+    call_of None typed' = typed'
+    call_of (Some t) typed' = typed'
+
+    by : (m : Option Method) (target : CallTarget) → IsSomeAnd m (λ x. IsCallTarget p b target x × AreArguments p b c.arguments.items x.sig.params.items × (x.sig.result ≡ t)) → CallsThis b target
+    by None target never = absurd never
+    by (Some x) calls.Static is = tt
+    by (Some x) (calls.This e) is = is.0.1
+    by (Some x) (calls.Super e) is = is.0.1
+    by (Some x) (calls.Other e) is = tt
+calls_this p b k t typed = tt
+
 module _ (p : Program) (b : Body) (early : Bool) where
   -- what stands in a free expression is free
   pub free_operands : (e : ExprId) (x : TExpr) → expression_at b e ≡ Some x → IsFree early b e → AreFree early b (operands x.kind)
@@ -72,6 +101,10 @@ module _ (p : Program) (b : Body) (early : Bool) where
   -- a field of `this` is free where the call is done
   late_at_this : (e : ExprId) → IsFree early b e → is_this b e ≡ true → early ≡ false
   late_at_this e free this = not_true early (λ is. true≢false (sym this ∙ same_this (expression_at b e) ∙ free is e itself))
+
+  -- so is the target of a call on `this`
+  late_at_target : (e : ExprId) → IsFree early b e → typing.is_this b e ≡ true → early ≡ false
+  late_at_target e free this = not_true early (λ is. true≢false (sym this ∙ free is e itself))
 
   pub good_evaluations : (es : List ExprId) (d : ℕ) → AreFree early b es → AllGood early b (evaluations es d)
   good_evaluations [] d free = tt
@@ -130,13 +163,13 @@ module _ (p : Program) (b : Body) (early : Bool) where
       (free.0, good_computes (operators.Binary a.operator a.operands (type_or_null u)) (a.target ∷ a.value ∷ []) (d + 1) pos free) (good_stored a.target (d + 1) pos))
       (tt, tt)
 
-  good_call_with : (m : MethodId) (es : List ExprId) (c : CallTarget) (d : ℕ) (pos : Pos) → AreFree early b (call_target c ++ es) → AllGood early b (call_with m es c d pos)
-  good_call_with m es calls.Static d pos free = good_both early b (evaluations es d) (Act (actions.Call m d (length es) forms.Static) pos ∷ []) (good_evaluations es d free) (tt, tt)
-  good_call_with m es (calls.This e) d pos free =
-      good_both early b (Ev e d ∷ evaluations es (d + 1)) (Act (actions.Call m d (length es + 1) forms.This) pos ∷ []) (free.0, good_evaluations es (d + 1) free.1) (tt, tt)
-  good_call_with m es (calls.Super e) d pos free =
-      good_both early b (Ev e d ∷ evaluations es (d + 1)) (Act (actions.Call m d (length es + 1) forms.Super) pos ∷ []) (free.0, good_evaluations es (d + 1) free.1) (tt, tt)
-  good_call_with m es (calls.Other e) d pos free =
+  good_call_with : (m : MethodId) (es : List ExprId) (c : CallTarget) (d : ℕ) (pos : Pos) → CallsThis b c → AreFree early b (call_target c ++ es) → AllGood early b (call_with m es c d pos)
+  good_call_with m es calls.Static d pos on free = good_both early b (evaluations es d) (Act (actions.Call m d (length es) forms.Static) pos ∷ []) (good_evaluations es d free) (tt, tt)
+  good_call_with m es (calls.This e) d pos on free =
+      good_both early b (Ev e d ∷ evaluations es (d + 1)) (Act (actions.Call m d (length es + 1) forms.This) pos ∷ []) (free.0, good_evaluations es (d + 1) free.1) (late_at_target e free.0 on, tt)
+  good_call_with m es (calls.Super e) d pos on free =
+      good_both early b (Ev e d ∷ evaluations es (d + 1)) (Act (actions.Call m d (length es + 1) forms.Super) pos ∷ []) (free.0, good_evaluations es (d + 1) free.1) (late_at_target e free.0 on, tt)
+  good_call_with m es (calls.Other e) d pos on free =
       good_both early b (Ev e d ∷ evaluations es (d + 1)) (Act (actions.Call m d (length es + 1) forms.Other) pos ∷ []) (free.0, good_evaluations es (d + 1) free.1) (tt, tt)
 
   good_new : (n : NewObject) (d : ℕ) (pos : Pos) → AreFree early b n.arguments.items → AllGood early b (new_front n d pos)
@@ -161,27 +194,27 @@ module _ (p : Program) (b : Body) (early : Bool) where
   good_binary binary.NotEqual x e t d pos free below = good_comparison (compared_with_null b x) x e t d pos free below
   good_binary o x e t d pos free below = good_computes (operators.Binary x.operator x.operands (type_or_null t)) (x.left ∷ x.right ∷ []) d pos below
 
-  pub good_expression : (k : ExpressionKind) (e : ExprId) (t : Option VType) (d : ℕ) (pos : Pos) → IsFree early b e → AreFree early b (operands k) → AllGood early b (expression_front k p b e t d pos)
-  good_expression (expressions.Literal l) e t d pos free below = (tt, tt)
-  good_expression (expressions.Local x) e t d pos free below = (tt, tt)
-  good_expression (expressions.This written) e t d pos free below = (tt, tt)
-  good_expression (expressions.Field x f) e t d pos free below = good_read x f d pos below.0
-  good_expression (expressions.StaticField f) e t d pos free below = (tt, tt)
-  good_expression (expressions.LibraryConstant m) e t d pos free below = (tt, tt)
-  good_expression (expressions.Unary o x) e t d pos free below = good_unary o x e t d pos free below
-  good_expression (expressions.Binary x) e t d pos free below = good_binary x.operator x e t d pos free below
-  good_expression (expressions.Conditional c x y) e t d pos free below = ((below.0, (below.1.0, tt), (below.1.1.0, tt)), tt)
-  good_expression (expressions.InstanceOf x tested) e t d pos free below = good_computes (operators.InstanceOf tested) (x ∷ []) d pos below
-  good_expression (expressions.PrimitiveCast x) e t d pos free below = good_computes (operators.Convert (type_or_null t)) (x ∷ []) d pos below
-  good_expression (expressions.ReferenceCast x) e t d pos free below = (below.0, (tt, tt))
-  good_expression (expressions.Assignment x value) e t d pos free below = good_assignment x value d pos below
-  good_expression (expressions.OperatorAssignment a) e t d pos free below = good_update a t d pos below
-  good_expression (expressions.PostfixStep a) e t d pos free below = good_postfix a t d pos below
-  good_expression (expressions.Call c) e t d pos free below = good_call_with c.method c.arguments.items c.target d pos below
-  good_expression (expressions.NewObject n) e t d pos free below = good_new n d pos below
-  good_expression (expressions.NewArray x) e t d pos free below = good_computes (operators.NewArray (type_or_null t)) (x ∷ []) d pos below
-  good_expression (expressions.Element a i) e t d pos free below = good_computes operators.Element (a ∷ i ∷ []) d pos below
-  good_expression (expressions.Length a) e t d pos free below = good_computes operators.Length (a ∷ []) d pos below
+  pub good_expression : (k : ExpressionKind) (e : ExprId) (t : Option VType) (d : ℕ) (pos : Pos) → CallsOnThis b k → IsFree early b e → AreFree early b (operands k) → AllGood early b (expression_front k p b e t d pos)
+  good_expression (expressions.Literal l) e t d pos on free below = (tt, tt)
+  good_expression (expressions.Local x) e t d pos on free below = (tt, tt)
+  good_expression (expressions.This written) e t d pos on free below = (tt, tt)
+  good_expression (expressions.Field x f) e t d pos on free below = good_read x f d pos below.0
+  good_expression (expressions.StaticField f) e t d pos on free below = (tt, tt)
+  good_expression (expressions.LibraryConstant m) e t d pos on free below = (tt, tt)
+  good_expression (expressions.Unary o x) e t d pos on free below = good_unary o x e t d pos free below
+  good_expression (expressions.Binary x) e t d pos on free below = good_binary x.operator x e t d pos free below
+  good_expression (expressions.Conditional c x y) e t d pos on free below = ((below.0, (below.1.0, tt), (below.1.1.0, tt)), tt)
+  good_expression (expressions.InstanceOf x tested) e t d pos on free below = good_computes (operators.InstanceOf tested) (x ∷ []) d pos below
+  good_expression (expressions.PrimitiveCast x) e t d pos on free below = good_computes (operators.Convert (type_or_null t)) (x ∷ []) d pos below
+  good_expression (expressions.ReferenceCast x) e t d pos on free below = (below.0, (tt, tt))
+  good_expression (expressions.Assignment x value) e t d pos on free below = good_assignment x value d pos below
+  good_expression (expressions.OperatorAssignment a) e t d pos on free below = good_update a t d pos below
+  good_expression (expressions.PostfixStep a) e t d pos on free below = good_postfix a t d pos below
+  good_expression (expressions.Call c) e t d pos on free below = good_call_with c.method c.arguments.items c.target d pos on below
+  good_expression (expressions.NewObject n) e t d pos on free below = good_new n d pos below
+  good_expression (expressions.NewArray x) e t d pos on free below = good_computes (operators.NewArray (type_or_null t)) (x ∷ []) d pos below
+  good_expression (expressions.Element a i) e t d pos on free below = good_computes operators.Element (a ∷ i ∷ []) d pos below
+  good_expression (expressions.Length a) e t d pos on free below = good_computes operators.Length (a ∷ []) d pos below
 
   -- ---- conditions
 

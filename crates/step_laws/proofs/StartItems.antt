@@ -1,5 +1,5 @@
 -- Items of remaining syntax by whether the call of the super constructor is still to come (`early`) or not. What stands before it stores into no
--- owning field, and no item behind it calls a super constructor; also in the lists that items hold.
+-- owning field and calls nothing on `this`, and no item behind it calls a super constructor; also in the lists that items hold.
 use Rattle.std.proofs.Common.{◌≡◌, Bool, true, false, List, [], ◌∷◌, ◌++◌, flat_map}
 use Rattle.program_model.specs.declared.kinds.ExprId.{ExprId}
 use Rattle.program_model.specs.declared.tree.Body.{Body}
@@ -7,6 +7,7 @@ use Rattle.program_model.specs.Heads.{is_super_call}
 use Rattle.java_control.specs.Remaining.{Todo, Todos, nil, cons, todos, Do, Ev, Act, Cond, NullFork, BoolFork, LoopEnd, For, Leave, Catch, Fin, Close, Finish, Supp, Out, Ended}
 use Rattle.java_control.specs.declared.action.Action.{Action}
 use Rattle.java_control.specs.declared.action.Action.TheVariants as actions
+use Rattle.java_control.specs.declared.action.TargetForm.TheVariants as target_forms
 use Rattle.java_control.specs.declared.item.Condition.{Condition}
 use Rattle.java_control.specs.declared.item.Condition.TheVariants as conditions
 use Rattle.step_laws.specs.SuperArguments.{LacksThis}
@@ -14,6 +15,8 @@ use Rattle.step_laws.specs.SuperArguments.{LacksThis}
 abbrev pub IsDue : Bool → Action → Type 0
 IsDue early (actions.Super m d n) = early ≡ true
 IsDue early (actions.PutOwn f d) = early ≡ false
+IsDue early (actions.Call m d n target_forms.This) = early ≡ false
+IsDue early (actions.Call m d n target_forms.Super) = early ≡ false
 IsDue early a = Unit {0}
 
 -- an expression that is left before the call holds no `this`

@@ -8,10 +8,12 @@ use Rattle.program_model.specs.declared.tree.Body.{Body}
 use Rattle.program_model.specs.Lookups.{body_at}
 use Rattle.program_model.specs.Validity.{IsTypedProgram}
 use Rattle.rlc_base.specs.declared.place.Pos.{Pos}
+use Rattle.java_control.specs.Calls.{is_reset_of_this}
 use Rattle.java_control.specs.Control.{Step, control_place, next_of, start_in, start_of, step_at, steps_in, ways}
 use Rattle.java_control.specs.Remaining.{Todo, Way}
 use Rattle.java_control.specs.declared.action.Action.{Action}
 use Rattle.java_control.specs.declared.action.Action.TheVariants as actions
+use Rattle.java_control.specs.declared.action.TargetForm.TheVariants as target_forms
 use Rattle.accepted_programs.specs.Paths.{Comes, Move, move_of, on, relation_of, start}
 use Rattle.step_laws.specs.Starts.{LeadsTo, here, is_super}
 use Rattle.step_laws.specs.Starts as starts
@@ -38,6 +40,14 @@ step_of_way pos ws i t at = go (slice_get ws i) refl (sym (slice_get-map (step_a
 
 stores_none : (a : Action) (f : FieldId) (d : ℕ) → IsDue true a → a ≡ actions.PutOwn f d → ⊥
 stores_none a f d due is = true≢false (subst (IsDue true) is due)
+
+calls_nothing : (p : Program) (a : Action) → IsDue true a → is_reset_of_this p a ≡ true → ⊥
+calls_nothing p (actions.Call m d n target_forms.This) due lends = true≢false due
+calls_nothing p (actions.Call m d n target_forms.Super) due lends = true≢false due
+calls_nothing p (actions.Call m d n target_forms.Static) due lends = true≢false (sym lends)
+calls_nothing p (actions.Call m d n target_forms.Other) due lends = true≢false (sym lends)
+calls_nothing p actions.Skip due lends = true≢false (sym lends)
+calls_nothing p a due lends = true≢false (sym lends)
 
 calls_none : (a : Action) → IsDue false a → is_super a ≡ false
 calls_none (actions.Super m d n) due = absurd (true≢false (sym due))
@@ -95,6 +105,14 @@ module _ (p : Program) (typed : IsTypedProgram p) (b : BodyId) (x : Body) (at : 
       where
         go : IsSorted x k → IsBehind x t.to
         go (inl before) = absurd (stores_none t.action f d (good_move true (IsSorted x) k i t (ways_before p x b (typed.bodies b x at) k before) there).0 is)
+        go (inr behind) = (moves_behind k i t behind there).1
+
+    -- so does a call that creates the obligation of `this` anew
+    pub reset_is_behind : (k : List Todo) (i : ℕ) (t : Move (List Todo)) → Comes (relation_of p b) k → slice_get ((relation_of p b).next k) i ≡ Some t → is_reset_of_this p t.action ≡ true → IsBehind x t.to
+    reset_is_behind k i t comes there lends = go (reached_is_sorted k comes)
+      where
+        go : IsSorted x k → IsBehind x t.to
+        go (inl before) = absurd (calls_nothing p t.action (good_move true (IsSorted x) k i t (ways_before p x b (typed.bodies b x at) k before) there).0 lends)
         go (inr behind) = (moves_behind k i t behind there).1
 
     behind_after : (k l : List Todo) → IsBehind x k → LeadsTo (relation_of p b) k l → IsBehind x l

@@ -25,7 +25,7 @@ use Rattle.java_control.specs.declared.action.Action.TheVariants as actions
 use Rattle.java_control.specs.declared.item.Closing.{Closing}
 use Rattle.java_control.specs.declared.action.Completion.{Completion}
 use Rattle.java_control.specs.declared.action.Completion.TheVariants as completions
-use Rattle.step_laws.proofs.StartFronts.{free_operands, good_condition, good_expression}
+use Rattle.step_laws.proofs.StartFronts.{calls_this, free_operands, good_condition, good_expression}
 use Rattle.step_laws.proofs.StartItems.{AllGood, IsDue, IsFree, IsGood, good_todos}
 use Rattle.step_laws.proofs.StartStatements.{HaveNoHead, HavePlainBlocks, clauses_plain, good_for_turn, good_loop_turn, good_statement}
 
@@ -78,7 +78,7 @@ module _ (p : Program) (b : Body) (n : BodyId) (valid : IsValidBody p n b) (earl
 
   in_expression : (e : ExprId) (d : ℕ) (x : Option TExpr) (k : List Todo) → expression_at b e ≡ x → IsFree early b e → R k → AllLeaveGood early S (expression_ways p b e d x k)
   in_expression e d None k at free rest = tt
-  in_expression e d (Some x) k at free rest = ((tt, front _ k (good_expression p b early x.kind e x.vtype d x.pos free (free_operands p b early e x at free)) rest), tt)
+  in_expression e d (Some x) k at free rest = ((tt, front _ k (good_expression p b early x.kind e x.vtype d x.pos (calls_this p b x.kind x.vtype (valid.expressions e x at).typed) free (free_operands p b early e x at free)) rest), tt)
 
   in_loop : (w : StmtId) (d : ℕ) (x : Option TStmt) (k : List Todo) → statement_at b w ≡ x → early ≡ false → R k → AllLeaveGood early S (loop_ways b w d x k)
   in_loop w d None k at late rest = tt

@@ -130,6 +130,7 @@ pub use Rattle.frame_laws.proofs.SparingCalls
 pub use Rattle.frame_laws.proofs.SparingEnds
 pub use Rattle.frame_laws.proofs.SettledFrames
 pub use Rattle.frame_laws.proofs.StoreWays
+pub use Rattle.frame_laws.proofs.MadeWays
 pub use Rattle.frame_laws.proofs.SparingStays
 pub use Rattle.frame_laws.proofs.WaysOverSteps
 pub use Rattle.frame_laws.proofs.OldObjects

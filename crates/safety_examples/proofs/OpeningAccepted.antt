@@ -1,0 +1,55 @@
+-- The program is accepted, and has a `main` that runs.
+use Rattle.std.proofs.Common.{◌≡◌, ℕ, zero, suc, true, true≢false, refl, sym, lit<, lit≤}
+use Rattle.program_model.specs.declared.kinds.BodyId.{BodyId}
+use Rattle.java_control.specs.Owned.{place_of_field}
+use Rattle.java_control.specs.PlaceNumbers.{IsSmall}
+use Rattle.java_control.specs.declared.action.Action.{Action}
+use Rattle.must_call_sets.specs.Bodies.{has_field_place}
+use Rattle.obligation_facts.specs.SmallActions.{IsSmallAction}
+use Rattle.soundness_laws.specs.Room.{HasRoom}
+use Rattle.soundness_laws.specs.Accept.{Accept}
+use Rattle.soundness_laws.specs.Paths.{FitsPlaces, relation_of}
+use Rattle.soundness_laws.specs.Safety.{IsMain}
+use Rattle.safety_examples.specs.OpeningPrograms.{opening}
+use Rattle.safety_examples.specs.ReplacingPrograms.{main_method}
+use Rattle.safety_examples.proofs.OpeningClosePaths.{close_small}
+use Rattle.safety_examples.proofs.OpeningReopenPaths.{reopen_small}
+use Rattle.safety_examples.proofs.OpeningConstructorPaths.{constructor_small}
+use Rattle.safety_examples.proofs.Covered.{covers_by}
+use Rattle.safety_examples.proofs.OpeningDeclared.{declares_once}
+use Rattle.safety_examples.proofs.OpeningFormed.{annotations_right, overriding, signed, well_formed}
+use Rattle.safety_examples.proofs.OpeningMainPaths.{main_small}
+use Rattle.safety_examples.proofs.OpeningReached.{HoldsOfSteps, opening_no_fault, reached}
+
+-- the program has one field
+one_field : (b : BodyId) (f : ℕ) → has_field_place opening b (record { 0 = f }) ≡ true → IsSmall (place_of_field opening (record { 0 = f }))
+one_field b zero has = lit< tt
+one_field b (suc f) has = absurd (true≢false (sym has))
+
+room : (n : ℕ) → HasRoom opening (record { 0 = n })
+room zero = record { variables = lit≤ tt; fields = λ f has. one_field (record { 0 = zero }) f.0 has }
+room (suc zero) = record { variables = lit≤ tt; fields = λ f has. one_field (record { 0 = suc zero }) f.0 has }
+room (suc (suc zero)) = record { variables = lit≤ tt; fields = λ f has. one_field (record { 0 = suc (suc zero) }) f.0 has }
+room (suc (suc (suc zero))) = record { variables = lit≤ tt; fields = λ f has. one_field (record { 0 = suc (suc (suc zero)) }) f.0 has }
+room (suc (suc (suc (suc n)))) = record { variables = lit≤ tt; fields = λ f has. one_field (record { 0 = suc (suc (suc (suc n))) }) f.0 has }
+
+small : HoldsOfSteps (λ (b : BodyId) (a : Action). IsSmallAction opening a)
+small = record { constructor = constructor_small; reopen = reopen_small; close = close_small; main = main_small }
+
+fits : (b : BodyId) → FitsPlaces opening b (relation_of opening b)
+fits b = record { room = room b.0; steps = λ {k} i t comes at. reached (λ (c : BodyId) (a : Action). IsSmallAction opening a) small b.0 k i t comes at }
+
+pub accepted : Accept opening
+accepted = record {
+  well_formed = well_formed;
+  declares_once = declares_once;
+  overriding = overriding;
+  annotations = annotations_right;
+  signatures = signed;
+  covers = covers_by opening refl;
+  fits = fits;
+  no_fault = opening_no_fault;
+}
+
+pub has_main : IsMain opening main_method
+has_main = (refl, refl)

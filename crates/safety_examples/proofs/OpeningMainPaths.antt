@@ -1,0 +1,69 @@
+-- No path in `main` breaks a rule.
+use Rattle.std.proofs.Common.{◌≡◌, List, [], ◌∷◌, All, refl, sym, subst, lit<, arith, lit≤}
+use Rattle.java_control.specs.Control.{next_of, start_of}
+use Rattle.java_control.specs.Remaining.{Todo}
+use Rattle.java_control.specs.declared.action.Action.TheVariants as actions
+use Rattle.java_control.specs.declared.action.Edge.TheVariants as edges
+use Rattle.obligation_facts.specs.SmallActions.{IsSmallAction}
+use Rattle.soundness_laws.specs.Births.{births_of_step}
+use Rattle.safety_examples.specs.Certificates.{IsCertificate, IsFollowed, IsListed, Placed, placed}
+use Rattle.safety_examples.specs.CarefulPrograms.{in_source, no_names}
+use Rattle.safety_examples.specs.OpeningControls.{main_controls}
+use Rattle.safety_examples.specs.OpeningPrograms.{opening}
+use Rattle.safety_examples.specs.ReplacingPrograms.{holder_constructor, main_body}
+use Rattle.safety_examples.proofs.CarefulSets.{close_not_none}
+use Rattle.safety_examples.proofs.Tests.{all_none, all_of}
+use Rattle.safety_examples.proofs.OpeningMainFlows.{closed_names, fact, first_called, first_calls, first_drops, first_left, first_read, first_reads, holder_origin, in_temp, kept, moves, returns}
+use Rattle.safety_examples.proofs.OpeningWalks.{AllActions, Bears, ComesTo, Follows, acts, bears, comes_to, control_in, follows, steps}
+
+abbrev pub main_facts : List (Placed (List Todo))
+main_facts =
+    placed (control_in main_controls 3) holder_origin (fact in_temp no_names)
+    ∷ placed (control_in main_controls 4) holder_origin (fact kept no_names)
+    ∷ placed (control_in main_controls 5) holder_origin (fact kept no_names)
+    ∷ placed (control_in main_controls 6) holder_origin (fact kept no_names)
+    ∷ placed (control_in main_controls 7) holder_origin (fact kept no_names)
+    ∷ placed (control_in main_controls 8) holder_origin (fact first_read no_names)
+    ∷ placed (control_in main_controls 9) holder_origin (fact first_called closed_names)
+    ∷ placed (control_in main_controls 10) holder_origin (fact first_left closed_names)
+    ∷ []
+
+-- `new` bears a fact
+makes_holder_born : births_of_step opening main_body (actions.New holder_constructor 0 0) edges.Go (in_source 10 20) ≡ (holder_origin, fact in_temp no_names) ∷ []
+makes_holder_born = simp close_not_none refl
+
+makes_holder : All (IsListed main_facts (control_in main_controls 3)) (births_of_step opening main_body (actions.New holder_constructor 0 0) edges.Go (in_source 10 20))
+makes_holder =
+    subst (All (IsListed main_facts (control_in main_controls 3))) (sym makes_holder_born)
+    (all_of (IsListed main_facts (control_in main_controls 3)) ((holder_origin, fact in_temp no_names) ∷ []) ((0, lit< tt, refl), tt))
+
+come : All (λ k. All (ComesTo main_body main_controls) ((steps main_body).next k)) main_controls
+unfolding next_of
+come = all_of (λ k. All (ComesTo main_body main_controls) ((steps main_body).next k)) main_controls
+    (comes_to main_body main_controls 0 ((1, lit< tt, refl), tt), (comes_to main_body main_controls 1 ((2, lit< tt, refl), tt), (comes_to main_body main_controls 2 ((3, lit< tt, refl), tt), (comes_to main_body main_controls 3 ((4, lit< tt, refl), tt), (comes_to main_body main_controls 4 ((5, lit< tt, refl), tt), (comes_to main_body main_controls 5 ((6, lit< tt, refl), tt), (comes_to main_body main_controls 6 ((7, lit< tt, refl), tt), (comes_to main_body main_controls 7 ((8, lit< tt, refl), tt), (comes_to main_body main_controls 8 ((9, lit< tt, refl), tt), (comes_to main_body main_controls 9 ((10, lit< tt, refl), tt), (comes_to main_body main_controls 10 ((11, lit< tt, refl), tt), (comes_to main_body main_controls 11 tt, tt))))))))))))
+
+born : All (λ k. All (Bears main_body main_controls main_facts) ((steps main_body).next k)) main_controls
+unfolding next_of
+born = all_of (λ k. All (Bears main_body main_controls main_facts) ((steps main_body).next k)) main_controls
+    (bears main_body main_controls main_facts 0 (λ k d within. absurd (omega arith), tt), (bears main_body main_controls main_facts 1 (λ k d within. absurd (omega arith), tt), (bears main_body main_controls main_facts 2 (makes_holder, tt), (bears main_body main_controls main_facts 3 (λ k d within. absurd (omega arith), tt), (bears main_body main_controls main_facts 4 (λ k d within. absurd (omega arith), tt), (bears main_body main_controls main_facts 5 (λ k d within. absurd (omega arith), tt), (bears main_body main_controls main_facts 6 (λ k d within. absurd (omega arith), tt), (bears main_body main_controls main_facts 7 (λ k d within. absurd (omega arith), tt), (bears main_body main_controls main_facts 8 (λ k d within. absurd (omega arith), tt), (bears main_body main_controls main_facts 9 (λ k d within. absurd (omega arith), tt), (bears main_body main_controls main_facts 10 (λ k d within. absurd (omega arith), tt), (bears main_body main_controls main_facts 11 tt, tt))))))))))))
+
+followed : All (λ (x : Placed (List Todo)). All (Follows main_body main_controls main_facts x) ((steps main_body).next x.control)) main_facts
+unfolding next_of
+followed = all_of (λ (x : Placed (List Todo)). All (Follows main_body main_controls main_facts x) ((steps main_body).next x.control)) main_facts
+    (follows main_body main_controls main_facts (placed (control_in main_controls 3) holder_origin (fact in_temp no_names)) (subst (IsFollowed main_facts (control_in main_controls 4) holder_origin) (sym moves) (1, lit< tt, refl), tt), (follows main_body main_controls main_facts (placed (control_in main_controls 4) holder_origin (fact kept no_names)) ((2, lit< tt, refl), tt), (follows main_body main_controls main_facts (placed (control_in main_controls 5) holder_origin (fact kept no_names)) ((3, lit< tt, refl), tt), (follows main_body main_controls main_facts (placed (control_in main_controls 6) holder_origin (fact kept no_names)) ((4, lit< tt, refl), tt), (follows main_body main_controls main_facts (placed (control_in main_controls 7) holder_origin (fact kept no_names)) (subst (IsFollowed main_facts (control_in main_controls 8) holder_origin) (sym first_reads) (5, lit< tt, refl), tt), (follows main_body main_controls main_facts (placed (control_in main_controls 8) holder_origin (fact first_read no_names)) (subst (IsFollowed main_facts (control_in main_controls 9) holder_origin) (sym first_calls) (6, lit< tt, refl), tt), (follows main_body main_controls main_facts (placed (control_in main_controls 9) holder_origin (fact first_called closed_names)) (subst (IsFollowed main_facts (control_in main_controls 10) holder_origin) (sym first_drops) (7, lit< tt, refl), tt), (follows main_body main_controls main_facts (placed (control_in main_controls 10) holder_origin (fact first_left closed_names)) (subst (IsFollowed main_facts (control_in main_controls 11) holder_origin) (sym returns) tt, tt), tt))))))))
+
+pub main_certificate : IsCertificate opening main_body (steps main_body) main_controls main_facts
+unfolding start_of
+main_certificate = record {
+  start = (0, lit< tt, refl);
+  steps = come;
+  entry = all_none (IsListed main_facts (steps main_body).start);
+  births = born;
+  flows = followed;
+}
+
+-- sets of places have room for all places that the steps name
+pub main_small : All (AllActions main_body (IsSmallAction opening)) main_controls
+unfolding next_of
+main_small = all_of (AllActions main_body (IsSmallAction opening)) main_controls
+    (acts main_body main_controls (IsSmallAction opening) 0 (tt, tt), (acts main_body main_controls (IsSmallAction opening) 1 (tt, tt), (acts main_body main_controls (IsSmallAction opening) 2 (lit< tt, tt), (acts main_body main_controls (IsSmallAction opening) 3 ((lit< tt, lit< tt), tt), (acts main_body main_controls (IsSmallAction opening) 4 (tt, tt), (acts main_body main_controls (IsSmallAction opening) 5 (tt, tt), (acts main_body main_controls (IsSmallAction opening) 6 (tt, tt), (acts main_body main_controls (IsSmallAction opening) 7 ((lit< tt, lit< tt), tt), (acts main_body main_controls (IsSmallAction opening) 8 ((lit< tt, lit≤ tt), tt), (acts main_body main_controls (IsSmallAction opening) 9 (lit< tt, tt), (acts main_body main_controls (IsSmallAction opening) 10 (tt, tt), (acts main_body main_controls (IsSmallAction opening) 11 tt, tt))))))))))))

@@ -1,0 +1,60 @@
+-- What holds of the steps of the controls of each body holds of all steps that a body can reach; and no path breaks a rule.
+use Rattle.std.proofs.Common.{◌≡◌, ℕ, zero, suc, Some, None, List, slice_get, All}
+use Rattle.std.proofs.lemmas.List.Elements.{All-contains}
+use Rattle.rlc_base.specs.declared.place.Pos.{Pos}
+use Rattle.program_model.specs.declared.kinds.BodyId.{BodyId}
+use Rattle.java_control.specs.Control.{next_of}
+use Rattle.java_control.specs.Remaining.{Todo}
+use Rattle.java_control.specs.declared.action.Action.{Action}
+use Rattle.java_control.specs.declared.fact.Origin.{Origin}
+use Rattle.java_control.specs.declared.fact.Rule.{Rule}
+use Rattle.obligation_facts.specs.Facts.{Names}
+use Rattle.soundness_laws.specs.Paths.{Comes, Faulty, Move, relation_of}
+use Rattle.safety_examples.specs.Certificates.{IsCertificate, Placed}
+use Rattle.safety_examples.specs.OpeningControls.{constructor_controls, main_controls}
+use Rattle.safety_examples.specs.ReplacingControls.{close_controls, reopen_controls}
+use Rattle.safety_examples.specs.OpeningPrograms.{opening}
+use Rattle.safety_examples.specs.ReplacingPrograms.{close_body, constructor_body, main_body, reopen_body}
+use Rattle.safety_examples.proofs.Certified.{comes_listed, no_fault}
+use Rattle.safety_examples.proofs.Tests.{all_at}
+use Rattle.safety_examples.proofs.OpeningClosePaths.{close_certificate, close_facts}
+use Rattle.safety_examples.proofs.OpeningConstructorPaths.{constructor_certificate, constructor_facts}
+use Rattle.safety_examples.proofs.OpeningReopenPaths.{reopen_certificate, reopen_facts}
+use Rattle.safety_examples.proofs.OpeningMainPaths.{main_certificate, main_facts}
+use Rattle.safety_examples.proofs.OpeningWalks.{AllActions, steps}
+
+-- a number of no body has no step
+no_step : (n i : ℕ) (k : List Todo) (t : Move (List Todo)) → slice_get ((steps (record { 0 = suc (suc (suc (suc n))) })).next k) i ≡ Some t → ⊥
+unfolding next_of
+no_step n i k t at = absurd (let no : None ≡ Some t = at in cc)
+
+of_listed : (P : Action → Type 0) (b : BodyId) (controls : List (List Todo)) (facts : List (Placed (List Todo))) → IsCertificate opening b (steps b) controls facts → All (AllActions b P) controls
+    → (k : List Todo) (i : ℕ) (t : Move (List Todo)) → Comes (steps b) k → slice_get ((steps b).next k) i ≡ Some t → P t.action
+of_listed P b controls facts certificate all k i t comes at =
+    all_at (λ (x : Move (List Todo)). P x.action) ((steps b).next k) i t
+    (All-contains (AllActions b P) controls k all (comes_listed opening b (steps b) controls facts certificate k comes)) at
+
+-- what holds of the actions at the controls of all bodies
+pub record HoldsOfSteps (P : BodyId → Action → Type 0) : Type 0 where
+  pub constructor : All (AllActions constructor_body (P constructor_body)) constructor_controls
+  pub reopen : All (AllActions reopen_body (P reopen_body)) reopen_controls
+  pub close : All (AllActions close_body (P close_body)) close_controls
+  pub main : All (AllActions main_body (P main_body)) main_controls
+
+pub reached : (P : BodyId → Action → Type 0) → HoldsOfSteps P → (n : ℕ) (k : List Todo) (i : ℕ) (t : Move (List Todo)) → Comes (steps (record { 0 = n })) k → slice_get ((steps (record { 0 = n })).next k) i ≡ Some t
+    → P (record { 0 = n }) t.action
+reached P holds zero k i t comes at = of_listed (P constructor_body) constructor_body constructor_controls constructor_facts constructor_certificate holds.constructor k i t comes at
+reached P holds (suc zero) k i t comes at = of_listed (P reopen_body) reopen_body reopen_controls reopen_facts reopen_certificate holds.reopen k i t comes at
+reached P holds (suc (suc zero)) k i t comes at = of_listed (P close_body) close_body close_controls close_facts close_certificate holds.close k i t comes at
+reached P holds (suc (suc (suc zero))) k i t comes at = of_listed (P main_body) main_body main_controls main_facts main_certificate holds.main k i t comes at
+reached P holds (suc (suc (suc (suc n)))) k i t comes at = absurd (no_step n i k t at)
+
+faultless : (n : ℕ) (o : Origin) (rule : Rule) (at : Pos) (names : Names) → Faulty opening (record { 0 = n }) (steps (record { 0 = n })) o rule at names → ⊥
+faultless zero o rule at names fault = no_fault opening constructor_body (steps constructor_body) constructor_controls constructor_facts constructor_certificate o rule at names fault
+faultless (suc zero) o rule at names fault = no_fault opening reopen_body (steps reopen_body) reopen_controls reopen_facts reopen_certificate o rule at names fault
+faultless (suc (suc zero)) o rule at names fault = no_fault opening close_body (steps close_body) close_controls close_facts close_certificate o rule at names fault
+faultless (suc (suc (suc zero))) o rule at names fault = no_fault opening main_body (steps main_body) main_controls main_facts main_certificate o rule at names fault
+faultless (suc (suc (suc (suc n)))) o rule at names fault = no_step n fault.index fault.control fault.move fault.step
+
+pub opening_no_fault : (b : BodyId) (o : Origin) (rule : Rule) (at : Pos) (names : Names) → Faulty opening b (relation_of opening b) o rule at names → ⊥
+opening_no_fault b o rule at names fault = faultless b.0 o rule at names fault
