@@ -62,7 +62,7 @@ met_not_unmet p x o f truth met = go (is_unmet x) refl
 -- another value stored over what a field owns and owes breaks a rule
 over_faults : (p : Program) (b : BodyId) (o : Origin) (x : FieldId) (d : ℕ) (f : Fact) → f.mode ≡ modes.Held → is_met o f ≡ false → has f.places (places.Temp d) ≡ false → has f.places (place_of_field p x) ≡ true
     → IsFault (stored p b o x d f)
-over_faults p b o x d f held unmet out there = go (lacks_reset p b f)
+over_faults p b o x d f held unmet out there = go (lacks_reset p b x f)
   where
     go : (z : Bool) → IsFault (if z then Fault rules.ResetMissing (must_of p o.class) else (if has f.places (places.Temp d) then object_stored p b o x f else stored_over p o x f))
     go true = tt

@@ -150,7 +150,7 @@ module _ (q : Place) (low : number_of q < 161) (p : Program) (b : BodyId) (o : O
       go false y = itself
 
   stored_stays : (g : FieldId) (d : ℕ) → IfNext StaysSo (stored p b o g d f)
-  stored_stays g d = go (lacks_reset p b f) (has f.places (places.Temp d))
+  stored_stays g d = go (lacks_reset p b g f) (has f.places (places.Temp d))
     where
       go : (x y : Bool) → IfNext StaysSo (if x then Fault rules.ResetMissing (must_of p o.class) else (if y then object_stored p b o g f else stored_over p o g f))
       go true y = tt

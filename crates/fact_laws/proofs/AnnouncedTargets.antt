@@ -51,8 +51,9 @@ target_is_answered p b o a k f may = go may.answered
 
 -- a store into an owning field stands in such a body, where `this` is in the fact, or a rule is broken
 pub store_is_announced : (p : Program) (b : BodyId) (o : Origin) (g : FieldId) (d : ℕ) (e : Edge) (f : Fact) → has f.places places.This ≡ true → IsFault (flow p b o (actions.PutOwn g d) e f) ⊎ MayReset p b
-store_is_announced p b o g d e f this = go (not (is_constructor p b || resets_this p b)) refl
+store_is_announced p b o g d e f this = go (is_constructor p b) refl (resets_this p b) refl
   where
-    go : (c : Bool) → not (is_constructor p b || resets_this p b) ≡ c → IsFault (flow p b o (actions.PutOwn g d) e f) ⊎ MayReset p b
-    go true is = inl (let lacks : lacks_reset p b f ≡ true = rw (this, is) refl in rw lacks tt)
-    go false is = inr (one_of (is_constructor p b) (resets_this p b) is)
+    go : (c : Bool) → is_constructor p b ≡ c → (r : Bool) → resets_this p b ≡ r → IsFault (flow p b o (actions.PutOwn g d) e f) ⊎ MayReset p b
+    go true makes r resets = inr (inl makes)
+    go false makes true resets = inr (inr resets)
+    go false makes false resets = inl (let lacks : lacks_reset p b g f ≡ true = rw (this, makes, resets) refl in rw lacks tt)

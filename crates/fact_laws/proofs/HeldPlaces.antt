@@ -132,7 +132,7 @@ module _ (p : Program) (ac : Accept p) (b : BodyId) (o : Origin) (f : Fact) (ins
         go false y = inside
 
     stored_inside : (d : ℕ) → IfNext IsInside (stored p b o g d f)
-    stored_inside d = go (lacks_reset p b f) (has f.places (places.Temp d))
+    stored_inside d = go (lacks_reset p b g f) (has f.places (places.Temp d))
       where
         go : (x y : Bool) → IfNext IsInside (if x then Fault rules.ResetMissing (must_of p o.class) else (if y then object_stored p b o g f else stored_over p o g f))
         go true y = tt

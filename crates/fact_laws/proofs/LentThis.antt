@@ -165,7 +165,7 @@ module _ (p : Program) (b : BodyId) (o : Origin) (f : Fact) (lent : is_lent f.mo
       go false y = lent
 
   stored_lent : (g : FieldId) (d : ℕ) → IfNext IsLent (stored p b o g d f)
-  stored_lent g d = go (lacks_reset p b f) (has f.places (places.Temp d))
+  stored_lent g d = go (lacks_reset p b g f) (has f.places (places.Temp d))
     where
       go : (x y : Bool) → IfNext IsLent (if x then Fault rules.ResetMissing (must_of p o.class) else (if y then object_stored p b o g f else stored_over p o g f))
       go true y = tt

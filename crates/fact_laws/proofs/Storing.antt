@@ -81,7 +81,7 @@ module _ (p : Program) (b : BodyId) (o : Origin) (x : FieldId) (d : ℕ) (e : Ed
   no_other true false is one = absurd (true≢false is)
   no_other false l is one = absurd (true≢false (sym one))
 
-  module _ (in_ctor : lacks_reset p b f ≡ false) (there : has f.places (places.Temp d) ≡ true) where
+  module _ (in_ctor : lacks_reset p b x f ≡ false) (there : has f.places (places.Temp d) ≡ true) where
     joined : now ≡ with_place f.places (place_of_field p x)
     joined = rw there refl
 
@@ -156,7 +156,7 @@ module _ (p : Program) (b : BodyId) (o : Origin) (x : FieldId) (d : ℕ) (e : Ed
         go true is = inside is
         go false is = store is (is_heavy_store p o x) refl
 
-  module _ (in_ctor : lacks_reset p b f ≡ false) (out : has f.places (places.Temp d) ≡ false) (is : has now q ≡ true) where
+  module _ (in_ctor : lacks_reset p b x f ≡ false) (out : has f.places (places.Temp d) ≡ false) (is : has now q ≡ true) where
     dropped : now ≡ without f.places (place_of_field p x)
     dropped = rw out refl
 
@@ -207,13 +207,13 @@ module _ (p : Program) (b : BodyId) (o : Origin) (x : FieldId) (d : ℕ) (e : Ed
     value_goes false one = apart one
 
   pub store_goes : has now q ≡ true → After Goal (stored p b o x d f)
-  store_goes is = go (lacks_reset p b f) refl
+  store_goes is = go (lacks_reset p b x f) refl
     where
-      at : lacks_reset p b f ≡ false → (z : Bool) → has f.places (places.Temp d) ≡ z → After Goal (if z then object_stored p b o x f else (if has f.places (place_of_field p x) then overwritten p o x f else Next f))
+      at : lacks_reset p b x f ≡ false → (z : Bool) → has f.places (places.Temp d) ≡ z → After Goal (if z then object_stored p b o x f else (if has f.places (place_of_field p x) then overwritten p o x f else Next f))
       at in_ctor true one = object_goes in_ctor one
       at in_ctor false one = value_goes in_ctor one is (has f.places (place_of_field p x)) refl
 
-      go : (z : Bool) → lacks_reset p b f ≡ z → After Goal (if z then Fault rules.ResetMissing (must_of p o.class)
+      go : (z : Bool) → lacks_reset p b x f ≡ z → After Goal (if z then Fault rules.ResetMissing (must_of p o.class)
           else (if has f.places (places.Temp d) then object_stored p b o x f else (if has f.places (place_of_field p x) then overwritten p o x f else Next f)))
       go true one = tt
       go false one = at one (has f.places (places.Temp d)) refl

@@ -122,7 +122,7 @@ module _ (p : Program) (b : BodyId) (o : Origin) (f : Fact) where
         go false y = was
 
     stored_row : IfNext (HasTemps now) (stored p b o g d f)
-    stored_row = go (lacks_reset p b f) (has f.places (places.Temp d))
+    stored_row = go (lacks_reset p b g f) (has f.places (places.Temp d))
       where
         go : (x y : Bool) → IfNext (HasTemps now) (if x then Fault rules.ResetMissing (must_of p o.class) else (if y then object_stored p b o g f else stored_over p o g f))
         go true y = tt

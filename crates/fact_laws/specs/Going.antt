@@ -62,5 +62,5 @@ pub record IsLeft (p : Program) (o : Origin) (x : FieldId) (d : ℕ) (f g : Fact
 
 -- what the store of t(d) into the field makes of a fact
 pub data StoresAs (p : Program) (b : BodyId) (o : Origin) (x : FieldId) (d : ℕ) (f g : Fact) : Type 0 where
-  taken : lacks_reset p b f ≡ false → g.called ≡ f.called → g.full ≡ f.full → IsTaken p b o x d f g → StoresAs p b o x d f g
-  left : lacks_reset p b f ≡ false → g.called ≡ f.called → g.full ≡ f.full → IsLeft p o x d f g → StoresAs p b o x d f g
+  taken : lacks_reset p b x f ≡ false → g.called ≡ f.called → g.full ≡ f.full → IsTaken p b o x d f g → StoresAs p b o x d f g
+  left : lacks_reset p b x f ≡ false → g.called ≡ f.called → g.full ≡ f.full → IsLeft p o x d f g → StoresAs p b o x d f g

@@ -77,7 +77,7 @@ module _ (p : Program) (b : BodyId) (o : Origin) (g : FieldId) (d : ℕ) (e : Ed
 
   -- an object whose class does not fit the field's type
   narrow_faults : IsFault (flow p b o (actions.PutOwn g d) e f)
-  narrow_faults = go (lacks_reset p b f)
+  narrow_faults = go (lacks_reset p b g f)
     where
       go : (x : Bool) → IsFault (if x then Fault rules.ResetMissing (must_of p o.class) else (if has f.places (places.Temp d) then object_stored p b o g f else stored_over p o g f))
       go true = tt

@@ -25,13 +25,14 @@ use Rattle.fact_laws.specs.Paths.{Move, Reach, relation_of}
 use Rattle.frame_laws.proofs.Following.{breaks_nothing}
 
 -- elsewhere the store breaks a rule
-outside_faults : (p : Program) (b : BodyId) (o : Origin) (f : FieldId) (d : ℕ) (e : Edge) (g : Fact) → has g.places places.This ≡ true → (is_constructor p b || resets_this p b) ≡ false → IsFault (flow p b o (actions.PutOwn f d) e g)
-outside_faults p b o f d e g this other = rw (this, other) tt
+outside_faults : (p : Program) (b : BodyId) (o : Origin) (f : FieldId) (d : ℕ) (e : Edge) (g : Fact) → has g.places places.This ≡ true → is_constructor p b ≡ false → resets_this p b ≡ false → IsFault (flow p b o (actions.PutOwn f d) e g)
+outside_faults p b o f d e g this made reset = rw (this, made, reset) tt
 
 pub store_resets_this : (p : Program) → Accept p → (b : BodyId) (o : Origin) {k : List Todo} (i : ℕ) (t : Move (List Todo)) (g : Fact) (f : FieldId) (d : ℕ) → Reach p b (relation_of p b) o k g
     → slice_get ((relation_of p b).next k) i ≡ Some t → t.action ≡ actions.PutOwn f d → has g.places places.This ≡ true → (is_constructor p b || resets_this p b) ≡ true
-store_resets_this p ac b o i t g f d reached at is this = go (is_constructor p b || resets_this p b) refl
+store_resets_this p ac b o i t g f d reached at is this = go (is_constructor p b) refl (resets_this p b) refl
   where
-    go : (z : Bool) → (is_constructor p b || resets_this p b) ≡ z → z ≡ true
-    go true stands = refl
-    go false other = absurd (breaks_nothing p ac b o i t g reached at (subst (λ (a : Action). IsFault (flow p b o a t.edge g)) (sym is) (outside_faults p b o f d t.edge g this other)))
+    go : (c : Bool) → is_constructor p b ≡ c → (r : Bool) → resets_this p b ≡ r → (c || r) ≡ true
+    go true made r reset = refl
+    go false made true reset = refl
+    go false made false reset = absurd (breaks_nothing p ac b o i t g reached at (subst (λ (a : Action). IsFault (flow p b o a t.edge g)) (sym is) (outside_faults p b o f d t.edge g this made reset)))

@@ -15,13 +15,18 @@ use Rattle.java_control.specs.declared.fact.Rule.TheVariants as rules
 use Rattle.java_control.specs.declared.place.Place.TheVariants as places
 use Rattle.java_control.specs.Owned.{place_of_field}
 use Rattle.obligation_facts.specs.Facts.{has, with_place, without, is_own, is_held, is_alias, is_met, missing, leave, is_origin_at}
-use Rattle.must_call_sets.specs.MustCallSets.{must_of, is_heavy_class, is_heavy_as, fits_type, beyond_type}
+use Rattle.must_call_sets.specs.MustCallSets.{must_of, must_of_optional, is_empty, is_heavy_class, is_heavy_as, fits_type, beyond_type}
 use Rattle.must_call_sets.specs.Signatures.{field_type}
 use Rattle.must_call_sets.specs.Bodies.{is_constructor, is_alias_constructor, alias_position, resets_this}
 
--- a store outside a constructor asks for a method that creates the obligation of `this` anew
-abbrev pub lacks_reset : Program → BodyId → Fact → Bool
-lacks_reset p b f = has f.places places.This && not (is_constructor p b || resets_this p b)
+-- some method must be called on objects of the field's type
+abbrev pub has_heavy_type : Program → FieldId → Bool
+has_heavy_type p g = not (is_empty (must_of_optional p (field_type p g)))
+
+-- A store outside a constructor asks for a method that creates the obligation of `this` anew, and for a field whose type has an obligation: then the class of `this` has one too,
+-- so whoever has `this` in hand knows of it.
+abbrev pub lacks_reset : Program → BodyId → FieldId → Fact → Bool
+lacks_reset p b g f = has f.places places.This && not (is_constructor p b || resets_this p b && has_heavy_type p g)
 
 -- the object has an obligation by its class, or may have one by the field's type
 abbrev pub is_heavy_store : Program → Origin → FieldId → Bool
@@ -66,7 +71,7 @@ stored_over p o g f = if has f.places (place_of_field p g) then overwritten p o 
 -- the store of t(d) into the field g of `this`
 abbrev pub stored : Program → BodyId → Origin → FieldId → ℕ → Fact → Outcome
 stored p b o g d f =
-    if lacks_reset p b f then Fault rules.ResetMissing (must_of p o.class)
+    if lacks_reset p b g f then Fault rules.ResetMissing (must_of p o.class)
     else (if has f.places (places.Temp d) then object_stored p b o g f else stored_over p o g f)
 
 abbrev pub field_outcome : Program → BodyId → Origin → Action → Fact → Outcome

@@ -4,21 +4,31 @@ ghost use Rattle.std.specs.Prelude.{◌≡◌, ◌<◌};
 ghost use Rattle.java_control.specs.Owned.{place_of_field};
 ghost use Rattle.java_control.specs.PlaceNumbers.{IsSmall};
 ghost use Rattle.obligation_facts.specs.SmallActions.{IsSmallAction};
-ghost use Rattle.owning_fields.specs.Stores.{field_outcome, heavy_stored, is_heavy_store, keeps_other, lacks_reset, may_store, object_stored, overwritten, stored, stored_over, with_field};
+ghost use Rattle.owning_fields.specs.Stores.{field_outcome, has_heavy_type, heavy_stored, is_heavy_store, keeps_other, lacks_reset, may_store, object_stored, overwritten, stored, stored_over, with_field};
 
 use java_control::{Action, Fact, Mode, Origin, Outcome, Place, Rule, field_place};
 use must_call_sets::{
     alias_position, beyond_type, field_type, fits_type, is_alias_constructor, is_constructor,
-    is_heavy_as, is_heavy_class, must, resets_this,
+    is_heavy_as, is_heavy_class, must, must_of_optional, resets_this,
 };
 use obligation_facts::{is_alias, is_held, is_met, is_origin_at, is_own, leave, missing};
 use program_model::{BodyId, FieldId, Program};
+use rlc_base::NameSet;
 
-// A store outside a constructor asks for a method that creates the obligation of `this` anew.
-fn lacks_reset(p: &Program, b: BodyId, fact: &Fact) -> bool
-    ensures { result ≡ lacks_reset p.now b fact.now }
+// Whether some method must be called on objects of the field's type.
+fn has_heavy_type(p: &Program, field: FieldId) -> bool
+    ensures { result ≡ has_heavy_type p.now field }
 {
-    fact.places.contains(Place::This) && !(is_constructor(p, b) || resets_this(p, b))
+    !must_of_optional(p, field_type(p, field)).is_subset(NameSet::empty())
+}
+
+// A store outside a constructor asks for a method that creates the obligation of `this` anew, and for a field whose type
+// has an obligation.
+fn lacks_reset(p: &Program, b: BodyId, field: FieldId, fact: &Fact) -> bool
+    ensures { result ≡ lacks_reset p.now b field fact.now }
+{
+    fact.places.contains(Place::This)
+        && !(is_constructor(p, b) || resets_this(p, b) && has_heavy_type(p, field))
 }
 
 // Whether the object has an obligation by its class, or may have one by the field's type.
@@ -126,7 +136,7 @@ fn stored(
     requires temp_room { depth < 64 }
     ensures { result ≡ stored p.now b origin.now field depth fact.now }
 {
-    if lacks_reset(p, b, fact) {
+    if lacks_reset(p, b, field, fact) {
         Outcome::Fault(Rule::ResetMissing, must(p, origin.class))
     } else if fact.places.contains(Place::Temp(depth)) {
         object_stored(p, b, origin, field, fact)

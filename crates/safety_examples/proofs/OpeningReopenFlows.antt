@@ -192,7 +192,7 @@ unfolding without_temps
 makes_beside_this = simp (nothing_left other_names, somewhere this_made 160 (made 160)) refl
 
 pub stores_beside_this : flow opening reopen_body this_origin (actions.PutOwn held 0) edges.Go (fact this_made modes.Lent no_more_names) ≡ Next (fact this_made modes.Lent no_more_names)
-stores_beside_this = simp (made 160, made 177, made 161) refl
+stores_beside_this = simp (made 160, made 177, made 161, close_not_none) refl
 
 pub drops_stored_beside_this : flow opening reopen_body this_origin (actions.Drop (scopes.Temp 0)) edges.Go (fact this_made modes.Lent no_more_names) ≡ Next (fact this_stored modes.Lent no_more_names)
 drops_stored_beside_this = simp (somewhere this_stored 160 (left 160)) refl
