@@ -1,4 +1,4 @@
--- The forms of steps and calls that the laws on safety speak of: no constructor with an aliased argument of a class with owning fields creates the obligation of its object anew.
+-- The forms that steps and calls of accepted programs have.
 use Rattle.std.specs.Prelude.{◌≡◌, ℕ, Bool, true, false, not, ◌&&◌, ◌||◌, ◌⊎◌, Option, Some, None, List, slice_get}
 use Rattle.std.specs.List.{All, list_all, list_any}
 use Rattle.std.specs.FinSet as set
@@ -154,35 +154,17 @@ abbrev pub all_owe_nothing : Program → Option VType → Bool
 all_owe_nothing p (Some (types.Obj c)) = not (is_under p p.core.string c) && list_all (λ (k : Class). not (has_class k.above.items c) || owes_nothing p k) p.classes.items
 all_owe_nothing p t = false
 
--- A call that creates an obligation anew, at the control `k` of a constructor with an aliased argument, does so of `this` only where no owning field has a place.
-pub record IsPlainReset (p : Program) (b : BodyId) (k : List Todo) (a : Action) : Type 0 where
-  pub aliased : is_alias_constructor p b ≡ true → is_reset_of_this p a ≡ true → (f : FieldId) → has_field_place p b f ≡ false
-
--- the action at the control creates no obligation anew, or does so plainly
-abbrev pub ResetsPlainly : Program → BodyId → List Todo → Action → Type 0
-ResetsPlainly p b k a = (reset_in (callee p a) ≡ None) ⊎ IsPlainReset p b k a
-
 -- The owning field is one of `this`, which the body's class declares, and of type `String`: so it is where another operator than `=` stores it (JLS 15.26.2).
 abbrev pub IsTextUpdate : Program → Body → FieldId → Bool → Type 0
 IsTextUpdate p b f through_this = (through_this ≡ true) × (declares_field p b f ≡ true) × (field_type p f ≡ Some types.Str)
 
--- Owning fields may be stored in the body: it is that of a constructor, or of a method, of a class with an obligation, that creates the obligation of `this` anew.
-abbrev pub StoresFields : Program → BodyId → Type 0
-StoresFields p b = (is_constructor p b ≡ true) ⊎ ((reopens (method_of p b) ≡ true) × (is_of_heavy_class p (method_of p b) ≡ true))
+-- The method is a constructor, or one, of a class with an obligation, that creates the obligation of `this` anew, and the field's type has an obligation, too.
+abbrev pub StoresPlainly : Program → Option Method → FieldId → Type 0
+StoresPlainly p m f = (constructs m ≡ true) ⊎ ((reopens m ≡ true) × (is_of_heavy_class p m ≡ true) × (not (is_empty (must_of_optional p (field_type p f))) ≡ true))
 
--- The body is that of a constructor, or of a method of a class with an obligation that creates the obligation of `this` anew, and the field's type has an obligation, too.
-abbrev pub StoresPlainly : Program → BodyId → FieldId → Type 0
-StoresPlainly p b f =
-    (is_constructor p b ≡ true)
-    ⊎ ((reopens (method_of p b) ≡ true) × (is_of_heavy_class p (method_of p b) ≡ true) × (not (is_empty (must_of_optional p (field_type p f))) ≡ true))
-
--- outside constructors an owning field is stored only where its type has an obligation
-abbrev pub StoresObligations : Program → BodyId → FieldId → Type 0
-StoresObligations p b f = (is_constructor p b ≡ true) ⊎ (not (is_empty (must_of_optional p (field_type p f))) ≡ true)
-
--- Each step that a control of a body can reach has one of the plain forms; owning fields are stored by `=` in such bodies of the class that
+-- Each step that a control of a body can reach has one of the plain forms; owning fields are stored by `=` in bodies of the class that
 -- declares them, and otherwise by `+=` on texts alone; no super constructor is called behind such a store, nor behind a call that creates the obligation of `this` anew; no class with owning fields is the one whose constructor is called so, nor has it another one under it; and
--- objects with owning fields run their own must-call methods. All classes above one of the library are the library's, and so is the class of what a method of it gives. Where bodies call what creates an obligation anew, they do so plainly.
+-- objects with owning fields run their own must-call methods. All classes above one of the library are the library's, and so is the class of what a method of it gives. A constructor with an aliased argument calls nothing on `this` that creates its obligation anew.
 pub record HasPlainForms (p : Program) : Type 0 where
   pub steps : (b : BodyId) {k : List Todo} (i : ℕ) (t : Move (List Todo)) → Comes (relation_of p b) k
       → slice_get ((relation_of p b).next k) i ≡ Some t → IsPlainAction p t.action
@@ -191,9 +173,7 @@ pub record HasPlainForms (p : Program) : Type 0 where
   pub super_calls : (b : BodyId) {k : List Todo} (i : ℕ) (t : Move (List Todo)) → Comes (relation_of p b) k
       → slice_get ((relation_of p b).next k) i ≡ Some t → calls_constructor p t.action ≡ true → is_constructor p b ≡ true
   pub stores : (b : BodyId) {k : List Todo} (i : ℕ) (t : Move (List Todo)) (f : FieldId) (d : ℕ) → Comes (relation_of p b) k
-      → slice_get ((relation_of p b).next k) i ≡ Some t → t.action ≡ actions.PutOwn f d → StoresFields p b × (has_field_place p b f ≡ true)
-  pub obligations : (b : BodyId) {k : List Todo} (i : ℕ) (t : Move (List Todo)) (f : FieldId) (d : ℕ) → Comes (relation_of p b) k
-      → slice_get ((relation_of p b).next k) i ≡ Some t → t.action ≡ actions.PutOwn f d → StoresObligations p b f
+      → slice_get ((relation_of p b).next k) i ≡ Some t → t.action ≡ actions.PutOwn f d → has_field_place p b f ≡ true
   pub updates : (b : BodyId) (x : Body) {k : List Todo} (i : ℕ) (t : Move (List Todo)) (f : FieldId) (d : ℕ) (through_this : Bool) → body_at p b ≡ Some x → Comes (relation_of p b) k
       → slice_get ((relation_of p b).next k) i ≡ Some t → t.action ≡ actions.Put f d through_this → is_owning p f ≡ true → IsTextUpdate p x f through_this
   pub parents : (b : BodyId) {k : List Todo} (i : ℕ) (t : Move (List Todo)) (m : MethodId) (f : FieldId) (x : Field) → Comes (relation_of p b) k
@@ -203,5 +183,5 @@ pub record HasPlainForms (p : Program) : Type 0 where
   pub library : (c d : ClassId) → is_under p c d ≡ true → is_library p c ≡ true → is_library p d ≡ true
   pub given : (m : MethodId) (x : Method) (c : ClassId) → method_at p m ≡ Some x → is_library p x.class ≡ true → x.sig.result ≡ Some (types.Obj c) → is_library p c ≡ true
   pub alone : (c : ClassId) (f : FieldId) (x : Field) → field_at p f ≡ Some x → x.owning ≡ true → is_under p c x.class ≡ true → c ≡ x.class
-  pub resets : (b : BodyId) {k : List Todo} (i : ℕ) (t : Move (List Todo)) → Comes (relation_of p b) k
-      → slice_get ((relation_of p b).next k) i ≡ Some t → ResetsPlainly p b k t.action
+  pub aliased : (b : BodyId) {k : List Todo} (i : ℕ) (t : Move (List Todo)) → Comes (relation_of p b) k
+      → slice_get ((relation_of p b).next k) i ≡ Some t → is_alias_constructor p b ≡ true → is_reset_of_this p t.action ≡ false

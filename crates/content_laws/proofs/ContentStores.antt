@@ -215,7 +215,7 @@ module _ (p : Program) (ac : Accept p) (forms' : HasPlainForms p) (h : HeapConte
 
   -- the field is one of the class of the body
   place : has_field_place p st.number f ≡ true
-  place = (forms'.stores st.number i (move_of s) f d st.control (step_there p fr st i s here) is).1
+  place = (forms'.stores st.number i (move_of s) f d st.control (step_there p fr st i s here) is)
 
   declared_by : (x : Option Field) → field_at p f ≡ x → is_field_in p st.number x ≡ true → (field : Field) × (field_at p f ≡ Some field) × (field.owning ≡ true) × (is_class_of field.class (method_of p st.number) ≡ true)
   declared_by None at absent = absurd (true≢false (sym absent))

@@ -101,7 +101,7 @@ module _ (p : Program) (forms : HasPlainForms p) (h k : HeapContents) (fr : Fram
 
   -- a method of the class that declares the field stores it
   storing : (u : ℕ) (g : FieldId) → IsStore fr.locals s.action u g → DeclaresOwning p fr.method
-  storing u g store = by (field_at p g) refl (forms.stores st.number i (move_of s) g store.0 st.control (step_there p fr st i s here) store.1).1
+  storing u g store = by (field_at p g) refl (forms.stores st.number i (move_of s) g store.0 st.control (step_there p fr st i s here) store.1)
     where
       method : method_of p st.number ≡ method_at p fr.method
       method = ap (method_in p) st.at ∙ ap (method_at p) st.method

@@ -63,7 +63,7 @@ use Rattle.covering_laws.specs.Operands.{NoObject, params_of}
 use Rattle.covering_laws.specs.Renewable.{IsFollowed, IsRenewable, renews_each, takes_each}
 use Rattle.covering_laws.specs.Making.{AreBeingMade}
 use Rattle.covering_laws.proofs.MadeTargets.{makes_this}
-use Rattle.covering_laws.specs.Sight.{ActsInSight, AllActInSight, IsOnObject, MakesThis, RunOnObjects}
+use Rattle.covering_laws.specs.Sight.{ActsByRules, ActsInSight, AllActByRules, AllActInSight, IsOnObject, MakesThis, RunOnObjects}
 use Rattle.covering_laws.specs.TextUpdates.{AllUpdateTexts, UpdatesTexts}
 use Rattle.covering_laws.specs.Types.{IsNoObjectButText, KeepAll, KeepsTypes, is_text}
 use Rattle.covering_laws.specs.Values.{FitsClass, HasClassUnder}
@@ -712,8 +712,8 @@ module _ (p : Program) (ac : Accept p) where
             let same : self.class ≡ u.0 = (let both : Some self.class ≡ Some u.0 = sym (ap class_in at) ∙ u.1 in cc) in
             ap (λ (e : ClassId). is_under p e n.class) same ∙ u.2
 
-    pub frame_in_sight : ((c d : ClassId) → is_under p c d ≡ true → is_library p c ≡ true → is_library p d ≡ true) → is_library p p.core.string ≡ true → Stands p fr → UpdatesTexts p h fr → IsOnObject p fr → MakesThis p h fr → ActsInSight p h fr
-    frame_in_sight library string st updates on makes = record { renews = renews; stores = stores; updates = updates; stands = stands library string st; on = on; receives = receives library string st; makes = makes }
+    pub frame_in_sight : ((c d : ClassId) → is_under p c d ≡ true → is_library p c ≡ true → is_library p d ≡ true) → is_library p p.core.string ≡ true → Stands p fr → UpdatesTexts p h fr → IsOnObject p fr → MakesThis p h fr → ActsByRules p fr → ActsInSight p h fr
+    frame_in_sight library string st updates on makes rules = record { renews = renews; stores = stores; updates = updates; stands = stands library string st; on = on; receives = receives library string st; makes = makes; rules = rules }
 
 stacked_below : (p : Program) (h : HeapContents) (fr : Frame) (frs : List Frame) → IsStacked p h (fr ∷ frs) → IsStacked p h frs
 stacked_below p h fr [] stacked = tt
@@ -726,9 +726,9 @@ making_below p h fr (caller ∷ frs) making = making.2
 -- the next step of each frame is seen
 pub acts_in_sight : (p : Program) → Accept p → HasLightTexts p → OwnsNoRenewedText p → ((c d : ClassId) → is_under p c d ≡ true → is_library p c ≡ true → is_library p d ≡ true) → is_library p p.core.string ≡ true
     → (h : HeapContents) (frs : List Frame) → AllStand p frs → HasEarlierLinks h → ((bound : ClassId) → IsNotAboveString p bound → FramesFitClass p bound h frs) → KeepAll (is_text p h) p frs
-    → LinkedAreAliases p h → LinksReachAliased p h → AllUpdateTexts p h frs → RunOnObjects p frs → IsStacked p h frs → AreBeingMade p h frs → AllActInSight p h frs
-acts_in_sight p ac light fields library string h [] standing links keeps types' aliases reached updates on stacked making = tt
-acts_in_sight p ac light fields library string h (fr ∷ frs) standing links keeps types' aliases reached updates on stacked making = (
-  frame_in_sight p ac light fields h links aliases reached fr (λ bound own. (keeps bound own).0) types'.0 library string standing.0 updates.0 on.0 (makes_this p ac h links fr frs standing stacked making),
-  acts_in_sight p ac light fields library string h frs standing.1 links (λ bound own. (keeps bound own).1) types'.1 aliases reached updates.1 on.1 (stacked_below p h fr frs stacked) (making_below p h fr frs making),
+    → LinkedAreAliases p h → LinksReachAliased p h → AllUpdateTexts p h frs → RunOnObjects p frs → IsStacked p h frs → AreBeingMade p h frs → AllActByRules p frs → AllActInSight p h frs
+acts_in_sight p ac light fields library string h [] standing links keeps types' aliases reached updates on stacked making rules = tt
+acts_in_sight p ac light fields library string h (fr ∷ frs) standing links keeps types' aliases reached updates on stacked making rules = (
+  frame_in_sight p ac light fields h links aliases reached fr (λ bound own. (keeps bound own).0) types'.0 library string standing.0 updates.0 on.0 (makes_this p ac h links fr frs standing stacked making) rules.0,
+  acts_in_sight p ac light fields library string h frs standing.1 links (λ bound own. (keeps bound own).1) types'.1 aliases reached updates.1 on.1 (stacked_below p h fr frs stacked) (making_below p h fr frs making) rules.1,
 )

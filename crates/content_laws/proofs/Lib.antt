@@ -34,6 +34,8 @@ pub use Rattle.covering_laws.proofs.AliasConducts
 pub use Rattle.covering_laws.proofs.AliasFacts
 pub use Rattle.covering_laws.proofs.AliasResults
 pub use Rattle.covering_laws.proofs.AliasRoots
+pub use Rattle.covering_laws.proofs.LastingFacts
+pub use Rattle.covering_laws.proofs.StoresOutside
 pub use Rattle.covering_laws.proofs.Begun
 pub use Rattle.covering_laws.proofs.Births
 pub use Rattle.covering_laws.proofs.Bodies
@@ -75,6 +77,8 @@ pub use Rattle.covering_laws.proofs.FieldPlaces
 pub use Rattle.covering_laws.proofs.Flows
 pub use Rattle.covering_laws.proofs.Following
 pub use Rattle.covering_laws.proofs.FrameFollowing
+pub use Rattle.covering_laws.proofs.FrameKept
+pub use Rattle.covering_laws.proofs.ArgumentBegun
 pub use Rattle.covering_laws.proofs.GivenArguments
 pub use Rattle.covering_laws.proofs.WaitingTargets
 pub use Rattle.covering_laws.proofs.EndOwners
@@ -155,3 +159,4 @@ pub use Rattle.covering_laws.proofs.ThisOperands
 pub use Rattle.covering_laws.proofs.StoreSteps
 pub use Rattle.covering_laws.proofs.StoringThis
 pub use Rattle.covering_laws.proofs.UnlinkedThis
+pub use Rattle.covering_laws.proofs.AliasedResets

@@ -20,6 +20,7 @@ use Rattle.program_model.specs.declared.program.Program.{Program}
 use Rattle.program_model.specs.Lookups.{field_at, method_at}
 use Rattle.must_call_sets.specs.Bodies.{is_field_in, reset_in, constructs, is_alias_constructor, is_class_of}
 use Rattle.must_call_sets.specs.MustCallSets.{is_heavy_class, must_of, must_of_type}
+use Rattle.java_control.specs.Calls.{called_method}
 use Rattle.java_control.specs.Control.{Step}
 use Rattle.java_control.specs.Owned.{is_owning, is_owning_field}
 use Rattle.java_control.specs.declared.action.Action.{Action}
@@ -53,7 +54,7 @@ use Rattle.ledger_steps.specs.declared.store.Store.{Store}
 use Rattle.covering_laws.specs.LedgerRunsSteps.{began, library_went, within}
 use Rattle.covering_laws.specs.Heaps.{Evolves, HasEarlierLinks}
 use Rattle.covering_laws.specs.Agreement.{Agrees, Stands, is_answering}
-use Rattle.covering_laws.specs.PlainForms.{HasPlainForms}
+use Rattle.covering_laws.specs.PlainForms.{HasPlainForms, StoresPlainly}
 use Rattle.covering_laws.specs.Nexts.{IsInnerStep, IsLibraryMove, IsStartMove}
 use Rattle.covering_laws.proofs.NameCounts.{accepted_names}
 use Rattle.covering_laws.proofs.Ready.{step_there}
@@ -90,7 +91,6 @@ use Rattle.covering_laws.specs.HeapAnew.{is_anew}
 use Rattle.covering_laws.specs.Sight.{ActsInSight, AllActInSight}
 use Rattle.covering_laws.specs.TextUpdates.{IsLeftByText, IsLightStore, UpdatesTexts}
 use Rattle.covering_laws.proofs.TextStores.{light_back, light_fields, light_forward, light_links, row_light, store_count}
-use Rattle.covering_laws.specs.Callees.{callee_in}
 use Rattle.content_laws.proofs.Leaves.{lost_from}
 use Rattle.content_laws.proofs.LinkSteps.{leads_go_on}
 use Rattle.content_laws.proofs.Steps.{lost, owning_on, same_after, IsSameFrame, LocalsIn, same_dispatched, same_fresh, same_makes, same_new, same_unfinished, stepped, this_in}
@@ -248,8 +248,12 @@ module _ (p : Program) (ac : Accept p) (forms' : HasPlainForms p) (c : Config) (
     abbrev after : Frame
     after = frame_after p h fr s v
 
+    -- it is as the rules ask
+    plainly : StoresPlainly p (method_at p fr.method) f
+    plainly = sight.rules.stores i s f t here is
+
     owning : is_owning p f ≡ true
-    owning = own_field (field_at p f) (forms'.stores st.number i (move_of s) f t st.control (step_there p fr st i s here) is).1
+    owning = own_field (field_at p f) (forms'.stores st.number i (move_of s) f t st.control (step_there p fr st i s here) is)
       where
         own_field : (x : Option Field) → is_field_in p st.number x ≡ true → is_owning_field x ≡ true
         own_field None absent = absurd (true≢false (sym absent))
@@ -286,28 +290,28 @@ module _ (p : Program) (ac : Accept p) (forms' : HasPlainForms p) (c : Config) (
       under m at = sight.stands w self.0 m this self.1 at
 
       storing : (((self.0).finished ≡ false) × (constructs (method_at p fr.method) ≡ true)) ⊎ IsReopened p h frs fr w self.0
-      storing = storing_this p ac forms' h links owned fr top st old frs targets covered hold.unfinished i s here f t is w this self.0 self.1 under (λ opens. unlinked_this p ac forms' h aliases fr st w self.0 self.1 under opens)
+      storing = storing_this p ac forms' h links owned fr top st old frs targets covered hold.unfinished i s here f t is plainly w this self.0 self.1 under (λ opens. unlinked_this p ac forms' h aliases fr st w self.0 self.1 under opens)
 
-      abbrev its : IsItsField p ac forms' h links owned fr top st old frs targets covered hold.unfinished i s here f t is w this self.0 self.1 under (λ opens. unlinked_this p ac forms' h aliases fr st w self.0 self.1 under opens)
-      its = its_field p ac forms' h links owned fr top st old frs targets covered hold.unfinished i s here f t is w this self.0 self.1 under (λ opens. unlinked_this p ac forms' h aliases fr st w self.0 self.1 under opens)
+      abbrev its : IsItsField p ac forms' h links owned fr top st old frs targets covered hold.unfinished i s here f t is plainly w this self.0 self.1 under (λ opens. unlinked_this p ac forms' h aliases fr st w self.0 self.1 under opens)
+      its = its_field p ac forms' h links owned fr top st old frs targets covered hold.unfinished i s here f t is plainly w this self.0 self.1 under (λ opens. unlinked_this p ac forms' h aliases fr st w self.0 self.1 under opens)
 
       of_class : (field : Field) → field_at p f ≡ Some field → (self.0).class ≡ field.class
       of_class field at =
-          its_class p ac forms' h links owned fr top st old frs targets covered hold.unfinished i s here f t is w this self.0 self.1 under (λ opens. unlinked_this p ac forms' h aliases fr st w self.0 self.1 under opens)
+          its_class p ac forms' h links owned fr top st old frs targets covered hold.unfinished i s here f t is plainly w this self.0 self.1 under (λ opens. unlinked_this p ac forms' h aliases fr st w self.0 self.1 under opens)
           ∙ ap (λ (x : Field). x.class) (let both : Some its.field ≡ Some field = sym its.known ∙ at in (let one : its.field ≡ field = cc in one))
 
       -- what the frame owns and stores has its obligation within that of its class; so has what the field owns
       heavy_bounded : is_alias_constructor p st.number ≡ false → (o : ℕ) (x : Object) → object_at h o ≡ Some x → IsMovedIn p h f (temp_value fr.locals t) o x → is_heavy_class p x.class ≡ true
           → set.is_subset x.must (must_of p x.class) ≡ true
       heavy_bounded plain o x at moved heavy =
-          by (covered (places.Temp t) o x (small p ac forms' h old frs fr st covered i t s f here is).0 refl moved.root at heavy (inl (not_the_librarys_owes x (may_library p (type_of_field (field_at p f)) x moved.may))))
+          by (covered (places.Temp t) o x (small p ac forms' h old frs fr st covered i t s f here is plainly).0 refl moved.root at heavy (inl (not_the_librarys_owes x (may_library p (type_of_field (field_at p f)) x moved.may))))
         where
           wide : is_heavy_in p (Some f) ≡ true
           wide = heavy_field_by p f its.field its.known x.class heavy
               (ap (λ (t' : VType). set.is_subset (must_of p x.class) (must_of_type p t')) (sym (ap type_of_field its.known)) ∙ may_lies p (type_of_field (field_at p f)) x moved.may)
 
           of_cover : (c : Covers p h false false old frs fr o x) → has c.fact.places (places.Temp t) ≡ true → set.is_subset x.must (must_of p x.class) ≡ true
-          of_cover c in' = elim (temp_is_taken p ac forms' h old frs fr st covered i t s f here is o x w this c in' wide plain) [
+          of_cover c in' = elim (temp_is_taken p ac forms' h old frs fr st covered i t s f here is plainly o x w this c in' wide plain) [
             | inl own ↦ (let parts = and_parts (is_heavy_class p c.origin.class) (is_own c.fact.mode) own in
                 let mode = own_mode c.fact.mode parts.1 in
                 (c.true' (own_claims p (method_at p fr.method) c.origin c.fact mode parts.0) refl (ap (λ (m : Mode). is_held m && lends_this p fr) mode)).bounded)
@@ -447,19 +451,20 @@ module _ (p : Program) (ac : Accept p) (forms' : HasPlainForms p) (c : Config) (
   -- what a step creates anew it creates plainly
   pub library_creates : ActsInSight p h fr → (named m : MethodId) (x : Conduct) (s : Step) → IsLibraryMove p h c.arrays fr.locals (frame_steps p fr) named m x s → CreatesPlainly named m x s
   library_creates sight named m x s next = elim next.row [
-    | inl call ↦ elim (forms'.resets st.number next.index (move_of s) st.control (step_there p fr st next.index s next.here)) [
-      | inl none ↦ inl (ap (object_by (positions fr.locals s.action (next_number h) x)) (position_none (method_at p named) (sym (ap (λ (y : Option MethodId). reset_in (callee_in p y)) call.1) ∙ none)))
-      | inr anew ↦ inr (record {
+    | inl call ↦ by_reset call.1 (reset_in (method_at p named)) refl
+    | inr read ↦ inl (read_resets_nothing fr.locals s.action read (next_number h) x (method_at p named))
+  ]
+    where
+      by_reset : called_method s.action ≡ Some named → (r : Option ℕ) → reset_in (method_at p named) ≡ r → CreatesPlainly named m x s
+      by_reset call None none = inl (ap (object_by (positions fr.locals s.action (next_number h) x)) (position_none (method_at p named) none))
+      by_reset call (Some n) some = inr (record {
         plain = without_reset (method_at p named);
         nothing = says_nothing (method_at p named);
         interest = same_interest (method_at p named);
         anew = is_anew p fr.locals s.action (method_at p named) (method_at p m) x h;
         renews = library_renews p fr.locals s.action (method_at p named) (method_at p m) x (length frs + 1) h (held_by (called_frame named m x s ∷ frs)) links agrees.ends unlinked
-            (tops p h links fr named m x next.index s next.here call.1 (target_is_instance p h c.arrays fr.locals s.action (method_at p named) (next.ran call.1).1) hold.owning sight unlinked);
+            (tops p h links fr named m x next.index s next.here call (target_is_instance p h c.arrays fr.locals s.action (method_at p named) (next.ran call).1) hold.owning sight unlinked);
       })
-    ]
-    | inr read ↦ inl (read_resets_nothing fr.locals s.action read (next_number h) x (method_at p named))
-  ]
 
   -- it creates nothing anew
   plain_hold : (named m : MethodId) (x : Conduct) (s : Step) → IsLibraryMove p h c.arrays fr.locals (frame_steps p fr) named m x s → reset_target (positions fr.locals s.action (next_number h) x) (method_at p named) ≡ None

@@ -72,3 +72,4 @@ pub use Rattle.covering_laws.specs.Throws
 pub use Rattle.covering_laws.specs.Types
 pub use Rattle.covering_laws.specs.Values
 pub use Rattle.covering_laws.specs.Holders
+pub use Rattle.covering_laws.specs.Positions

@@ -83,7 +83,7 @@ module _ (p : Program) (ac : Accept p) (k : HeapContents) (fr : Frame) (st : Sta
   own_body : method_of p st.number ≡ Some ran
   own_body = method_here p fr st ∙ ran_at
 
-  pub has_place : has_field_place p st.number f ≡ true
+  has_place : has_field_place p st.number f ≡ true
   has_place = ap (is_field_in p st.number) field.at ∙ rw (field.owning, own_body) (ap (is_class field.field.class) (sym field.class) ∙ eq-eqb field.field.class.0 field.field.class.0 refl)
 
   listed : slice_get (fields_of p st.number) field.among'.0 ≡ Some f

@@ -165,7 +165,7 @@ module _ (p : Program) (ac : Accept p) (forms : HasPlainForms p) (h : HeapConten
 
         has' : has_part c.fact.places ≡ true
         has' = part (has c.fact.places places.This) refl
-            (held_in_this p ac below.number below.body run.0 below.at (ap (method_at p) below.method ∙ run.1) (λ k i u g d comes here is. (forms.stores below.number i u g d comes here is).1) c.origin caller.control c.fact reached held)
+            (held_in_this p ac below.number below.body run.0 below.at (ap (method_at p) below.method ∙ run.1) (λ k i u g d comes here is. (forms.stores below.number i u g d comes here is)) c.origin caller.control c.fact reached held)
 
         resets : (b : Bool) → is_reset_of_this p t.action ≡ b → is_reset_of_this p t.action ≡ false
         resets false none = none

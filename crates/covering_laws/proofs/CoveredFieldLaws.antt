@@ -19,7 +19,7 @@ use Rattle.ledger_obligations.specs.Obligations.{is_unmet}
 use Rattle.value_laws.specs.Configuration.{Frame}
 use Rattle.value_laws.specs.Choosing.{frame_steps}
 use Rattle.value_laws.specs.Agreement.{Stands}
-use Rattle.value_laws.specs.PlainForms.{HasPlainForms}
+use Rattle.value_laws.specs.PlainForms.{HasPlainForms, StoresPlainly}
 use Rattle.value_laws.specs.FieldContents.{promised_on}
 use Rattle.value_laws.specs.PlaceFacts.{IsCovered, gives_none, renews_none}
 use Rattle.covering_laws.specs.Covering.{HoldsHeavy, IsCountedOn, KeepsFieldsOfThis}
@@ -27,9 +27,9 @@ use Rattle.covering_laws.proofs.FrameEnds.{kept_at_end, met_at_throw}
 use Rattle.covering_laws.proofs.Storing.{displaced_is_met}
 
 pub overwritten_is_met : (p : Program) → Accept p → HasPlainForms p → (h : HeapContents) (frs : List Frame) (fr : Frame) → (st : Stands p fr) → is_alias_constructor p st.number ≡ false → (old : ℕ → Bool) → IsCovered p h gives_none renews_none old frs fr
-    → (i d : ℕ) (s : Step) (f : FieldId) (w o : ℕ) (x : Object) → slice_get (frame_steps p fr) i ≡ Some s → s.action ≡ actions.PutOwn f d
+    → (i d : ℕ) (s : Step) (f : FieldId) (w o : ℕ) (x : Object) → slice_get (frame_steps p fr) i ≡ Some s → s.action ≡ actions.PutOwn f d → StoresPlainly p (method_at p fr.method) f
     → HoldsHeavy p h fr w f o x → (root_of h (temp_value fr.locals d) ≡ Some o → ⊥) → is_unmet x ≡ false
-overwritten_is_met p ac forms h frs fr st plain old covered i d s f w o x here is holds apart = displaced_is_met p ac forms h old frs fr st covered i d s f here is plain w o x holds apart
+overwritten_is_met p ac forms h frs fr st plain old covered i d s f w o x here is plainly holds apart = displaced_is_met p ac forms h old frs fr st covered i d s f here is plainly plain w o x holds apart
 
 pub promises_are_kept_at_end : (p : Program) → Accept p → (h : HeapContents) (frs : List Frame) (fr : Frame) → (st : Stands p fr) → (old : ℕ → Bool) → IsCovered p h gives_none renews_none old frs fr
     → (i : ℕ) (s : Step) (q : Completion) (m : Method) (f : FieldId) (w o : ℕ) (x : Object) → slice_get (frame_steps p fr) i ≡ Some s → s.action ≡ actions.End q

@@ -302,7 +302,7 @@ module _ (p : Program) (ac : Accept p) (forms' : HasPlainForms p) (h : HeapConte
           go (actions.Call m d c' forms.This) same on = by_this m d c' same
           go (actions.Call m d c' forms.Super) same on =
               let m_is : m ≡ named = (let both : Some m ≡ Some named = ap called_method (sym same) ∙ called in (let one : m ≡ named = cc in one)) in
-              let elsewhere : IsDeclaredElsewhere p below.body m = subst (NamesMembers p below.body) same (names_members p ac forms' caller below j t there) in
+              let elsewhere : IsDeclaredElsewhere p below.body m = (subst (NamesMembers p below.body) same (names_members p ac forms' caller below j t there)).0 in
               absurd (elsewhere mine.method n (ap (method_at p) below.method ∙ mine.named) (ap (method_at p) m_is ∙ named_at) same_class)
           go (actions.Call m d c' forms.Static) same on = absurd (true≢false (sym on))
           go (actions.Call m d c' forms.Other) same on = absurd (true≢false (sym on))

@@ -64,7 +64,6 @@ use Rattle.covering_laws.proofs.Following.{method_here, same_body}
 use Rattle.covering_laws.proofs.HeavyFields.{HasPlace, alone_answers, covers_field, has_place_here, heavy_here, held_claims, makes_alone_by}
 use Rattle.covering_laws.proofs.InFields.{held_in_field, one_field, owned_at}
 use Rattle.covering_laws.proofs.Owners.{HoldersWere, OwnersGo}
-use Rattle.covering_laws.proofs.Resets.{this_elsewhere}
 use Rattle.covering_laws.proofs.StoreMoves.{unlinked_root}
 use Rattle.covering_laws.proofs.SaidFacts.{said_by}
 use Rattle.covering_laws.proofs.Waiting.{Carries, Continues, KeepsFieldsButTexts, KeepsOtherRoots, KeepsRoots, numbered}
@@ -102,7 +101,7 @@ module _ (p : Program) (ac : Accept p) (forms : HasPlainForms p) (h : HeapConten
       owned_at p fr x.owner w f this field.0 (one_field p fr st ac c.fact.places x.owner field f here cover.1)
 
   of_argument : (n : ℕ) → alias_position p st.number ≡ Some n → is_origin_at c.origin.kind (alias_position p st.number) ≡ true
-  of_argument n some = held_is_argument p ac st.number st.body method.0 st.at (ap (method_at p) st.method ∙ method.1) aliased (this_elsewhere p forms st.number aliased) c.origin fr.control c.fact reached was.0
+  of_argument n some = held_is_argument p ac st.number st.body method.0 st.at (ap (method_at p) st.method ∙ method.1) aliased (λ k n t comes there. forms.aliased st.number n t comes there aliased) c.origin fr.control c.fact reached was.0
     where
       aliased : is_alias_constructor p st.number ≡ true
       aliased = and_from (is_constructor p st.number) (is_present (alias_position p st.number)) (ap constructs (method_here p fr st) ∙ constructor) (ap is_present some)

@@ -1,4 +1,4 @@
--- In a method of which the body stores nothing into owning fields, the place of each owning field of a class type is in a fact that says that the field holds its object, at each control to which a path brings the
+-- In a method that creates the obligation of `this` not anew, the place of each owning field of a class type is in a fact that says that the field holds its object, at each control to which a path brings the
 -- fact of `this`: such a fact is born at the method's entry, and anew behind each call that creates the obligation of `this` anew, and the place leaves it nowhere else.
 use Rattle.std.specs.Prelude.{◌||◌, if◌then◌else◌}
 use Rattle.std.proofs.Common.{◌≡◌, ◌⊎◌, inl, inr, ℕ, ◌<◌, Bool, true, false, Option, Some, None, List, slice_get, refl, sym, ap, ◌∙◌, subst, true≢false}
@@ -26,15 +26,16 @@ use Rattle.java_control.specs.declared.action.Edge.TheVariants as edges
 use Rattle.java_control.specs.declared.fact.Fact.{Fact}
 use Rattle.java_control.specs.declared.fact.Mode.TheVariants as modes
 use Rattle.java_control.specs.declared.fact.Origin.{Origin}
+use Rattle.java_control.specs.declared.fact.OriginKind.{OriginKind}
 use Rattle.java_control.specs.declared.fact.OriginKind.TheVariants as kinds
 use Rattle.java_control.specs.declared.place.Place.{Place}
 use Rattle.java_control.specs.declared.place.Place.TheVariants as places
-use Rattle.ledger_obligations.specs.Bodies.{fields_of, has_field_place}
+use Rattle.ledger_obligations.specs.Bodies.{fields_of, has_field_place, is_constructor, resets_this}
 use Rattle.java_control.specs.declared.fact.Outcome.{Outcome}
 use Rattle.java_control.specs.declared.fact.Outcome.TheVariants.{Next, Gone, Fault}
 use Rattle.ledger_obligations.specs.MustCallSets.{Names, no_names}
 use Rattle.ownership_rules.specs.Births.{born_in, class_of, field_birth, origin_of, owning_field_birth}
-use Rattle.ownership_rules.specs.Facts.{PlaceSet, has, is_held, position_of, without}
+use Rattle.ownership_rules.specs.Facts.{PlaceSet, has, is_held, is_origin_at, position_of, without}
 use Rattle.ownership_rules.specs.MovesAtReturns.{moved_at_return}
 use Rattle.ownership_rules.specs.SmallActions.{IsSmallAction}
 use Rattle.value_laws.specs.Accept.{Accept}
@@ -47,17 +48,19 @@ use Rattle.value_laws.specs.Anew.{GoesAnew, is_target}
 use Rattle.value_laws.specs.Outcomes.{After, IsCallRow, IsNotNull, IsPlainRow}
 use Rattle.value_laws.specs.Paths.{Comes, Move, Reach, born, entered, flowed, relation_of}
 use Rattle.value_laws.specs.PlacePlaces.{HasPlacesAlone, SetsLocals, is_local}
-use Rattle.value_laws.specs.PlainForms.{HasPlainForms, IsPlainAction, StoresFields}
+use Rattle.value_laws.specs.PlainForms.{HasPlainForms, IsPlainAction}
 use Rattle.value_laws.specs.Typed.{MovesLocals, NamesMembers}
 use Rattle.value_laws.proofs.EntryFacts.{kind_is, step_elsewhere}
 use Rattle.value_laws.proofs.Flows.{IfNext, end_none}
 use Rattle.value_laws.proofs.FactOrigins.{comes}
 use Rattle.value_laws.proofs.Going.{held_stays, left_as, other_steps}
+use Rattle.value_laws.proofs.KeptFacts.{this_stays}
 use Rattle.value_laws.proofs.OtherPlaces.{left_aside, stays_aside}
 use Rattle.value_laws.proofs.PlaceLaws.{places_stay_in_range, single_place-alone, single_place-has, single_place-same}
 use Rattle.value_laws.proofs.Reached.{typed_step}
 use Rattle.value_laws.proofs.Ready.{call_sets, row_sets}
 use Rattle.value_laws.proofs.Resetting.{call_goes_so}
+use Rattle.value_laws.proofs.StoresOutside.{store_is_plain}
 use Rattle.covering_laws.proofs.EntryBirths.{of_field}
 use Rattle.covering_laws.proofs.FieldBirths.{field_fact, field_origin, reset_bears}
 use Rattle.covering_laws.proofs.Following.{followed}
@@ -171,7 +174,7 @@ row_of (actions.End c) = end c refl
 -- ---- paths
 
 module _ (p : Program) (ac : Accept p) (forms : HasPlainForms p) (b : BodyId) (x : Body) (m : Method) (at : body_at p b ≡ Some x) (of : method_at p x.method ≡ Some m) (kind : m.kind ≡ methods.Instance)
-    (stays : StoresFields p b → ⊥) (i : ℕ) (f : FieldId) (field : Field) (c : ClassId) (listed : slice_get (fields_of p b) i ≡ Some f) (place : has_field_place p b f ≡ true) (known : field_at p f ≡ Some field)
+    (stays : (is_constructor p b ≡ true) ⊎ (resets_this p b ≡ true) → ⊥) (i : ℕ) (f : FieldId) (field : Field) (c : ClassId) (listed : slice_get (fields_of p b) i ≡ Some f) (place : has_field_place p b f ≡ true) (known : field_at p f ≡ Some field)
     (type : field.vtype ≡ types.Obj c) (n : ℕ) (number : place_of_field p f ≡ places.Field n) (small : n < 16) where
   abbrev q : Place
   q = places.Field n
@@ -188,9 +191,10 @@ module _ (p : Program) (ac : Accept p) (forms : HasPlainForms p) (b : BodyId) (x
   its_alone : HasPlacesAlone (field_fact p f).places
   its_alone = subst (λ (z : Place). HasPlacesAlone (set.insert set.empty (number_of z))) (sym number) (single_place-alone q small)
 
-  -- a step that ends nothing
-  pub field_goes : {k : List Todo} (j : ℕ) (t : Move (List Todo)) → Comes (relation_of p b) k → slice_get ((relation_of p b).next k) j ≡ Some t → ((e : Completion) → t.action ≡ actions.End e → ⊥) → HasFieldFact p b f c q k → HasFieldFact p b f c q t.to
-  field_goes {k} j t here' there on has' = by_reset (is_reset_of_this p t.action) refl
+  -- a step that ends nothing, and stores nothing into owning fields
+  pub field_goes : {k : List Todo} (j : ℕ) (t : Move (List Todo)) → Comes (relation_of p b) k → slice_get ((relation_of p b).next k) j ≡ Some t → ((e : Completion) → t.action ≡ actions.End e → ⊥)
+      → ((g : FieldId) (d : ℕ) → t.action ≡ actions.PutOwn g d → ⊥) → HasFieldFact p b f c q k → HasFieldFact p b f c q t.to
+  field_goes {k} j t here' there on stores has' = by_reset (is_reset_of_this p t.action) refl
     where
       fits : IsSmallAction p t.action
       fits = (ac.fits b).steps j t here' there
@@ -227,7 +231,7 @@ module _ (p : Program) (ac : Accept p) (forms : HasPlainForms p) (b : BodyId) (x
       by_row : is_reset_of_this p t.action ≡ false → RowOf t.action → HasFieldFact p b f c q t.to
       by_row none (plain row) = further (row_sets p t.action plain_form row) none (plain_after p b has'.origin has'.fact q inside_this has'.held t.action t.edge row (kept (row_sets p t.action plain_form row) none))
       by_row none (call row) = further (call_sets t.action row) none (call_after p b has'.origin has'.fact q inside_this has'.held t.action t.edge row (kept (call_sets t.action row) none))
-      by_row none (store g d is) = absurd (stays (forms.stores b j t g d here' there is).0)
+      by_row none (store g d is) = absurd (stores g d is)
       by_row none (end e is) = absurd (on e is)
 
       by_reset : (r : Bool) → is_reset_of_this p t.action ≡ r → HasFieldFact p b f c q t.to
@@ -271,8 +275,13 @@ module _ (p : Program) (ac : Accept p) (forms : HasPlainForms p) (b : BodyId) (x
           ∙ ap (λ (t : VType). born_in p (kinds.FieldAt f) field.pos (class_of (Some t)) None (field_fact p f)) type
   field_is_followed o _ g (born j l t before there is) this = absurd (let never : Some 0 ≡ None = sym (ap position_of this) ∙ (step_elsewhere p b t.action t.edge t.pos l o g is).1 in cc)
   field_is_followed o _ g (flowed {k} {f = g'} j t before there is) this =
-      field_goes j t (comes p ac b x at o k g' before) there (λ e ends. ends_not e ends) (field_is_followed o k g' before this)
+      field_goes j t (comes p ac b x at o k g' before) there (λ e ends. ends_not e ends) (λ h d stores. stores_not h d stores) (field_is_followed o k g' before this)
     where
+      -- the fact of `this` has it, so that a store breaks a rule
+      stores_not : (h : FieldId) (d : ℕ) → t.action ≡ actions.PutOwn h d → ⊥
+      stores_not h d stores =
+          stays (elim (store_is_plain p ac b o j t g' h d before there stores (this_stays p ac b x m at of o k g' before (ap (λ (z : OriginKind). is_origin_at z (Some 0)) this))) [ inl made ↦ inl made | inr resets ↦ inr resets.0 ])
+
       ends_not : (e : Completion) → t.action ≡ actions.End e → ⊥
       ends_not e ends =
           let next : flow p b o (actions.End e) t.edge g' ≡ Next g = subst (λ (a : Action). flow p b o a t.edge g' ≡ Next g) ends is in

@@ -43,7 +43,7 @@ module _ (p : Program) (ac : Accept p) (forms : HasPlainForms p) (fr : Frame) (s
 
       go : (b : Bool) → is_reset_of_this p s.action ≡ b → is_held f'.mode ≡ true
       go false none = idle_stays p ac forms fr st s r none frs g f f' reached goes is
-      go true resets = absurd (true≢false (sym parts.0 ∙ none_held p ac st.number st.body run.0 st.at (ap (method_at p) st.method ∙ run.1) (λ k i t n d comes here is'. (forms.stores st.number i t n d comes here is').1) free g fr.control f reached))
+      go true resets = absurd (true≢false (sym parts.0 ∙ none_held p ac st.number st.body run.0 st.at (ap (method_at p) st.method ∙ run.1) (λ k i t n d comes here is'. (forms.stores st.number i t n d comes here is')) free g fr.control f reached))
         where
           run : (m : Method) × (method_at p fr.method ≡ Some m) × (is_library p m.class ≡ false)
           run = running_method p ac fr st

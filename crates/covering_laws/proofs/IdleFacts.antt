@@ -42,7 +42,7 @@ module _ (p : Program) (ac : Accept p) (forms : HasPlainForms p) (fr : Frame) (s
       → GoesAs f (places_after p st.number s.action s.edge f.places) (called_after p st.number s.action s.edge f) g → is_held f.mode ≡ true → is_held g.mode ≡ true
   held_goes none o f g reached goes held =
       let run = running_method p ac fr st in
-      let inside = held_in_this p ac st.number st.body run.0 st.at (ap (method_at p) st.method ∙ run.1) (λ k i t n d comes here is. (forms.stores st.number i t n d comes here is).1) o fr.control f reached held in
+      let inside = held_in_this p ac st.number st.body run.0 st.at (ap (method_at p) st.method ∙ run.1) (λ k i t n d comes here is. (forms.stores st.number i t n d comes here is)) o fr.control f reached held in
       let z = place_in f.places inside in
       let later = stays_aside z.0 z.1 z.2 p st.number s.edge f.places s.action r.small r.sets r.moves r.makes (λ resets. absurd (true≢false (sym resets ∙ none))) ∙ z.3 in
       ap is_held (goes.held (held_mode f.mode held) (at_place (places_after p st.number s.action s.edge f.places) z.0 z.1 z.2 later))

@@ -47,7 +47,7 @@ use Rattle.value_laws.specs.Places.{field_place_value, owning_field_beside}
 use Rattle.value_laws.specs.Configuration.{Frame}
 use Rattle.value_laws.specs.Choosing.{body_id, frame_steps}
 use Rattle.value_laws.specs.Agreement.{Stands}
-use Rattle.value_laws.specs.PlainForms.{HasPlainForms}
+use Rattle.value_laws.specs.PlainForms.{HasPlainForms, StoresPlainly}
 use Rattle.value_laws.specs.PlaceFacts.{Covers, IsCovered, fits_in, gives_none, is_heavy_in, OwesOrHolds, renews_none}
 use Rattle.value_laws.proofs.SetLaws.{has_copied}
 use Rattle.value_laws.specs.Outcomes.{IsFault}
@@ -62,7 +62,6 @@ use Rattle.covering_laws.proofs.HeavyFields.{HasPlace}
 use Rattle.covering_laws.proofs.HeavyFields as fields
 use Rattle.covering_laws.proofs.Storing as stores
 use Rattle.covering_laws.proofs.Constructors.{aliased, gives_nothing, heavy_here, in_body, parameter_holds, reached, spoken, type_here, variable_small}
-use Rattle.covering_laws.proofs.Resets.{this_elsewhere}
 
 -- the set has one of n places of fields from number k on
 some_field : (held : PlaceSet) (k n : ℕ) → has_field_from held k n ≡ true → (j : ℕ) × (j < k + n) × (has held (places.Field j) ≡ true)
@@ -105,11 +104,18 @@ itself n = eq-eqb n n refl
 module _ (p : Program) (ac : Accept p) (forms : HasPlainForms p) (h : HeapContents) (old : ℕ → Bool) (frs : List Frame) (fr : Frame) (st : Stands p fr) (covered : IsCovered p h gives_none renews_none old frs fr) (i d : ℕ) (s : Step) (f : FieldId) (o : ℕ) (x : Object)
     (here : slice_get (frame_steps p fr) i ≡ Some s) (is : s.action ≡ actions.PutOwn f d) (m : Method) (of : method_at p st.body.method ≡ Some m) (aliased' : is_alias_constructor p st.number ≡ true) (wide : is_heavy_in p (Some f) ≡ true)
     (root : root_of h (temp_value fr.locals d) ≡ Some o) (at : object_at h o ≡ Some x) (heavy : is_heavy_class p x.class ≡ true) (owes' : OwesOrHolds p h o x) where
+  makes : constructs (method_at p fr.method) ≡ true
+  makes = sym (ap constructs (method_here p fr st)) ∙ (and_parts (is_constructor p st.number) (is_present (alias_position p st.number)) aliased').0
+
+  -- a constructor stores plainly
+  plainly : StoresPlainly p (method_at p fr.method) f
+  plainly = inl makes
+
   room : IsSmallAction p (actions.PutOwn f d)
-  room = stores.small p ac forms h old frs fr st covered i d s f here is
+  room = stores.small p ac forms h old frs fr st covered i d s f here is plainly
 
   mine : HasPlace p fr f
-  mine = stores.there p ac forms h old frs fr st covered i d s f here is
+  mine = stores.there p ac forms h old frs fr st covered i d s f here is plainly
 
   stored : (c : Covers p h false false old frs fr o x) × (has c.fact.places (places.Temp d) ≡ true)
   stored = fields.covered_at p h false false old frs fr (places.Temp d) o x (covered (places.Temp d) o x room.0 refl root at heavy owes')
@@ -120,24 +126,21 @@ module _ (p : Program) (ac : Accept p) (forms : HasPlainForms p) (h : HeapConten
   reached_there : Reach p st.number (relation_of p st.number) cover.origin fr.control cover.fact
   reached_there = subst (λ (b : BodyId). Reach p b (relation_of p b) cover.origin fr.control cover.fact) (same_body cover.body st.number (body_id p fr.method) cover.id st.id) cover.reached
 
-  joins : has (stores.now p ac forms h old frs fr st covered i d s f here is o x cover) (place_of_field p f) ≡ true
+  joins : has (stores.now p ac forms h old frs fr st covered i d s f here is plainly o x cover) (place_of_field p f) ≡ true
   joins = has_copied cover.fact.places (place_of_field p f) (places.Temp d) (place_of_field p f) room.1 room.1 ∙ rw (itself (field_number p f)) stored.1
 
   of_argument : is_origin_at cover.origin.kind (alias_position p st.number) ≡ true
-  of_argument = by (stores.goes p ac forms h old frs fr st covered i d s f here is o x cover (place_of_field p f) joins)
+  of_argument = by (stores.goes p ac forms h old frs fr st covered i d s f here is plainly o x cover (place_of_field p f) joins)
     where
       held_already : (b : Bool) → has cover.fact.places (place_of_field p f) ≡ b → (has cover.fact.places (place_of_field p f) ≡ false → is_heavy_store p cover.origin f ≡ false) → is_origin_at cover.origin.kind (alias_position p st.number) ≡ true
       held_already true in' light =
           let owned = cover.held (field_number p f) mine.small in' (fields.heavy_here p h fr f mine wide) in
-          held_is_argument p ac st.number st.body m st.at of aliased' (this_elsewhere p forms st.number aliased') cover.origin fr.control cover.fact reached_there owned.0
+          held_is_argument p ac st.number st.body m st.at of aliased' (λ k n t comes there. forms.aliased st.number n t comes there aliased') cover.origin fr.control cover.fact reached_there owned.0
       held_already false out light = absurd (true≢false (sym (or_right (is_heavy_class p cover.origin.class) (is_heavy_in p (Some f)) wide) ∙ light out))
 
-      by : (g : Fact) × Reach p st.number (relation_of p st.number) cover.origin s.to g × stores.Goes p ac forms h old frs fr st covered i d s f here is o x cover g → is_origin_at cover.origin.kind (alias_position p st.number) ≡ true
+      by : (g : Fact) × Reach p st.number (relation_of p st.number) cover.origin s.to g × stores.Goes p ac forms h old frs fr st covered i d s f here is plainly o x cover g → is_origin_at cover.origin.kind (alias_position p st.number) ≡ true
       by (g, reach, (same, taken reset called full t)) = t.alias aliased'
       by (g, reach, (same, left reset called full l)) = held_already (has cover.fact.places (place_of_field p f)) refl (l.light stored.1)
-
-  makes : constructs (method_at p fr.method) ≡ true
-  makes = sym (ap constructs (method_here p fr st)) ∙ (and_parts (is_constructor p st.number) (is_present (alias_position p st.number)) aliased').0
 
   -- where that is `this`, it is the object of `this`
   of_this : alias_position p st.number ≡ Some 0 → root_of h fr.locals.this ≡ Some o

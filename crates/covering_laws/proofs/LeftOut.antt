@@ -39,17 +39,16 @@ use Rattle.value_laws.specs.Operands.{NoObject}
 use Rattle.value_laws.specs.PlaceFacts.{IsCovered, IsHeavyObject, IsTrueOf, OwesOrHolds, is_heavy_in}
 use Rattle.value_laws.specs.Places.{field_place_value, owning_field_beside, place_value}
 use Rattle.value_laws.specs.Frames.{KeepsTargets}
+use Rattle.value_laws.specs.Paths.{move_of}
 use Rattle.value_laws.specs.PlainForms.{HasPlainForms}
 use Rattle.value_laws.specs.Ranges.{LocalsInRange}
 use Rattle.value_laws.specs.Renewing.{answers_for_fields, is_declared_beside, makes_alone, reopens}
-use Rattle.value_laws.proofs.Ready.{resets_plainly}
 use Rattle.ledger_obligations.specs.Bodies.{alias_in, constructs, is_class_of, method_of}
 use Rattle.std.proofs.lemmas.Bool.{and_from, or_left}
 use Rattle.covering_laws.proofs.Bodies.{running_method}
-use Rattle.covering_laws.proofs.Following.{method_here}
+use Rattle.covering_laws.proofs.Following.{method_here, step_there}
 use Rattle.covering_laws.proofs.HeavyFields.{answers_by, reopening_answers}
 use Rattle.covering_laws.proofs.LendingFrames.{opens_at}
-use Rattle.covering_laws.proofs.Resets.{resets_elsewhere}
 use Rattle.covering_laws.proofs.WholeThis.{IsLentThis, IsSingleThis, lent_kept, whole_this}
 use Rattle.value_laws.specs.Chains.{HaveEnds}
 use Rattle.value_laws.specs.FieldContents.{AreUnfinished, FieldsOwn, HaveContents, MakersOwn}
@@ -57,7 +56,7 @@ use Rattle.value_laws.specs.Types.{StoredHoldNone, is_text}
 use Rattle.value_laws.proofs.FieldPlaces.{IsBeside}
 use Rattle.value_laws.proofs.ValueTypeFields.{field_of_none}
 use Rattle.covering_laws.specs.Texts.{TextsAreLight}
-use Rattle.covering_laws.proofs.BirthsAnew.{born_anew, fact, field, has_place, origin, ran}
+use Rattle.covering_laws.proofs.BirthsAnew.{born_anew, fact, field, origin, ran}
 use Rattle.covering_laws.proofs.HeldBirths.{field_owned, owned_true}
 use Rattle.covering_laws.proofs.Owners.{StaysApart}
 use Rattle.covering_laws.proofs.TopSteps.{IsBornAnew, IsLocalStep}
@@ -105,16 +104,16 @@ module _ (p : Program) (ac : Accept p) (forms : HasPlainForms p) (h k : HeapCont
     bore : OwesOrHolds p h o before.0
     bore = bore_before p h k others.holders o before.0 y before.1 before.3 owes
 
-    -- a constructor that creates the obligation of `this` anew, and in which an owning field has a place, has no aliased argument
+    -- a constructor that creates the obligation of `this` anew has no aliased argument
     unaliased : constructs (method_at p fr.method) ≡ true → makes_alone (method_at p fr.method) ≡ true
     unaliased makes = go (is_present (alias_in (method_at p fr.method))) refl
       where
         go : (b : Bool) → is_present (alias_in (method_at p fr.method)) ≡ b → makes_alone (method_at p fr.method) ≡ true
         go false none = and_from (constructs (method_at p fr.method)) (not (is_present (alias_in (method_at p fr.method)))) makes (ap not none)
         go true has' =
-            absurd (true≢false (sym (has_place p ac k fr st i s here resets after old frs refl refl n room f beside)
-            ∙ resets_elsewhere p st.number fr.control s.action (resets_plainly p ac forms fr st i s here)
-            (and_from (constructs (method_of p st.number)) (is_present (alias_in (method_of p st.number))) (ap constructs (method_here p fr st) ∙ makes) (ap (λ (m : Option Method). is_present (alias_in m)) (method_here p fr st) ∙ has')) resets f))
+            absurd (true≢false (sym resets
+            ∙ forms.aliased st.number i (move_of s) st.control (step_there p fr st i s here)
+            (and_from (constructs (method_of p st.number)) (is_present (alias_in (method_of p st.number))) (ap constructs (method_here p fr st) ∙ makes) (ap (λ (m : Option Method). is_present (alias_in m)) (method_here p fr st) ∙ has'))))
 
     -- the field is one of the class of the method
     here_declared : is_declared_beside p fr.method (field_at p f) ≡ true

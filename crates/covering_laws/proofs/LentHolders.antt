@@ -98,7 +98,7 @@ module _ (p : Program) (ac : Accept p) (forms : HasPlainForms p) (h : HeapConten
     -- a fact in mode Held of a class with an obligation, which the frame does not read as a fact of `this`, has the place of an owning field that the class of the frame's method declares
     has_declared : (away anew : Bool) (o : ℕ) (x : Object) (c : Covers p h away anew old frs fr o x) → c.fact.mode ≡ modes.Held → is_heavy_class p c.origin.class ≡ true → (f : FieldId) × (is_declared_beside p fr.method (field_at p f) ≡ true)
     has_declared away anew o x c held wide =
-        let inside = held_in_this p ac st.number st.body running.0 st.at running.1 (λ k i t g d comes here is. (forms.stores st.number i t g d comes here is).1) c.origin fr.control c.fact (reached_here away anew o x c) (ap is_held held) in
+        let inside = held_in_this p ac st.number st.body running.0 st.at running.1 (λ k i t g d comes here is. (forms.stores st.number i t g d comes here is)) c.origin fr.control c.fact (reached_here away anew o x c) (ap is_held held) in
         let z = place_in c.fact.places inside in
         by z.0 z.1 z.2 z.3
       where

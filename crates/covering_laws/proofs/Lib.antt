@@ -4,7 +4,6 @@ pub mod InFields
 pub mod FrameEnds
 pub mod Storing
 pub mod CoveredFieldLaws
-pub mod Resets
 pub mod Constructors
 pub mod KeptArguments
 pub mod OldAtStarts
@@ -22,6 +21,7 @@ pub mod TextStores
 pub mod ThisEnds
 pub mod ThisOperands
 pub mod UnlinkedThis
+pub mod AliasedResets
 pub mod Waiting
 pub mod StepWays
 pub mod FieldOwners
@@ -129,6 +129,8 @@ pub mod CoveringLaws
 pub use Rattle.value_laws.proofs.AliasConducts
 pub use Rattle.value_laws.proofs.AliasFacts
 pub use Rattle.value_laws.proofs.AliasRoots
+pub use Rattle.value_laws.proofs.LastingFacts
+pub use Rattle.value_laws.proofs.StoresOutside
 pub use Rattle.value_laws.proofs.Begun
 pub use Rattle.value_laws.proofs.CallNames
 pub use Rattle.value_laws.proofs.CallWays
@@ -158,6 +160,8 @@ pub use Rattle.value_laws.proofs.Fields
 pub use Rattle.value_laws.proofs.Flows
 pub use Rattle.value_laws.proofs.FrameBirths
 pub use Rattle.value_laws.proofs.FrameFollowing
+pub use Rattle.value_laws.proofs.FrameKept
+pub use Rattle.value_laws.proofs.ArgumentBegun
 pub use Rattle.value_laws.proofs.FrameMoved
 pub use Rattle.value_laws.proofs.Going
 pub use Rattle.value_laws.proofs.Growth

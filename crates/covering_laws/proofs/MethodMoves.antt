@@ -32,7 +32,7 @@ use Rattle.value_laws.specs.Chains.{HaveEnds}
 use Rattle.value_laws.specs.Heaps.{HasEarlierLinks}
 use Rattle.value_laws.specs.Holders.{HoldersAreUnlinked}
 use Rattle.value_laws.specs.Agreement.{Stands, AllStand, IsCalledFrom}
-use Rattle.value_laws.specs.PlainForms.{HasPlainForms}
+use Rattle.value_laws.specs.PlainForms.{HasPlainForms, StoresPlainly}
 use Rattle.value_laws.proofs.StoredObjects.{stored_goes_on}
 use Rattle.value_laws.specs.Stores.{IsMovedIn}
 use Rattle.value_laws.proofs.RootLaws.{one_object}
@@ -87,7 +87,7 @@ opens_leaves_not p m opens = go (leaves_all p m) refl
         ∙ not-true (is_present (reset_in m)) (and_parts (not (constructs m) && takes_nothing p m) (not (is_present (reset_in m))) leaves).1))
 
 module _ (p : Program) (ac : Accept p) (forms : HasPlainForms p) (h : HeapContents) (links : HasEarlierLinks h) (ranges : FieldsInRange h) (fr : Frame) (frs : List Frame) (st : Stands p fr) (standing : AllStand p frs) (stacked : IsCalledFrom p h fr frs)
-    (targets : HaveTargets p frs) (hold : FieldsHold p (fr ∷ frs) h) (i : ℕ) (s : Step) (here : slice_get (frame_steps p fr) i ≡ Some s) (f : FieldId) (d : ℕ) (is : s.action ≡ actions.PutOwn f d) (made : Value) (w : ℕ)
+    (targets : HaveTargets p frs) (hold : FieldsHold p (fr ∷ frs) h) (i : ℕ) (s : Step) (here : slice_get (frame_steps p fr) i ≡ Some s) (f : FieldId) (d : ℕ) (is : s.action ≡ actions.PutOwn f d) (plainly : StoresPlainly p (method_at p fr.method) f) (made : Value) (w : ℕ)
     (this : fr.locals.this ≡ values.Object w) (self : Object) (there : object_at h w ≡ Some self) (reopened : IsReopened p h frs fr w self) (class : IsFieldOfClass p f self.class) (have : HaveEnds h) (unlinked : HoldersAreUnlinked (is_heavy_class p) h)
     (in' : LocalsIn h (fr ∷ frs)) (owned : FieldsOwn p h) (texts : TextsAreLight p h) (types : KeepsTypes (is_text p h) p fr) (old : ℕ → Bool) (is_old : IsOld p h frs fr old) (covered : IsCovered p h gives_none renews_none old frs fr)
     (waits : AreWaiting p h old frs) (below : OwnersBelow h (length frs + 1)) (sights : AllActInSight p h frs) where
@@ -105,17 +105,17 @@ module _ (p : Program) (ac : Accept p) (forms : HasPlainForms p) (h : HeapConten
       go true aliased = absurd (true≢false (sym (ap constructs (sym (method_here p fr st)) ∙ (and_parts (is_constructor p st.number) (is_present (alias_position p st.number)) aliased).0) ∙ plain_method))
 
   abbrev pub k : HeapContents
-  k = moved p ac forms h links fr frs st i s here f d is made w this self there unmade
+  k = moved p ac forms h links fr frs st i s here f d is plainly made w this self there unmade
 
   abbrev pub n : ℕ
   n = length frs
 
   -- what moves in is the frame's, or the field owned it
-  pub mine : (o : ℕ) (x : Object) → object_at h o ≡ Some x → IsMovedIn p h f (v p ac forms h links fr frs st i s here f d is made w this self there unmade) o x → is_heavy_class p x.class ≡ true → (x.owner ≡ owners.Frame (n + 1)) ⊎ (x.owner ≡ owners.Field w f)
-  mine o x at into heavy = plain_from p ac forms h links fr frs st i s here f d is made w this self there unmade old covered not_aliased o x at heavy (inl (movable_owes p (obligations.type_of_field (field_at p f)) x into.may)) into
+  pub mine : (o : ℕ) (x : Object) → object_at h o ≡ Some x → IsMovedIn p h f (v p ac forms h links fr frs st i s here f d is plainly made w this self there unmade) o x → is_heavy_class p x.class ≡ true → (x.owner ≡ owners.Frame (n + 1)) ⊎ (x.owner ≡ owners.Field w f)
+  mine o x at into heavy = plain_from p ac forms h links fr frs st i s here f d is plainly made w this self there unmade old covered not_aliased o x at heavy (inl (movable_owes p (obligations.type_of_field (field_at p f)) x into.may)) into
 
   pub stores_into : StoresInto p h k n w
-  stores_into = moves_into p h have w f (bound p ac forms h links fr frs st i s here f d is made w this self there unmade) (v p ac forms h links fr frs st i s here f d is made w this self there unmade) n mine
+  stores_into = moves_into p h have w f (bound p ac forms h links fr frs st i s here f d is plainly made w this self there unmade) (v p ac forms h links fr frs st i s here f d is plainly made w this self there unmade) n mine
 
   pub bears : OwesOrHolds p h w self
   bears = inr (inr reopened.stores)
@@ -127,7 +127,7 @@ module _ (p : Program) (ac : Accept p) (forms : HasPlainForms p) (h : HeapConten
   all_renew = all_renew_in_hand p ac forms h have links owned unlinked fr frs standing targets stacked others_in old waits hold.unfinished.1 sights
 
   pub gifts : AllKeepGifts p h k frs
-  gifts = all_keep_gifts p h k (roots p ac forms h links fr frs st i s here f d is made w this self there unmade) frs others_in
+  gifts = all_keep_gifts p h k (roots p ac forms h links fr frs st i s here f d is plainly made w this self there unmade) frs others_in
 
   alike_from : (gs : List Frame) → AllRenewInHand p h gs → AllKeepGifts p h k gs → AllRenewAlike p h k have unlinked n w self there reopened.heavy reopened.single bears stores_into gs
   alike_from [] all gives = tt
@@ -146,7 +146,7 @@ module _ (p : Program) (ac : Accept p) (forms : HasPlainForms p) (h : HeapConten
   kept = owners_kept_below p h k have unlinked n w self there reopened.heavy reopened.single bears reopened.stores stores_into frs (omega arith) hold.new.1 hold.unfinished.1 alike all_renew way
 
   other_fields : (u : ℕ) (g : FieldId) → (u ≡ w → g ≡ f → ⊥) → field_value p k u g ≡ field_value p h u g
-  other_fields u g other = holds_other' p ac forms h links fr frs st i s here f d is made w this self there unmade u g (λ same. other same.0 same.1)
+  other_fields u g other = holds_other' p ac forms h links fr frs st i s here f d is plainly made w this self there unmade u g (λ same. other same.0 same.1)
 
   of_field : (x : Field) → field_at p f ≡ Some x → class.0 ≡ x
   of_field x known = let both : Some class.0 ≡ Some x = sym class.1 ∙ known in (let one : class.0 ≡ x = cc in one)
@@ -155,15 +155,15 @@ module _ (p : Program) (ac : Accept p) (forms : HasPlainForms p) (h : HeapConten
   typed : (x : Field) → field_at p f ≡ Some x → (o : ℕ) (z : Object) → root_of k (field_value p k w f) ≡ Some o → object_at k o ≡ Some z → is_heavy_class p z.class ≡ true → (c : ClassId) × (x.vtype ≡ kinds.Obj c)
   typed x known o z root at heavy = by x.vtype refl
     where
-      root_before : root_of h (v p ac forms h links fr frs st i s here f d is made w this self there unmade) ≡ Some o
-      root_before = sym (value_root h k (roots p ac forms h links fr frs st i s here f d is made w this self there unmade) (v p ac forms h links fr frs st i s here f d is made w this self there unmade) (holds_there p h ranges fr (All-head (λ (u : Frame). LocalsInRange h u.locals) fr frs in') (places.Temp d) (room p ac forms h links fr frs st i s here f d is made w this self there unmade old covered))) ∙ ap (root_of k) (sym (holds_here' p ac forms h links fr frs st i s here f d is made w this self there unmade)) ∙ root
+      root_before : root_of h (v p ac forms h links fr frs st i s here f d is plainly made w this self there unmade) ≡ Some o
+      root_before = sym (value_root h k (roots p ac forms h links fr frs st i s here f d is plainly made w this self there unmade) (v p ac forms h links fr frs st i s here f d is plainly made w this self there unmade) (holds_there p h ranges fr (All-head (λ (u : Frame). LocalsInRange h u.locals) fr frs in') (places.Temp d) (room p ac forms h links fr frs st i s here f d is plainly made w this self there unmade old covered))) ∙ ap (root_of k) (sym (holds_here' p ac forms h links fr frs st i s here f d is plainly made w this self there unmade)) ∙ root
 
       no_object : NoObject (Some x.vtype) → ⊥
       no_object none =
-          let u = back p ac forms h links fr frs st i s here f d is made w this self there unmade o z at in
-          let class' = (stored_goes_on p h w f (v p ac forms h links fr frs st i s here f d is made w this self there unmade) o u.0 z u.2).class in
+          let u = back p ac forms h links fr frs st i s here f d is plainly made w this self there unmade o z at in
+          let class' = (stored_goes_on p h w f (v p ac forms h links fr frs st i s here f d is plainly made w this self there unmade) o u.0 z u.2).class in
           true≢false (sym (ap (is_heavy_class p) (sym class') ∙ heavy)
-          ∙ texts (v p ac forms h links fr frs st i s here f d is made w this self there unmade) o u.0 (stored_value_is_no_object (is_text p h) p ac fr types i s f d here is (subst (λ (t : Option Field). NoObject (operand_types.type_of_field t)) (sym known) none)) root_before u.1)
+          ∙ texts (v p ac forms h links fr frs st i s here f d is plainly made w this self there unmade) o u.0 (stored_value_is_no_object (is_text p h) p ac fr types i s f d here is (subst (λ (t : Option Field). NoObject (operand_types.type_of_field t)) (sym known) none)) root_before u.1)
 
       by : (t : VType) → x.vtype ≡ t → (c : ClassId) × (x.vtype ≡ kinds.Obj c)
       by (kinds.Obj c) is' = (c, is')
@@ -177,24 +177,24 @@ module _ (p : Program) (ac : Accept p) (forms : HasPlainForms p) (h : HeapConten
       all_renew way waits
 
   goes : AllGoOn p h k
-  goes o x at = let y = forth p ac forms h links fr frs st i s here f d is made w this self there unmade o x at in (y.0, y.1, y.2.class, λ done. y.2.finished ∙ done)
+  goes o x at = let y = forth p ac forms h links fr frs st i s here f d is plainly made w this self there unmade o x at in (y.0, y.1, y.2.class, λ done. y.2.finished ∙ done)
 
   inside : HoldsThere p h fr
   inside = holds_there p h ranges fr (All-head (λ (x : Frame). LocalsInRange h x.locals) fr frs in')
 
   -- what the frames hold, before the reset
-  pub moved_old : IsOld p k frs (after p ac forms h links fr frs st i s here f d is made w this self there unmade) old
-  moved_old = old_as p k old frs fr (after p ac forms h links fr frs st i s here f d is made w this self there unmade) refl refl
-      (old_kept p h k old frs fr apart goes is_old (this_was p h k fr (keeps_roots p h k (roots p ac forms h links fr frs st i s here f d is made w this self there unmade) fr inside) inside (all_ready p h k (moved_unfinished p ac forms h links fr frs st i s here f d is made w this self there unmade) fr) (carries p ac forms h links fr frs st i s here f d is made w this self there unmade)))
+  pub moved_old : IsOld p k frs (after p ac forms h links fr frs st i s here f d is plainly made w this self there unmade) old
+  moved_old = old_as p k old frs fr (after p ac forms h links fr frs st i s here f d is plainly made w this self there unmade) refl refl
+      (old_kept p h k old frs fr apart goes is_old (this_was p h k fr (keeps_roots p h k (roots p ac forms h links fr frs st i s here f d is plainly made w this self there unmade) fr inside) inside (all_ready p h k (moved_unfinished p ac forms h links fr frs st i s here f d is plainly made w this self there unmade) fr) (carries p ac forms h links fr frs st i s here f d is plainly made w this self there unmade)))
 
-  pub moved_covered : IsCovered p k gives_none renews_none old frs (after p ac forms h links fr frs st i s here f d is made w this self there unmade)
-  moved_covered = top_stores p ac forms h links fr frs st i s here f d is made w this self there unmade old covered is_old inside apart
+  pub moved_covered : IsCovered p k gives_none renews_none old frs (after p ac forms h links fr frs st i s here f d is plainly made w this self there unmade)
+  moved_covered = top_stores p ac forms h links fr frs st i s here f d is plainly made w this self there unmade old covered is_old inside apart
 
   pub moved_waits : AreWaiting p k old frs
-  moved_waits = all_wait_said p h k links (carries p ac forms h links fr frs st i s here f d is made w this self there unmade) goes old frs (all_keep_roots p h k (roots p ac forms h links fr frs st i s here f d is made w this self there unmade) frs (all_there p h ranges frs others_in)) said (all_there p h ranges frs others_in) (frames_ready p h k (moved_unfinished p ac forms h links fr frs st i s here f d is made w this self there unmade) frs) gifts kept waits
+  moved_waits = all_wait_said p h k links (carries p ac forms h links fr frs st i s here f d is plainly made w this self there unmade) goes old frs (all_keep_roots p h k (roots p ac forms h links fr frs st i s here f d is plainly made w this self there unmade) frs (all_there p h ranges frs others_in)) said (all_there p h ranges frs others_in) (frames_ready p h k (moved_unfinished p ac forms h links fr frs st i s here f d is plainly made w this self there unmade) frs) gifts kept waits
 
   pub moved_below : OwnersBelow k (n + 1)
-  moved_below = store_below p h k w f (v p ac forms h links fr frs st i s here f d is made w this self there unmade) (back p ac forms h links fr frs st i s here f d is made w this self there unmade) (n + 1) below
+  moved_below = store_below p h k w f (v p ac forms h links fr frs st i s here f d is plainly made w this self there unmade) (back p ac forms h links fr frs st i s here f d is plainly made w this self there unmade) (n + 1) below
 
   -- ---- what fields hold they own
 
@@ -203,8 +203,8 @@ module _ (p : Program) (ac : Accept p) (forms : HasPlainForms p) (h : HeapConten
     where
       new_one : u ≡ w → g ≡ f → (y : Object) → object_at k u ≡ Some y → IsFieldOfClass p g y.class × (y.finished ≡ true → OwnsNow p k u y g)
       new_one here' same y now =
-          let x = back p ac forms h links fr frs st i s here f d is made w this self there unmade u y now in
-          let on = stored_goes_on p h w f (v p ac forms h links fr frs st i s here f d is made w this self there unmade) u x.0 y x.2 in
+          let x = back p ac forms h links fr frs st i s here f d is plainly made w this self there unmade u y now in
+          let on = stored_goes_on p h w f (v p ac forms h links fr frs st i s here f d is plainly made w this self there unmade) u x.0 y x.2 in
           let one = one_object x.0 self (object_at h u) x.1 (ap (object_at h) here' ∙ there) in (
             (class.0, ap (field_at p) same ∙ class.1, class.2 ∙ sym (on.class ∙ ap (λ (z : Object). z.class) one)),
             λ done heavy o z root at wide owes. inl (takes (ap (is_heavy_in p) (ap Some (sym same)) ∙ heavy) o z (ap (root_of k) (ap (field_value p k w) (sym same) ∙ ap (λ (m : ℕ). field_value p k m g) (sym here')) ∙ root) at wide owes
@@ -212,10 +212,10 @@ module _ (p : Program) (ac : Accept p) (forms : HasPlainForms p) (h : HeapConten
           )
         where
           takes : is_heavy_in p (Some f) ≡ true → (o : ℕ) (z : Object) → root_of k (field_value p k w f) ≡ Some o → object_at k o ≡ Some z → is_heavy_class p z.class ≡ true → OwesOrHolds p k o z → z.owner ≡ owners.Field w f
-          takes heavy o z root at wide owes = value_owned p ac forms h links fr frs st i s here f d is made w this self there unmade old covered inside apart.holders o z at wide owes not_aliased heavy root
+          takes heavy o z root at wide owes = value_owned p ac forms h links fr frs st i s here f d is plainly made w this self there unmade old covered inside apart.holders o z at wide owes not_aliased heavy root
 
       other : ((u ≡ w) × (g ≡ f) → ⊥) → FieldGoes p h k u g
-      other apart' = inl (inl (holds_other' p ac forms h links fr frs st i s here f d is made w this self there unmade u g apart'), keeps_owning p ac forms h links fr frs st i s here f d is made w this self there unmade old covered u g apart')
+      other apart' = inl (inl (holds_other' p ac forms h links fr frs st i s here f d is plainly made w this self there unmade u g apart'), keeps_owning p ac forms h links fr frs st i s here f d is plainly made w this self there unmade old covered u g apart')
 
       go : (b : Bool) → nat_eq u w ≡ b → (c : Bool) → nat_eq g.0 f.0 ≡ c → FieldGoes p h k u g
       go true here' true same = inr (new_one (eqb-true u w here') (ap (λ (m : ℕ). (let z : FieldId = record { 0 = m } in z)) (eqb-true g.0 f.0 same)))
@@ -223,7 +223,7 @@ module _ (p : Program) (ac : Accept p) (forms : HasPlainForms p) (h : HeapConten
       go false off c same = other (λ is'. true≢false (sym (eq-eqb u w is'.0) ∙ off))
 
   pub moved_owns : FieldsOwn p k
-  moved_owns = fields_own_on p h k links ranges have.unfinished field_goes (carried_as_before p h k (carries p ac forms h links fr frs st i s here f d is made w this self there unmade) apart.holders) (inl (roots p ac forms h links fr frs st i s here f d is made w this self there unmade)) (none_finished p h k (moved_unfinished p ac forms h links fr frs st i s here f d is made w this self there unmade)) owned
+  moved_owns = fields_own_on p h k links ranges have.unfinished field_goes (carried_as_before p h k (carries p ac forms h links fr frs st i s here f d is plainly made w this self there unmade) apart.holders) (inl (roots p ac forms h links fr frs st i s here f d is plainly made w this self there unmade)) (none_finished p h k (moved_unfinished p ac forms h links fr frs st i s here f d is plainly made w this self there unmade)) owned
 
   -- so it is with what frames make
   all_plain : (gs : List Frame) → ArePlain p w (is_alias_constructor p st.number ≡ false) gs
@@ -231,4 +231,4 @@ module _ (p : Program) (ac : Accept p) (forms : HasPlainForms p) (h : HeapConten
   all_plain (x ∷ xs) = ((λ maker. not_aliased), all_plain xs)
 
   pub moved_makers : MakersOwn p h (fr ∷ frs) → MakersOwn p k (fr ∷ frs)
-  moved_makers = makers_own p ac forms h links fr frs st i s here f d is made w this self there unmade old covered inside apart.holders ranges (fr ∷ frs) (all_plain (fr ∷ frs))
+  moved_makers = makers_own p ac forms h links fr frs st i s here f d is plainly made w this self there unmade old covered inside apart.holders ranges (fr ∷ frs) (all_plain (fr ∷ frs))

@@ -9,7 +9,7 @@ use Rattle.program_model.specs.declared.kinds.FieldId.{FieldId}
 use Rattle.program_model.specs.declared.program.Field.{Field}
 use Rattle.program_model.specs.declared.program.Program.{Program}
 use Rattle.program_model.specs.Lookups.{field_at, method_at}
-use Rattle.ledger_obligations.specs.Bodies.{constructs, reset_in}
+use Rattle.ledger_obligations.specs.Bodies.{reset_in}
 use Rattle.ledger_obligations.specs.MustCallSets.{is_heavy_class}
 use Rattle.ownership_rules.specs.Signatures.{type_of_field}
 use Rattle.java_control.specs.Control.{Step}
@@ -31,7 +31,7 @@ use Rattle.value_laws.specs.Chains.{HaveEnds}
 use Rattle.value_laws.specs.Heaps.{HasEarlierLinks, GoesOn}
 use Rattle.value_laws.specs.Holders.{HoldersAreUnlinked, UnfinishedAreUnowned, IsWithin, by_field, itself, FieldsOwnOneMore}
 use Rattle.value_laws.specs.Agreement.{Stands, AllStand, IsCalledFrom}
-use Rattle.value_laws.specs.PlainForms.{HasPlainForms}
+use Rattle.value_laws.specs.PlainForms.{HasPlainForms, StoresPlainly}
 use Rattle.value_laws.proofs.StoredObjects.{stored_goes_on, moved_count, moved_links}
 use Rattle.value_laws.specs.Stores.{IsMovedIn, IsStored}
 use Rattle.value_laws.proofs.RootLaws.{one_object}
@@ -46,19 +46,16 @@ use Rattle.covering_laws.proofs.StoreMoves.{after, back, bound, forth, holds_oth
 use Rattle.value_laws.specs.Frames.{HaveTargets}
 use Rattle.covering_laws.proofs.StoringThis.{IsReopened}
 use Rattle.covering_laws.specs.Texts.{TextsAreLight}
-use Rattle.covering_laws.proofs.Following.{method_here}
 use Rattle.value_laws.specs.Types.{KeepsTypes, is_text}
 use Rattle.value_laws.specs.Renewing.{IsLentFrom, lends_this}
 use Rattle.program_model.specs.declared.kinds.VType.TheVariants as kinds
 use Rattle.value_laws.specs.Operands as operand_types
 use Rattle.covering_laws.proofs.BeingMade.{StayOfClass}
-use Rattle.value_laws.specs.Paths.{move_of}
 use Rattle.ledger_state.specs.declared.entry.Owner.{Owner}
 use Rattle.ledger_obligations.specs.Obligations.{may_move, stored_owning, moved_in, finished_in, roots_where, holder_roots, is_unmet}
 use Rattle.value_laws.specs.Places.{field_place_value, owning_field_beside, place_value}
 use Rattle.covering_laws.proofs.StepWays.{BirthsAreFree, ends_by}
 use Rattle.value_laws.proofs.HeapLaws.{roots_of_links-itself, roots_go_on-root}
-use Rattle.value_laws.proofs.Ready.{step_there}
 use Rattle.covering_laws.proofs.HeavyFields.{claims_by, claims_owned}
 use Rattle.covering_laws.proofs.Storing.{small}
 use Rattle.ownership_rules.specs.Facts.{is_held}
@@ -94,15 +91,15 @@ owned_apart p h frs w o x ends at up own =
     true≢false (sym (from_frame (length frs + 1) (length frs + 1) (omega arith)) ∙ ap (is_frame_from (length frs + 1)) (sym own ∙ ap (λ (u : Object). u.owner) (sym one)) ∙ ends.below)
 
 module _ (p : Program) (ac : Accept p) (forms : HasPlainForms p) (h : HeapContents) (links : HasEarlierLinks h) (ranges : FieldsInRange h) (fr : Frame) (frs : List Frame) (st : Stands p fr) (standing : AllStand p frs) (stacked : IsCalledFrom p h fr frs)
-    (targets : HaveTargets p frs) (hold : FieldsHold p (fr ∷ frs) h) (i : ℕ) (s : Step) (here : slice_get (frame_steps p fr) i ≡ Some s) (f : FieldId) (d : ℕ) (is : s.action ≡ actions.PutOwn f d) (made : Value) (w : ℕ)
+    (targets : HaveTargets p frs) (hold : FieldsHold p (fr ∷ frs) h) (i : ℕ) (s : Step) (here : slice_get (frame_steps p fr) i ≡ Some s) (f : FieldId) (d : ℕ) (is : s.action ≡ actions.PutOwn f d) (plainly : StoresPlainly p (method_at p fr.method) f) (made : Value) (w : ℕ)
     (this : fr.locals.this ≡ values.Object w) (self : Object) (there : object_at h w ≡ Some self) (reopened : IsReopened p h frs fr w self) (class : IsFieldOfClass p f self.class) (have : HaveEnds h) (unlinked : HoldersAreUnlinked (is_heavy_class p) h)
     (in' : LocalsIn h (fr ∷ frs)) (holders : FieldsOwn p h) (texts : TextsAreLight p h) (types : KeepsTypes (is_text p h) p fr) (old : ℕ → Bool) (is_old : IsOld p h frs fr old) (covered : IsCovered p h gives_none renews_none old frs fr)
     (waits : AreWaiting p h old frs) (below : OwnersBelow h (length frs + 1)) (sights : AllActInSight p h frs) where
   abbrev g : HeapContents
-  g = k p ac forms h links ranges fr frs st standing stacked targets hold i s here f d is made w this self there reopened class have unlinked in' holders texts types old is_old covered waits below sights
+  g = k p ac forms h links ranges fr frs st standing stacked targets hold i s here f d is plainly made w this self there reopened class have unlinked in' holders texts types old is_old covered waits below sights
 
   abbrev j : HeapContents
-  j = stored_owning p h w f (bound p ac forms h links fr frs st i s here f d is made w this self there (unmade p ac forms h links ranges fr frs st standing stacked targets hold i s here f d is made w this self there reopened class have unlinked in' holders texts types old is_old covered waits below sights)) (v p ac forms h links fr frs st i s here f d is made w this self there (unmade p ac forms h links ranges fr frs st standing stacked targets hold i s here f d is made w this self there reopened class have unlinked in' holders texts types old is_old covered waits below sights))
+  j = stored_owning p h w f (bound p ac forms h links fr frs st i s here f d is plainly made w this self there (unmade p ac forms h links ranges fr frs st standing stacked targets hold i s here f d is plainly made w this self there reopened class have unlinked in' holders texts types old is_old covered waits below sights)) (v p ac forms h links fr frs st i s here f d is plainly made w this self there (unmade p ac forms h links ranges fr frs st standing stacked targets hold i s here f d is plainly made w this self there reopened class have unlinked in' holders texts types old is_old covered waits below sights))
 
   abbrev n : ℕ
   n = length frs
@@ -110,7 +107,7 @@ module _ (p : Program) (ac : Accept p) (forms : HasPlainForms p) (h : HeapConten
   -- ---- the heap in which the value has moved
 
   self_now : (y : Object) × (object_at g w ≡ Some y) × GoesOn self y
-  self_now = forth p ac forms h links fr frs st i s here f d is made w this self there (unmade p ac forms h links ranges fr frs st standing stacked targets hold i s here f d is made w this self there reopened class have unlinked in' holders texts types old is_old covered waits below sights) w self there
+  self_now = forth p ac forms h links fr frs st i s here f d is plainly made w this self there (unmade p ac forms h links ranges fr frs st standing stacked targets hold i s here f d is plainly made w this self there reopened class have unlinked in' holders texts types old is_old covered waits below sights) w self there
 
   heavy_now : self.finished ≡ true → IsHeavyObject p self_now.0
   heavy_now done = (self_now.2.finished ∙ done, ap (is_heavy_class p) self_now.2.class ∙ reopened.heavy.1)
@@ -119,32 +116,32 @@ module _ (p : Program) (ac : Accept p) (forms : HasPlainForms p) (h : HeapConten
   others_in = All-tail (λ (x : Frame). LocalsInRange h x.locals) fr frs in'
 
   count : next_number g ≡ next_number h
-  count = moved_count p h w f (v p ac forms h links fr frs st i s here f d is made w this self there (unmade p ac forms h links ranges fr frs st standing stacked targets hold i s here f d is made w this self there reopened class have unlinked in' holders texts types old is_old covered waits below sights)) (bound p ac forms h links fr frs st i s here f d is made w this self there (unmade p ac forms h links ranges fr frs st standing stacked targets hold i s here f d is made w this self there reopened class have unlinked in' holders texts types old is_old covered waits below sights))
+  count = moved_count p h w f (v p ac forms h links fr frs st i s here f d is plainly made w this self there (unmade p ac forms h links ranges fr frs st standing stacked targets hold i s here f d is plainly made w this self there reopened class have unlinked in' holders texts types old is_old covered waits below sights)) (bound p ac forms h links fr frs st i s here f d is plainly made w this self there (unmade p ac forms h links ranges fr frs st standing stacked targets hold i s here f d is plainly made w this self there reopened class have unlinked in' holders texts types old is_old covered waits below sights))
 
   ends_of_this : EndsBelow h frs w
   ends_of_this = lent_ends_below p h have frs hold.unfinished.1 w self there reopened.lent
 
   -- what moves in does not have `this` within it
-  not_around : (o : ℕ) (x : Object) → object_at h o ≡ Some x → IsMovedIn p h f (v p ac forms h links fr frs st i s here f d is made w this self there (unmade p ac forms h links ranges fr frs st standing stacked targets hold i s here f d is made w this self there reopened class have unlinked in' holders texts types old is_old covered waits below sights)) o x → IsWithin h w o → ⊥
-  not_around o x at into up = elim (mine p ac forms h links ranges fr frs st standing stacked targets hold i s here f d is made w this self there reopened class have unlinked in' holders texts types old is_old covered waits below sights o x at into (up_heavy p h unlinked w o up self x there at reopened.heavy.1)) [
+  not_around : (o : ℕ) (x : Object) → object_at h o ≡ Some x → IsMovedIn p h f (v p ac forms h links fr frs st i s here f d is plainly made w this self there (unmade p ac forms h links ranges fr frs st standing stacked targets hold i s here f d is plainly made w this self there reopened class have unlinked in' holders texts types old is_old covered waits below sights)) o x → IsWithin h w o → ⊥
+  not_around o x at into up = elim (mine p ac forms h links ranges fr frs st standing stacked targets hold i s here f d is plainly made w this self there reopened class have unlinked in' holders texts types old is_old covered waits below sights o x at into (up_heavy p h unlinked w o up self x there at reopened.heavy.1)) [
     | inl frame ↦ owned_apart p h frs w o x ends_of_this at up frame
     | inr field ↦ no_way_round h have o w f x at field up
   ]
 
   unowned_now : UnfinishedAreUnowned g
-  unowned_now = moved_nobody p ac forms h links fr frs st i s here f d is made w this self there (unmade p ac forms h links ranges fr frs st standing stacked targets hold i s here f d is made w this self there reopened class have unlinked in' holders texts types old is_old covered waits below sights) have.unfinished
+  unowned_now = moved_nobody p ac forms h links fr frs st i s here f d is plainly made w this self there (unmade p ac forms h links ranges fr frs st standing stacked targets hold i s here f d is plainly made w this self there reopened class have unlinked in' holders texts types old is_old covered waits below sights) have.unfinished
 
   -- where nothing moves in
-  ends_unmoved : ((o : ℕ) (x : Object) → object_at h o ≡ Some x → IsMovedIn p h f (v p ac forms h links fr frs st i s here f d is made w this self there (unmade p ac forms h links ranges fr frs st standing stacked targets hold i s here f d is made w this self there reopened class have unlinked in' holders texts types old is_old covered waits below sights)) o x → ⊥) → HaveEnds g
+  ends_unmoved : ((o : ℕ) (x : Object) → object_at h o ≡ Some x → IsMovedIn p h f (v p ac forms h links fr frs st i s here f d is plainly made w this self there (unmade p ac forms h links ranges fr frs st standing stacked targets hold i s here f d is plainly made w this self there reopened class have unlinked in' holders texts types old is_old covered waits below sights)) o x → ⊥) → HaveEnds g
   ends_unmoved none = ends_by (n + 1) h g have (let same = count in omega (arith, same)) births unowned_now goes
     where
       births : BirthsAreFree (n + 1) h g
-      births o y now done = let x = back p ac forms h links fr frs st i s here f d is made w this self there (unmade p ac forms h links ranges fr frs st standing stacked targets hold i s here f d is made w this self there reopened class have unlinked in' holders texts types old is_old covered waits below sights) o y now in inl (x.0, x.1, sym (stored_goes_on p h w f (v p ac forms h links fr frs st i s here f d is made w this self there (unmade p ac forms h links ranges fr frs st standing stacked targets hold i s here f d is made w this self there reopened class have unlinked in' holders texts types old is_old covered waits below sights)) o x.0 y x.2).finished ∙ done)
+      births o y now done = let x = back p ac forms h links fr frs st i s here f d is plainly made w this self there (unmade p ac forms h links ranges fr frs st standing stacked targets hold i s here f d is plainly made w this self there reopened class have unlinked in' holders texts types old is_old covered waits below sights) o y now in inl (x.0, x.1, sym (stored_goes_on p h w f (v p ac forms h links fr frs st i s here f d is plainly made w this self there (unmade p ac forms h links ranges fr frs st standing stacked targets hold i s here f d is plainly made w this self there reopened class have unlinked in' holders texts types old is_old covered waits below sights)) o x.0 y x.2).finished ∙ done)
 
       goes : (o : ℕ) (x y : Object) → object_at h o ≡ Some x → object_at g o ≡ Some y → x.finished ≡ true → (y.owner ≡ x.owner) ⊎ (is_field_owner y.owner ≡ false)
-      goes o x y at now done = by (was p ac forms h links fr frs st i s here f d is made w this self there (unmade p ac forms h links ranges fr frs st standing stacked targets hold i s here f d is made w this self there reopened class have unlinked in' holders texts types old is_old covered waits below sights) o x y at now)
+      goes o x y at now done = by (was p ac forms h links fr frs st i s here f d is plainly made w this self there (unmade p ac forms h links ranges fr frs st standing stacked targets hold i s here f d is plainly made w this self there reopened class have unlinked in' holders texts types old is_old covered waits below sights) o x y at now)
         where
-          by : IsStored p h w f (v p ac forms h links fr frs st i s here f d is made w this self there (unmade p ac forms h links ranges fr frs st standing stacked targets hold i s here f d is made w this self there reopened class have unlinked in' holders texts types old is_old covered waits below sights)) o x y → (y.owner ≡ x.owner) ⊎ (is_field_owner y.owner ≡ false)
+          by : IsStored p h w f (v p ac forms h links fr frs st i s here f d is plainly made w this self there (unmade p ac forms h links ranges fr frs st standing stacked targets hold i s here f d is plainly made w this self there reopened class have unlinked in' holders texts types old is_old covered waits below sights)) o x y → (y.owner ≡ x.owner) ⊎ (is_field_owner y.owner ≡ false)
           by (inl same) = inl (ap (λ (u : Object). u.owner) same)
           by (inr (inl gone)) = inr (ap (λ (u : Object). is_field_owner u.owner) gone.1 ∙ given (is_unmet x))
             where
@@ -154,91 +151,91 @@ module _ (p : Program) (ac : Accept p) (forms : HasPlainForms p) (h : HeapConten
           by (inr (inr into)) = absurd (none o x at into.0)
 
   -- fields own what they owned, and the field of the store what moves in
-  one_more : (m : ℕ) → root_of h (v p ac forms h links fr frs st i s here f d is made w this self there (unmade p ac forms h links ranges fr frs st standing stacked targets hold i s here f d is made w this self there reopened class have unlinked in' holders texts types old is_old covered waits below sights)) ≡ Some m → FieldsOwnOneMore m w h g
-  one_more m value o y u x now owned' = elim (moved_owner p h w f (bound p ac forms h links fr frs st i s here f d is made w this self there (unmade p ac forms h links ranges fr frs st standing stacked targets hold i s here f d is made w this self there reopened class have unlinked in' holders texts types old is_old covered waits below sights)) (v p ac forms h links fr frs st i s here f d is made w this self there (unmade p ac forms h links ranges fr frs st standing stacked targets hold i s here f d is made w this self there reopened class have unlinked in' holders texts types old is_old covered waits below sights)) o u x y now owned') [
+  one_more : (m : ℕ) → root_of h (v p ac forms h links fr frs st i s here f d is plainly made w this self there (unmade p ac forms h links ranges fr frs st standing stacked targets hold i s here f d is plainly made w this self there reopened class have unlinked in' holders texts types old is_old covered waits below sights)) ≡ Some m → FieldsOwnOneMore m w h g
+  one_more m value o y u x now owned' = elim (moved_owner p h w f (bound p ac forms h links fr frs st i s here f d is plainly made w this self there (unmade p ac forms h links ranges fr frs st standing stacked targets hold i s here f d is plainly made w this self there reopened class have unlinked in' holders texts types old is_old covered waits below sights)) (v p ac forms h links fr frs st i s here f d is plainly made w this self there (unmade p ac forms h links ranges fr frs st standing stacked targets hold i s here f d is plainly made w this self there reopened class have unlinked in' holders texts types old is_old covered waits below sights)) o u x y now owned') [
     | inl was' ↦ inl was'
     | inr into ↦ inr ((let both : Some o ≡ Some m = sym into.2.root ∙ value in (let one : o ≡ m = cc in one)), into.3)
   ]
 
   ends_now : HaveEnds g
-  ends_now = by (root_of h (v p ac forms h links fr frs st i s here f d is made w this self there (unmade p ac forms h links ranges fr frs st standing stacked targets hold i s here f d is made w this self there reopened class have unlinked in' holders texts types old is_old covered waits below sights))) refl
+  ends_now = by (root_of h (v p ac forms h links fr frs st i s here f d is plainly made w this self there (unmade p ac forms h links ranges fr frs st standing stacked targets hold i s here f d is plainly made w this self there reopened class have unlinked in' holders texts types old is_old covered waits below sights))) refl
     where
-      moves : (o : ℕ) → root_of h (v p ac forms h links fr frs st i s here f d is made w this self there (unmade p ac forms h links ranges fr frs st standing stacked targets hold i s here f d is made w this self there reopened class have unlinked in' holders texts types old is_old covered waits below sights)) ≡ Some o → (x : Object) → object_at h o ≡ Some x → (b : Bool) → may_move p (obligations.type_of_field (field_at p f)) x ≡ b → HaveEnds g
+      moves : (o : ℕ) → root_of h (v p ac forms h links fr frs st i s here f d is plainly made w this self there (unmade p ac forms h links ranges fr frs st standing stacked targets hold i s here f d is plainly made w this self there reopened class have unlinked in' holders texts types old is_old covered waits below sights)) ≡ Some o → (x : Object) → object_at h o ≡ Some x → (b : Bool) → may_move p (obligations.type_of_field (field_at p f)) x ≡ b → HaveEnds g
       moves o root x at true may =
-          ends_with_one_more h g o w (one_more o root) (λ m y there'. let z = forth p ac forms h links fr frs st i s here f d is made w this self there (unmade p ac forms h links ranges fr frs st standing stacked targets hold i s here f d is made w this self there reopened class have unlinked in' holders texts types old is_old covered waits below sights) m y there' in (z.0, z.1)) (not_around o x at (record { root = root; may = may })) self there have unowned_now
+          ends_with_one_more h g o w (one_more o root) (λ m y there'. let z = forth p ac forms h links fr frs st i s here f d is plainly made w this self there (unmade p ac forms h links ranges fr frs st standing stacked targets hold i s here f d is plainly made w this self there reopened class have unlinked in' holders texts types old is_old covered waits below sights) m y there' in (z.0, z.1)) (not_around o x at (record { root = root; may = may })) self there have unowned_now
       moves o root x at false not = ends_unmoved (λ o' x' at' into.
           true≢false (sym into.may ∙ ap (may_move p (obligations.type_of_field (field_at p f))) (one_object x' x (object_at h o) (ap (object_at h) (let both : Some o ≡ Some o' = sym root ∙ into.root in (let one : o ≡ o' = cc in one)) ∙ at') at) ∙ not))
 
-      at_root : (o : ℕ) → root_of h (v p ac forms h links fr frs st i s here f d is made w this self there (unmade p ac forms h links ranges fr frs st standing stacked targets hold i s here f d is made w this self there reopened class have unlinked in' holders texts types old is_old covered waits below sights)) ≡ Some o → (x : Option Object) → object_at h o ≡ x → HaveEnds g
+      at_root : (o : ℕ) → root_of h (v p ac forms h links fr frs st i s here f d is plainly made w this self there (unmade p ac forms h links ranges fr frs st standing stacked targets hold i s here f d is plainly made w this self there reopened class have unlinked in' holders texts types old is_old covered waits below sights)) ≡ Some o → (x : Option Object) → object_at h o ≡ x → HaveEnds g
       at_root o root (Some x) at = moves o root x at (may_move p (obligations.type_of_field (field_at p f)) x) refl
       at_root o root None none = ends_unmoved (λ o' x' at' into.
           (let never : None ≡ Some x' = sym none ∙ ap (object_at h) (let both : Some o ≡ Some o' = sym root ∙ into.root in (let one : o ≡ o' = cc in one)) ∙ at' in cc))
 
-      by : (r : Option ℕ) → root_of h (v p ac forms h links fr frs st i s here f d is made w this self there (unmade p ac forms h links ranges fr frs st standing stacked targets hold i s here f d is made w this self there reopened class have unlinked in' holders texts types old is_old covered waits below sights)) ≡ r → HaveEnds g
+      by : (r : Option ℕ) → root_of h (v p ac forms h links fr frs st i s here f d is plainly made w this self there (unmade p ac forms h links ranges fr frs st standing stacked targets hold i s here f d is plainly made w this self there reopened class have unlinked in' holders texts types old is_old covered waits below sights)) ≡ r → HaveEnds g
       by None none = ends_unmoved (λ o x at into. (let never : None ≡ Some o = sym none ∙ into.root in cc))
       by (Some o) root = at_root o root (object_at h o) refl
 
   links_now : HasEarlierLinks g
-  links_now = moved_links p h w f (bound p ac forms h links fr frs st i s here f d is made w this self there (unmade p ac forms h links ranges fr frs st standing stacked targets hold i s here f d is made w this self there reopened class have unlinked in' holders texts types old is_old covered waits below sights)) (v p ac forms h links fr frs st i s here f d is made w this self there (unmade p ac forms h links ranges fr frs st standing stacked targets hold i s here f d is made w this self there reopened class have unlinked in' holders texts types old is_old covered waits below sights)) links
+  links_now = moved_links p h w f (bound p ac forms h links fr frs st i s here f d is plainly made w this self there (unmade p ac forms h links ranges fr frs st standing stacked targets hold i s here f d is plainly made w this self there reopened class have unlinked in' holders texts types old is_old covered waits below sights)) (v p ac forms h links fr frs st i s here f d is plainly made w this self there (unmade p ac forms h links ranges fr frs st standing stacked targets hold i s here f d is plainly made w this self there reopened class have unlinked in' holders texts types old is_old covered waits below sights)) links
 
   unfinished_now : AreUnfinished p g frs
-  unfinished_now = unfinished_kept p h g (λ o x y before now open'. moved_unfinished p ac forms h links fr frs st i s here f d is made w this self there (unmade p ac forms h links ranges fr frs st standing stacked targets hold i s here f d is made w this self there reopened class have unlinked in' holders texts types old is_old covered waits below sights) o x y (λ never. never) before now open') frs others_in hold.unfinished.1
+  unfinished_now = unfinished_kept p h g (λ o x y before now open'. moved_unfinished p ac forms h links fr frs st i s here f d is plainly made w this self there (unmade p ac forms h links ranges fr frs st standing stacked targets hold i s here f d is plainly made w this self there reopened class have unlinked in' holders texts types old is_old covered waits below sights) o x y (λ never. never) before now open') frs others_in hold.unfinished.1
 
   lent_now : IsLentFrom p g frs w (self_now.0).owner
-  lent_now = ((apart p ac forms h links ranges fr frs st standing stacked targets hold i s here f d is made w this self there reopened class have unlinked in' holders texts types old is_old covered waits below sights).keeps w self self_now.0 there self_now.1 reopened.heavy reopened.lent).1
+  lent_now = ((apart p ac forms h links ranges fr frs st standing stacked targets hold i s here f d is plainly made w this self there reopened class have unlinked in' holders texts types old is_old covered waits below sights).keeps w self self_now.0 there self_now.1 reopened.heavy reopened.lent).1
 
   -- ---- the reset
 
-  reset : IsResetOf p (moved_in p h w f (bound p ac forms h links fr frs st i s here f d is made w this self there (unmade p ac forms h links ranges fr frs st standing stacked targets hold i s here f d is made w this self there reopened class have unlinked in' holders texts types old is_old covered waits below sights)) (v p ac forms h links fr frs st i s here f d is made w this self there (unmade p ac forms h links ranges fr frs st standing stacked targets hold i s here f d is made w this self there reopened class have unlinked in' holders texts types old is_old covered waits below sights))) (holder_roots p h w f (bound p ac forms h links fr frs st i s here f d is made w this self there (unmade p ac forms h links ranges fr frs st standing stacked targets hold i s here f d is made w this self there reopened class have unlinked in' holders texts types old is_old covered waits below sights)) (v p ac forms h links fr frs st i s here f d is made w this self there (unmade p ac forms h links ranges fr frs st standing stacked targets hold i s here f d is made w this self there reopened class have unlinked in' holders texts types old is_old covered waits below sights))) g j
-  reset = let it = store_resets p h w f (bound p ac forms h links fr frs st i s here f d is made w this self there (unmade p ac forms h links ranges fr frs st standing stacked targets hold i s here f d is made w this self there reopened class have unlinked in' holders texts types old is_old covered waits below sights)) (v p ac forms h links fr frs st i s here f d is made w this self there (unmade p ac forms h links ranges fr frs st standing stacked targets hold i s here f d is made w this self there reopened class have unlinked in' holders texts types old is_old covered waits below sights)) in record { count = it.count; objects = λ m. it.objects m }
+  reset : IsResetOf p (moved_in p h w f (bound p ac forms h links fr frs st i s here f d is plainly made w this self there (unmade p ac forms h links ranges fr frs st standing stacked targets hold i s here f d is plainly made w this self there reopened class have unlinked in' holders texts types old is_old covered waits below sights)) (v p ac forms h links fr frs st i s here f d is plainly made w this self there (unmade p ac forms h links ranges fr frs st standing stacked targets hold i s here f d is plainly made w this self there reopened class have unlinked in' holders texts types old is_old covered waits below sights))) (holder_roots p h w f (bound p ac forms h links fr frs st i s here f d is plainly made w this self there (unmade p ac forms h links ranges fr frs st standing stacked targets hold i s here f d is plainly made w this self there reopened class have unlinked in' holders texts types old is_old covered waits below sights)) (v p ac forms h links fr frs st i s here f d is plainly made w this self there (unmade p ac forms h links ranges fr frs st standing stacked targets hold i s here f d is plainly made w this self there reopened class have unlinked in' holders texts types old is_old covered waits below sights))) g j
+  reset = let it = store_resets p h w f (bound p ac forms h links fr frs st i s here f d is plainly made w this self there (unmade p ac forms h links ranges fr frs st standing stacked targets hold i s here f d is plainly made w this self there reopened class have unlinked in' holders texts types old is_old covered waits below sights)) (v p ac forms h links fr frs st i s here f d is plainly made w this self there (unmade p ac forms h links ranges fr frs st standing stacked targets hold i s here f d is plainly made w this self there reopened class have unlinked in' holders texts types old is_old covered waits below sights)) in record { count = it.count; objects = λ m. it.objects m }
 
   same : (u : Value) → root_of j u ≡ root_of g u
-  same u = reset_root p (moved_in p h w f (bound p ac forms h links fr frs st i s here f d is made w this self there (unmade p ac forms h links ranges fr frs st standing stacked targets hold i s here f d is made w this self there reopened class have unlinked in' holders texts types old is_old covered waits below sights)) (v p ac forms h links fr frs st i s here f d is made w this self there (unmade p ac forms h links ranges fr frs st standing stacked targets hold i s here f d is made w this self there reopened class have unlinked in' holders texts types old is_old covered waits below sights))) (holder_roots p h w f (bound p ac forms h links fr frs st i s here f d is made w this self there (unmade p ac forms h links ranges fr frs st standing stacked targets hold i s here f d is made w this self there reopened class have unlinked in' holders texts types old is_old covered waits below sights)) (v p ac forms h links fr frs st i s here f d is made w this self there (unmade p ac forms h links ranges fr frs st standing stacked targets hold i s here f d is made w this self there reopened class have unlinked in' holders texts types old is_old covered waits below sights))) g j reset u
+  same u = reset_root p (moved_in p h w f (bound p ac forms h links fr frs st i s here f d is plainly made w this self there (unmade p ac forms h links ranges fr frs st standing stacked targets hold i s here f d is plainly made w this self there reopened class have unlinked in' holders texts types old is_old covered waits below sights)) (v p ac forms h links fr frs st i s here f d is plainly made w this self there (unmade p ac forms h links ranges fr frs st standing stacked targets hold i s here f d is plainly made w this self there reopened class have unlinked in' holders texts types old is_old covered waits below sights))) (holder_roots p h w f (bound p ac forms h links fr frs st i s here f d is plainly made w this self there (unmade p ac forms h links ranges fr frs st standing stacked targets hold i s here f d is plainly made w this self there reopened class have unlinked in' holders texts types old is_old covered waits below sights)) (v p ac forms h links fr frs st i s here f d is plainly made w this self there (unmade p ac forms h links ranges fr frs st standing stacked targets hold i s here f d is plainly made w this self there reopened class have unlinked in' holders texts types old is_old covered waits below sights))) g j reset u
 
   fields : KeepsFields p g j
   fields u x own = refl
 
   back_now : (o : ℕ) (y : Object) → object_at j o ≡ Some y → (z : Object) × (object_at g o ≡ Some z) × IsAlike z y
   back_now o y now =
-      let z = reset_was p (moved_in p h w f (bound p ac forms h links fr frs st i s here f d is made w this self there (unmade p ac forms h links ranges fr frs st standing stacked targets hold i s here f d is made w this self there reopened class have unlinked in' holders texts types old is_old covered waits below sights)) (v p ac forms h links fr frs st i s here f d is made w this self there (unmade p ac forms h links ranges fr frs st standing stacked targets hold i s here f d is made w this self there reopened class have unlinked in' holders texts types old is_old covered waits below sights))) (holder_roots p h w f (bound p ac forms h links fr frs st i s here f d is made w this self there (unmade p ac forms h links ranges fr frs st standing stacked targets hold i s here f d is made w this self there reopened class have unlinked in' holders texts types old is_old covered waits below sights)) (v p ac forms h links fr frs st i s here f d is made w this self there (unmade p ac forms h links ranges fr frs st standing stacked targets hold i s here f d is made w this self there reopened class have unlinked in' holders texts types old is_old covered waits below sights))) g j reset o y now in
+      let z = reset_was p (moved_in p h w f (bound p ac forms h links fr frs st i s here f d is plainly made w this self there (unmade p ac forms h links ranges fr frs st standing stacked targets hold i s here f d is plainly made w this self there reopened class have unlinked in' holders texts types old is_old covered waits below sights)) (v p ac forms h links fr frs st i s here f d is plainly made w this self there (unmade p ac forms h links ranges fr frs st standing stacked targets hold i s here f d is plainly made w this self there reopened class have unlinked in' holders texts types old is_old covered waits below sights))) (holder_roots p h w f (bound p ac forms h links fr frs st i s here f d is plainly made w this self there (unmade p ac forms h links ranges fr frs st standing stacked targets hold i s here f d is plainly made w this self there reopened class have unlinked in' holders texts types old is_old covered waits below sights)) (v p ac forms h links fr frs st i s here f d is plainly made w this self there (unmade p ac forms h links ranges fr frs st standing stacked targets hold i s here f d is plainly made w this self there reopened class have unlinked in' holders texts types old is_old covered waits below sights))) g j reset o y now in
       (z.0, z.1, record { class = z.2; link = z.3; finished = z.4; owner = z.5 })
 
   abbrev emptied_now : ℕ → Object → Object
-  emptied_now o z = obligations.reset_in p (moved_in p h w f (bound p ac forms h links fr frs st i s here f d is made w this self there (unmade p ac forms h links ranges fr frs st standing stacked targets hold i s here f d is made w this self there reopened class have unlinked in' holders texts types old is_old covered waits below sights)) (v p ac forms h links fr frs st i s here f d is made w this self there (unmade p ac forms h links ranges fr frs st standing stacked targets hold i s here f d is made w this self there reopened class have unlinked in' holders texts types old is_old covered waits below sights))) (holder_roots p h w f (bound p ac forms h links fr frs st i s here f d is made w this self there (unmade p ac forms h links ranges fr frs st standing stacked targets hold i s here f d is made w this self there reopened class have unlinked in' holders texts types old is_old covered waits below sights)) (v p ac forms h links fr frs st i s here f d is made w this self there (unmade p ac forms h links ranges fr frs st standing stacked targets hold i s here f d is made w this self there reopened class have unlinked in' holders texts types old is_old covered waits below sights))) o z
+  emptied_now o z = obligations.reset_in p (moved_in p h w f (bound p ac forms h links fr frs st i s here f d is plainly made w this self there (unmade p ac forms h links ranges fr frs st standing stacked targets hold i s here f d is plainly made w this self there reopened class have unlinked in' holders texts types old is_old covered waits below sights)) (v p ac forms h links fr frs st i s here f d is plainly made w this self there (unmade p ac forms h links ranges fr frs st standing stacked targets hold i s here f d is plainly made w this self there reopened class have unlinked in' holders texts types old is_old covered waits below sights))) (holder_roots p h w f (bound p ac forms h links fr frs st i s here f d is plainly made w this self there (unmade p ac forms h links ranges fr frs st standing stacked targets hold i s here f d is plainly made w this self there reopened class have unlinked in' holders texts types old is_old covered waits below sights)) (v p ac forms h links fr frs st i s here f d is plainly made w this self there (unmade p ac forms h links ranges fr frs st standing stacked targets hold i s here f d is plainly made w this self there reopened class have unlinked in' holders texts types old is_old covered waits below sights))) o z
 
   alike : AreAlike g j
   alike = record {
     forth = λ o z at.
-        let now = reset_forth p (moved_in p h w f (bound p ac forms h links fr frs st i s here f d is made w this self there (unmade p ac forms h links ranges fr frs st standing stacked targets hold i s here f d is made w this self there reopened class have unlinked in' holders texts types old is_old covered waits below sights)) (v p ac forms h links fr frs st i s here f d is made w this self there (unmade p ac forms h links ranges fr frs st standing stacked targets hold i s here f d is made w this self there reopened class have unlinked in' holders texts types old is_old covered waits below sights))) (holder_roots p h w f (bound p ac forms h links fr frs st i s here f d is made w this self there (unmade p ac forms h links ranges fr frs st standing stacked targets hold i s here f d is made w this self there reopened class have unlinked in' holders texts types old is_old covered waits below sights)) (v p ac forms h links fr frs st i s here f d is made w this self there (unmade p ac forms h links ranges fr frs st standing stacked targets hold i s here f d is made w this self there reopened class have unlinked in' holders texts types old is_old covered waits below sights))) g j reset o z at in
+        let now = reset_forth p (moved_in p h w f (bound p ac forms h links fr frs st i s here f d is plainly made w this self there (unmade p ac forms h links ranges fr frs st standing stacked targets hold i s here f d is plainly made w this self there reopened class have unlinked in' holders texts types old is_old covered waits below sights)) (v p ac forms h links fr frs st i s here f d is plainly made w this self there (unmade p ac forms h links ranges fr frs st standing stacked targets hold i s here f d is plainly made w this self there reopened class have unlinked in' holders texts types old is_old covered waits below sights))) (holder_roots p h w f (bound p ac forms h links fr frs st i s here f d is plainly made w this self there (unmade p ac forms h links ranges fr frs st standing stacked targets hold i s here f d is plainly made w this self there reopened class have unlinked in' holders texts types old is_old covered waits below sights)) (v p ac forms h links fr frs st i s here f d is plainly made w this self there (unmade p ac forms h links ranges fr frs st standing stacked targets hold i s here f d is plainly made w this self there reopened class have unlinked in' holders texts types old is_old covered waits below sights))) g j reset o z at in
         let u = back_now o (emptied_now o z) now in
         (emptied_now o z, now, subst (λ (x : Object). IsAlike x (emptied_now o z)) (one_object u.0 z (object_at g o) u.1 at) u.2);
     back = back_now;
   }
 
   -- it reaches something where `this` is finished
-  this_done : (o : ℕ) → is_reached (moved_in p h w f (bound p ac forms h links fr frs st i s here f d is made w this self there (unmade p ac forms h links ranges fr frs st standing stacked targets hold i s here f d is made w this self there reopened class have unlinked in' holders texts types old is_old covered waits below sights)) (v p ac forms h links fr frs st i s here f d is made w this self there (unmade p ac forms h links ranges fr frs st standing stacked targets hold i s here f d is made w this self there reopened class have unlinked in' holders texts types old is_old covered waits below sights))) (holder_roots p h w f (bound p ac forms h links fr frs st i s here f d is made w this self there (unmade p ac forms h links ranges fr frs st standing stacked targets hold i s here f d is made w this self there reopened class have unlinked in' holders texts types old is_old covered waits below sights)) (v p ac forms h links fr frs st i s here f d is made w this self there (unmade p ac forms h links ranges fr frs st standing stacked targets hold i s here f d is made w this self there reopened class have unlinked in' holders texts types old is_old covered waits below sights))) o ≡ true → self.finished ≡ true
-  this_done o is' = by (resets p h w f (bound p ac forms h links fr frs st i s here f d is made w this self there (unmade p ac forms h links ranges fr frs st standing stacked targets hold i s here f d is made w this self there reopened class have unlinked in' holders texts types old is_old covered waits below sights)) (v p ac forms h links fr frs st i s here f d is made w this self there (unmade p ac forms h links ranges fr frs st standing stacked targets hold i s here f d is made w this self there reopened class have unlinked in' holders texts types old is_old covered waits below sights))) refl is'
+  this_done : (o : ℕ) → is_reached (moved_in p h w f (bound p ac forms h links fr frs st i s here f d is plainly made w this self there (unmade p ac forms h links ranges fr frs st standing stacked targets hold i s here f d is plainly made w this self there reopened class have unlinked in' holders texts types old is_old covered waits below sights)) (v p ac forms h links fr frs st i s here f d is plainly made w this self there (unmade p ac forms h links ranges fr frs st standing stacked targets hold i s here f d is plainly made w this self there reopened class have unlinked in' holders texts types old is_old covered waits below sights))) (holder_roots p h w f (bound p ac forms h links fr frs st i s here f d is plainly made w this self there (unmade p ac forms h links ranges fr frs st standing stacked targets hold i s here f d is plainly made w this self there reopened class have unlinked in' holders texts types old is_old covered waits below sights)) (v p ac forms h links fr frs st i s here f d is plainly made w this self there (unmade p ac forms h links ranges fr frs st standing stacked targets hold i s here f d is plainly made w this self there reopened class have unlinked in' holders texts types old is_old covered waits below sights))) o ≡ true → self.finished ≡ true
+  this_done o is' = by (resets p h w f (bound p ac forms h links fr frs st i s here f d is plainly made w this self there (unmade p ac forms h links ranges fr frs st standing stacked targets hold i s here f d is plainly made w this self there reopened class have unlinked in' holders texts types old is_old covered waits below sights)) (v p ac forms h links fr frs st i s here f d is plainly made w this self there (unmade p ac forms h links ranges fr frs st standing stacked targets hold i s here f d is plainly made w this self there reopened class have unlinked in' holders texts types old is_old covered waits below sights))) refl is'
     where
-      by : (b : Bool) → resets p h w f (bound p ac forms h links fr frs st i s here f d is made w this self there (unmade p ac forms h links ranges fr frs st standing stacked targets hold i s here f d is made w this self there reopened class have unlinked in' holders texts types old is_old covered waits below sights)) (v p ac forms h links fr frs st i s here f d is made w this self there (unmade p ac forms h links ranges fr frs st standing stacked targets hold i s here f d is made w this self there reopened class have unlinked in' holders texts types old is_old covered waits below sights)) ≡ b
-          → has_number (roots_where b (moved_in p h w f (bound p ac forms h links fr frs st i s here f d is made w this self there (unmade p ac forms h links ranges fr frs st standing stacked targets hold i s here f d is made w this self there reopened class have unlinked in' holders texts types old is_old covered waits below sights)) (v p ac forms h links fr frs st i s here f d is made w this self there (unmade p ac forms h links ranges fr frs st standing stacked targets hold i s here f d is made w this self there reopened class have unlinked in' holders texts types old is_old covered waits below sights))) w) (root (moved_in p h w f (bound p ac forms h links fr frs st i s here f d is made w this self there (unmade p ac forms h links ranges fr frs st standing stacked targets hold i s here f d is made w this self there reopened class have unlinked in' holders texts types old is_old covered waits below sights)) (v p ac forms h links fr frs st i s here f d is made w this self there (unmade p ac forms h links ranges fr frs st standing stacked targets hold i s here f d is made w this self there reopened class have unlinked in' holders texts types old is_old covered waits below sights))) o) ≡ true → self.finished ≡ true
+      by : (b : Bool) → resets p h w f (bound p ac forms h links fr frs st i s here f d is plainly made w this self there (unmade p ac forms h links ranges fr frs st standing stacked targets hold i s here f d is plainly made w this self there reopened class have unlinked in' holders texts types old is_old covered waits below sights)) (v p ac forms h links fr frs st i s here f d is plainly made w this self there (unmade p ac forms h links ranges fr frs st standing stacked targets hold i s here f d is plainly made w this self there reopened class have unlinked in' holders texts types old is_old covered waits below sights)) ≡ b
+          → has_number (roots_where b (moved_in p h w f (bound p ac forms h links fr frs st i s here f d is plainly made w this self there (unmade p ac forms h links ranges fr frs st standing stacked targets hold i s here f d is plainly made w this self there reopened class have unlinked in' holders texts types old is_old covered waits below sights)) (v p ac forms h links fr frs st i s here f d is plainly made w this self there (unmade p ac forms h links ranges fr frs st standing stacked targets hold i s here f d is plainly made w this self there reopened class have unlinked in' holders texts types old is_old covered waits below sights))) w) (root (moved_in p h w f (bound p ac forms h links fr frs st i s here f d is plainly made w this self there (unmade p ac forms h links ranges fr frs st standing stacked targets hold i s here f d is plainly made w this self there reopened class have unlinked in' holders texts types old is_old covered waits below sights)) (v p ac forms h links fr frs st i s here f d is plainly made w this self there (unmade p ac forms h links ranges fr frs st standing stacked targets hold i s here f d is plainly made w this self there reopened class have unlinked in' holders texts types old is_old covered waits below sights))) o) ≡ true → self.finished ≡ true
       by false none has' = absurd (true≢false (sym has'))
-      by true all has' = ap finished_in (sym there) ∙ (resets_when p h w f (bound p ac forms h links fr frs st i s here f d is made w this self there (unmade p ac forms h links ranges fr frs st standing stacked targets hold i s here f d is made w this self there reopened class have unlinked in' holders texts types old is_old covered waits below sights)) (v p ac forms h links fr frs st i s here f d is made w this self there (unmade p ac forms h links ranges fr frs st standing stacked targets hold i s here f d is made w this self there reopened class have unlinked in' holders texts types old is_old covered waits below sights)) all).3
+      by true all has' = ap finished_in (sym there) ∙ (resets_when p h w f (bound p ac forms h links fr frs st i s here f d is plainly made w this self there (unmade p ac forms h links ranges fr frs st standing stacked targets hold i s here f d is plainly made w this self there reopened class have unlinked in' holders texts types old is_old covered waits below sights)) (v p ac forms h links fr frs st i s here f d is plainly made w this self there (unmade p ac forms h links ranges fr frs st standing stacked targets hold i s here f d is plainly made w this self there reopened class have unlinked in' holders texts types old is_old covered waits below sights)) all).3
 
   -- and that is on the way up from `this`
-  above : (o : ℕ) (z : Object) → object_at g o ≡ Some z → z.link ≡ None → is_reached (moved_in p h w f (bound p ac forms h links fr frs st i s here f d is made w this self there (unmade p ac forms h links ranges fr frs st standing stacked targets hold i s here f d is made w this self there reopened class have unlinked in' holders texts types old is_old covered waits below sights)) (v p ac forms h links fr frs st i s here f d is made w this self there (unmade p ac forms h links ranges fr frs st standing stacked targets hold i s here f d is made w this self there reopened class have unlinked in' holders texts types old is_old covered waits below sights))) (holder_roots p h w f (bound p ac forms h links fr frs st i s here f d is made w this self there (unmade p ac forms h links ranges fr frs st standing stacked targets hold i s here f d is made w this self there reopened class have unlinked in' holders texts types old is_old covered waits below sights)) (v p ac forms h links fr frs st i s here f d is made w this self there (unmade p ac forms h links ranges fr frs st standing stacked targets hold i s here f d is made w this self there reopened class have unlinked in' holders texts types old is_old covered waits below sights))) o ≡ true → IsWithin g w o × (z.finished ≡ true)
+  above : (o : ℕ) (z : Object) → object_at g o ≡ Some z → z.link ≡ None → is_reached (moved_in p h w f (bound p ac forms h links fr frs st i s here f d is plainly made w this self there (unmade p ac forms h links ranges fr frs st standing stacked targets hold i s here f d is plainly made w this self there reopened class have unlinked in' holders texts types old is_old covered waits below sights)) (v p ac forms h links fr frs st i s here f d is plainly made w this self there (unmade p ac forms h links ranges fr frs st standing stacked targets hold i s here f d is plainly made w this self there reopened class have unlinked in' holders texts types old is_old covered waits below sights))) (holder_roots p h w f (bound p ac forms h links fr frs st i s here f d is plainly made w this self there (unmade p ac forms h links ranges fr frs st standing stacked targets hold i s here f d is plainly made w this self there reopened class have unlinked in' holders texts types old is_old covered waits below sights)) (v p ac forms h links fr frs st i s here f d is plainly made w this self there (unmade p ac forms h links ranges fr frs st standing stacked targets hold i s here f d is plainly made w this self there reopened class have unlinked in' holders texts types old is_old covered waits below sights))) o ≡ true → IsWithin g w o × (z.finished ≡ true)
   above o z at single is' =
-      let up = store_is_up p h w f (bound p ac forms h links fr frs st i s here f d is made w this self there (unmade p ac forms h links ranges fr frs st standing stacked targets hold i s here f d is made w this self there reopened class have unlinked in' holders texts types old is_old covered waits below sights)) (v p ac forms h links fr frs st i s here f d is made w this self there (unmade p ac forms h links ranges fr frs st standing stacked targets hold i s here f d is made w this self there reopened class have unlinked in' holders texts types old is_old covered waits below sights)) links self there reopened.single (this_done o is') (is_heavy_class p) unlinked reopened.heavy.1 o is' in
-      let itself' : root (moved_in p h w f (bound p ac forms h links fr frs st i s here f d is made w this self there (unmade p ac forms h links ranges fr frs st standing stacked targets hold i s here f d is made w this self there reopened class have unlinked in' holders texts types old is_old covered waits below sights)) (v p ac forms h links fr frs st i s here f d is made w this self there (unmade p ac forms h links ranges fr frs st standing stacked targets hold i s here f d is made w this self there reopened class have unlinked in' holders texts types old is_old covered waits below sights))) o ≡ o = roots_of_links-itself (moved_in p h w f (bound p ac forms h links fr frs st i s here f d is made w this self there (unmade p ac forms h links ranges fr frs st standing stacked targets hold i s here f d is made w this self there reopened class have unlinked in' holders texts types old is_old covered waits below sights)) (v p ac forms h links fr frs st i s here f d is made w this self there (unmade p ac forms h links ranges fr frs st standing stacked targets hold i s here f d is made w this self there reopened class have unlinked in' holders texts types old is_old covered waits below sights))) o z at single in
-      (subst (IsWithin g w) itself' (within_goes_on (moved_in p h w f (bound p ac forms h links fr frs st i s here f d is made w this self there (unmade p ac forms h links ranges fr frs st standing stacked targets hold i s here f d is made w this self there reopened class have unlinked in' holders texts types old is_old covered waits below sights)) (v p ac forms h links fr frs st i s here f d is made w this self there (unmade p ac forms h links ranges fr frs st standing stacked targets hold i s here f d is made w this self there reopened class have unlinked in' holders texts types old is_old covered waits below sights))) g w (root (moved_in p h w f (bound p ac forms h links fr frs st i s here f d is made w this self there (unmade p ac forms h links ranges fr frs st standing stacked targets hold i s here f d is made w this self there reopened class have unlinked in' holders texts types old is_old covered waits below sights)) (v p ac forms h links fr frs st i s here f d is made w this self there (unmade p ac forms h links ranges fr frs st standing stacked targets hold i s here f d is made w this self there reopened class have unlinked in' holders texts types old is_old covered waits below sights))) o) (λ m x u x' at' own. (x, at', own)) up.1), sym (ap (λ (m : ℕ). finished_in (object_at g m)) itself' ∙ ap finished_in at) ∙ up.2)
+      let up = store_is_up p h w f (bound p ac forms h links fr frs st i s here f d is plainly made w this self there (unmade p ac forms h links ranges fr frs st standing stacked targets hold i s here f d is plainly made w this self there reopened class have unlinked in' holders texts types old is_old covered waits below sights)) (v p ac forms h links fr frs st i s here f d is plainly made w this self there (unmade p ac forms h links ranges fr frs st standing stacked targets hold i s here f d is plainly made w this self there reopened class have unlinked in' holders texts types old is_old covered waits below sights)) links self there reopened.single (this_done o is') (is_heavy_class p) unlinked reopened.heavy.1 o is' in
+      let itself' : root (moved_in p h w f (bound p ac forms h links fr frs st i s here f d is plainly made w this self there (unmade p ac forms h links ranges fr frs st standing stacked targets hold i s here f d is plainly made w this self there reopened class have unlinked in' holders texts types old is_old covered waits below sights)) (v p ac forms h links fr frs st i s here f d is plainly made w this self there (unmade p ac forms h links ranges fr frs st standing stacked targets hold i s here f d is plainly made w this self there reopened class have unlinked in' holders texts types old is_old covered waits below sights))) o ≡ o = roots_of_links-itself (moved_in p h w f (bound p ac forms h links fr frs st i s here f d is plainly made w this self there (unmade p ac forms h links ranges fr frs st standing stacked targets hold i s here f d is plainly made w this self there reopened class have unlinked in' holders texts types old is_old covered waits below sights)) (v p ac forms h links fr frs st i s here f d is plainly made w this self there (unmade p ac forms h links ranges fr frs st standing stacked targets hold i s here f d is plainly made w this self there reopened class have unlinked in' holders texts types old is_old covered waits below sights))) o z at single in
+      (subst (IsWithin g w) itself' (within_goes_on (moved_in p h w f (bound p ac forms h links fr frs st i s here f d is plainly made w this self there (unmade p ac forms h links ranges fr frs st standing stacked targets hold i s here f d is plainly made w this self there reopened class have unlinked in' holders texts types old is_old covered waits below sights)) (v p ac forms h links fr frs st i s here f d is plainly made w this self there (unmade p ac forms h links ranges fr frs st standing stacked targets hold i s here f d is plainly made w this self there reopened class have unlinked in' holders texts types old is_old covered waits below sights))) g w (root (moved_in p h w f (bound p ac forms h links fr frs st i s here f d is plainly made w this self there (unmade p ac forms h links ranges fr frs st standing stacked targets hold i s here f d is plainly made w this self there reopened class have unlinked in' holders texts types old is_old covered waits below sights)) (v p ac forms h links fr frs st i s here f d is plainly made w this self there (unmade p ac forms h links ranges fr frs st standing stacked targets hold i s here f d is plainly made w this self there reopened class have unlinked in' holders texts types old is_old covered waits below sights))) o) (λ m x u x' at' own. (x, at', own)) up.1), sym (ap (λ (m : ℕ). finished_in (object_at g m)) itself' ∙ ap finished_in at) ∙ up.2)
 
   reached_by : self.finished ≡ true → (o : ℕ) → IsWithin g w o → IsReachedBy p g frs o
   reached_by done o up = record { mid = []; target = w; object = self_now.0; at = self_now.1; heavy = heavy_now done; lent = lent_now; within = up; new = hold.new.1; unfinished = unfinished_now }
 
   -- what is above `this` keeps its owner, and the frames below renew it
   owner_above : (o : ℕ) (x z : Object) → object_at h o ≡ Some x → object_at g o ≡ Some z → IsWithin h w o → z.owner ≡ x.owner
-  owner_above o x z at now up = by (was p ac forms h links fr frs st i s here f d is made w this self there (unmade p ac forms h links ranges fr frs st standing stacked targets hold i s here f d is made w this self there reopened class have unlinked in' holders texts types old is_old covered waits below sights) o x z at now)
+  owner_above o x z at now up = by (was p ac forms h links fr frs st i s here f d is plainly made w this self there (unmade p ac forms h links ranges fr frs st standing stacked targets hold i s here f d is plainly made w this self there reopened class have unlinked in' holders texts types old is_old covered waits below sights) o x z at now)
     where
-      by : IsStored p h w f (v p ac forms h links fr frs st i s here f d is made w this self there (unmade p ac forms h links ranges fr frs st standing stacked targets hold i s here f d is made w this self there reopened class have unlinked in' holders texts types old is_old covered waits below sights)) o x z → z.owner ≡ x.owner
+      by : IsStored p h w f (v p ac forms h links fr frs st i s here f d is plainly made w this self there (unmade p ac forms h links ranges fr frs st standing stacked targets hold i s here f d is plainly made w this self there reopened class have unlinked in' holders texts types old is_old covered waits below sights)) o x z → z.owner ≡ x.owner
       by (inl one) = ap (λ (u : Object). u.owner) one
       by (inr (inl gone)) = absurd (no_way_round h have o w f x at gone.0.owner up)
       by (inr (inr into)) = absurd (not_around o x at into.0 up)
@@ -247,26 +244,26 @@ module _ (p : Program) (ac : Accept p) (forms : HasPlainForms p) (h : HeapConten
   renewed_on [] gives o a all = tt
   renewed_on (x ∷ xs) gives o a all = ((λ here'. (gives.0 o).1 ∙ all.0 here'), renewed_on xs gives.1 o a all.1)
 
-  renew_it : (o : ℕ) (z : Object) → object_at g o ≡ Some z → z.link ≡ None → is_heavy_class p z.class ≡ true → is_reached (moved_in p h w f (bound p ac forms h links fr frs st i s here f d is made w this self there (unmade p ac forms h links ranges fr frs st standing stacked targets hold i s here f d is made w this self there reopened class have unlinked in' holders texts types old is_old covered waits below sights)) (v p ac forms h links fr frs st i s here f d is made w this self there (unmade p ac forms h links ranges fr frs st standing stacked targets hold i s here f d is made w this self there reopened class have unlinked in' holders texts types old is_old covered waits below sights))) (holder_roots p h w f (bound p ac forms h links fr frs st i s here f d is made w this self there (unmade p ac forms h links ranges fr frs st standing stacked targets hold i s here f d is made w this self there reopened class have unlinked in' holders texts types old is_old covered waits below sights)) (v p ac forms h links fr frs st i s here f d is made w this self there (unmade p ac forms h links ranges fr frs st standing stacked targets hold i s here f d is made w this self there reopened class have unlinked in' holders texts types old is_old covered waits below sights))) o ≡ true → AllRenewIt p g frs o z.owner
-  renew_it o z at single heavy is' = subst (AllRenewIt p g frs o) (sym (owner_above o x.0 z x.1 at up)) (renewed_on frs (gifts p ac forms h links ranges fr frs st standing stacked targets hold i s here f d is made w this self there reopened class have unlinked in' holders texts types old is_old covered waits below sights) o (x.0).owner
+  renew_it : (o : ℕ) (z : Object) → object_at g o ≡ Some z → z.link ≡ None → is_heavy_class p z.class ≡ true → is_reached (moved_in p h w f (bound p ac forms h links fr frs st i s here f d is plainly made w this self there (unmade p ac forms h links ranges fr frs st standing stacked targets hold i s here f d is plainly made w this self there reopened class have unlinked in' holders texts types old is_old covered waits below sights)) (v p ac forms h links fr frs st i s here f d is plainly made w this self there (unmade p ac forms h links ranges fr frs st standing stacked targets hold i s here f d is plainly made w this self there reopened class have unlinked in' holders texts types old is_old covered waits below sights))) (holder_roots p h w f (bound p ac forms h links fr frs st i s here f d is plainly made w this self there (unmade p ac forms h links ranges fr frs st standing stacked targets hold i s here f d is plainly made w this self there reopened class have unlinked in' holders texts types old is_old covered waits below sights)) (v p ac forms h links fr frs st i s here f d is plainly made w this self there (unmade p ac forms h links ranges fr frs st standing stacked targets hold i s here f d is plainly made w this self there reopened class have unlinked in' holders texts types old is_old covered waits below sights))) o ≡ true → AllRenewIt p g frs o z.owner
+  renew_it o z at single heavy is' = subst (AllRenewIt p g frs o) (sym (owner_above o x.0 z x.1 at up)) (renewed_on frs (gifts p ac forms h links ranges fr frs st standing stacked targets hold i s here f d is plainly made w this self there reopened class have unlinked in' holders texts types old is_old covered waits below sights) o (x.0).owner
       (all_renew_it p h have unlinked o x.0 x.1 (sym on.finished ∙ (above o z at single is').1, wide) (λ u x' y' own there'. content_declares p (fr ∷ frs) h hold.contents o x.0 u x' y' x.1 wide own there') frs
-      (record { mid = []; target = w; object = self; at = there; heavy = (this_done o is', reopened.heavy.1); lent = reopened.lent; within = up; new = hold.new.1; unfinished = hold.unfinished.1 }) (all_renew p ac forms h links ranges fr frs st standing stacked targets hold i s here f d is made w this self there reopened class have unlinked in' holders texts types old is_old covered waits below sights)))
+      (record { mid = []; target = w; object = self; at = there; heavy = (this_done o is', reopened.heavy.1); lent = reopened.lent; within = up; new = hold.new.1; unfinished = hold.unfinished.1 }) (all_renew p ac forms h links ranges fr frs st standing stacked targets hold i s here f d is plainly made w this self there reopened class have unlinked in' holders texts types old is_old covered waits below sights)))
     where
-      x : (x : Object) × (object_at h o ≡ Some x) × IsStored p h w f (v p ac forms h links fr frs st i s here f d is made w this self there (unmade p ac forms h links ranges fr frs st standing stacked targets hold i s here f d is made w this self there reopened class have unlinked in' holders texts types old is_old covered waits below sights)) o x z
-      x = back p ac forms h links fr frs st i s here f d is made w this self there (unmade p ac forms h links ranges fr frs st standing stacked targets hold i s here f d is made w this self there reopened class have unlinked in' holders texts types old is_old covered waits below sights) o z at
+      x : (x : Object) × (object_at h o ≡ Some x) × IsStored p h w f (v p ac forms h links fr frs st i s here f d is plainly made w this self there (unmade p ac forms h links ranges fr frs st standing stacked targets hold i s here f d is plainly made w this self there reopened class have unlinked in' holders texts types old is_old covered waits below sights)) o x z
+      x = back p ac forms h links fr frs st i s here f d is plainly made w this self there (unmade p ac forms h links ranges fr frs st standing stacked targets hold i s here f d is plainly made w this self there reopened class have unlinked in' holders texts types old is_old covered waits below sights) o z at
 
       on : GoesOn x.0 z
-      on = stored_goes_on p h w f (v p ac forms h links fr frs st i s here f d is made w this self there (unmade p ac forms h links ranges fr frs st standing stacked targets hold i s here f d is made w this self there reopened class have unlinked in' holders texts types old is_old covered waits below sights)) o x.0 z x.2
+      on = stored_goes_on p h w f (v p ac forms h links fr frs st i s here f d is plainly made w this self there (unmade p ac forms h links ranges fr frs st standing stacked targets hold i s here f d is plainly made w this self there reopened class have unlinked in' holders texts types old is_old covered waits below sights)) o x.0 z x.2
 
       wide : is_heavy_class p (x.0).class ≡ true
       wide = ap (is_heavy_class p) (sym on.class) ∙ heavy
 
       up : IsWithin h w o
       up = subst (IsWithin h w) (roots_of_links-itself h o x.0 x.1 (sym on.link ∙ single))
-          (store_was_up p h w f (bound p ac forms h links fr frs st i s here f d is made w this self there (unmade p ac forms h links ranges fr frs st standing stacked targets hold i s here f d is made w this self there reopened class have unlinked in' holders texts types old is_old covered waits below sights)) (v p ac forms h links fr frs st i s here f d is made w this self there (unmade p ac forms h links ranges fr frs st standing stacked targets hold i s here f d is made w this self there reopened class have unlinked in' holders texts types old is_old covered waits below sights)) links self there reopened.single (this_done o is') (is_heavy_class p) unlinked reopened.heavy.1 o x.0 x.1 is')
+          (store_was_up p h w f (bound p ac forms h links fr frs st i s here f d is plainly made w this self there (unmade p ac forms h links ranges fr frs st standing stacked targets hold i s here f d is plainly made w this self there reopened class have unlinked in' holders texts types old is_old covered waits below sights)) (v p ac forms h links fr frs st i s here f d is plainly made w this self there (unmade p ac forms h links ranges fr frs st standing stacked targets hold i s here f d is plainly made w this self there reopened class have unlinked in' holders texts types old is_old covered waits below sights)) links self there reopened.single (this_done o is') (is_heavy_class p) unlinked reopened.heavy.1 o x.0 x.1 is')
 
   turned : (o : ℕ) (y : Object) (u : Value) → root_of j u ≡ Some o → object_at j o ≡ Some y → (x : Object) × (object_at g o ≡ Some x) × ((y ≡ x) ⊎ (IsRenewed p g frs o x y × IsWithin g w o))
-  turned o y u root' now = (z.0, z.1, go (is_reached (moved_in p h w f (bound p ac forms h links fr frs st i s here f d is made w this self there (unmade p ac forms h links ranges fr frs st standing stacked targets hold i s here f d is made w this self there reopened class have unlinked in' holders texts types old is_old covered waits below sights)) (v p ac forms h links fr frs st i s here f d is made w this self there (unmade p ac forms h links ranges fr frs st standing stacked targets hold i s here f d is made w this self there reopened class have unlinked in' holders texts types old is_old covered waits below sights))) (holder_roots p h w f (bound p ac forms h links fr frs st i s here f d is made w this self there (unmade p ac forms h links ranges fr frs st standing stacked targets hold i s here f d is made w this self there reopened class have unlinked in' holders texts types old is_old covered waits below sights)) (v p ac forms h links fr frs st i s here f d is made w this self there (unmade p ac forms h links ranges fr frs st standing stacked targets hold i s here f d is made w this self there reopened class have unlinked in' holders texts types old is_old covered waits below sights))) o) refl)
+  turned o y u root' now = (z.0, z.1, go (is_reached (moved_in p h w f (bound p ac forms h links fr frs st i s here f d is plainly made w this self there (unmade p ac forms h links ranges fr frs st standing stacked targets hold i s here f d is plainly made w this self there reopened class have unlinked in' holders texts types old is_old covered waits below sights)) (v p ac forms h links fr frs st i s here f d is plainly made w this self there (unmade p ac forms h links ranges fr frs st standing stacked targets hold i s here f d is plainly made w this self there reopened class have unlinked in' holders texts types old is_old covered waits below sights))) (holder_roots p h w f (bound p ac forms h links fr frs st i s here f d is plainly made w this self there (unmade p ac forms h links ranges fr frs st standing stacked targets hold i s here f d is plainly made w this self there reopened class have unlinked in' holders texts types old is_old covered waits below sights)) (v p ac forms h links fr frs st i s here f d is plainly made w this self there (unmade p ac forms h links ranges fr frs st standing stacked targets hold i s here f d is plainly made w this self there reopened class have unlinked in' holders texts types old is_old covered waits below sights))) o) refl)
     where
       z : (z : Object) × (object_at g o ≡ Some z) × IsAlike z y
       z = back_now o y now
@@ -274,11 +271,11 @@ module _ (p : Program) (ac : Accept p) (forms : HasPlainForms p) (h : HeapConten
       single : (z.0).link ≡ None
       single = roots_go_on-root g u o z.0 links_now (sym (same u) ∙ root') z.1
 
-      go : (b : Bool) → is_reached (moved_in p h w f (bound p ac forms h links fr frs st i s here f d is made w this self there (unmade p ac forms h links ranges fr frs st standing stacked targets hold i s here f d is made w this self there reopened class have unlinked in' holders texts types old is_old covered waits below sights)) (v p ac forms h links fr frs st i s here f d is made w this self there (unmade p ac forms h links ranges fr frs st standing stacked targets hold i s here f d is made w this self there reopened class have unlinked in' holders texts types old is_old covered waits below sights))) (holder_roots p h w f (bound p ac forms h links fr frs st i s here f d is made w this self there (unmade p ac forms h links ranges fr frs st standing stacked targets hold i s here f d is made w this self there reopened class have unlinked in' holders texts types old is_old covered waits below sights)) (v p ac forms h links fr frs st i s here f d is made w this self there (unmade p ac forms h links ranges fr frs st standing stacked targets hold i s here f d is made w this self there reopened class have unlinked in' holders texts types old is_old covered waits below sights))) o ≡ b → (y ≡ z.0) ⊎ (IsRenewed p g frs o z.0 y × IsWithin g w o)
-      go false out = inl (sym (one_object z.0 y (object_at g o) z.1 (reset_stays p (moved_in p h w f (bound p ac forms h links fr frs st i s here f d is made w this self there (unmade p ac forms h links ranges fr frs st standing stacked targets hold i s here f d is made w this self there reopened class have unlinked in' holders texts types old is_old covered waits below sights)) (v p ac forms h links fr frs st i s here f d is made w this self there (unmade p ac forms h links ranges fr frs st standing stacked targets hold i s here f d is made w this self there reopened class have unlinked in' holders texts types old is_old covered waits below sights))) (holder_roots p h w f (bound p ac forms h links fr frs st i s here f d is made w this self there (unmade p ac forms h links ranges fr frs st standing stacked targets hold i s here f d is made w this self there reopened class have unlinked in' holders texts types old is_old covered waits below sights)) (v p ac forms h links fr frs st i s here f d is made w this self there (unmade p ac forms h links ranges fr frs st standing stacked targets hold i s here f d is made w this self there reopened class have unlinked in' holders texts types old is_old covered waits below sights))) g j reset o y out now)))
+      go : (b : Bool) → is_reached (moved_in p h w f (bound p ac forms h links fr frs st i s here f d is plainly made w this self there (unmade p ac forms h links ranges fr frs st standing stacked targets hold i s here f d is plainly made w this self there reopened class have unlinked in' holders texts types old is_old covered waits below sights)) (v p ac forms h links fr frs st i s here f d is plainly made w this self there (unmade p ac forms h links ranges fr frs st standing stacked targets hold i s here f d is plainly made w this self there reopened class have unlinked in' holders texts types old is_old covered waits below sights))) (holder_roots p h w f (bound p ac forms h links fr frs st i s here f d is plainly made w this self there (unmade p ac forms h links ranges fr frs st standing stacked targets hold i s here f d is plainly made w this self there reopened class have unlinked in' holders texts types old is_old covered waits below sights)) (v p ac forms h links fr frs st i s here f d is plainly made w this self there (unmade p ac forms h links ranges fr frs st standing stacked targets hold i s here f d is plainly made w this self there reopened class have unlinked in' holders texts types old is_old covered waits below sights))) o ≡ b → (y ≡ z.0) ⊎ (IsRenewed p g frs o z.0 y × IsWithin g w o)
+      go false out = inl (sym (one_object z.0 y (object_at g o) z.1 (reset_stays p (moved_in p h w f (bound p ac forms h links fr frs st i s here f d is plainly made w this self there (unmade p ac forms h links ranges fr frs st standing stacked targets hold i s here f d is plainly made w this self there reopened class have unlinked in' holders texts types old is_old covered waits below sights)) (v p ac forms h links fr frs st i s here f d is plainly made w this self there (unmade p ac forms h links ranges fr frs st standing stacked targets hold i s here f d is plainly made w this self there reopened class have unlinked in' holders texts types old is_old covered waits below sights))) (holder_roots p h w f (bound p ac forms h links fr frs st i s here f d is plainly made w this self there (unmade p ac forms h links ranges fr frs st standing stacked targets hold i s here f d is plainly made w this self there reopened class have unlinked in' holders texts types old is_old covered waits below sights)) (v p ac forms h links fr frs st i s here f d is plainly made w this self there (unmade p ac forms h links ranges fr frs st standing stacked targets hold i s here f d is plainly made w this self there reopened class have unlinked in' holders texts types old is_old covered waits below sights))) g j reset o y out now)))
       go true is' =
           let up = above o z.0 z.1 single is' in
-          let it = reset_empties p (moved_in p h w f (bound p ac forms h links fr frs st i s here f d is made w this self there (unmade p ac forms h links ranges fr frs st standing stacked targets hold i s here f d is made w this self there reopened class have unlinked in' holders texts types old is_old covered waits below sights)) (v p ac forms h links fr frs st i s here f d is made w this self there (unmade p ac forms h links ranges fr frs st standing stacked targets hold i s here f d is made w this self there reopened class have unlinked in' holders texts types old is_old covered waits below sights))) (holder_roots p h w f (bound p ac forms h links fr frs st i s here f d is made w this self there (unmade p ac forms h links ranges fr frs st standing stacked targets hold i s here f d is made w this self there reopened class have unlinked in' holders texts types old is_old covered waits below sights)) (v p ac forms h links fr frs st i s here f d is made w this self there (unmade p ac forms h links ranges fr frs st standing stacked targets hold i s here f d is made w this self there reopened class have unlinked in' holders texts types old is_old covered waits below sights))) g j reset o z.0 y is' z.1 now in
+          let it = reset_empties p (moved_in p h w f (bound p ac forms h links fr frs st i s here f d is plainly made w this self there (unmade p ac forms h links ranges fr frs st standing stacked targets hold i s here f d is plainly made w this self there reopened class have unlinked in' holders texts types old is_old covered waits below sights)) (v p ac forms h links fr frs st i s here f d is plainly made w this self there (unmade p ac forms h links ranges fr frs st standing stacked targets hold i s here f d is plainly made w this self there reopened class have unlinked in' holders texts types old is_old covered waits below sights))) (holder_roots p h w f (bound p ac forms h links fr frs st i s here f d is plainly made w this self there (unmade p ac forms h links ranges fr frs st standing stacked targets hold i s here f d is plainly made w this self there reopened class have unlinked in' holders texts types old is_old covered waits below sights)) (v p ac forms h links fr frs st i s here f d is plainly made w this self there (unmade p ac forms h links ranges fr frs st standing stacked targets hold i s here f d is plainly made w this self there reopened class have unlinked in' holders texts types old is_old covered waits below sights))) g j reset o z.0 y is' z.1 now in
           inr (
             record {
               class = z.2.class;
@@ -299,7 +296,7 @@ module _ (p : Program) (ac : Accept p) (forms : HasPlainForms p) (h : HeapConten
 
   -- the top frame claims nothing of what the reset reaches
   abbrev top : Frame
-  top = after p ac forms h links fr frs st i s here f d is made w this self there (unmade p ac forms h links ranges fr frs st standing stacked targets hold i s here f d is made w this self there reopened class have unlinked in' holders texts types old is_old covered waits below sights)
+  top = after p ac forms h links fr frs st i s here f d is plainly made w this self there (unmade p ac forms h links ranges fr frs st standing stacked targets hold i s here f d is plainly made w this self there reopened class have unlinked in' holders texts types old is_old covered waits below sights)
 
   ends_of_this_now : EndsBelow g frs w
   ends_of_this_now = lent_ends_below p g ends_now frs unfinished_now w self_now.0 self_now.1 lent_now
@@ -328,9 +325,9 @@ module _ (p : Program) (ac : Accept p) (forms : HasPlainForms p) (h : HeapConten
       go (x, before, inl it) =
           subst (λ (z : Object). IsKeyed p j false false old frs top q o z) (sym it)
           (keyed_same p g j same fields alike false false old frs top o x q
-          (moved_covered p ac forms h links ranges fr frs st standing stacked targets hold i s here f d is made w this self there reopened class have unlinked in' holders texts types old is_old covered waits below sights q o x less kept was_held before (ap (λ (z : Object). is_heavy_class p z.class) (sym it) ∙ heavy)
+          (moved_covered p ac forms h links ranges fr frs st standing stacked targets hold i s here f d is plainly made w this self there reopened class have unlinked in' holders texts types old is_old covered waits below sights q o x less kept was_held before (ap (λ (z : Object). is_heavy_class p z.class) (sym it) ∙ heavy)
           (bears_before p g j stay o x y (ap (λ (z : Object). z.class) it) (ap (λ (z : Object). z.finished) it) (ap (λ (z : Object). z.owner) it) owes)))
-      go (x, before, inr (anew, up)) = by (moved_covered p ac forms h links ranges fr frs st standing stacked targets hold i s here f d is made w this self there reopened class have unlinked in' holders texts types old is_old covered waits below sights q o x less kept was_held before wide owes')
+      go (x, before, inr (anew, up)) = by (moved_covered p ac forms h links ranges fr frs st standing stacked targets hold i s here f d is plainly made w this self there reopened class have unlinked in' holders texts types old is_old covered waits below sights q o x less kept was_held before wide owes')
         where
           wide : is_heavy_class p x.class ≡ true
           wide = ap (is_heavy_class p) (sym anew.class) ∙ heavy
@@ -342,58 +339,58 @@ module _ (p : Program) (ac : Accept p) (forms : HasPlainForms p) (h : HeapConten
           reached = (anew.reached heavy owes').0
 
           by : IsKeyed p g false false old frs top q o x → IsKeyed p j false false old frs top q o y
-          by (unowned u) = unowned (unowned_anew p g j same fields alike ends_now false false false old frs top (moved_old p ac forms h links ranges fr frs st standing stacked targets hold i s here f d is made w this self there reopened class have unlinked in' holders texts types old is_old covered waits below sights) o x y before wide anew.class anew.finished anew.owner reached q u)
-          by (owned c in'' key) = owned_anew p g j same fields alike ends_now false false false old frs top (moved_old p ac forms h links ranges fr frs st standing stacked targets hold i s here f d is made w this self there reopened class have unlinked in' holders texts types old is_old covered waits below sights) o x y before wide anew.class anew.finished anew.owner reached q c in'' key
+          by (unowned u) = unowned (unowned_anew p g j same fields alike ends_now false false false old frs top (moved_old p ac forms h links ranges fr frs st standing stacked targets hold i s here f d is plainly made w this self there reopened class have unlinked in' holders texts types old is_old covered waits below sights) o x y before wide anew.class anew.finished anew.owner reached q u)
+          by (owned c in'' key) = owned_anew p g j same fields alike ends_now false false false old frs top (moved_old p ac forms h links ranges fr frs st standing stacked targets hold i s here f d is plainly made w this self there reopened class have unlinked in' holders texts types old is_old covered waits below sights) o x y before wide anew.class anew.finished anew.owner reached q c in'' key
               (λ claimed apart' keeps. absurd (claims_none o x c key before up claimed keeps))
 
   reset_below : OwnersBelow j (n + 1)
-  reset_below o y now = let z = back_now o y now in ap (is_frame_from (n + 1 + 1)) z.2.owner ∙ moved_below p ac forms h links ranges fr frs st standing stacked targets hold i s here f d is made w this self there reopened class have unlinked in' holders texts types old is_old covered waits below sights o z.0 z.1
+  reset_below o y now = let z = back_now o y now in ap (is_frame_from (n + 1 + 1)) z.2.owner ∙ moved_below p ac forms h links ranges fr frs st standing stacked targets hold i s here f d is plainly made w this self there reopened class have unlinked in' holders texts types old is_old covered waits below sights o z.0 z.1
 
   reset_covered : AreCovered p j (top ∷ frs)
-  reset_covered = (old, old_alike p g j alike frs top old (moved_old p ac forms h links ranges fr frs st standing stacked targets hold i s here f d is made w this self there reopened class have unlinked in' holders texts types old is_old covered waits below sights), top_covered, waiting_anew p g j same fields alike ends_now old frs turns (moved_waits p ac forms h links ranges fr frs st standing stacked targets hold i s here f d is made w this self there reopened class have unlinked in' holders texts types old is_old covered waits below sights), reset_below)
+  reset_covered = (old, old_alike p g j alike frs top old (moved_old p ac forms h links ranges fr frs st standing stacked targets hold i s here f d is plainly made w this self there reopened class have unlinked in' holders texts types old is_old covered waits below sights), top_covered, waiting_anew p g j same fields alike ends_now old frs turns (moved_waits p ac forms h links ranges fr frs st standing stacked targets hold i s here f d is plainly made w this self there reopened class have unlinked in' holders texts types old is_old covered waits below sights), reset_below)
 
   reset_owns : FieldsOwn p j
-  reset_owns = fields_own_kept p g j fields same (λ o y now. let z = back_now o y now in (z.0, z.1, z.2.class, z.2.link, z.2.finished, z.2.owner)) (moved_owns p ac forms h links ranges fr frs st standing stacked targets hold i s here f d is made w this self there reopened class have unlinked in' holders texts types old is_old covered waits below sights)
+  reset_owns = fields_own_kept p g j fields same (λ o y now. let z = back_now o y now in (z.0, z.1, z.2.class, z.2.link, z.2.finished, z.2.owner)) (moved_owns p ac forms h links ranges fr frs st standing stacked targets hold i s here f d is plainly made w this self there reopened class have unlinked in' holders texts types old is_old covered waits below sights)
 
   reset_linked : LinkedWere h j
   reset_linked o y l now some =
       let z = back_now o y now in
-      let x = moved_linked p ac forms h links fr frs st i s here f d is made w this self there (unmade p ac forms h links ranges fr frs st standing stacked targets hold i s here f d is made w this self there reopened class have unlinked in' holders texts types old is_old covered waits below sights) o z.0 l z.1 (sym z.2.link ∙ some) in
+      let x = moved_linked p ac forms h links fr frs st i s here f d is plainly made w this self there (unmade p ac forms h links ranges fr frs st standing stacked targets hold i s here f d is plainly made w this self there reopened class have unlinked in' holders texts types old is_old covered waits below sights) o z.0 l z.1 (sym z.2.link ∙ some) in
       (x.0, x.1, x.2, z.2.class ∙ x.3)
 
   reset_nobody : UnfinishedAreUnowned j
   reset_nobody o y now open' = let z = back_now o y now in z.2.owner ∙ unowned_now o z.0 z.1 (sym z.2.finished ∙ open')
 
   reset_unfinished : KeepsUnfinished h j no_other
-  reset_unfinished o x y apart' before now none = let z = back_now o y now in z.2.finished ∙ moved_unfinished p ac forms h links fr frs st i s here f d is made w this self there (unmade p ac forms h links ranges fr frs st standing stacked targets hold i s here f d is made w this self there reopened class have unlinked in' holders texts types old is_old covered waits below sights) o x z.0 apart' before z.1 none
+  reset_unfinished o x y apart' before now none = let z = back_now o y now in z.2.finished ∙ moved_unfinished p ac forms h links fr frs st i s here f d is plainly made w this self there (unmade p ac forms h links ranges fr frs st standing stacked targets hold i s here f d is plainly made w this self there reopened class have unlinked in' holders texts types old is_old covered waits below sights) o x z.0 apart' before z.1 none
 
   -- the field's type has an obligation
   field_heavy : is_heavy_in p (Some f) ≡ true
-  field_heavy = elim (forms.obligations st.number i (move_of s) f d st.control (step_there p fr st i s here) is) [
-    | inl makes ↦ absurd (true≢false (sym (ap constructs (sym (method_here p fr st)) ∙ makes) ∙ opens_no_constructor (method_at p fr.method) reopened.opens))
-    | inr heavy ↦ heavy
+  field_heavy = elim plainly [
+    | inl makes ↦ absurd (true≢false (sym makes ∙ opens_no_constructor (method_at p fr.method) reopened.opens))
+    | inr opens ↦ opens.2
   ]
 
   -- ---- what is being made
 
   -- what moved into the field was finished
   not_made : (o : ℕ) (y : Object) → object_at g o ≡ Some y → is_heavy_class p y.class ≡ true → y.finished ≡ false → root_of g (field_value p g w f) ≡ Some o → ⊥
-  not_made o y now heavy open' found = elim (value_is p ac forms h links fr frs st i s here f d is made w this self there (unmade p ac forms h links ranges fr frs st standing stacked targets hold i s here f d is made w this self there reopened class have unlinked in' holders texts types old is_old covered waits below sights) old covered (not_aliased p ac forms h links ranges fr frs st standing stacked targets hold i s here f d is made w this self there reopened class have unlinked in' holders texts types old is_old covered waits below sights) field_heavy o x.0 root_before x.1 (ap (is_heavy_class p) (sym on.class) ∙ heavy) (inl (open_owes x.0 unfinished'))) [
+  not_made o y now heavy open' found = elim (value_is p ac forms h links fr frs st i s here f d is plainly made w this self there (unmade p ac forms h links ranges fr frs st standing stacked targets hold i s here f d is plainly made w this self there reopened class have unlinked in' holders texts types old is_old covered waits below sights) old covered (not_aliased p ac forms h links ranges fr frs st standing stacked targets hold i s here f d is plainly made w this self there reopened class have unlinked in' holders texts types old is_old covered waits below sights) field_heavy o x.0 root_before x.1 (ap (is_heavy_class p) (sym on.class) ∙ heavy) (inl (open_owes x.0 unfinished'))) [
     | inl own ↦ true≢false (sym own.1 ∙ unfinished')
     | inr field ↦ (let never : owners.Unowned ≡ owners.Field w f = sym (have.unfinished o x.0 x.1 unfinished') ∙ field in cc)
   ]
     where
-      x : (x : Object) × (object_at h o ≡ Some x) × IsStored p h w f (v p ac forms h links fr frs st i s here f d is made w this self there (unmade p ac forms h links ranges fr frs st standing stacked targets hold i s here f d is made w this self there reopened class have unlinked in' holders texts types old is_old covered waits below sights)) o x y
-      x = back p ac forms h links fr frs st i s here f d is made w this self there (unmade p ac forms h links ranges fr frs st standing stacked targets hold i s here f d is made w this self there reopened class have unlinked in' holders texts types old is_old covered waits below sights) o y now
+      x : (x : Object) × (object_at h o ≡ Some x) × IsStored p h w f (v p ac forms h links fr frs st i s here f d is plainly made w this self there (unmade p ac forms h links ranges fr frs st standing stacked targets hold i s here f d is plainly made w this self there reopened class have unlinked in' holders texts types old is_old covered waits below sights)) o x y
+      x = back p ac forms h links fr frs st i s here f d is plainly made w this self there (unmade p ac forms h links ranges fr frs st standing stacked targets hold i s here f d is plainly made w this self there reopened class have unlinked in' holders texts types old is_old covered waits below sights) o y now
 
       on : GoesOn x.0 y
-      on = stored_goes_on p h w f (v p ac forms h links fr frs st i s here f d is made w this self there (unmade p ac forms h links ranges fr frs st standing stacked targets hold i s here f d is made w this self there reopened class have unlinked in' holders texts types old is_old covered waits below sights)) o x.0 y x.2
+      on = stored_goes_on p h w f (v p ac forms h links fr frs st i s here f d is plainly made w this self there (unmade p ac forms h links ranges fr frs st standing stacked targets hold i s here f d is plainly made w this self there reopened class have unlinked in' holders texts types old is_old covered waits below sights)) o x.0 y x.2
 
       unfinished' : (x.0).finished ≡ false
       unfinished' = sym on.finished ∙ open'
 
-      root_before : root_of h (v p ac forms h links fr frs st i s here f d is made w this self there (unmade p ac forms h links ranges fr frs st standing stacked targets hold i s here f d is made w this self there reopened class have unlinked in' holders texts types old is_old covered waits below sights)) ≡ Some o
-      root_before = sym (value_root h g (roots p ac forms h links fr frs st i s here f d is made w this self there (unmade p ac forms h links ranges fr frs st standing stacked targets hold i s here f d is made w this self there reopened class have unlinked in' holders texts types old is_old covered waits below sights)) (v p ac forms h links fr frs st i s here f d is made w this self there (unmade p ac forms h links ranges fr frs st standing stacked targets hold i s here f d is made w this self there reopened class have unlinked in' holders texts types old is_old covered waits below sights)) (holds_there p h ranges fr (All-head (λ (u : Frame). LocalsInRange h u.locals) fr frs in') (places.Temp d) (room p ac forms h links fr frs st i s here f d is made w this self there (unmade p ac forms h links ranges fr frs st standing stacked targets hold i s here f d is made w this self there reopened class have unlinked in' holders texts types old is_old covered waits below sights) old covered))) ∙ ap (root_of g) (sym (holds_here' p ac forms h links fr frs st i s here f d is made w this self there (unmade p ac forms h links ranges fr frs st standing stacked targets hold i s here f d is made w this self there reopened class have unlinked in' holders texts types old is_old covered waits below sights))) ∙ found
+      root_before : root_of h (v p ac forms h links fr frs st i s here f d is plainly made w this self there (unmade p ac forms h links ranges fr frs st standing stacked targets hold i s here f d is plainly made w this self there reopened class have unlinked in' holders texts types old is_old covered waits below sights)) ≡ Some o
+      root_before = sym (value_root h g (roots p ac forms h links fr frs st i s here f d is plainly made w this self there (unmade p ac forms h links ranges fr frs st standing stacked targets hold i s here f d is plainly made w this self there reopened class have unlinked in' holders texts types old is_old covered waits below sights)) (v p ac forms h links fr frs st i s here f d is plainly made w this self there (unmade p ac forms h links ranges fr frs st standing stacked targets hold i s here f d is plainly made w this self there reopened class have unlinked in' holders texts types old is_old covered waits below sights)) (holds_there p h ranges fr (All-head (λ (u : Frame). LocalsInRange h u.locals) fr frs in') (places.Temp d) (room p ac forms h links fr frs st i s here f d is plainly made w this self there (unmade p ac forms h links ranges fr frs st standing stacked targets hold i s here f d is plainly made w this self there reopened class have unlinked in' holders texts types old is_old covered waits below sights) old covered))) ∙ ap (root_of g) (sym (holds_here' p ac forms h links fr frs st i s here f d is plainly made w this self there (unmade p ac forms h links ranges fr frs st standing stacked targets hold i s here f d is plainly made w this self there reopened class have unlinked in' holders texts types old is_old covered waits below sights))) ∙ found
 
   -- a place of a frame below that holds an object that is being made, with an obligation, held it
   held_before : (fr' : Frame) → HoldsThere p h fr' → HeldBefore p h g fr'
@@ -401,7 +398,7 @@ module _ (p : Program) (ac : Accept p) (forms : HasPlainForms p) (h : HeapConten
     where
       there' : (q' : Place) → IsSmall q' → place_value p g fr'.method fr'.locals q' ≡ place_value p h fr'.method fr'.locals q' → root_of g (place_value p g fr'.method fr'.locals q') ≡ Some o
           → root_of h (place_value p h fr'.method fr'.locals q') ≡ Some o
-      there' q' less value found = sym (value_root h g (roots p ac forms h links fr frs st i s here f d is made w this self there (unmade p ac forms h links ranges fr frs st standing stacked targets hold i s here f d is made w this self there reopened class have unlinked in' holders texts types old is_old covered waits below sights)) (place_value p h fr'.method fr'.locals q') (inside q' less)) ∙ ap (root_of g) (sym value) ∙ found
+      there' q' less value found = sym (value_root h g (roots p ac forms h links fr frs st i s here f d is plainly made w this self there (unmade p ac forms h links ranges fr frs st standing stacked targets hold i s here f d is plainly made w this self there reopened class have unlinked in' holders texts types old is_old covered waits below sights)) (place_value p h fr'.method fr'.locals q') (inside q' less)) ∙ ap (root_of g) (sym value) ∙ found
 
       at_field : (m : ℕ) → m < 16 → (x : Option FieldId) → owning_field_beside p fr'.method m ≡ x → (u : Value) → fr'.locals.this ≡ u → root_of g (place_value p g fr'.method fr'.locals (places.Field m)) ≡ Some o
           → root_of h (place_value p h fr'.method fr'.locals (places.Field m)) ≡ Some o
@@ -412,7 +409,7 @@ module _ (p : Program) (ac : Accept p) (forms : HasPlainForms p) (h : HeapConten
           value a = ap (field_place_value p a fr'.locals.this) beside ∙ ap (λ (t : Value). field_place_value p a t (Some x)) runs
 
           other : ((u ≡ w) × (x ≡ f) → ⊥) → root_of h (place_value p h fr'.method fr'.locals (places.Field m)) ≡ Some o
-          other off = there' (places.Field m) less (value g ∙ holds_other' p ac forms h links fr frs st i s here f d is made w this self there (unmade p ac forms h links ranges fr frs st standing stacked targets hold i s here f d is made w this self there reopened class have unlinked in' holders texts types old is_old covered waits below sights) u x off ∙ sym (value h)) found
+          other off = there' (places.Field m) less (value g ∙ holds_other' p ac forms h links fr frs st i s here f d is plainly made w this self there (unmade p ac forms h links ranges fr frs st standing stacked targets hold i s here f d is plainly made w this self there reopened class have unlinked in' holders texts types old is_old covered waits below sights) u x off ∙ sym (value h)) found
 
           by : (a : Bool) → nat_eq u w ≡ a → (b : Bool) → nat_eq x.0 f.0 ≡ b → root_of h (place_value p h fr'.method fr'.locals (places.Field m)) ≡ Some o
           by true one true both = absurd (not_made o y now heavy open'
@@ -443,7 +440,7 @@ module _ (p : Program) (ac : Accept p) (forms : HasPlainForms p) (h : HeapConten
   reset_held_before = held_before_further p h g j (λ o y now. let z = back_now o y now in (z.0, z.1, z.2.class, z.2.finished)) frs (each_held_before frs others_in) (after_reset frs)
 
   reset_classes : StayOfClass h j
-  reset_classes o x y before now = let z = back_now o y now in z.2.class ∙ moved_classes p ac forms h links fr frs st i s here f d is made w this self there (unmade p ac forms h links ranges fr frs st standing stacked targets hold i s here f d is made w this self there reopened class have unlinked in' holders texts types old is_old covered waits below sights) o x z.0 before z.1
+  reset_classes o x y before now = let z = back_now o y now in z.2.class ∙ moved_classes p ac forms h links fr frs st i s here f d is plainly made w this self there (unmade p ac forms h links ranges fr frs st standing stacked targets hold i s here f d is plainly made w this self there reopened class have unlinked in' holders texts types old is_old covered waits below sights) o x z.0 before z.1
 
   -- ---- the heap of the step
 
@@ -456,5 +453,5 @@ module _ (p : Program) (ac : Accept p) (forms : HasPlainForms p) (h : HeapConten
     reset_makers xs owned'.1,
   )
 
-  pub reset_joined : MakersOwn p h (fr ∷ frs) → IsJoined p h (store_heap p ac forms h links fr frs st i s here f d is made w this self there (unmade p ac forms h links ranges fr frs st standing stacked targets hold i s here f d is made w this self there reopened class have unlinked in' holders texts types old is_old covered waits below sights)) top frs
-  reset_joined makers = subst (λ (a : HeapContents). IsJoined p h a top frs) (sym (heap_is p ac forms h links fr frs st i s here f d is made w this self there (unmade p ac forms h links ranges fr frs st standing stacked targets hold i s here f d is made w this self there reopened class have unlinked in' holders texts types old is_old covered waits below sights))) (record { covered' = reset_covered; held = reset_held_before; owns = reset_owns; makers = makes_on p j fr top frs refl refl (reset_makers (fr ∷ frs) (moved_makers p ac forms h links ranges fr frs st standing stacked targets hold i s here f d is made w this self there reopened class have unlinked in' holders texts types old is_old covered waits below sights makers)); were = reset_linked; classes = reset_classes; nobody = reset_nobody; unready = reset_unfinished })
+  pub reset_joined : MakersOwn p h (fr ∷ frs) → IsJoined p h (store_heap p ac forms h links fr frs st i s here f d is plainly made w this self there (unmade p ac forms h links ranges fr frs st standing stacked targets hold i s here f d is plainly made w this self there reopened class have unlinked in' holders texts types old is_old covered waits below sights)) top frs
+  reset_joined makers = subst (λ (a : HeapContents). IsJoined p h a top frs) (sym (heap_is p ac forms h links fr frs st i s here f d is plainly made w this self there (unmade p ac forms h links ranges fr frs st standing stacked targets hold i s here f d is plainly made w this self there reopened class have unlinked in' holders texts types old is_old covered waits below sights))) (record { covered' = reset_covered; held = reset_held_before; owns = reset_owns; makers = makes_on p j fr top frs refl refl (reset_makers (fr ∷ frs) (moved_makers p ac forms h links ranges fr frs st standing stacked targets hold i s here f d is plainly made w this self there reopened class have unlinked in' holders texts types old is_old covered waits below sights makers)); were = reset_linked; classes = reset_classes; nobody = reset_nobody; unready = reset_unfinished })

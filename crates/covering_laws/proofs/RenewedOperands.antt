@@ -53,7 +53,6 @@ use Rattle.covering_laws.proofs.GivenArguments.{away_moves, away_owner}
 use Rattle.covering_laws.proofs.GivenAway.{any_at}
 use Rattle.covering_laws.proofs.OwnerSteps.{own_frame}
 use Rattle.covering_laws.proofs.KnownNames.{operand_temp}
-use Rattle.covering_laws.proofs.Resets.{this_elsewhere}
 use Rattle.covering_laws.proofs.ThisOperands.{on_this}
 use Rattle.covering_laws.specs.Sight.{MakesThis}
 
@@ -195,7 +194,7 @@ module _ (p : Program) (ac : Accept p) (forms : HasPlainForms p) (h : HeapConten
       its_mode =
           let run = running_method p ac fr st in
           let of : method_at p st.body.method ≡ Some run.0 = ap (method_at p) st.method ∙ run.1 in
-          claims_or_lends p fr st c.origin c.fact (answered_targets p ac st.number st.body run.0 st.at of (λ aliased u n t. this_elsewhere p forms st.number aliased u n t)
+          claims_or_lends p fr st c.origin c.fact (answered_targets p ac st.number st.body run.0 st.at of (λ aliased u n t comes there. forms.aliased st.number n t comes there aliased)
           c.origin fr.control c.fact reached s.action answer.0 answer.2)
 
       -- what moves is not the target

@@ -15,7 +15,7 @@ use Rattle.java_control.specs.Control.{Step}
 use Rattle.java_control.specs.declared.action.Action.{Action}
 use Rattle.java_control.specs.declared.action.Action.TheVariants as actions
 use Rattle.java_control.specs.declared.action.PlainValue.TheVariants as plain_values
-use Rattle.ownership_rules.specs.Callees.{callee_in}
+use Rattle.ownership_rules.specs.Callees.{callee, callee_in}
 use Rattle.stub_conduct.specs.declared.choice.Conduct.{Conduct}
 use Rattle.ledger_state.specs.Contents.{HeapContents}
 use Rattle.ledger_state.specs.Heaps.{next_number, object_at, root, root_of}
@@ -50,7 +50,7 @@ use Rattle.value_laws.proofs.HeapLaws.{roots_go_on-root, numbers_are_in_range}
 use Rattle.value_laws.proofs.LibraryCallLaws.{any_library_links_stay, emptied_objects}
 use Rattle.value_laws.proofs.Moved.{IsConstantRead}
 use Rattle.value_laws.proofs.RangeValues.{operand_in_range}
-use Rattle.value_laws.proofs.Ready.{plain_step, resets_plainly}
+use Rattle.value_laws.proofs.Ready.{plain_step}
 use Rattle.value_laws.proofs.Renewed.{renewed, reset_keeps, same_root, says_nothing, without_reset}
 use Rattle.covering_laws.specs.Linking.{IsGivenAsAlias, LinkedAreAliases}
 use Rattle.covering_laws.specs.Sight.{ActsInSight}
@@ -265,10 +265,11 @@ module _ (p : Program) (ac : Accept p) (forms : HasPlainForms p) (names : HasSma
 
       by : (called_method s.action ≡ Some named) ⊎ IsConstantRead s.action named → AreCovered p left (after ∷ frs)
       by (inr read) = plain (read_reset p s.action named (plain_step p ac forms fr st next.index s next.here) read)
-      by (inl called) = elim (resets_plainly p ac forms fr st next.index s next.here) [
-        | inl none ↦ plain (sym (same_position m) ∙ ap reset_in (sym (ap (callee_in p) called)) ∙ none)
-        | inr anew ↦ reset_covered called own sight renews news in' is covered waits below
-      ]
+      by (inl called) = go (reset_in (callee p s.action)) refl
+        where
+          go : (k : Option ℕ) → reset_in (callee p s.action) ≡ k → AreCovered p left (after ∷ frs)
+          go None none = plain (sym (same_position m) ∙ ap reset_in (sym (ap (callee_in p) called)) ∙ none)
+          go (Some k) some = reset_covered called own sight renews news in' is covered waits below
 
   -- what fields hold they own
   pub left_owns : (called_method s.action ≡ Some named) ⊎ IsConstantRead s.action named → IsCovered p h gives_none renews_none old frs fr → FieldsOwn p h → FieldsOwn p left

@@ -26,7 +26,7 @@ use Rattle.value_laws.specs.Chains.{HaveEnds}
 use Rattle.value_laws.specs.Heaps.{HasEarlierLinks}
 use Rattle.value_laws.specs.Holders.{HoldersAreUnlinked}
 use Rattle.value_laws.specs.Agreement.{Stands, AllStand, IsCalledFrom}
-use Rattle.value_laws.specs.PlainForms.{HasPlainForms}
+use Rattle.value_laws.specs.PlainForms.{HasPlainForms, StoresPlainly}
 use Rattle.value_laws.specs.FieldContents.{FieldsHold, FieldsOwn, IsFieldOfClass, MakersOwn}
 use Rattle.value_laws.specs.PlaceFacts.{owned, AreCovered, MakesNoAlias}
 use Rattle.value_laws.specs.Ranges.{FieldsInRange, LocalsInRange}
@@ -56,9 +56,13 @@ use Rattle.program_model.specs.SuperTests.{is_under}
 module _ (p : Program) (ac : Accept p) (forms : HasPlainForms p) (h : HeapContents) (links : HasEarlierLinks h) (ranges : FieldsInRange h) (fr : Frame) (frs : List Frame) (st : Stands p fr) (standing : AllStand p frs) (stacked : IsCalledFrom p h fr frs)
     (targets : HaveTargets p (fr ∷ frs)) (hold : FieldsHold p (fr ∷ frs) h) (have : HaveEnds h) (unlinked : HoldersAreUnlinked (is_heavy_class p) h) (in' : LocalsIn h (fr ∷ frs)) (owned : FieldsOwn p h) (makers : MakersOwn p h (fr ∷ frs)) (linked : LinkedAreAliases p h) (sight : ActsInSight p h fr)
     (sights : AllActInSight p h frs) (texts : TextsAreLight p h) (types : KeepsTypes (is_text p h) p fr) (covered : AreCovered p h (fr ∷ frs)) (i : ℕ) (s : Step) (here : slice_get (frame_steps p fr) i ≡ Some s) (f : FieldId) (d : ℕ) (is : s.action ≡ actions.PutOwn f d) (made : Value) where
+  -- it is as the rules ask
+  plainly : StoresPlainly p (method_at p fr.method) f
+  plainly = sight.rules.stores i s f d here is
+
   -- the frame runs on an object
   on_this : (w : ℕ) × (fr.locals.this ≡ values.Object w)
-  on_this = this_object p ac fr st sight.on (storing p ac forms h covered.0 frs fr st covered.2 i d s f here is)
+  on_this = this_object p ac fr st sight.on (storing p ac forms h covered.0 frs fr st covered.2 i d s f here is plainly)
 
   abbrev w : ℕ
   w = on_this.0
@@ -78,14 +82,14 @@ module _ (p : Program) (ac : Accept p) (forms : HasPlainForms p) (h : HeapConten
   single : reopens (method_at p fr.method) ≡ true → ((self.0).link ≡ None) × MakesNoAlias p (self.0).class
   single opens = unlinked_this p ac forms h linked fr st w self.0 self.1 under opens
 
-  abbrev its : IsItsField p ac forms h links owned fr (All-head (λ (x : Frame). LocalsInRange h x.locals) fr frs in') st covered.0 frs targets.0 covered.2 hold.unfinished i s here f d is w this self.0 self.1 under single
-  its = its_field p ac forms h links owned fr (All-head (λ (x : Frame). LocalsInRange h x.locals) fr frs in') st covered.0 frs targets.0 covered.2 hold.unfinished i s here f d is w this self.0 self.1 under single
+  abbrev its : IsItsField p ac forms h links owned fr (All-head (λ (x : Frame). LocalsInRange h x.locals) fr frs in') st covered.0 frs targets.0 covered.2 hold.unfinished i s here f d is plainly w this self.0 self.1 under single
+  its = its_field p ac forms h links owned fr (All-head (λ (x : Frame). LocalsInRange h x.locals) fr frs in') st covered.0 frs targets.0 covered.2 hold.unfinished i s here f d is plainly w this self.0 self.1 under single
 
   class : IsFieldOfClass p f (self.0).class
-  class = (its.field, its.known, sym (its_class p ac forms h links owned fr (All-head (λ (x : Frame). LocalsInRange h x.locals) fr frs in') st covered.0 frs targets.0 covered.2 hold.unfinished i s here f d is w this self.0 self.1 under single))
+  class = (its.field, its.known, sym (its_class p ac forms h links owned fr (All-head (λ (x : Frame). LocalsInRange h x.locals) fr frs in') st covered.0 frs targets.0 covered.2 hold.unfinished i s here f d is plainly w this self.0 self.1 under single))
 
   kind : (((self.0).finished ≡ false) × (constructs (method_at p fr.method) ≡ true)) ⊎ IsReopened p h frs fr w self.0
-  kind = storing_this p ac forms h links owned fr (All-head (λ (x : Frame). LocalsInRange h x.locals) fr frs in') st covered.0 frs targets.0 covered.2 hold.unfinished i s here f d is w this self.0 self.1 under single
+  kind = storing_this p ac forms h links owned fr (All-head (λ (x : Frame). LocalsInRange h x.locals) fr frs in') st covered.0 frs targets.0 covered.2 hold.unfinished i s here f d is plainly w this self.0 self.1 under single
 
   -- the heap of the step
   abbrev pub store_heap : HeapContents
@@ -95,10 +99,10 @@ module _ (p : Program) (ac : Accept p) (forms : HasPlainForms p) (h : HeapConten
   after = frame_after p h fr s made
 
   by_constructor : (self.0).finished ≡ false → constructs (method_at p fr.method) ≡ true → IsJoined p h store_heap after frs
-  by_constructor done makes = new_joined p ac forms h links ranges fr frs st hold i s here f d is made w this self.0 self.1 done makes class have unlinked in' covered owned makers
+  by_constructor done makes = new_joined p ac forms h links ranges fr frs st hold i s here f d is plainly made w this self.0 self.1 done makes class have unlinked in' covered owned makers
 
   by_method : IsReopened p h frs fr w self.0 → IsJoined p h store_heap after frs
-  by_method opened = reset_joined p ac forms h links ranges fr frs st standing stacked targets.1 hold i s here f d is made w this self.0 self.1 opened class have unlinked in' owned texts types covered.0 covered.1 covered.2 covered.3 covered.4 sights makers
+  by_method opened = reset_joined p ac forms h links ranges fr frs st standing stacked targets.1 hold i s here f d is plainly made w this self.0 self.1 opened class have unlinked in' owned texts types covered.0 covered.1 covered.2 covered.3 covered.4 sights makers
 
   pub joined : IsJoined p h store_heap after frs
   joined = elim kind [ inl new ↦ by_constructor new.0 new.1 | inr opened ↦ by_method opened ]

@@ -51,7 +51,7 @@ use Rattle.covering_laws.proofs.StepWays.{stored_unowned}
 use Rattle.value_laws.proofs.HeapLaws.{roots_of_links-itself}
 use Rattle.ledger_state.specs.declared.object.Link.{Link}
 use Rattle.value_laws.specs.Agreement.{Stands}
-use Rattle.value_laws.specs.PlainForms.{HasPlainForms}
+use Rattle.value_laws.specs.PlainForms.{HasPlainForms, StoresPlainly}
 use Rattle.value_laws.proofs.Fields.{holds_here, holds_other}
 use Rattle.value_laws.proofs.StoredObjects.{stored_goes_on, displaced_back, moved_back, moved_takes}
 use Rattle.value_laws.specs.Stores.{IsMovedIn, IsStored}
@@ -136,13 +136,13 @@ class_same (Some m) c d is of =
     ap (λ (n : ℕ). (let z : ClassId = record { 0 = n } in z)) (eqb-true c.0 m.class.0 is) ∙ (let both : Some m.class ≡ Some d = of in (let one : m.class ≡ d = cc in one))
 
 module _ (p : Program) (ac : Accept p) (forms : HasPlainForms p) (h : HeapContents) (links : HasEarlierLinks h) (fr : Frame) (frs : List Frame) (st : Stands p fr) (i : ℕ) (s : Step) (here : slice_get (frame_steps p fr) i ≡ Some s)
-    (f : FieldId) (d : ℕ) (is : s.action ≡ actions.PutOwn f d) (made : Value) (w : ℕ) (this : fr.locals.this ≡ values.Object w) (self : Object) (there : object_at h w ≡ Some self)
+    (f : FieldId) (d : ℕ) (is : s.action ≡ actions.PutOwn f d) (plainly : StoresPlainly p (method_at p fr.method) f) (made : Value) (w : ℕ) (this : fr.locals.this ≡ values.Object w) (self : Object) (there : object_at h w ≡ Some self)
     (unmade : constructs (method_at p fr.method) ≡ true → self.finished ≡ false) where
   body_method : method_of p st.number ≡ method_at p fr.method
   body_method = ap (method_in p) st.at ∙ ap (method_at p) st.method
 
   pub owned_here : (x : Field) × (field_at p f ≡ Some x) × (x.owning ≡ true) × (is_class_of x.class (method_at p fr.method) ≡ true)
-  owned_here = go (field_at p f) refl (forms.stores st.number i (move_of s) f d st.control (step_there p fr st i s here) is).1
+  owned_here = go (field_at p f) refl (forms.stores st.number i (move_of s) f d st.control (step_there p fr st i s here) is)
     where
       parts : (a b : Bool) → (a && b) ≡ true → (a ≡ true) × (b ≡ true)
       parts true b one = (refl, one)
@@ -311,22 +311,22 @@ module _ (p : Program) (ac : Accept p) (forms : HasPlainForms p) (h : HeapConten
         elim z.2 [ inl still' ↦ inl (still' ∙ same) | inr gone ↦ inr (ap (λ (u : Object). u.owner) (sym same) ∙ gone.0.owner) ]
 
     pub room : d < 64
-    room = (small p ac forms h old frs fr st covered i d s f here is).0
+    room = (small p ac forms h old frs fr st covered i d s f here is plainly).0
 
     -- what t(d) holds the frame owns, and it is finished, and of the field's type; or the field owns it: but for a constructor with an aliased argument
     abbrev IsHers : Object → Type 0
     IsHers x = ((x.owner ≡ owners.Frame (length frs + 1)) × (x.finished ≡ true) × (fits_type p x.class (field_type p f) ≡ true)) ⊎ (x.owner ≡ owners.Field w f)
 
     pub value_is : is_alias_constructor p st.number ≡ false → is_heavy_in p (Some f) ≡ true → (o : ℕ) (x : Object) → root_of h v ≡ Some o → object_at h o ≡ Some x → is_heavy_class p x.class ≡ true → OwesOrHolds p h o x → IsHers x
-    value_is plain type o x root before heavy owes = by (covered (places.Temp d) o x room (none_lent p ac forms h old frs fr st covered i d s f here is (places.Temp d)) root before heavy owes)
+    value_is plain type o x root before heavy owes = by (covered (places.Temp d) o x room (none_lent p ac forms h old frs fr st covered i d s f here is plainly (places.Temp d)) root before heavy owes)
       where
         of_temp : (c : Covers p h false false old frs fr o x) → has c.fact.places (places.Temp d) ≡ true → ((is_owning_fact p c.origin c.fact ≡ true) × (fits_type p c.origin.class (field_type p f) ≡ true)) ⊎ (x.owner ≡ owners.Field w f)
-        of_temp c in' = temp_fits p ac forms h old frs fr st covered i d s f here is o x w this c in' type plain
+        of_temp c in' = temp_fits p ac forms h old frs fr st covered i d s f here is plainly o x w this c in' type plain
 
         by : IsKeyed p h false false old frs fr (places.Temp d) o x → IsHers x
         by (owned c in' key) = elim (of_temp c in') [
           | inl own ↦
-              (let truth = c.true' key.owning refl (held_here p ac forms h old frs fr st covered i d s f here is c.fact) in
+              (let truth = c.true' key.owning refl (held_here p ac forms h old frs fr st covered i d s f here is plainly c.fact) in
               inl (key.owner refl (and_parts (is_heavy_class p c.origin.class) (is_own c.fact.mode) own.0).1, truth.finished, within_trans (must_of p x.class) (must_of p c.origin.class) (must_of_optional p (field_type p f)) truth.class own.1))
           | inr field ↦ inr field
         ]
@@ -480,4 +480,4 @@ module _ (p : Program) (ac : Accept p) (forms : HasPlainForms p) (h : HeapConten
 
   pub top_stores : (old : ℕ → Bool) → IsCovered p h gives_none renews_none old frs fr → IsOld p h frs fr old → HoldsThere p h fr → StaysApart p h moved frs fr → IsCovered p moved gives_none renews_none old frs after
   top_stores old covered aged inside apart =
-      store_covered p ac forms h moved links roots carries old frs fr st covered aged lent i d s f here is w this holds_here' holds_other' inside (all_ready p h moved moved_unfinished fr) made apart field_takes (owner_stays old covered) (fields_stay old covered)
+      store_covered p ac forms h moved links roots carries old frs fr st covered aged lent i d s f here is plainly w this holds_here' holds_other' inside (all_ready p h moved moved_unfinished fr) made apart field_takes (owner_stays old covered) (fields_stay old covered)

@@ -44,7 +44,7 @@ use Rattle.value_laws.proofs.PlaceLaws.{places_stay_in_range, single_place-same,
 use Rattle.value_laws.proofs.SetLaws.{has_copied}
 use Rattle.value_laws.specs.PlaceRows.{copied}
 use Rattle.value_laws.specs.Agreement.{Stands}
-use Rattle.value_laws.specs.PlainForms.{HasPlainForms}
+use Rattle.value_laws.specs.PlainForms.{HasPlainForms, StoresPlainly}
 use Rattle.value_laws.specs.FactGoing.{ArePlaces, IsLeft, IsTaken, StoresAs, left, taken}
 use Rattle.value_laws.specs.FieldContents.{RunOnOthers}
 use Rattle.value_laws.specs.PlaceFacts.{Covers, IsApart, IsCovered, IsInField, IsKeyed, IsOld, IsOwned, IsTrueOf, IsUnowned, asked_of, claims, fits_field, fits_in, gives_none, is_frame_from, is_heavy_field, is_heavy_in, is_idle, is_lent, is_lent_place, is_owning_fact, OwesOrHolds, owned, tells_calls, unowned, renews_none}
@@ -95,43 +95,43 @@ pub record FieldsStay (p : Program) (h k : HeapContents) (fr : Frame) (w : ℕ) 
 
 -- what a fact with t(d) stands for the frame owns, and the field's type bounds it, or the field owns it, where the field's type has an obligation and this is no constructor with an aliased argument
 pub temp_fits : (p : Program) (ac : Accept p) (forms : HasPlainForms p) (h : HeapContents) (old : ℕ → Bool) (frs : List Frame) (fr : Frame) (st : Stands p fr) (covered : IsCovered p h gives_none renews_none old frs fr) (i d : ℕ) (s : Step) (f : FieldId)
-    (here : slice_get (frame_steps p fr) i ≡ Some s) (is : s.action ≡ actions.PutOwn f d) (o : ℕ) (x : Object) (w : ℕ) → fr.locals.this ≡ values.Object w → (c : Covers p h false false old frs fr o x) → has c.fact.places (places.Temp d) ≡ true → is_heavy_in p (Some f) ≡ true
+    (here : slice_get (frame_steps p fr) i ≡ Some s) (is : s.action ≡ actions.PutOwn f d) (plainly : StoresPlainly p (method_at p fr.method) f) (o : ℕ) (x : Object) (w : ℕ) → fr.locals.this ≡ values.Object w → (c : Covers p h false false old frs fr o x) → has c.fact.places (places.Temp d) ≡ true → is_heavy_in p (Some f) ≡ true
     → is_alias_constructor p st.number ≡ false → ((is_owning_fact p c.origin c.fact ≡ true) × (fits_type p c.origin.class (field_type p f) ≡ true)) ⊎ (x.owner ≡ owners.Field w f)
-temp_fits p ac forms h old frs fr st covered i d s f here is o x w this c in' heavy plain =
-    by (goes p ac forms h old frs fr st covered i d s f here is o x c (place_of_field p f)
+temp_fits p ac forms h old frs fr st covered i d s f here is plainly o x w this c in' heavy plain =
+    by (goes p ac forms h old frs fr st covered i d s f here is plainly o x c (place_of_field p f)
     (has_copied c.fact.places (place_of_field p f) (places.Temp d) (place_of_field p f) room.1 room.1 ∙ rw (eq-eqb (field_number p f) (field_number p f) refl) in'))
   where
     mine : HasPlace p fr f
-    mine = there p ac forms h old frs fr st covered i d s f here is
+    mine = there p ac forms h old frs fr st covered i d s f here is plainly
 
     room : IsSmallAction p (actions.PutOwn f d)
-    room = small p ac forms h old frs fr st covered i d s f here is
+    room = small p ac forms h old frs fr st covered i d s f here is plainly
 
     in_field : (b : Bool) → has c.fact.places (place_of_field p f) ≡ b → (has c.fact.places (place_of_field p f) ≡ false → is_heavy_store p c.origin f ≡ false) → x.owner ≡ owners.Field w f
     in_field false out light = absurd (light_type p c.origin f (light out) heavy)
     in_field true there' light =
         let was = c.held (field_number p f) mine.small there' (heavy_here p h fr f mine heavy) in
-        let answers = answers_here p ac forms h old frs fr st covered i d s f here is plain in
-        let keeps' = keeps p ac forms h old frs fr st covered i d s f here is in
+        let answers = answers_here p ac forms h old frs fr st covered i d s f here is plainly plain in
+        let keeps' = keeps p ac forms h old frs fr st covered i d s f here is plainly in
         let field =
-        held_in_field p h false false old frs fr o x c (c.true' (held_claims p (method_at p fr.method) c.origin c.fact answers was.0 was.1) refl (held_here p ac forms h old frs fr st covered i d s f here is c.fact)).finished (ap is_held was.0) answers keeps'
+        held_in_field p h false false old frs fr o x c (c.true' (held_claims p (method_at p fr.method) c.origin c.fact answers was.0 was.1) refl (held_here p ac forms h old frs fr st covered i d s f here is plainly c.fact)).finished (ap is_held was.0) answers keeps'
         was.1 in
         owned_at p fr x.owner w f this field.0 (one_field p fr st ac c.fact.places x.owner field f mine there')
 
-    by : (g : Fact) × Reach p st.number (relation_of p st.number) c.origin s.to g × Goes p ac forms h old frs fr st covered i d s f here is o x c g
+    by : (g : Fact) × Reach p st.number (relation_of p st.number) c.origin s.to g × Goes p ac forms h old frs fr st covered i d s f here is plainly o x c g
         → ((is_owning_fact p c.origin c.fact ≡ true) × (fits_type p c.origin.class (field_type p f) ≡ true)) ⊎ (x.owner ≡ owners.Field w f)
     by (g, reach, (same, taken reset called full t)) = elim t.may [ inl own ↦ inl (and_from (is_heavy_class p c.origin.class) (is_own c.fact.mode) t.heavy (ap is_own own), t.fits) | inr alias ↦ absurd (true≢false (sym alias.0 ∙ plain)) ]
     by (g, reach, (same, left reset called full l)) = inr (in_field (has c.fact.places (place_of_field p f)) refl (l.light in'))
 
 pub temp_is_taken : (p : Program) (ac : Accept p) (forms : HasPlainForms p) (h : HeapContents) (old : ℕ → Bool) (frs : List Frame) (fr : Frame) (st : Stands p fr) (covered : IsCovered p h gives_none renews_none old frs fr) (i d : ℕ) (s : Step) (f : FieldId)
-    (here : slice_get (frame_steps p fr) i ≡ Some s) (is : s.action ≡ actions.PutOwn f d) (o : ℕ) (x : Object) (w : ℕ) → fr.locals.this ≡ values.Object w → (c : Covers p h false false old frs fr o x) → has c.fact.places (places.Temp d) ≡ true → is_heavy_in p (Some f) ≡ true
+    (here : slice_get (frame_steps p fr) i ≡ Some s) (is : s.action ≡ actions.PutOwn f d) (plainly : StoresPlainly p (method_at p fr.method) f) (o : ℕ) (x : Object) (w : ℕ) → fr.locals.this ≡ values.Object w → (c : Covers p h false false old frs fr o x) → has c.fact.places (places.Temp d) ≡ true → is_heavy_in p (Some f) ≡ true
     → is_alias_constructor p st.number ≡ false → (is_owning_fact p c.origin c.fact ≡ true) ⊎ (x.owner ≡ owners.Field w f)
-temp_is_taken p ac forms h old frs fr st covered i d s f here is o x w this c in' heavy plain =
-    elim (temp_fits p ac forms h old frs fr st covered i d s f here is o x w this c in' heavy plain) [ inl own ↦ inl own.0 | inr field ↦ inr field ]
+temp_is_taken p ac forms h old frs fr st covered i d s f here is plainly o x w this c in' heavy plain =
+    elim (temp_fits p ac forms h old frs fr st covered i d s f here is plainly o x w this c in' heavy plain) [ inl own ↦ inl own.0 | inr field ↦ inr field ]
 
 module _ (p : Program) (ac : Accept p) (forms : HasPlainForms p) (h k : HeapContents) (links : HasEarlierLinks h) (roots : KeepsRoots h k) (carries : Carries h k)
     (old : ℕ → Bool) (frs : List Frame) (fr : Frame) (st : Stands p fr) (covered : IsCovered p h gives_none renews_none old frs fr) (aged : IsOld p h frs fr old) (lent' : ArgumentIsLent p fr st)
-    (i d : ℕ) (s : Step) (f : FieldId) (here : slice_get (frame_steps p fr) i ≡ Some s) (is : s.action ≡ actions.PutOwn f d) (w : ℕ) (this : fr.locals.this ≡ values.Object w)
+    (i d : ℕ) (s : Step) (f : FieldId) (here : slice_get (frame_steps p fr) i ≡ Some s) (is : s.action ≡ actions.PutOwn f d) (plainly : StoresPlainly p (method_at p fr.method) f) (w : ℕ) (this : fr.locals.this ≡ values.Object w)
     (holds_here : field_value p k w f ≡ temp_value fr.locals d)
     (holds_other : (u : ℕ) (g : FieldId) → ((u ≡ w) × (g ≡ f) → ⊥) → field_value p k u g ≡ field_value p h u g)
     (inside : HoldsThere p h fr) (ready : KeepsReady p h k fr) (v : Value) (others : StaysApart p h k frs fr) (takes : FieldTakes p h k (length frs + 1) fr st w f d)
@@ -140,10 +140,10 @@ module _ (p : Program) (ac : Accept p) (forms : HasPlainForms p) (h k : HeapCont
   after = frame_after p h fr s v
 
   mine : HasPlace p fr f
-  mine = there p ac forms h old frs fr st covered i d s f here is
+  mine = there p ac forms h old frs fr st covered i d s f here is plainly
 
   room : IsSmallAction p (actions.PutOwn f d)
-  room = small p ac forms h old frs fr st covered i d s f here is
+  room = small p ac forms h old frs fr st covered i d s f here is plainly
 
   body_here : method_body p fr.method ≡ Some st.body
   body_here = ap (body_by p) st.id ∙ st.at
@@ -224,21 +224,21 @@ module _ (p : Program) (ac : Accept p) (forms : HasPlainForms p) (h k : HeapCont
   ]
 
   keeps' : lends_this p fr ≡ false
-  keeps' = keeps p ac forms h old frs fr st covered i d s f here is
+  keeps' = keeps p ac forms h old frs fr st covered i d s f here is plainly
 
   -- in no place that is lent, something is said of each fact
   said' : (g : Fact) → is_idle p frs fr g ≡ false
-  said' = said p ac forms h old frs fr st covered i d s f here is
+  said' = said p ac forms h old frs fr st covered i d s f here is plainly
 
   none_lent' : (q : Place) → is_lent_place p fr q ≡ false
-  none_lent' = none_lent p ac forms h old frs fr st covered i d s f here is
+  none_lent' = none_lent p ac forms h old frs fr st covered i d s f here is plainly
 
   -- a constructor with an aliased argument, or a frame that answers for the fields of `this`
   alone_or_aliased : (answers_for_fields (method_at p fr.method) ≡ true) ⊎ (is_alias_constructor p st.number ≡ true)
   alone_or_aliased = by (is_alias_constructor p st.number) refl
     where
       by : (a : Bool) → is_alias_constructor p st.number ≡ a → (answers_for_fields (method_at p fr.method) ≡ true) ⊎ (is_alias_constructor p st.number ≡ true)
-      by false plain = inl (answers_here p ac forms h old frs fr st covered i d s f here is plain)
+      by false plain = inl (answers_here p ac forms h old frs fr st covered i d s f here is plainly plain)
       by true aliased = inr aliased
 
   -- what is held apart after the store was so before it
@@ -254,7 +254,7 @@ module _ (p : Program) (ac : Accept p) (forms : HasPlainForms p) (h k : HeapCont
   module _ (o : ℕ) (x y : Object) (before : object_at h o ≡ Some x) (at : object_at k o ≡ Some y) (class : y.class ≡ x.class) (broad : is_heavy_class p x.class ≡ true)
       (goes_on : x.finished ≡ true → Continues x y) (done : y.finished ≡ true → x.finished ≡ true) (c : Covers p h false false old frs fr o x) (owned_by : IsTakenFrom o x c) where
     abbrev later : PlaceSet
-    later = now p ac forms h old frs fr st covered i d s f here is o x c
+    later = now p ac forms h old frs fr st covered i d s f here is plainly o x c
 
     has_later : (q : Place) → IsSmall q → has later q ≡ (if is_place (place_of_field p f) q then has c.fact.places (places.Temp d) else has c.fact.places q)
     has_later q less = has_copied c.fact.places (place_of_field p f) (places.Temp d) q room.1 less
@@ -277,7 +277,7 @@ module _ (p : Program) (ac : Accept p) (forms : HasPlainForms p) (h k : HeapCont
 
     truth : (g : Fact) → g.called ≡ c.fact.called → g.full ≡ c.fact.full → claims p (method_at p fr.method) c.origin c.fact ≡ true → IsTrueOf p y c.origin g
     truth g called full claimed =
-        let was = c.true' claimed refl (held_here p ac forms h old frs fr st covered i d s f here is c.fact) in
+        let was = c.true' claimed refl (held_here p ac forms h old frs fr st covered i d s f here is plainly c.fact) in
         let still = still_true p x y c.origin c.fact (goes_on was.finished).0 was in
         record {
           finished = still.finished;
@@ -340,7 +340,7 @@ module _ (p : Program) (ac : Accept p) (forms : HasPlainForms p) (h k : HeapCont
           -- the field takes it from the frame
           released : c.fact.mode ≡ modes.Own → y.owner ≡ owners.Field w f
           released own =
-              let truth = c.true' (own_claims p (method_at p fr.method) c.origin c.fact own t.heavy) refl (held_here p ac forms h old frs fr st covered i d s f here is c.fact) in
+              let truth = c.true' (own_claims p (method_at p fr.method) c.origin c.fact own t.heavy) refl (held_here p ac forms h old frs fr st covered i d s f here is plainly c.fact) in
               takes o x y before at broad (c.places (said' c.fact) (places.Temp d) room.0 refl t.there) truth.finished
               (within_trans (must_of p x.class) (must_of p c.origin.class) (must_of_optional p (field_type p f)) truth.class t.fits)
               plain (owned_by (and_from (is_heavy_class p c.origin.class) (is_own c.fact.mode) t.heavy (ap is_own own)))
@@ -364,7 +364,7 @@ module _ (p : Program) (ac : Accept p) (forms : HasPlainForms p) (h k : HeapCont
           -- the field's place is in the fact, and no other place of `this`
           taken_field : c.fact.mode ≡ modes.Own → IsInField p after g.places y.owner
           taken_field own = (
-            record { field = f; declared = declared_by_place p fr st f (forms.stores st.number i (move_of s) f d st.control (step_there p fr st i s here) is).1; holder = w; runs = this; owns = released own },
+            record { field = f; declared = declared_by_place p fr st f (forms.stores st.number i (move_of s) f d st.control (step_there p fr st i s here) is); holder = w; runs = this; owns = released own },
             same (number_of (place_of_field p f)) ∙ has_later (place_of_field p f) mine.small ∙ rw (eq-eqb (field_number p f) (field_number p f) refl) t.there,
             out_of_this c.fact.places (without g.places (place_of_field p f)) from
                 (owning_out_of_this p ac h false false old frs fr st o x c (and_from (is_heavy_class p c.origin.class) (is_own c.fact.mode) t.heavy (ap is_own own))),
@@ -424,7 +424,7 @@ module _ (p : Program) (ac : Accept p) (forms : HasPlainForms p) (h k : HeapCont
           | inl field ↦ field_held n less one heavy field.0 field.1 (has c.fact.places (place_of_field p f)) refl
           | inr other ↦ (let was = c.held n less other.1 heavy in (l.held was.0 (in_this g.places n less one), was.1))
         ];
-        outside = λ plain closed n less one. absurd (elim (storing p ac forms h old frs fr st covered i d s f here is) [ inl makes' ↦ true≢false (sym makes' ∙ plain) | inr opens ↦ true≢false (sym opens ∙ closed) ]);
+        outside = λ plain closed n less one. absurd (elim (storing p ac forms h old frs fr st covered i d s f here is plainly) [ inl makes' ↦ true≢false (sym makes' ∙ plain) | inr opens ↦ true≢false (sym opens ∙ closed) ]);
       }
         where
           held_before : is_held g.mode ≡ true → is_held c.fact.mode ≡ true
@@ -560,9 +560,9 @@ module _ (p : Program) (ac : Accept p) (forms : HasPlainForms p) (h k : HeapCont
     After = (g : Fact) × (e : Covers p k false false old frs after o y) × (e.origin ≡ c.origin) × (e.fact ≡ g) × (ArePlaces g.places later) × (StoresAs p st.number c.origin f d c.fact g)
 
     store_covers : (q : Place) → has later q ≡ true → After
-    store_covers q in' = by (goes p ac forms h old frs fr st covered i d s f here is o x c q in')
+    store_covers q in' = by (goes p ac forms h old frs fr st covered i d s f here is plainly o x c q in')
       where
-        by : (g : Fact) × Reach p st.number (relation_of p st.number) c.origin s.to g × Goes p ac forms h old frs fr st covered i d s f here is o x c g → After
+        by : (g : Fact) × Reach p st.number (relation_of p st.number) c.origin s.to g × Goes p ac forms h old frs fr st covered i d s f here is plainly o x c g → After
         by (g, reach, (same, row)) = let e = by_row g reach same row in (g, e.0, e.1, e.2, same, row)
 
   -- ---- the top frame
@@ -628,7 +628,7 @@ module _ (p : Program) (ac : Accept p) (forms : HasPlainForms p) (h k : HeapCont
         | inl same ↦ same
         | inr moved ↦ absurd (elim (key.others (places.Temp d) room.0 refl moved.0) [
           | inl in' ↦ was.1 in'
-          | inr u ↦ elim (temp_is_taken p ac forms h old frs fr st covered i d s f here is o x w this u.covers u.here moved.2 moved.1) [
+          | inr u ↦ elim (temp_is_taken p ac forms h old frs fr st covered i d s f here is plainly o x w this u.covers u.here moved.2 moved.1) [
             | inl own ↦ true≢false (sym own ∙ unclaimed_not_owning p (method_at p fr.method) u.covers.origin u.covers.fact u.unowned)
             | inr field ↦ true≢false (sym (ap (is_frame_from 0) mine' ∙ from_frame 0 (length frs + 1) (omega arith)) ∙ ap (is_frame_from 0) field)
           ]

@@ -3,6 +3,7 @@
 use Rattle.std.specs.Prelude.{if◌then◌else◌}
 use Rattle.std.proofs.Common.{◌≡◌, ◌⊎◌, inl, inr, ℕ, ◌+◌, ◌<◌, Bool, true, false, not, ◌&&◌, ◌||◌, Option, Some, None, List, [], ◌∷◌, ◌++◌, slice_get, refl, sym, ap, ◌∙◌, subst, true≢false, eq-eqb}
 use Rattle.std.proofs.lemmas.Option.{slice_get-get_or}
+use Rattle.std.proofs.lemmas.Bool.{and_from}
 use Rattle.rlc_base.proofs.SetLaws.{within_self}
 use Rattle.program_model.specs.declared.kinds.BodyId.{BodyId}
 use Rattle.program_model.specs.declared.kinds.ClassId.{ClassId}
@@ -27,11 +28,11 @@ use Rattle.java_control.specs.declared.fact.Origin.{Origin}
 use Rattle.java_control.specs.declared.fact.OriginKind.{OriginKind}
 use Rattle.java_control.specs.declared.fact.OriginKind.TheVariants as kinds
 use Rattle.java_control.specs.declared.place.Place.TheVariants as places
-use Rattle.ledger_obligations.specs.Bodies.{constructs, fields_in, fields_of, fields_of_method, has_field_place, is_constructor_kind, is_field_in, method_of}
+use Rattle.ledger_obligations.specs.Bodies.{constructs, fields_in, fields_of, fields_of_method, has_field_place, is_constructor, is_constructor_kind, is_field_in, method_of, reset_in, resets_this}
 use Rattle.ledger_obligations.specs.MustCallSets.{fits_type, is_empty, is_heavy_class, must_of, must_of_optional, must_of_type, no_names}
 use Rattle.ownership_rules.specs.Births.{Birth, births_at_entry, entry_births_in, entry_births_of, fact_at, has_this, held_births, origin_of, parameter_birth, parameter_births, parameter_mode, this_birth, this_mode}
 use Rattle.ownership_rules.specs.Facts.{has, position_of}
-use Rattle.ownership_rules.specs.Signatures.{field_type, type_of_field}
+use Rattle.ownership_rules.specs.Signatures.{field_type, is_position, type_of_field}
 use Rattle.ledger_state.specs.Contents.{HeapContents}
 use Rattle.ledger_state.specs.Heaps.{object_at, root_of}
 use Rattle.ledger_state.specs.declared.entry.Owner.{Owner}
@@ -43,7 +44,7 @@ use Rattle.value_laws.specs.Configuration.{Frame}
 use Rattle.value_laws.specs.Paths.{Reach, born, entered, flowed, relation_of}
 use Rattle.value_laws.specs.PlaceFacts.{Covers, IsCovered, OwesOrHolds, is_heavy_in, is_settled}
 use Rattle.value_laws.specs.Places.{owning_field_beside, place_value}
-use Rattle.value_laws.specs.PlainForms.{HasPlainForms, StoresFields}
+use Rattle.value_laws.specs.PlainForms.{HasPlainForms}
 use Rattle.value_laws.specs.Renewing.{is_of_heavy_class, reopens}
 use Rattle.value_laws.proofs.EntryFacts.{IsElsewhere, born_so, fields_elsewhere, kind_is, step_elsewhere}
 use Rattle.value_laws.proofs.FactOrigins.{this_own}
@@ -135,9 +136,10 @@ module _ (p : Program) (ac : Accept p) (forms : HasPlainForms p) (h k : HeapCont
   instance : run.0.kind ≡ methods.Instance
   instance = instance_of run.0.kind (sym (ap constructs run.1) ∙ plain) (this_on_paths p st.number st.body run.0 st.at of_body this_covers.0.origin fr.control this_covers.0.fact reached kind)
 
-  stores_not : StoresFields p st.number → ⊥
+  stores_not : (is_constructor p st.number ≡ true) ⊎ (resets_this p st.number ≡ true) → ⊥
   stores_not (inl makes) = true≢false (sym makes ∙ ap constructs (method_here p fr st) ∙ plain)
-  stores_not (inr opens) = true≢false (sym opens.0 ∙ ap reopens (method_here p fr st) ∙ closed)
+  stores_not (inr resets) =
+      true≢false (sym (and_from (not (constructs (method_at p fr.method))) (is_position (reset_in (method_at p fr.method)) 0) (ap not plain) (ap (λ (m : Option Method). is_position (reset_in m) 0) (sym (method_here p fr st)) ∙ resets)) ∙ closed)
 
   module _ (n : ℕ) (small : n < 16) (f : FieldId) (beside : owning_field_beside p fr.method n ≡ Some f)
       (typed : (x : Field) → field_at p f ≡ Some x → (o : ℕ) (y : Object) → root_of k (place_value p k fr.method fr.locals (places.Field n)) ≡ Some o → object_at k o ≡ Some y → is_heavy_class p y.class ≡ true → (c : ClassId) × (x.vtype ≡ types.Obj c)) where

@@ -38,7 +38,7 @@ use Rattle.ledger_obligations.specs.Obligations.{is_unmet}
 use Rattle.value_laws.specs.Configuration.{Frame}
 use Rattle.value_laws.specs.Choosing.{body_id, frame_steps}
 use Rattle.value_laws.specs.Agreement.{Stands}
-use Rattle.value_laws.specs.PlainForms.{HasPlainForms, StoresFields}
+use Rattle.value_laws.specs.PlainForms.{HasPlainForms, StoresPlainly}
 use Rattle.value_laws.specs.Outcomes.{After, IsFault}
 use Rattle.value_laws.specs.Renewing.{answers_for_fields, lends_this, reopens}
 use Rattle.value_laws.specs.PlaceFacts.{Covers, IsCovered, IsTrueOf, gives_none, is_field_place, is_idle, is_lent_place, renews_none}
@@ -69,16 +69,16 @@ over_faults p b o x d f held unmet out there = go (lacks_reset p b x f)
     go false = rw (out, there, held, unmet) tt
 
 module _ (p : Program) (ac : Accept p) (forms : HasPlainForms p) (h : HeapContents) (old : ℕ → Bool) (frs : List Frame) (fr : Frame) (st : Stands p fr) (covered : IsCovered p h gives_none renews_none old frs fr)
-    (i d : ℕ) (s : Step) (f : FieldId) (here : slice_get (frame_steps p fr) i ≡ Some s) (is : s.action ≡ actions.PutOwn f d) where
-  form : StoresFields p st.number × (has_field_place p st.number f ≡ true)
+    (i d : ℕ) (s : Step) (f : FieldId) (here : slice_get (frame_steps p fr) i ≡ Some s) (is : s.action ≡ actions.PutOwn f d) (plainly : StoresPlainly p (method_at p fr.method) f) where
+  form : has_field_place p st.number f ≡ true
   form = forms.stores st.number i (move_of s) f d st.control (step_there p fr st i s here) is
 
   pub there : HasPlace p fr f
-  there = has_place_here p ac fr st f form.1
+  there = has_place_here p ac fr st f form
 
   -- the method makes an object, or creates the obligation of `this` anew
   pub storing : (constructs (method_at p fr.method) ≡ true) ⊎ (reopens (method_at p fr.method) ≡ true)
-  storing = elim form.0 [ inl makes ↦ inl (sym (ap constructs (method_here p fr st)) ∙ makes) | inr opens ↦ inr (sym (ap reopens (method_here p fr st)) ∙ opens.0) ]
+  storing = elim plainly [ inl makes ↦ inl makes | inr opens ↦ inr opens.0 ]
 
   -- so something is said of what fields hold
   pub said : (g : Fact) → is_idle p frs fr g ≡ false
@@ -107,9 +107,10 @@ module _ (p : Program) (ac : Accept p) (forms : HasPlainForms p) (h : HeapConten
 
   -- but in a constructor with an aliased argument, the frame answers for the fields of `this`
   pub answers_here : is_alias_constructor p st.number ≡ false → answers_for_fields (method_at p fr.method) ≡ true
-  answers_here plain = elim form.0 [
-    | inl makes ↦ alone_answers (method_at p fr.method) (makes_alone_by (method_at p fr.method) (ap constructs (sym (method_here p fr st)) ∙ makes) (ap alias_in (sym (method_here p fr st)) ∙ no_alias makes (alias_position p st.number) refl))
-    | inr opens ↦ reopening_answers (method_at p fr.method) (sym (ap reopens (method_here p fr st)) ∙ opens.0)
+  answers_here plain = elim plainly [
+    | inl makes ↦ alone_answers (method_at p fr.method) (makes_alone_by (method_at p fr.method) makes
+        (ap alias_in (sym (method_here p fr st)) ∙ no_alias (ap constructs (method_here p fr st) ∙ makes) (alias_position p st.number) refl))
+    | inr opens ↦ reopening_answers (method_at p fr.method) opens.0
   ]
     where
       no_alias : is_constructor p st.number ≡ true → (a : Option ℕ) → alias_position p st.number ≡ a → alias_position p st.number ≡ None

@@ -29,7 +29,7 @@ use Rattle.value_laws.specs.Frames.{KeepsTargets}
 use Rattle.value_laws.specs.Heaps.{HasEarlierLinks}
 use Rattle.value_laws.specs.Paths.{move_of}
 use Rattle.value_laws.specs.PlaceFacts.{Covers, IsCovered, MakesNoAlias, MayStore, OwesOrHolds, gives_none, renews_none}
-use Rattle.value_laws.specs.PlainForms.{HasPlainForms, StoresFields}
+use Rattle.value_laws.specs.PlainForms.{HasPlainForms, StoresPlainly}
 use Rattle.value_laws.specs.Ranges.{LocalsInRange}
 use Rattle.value_laws.specs.Renewing.{HasOwningField, IsLentFrom, IsWholeObject, is_of_heavy_class, makes_alone, reopens}
 use Rattle.value_laws.proofs.HeapLaws.{roots_of_links-itself}
@@ -50,10 +50,10 @@ one_class c d is = ap (λ (n : ℕ). (let z : ClassId = record { 0 = n } in z)) 
 
 module _ (p : Program) (ac : Accept p) (forms : HasPlainForms p) (h : HeapContents) (links : HasEarlierLinks h) (own : FieldsOwn p h) (fr : Frame) (mine : LocalsInRange h fr.locals) (st : Stands p fr) (old : ℕ → Bool) (frs : List Frame)
     (targets : KeepsTargets p fr) (covered : IsCovered p h gives_none renews_none old frs fr) (unfinished : AreUnfinished p h (fr ∷ frs)) (i : ℕ) (s : Step) (here : slice_get (frame_steps p fr) i ≡ Some s) (f : FieldId) (d : ℕ)
-    (is : s.action ≡ actions.PutOwn f d) (w : ℕ) (this : fr.locals.this ≡ values.Object w) (self : Object) (at : object_at h w ≡ Some self)
+    (is : s.action ≡ actions.PutOwn f d) (plainly : StoresPlainly p (method_at p fr.method) f) (w : ℕ) (this : fr.locals.this ≡ values.Object w) (self : Object) (at : object_at h w ≡ Some self)
     (under : (m : Method) → method_at p fr.method ≡ Some m → is_under p self.class m.class ≡ true)
     (unlinked : reopens (method_at p fr.method) ≡ true → (self.link ≡ None) × MakesNoAlias p self.class) where
-  form : StoresFields p st.number × (has_field_place p st.number f ≡ true)
+  form : has_field_place p st.number f ≡ true
   form = forms.stores st.number i (move_of s) f d st.control (step_there p fr st i s here) is
 
   pub run : (m : Method) × (method_at p fr.method ≡ Some m) × (is_library p m.class ≡ false)
@@ -71,7 +71,7 @@ module _ (p : Program) (ac : Accept p) (forms : HasPlainForms p) (h : HeapConten
     pub among : is_class_of field.class (method_at p fr.method) ≡ true
 
   pub its_field : IsItsField
-  its_field = by (field_at p f) refl form.1
+  its_field = by (field_at p f) refl form
     where
       by : (x : Option Field) → field_at p f ≡ x → is_field_in p st.number x ≡ true → IsItsField
       by None none never = absurd (true≢false (sym never))
@@ -92,12 +92,9 @@ module _ (p : Program) (ac : Accept p) (forms : HasPlainForms p) (h : HeapConten
   has_field : HasOwningField p self.class
   has_field = (f, its_field.field, its_field.known, its_field.owning, sym its_class)
 
-  reopened : reopens (method_of p st.number) ≡ true → is_of_heavy_class p (method_of p st.number) ≡ true → IsReopened p h frs fr w self
-  reopened opens' wide' = record { opens = opens; heavy = (inr has_field, wide); single = (unlinked opens).0; stores = stores; lent = lent }
+  reopened : reopens (method_at p fr.method) ≡ true → is_of_heavy_class p (method_at p fr.method) ≡ true → IsReopened p h frs fr w self
+  reopened opens wide' = record { opens = opens; heavy = (inr has_field, wide); single = (unlinked opens).0; stores = stores; lent = lent }
     where
-      opens : reopens (method_at p fr.method) ≡ true
-      opens = ap reopens (sym (method_here p fr st)) ∙ opens'
-
       not_true : (b : Bool) → not b ≡ true → b ≡ false
       not_true true never = absurd (true≢false (sym never))
       not_true false is' = refl
@@ -106,7 +103,7 @@ module _ (p : Program) (ac : Accept p) (forms : HasPlainForms p) (h : HeapConten
       plain = not_true (constructs (method_at p fr.method)) (and_parts (not (constructs (method_at p fr.method))) (is_position (reset_in (method_at p fr.method)) 0) opens).0
 
       wide : is_heavy_class p self.class ≡ true
-      wide = ap (is_heavy_class p) (its_class ∙ its_field.class) ∙ sym (ap (is_of_heavy_class p) (method_here p fr st ∙ run.1)) ∙ wide'
+      wide = ap (is_heavy_class p) (its_class ∙ its_field.class) ∙ sym (ap (is_of_heavy_class p) run.1) ∙ wide'
 
       stores : MayStore p self.class
       stores = (ap (is_library p) (its_class ∙ its_field.class) ∙ run.2, has_field, (unlinked opens).1)
@@ -116,7 +113,7 @@ module _ (p : Program) (ac : Accept p) (forms : HasPlainForms p) (h : HeapConten
           (ap (root_of h) this ∙ ap Some (roots_of_links-itself h w self at (unlinked opens).0)) at wide (inr (inr stores)) (inr has_field)
 
   pub storing_this : ((self.finished ≡ false) × (constructs (method_at p fr.method) ≡ true)) ⊎ IsReopened p h frs fr w self
-  storing_this = elim form.0 [
-    | inl makes ↦ (let new = sym (ap constructs (method_here p fr st)) ∙ makes in inl (unfinished.0 w self (f, its_field.field, its_field.known, its_field.owning, its_field.among) new this at, new))
+  storing_this = elim plainly [
+    | inl makes ↦ inl (unfinished.0 w self (f, its_field.field, its_field.known, its_field.owning, its_field.among) makes this at, makes)
     | inr opens ↦ inr (reopened opens.0 opens.1)
   ]

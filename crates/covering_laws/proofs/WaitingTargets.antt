@@ -67,7 +67,6 @@ use Rattle.covering_laws.proofs.GivenArguments.{away_moves}
 use Rattle.covering_laws.proofs.GivenAway.{at_any, given_at_step}
 use Rattle.covering_laws.proofs.HeavyFields.{claims_by, claims_owned, not_held_not_idle, owning_in_no_field}
 use Rattle.covering_laws.proofs.KnownNames.{operand_temp}
-use Rattle.covering_laws.proofs.Resets.{this_elsewhere}
 
 own_mode : (m : Mode) → is_own m ≡ true → m ≡ modes.Own
 own_mode modes.Own is = refl
@@ -171,7 +170,7 @@ module _ (p : Program) (ac : Accept p) (forms : HasPlainForms p) (h : HeapConten
     target_mode =
         let run = running_method p ac fr st in
         claims_or_lends p fr st c.origin c.fact
-        (answered_targets p ac st.number st.body run.0 st.at (ap (method_at p) st.method ∙ run.1) (λ aliased k n t. this_elsewhere p forms st.number aliased k n t)
+        (answered_targets p ac st.number st.body run.0 st.at (ap (method_at p) st.method ∙ run.1) (λ aliased k n t comes there. forms.aliased st.number n t comes there aliased)
         c.origin fr.control c.fact target_reached s.action answer.0 answer.2)
 
     -- and it does not move

@@ -73,3 +73,4 @@ pub use Rattle.value_laws.specs.SuperArguments
 pub use Rattle.value_laws.specs.Thrown
 pub use Rattle.value_laws.specs.Types
 pub use Rattle.value_laws.specs.Values
+pub use Rattle.value_laws.specs.Positions

@@ -1,5 +1,5 @@
 -- What a field of `this` holds, as the target of a call that creates an obligation anew, and stores into owning fields: both stand in a constructor, or in a body that creates the
--- obligation of `this` anew.
+-- obligation of `this` anew, and there a store goes into a field whose type has an obligation.
 use Rattle.std.specs.Prelude.{◌&&◌, ◌||◌}
 use Rattle.std.proofs.Common.{◌≡◌, ◌⊎◌, inl, inr, refl, sym, ap, ◌∙◌, ℕ, Bool, true, false, true≢false, not}
 use Rattle.program_model.specs.declared.kinds.BodyId.{BodyId}
@@ -17,7 +17,7 @@ use Rattle.ownership_rules.specs.Bodies.{is_constructor, resets_this}
 use Rattle.ownership_rules.specs.Facts.{has, is_held}
 use Rattle.ownership_rules.specs.MustCallSets.{is_heavy_class}
 use Rattle.place_laws.specs.Flow.{flow}
-use Rattle.place_laws.specs.OwningFieldsStores.{lacks_reset}
+use Rattle.place_laws.specs.OwningFieldsStores.{has_heavy_type, lacks_reset}
 use Rattle.fact_laws.specs.Anew.{IsAnswered, MayBeAnew}
 use Rattle.fact_laws.specs.Outcomes.{IsFault}
 
@@ -49,11 +49,14 @@ target_is_answered p b o a k f may = go may.answered
     go (inr (heavy, inl own)) = inl (own, heavy)
     go (inr (heavy, inr held)) = let is = held_target p b o a k f may held in inr (inr (held, is.0, is.1))
 
--- a store into an owning field stands in such a body, where `this` is in the fact, or a rule is broken
-pub store_is_announced : (p : Program) (b : BodyId) (o : Origin) (g : FieldId) (d : ℕ) (e : Edge) (f : Fact) → has f.places places.This ≡ true → IsFault (flow p b o (actions.PutOwn g d) e f) ⊎ MayReset p b
-store_is_announced p b o g d e f this = go (is_constructor p b) refl (resets_this p b) refl
+-- a store into an owning field, where `this` is in the fact, stands in a constructor, or in a method that creates the obligation of `this` anew and into a field whose type has an obligation; or a rule is broken
+pub store_is_announced : (p : Program) (b : BodyId) (o : Origin) (g : FieldId) (d : ℕ) (e : Edge) (f : Fact) → has f.places places.This ≡ true
+    → IsFault (flow p b o (actions.PutOwn g d) e f) ⊎ ((is_constructor p b ≡ true) ⊎ ((resets_this p b ≡ true) × (has_heavy_type p g ≡ true)))
+store_is_announced p b o g d e f this = go (is_constructor p b) refl (resets_this p b) refl (has_heavy_type p g) refl
   where
-    go : (c : Bool) → is_constructor p b ≡ c → (r : Bool) → resets_this p b ≡ r → IsFault (flow p b o (actions.PutOwn g d) e f) ⊎ MayReset p b
-    go true makes r resets = inr (inl makes)
-    go false makes true resets = inr (inr resets)
-    go false makes false resets = inl (let lacks : lacks_reset p b g f ≡ true = rw (this, makes, resets) refl in rw lacks tt)
+    go : (c : Bool) → is_constructor p b ≡ c → (r : Bool) → resets_this p b ≡ r → (h : Bool) → has_heavy_type p g ≡ h
+        → IsFault (flow p b o (actions.PutOwn g d) e f) ⊎ ((is_constructor p b ≡ true) ⊎ ((resets_this p b ≡ true) × (has_heavy_type p g ≡ true)))
+    go true makes r resets h heavy = inr (inl makes)
+    go false makes true resets true heavy = inr (inr (resets, heavy))
+    go false makes true resets false heavy = inl (let lacks : lacks_reset p b g f ≡ true = rw (this, makes, resets, heavy) refl in rw lacks tt)
+    go false makes false resets h heavy = inl (let lacks : lacks_reset p b g f ≡ true = rw (this, makes, resets) refl in rw lacks tt)

@@ -1,10 +1,9 @@
--- A fact of a parameter that the signature speaks of holds in it, and that of `this` in `this`. In an alias constructor a fact that says that a field of `this` holds its object is
--- that of the aliased parameter.
+-- A fact of a parameter that the signature speaks of holds in it, and that of `this` in `this`. In a constructor with an aliased argument, which creates the obligation of `this` nowhere anew, a fact that says that a
+-- field of `this` holds its object is that of this argument.
 use Rattle.std.proofs.Common.{◌≡◌, ◌∙◌, ap, refl, sym, subst, arith, ℕ, ◌+◌, ◌<◌, ◌≤◌, inl, inr, Bool, true, false, true≢false, eqb-true, Option, Some, None, List, [], ◌∷◌, ◌++◌, length, slice_get, IsSomeAnd}
 use Rattle.std.specs.Prelude.{if◌then◌else◌}
 use Rattle.std.proofs.lemmas.Bool.{and_parts}
 use Rattle.program_model.specs.declared.kinds.BodyId.{BodyId}
-use Rattle.program_model.specs.declared.kinds.FieldId.{FieldId}
 use Rattle.program_model.specs.declared.kinds.MethodKind.{MethodKind}
 use Rattle.program_model.specs.declared.kinds.MethodKind.TheVariants as methods
 use Rattle.program_model.specs.declared.kinds.VType.TheVariants as types
@@ -17,7 +16,7 @@ use Rattle.program_model.specs.declared.tree.Body.{Body}
 use Rattle.program_model.specs.Lookups.{body_at, method_at, optional, variable_at}
 use Rattle.program_model.specs.Validity.{IsBodyOf}
 use Rattle.ownership_rules.specs.Assigned.{is_spoken_variable}
-use Rattle.ownership_rules.specs.Bodies.{alias_position, constructs, fields_of, has_field_place, is_alias_constructor, is_constructor, is_constructor_kind, method_in}
+use Rattle.ownership_rules.specs.Bodies.{alias_position, constructs, fields_of, is_alias_constructor, is_constructor, is_constructor_kind, method_in}
 use Rattle.ownership_rules.specs.MustCallSets.{no_names}
 use Rattle.ownership_rules.specs.Signatures.{is_position, is_present}
 use Rattle.java_control.specs.Calls.{is_reset_of_this}
@@ -161,13 +160,13 @@ module _ (p : Program) (ac : Accept p) (b : BodyId) (x : Body) (m : Method) (at 
       stays.1 (holds_this o c f before kind)
 
   module _ (aliased : is_alias_constructor p b ≡ true)
-      (no_resets : (c : List Todo) (i : ℕ) (t : Move (List Todo)) → Comes (relation_of p b) c → slice_get ((relation_of p b).next c) i ≡ Some t → is_reset_of_this p t.action ≡ true → (g : FieldId) → has_field_place p b g ≡ false) where
+      (no_resets : (c : List Todo) (i : ℕ) (t : Move (List Todo)) → Comes (relation_of p b) c → slice_get ((relation_of p b).next c) i ≡ Some t → is_reset_of_this p t.action ≡ false) where
     is_new : m.kind ≡ methods.Ctor
     is_new = constructor_kind m.kind (ap constructs (sym (ap (method_in p) at ∙ of)) ∙ (and_parts (is_constructor p b) (is_present (alias_position p b)) aliased).0)
 
     held_own : (o : Origin) (c : List Todo) (f : Fact) → Reach p b (relation_of p b) o c f → is_held f.mode ≡ true → is_origin_at o.kind (alias_position p b) ≡ true
     held_own o _ f (entered n is) mode = absurd (true≢false (sym mode ∙ (entry_begun p m b x at of n o f is).1 is_new))
-    held_own o _ f (born {k = c} i n t before here is) mode = absurd (true≢false (sym mode ∙ (step_born p b m (Unit {0}) t.action (λ reset free. no_resets c i t before here reset) t.edge t.pos n o f is).1 tt))
+    held_own o _ f (born {k = c} i n t before here is) mode = absurd (true≢false (sym mode ∙ (step_born p b m (Unit {0}) t.action (λ reset. absurd (true≢false (sym reset ∙ no_resets c i t before here))) t.edge t.pos n o f is).1 tt))
     held_own o _ g (flowed {k = c} {f = f} i t before here is) mode =
         let reached = comes p ac b x at o c f before in
         let stays = next_stays places.This (omega arith) p b o f x t.action t.edge g at tt ((ac.fits b).steps i t reached here)
@@ -185,6 +184,6 @@ pub this_stays : (p : Program) → Accept p → (b : BodyId) (x : Body) (m : Met
 this_stays p ac b x m at of o k f reach origin = holds_this p ac b x m at of o k f reach (zero_position o.kind origin)
 
 pub held_is_argument : (p : Program) → Accept p → (b : BodyId) (x : Body) (m : Method) → body_at p b ≡ Some x → method_at p x.method ≡ Some m → is_alias_constructor p b ≡ true
-    → ((c : List Todo) (i : ℕ) (t : Move (List Todo)) → Comes (relation_of p b) c → slice_get ((relation_of p b).next c) i ≡ Some t → is_reset_of_this p t.action ≡ true → (g : FieldId) → has_field_place p b g ≡ false)
+    → ((c : List Todo) (i : ℕ) (t : Move (List Todo)) → Comes (relation_of p b) c → slice_get ((relation_of p b).next c) i ≡ Some t → is_reset_of_this p t.action ≡ false)
     → (o : Origin) (k : List Todo) (f : Fact) → Reach p b (relation_of p b) o k f → f.mode ≡ modes.Held → is_origin_at o.kind (alias_position p b) ≡ true
 held_is_argument p ac b x m at of aliased no_resets o k f reach mode = held_own p ac b x m at of aliased no_resets o k f reach (ap is_held mode)

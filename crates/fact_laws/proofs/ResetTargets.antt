@@ -1,8 +1,7 @@
 -- The fact of an object whose obligation a call creates anew is in mode Own, or in mode Lent, or in mode Held: in a constructor without an aliased argument, or in a method that creates the obligation of `this` anew.
 use Rattle.std.specs.Prelude.{◌&&◌, ◌||◌}
-use Rattle.std.proofs.Common.{◌≡◌, ◌⊎◌, inl, inr, ap, refl, sym, ◌∙◌, ℕ, Bool, true, false, true≢false, not, Option, Some, List, slice_get}
+use Rattle.std.proofs.Common.{◌≡◌, inl, inr, ap, refl, sym, ◌∙◌, ℕ, Bool, true, false, true≢false, not, Some, List, slice_get}
 use Rattle.program_model.specs.declared.kinds.BodyId.{BodyId}
-use Rattle.program_model.specs.declared.kinds.FieldId.{FieldId}
 use Rattle.program_model.specs.declared.program.Method.{Method}
 use Rattle.program_model.specs.declared.program.Program.{Program}
 use Rattle.program_model.specs.declared.tree.Body.{Body}
@@ -14,7 +13,7 @@ use Rattle.java_control.specs.declared.fact.Fact.{Fact}
 use Rattle.java_control.specs.declared.fact.Mode.{Mode}
 use Rattle.java_control.specs.declared.fact.Mode.TheVariants as modes
 use Rattle.java_control.specs.declared.fact.Origin.{Origin}
-use Rattle.ownership_rules.specs.Bodies.{has_field_place, is_alias_constructor, is_constructor, resets_this}
+use Rattle.ownership_rules.specs.Bodies.{is_alias_constructor, is_constructor, resets_this}
 use Rattle.ownership_rules.specs.MustCallSets.{is_heavy_class}
 use Rattle.place_laws.specs.Paths.{Comes, Move, Reach, born, entered, flowed, relation_of}
 use Rattle.ownership_rules.specs.Facts.{is_held, is_lent}
@@ -35,11 +34,10 @@ module _ (p : Program) (b : BodyId) (x : Body) (m : Method) (at : body_at p b �
 
   -- ---- what is held in fields
 
-  abbrev ResetsThisElsewhere : Type 0
-  ResetsThisElsewhere = (c : List Todo) (i : ℕ) (t : Move (List Todo)) → Comes (relation_of p b) c → slice_get ((relation_of p b).next c) i ≡ Some t → is_reset_of_this p t.action ≡ true
-      → (g : FieldId) → has_field_place p b g ≡ false
+  abbrev ResetsNoThis : Type 0
+  ResetsNoThis = (c : List Todo) (i : ℕ) (t : Move (List Todo)) → Comes (relation_of p b) c → slice_get ((relation_of p b).next c) i ≡ Some t → is_reset_of_this p t.action ≡ false
 
-  answered : Accept p → (is_alias_constructor p b ≡ true → ResetsThisElsewhere) → (o : Origin) (k : List Todo) (f : Fact) → Reach p b (relation_of p b) o k f → (a : Action) (j : ℕ) → MayBeAnew p b o a j f
+  answered : Accept p → (is_alias_constructor p b ≡ true → ResetsNoThis) → (o : Origin) (k : List Todo) (f : Fact) → Reach p b (relation_of p b) o k f → (a : Action) (j : ℕ) → MayBeAnew p b o a j f
       → IsInHands p b f.mode (is_heavy_class p o.class)
   answered ac this o k f reach a j may = go may.answered
     where
@@ -66,7 +64,6 @@ pub lent_facts : (p : Program) (b : BodyId) (x : Body) (m : Method) → body_at 
 lent_facts p b x m at of o k f reach mode = lent_to p b x m at of o k f reach (ap is_lent mode)
 
 pub answered_targets : (p : Program) → Accept p → (b : BodyId) (x : Body) (m : Method) → body_at p b ≡ Some x → method_at p x.method ≡ Some m
-    → (is_alias_constructor p b ≡ true → (c : List Todo) (i : ℕ) (t : Move (List Todo)) → Comes (relation_of p b) c → slice_get ((relation_of p b).next c) i ≡ Some t → is_reset_of_this p t.action ≡ true
-    → (g : FieldId) → has_field_place p b g ≡ false)
+    → (is_alias_constructor p b ≡ true → (c : List Todo) (i : ℕ) (t : Move (List Todo)) → Comes (relation_of p b) c → slice_get ((relation_of p b).next c) i ≡ Some t → is_reset_of_this p t.action ≡ false)
     → (o : Origin) (k : List Todo) (f : Fact) → Reach p b (relation_of p b) o k f → (a : Action) (j : ℕ) → MayBeAnew p b o a j f → IsInHands p b f.mode (is_heavy_class p o.class)
 answered_targets p ac b x m at of this o k f reach a j may = answered p b x m at of ac this o k f reach a j may

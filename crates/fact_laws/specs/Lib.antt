@@ -3,6 +3,7 @@ pub mod Anew
 pub mod Going
 pub mod Lending
 pub mod Storing
+pub mod Positions
 pub use Rattle.place_laws.specs.Accept
 pub use Rattle.place_laws.specs.Aliases
 pub use Rattle.ownership_rules.specs.Assigned
@@ -10,6 +11,7 @@ pub use Rattle.place_laws.specs.CalledRows
 pub use Rattle.place_laws.specs.Calling
 pub use Rattle.place_laws.specs.Effective
 pub use Rattle.place_laws.specs.EffectiveSignaturesTargets
+pub use Rattle.place_laws.specs.Ends
 pub use Rattle.place_laws.specs.Flow
 pub use Rattle.place_laws.specs.NameTable
 pub use Rattle.place_laws.specs.Naming

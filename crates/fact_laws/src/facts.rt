@@ -2,7 +2,6 @@
 
 ghost use Rattle.std.specs.Prelude.{◌≡◌, ◌+◌, ℕ, suc, true, false, Some, List, slice_get};
 ghost use Rattle.program_model.specs.declared.kinds.BodyId.{BodyId};
-ghost use Rattle.program_model.specs.declared.kinds.FieldId.{FieldId};
 ghost use Rattle.program_model.specs.declared.kinds.VType.TheVariants as types;
 ghost use Rattle.program_model.specs.declared.program.Method.{Method};
 ghost use Rattle.program_model.specs.declared.program.ParamSig.{ParamSig};
@@ -10,7 +9,7 @@ ghost use Rattle.program_model.specs.declared.program.Program.{Program};
 ghost use Rattle.program_model.specs.declared.tree.Body.{Body};
 ghost use Rattle.program_model.specs.Lookups.{body_at, method_at};
 ghost use Rattle.ownership_rules.specs.Assigned.{is_spoken_variable};
-ghost use Rattle.ownership_rules.specs.Bodies.{alias_position, has_field_place, is_alias_constructor};
+ghost use Rattle.ownership_rules.specs.Bodies.{alias_position, is_alias_constructor};
 ghost use Rattle.java_control.specs.Calls.{is_reset_of_this};
 ghost use Rattle.java_control.specs.Remaining.{Todo};
 ghost use Rattle.java_control.specs.declared.fact.Fact.{Fact};
@@ -57,11 +56,10 @@ pub fn spoken_parameters_keep_their_facts()
         → (o : Origin) (k : List Todo) (f : Fact) → Reach p b (relation_of p b) o k f → is_origin_at o.kind (Some (v + 1)) ≡ true → has f.places (places.Var v) ≡ true }
 {}
 
-/// In a constructor with an aliased argument that creates the obligation of `this` only anew where no owning field has a place, a fact that says that a field of
-/// `this` holds its object is that of the aliased parameter.
+/// In a constructor with an aliased argument that creates the obligation of `this` nowhere anew, a fact that says that a field of `this` holds its object is that of the aliased
+/// parameter.
 pub fn held_facts_are_those_of_the_argument()
     ensures { (p : Program) → Accept p → (b : BodyId) (x : Body) (m : Method) → body_at p b ≡ Some x → method_at p x.method ≡ Some m → is_alias_constructor p b ≡ true
-        → ((c : List Todo) (i : ℕ) (t : Move (List Todo)) → Comes (relation_of p b) c → slice_get ((relation_of p b).next c) i ≡ Some t → is_reset_of_this p t.action ≡ true
-        → (g : FieldId) → has_field_place p b g ≡ false)
+        → ((c : List Todo) (i : ℕ) (t : Move (List Todo)) → Comes (relation_of p b) c → slice_get ((relation_of p b).next c) i ≡ Some t → is_reset_of_this p t.action ≡ false)
         → (o : Origin) (k : List Todo) (f : Fact) → Reach p b (relation_of p b) o k f → f.mode ≡ modes.Held → is_origin_at o.kind (alias_position p b) ≡ true }
 {}

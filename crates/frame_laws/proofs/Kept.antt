@@ -63,7 +63,7 @@ module _ (p : Program) (ac : Accept p) (h : HeapContents) (fr : Frame) (st : Sta
   abbrev value : ℕ → Value
   value x = value_after p h fr.method fr.locals s.action s.edge v (places.Var x)
 
-  parameter_stays : (m : Method) (x : ℕ) → method_at p fr.method ≡ Some m → is_spoken_variable m x ≡ true → variable_value after.locals x ≡ variable_value fr.locals x
+  pub parameter_stays : (m : Method) (x : ℕ) → method_at p fr.method ≡ Some m → is_spoken_variable m x ≡ true → variable_value after.locals x ≡ variable_value fr.locals x
   parameter_stays m x at spoken = elim (cases_lt x (length fr.locals.variables)) [
     | inl inside ↦ value_at value (length fr.locals.variables) x few inside ∙ same
     | inr past ↦ nothing_at value (length fr.locals.variables) x past ∙ sym (ap value_or_nothing (slice_get_past fr.locals.variables x past))

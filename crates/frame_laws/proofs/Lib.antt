@@ -21,6 +21,9 @@ pub mod Unmet
 pub mod Results
 pub mod Stores
 pub mod StoresOutside
+pub mod LastingSteps
+pub mod LastingBirths
+pub mod LastingFacts
 pub mod LendsThis
 pub mod Chains
 pub mod AliasConducts

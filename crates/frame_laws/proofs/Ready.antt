@@ -24,7 +24,7 @@ use Rattle.ledger_moves.specs.Configuration.{Frame}
 use Rattle.ledger_moves.specs.Choosing.{body_by, frame_steps, steps_by}
 use Rattle.agreement.specs.PlacePlaces.{HasTarget, HasVariable, IsWay, SetsLocals}
 use Rattle.agreement.specs.Agreement.{Stands}
-use Rattle.agreement.specs.PlainForms.{HasPlainForms, IsPlainAction, IsPlainCall, ResetsPlainly}
+use Rattle.agreement.specs.PlainForms.{HasPlainForms, IsPlainAction, IsPlainCall}
 use Rattle.fact_laws.specs.Outcomes.{IsCallRow, IsPlainRow}
 use Rattle.fact_laws.specs.Naming.{HasTargetIn, IsInBody}
 use Rattle.fact_laws.proofs.NamedReached.{names_what_is_there}
@@ -99,10 +99,6 @@ module _ (p : Program) (ac : Accept p) (forms : HasPlainForms p) (fr : Frame) (s
     (here : slice_get (frame_steps p fr) i ≡ Some t) where
   pub plain_step : IsPlainAction p t.action
   plain_step = forms.steps st.number i (move_of t) st.control (step_there p fr st i t here)
-
-  -- if it creates an obligation anew, it does so plainly
-  pub resets_plainly : ResetsPlainly p st.number fr.control t.action
-  resets_plainly = forms.resets st.number i (move_of t) st.control (step_there p fr st i t here)
 
   pub ready : IsWay t.action t.edge → Ready p fr.method fr.locals st.number st.body t.action t.edge
   ready way = record {

@@ -33,3 +33,4 @@ pub use Rattle.ownership_rules.specs.Room
 pub use Rattle.ownership_rules.specs.SmallActions
 pub use Rattle.agreement.specs.Starts
 pub use Rattle.fact_laws.specs.StepTargets
+pub use Rattle.fact_laws.specs.Positions

@@ -2,6 +2,7 @@
 use Rattle.std.proofs.Common.{◌≡◌, ◌⊎◌, ℕ, ◌+◌, Bool, true, false, true≢false, Option, Some, None, List, [], ◌∷◌, ◌++◌, All, IsSomeAnd, length, map, reverse, flat_map, refl, sym, ap, ◌∙◌, subst, if◌then◌else◌}
 use Rattle.program_model.specs.declared.kinds.BinaryOperator.{BinaryOperator}
 use Rattle.program_model.specs.declared.kinds.BinaryOperator.TheVariants as binary
+use Rattle.program_model.specs.declared.kinds.ClassId.{ClassId}
 use Rattle.program_model.specs.declared.kinds.ExprId.{ExprId}
 use Rattle.program_model.specs.declared.kinds.FieldId.{FieldId}
 use Rattle.program_model.specs.declared.kinds.Literal.{Literal}
@@ -37,6 +38,7 @@ use Rattle.program_model.specs.declared.tree.StatementKind.TheVariants as statem
 use Rattle.program_model.specs.declared.tree.SuperCall.{SuperCall}
 use Rattle.program_model.specs.declared.tree.TExpr.{TExpr}
 use Rattle.program_model.specs.declared.tree.TryStatement.{TryStatement}
+use Rattle.program_model.specs.Hierarchy.{IsUnder}
 use Rattle.program_model.specs.Lookups.{expression_at, field_at, method_at, type_at, type_in}
 use Rattle.program_model.specs.Typing.{AreArguments, IsCall, IsCallTarget, IsConstant, IsDeclarator, IsForInitial, IsInstanceField, IsOfOptionalType, IsOperatorAssignment, IsOwnPlace, IsResource, IsReturn, IsTarget, IsThisType, IsTypeBelow, IsTypeUnder, IsTypedExpression, IsTypedStatement, class_of, kind_at, kind_in}
 use Rattle.rlc_base.specs.declared.place.Pos.{Pos}
@@ -57,7 +59,7 @@ use Rattle.java_control.specs.declared.place.Place.TheVariants as places
 use Rattle.java_control.specs.declared.item.Condition.{Condition}
 use Rattle.java_control.specs.declared.item.Condition.TheVariants as conditions
 use Rattle.place_laws.proofs.Items.{AllGood, AreGood, all_reversed, good_both, good_flat, good_todos}
-use Rattle.place_laws.specs.Typed.{GivesResult, HasField, IsDeclaredElsewhere, IsLibraryConstant}
+use Rattle.place_laws.specs.Typed.{GivesResult, HasField, IsDeclaredAbove, IsDeclaredElsewhere, IsLibraryConstant}
 
 module _ (p : Program) (b : Body) where
   good_evaluations : (es : List ExprId) (d : ℕ) → AllGood p b (evaluations es d)
@@ -155,30 +157,56 @@ module _ (p : Program) (b : Body) where
         go None at one same = absurd (true≢false (sym one))
         go (Some y) at one same = of_kind y.kind y.vtype (typed e y at) one same
 
-    super_elsewhere : (m : MethodId) (e : ExprId) (t : Option VType) (es : List ExprId)
-        → IsSomeAnd (method_at p m) (λ n. IsCallTarget p b (calls.Super e) n × AreArguments p b es n.sig.params.items × (n.sig.result ≡ t)) → IsDeclaredElsewhere p b m
-    super_elsewhere m e t es is x n at named same =
-        by (subst (λ (z : Option Method). IsSomeAnd z (λ n. IsCallTarget p b (calls.Super e) n × AreArguments p b es n.sig.params.items × (n.sig.result ≡ t))) named is).0
-      where
-        of_type : typing.is_this b e ≡ true → (u : Option VType) → type_at b e ≡ u → IsSomeAnd u (IsTypeBelow p n.class) → ⊥
-        of_type this None type has = has
-        of_type this (Some u) type has = has.1 (this_class x at u (this_type e this u type) ∙ ap Some (sym same))
+    -- it has what the class of the body's method has
+    this_under : (e : ExprId) (c : ClassId) (x : Method) → method_at p b.method ≡ Some x → typing.is_this b e ≡ true → (u : Option VType) → type_at b e ≡ u → IsSomeAnd u (IsTypeUnder p c) → IsUnder p x.class c
+    this_under e c x at this None type under = absurd under
+    this_under e c x at this (Some u) type under = subst (λ (d : Option ClassId). IsSomeAnd d (λ k. IsUnder p k c)) (this_class x at u (this_type e this u type)) under
 
-        by : IsCallTarget p b (calls.Super e) n → ⊥
-        by target = of_type target.1 (type_at b e) refl target.2
+    -- what a call of this target says of the method that it names
+    abbrev NamesCalled : MethodId → CallTarget → Type 0
+    NamesCalled m calls.Static = Unit {0}
+    NamesCalled m (calls.This e) = IsDeclaredAbove p b m
+    NamesCalled m (calls.Super e) = IsDeclaredElsewhere p b m × IsDeclaredAbove p b m
+    NamesCalled m (calls.Other e) = Unit {0}
 
-    good_call_with : (m : MethodId) (es : List ExprId) (c : CallTarget) (d : ℕ) (pos : Pos) → ((e : ExprId) → c ≡ calls.Super e → IsDeclaredElsewhere p b m) → AllGood p b (call_with m es c d pos)
-    good_call_with m es calls.Static d pos other = good_both p b (evaluations es d) (Act (actions.Call m d (length es) forms.Static) pos ∷ []) (good_evaluations es d) ((tt, tt), tt)
-    good_call_with m es (calls.This e) d pos other =
-        good_both p b (Ev e d ∷ evaluations es (d + 1)) (Act (actions.Call m d (length es + 1) forms.This) pos ∷ []) (tt, good_evaluations es (d + 1)) ((tt, tt), tt)
-    good_call_with m es (calls.Super e) d pos other =
-        good_both p b (Ev e d ∷ evaluations es (d + 1)) (Act (actions.Call m d (length es + 1) forms.Super) pos ∷ []) (tt, good_evaluations es (d + 1)) ((tt, other e refl), tt)
-    good_call_with m es (calls.Other e) d pos other =
+    module _ (m : MethodId) (t : Option VType) (es : List ExprId) where
+      abbrev HasTarget : CallTarget → Option Method → Type 0
+      HasTarget c z = IsSomeAnd z (λ n. IsCallTarget p b c n × AreArguments p b es n.sig.params.items × (n.sig.result ≡ t))
+
+      its_target : (c : CallTarget) (n : Method) → method_at p m ≡ Some n → HasTarget c (method_at p m) → IsCallTarget p b c n
+      its_target c n named is = (subst (HasTarget c) named is).0
+
+      below : (u : Option VType) (c : ClassId) → IsSomeAnd u (IsTypeBelow p c) → IsSomeAnd u (IsTypeUnder p c)
+      below None c is = is
+      below (Some u) c is = is.0
+
+      super_elsewhere : (e : ExprId) → HasTarget (calls.Super e) (method_at p m) → IsDeclaredElsewhere p b m
+      super_elsewhere e is x n at named same = let target = its_target (calls.Super e) n named is in of_type target.1 (type_at b e) refl target.2
+        where
+          of_type : typing.is_this b e ≡ true → (u : Option VType) → type_at b e ≡ u → IsSomeAnd u (IsTypeBelow p n.class) → ⊥
+          of_type this None type has = has
+          of_type this (Some u) type has = has.1 (this_class x at u (this_type e this u type) ∙ ap Some (sym same))
+
+      names_called : (c : CallTarget) → HasTarget c (method_at p m) → NamesCalled m c
+      names_called calls.Static is = tt
+      names_called (calls.This e) is = λ x n at named. (let target = its_target (calls.This e) n named is in this_under e n.class x at target.1 (type_at b e) refl target.2)
+      names_called (calls.Super e) is = (
+        super_elsewhere e is,
+        λ x n at named. (let target = its_target (calls.Super e) n named is in this_under e n.class x at target.1 (type_at b e) refl (below (type_at b e) n.class target.2)),
+      )
+      names_called (calls.Other e) is = tt
+
+    good_call_with : (m : MethodId) (es : List ExprId) (c : CallTarget) (d : ℕ) (pos : Pos) → NamesCalled m c → AllGood p b (call_with m es c d pos)
+    good_call_with m es calls.Static d pos names = good_both p b (evaluations es d) (Act (actions.Call m d (length es) forms.Static) pos ∷ []) (good_evaluations es d) ((tt, tt), tt)
+    good_call_with m es (calls.This e) d pos names =
+        good_both p b (Ev e d ∷ evaluations es (d + 1)) (Act (actions.Call m d (length es + 1) forms.This) pos ∷ []) (tt, good_evaluations es (d + 1)) ((tt, names), tt)
+    good_call_with m es (calls.Super e) d pos names =
+        good_both p b (Ev e d ∷ evaluations es (d + 1)) (Act (actions.Call m d (length es + 1) forms.Super) pos ∷ []) (tt, good_evaluations es (d + 1)) ((tt, names), tt)
+    good_call_with m es (calls.Other e) d pos names =
         good_both p b (Ev e d ∷ evaluations es (d + 1)) (Act (actions.Call m d (length es + 1) forms.Other) pos ∷ []) (tt, good_evaluations es (d + 1)) ((tt, tt), tt)
 
     good_call : (c : CallExpression) (t : Option VType) (d : ℕ) (pos : Pos) → IsCall p b c t → AllGood p b (call_with c.method c.arguments.items c.target d pos)
-    good_call c t d pos is = good_call_with c.method c.arguments.items c.target d pos (λ e same. super_elsewhere c.method e t c.arguments.items
-        (subst (λ (z : CallTarget). IsSomeAnd (method_at p c.method) (λ n. IsCallTarget p b z n × AreArguments p b c.arguments.items n.sig.params.items × (n.sig.result ≡ t))) same is))
+    good_call c t d pos is = good_call_with c.method c.arguments.items c.target d pos (names_called c.method t c.arguments.items c.target is)
 
   good_new : (n : NewObject) (d : ℕ) (pos : Pos) → AllGood p b (new_front n d pos)
   good_new n d pos = good_both p b (evaluations n.arguments.items (d + 1)) (Act (actions.New n.constructor d (length n.arguments.items)) pos ∷ []) (good_evaluations n.arguments.items (d + 1)) ((tt, tt), tt)

@@ -8,6 +8,7 @@ use Rattle.program_model.specs.declared.program.Field.{Field}
 use Rattle.program_model.specs.declared.program.Method.{Method}
 use Rattle.program_model.specs.declared.program.Program.{Program}
 use Rattle.program_model.specs.declared.tree.Body.{Body}
+use Rattle.program_model.specs.Hierarchy.{IsUnder}
 use Rattle.program_model.specs.Lookups.{field_at, method_at}
 use Rattle.java_control.specs.declared.action.Action.{Action}
 use Rattle.java_control.specs.declared.action.Action.TheVariants as actions
@@ -35,15 +36,21 @@ HasField p f = (x : Field) × (field_at p f ≡ Some x)
 abbrev pub IsDeclaredElsewhere : Program → Body → MethodId → Type 0
 IsDeclaredElsewhere p b m = (x n : Method) → method_at p b.method ≡ Some x → method_at p m ≡ Some n → n.class ≡ x.class → ⊥
 
+-- it is the one that declares the method, or under it
+abbrev pub IsDeclaredAbove : Program → Body → MethodId → Type 0
+IsDeclaredAbove p b m = (x n : Method) → method_at p b.method ≡ Some x → method_at p m ≡ Some n → IsUnder p x.class n.class
+
 -- a value is returned where the body's method has a result alone (JLS 14.17)
 abbrev pub GivesResult : Program → Body → Completion → Type 0
 GivesResult p b (completions.ReturnValue d pos) = (x : Method) × (method_at p b.method ≡ Some x) × (t : VType) × (x.sig.result ≡ Some t)
 GivesResult p b c = Unit {0}
 
--- a field that is read is there (JLS 15.11.1), what is read as a library's constant is one, and a call by `super` names a method of another class (JLS 15.12.1)
+-- a field that is read is there (JLS 15.11.1), what is read as a library's constant is one, a call on `this`, written or implied, names a method that the class of `this` has, and one by `super` a method
+-- of another class (JLS 15.12.1, 15.12.3)
 abbrev pub NamesMembers : Program → Body → Action → Type 0
 NamesMembers p b (actions.Get f d this) = HasField p f
 NamesMembers p b (actions.Plain x (plain.LibraryConstant m)) = IsLibraryConstant p m
 NamesMembers p b (actions.End c) = GivesResult p b c
-NamesMembers p b (actions.Call m d n forms.Super) = IsDeclaredElsewhere p b m
+NamesMembers p b (actions.Call m d n forms.This) = IsDeclaredAbove p b m
+NamesMembers p b (actions.Call m d n forms.Super) = IsDeclaredElsewhere p b m × IsDeclaredAbove p b m
 NamesMembers p b a = Unit {0}

@@ -2,8 +2,8 @@
 //!
 //! - Where the places of a fact, and the values of a frame, come from in a step: the two follow one source.
 //! - Where `this` and its owning fields stand in the places of a frame, and where each place takes its value from.
-//! - Each step of a valid program moves variables and temps alone, reads fields that are there, and names by `super` what another class
-//!   declares.
+//! - Each step of a valid program moves variables and temps alone, reads fields that are there, and names by `this` what its class has, and
+//!   by `super` what another class declares.
 //! - No object of a class passes through an operator, a static field or an array.
 //! - Which temps of a frame hold no object after a step of the machine.
 #![tactic(auto)]

@@ -11,7 +11,7 @@ ghost use Rattle.step_laws.specs.Paths.{Comes, Move, relation_of};
 ghost use Rattle.place_laws.specs.Typed.{MovesLocals, NamesMembers};
 
 /// Each step of a reached control copies and moves to variables and temps alone, and empties no other place; a field that it reads is there,
-/// and a call by `super` names a method that the class of the body does not declare.
+/// a call on `this`, written or implied, names a method of the class of the body or of one above it, and a call by `super` one that the class of the body does not declare.
 pub fn steps_are_typed()
     ensures { (p : Program) → IsTypedProgram p → (b : BodyId) (x : Body) (k : List Todo) (i : ℕ) (t : Move (List Todo)) → body_at p b ≡ Some x → Comes (relation_of p b) k
         → slice_get ((relation_of p b).next k) i ≡ Some t → MovesLocals t.action × NamesMembers p x t.action }

@@ -140,7 +140,7 @@ ran_leaking told names r files choices answer texts ran is =
       program = p;
       is_program = ran.is_program;
       unsafe = λ safe. safe_answer p safe r.class choices r.steps leaks;
-      unaccepted = λ first accept. safe_answer p (accepted_is_safe p accept (read_conditions _ p ran.is_program.program) first) r.class choices r.steps leaks;
+      unaccepted = λ accept. safe_answer p (accepted_is_safe p accept (read_conditions _ p ran.is_program.program)) r.class choices r.steps leaks;
     }
 
 run_of_leaking : (told : Option Contents) (names : FileNames) (r : Run) (files : FileTexts) (answer : Answer) → AreFileTexts told names files → IsRunOf r files answer

@@ -10,18 +10,17 @@ use Rattle.program_model.specs.declared.program.Program.{Program}
 use Rattle.soundness_laws.specs.Accept.{Accept}
 use Rattle.check_command.specs.ProgramReports.{IsFaulty}
 use Rattle.soundness_laws.specs.Safety.{IsSafe}
-use Rattle.soundness_laws.specs.Plain.{IsPlain}
 use Rattle.rlc_cli.specs.Answers.{check_names, run_names}
 
 -- the files of these names make a program that is accepted: it is well formed, no body of it passes a limit, and no path in a body
--- breaks a rule. Where it is one of the plain programs that the laws of safety speak of, it is safe in every run
+-- breaks a rule. So it is safe in every run
 pub record IsAcceptedCheck (told : Option Contents) (names : FileNames) : Type 0 where
   pub files : FileTexts
   pub texts : AreFileTexts told names files
   pub program : Program
   pub is_program : IsProgramOf files program
   pub accepted : Accept program
-  pub safe : IsPlain program → IsSafe program
+  pub safe : IsSafe program
 
 -- the files of these names make a program, which is well formed, and in which the flow rules derive a fault
 pub record IsLeakingCheck (told : Option Contents) (names : FileNames) : Type 0 where
@@ -31,15 +30,14 @@ pub record IsLeakingCheck (told : Option Contents) (names : FileNames) : Type 0 
   pub is_program : IsProgramOf files program
   pub fault : IsFaulty program
 
--- The files of these names make a program with a run that leaks: it is not safe, and so it is not accepted where it is one of the plain
--- programs that the laws of safety speak of.
+-- The files of these names make a program with a run that leaks: it is not safe, and so it is not accepted.
 pub record IsLeakingRun (told : Option Contents) (names : FileNames) : Type 0 where
   pub files : FileTexts
   pub texts : AreFileTexts told names files
   pub program : Program
   pub is_program : IsProgramOf files program
   pub unsafe : IsSafe program → ⊥
-  pub unaccepted : IsPlain program → Accept program → ⊥
+  pub unaccepted : Accept program → ⊥
 
 abbrev pub IsAcceptedRequest : Option Contents → Option Request → Type 0
 IsAcceptedRequest told None = Unit {0}

@@ -17,7 +17,7 @@ use std::alloc::Global;
 /// the first write.
 ///
 /// Each status has its cause (`answered`). `check` is `Accepted` where its files make a program that is well formed and in which no path
-/// of a body breaks a rule, and
+/// of a body breaks a rule, so that it is safe in every run, and
 /// `Leaks` where they derive one (`headline`). A count of faults of writing that rose comes with `WriteFault`, and with it alone
 /// (`write_rose`); one of reading comes with `ReadFault`, unless writing the line fails or memory runs out (`read_rose`). Over files that
 /// are all there and sound no fault of reading comes (`files_hold`), and `WriteFault` comes only where the sink is not sure of room for the

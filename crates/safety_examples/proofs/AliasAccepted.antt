@@ -1,4 +1,4 @@
--- The program is accepted, and has a `main` that runs.
+-- The program is accepted, has a `main` that runs, and has what every program of files has.
 use Rattle.std.proofs.Common.{◌≡◌, ℕ, zero, suc, true, true≢false, refl, sym, lit≤}
 use Rattle.program_model.specs.declared.kinds.BodyId.{BodyId}
 use Rattle.program_model.specs.declared.kinds.FieldId.{FieldId}
@@ -8,8 +8,10 @@ use Rattle.must_call_sets.specs.Bodies.{has_field_place}
 use Rattle.obligation_facts.specs.SmallActions.{IsSmallAction}
 use Rattle.soundness_laws.specs.Room.{HasRoom}
 use Rattle.soundness_laws.specs.Accept.{Accept}
+use Rattle.soundness_laws.specs.AgreementConditions.{MeetsFileConditions}
 use Rattle.soundness_laws.specs.Paths.{FitsPlaces, relation_of}
 use Rattle.soundness_laws.specs.Safety.{IsMain}
+use Rattle.soundness_laws.proofs.Tests.{meets_by_tests}
 use Rattle.safety_examples.specs.AliasPrograms.{aliasing, main_method}
 use Rattle.safety_examples.proofs.AliasDeclared.{declares_once}
 use Rattle.safety_examples.proofs.AliasFormed.{annotations_right, overriding, signed, well_formed}
@@ -17,6 +19,8 @@ use Rattle.safety_examples.proofs.AliasMainPaths.{main_small}
 use Rattle.safety_examples.proofs.AliasReached.{HoldsOfSteps, aliasing_no_fault, reached}
 use Rattle.safety_examples.proofs.Covered.{covers_by}
 use Rattle.safety_examples.proofs.PassPaths.{pass_small}
+use Rattle.safety_examples.proofs.CarefulSets.{both_light}
+use Rattle.safety_examples.proofs.AliasValid.{valid_program}
 
 -- no class of the program has a field
 no_field : (b : BodyId) (f : FieldId) → has_field_place aliasing b f ≡ true → IsSmall (place_of_field aliasing f)
@@ -47,3 +51,7 @@ accepted = record {
 
 pub has_main : IsMain aliasing main_method
 has_main = (refl, refl)
+
+-- it has what every program of files has
+pub aliasing_files : MeetsFileConditions aliasing
+aliasing_files = meets_by_tests aliasing valid_program.typed.hierarchy (record { classes = both_light; above = refl; constructors = refl; resets = refl }) refl

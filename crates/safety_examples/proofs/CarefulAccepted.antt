@@ -1,4 +1,4 @@
--- The program that closes its socket is accepted.
+-- The program that closes its socket is accepted, and has what every program of files has.
 use Rattle.std.proofs.Common.{◌≡◌, ℕ, zero, suc, true, Some, List, refl, slice_get, All, sym, true≢false, lit<, lit≤}
 use Rattle.std.specs.List.{AllByRecursion}
 use Rattle.std.proofs.lemmas.List.Elements.{All-contains}
@@ -12,7 +12,9 @@ use Rattle.must_call_sets.specs.Bodies.{has_field_place}
 use Rattle.obligation_facts.specs.SmallActions.{IsSmallAction}
 use Rattle.soundness_laws.specs.Room.{HasRoom}
 use Rattle.soundness_laws.specs.Accept.{Accept}
+use Rattle.soundness_laws.specs.AgreementConditions.{MeetsFileConditions}
 use Rattle.soundness_laws.specs.Paths.{Comes, FitsPlaces, Move, relation_of}
+use Rattle.soundness_laws.proofs.Tests.{meets_by_tests}
 use Rattle.safety_examples.specs.CarefulControls.{controls}
 use Rattle.safety_examples.specs.CarefulPrograms.{careful}
 use Rattle.safety_examples.proofs.CarefulFaults.{careful_no_fault, certificate, control, facts, no_step, relation}
@@ -22,6 +24,7 @@ use Rattle.safety_examples.proofs.CarefulFlows.{body}
 use Rattle.safety_examples.proofs.CarefulFormed.{annotations_right, overriding, signed, well_formed}
 use Rattle.safety_examples.proofs.Covered.{covers_by}
 use Rattle.safety_examples.proofs.Tests.{all_at, all_of}
+use Rattle.safety_examples.proofs.CarefulSets.{both_light}
 
 -- no class of the program has a field
 no_field : (b : BodyId) (f : FieldId) → has_field_place careful b f ≡ true → IsSmall (place_of_field careful f)
@@ -59,3 +62,7 @@ accepted = record {
   fits = fits;
   no_fault = careful_no_fault;
 }
+
+-- it has what every program of files has
+pub careful_files : MeetsFileConditions careful
+careful_files = meets_by_tests careful accepted.well_formed.valid.typed.hierarchy (record { classes = both_light; above = refl; constructors = refl; resets = refl }) refl

@@ -13,14 +13,12 @@ pub mod CarefulFlows
 pub mod CarefulFaults
 pub mod CarefulDeclared
 pub mod CarefulAccepted
-pub mod CarefulSteps
 pub mod StreamingValid
 pub mod StreamingFormed
 pub mod StreamingDeclared
 pub mod StreamingFlows
 pub mod StreamingFaults
 pub mod StreamingAccepted
-pub mod StreamingPlain
 pub mod OwnerSets
 pub mod OwnerBodies
 pub mod OwnerValid
@@ -35,7 +33,6 @@ pub mod OwnerClosePaths
 pub mod OwnerMainPaths
 pub mod OwnerReached
 pub mod OwnerAccepted
-pub mod OwnerPlain
 pub mod LendingBodies
 pub mod LendingValid
 pub mod LendingFormed
@@ -47,7 +44,6 @@ pub mod ShutPaths
 pub mod LendingMainPaths
 pub mod LendingReached
 pub mod LendingAccepted
-pub mod LendingPlain
 pub mod AliasBodies
 pub mod AliasValid
 pub mod AliasFormed
@@ -58,9 +54,7 @@ pub mod AliasWalks
 pub mod PassPaths
 pub mod AliasMainPaths
 pub mod AliasReached
-pub mod Mild
 pub mod AliasAccepted
-pub mod AliasPlain
 pub mod WrappingBodies
 pub mod WrappingValid
 pub mod WrappingFormed
@@ -74,7 +68,6 @@ pub mod WrappingClosePaths
 pub mod WrappingMainPaths
 pub mod WrappingReached
 pub mod WrappingAccepted
-pub mod WrappingPlain
 pub mod ExtendingSets
 pub mod ExtendingBodies
 pub mod ExtendingValid
@@ -90,7 +83,6 @@ pub mod ExtendingClosePaths
 pub mod ExtendingMainPaths
 pub mod ExtendingReached
 pub mod ExtendingAccepted
-pub mod ExtendingPlain
 pub mod ResettingBodies
 pub mod ResettingValid
 pub mod ResettingFormed
@@ -104,7 +96,6 @@ pub mod ResettingClosePaths
 pub mod ResettingMainPaths
 pub mod ResettingReached
 pub mod ResettingAccepted
-pub mod ResettingPlain
 pub mod ReopeningBodies
 pub mod ReopeningValid
 pub mod ReopeningFormed
@@ -116,7 +107,6 @@ pub mod ReopenPaths
 pub mod ReopeningMainPaths
 pub mod ReopeningReached
 pub mod ReopeningAccepted
-pub mod ReopeningPlain
 pub mod ThrowingBodies
 pub mod ThrowingValid
 pub mod ThrowingFormed
@@ -128,7 +118,6 @@ pub mod ThrowingShutPaths
 pub mod ThrowingMainPaths
 pub mod ThrowingReached
 pub mod ThrowingAccepted
-pub mod ThrowingPlain
 pub mod ForgetfulEffects
 pub mod ForgetfulRun
 pub mod ConnectingBodies
@@ -144,7 +133,6 @@ pub mod ConnectingClosePaths
 pub mod ConnectingMainPaths
 pub mod ConnectingReached
 pub mod ConnectingAccepted
-pub mod ConnectingPlain
 pub mod ReconnectingBodies
 pub mod ReconnectingValid
 pub mod ReconnectingFormed
@@ -160,7 +148,6 @@ pub mod ReconnectingClosePaths
 pub mod ReconnectingMainPaths
 pub mod ReconnectingReached
 pub mod ReconnectingAccepted
-pub mod ReconnectingPlain
 pub mod ReplacingBodies
 pub mod ReplacingValid
 pub mod ReplacingFormed
@@ -176,7 +163,6 @@ pub mod ReplacingClosePaths
 pub mod ReplacingMainPaths
 pub mod ReplacingReached
 pub mod ReplacingAccepted
-pub mod ReplacingPlain
 pub mod PartSets
 pub mod OpeningBodies
 pub mod OpeningValid
@@ -193,4 +179,3 @@ pub mod OpeningClosePaths
 pub mod OpeningMainPaths
 pub mod OpeningReached
 pub mod OpeningAccepted
-pub mod OpeningPlain

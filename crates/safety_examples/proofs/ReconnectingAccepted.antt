@@ -1,4 +1,4 @@
--- The program is accepted, and has a `main` that runs.
+-- The program is accepted, has a `main` that runs, and has what every program of files has.
 use Rattle.std.proofs.Common.{◌≡◌, ℕ, zero, suc, true, true≢false, refl, sym, lit<, lit≤}
 use Rattle.program_model.specs.declared.kinds.BodyId.{BodyId}
 use Rattle.java_control.specs.Owned.{place_of_field}
@@ -8,8 +8,10 @@ use Rattle.must_call_sets.specs.Bodies.{has_field_place}
 use Rattle.obligation_facts.specs.SmallActions.{IsSmallAction}
 use Rattle.soundness_laws.specs.Room.{HasRoom}
 use Rattle.soundness_laws.specs.Accept.{Accept}
+use Rattle.soundness_laws.specs.AgreementConditions.{MeetsFileConditions}
 use Rattle.soundness_laws.specs.Paths.{FitsPlaces, relation_of}
 use Rattle.soundness_laws.specs.Safety.{IsMain}
+use Rattle.soundness_laws.proofs.Tests.{meets_by_tests}
 use Rattle.safety_examples.specs.ReconnectingPrograms.{main_method, reconnecting}
 use Rattle.safety_examples.proofs.ReconnectingClosePaths.{close_small}
 use Rattle.safety_examples.proofs.ReconnectingConnectPaths.{connect_small}
@@ -19,6 +21,8 @@ use Rattle.safety_examples.proofs.ReconnectingDeclared.{declares_once}
 use Rattle.safety_examples.proofs.ReconnectingFormed.{annotations_right, overriding, signed, well_formed}
 use Rattle.safety_examples.proofs.ReconnectingMainPaths.{main_small}
 use Rattle.safety_examples.proofs.ReconnectingReached.{HoldsOfSteps, reconnecting_no_fault, reached}
+use Rattle.safety_examples.proofs.CarefulSets.{both_light}
+use Rattle.safety_examples.proofs.ReconnectingValid.{valid_program}
 
 -- the program has one field
 one_field : (b : BodyId) (f : ℕ) → has_field_place reconnecting b (record { 0 = f }) ≡ true → IsSmall (place_of_field reconnecting (record { 0 = f }))
@@ -52,3 +56,7 @@ accepted = record {
 
 pub has_main : IsMain reconnecting main_method
 has_main = (refl, refl)
+
+-- it has what every program of files has
+pub reconnecting_files : MeetsFileConditions reconnecting
+reconnecting_files = meets_by_tests reconnecting valid_program.typed.hierarchy (record { classes = both_light; above = refl; constructors = refl; resets = refl }) refl

@@ -1,4 +1,4 @@
--- The program is accepted, and has a `main` that runs.
+-- The program is accepted, has a `main` that runs, and has what every program of files has.
 use Rattle.std.proofs.Common.{◌≡◌, ℕ, zero, suc, true, true≢false, refl, sym, lit≤}
 use Rattle.program_model.specs.declared.kinds.BodyId.{BodyId}
 use Rattle.program_model.specs.declared.kinds.FieldId.{FieldId}
@@ -8,8 +8,10 @@ use Rattle.must_call_sets.specs.Bodies.{has_field_place}
 use Rattle.obligation_facts.specs.SmallActions.{IsSmallAction}
 use Rattle.soundness_laws.specs.Room.{HasRoom}
 use Rattle.soundness_laws.specs.Accept.{Accept}
+use Rattle.soundness_laws.specs.AgreementConditions.{MeetsFileConditions}
 use Rattle.soundness_laws.specs.Paths.{FitsPlaces, relation_of}
 use Rattle.soundness_laws.specs.Safety.{IsMain}
+use Rattle.soundness_laws.proofs.Tests.{meets_by_tests}
 use Rattle.safety_examples.specs.ReopeningPrograms.{reopening, main_method}
 use Rattle.safety_examples.proofs.Covered.{covers_by}
 use Rattle.safety_examples.proofs.ReopeningDeclared.{declares_once}
@@ -17,6 +19,8 @@ use Rattle.safety_examples.proofs.ReopeningFormed.{annotations_right, overriding
 use Rattle.safety_examples.proofs.ReopeningMainPaths.{main_small}
 use Rattle.safety_examples.proofs.ReopeningReached.{HoldsOfSteps, reopening_no_fault, reached}
 use Rattle.safety_examples.proofs.ReopenPaths.{reopen_small}
+use Rattle.safety_examples.proofs.CarefulSets.{both_light}
+use Rattle.safety_examples.proofs.ReopeningValid.{valid_program}
 
 -- no class of the program has a field
 no_field : (b : BodyId) (f : FieldId) → has_field_place reopening b f ≡ true → IsSmall (place_of_field reopening f)
@@ -47,3 +51,7 @@ accepted = record {
 
 pub has_main : IsMain reopening main_method
 has_main = (refl, refl)
+
+-- it has what every program of files has
+pub reopening_files : MeetsFileConditions reopening
+reopening_files = meets_by_tests reopening valid_program.typed.hierarchy (record { classes = both_light; above = refl; constructors = refl; resets = refl }) refl

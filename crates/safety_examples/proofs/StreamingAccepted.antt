@@ -1,4 +1,4 @@
--- The program that closes its stream is accepted.
+-- The program that closes its stream is accepted, and has what every program of files has.
 use Rattle.std.proofs.Common.{◌≡◌, ℕ, zero, suc, true, Some, List, refl, slice_get, All, sym, true≢false, lit<, lit≤}
 use Rattle.std.specs.List.{AllByRecursion}
 use Rattle.std.proofs.lemmas.List.Elements.{All-contains}
@@ -12,7 +12,9 @@ use Rattle.must_call_sets.specs.Bodies.{has_field_place}
 use Rattle.obligation_facts.specs.SmallActions.{IsSmallAction}
 use Rattle.soundness_laws.specs.Room.{HasRoom}
 use Rattle.soundness_laws.specs.Accept.{Accept}
+use Rattle.soundness_laws.specs.AgreementConditions.{MeetsFileConditions}
 use Rattle.soundness_laws.specs.Paths.{Comes, FitsPlaces, Move, relation_of}
+use Rattle.soundness_laws.proofs.Tests.{meets_by_tests}
 use Rattle.safety_examples.specs.StreamingControls.{controls}
 use Rattle.safety_examples.specs.StreamingPrograms.{streaming}
 use Rattle.safety_examples.proofs.Covered.{covers_by}
@@ -22,6 +24,8 @@ use Rattle.safety_examples.proofs.StreamingDeclared.{declares_once}
 use Rattle.safety_examples.proofs.StreamingFlows.{body}
 use Rattle.safety_examples.proofs.StreamingFormed.{annotations_right, overriding, signed, well_formed}
 use Rattle.safety_examples.proofs.Tests.{all_at, all_of}
+use Rattle.safety_examples.proofs.CarefulSets.{both_light}
+use Rattle.safety_examples.proofs.StreamingValid.{valid_program}
 
 -- no class of the program has a field
 no_field : (b : BodyId) (f : FieldId) → has_field_place streaming b f ≡ true → IsSmall (place_of_field streaming f)
@@ -59,3 +63,7 @@ accepted = record {
   fits = fits;
   no_fault = streaming_no_fault;
 }
+
+-- it has what every program of files has
+pub streaming_files : MeetsFileConditions streaming
+streaming_files = meets_by_tests streaming valid_program.typed.hierarchy (record { classes = both_light; above = refl; constructors = refl; resets = refl }) refl

@@ -2,7 +2,6 @@
 
 ghost use Rattle.soundness_laws.specs.Accept.{Accept};
 ghost use Rattle.soundness_laws.specs.Safety.{IsMain, IsSafe};
-ghost use Rattle.soundness_laws.specs.Plain.{IsPlain};
 ghost use Rattle.safety_examples.specs.AliasPrograms.{aliasing, main_method};
 
 /// A program whose `main` passes the resource that it makes through a method of its own, which returns its aliased argument, and
@@ -14,11 +13,6 @@ pub fn aliasing_is_accepted()
 /// Its `main` runs, so that it has runs.
 pub fn aliasing_has_main()
     ensures { IsMain aliasing main_method }
-{}
-
-/// That program is plain: what has an aliased argument is a method, no constructor.
-pub fn aliasing_is_plain()
-    ensures { IsPlain aliasing }
 {}
 
 /// So it is safe in every run, whatever an honest library chooses, up to the first stray exception.

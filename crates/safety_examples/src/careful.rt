@@ -1,15 +1,9 @@
 //! The laws. Each is the contract of a function that does nothing.
 
 ghost use Rattle.soundness_laws.specs.Safety.{IsSafe};
-ghost use Rattle.soundness_laws.specs.Plain.{IsPlain};
 ghost use Rattle.safety_examples.specs.CarefulPrograms.{careful};
 
-/// The program that makes a socket and closes it is plain.
-pub fn careful_is_plain()
-    ensures { IsPlain careful }
-{}
-
-/// That program is accepted and plain, so it is safe in every run, whatever an honest library chooses, up to the first stray exception.
+/// That program is accepted, so it is safe in every run, whatever an honest library chooses, up to the first stray exception.
 pub fn careful_is_safe()
     ensures { IsSafe careful }
 {}

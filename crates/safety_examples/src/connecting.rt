@@ -2,7 +2,6 @@
 
 ghost use Rattle.soundness_laws.specs.Accept.{Accept};
 ghost use Rattle.soundness_laws.specs.Safety.{IsMain, IsSafe};
-ghost use Rattle.soundness_laws.specs.Plain.{IsPlain};
 ghost use Rattle.safety_examples.specs.ConnectingPrograms.{connecting, main_method};
 
 /// A program whose class makes a socket, on which nothing must be called at first, in its constructor, stores it into an owning field and connects it there, which
@@ -14,11 +13,6 @@ pub fn connecting_is_accepted()
 /// Its `main` runs, so that it has runs.
 pub fn connecting_has_main()
     ensures { IsMain connecting main_method }
-{}
-
-/// That program is plain: what is connected is not called `this`.
-pub fn connecting_is_plain()
-    ensures { IsPlain connecting }
 {}
 
 /// So it is safe in every run, whatever an honest library chooses, up to the first stray exception.

@@ -2,7 +2,6 @@
 
 ghost use Rattle.soundness_laws.specs.Accept.{Accept};
 ghost use Rattle.soundness_laws.specs.Safety.{IsMain, IsSafe};
-ghost use Rattle.soundness_laws.specs.Plain.{IsPlain};
 ghost use Rattle.safety_examples.specs.OwnerPrograms.{holding, main_method};
 
 /// A program whose class keeps a resource in an owning field, has it closed by its must-call method, and is itself made and closed by
@@ -14,12 +13,6 @@ pub fn holding_is_accepted()
 /// Its `main` runs, so that it has runs.
 pub fn holding_has_main()
     ensures { IsMain holding main_method }
-{}
-
-/// That program is plain: a constructor stores into the field, the must-call method promises what it does to the field, and the library
-/// promises that its argument is closed.
-pub fn holding_is_plain()
-    ensures { IsPlain holding }
 {}
 
 /// So it is safe in every run, whatever an honest library chooses, up to the first stray exception.

@@ -2,7 +2,6 @@
 
 ghost use Rattle.soundness_laws.specs.Accept.{Accept};
 ghost use Rattle.soundness_laws.specs.Safety.{IsMain, IsSafe};
-ghost use Rattle.soundness_laws.specs.Plain.{IsPlain};
 ghost use Rattle.safety_examples.specs.LendingPrograms.{lending, main_method};
 
 /// A program whose `main` lends the resource that it makes to a method of its own, which promises that it closes it, is accepted: `main`
@@ -14,11 +13,6 @@ pub fn lending_is_accepted()
 /// Its `main` runs, so that it has runs.
 pub fn lending_has_main()
     ensures { IsMain lending main_method }
-{}
-
-/// That program is plain: the method that promises is lent its argument.
-pub fn lending_is_plain()
-    ensures { IsPlain lending }
 {}
 
 /// So it is safe in every run, whatever an honest library chooses, up to the first stray exception.

@@ -2,7 +2,6 @@
 
 ghost use Rattle.soundness_laws.specs.Accept.{Accept};
 ghost use Rattle.soundness_laws.specs.Safety.{IsMain, IsSafe};
-ghost use Rattle.soundness_laws.specs.Plain.{IsPlain};
 ghost use Rattle.safety_examples.specs.OpeningPrograms.{opening};
 ghost use Rattle.safety_examples.specs.ReplacingPrograms.{main_method};
 
@@ -15,11 +14,6 @@ pub fn opening_is_accepted()
 /// Its `main` runs, so that it has runs.
 pub fn opening_has_main()
     ensures { IsMain opening main_method }
-{}
-
-/// That program is plain: no constructor has an aliased argument.
-pub fn opening_is_plain()
-    ensures { IsPlain opening }
 {}
 
 /// So it is safe in every run, whatever an honest library chooses, up to the first stray exception.

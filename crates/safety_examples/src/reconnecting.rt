@@ -2,7 +2,6 @@
 
 ghost use Rattle.soundness_laws.specs.Accept.{Accept};
 ghost use Rattle.soundness_laws.specs.Safety.{IsMain, IsSafe};
-ghost use Rattle.soundness_laws.specs.Plain.{IsPlain};
 ghost use Rattle.safety_examples.specs.ReconnectingPrograms.{main_method, reconnecting};
 
 /// A program whose class has a method that creates the obligation of its object anew, by connecting the socket that the owning field holds, and whose `main` makes
@@ -14,11 +13,6 @@ pub fn reconnecting_is_accepted()
 /// Its `main` runs, so that it has runs.
 pub fn reconnecting_has_main()
     ensures { IsMain reconnecting main_method }
-{}
-
-/// That program is plain: its constructor creates no obligation anew.
-pub fn reconnecting_is_plain()
-    ensures { IsPlain reconnecting }
 {}
 
 /// So it is safe in every run, whatever an honest library chooses, up to the first stray exception.

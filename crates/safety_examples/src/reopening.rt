@@ -2,7 +2,6 @@
 
 ghost use Rattle.soundness_laws.specs.Accept.{Accept};
 ghost use Rattle.soundness_laws.specs.Safety.{IsMain, IsSafe};
-ghost use Rattle.soundness_laws.specs.Plain.{IsPlain};
 ghost use Rattle.safety_examples.specs.ReopeningPrograms.{reopening, main_method};
 
 /// A program whose `main` makes a socket on which nothing must be called at first, lends it to a method of its own that creates its obligation anew, and closes
@@ -14,11 +13,6 @@ pub fn reopening_is_accepted()
 /// Its `main` runs, so that it has runs.
 pub fn reopening_has_main()
     ensures { IsMain reopening main_method }
-{}
-
-/// That program is plain: it declares no owning field.
-pub fn reopening_is_plain()
-    ensures { IsPlain reopening }
 {}
 
 /// So it is safe in every run, whatever an honest library chooses, up to the first stray exception.

@@ -2,7 +2,6 @@
 
 ghost use Rattle.soundness_laws.specs.Accept.{Accept};
 ghost use Rattle.soundness_laws.specs.Safety.{IsMain, IsSafe};
-ghost use Rattle.soundness_laws.specs.Plain.{IsPlain};
 ghost use Rattle.safety_examples.specs.ReplacingPrograms.{main_method, replacing};
 
 /// A program whose class has a method that closes what the owning field holds and stores a new resource there, by which it creates the obligation of its object anew,
@@ -14,11 +13,6 @@ pub fn replacing_is_accepted()
 /// Its `main` runs, so that it has runs.
 pub fn replacing_has_main()
     ensures { IsMain replacing main_method }
-{}
-
-/// That program is plain: what stores into the owning field is the constructor, which creates no obligation anew, and that method.
-pub fn replacing_is_plain()
-    ensures { IsPlain replacing }
 {}
 
 /// So it is safe in every run, whatever an honest library chooses, up to the first stray exception.

@@ -2,7 +2,6 @@
 
 ghost use Rattle.soundness_laws.specs.Accept.{Accept};
 ghost use Rattle.soundness_laws.specs.Safety.{IsMain, IsSafe};
-ghost use Rattle.soundness_laws.specs.Plain.{IsPlain};
 ghost use Rattle.safety_examples.specs.ResettingPrograms.{main_method, resetting};
 
 /// A program that makes a socket on which nothing must be called at first, connects it by a method of the library that creates its obligation
@@ -15,11 +14,6 @@ pub fn resetting_is_accepted()
 /// Its `main` runs, so that it has runs.
 pub fn resetting_has_main()
     ensures { IsMain resetting main_method }
-{}
-
-/// That program is plain: what is connected is not called `this`.
-pub fn resetting_is_plain()
-    ensures { IsPlain resetting }
 {}
 
 /// So it is safe in every run, whatever an honest library chooses, up to the first stray exception.

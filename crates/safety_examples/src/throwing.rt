@@ -2,7 +2,6 @@
 
 ghost use Rattle.soundness_laws.specs.Accept.{Accept};
 ghost use Rattle.soundness_laws.specs.Safety.{IsMain, IsSafe};
-ghost use Rattle.soundness_laws.specs.Plain.{IsPlain};
 ghost use Rattle.safety_examples.specs.ThrowingPrograms.{main_method, throwing};
 
 /// A program whose `main` lends the socket that it makes to a method of its own, which promises that it closes it, also where it throws, is accepted: `main`
@@ -14,11 +13,6 @@ pub fn throwing_is_accepted()
 /// Its `main` runs, so that it has runs.
 pub fn throwing_has_main()
     ensures { IsMain throwing main_method }
-{}
-
-/// That program is plain: of what methods promise nothing is asked, be it where they end or where they throw.
-pub fn throwing_is_plain()
-    ensures { IsPlain throwing }
 {}
 
 /// So it is safe in every run, whatever an honest library chooses, up to the first stray exception.

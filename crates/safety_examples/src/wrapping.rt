@@ -2,7 +2,6 @@
 
 ghost use Rattle.soundness_laws.specs.Accept.{Accept};
 ghost use Rattle.soundness_laws.specs.Safety.{IsMain, IsSafe};
-ghost use Rattle.soundness_laws.specs.Plain.{IsPlain};
 ghost use Rattle.safety_examples.specs.WrappingPrograms.{main_method, wrapping};
 
 /// A program whose class keeps the aliased argument of its constructor in an owning field, has it closed by its must-call method, and whose `main`
@@ -14,11 +13,6 @@ pub fn wrapping_is_accepted()
 /// Its `main` runs, so that it has runs.
 pub fn wrapping_has_main()
     ensures { IsMain wrapping main_method }
-{}
-
-/// That program is plain: the aliased argument of its constructor is that of a parameter.
-pub fn wrapping_is_plain()
-    ensures { IsPlain wrapping }
 {}
 
 /// So it is safe in every run, whatever an honest library chooses, up to the first stray exception.

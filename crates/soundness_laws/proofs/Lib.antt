@@ -2,13 +2,12 @@ pub mod Programs
 pub mod Makers
 pub mod MadeClasses
 pub mod SuperCalls
-pub mod CreatingNothing
 pub mod SuperAliases
 pub mod FieldShapes
 pub mod FieldsAlone
 pub mod ConstantReads
 pub mod PlainCalls
-pub mod PlainPrograms
+pub mod AcceptedForms
 pub mod KeptPromises
 pub mod InnerSteps
 pub mod StoreSteps
@@ -27,6 +26,11 @@ pub mod EndedNames
 pub mod CallEnds
 pub mod MainEnds
 pub mod OnObjects
+pub mod KnowingFrames
+pub mod KnowingStarts
+pub mod KnowingCalls
+pub mod KnowingSteps
+pub mod KnowingRules
 pub mod Steps
 pub mod Supporting
 pub mod SparedOwned

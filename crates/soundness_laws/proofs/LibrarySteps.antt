@@ -90,8 +90,7 @@ use Rattle.content_laws.proofs.Conducts.{library_makes_made_classes}
 use Rattle.soundness_laws.proofs.MadeClasses.{classes_on}
 use Rattle.content_laws.specs.HeapAnew.{GoesOnAside, IsOlderAside, finished_root, is_anew, target_root}
 use Rattle.content_laws.proofs.Emptied.{emptied_root, fresh_stays}
-use Rattle.content_laws.proofs.LibraryCallLaws.{any_given_arguments_stay_given, any_library_aliases_are_older_or_made, any_library_links_stay, any_library_objects_are_older_or_made, any_library_objects_go_on, any_receiver_is_called, any_unfinished_objects_stay_unowned, aside_links, emptied_roots-none, emptied_roots-root, library_calls_leak_nothing}
-use Rattle.ledger_obligations.specs.Bodies.{reset_in}
+use Rattle.content_laws.proofs.LibraryCallLaws.{any_given_arguments_stay_given, any_library_aliases_are_older_or_made, any_library_links_stay, any_library_objects_are_older_or_made, any_library_objects_go_on, any_receiver_is_called, any_unfinished_objects_stay_unowned, aside_links, emptied_roots-root, library_calls_leak_nothing}
 use Rattle.ledger_obligations.specs.MustCallSets.{Names, must_of}
 use Rattle.java_control.specs.declared.fact.Fact.{Fact}
 use Rattle.java_control.specs.declared.place.Place.TheVariants as places
@@ -110,7 +109,7 @@ use Rattle.content_laws.proofs.TargetTracks.{target_or_not, tracks_target}
 use Rattle.content_laws.proofs.WaitingTargets.{covered_tracks}
 use Rattle.soundness_laws.proofs.AnsweredTargets.{target_answered, target_owes}
 use Rattle.soundness_laws.proofs.OwnedTargets.{owned_target}
-use Rattle.content_laws.proofs.Ready.{plain_step, ready, resets_plainly}
+use Rattle.content_laws.proofs.Ready.{plain_step, ready}
 use Rattle.content_laws.proofs.Tracking.{stack_tracks, tracks_call, tracks_plain}
 
 -- the aliased argument, in the words of the rules and in those of the machine
@@ -239,9 +238,6 @@ module _ (p : Program) (ac : Accept p) (forms : HasPlainForms p) (names : HasSma
   new_stays : (o : ℕ) → o ≡ next_number h → anew o ≡ true → ⊥
   new_stays o new is = true≢false (sym is ∙ ap anew new ∙ fresh_stays p fr.locals s.action (method_at p named) (method_at p m) d (length frs + 1) h)
 
-  none_anew : (o : ℕ) → reset_position (method_at p named) ≡ None → anew o ≡ true → ⊥
-  none_anew o none is = true≢false (sym is ∙ emptied_roots-none p fr.locals s.action (method_at p named) (method_at p m) d h o none)
-
   constant_stays : IsConstantRead s.action → (o : ℕ) (x : Object) → object_at h o ≡ Some x → anew o ≡ true → ⊥
   constant_stays constant o x before is =
       let none = constant_target h fr.locals s.action (method_at p named) constant in
@@ -249,10 +245,6 @@ module _ (p : Program) (ac : Accept p) (forms : HasPlainForms p) (names : HasSma
       (λ n z target there. absurd (let never : None ≡ Some n = sym none ∙ target in cc)) before is in
       let never : None ≡ Some (root h o) = sym none ∙ some in
       cc
-
-  same_reset : (m : Option Method) → reset_in m ≡ reset_position m
-  same_reset None = refl
-  same_reset (Some m) = refl
 
   -- an object whose obligation is created anew, and that may owe a call, is that of a frame, which tracks it
   module _ (o : ℕ) (y : Object) (at : object_at heap o ≡ Some y) (free : y.link ≡ None) (is : anew o ≡ true) (unmet : is_unmet y ≡ true) (stays : is_library_owner y.owner ≡ false) where
@@ -294,10 +286,7 @@ module _ (p : Program) (ac : Accept p) (forms : HasPlainForms p) (names : HasSma
 
     someones : IsSomeones
     someones = elim step.row [
-      | inl call ↦ elim (resets_plainly p ac forms fr agrees.standing.0 i s here) [
-        | inl none ↦ absurd (none_anew o (sym (same_reset (method_at p named)) ∙ ap reset_in (sym (ap (callee_in p) call.1)) ∙ none) is)
-        | inr plain ↦ by call.0 call.1
-      ]
+      | inl call ↦ by call.0 call.1
       | inr constant ↦ absurd (constant_stays constant o before.0 before.1 is)
     ]
       where

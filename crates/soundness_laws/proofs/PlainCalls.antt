@@ -1,4 +1,4 @@
--- The calls of a plain program that is accepted, and what may run at them.
+-- The calls of an accepted program, and what may run at them.
 use Rattle.std.proofs.Common.{◌≡◌, ℕ, Bool, true, false, Option, Some, None, IsSomeAnd, List, slice_get, refl, sym, ap, ◌∙◌, subst, true≢false}
 use Rattle.program_model.specs.declared.kinds.BodyId.{BodyId}
 use Rattle.program_model.specs.declared.kinds.ClassId.{ClassId}
@@ -33,7 +33,6 @@ use Rattle.content_laws.specs.PlainForms.{IsPlainAction, IsTextUpdate, MayRun}
 use Rattle.content_laws.specs.Running.{HasPlainRuns, IsAlike, is_on_object}
 use Rattle.content_laws.specs.ClassValues.{KeepsResultClasses}
 use Rattle.content_laws.specs.ClassOperands.{result_of}
-use Rattle.soundness_laws.specs.Plain.{IsPlain}
 use Rattle.content_laws.specs.AgreementConditions.{MeetsFileConditions}
 use Rattle.soundness_laws.proofs.ConstantReads.{plain_read}
 use Rattle.soundness_laws.proofs.FieldShapes.{assigned_is_text}
@@ -78,7 +77,7 @@ instance_named p a m n names calls on at = absurd (true≢false (sym on))
 
 -- ---- programs
 
-module _ (p : Program) (ac : Accept p) (files : MeetsFileConditions p) (plain : IsPlain p) where
+module _ (p : Program) (ac : Accept p) (files : MeetsFileConditions p) where
   plain_action : (b : BodyId) (x : Body) (a : Action) → body_at p b ≡ Some x → CallsSuperClass p x a → StandsInBody x a → MovesLocals a → NamesMembers p x a → IsPlainAction p a
   plain_action b x actions.Skip at place stands moves names = tt
   plain_action b x (actions.Copy u v) at place stands moves names = moves

@@ -10,7 +10,6 @@ use Rattle.run_command.specs.RunAnswers.{outcome_of, run_outcome}
 use Rattle.stub_conduct.specs.declared.choice.Choices.{Choices}
 use Rattle.content_laws.specs.Safety.{IsMain, IsSafe}
 use Rattle.content_laws.specs.Accept.{Accept}
-use Rattle.soundness_laws.specs.Plain.{IsPlain}
 use Rattle.content_laws.specs.AgreementConditions.{MeetsFileConditions}
 pub use Rattle.soundness_laws.proofs.SoundnessRuns.{accepted_is_safe}
 
@@ -23,6 +22,6 @@ pub leaks_nothing : (p : Program) → IsSafe p → (main : MethodId) (choices : 
 leaks_nothing p safe main choices n is same =
     without_leak (run p main choices n).how (sym (ap (λ b. outcome_of b (run p main choices n).how) (safe main choices n is).no_leak) ∙ same)
 
-pub accepted_leaks_nothing : (p : Program) → Accept p → MeetsFileConditions p → IsPlain p → (main : MethodId) (choices : Choices) (n : ℕ) → IsMain p main
+pub accepted_leaks_nothing : (p : Program) → Accept p → MeetsFileConditions p → (main : MethodId) (choices : Choices) (n : ℕ) → IsMain p main
     → run_outcome (run p main choices n) ≢ outcomes.Leaks
-accepted_leaks_nothing p ac files plain main choices n is = leaks_nothing p (accepted_is_safe p ac files plain) main choices n is
+accepted_leaks_nothing p ac files main choices n is = leaks_nothing p (accepted_is_safe p ac files) main choices n is

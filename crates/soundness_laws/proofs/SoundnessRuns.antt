@@ -62,11 +62,10 @@ use Rattle.content_laws.specs.Choosing.{frame_steps}
 use Rattle.ledger_steps.specs.Ends.{exception_class, thrown_in}
 use Rattle.content_laws.specs.Exits.{TopEndsByClass}
 use Rattle.soundness_laws.specs.Holding.{Holds}
-use Rattle.soundness_laws.specs.Plain.{IsPlain}
 use Rattle.content_laws.specs.AgreementConditions.{MeetsFileConditions}
 use Rattle.soundness_laws.specs.Supports.{IsSupported}
 use Rattle.soundness_laws.proofs.PlainCalls.{plain_results, plain_runs}
-use Rattle.soundness_laws.proofs.PlainPrograms.{plain_forms}
+use Rattle.soundness_laws.proofs.AcceptedForms.{plain_forms}
 use Rattle.soundness_laws.proofs.Safe.{safe_at}
 use Rattle.soundness_laws.proofs.Starts.{start_agrees, static_main}
 use Rattle.content_laws.specs.Arguments.{HaveArguments}
@@ -85,6 +84,9 @@ use Rattle.soundness_laws.proofs.KeptPromises.{TopShowsOperands}
 use Rattle.soundness_laws.proofs.PromisedOperands.{operands_shown}
 use Rattle.soundness_laws.proofs.SparedOwned.{apart_at_end}
 use Rattle.soundness_laws.proofs.OnObjects.{objects_at_start, objects_step}
+use Rattle.soundness_laws.proofs.KnowingRules.{all_by_rules}
+use Rattle.soundness_laws.proofs.KnowingStarts.{known_at_start}
+use Rattle.soundness_laws.proofs.KnowingSteps.{known_step}
 use Rattle.soundness_laws.proofs.Steps.{step_agrees}
 use Rattle.soundness_laws.proofs.Supporting.{stores_into_lent, supported}
 
@@ -173,15 +175,15 @@ top_there h (fr ∷ frs) all = frame_there h fr (All-head (λ (f : Frame). Local
 top_making : (p : Program) (h : HeapContents) (frs : List Frame) (fr caller : Frame) (rest : List Frame) → frs ≡ fr ∷ caller ∷ rest → AreBeingMade p h frs → IsBeingMade p h fr caller
 top_making p h frs fr caller rest is making = (subst (AreBeingMade p h) is making).0
 
-pub holds_step : (p : Program) → Accept p → MeetsFileConditions p → IsPlain p → (c d : Config) → Holds p c → step p c ≡ went d → Holds p d
-holds_step p ac files plain c d holds is =
-    let forms = plain_forms p ac files plain in
-    let alike = plain_runs p ac files plain in
+pub holds_step : (p : Program) → Accept p → MeetsFileConditions p → (c d : Config) → Holds p c → step p c ≡ went d → Holds p d
+holds_step p ac files c d holds is =
+    let forms = plain_forms p ac files in
+    let alike = plain_runs p ac files in
     let exits = top_exits p ac c.heap c.frames holds.agree.standing holds.ranges.frames holds.thrown in
     let declared = top_declared p ac c.heap c.frames exits (λ bound own. (holds.values bound own).frames) in
     let raises = top_raises p c.heap c.frames (raised_values_are_exceptions p ac files.texts c.heap c.frames (holds.values p.core.throwable files.texts).frames) in
     let sight = acts_in_sight p ac files.light_texts files.text_fields forms.library files.given.string c.heap c.frames holds.agree.standing holds.agree.links (λ bound own. (holds.values bound own).frames) holds.types.frames holds.aliases holds.reached
-    (all_update_texts p ac forms files.texts files.light_texts c.heap c.frames (holds.values p.core.throwable files.texts).frames holds.types.frames holds.types.fields holds.aliases) holds.objects holds.agree.stacked holds.making in
+    (all_update_texts p ac forms files.texts files.light_texts c.heap c.frames (holds.values p.core.throwable files.texts).frames holds.types.frames holds.types.fields holds.aliases) holds.objects holds.agree.stacked holds.making (all_by_rules p ac forms c.frames holds.agree.standing holds.objects holds.known) in
     let alone = top_runs_alone p ac forms c.heap c.frames holds.agree.standing holds.agree.stacked holds.fields.contents holds.fields.new holds.filled in
     let agree' = agree_step p ac forms files.given files.exceptions c d holds.agree holds.targets holds.fields sight holds.covered holds.ranges holds.making holds.arguments exits holds.filled holds.owned holds.aliases is in record {
       agree = agree';
@@ -197,11 +199,12 @@ holds_step p ac files plain c d holds is =
       makers = makers_own_step p ac forms alike (accepted_names p ac) files.light_texts c d holds.agree holds.targets holds.types holds.ranges holds.fields holds.making holds.aliases holds.owned holds.makers holds.covered holds.arguments declared raises sight alone is;
       arguments = arguments_step p ac forms c d holds.agree.classes holds.agree.standing holds.targets holds.arguments is;
       reached = links_reach_aliased_step p ac forms files.light_texts c d holds.agree holds.targets holds.ranges holds.fields holds.making holds.values holds.reached is;
-      values = classes_step p ac forms (plain_results p ac files plain) c d holds.agree holds.targets exits holds.values is;
+      values = classes_step p ac forms (plain_results p ac files) c d holds.agree holds.targets exits holds.values is;
       thrown = thrown_step p ac forms files.texts c d holds.agree holds.targets holds.values holds.thrown is;
       filled = filled_step p ac forms c d holds.agree.classes holds.agree.standing holds.targets holds.ranges holds.fields.new holds.filled sight holds.fields.unfinished
           (top_stores_readily p ac forms c holds.agree holds.targets holds.ranges holds.covered holds.fields holds.owned holds.aliases sight) is;
       objects = objects_step p ac forms files.given c d holds.agree.standing holds.agree.classes holds.targets holds.objects is;
+      known = known_step p ac forms alike c d holds.agree holds.targets holds.arguments exits holds.known is;
     }
 
 module _ (p : Program) (ac : Accept p) (gives : GivesLibraryClasses p) (main : MethodId) (choices : Choices) (is : IsMain p main) where
@@ -227,20 +230,21 @@ module _ (p : Program) (ac : Accept p) (gives : GivesLibraryClasses p) (main : M
         thrown = thrown_at_start p main choices;
         filled = filled_at_start p main choices;
         objects = objects_at_start p main m choices at (static_main m main');
+        known = known_at_start p main m choices at (static_main m main');
       }
 
-module _ (p : Program) (ac : Accept p) (files : MeetsFileConditions p) (plain : IsPlain p) where
+module _ (p : Program) (ac : Accept p) (files : MeetsFileConditions p) where
   run_holds : (n : ℕ) (c : Config) → Holds p c → Holds p (run_from n p c).config
   run_holds zero c holds = holds
   run_holds (suc n) c holds = go (run_holds n) (step p c) refl
     where
       go : ((d : Config) → Holds p d → Holds p (run_from n p d).config) → (o : Outcome) → step p c ≡ o → Holds p (go_on (run_from n p) c o).config
-      go further (went d) is = further d (holds_step p ac files plain c d holds is)
+      go further (went d) is = further d (holds_step p ac files c d holds is)
       go further (ended e) is = holds
       go further (stray e pos) is = holds
 
-pub accepted_is_safe : (p : Program) → Accept p → MeetsFileConditions p → IsPlain p → IsSafe p
+pub accepted_is_safe : (p : Program) → Accept p → MeetsFileConditions p → IsSafe p
 unfolding run
-accepted_is_safe p ac files plain main choices n is =
-    let holds = run_holds p ac files plain n (start_config p main choices) (holds_at_start p ac files.given main choices is) in
+accepted_is_safe p ac files main choices n is =
+    let holds = run_holds p ac files n (start_config p main choices) (holds_at_start p ac files.given main choices is) in
     safe_at p ac (run p main choices n).config holds.agree holds.fields.contents

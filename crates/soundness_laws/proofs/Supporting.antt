@@ -43,7 +43,7 @@ use Rattle.content_laws.specs.Choosing.{frame_steps}
 use Rattle.ledger_steps.specs.Ends.{exception_class, thrown_in}
 use Rattle.ledger_steps.specs.InnerSteps.{is_bound, parameter, root_of_number}
 use Rattle.content_laws.specs.Agreement.{AllStand, IsCalledFrom, Stands, Tracks}
-use Rattle.content_laws.specs.PlainForms.{HasPlainForms, StoresFields}
+use Rattle.content_laws.specs.PlainForms.{HasPlainForms, StoresPlainly}
 use Rattle.content_laws.specs.FieldContents.{AreNew, AreUnfinished, DeclaresOwning, FieldsOwn, HaveContents, IsContent, is_made_in}
 use Rattle.content_laws.specs.Frames.{KeepsTargets}
 use Rattle.content_laws.specs.Heaps.{HasEarlierLinks}
@@ -77,7 +77,7 @@ use Rattle.ownership_rules.specs.Facts.{has, is_own}
 use Rattle.soundness_laws.specs.Supports.{IsLentHolder, StoresIntoLent, StoresWell, Supports}
 use Rattle.content_laws.specs.Filled.{AreFilled}
 use Rattle.content_laws.proofs.CallNames.{object_with_root}
-use Rattle.soundness_laws.proofs.Makers.{body_method, class_of_maker, new_of_owner}
+use Rattle.soundness_laws.proofs.Makers.{body_method, class_of_maker}
 
 pub not_true : (b : Bool) → (b ≡ true → ⊥) → b ≡ false
 not_true true never = absurd (never refl)
@@ -183,11 +183,14 @@ module _ (p : Program) (ac : Accept p) (forms : HasPlainForms p) (h : HeapConten
     abbrev v : Value
     v = temp_value fr.locals d
 
-    form : StoresFields p st.number × (has_field_place p st.number f ≡ true)
+    form : has_field_place p st.number f ≡ true
     form = forms.stores st.number i (move_of s) f d st.control (step_there p fr st i s here) is
 
+    plainly : StoresPlainly p (method_at p fr.method) f
+    plainly = sight.rules.stores i s f d here is
+
     storing : (constructs (method_at p fr.method) ≡ true) ⊎ (reopens (method_at p fr.method) ≡ true)
-    storing = elim form.0 [ inl makes ↦ inl (sym (ap constructs (body_method p ac forms fr st)) ∙ makes) | inr opens ↦ inr (sym (ap reopens (body_method p ac forms fr st)) ∙ opens.0) ]
+    storing = elim plainly [ inl makes ↦ inl makes | inr opens ↦ inr opens.0 ]
 
     this : (w : ℕ) × (fr.locals.this ≡ values.Object w)
     this = this_object p ac fr st sight.on storing
@@ -220,7 +223,7 @@ module _ (p : Program) (ac : Accept p) (forms : HasPlainForms p) (h : HeapConten
         displaced_met : (w n : ℕ) (y : Object) → fr.locals.this ≡ values.Object w → (o : Object) → object_at h w ≡ Some o → object_at h n ≡ Some y → IsDisplaced p h w f v n y → is_unmet y ≡ true → ⊥
         displaced_met w n y this o there there' gone unmet = elim maker [
           | inl plain ↦ true≢false (sym unmet ∙
-              overwritten_is_met p ac forms h frs fr st plain old covered i d s f w n y here is (heavy_content n y w f there' unmet gone.owner this) gone.other)
+              overwritten_is_met p ac forms h frs fr st plain old covered i d s f w n y here is plainly (heavy_content n y w f there' unmet gone.owner this) gone.other)
           | inr alias ↦ owns_nothing alias.0 w n y f alias.1 alias.2 this declares o there (content_of n y w f there' unmet gone.owner)
         ]
 
@@ -239,7 +242,7 @@ module _ (p : Program) (ac : Accept p) (forms : HasPlainForms p) (h : HeapConten
             }
 
     stores_well : StoresWell p h fr f d
-    stores_well = by_field (field_at p f) refl form.1
+    stores_well = by_field (field_at p f) refl form
 
     -- ---- where the holder is finished
 
@@ -261,15 +264,15 @@ module _ (p : Program) (ac : Accept p) (forms : HasPlainForms p) (h : HeapConten
           plain : is_alias_constructor p st.number ≡ false
           plain = ap (λ (b : Bool). b && is_present (alias_position p st.number)) (ap constructs (body_method p ac forms fr st) ∙ other)
 
-          its : IsItsField p ac forms h links fields fr mine st old frs targets covered unmade i s here f d is w this' self at under unlinked
-          its = its_field p ac forms h links fields fr mine st old frs targets covered unmade i s here f d is w this' self at under unlinked
+          its : IsItsField p ac forms h links fields fr mine st old frs targets covered unmade i s here f d is plainly w this' self at under unlinked
+          its = its_field p ac forms h links fields fr mine st old frs targets covered unmade i s here f d is plainly w this' self at under unlinked
 
           wide : is_heavy_in p (Some f) ≡ true
           wide = heavy_field_by p f its.field its.known y.class heavy
               (ap (λ (t : VType). set.is_subset (must_of p y.class) (must_of_type p t)) (sym (ap type_of_field' its.known)) ∙ may_lies p (type_of_field' (field_at p f)) y moved.may)
 
           taken : (c : Covers p h false false old frs fr n y) → has c.fact.places (places.Temp d) ≡ true → (is_owning_fact p c.origin c.fact ≡ true) ⊎ (y.owner ≡ owners.Field w f)
-          taken c in' = temp_is_taken p ac forms h old frs fr st covered i d s f here is n y w this' c in' wide plain
+          taken c in' = temp_is_taken p ac forms h old frs fr st covered i d s f here is plainly n y w this' c in' wide plain
 
           by : IsKeyed p h false false old frs fr (places.Temp d) n y → (y.owner ≡ owners.Frame (length frs + 1)) ⊎ (y.owner ≡ owners.Field w f)
           by (is_owned_key c in' key) = elim (taken c in') [ inl own ↦ inl (key.owner refl (and_parts (is_heavy_class p c.origin.class) (is_own c.fact.mode) own).1) | inr held ↦ inr held ]
@@ -284,7 +287,7 @@ module _ (p : Program) (ac : Accept p) (forms : HasPlainForms p) (h : HeapConten
       by_finish opened true done = inr (record { finished = done; single = opened.single; heavy = opened.heavy.1; lent = opened.lent; mine = owns opened.opens })
 
       lent_here : (self.finished ≡ false) ⊎ IsLentHolder p h fr frs d f w self
-      lent_here = elim (storing_this p ac forms h links fields fr mine st old frs targets covered unmade i s here f d is w this' self at under unlinked) [
+      lent_here = elim (storing_this p ac forms h links fields fr mine st old frs targets covered unmade i s here f d is plainly w this' self at under unlinked) [
         | inl new ↦ inl new.0
         | inr opened ↦ by_finish opened self.finished refl
       ]

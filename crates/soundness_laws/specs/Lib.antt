@@ -1,6 +1,6 @@
 pub mod Supports
+pub mod Knowing
 pub mod Holding
-pub mod Plain
 pub use Rattle.content_laws.specs.Accept
 pub use Rattle.content_laws.specs.AcceptedProgramsConditions
 pub use Rattle.content_laws.specs.AgreementConditions

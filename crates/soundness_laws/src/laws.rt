@@ -9,7 +9,6 @@ ghost use Rattle.content_laws.specs.Accept.{Accept};
 ghost use Rattle.run_command.specs.Runs.{run};
 ghost use Rattle.run_command.specs.RunAnswers.{answer_outcome, run_outcome};
 ghost use Rattle.content_laws.specs.Safety.{IsMain, IsSafe};
-ghost use Rattle.soundness_laws.specs.Plain.{IsPlain};
 ghost use Rattle.content_laws.specs.AgreementConditions.{MeetsFileConditions};
 
 /// No run of a safe program answers that it leaks.
@@ -17,9 +16,9 @@ pub fn safe_run_leaks_nothing()
     ensures { (p : Program) → IsSafe p → (main : MethodId) (choices : Choices) (n : ℕ) → IsMain p main → run_outcome (run p main choices n) ≢ outcomes.Leaks }
 {}
 
-/// No run of a plain program that is accepted answers that it leaks.
+/// No run of a program that is accepted, and has what every program of files has, answers that it leaks.
 pub fn accepted_run_leaks_nothing()
-    ensures { (p : Program) → Accept p → MeetsFileConditions p → IsPlain p → (main : MethodId) (choices : Choices) (n : ℕ) → IsMain p main
+    ensures { (p : Program) → Accept p → MeetsFileConditions p → (main : MethodId) (choices : Choices) (n : ℕ) → IsMain p main
         → run_outcome (run p main choices n) ≢ outcomes.Leaks }
 {}
 

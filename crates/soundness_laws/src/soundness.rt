@@ -24,13 +24,12 @@ ghost use Rattle.content_laws.specs.Making.{AreBeingMade};
 ghost use Rattle.content_laws.specs.Throws.{TopEndsByException};
 ghost use Rattle.soundness_laws.specs.Holding.{Holds};
 ghost use Rattle.content_laws.specs.Filled.{AreFilled};
-ghost use Rattle.soundness_laws.specs.Plain.{IsPlain};
 ghost use Rattle.content_laws.specs.AgreementConditions.{MeetsFileConditions};
 
-/// In an accepted plain program that has what files give, the bodies have the plain forms: an object with owning fields runs the must-call method that its own
+/// In an accepted program that has what files give, the bodies have the plain forms: an object with owning fields runs the must-call method that its own
 /// class declares (JLS 8.4.8.1, 15.12.4.4).
-pub fn plain_program_has_plain_forms()
-    ensures { (p : Program) → Accept p → MeetsFileConditions p → IsPlain p → HasPlainForms p }
+pub fn accepted_has_plain_forms()
+    ensures { (p : Program) → Accept p → MeetsFileConditions p → HasPlainForms p }
 {}
 
 /// All invariants hold as a run of an accepted program begins.
@@ -44,9 +43,9 @@ pub fn agree_step()
         → AreInRange c → AreBeingMade p c.heap c.frames → HaveArguments p c.frames → TopEndsByException p c.heap c.frames → AreFilled p c.heap c.frames → FieldsOwn p c.heap → LinkedAreAliases p c.heap → step p c ≡ went d → Agree p d }
 {}
 
-/// Each step that is not stray keeps all invariants, in an accepted plain program.
+/// Each step that is not stray keeps all invariants, in an accepted program that has what files give.
 pub fn holds_step()
-    ensures { (p : Program) → Accept p → MeetsFileConditions p → IsPlain p → (c d : Config) → Holds p c → step p c ≡ went d → Holds p d }
+    ensures { (p : Program) → Accept p → MeetsFileConditions p → (c d : Config) → Holds p c → step p c ≡ went d → Holds p d }
 {}
 
 /// A moment that agrees with the facts, and where fields hold what they own, is safe.
@@ -54,7 +53,7 @@ pub fn agree_is_safe()
     ensures { (p : Program) → Accept p → (c : Config) → Agree p c → HaveContents p c.frames c.heap → IsSafeAt p c }
 {}
 
-/// A plain program that is accepted, and has what every program of files has, is safe in every run, whatever an honest library chooses, up to the first stray exception.
+/// A program that is accepted, and has what every program of files has, is safe in every run, whatever an honest library chooses, up to the first stray exception.
 pub fn accepted_is_safe()
-    ensures { (p : Program) → Accept p → MeetsFileConditions p → IsPlain p → IsSafe p }
+    ensures { (p : Program) → Accept p → MeetsFileConditions p → IsSafe p }
 {}

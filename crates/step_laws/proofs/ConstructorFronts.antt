@@ -57,6 +57,7 @@ use Rattle.java_control.specs.declared.place.Place.TheVariants as places
 use Rattle.java_control.specs.declared.item.Condition.{Condition}
 use Rattle.java_control.specs.declared.item.Condition.TheVariants as conditions
 use Rattle.step_laws.specs.Constructors.{AssignsField, IsFieldAssigned, IsOfField, IsOfSuperClass, IsOtherField, StandsInBody}
+use Rattle.step_laws.specs.Targets.{RunsOnThis}
 use Rattle.step_laws.proofs.ConstructorItems.{AllGood, AreGood, IsInstanceMethod, IsOwn, SuitsTarget, all_reversed, good_both, good_each, good_flat, good_todos}
 
 module _ (p : Program) (b : Body) where
@@ -74,21 +75,21 @@ module _ (p : Program) (b : Body) where
       go true = ((tt, tt), tt)
       go false = (tt, ((tt, tt), tt))
 
-  good_field_store : (e : ExprId) (f : FieldId) (value : ExprId) (d : ℕ) (pos : Pos) → (has_place p b e f ≡ false → IsFieldAssigned p b f (is_this b e)) → AllGood p b (field_store p b e f value d pos)
-  good_field_store e f value d pos assigned = go (is_this b e) (is_owning p f) (declares_field p b f) refl refl assigned
+  good_field_store : (e : ExprId) (f : FieldId) (value : ExprId) (d : ℕ) (pos : Pos) → (is_this b e ≡ true → RunsOnThis p b) → (has_place p b e f ≡ false → IsFieldAssigned p b f (is_this b e)) → AllGood p b (field_store p b e f value d pos)
+  good_field_store e f value d pos runs assigned = go (is_this b e) (is_owning p f) (declares_field p b f) refl refl refl assigned
     where
-      go : (x y z : Bool) → is_owning p f ≡ y → declares_field p b f ≡ z → ((if x then (if y then z else false) else false) ≡ false → IsFieldAssigned p b f (is_this b e))
+      go : (x y z : Bool) → is_this b e ≡ x → is_owning p f ≡ y → declares_field p b f ≡ z → ((if x then (if y then z else false) else false) ≡ false → IsFieldAssigned p b f (is_this b e))
           → AllGood p b (if (if x then (if y then z else false) else false) then Ev value d ∷ Act (actions.PutOwn f d) pos ∷ [] else (Ev e d ∷ Ev value (d + 1) ∷ Act (actions.Put f d (is_this b e)) pos ∷ []))
-      go true true true owning declared assigned' = (tt, ((tt, (owning, declared)), tt))
-      go true true false owning declared assigned' = (tt, (tt, ((tt, assigned' refl), tt)))
-      go true false z owning declared assigned' = (tt, (tt, ((tt, assigned' refl), tt)))
-      go false y z owning declared assigned' = (tt, (tt, ((tt, assigned' refl), tt)))
+      go true true true this owning declared assigned' = (tt, ((tt, (owning, declared, runs this)), tt))
+      go true true false this owning declared assigned' = (tt, (tt, ((tt, assigned' refl), tt)))
+      go true false z this owning declared assigned' = (tt, (tt, ((tt, assigned' refl), tt)))
+      go false y z this owning declared assigned' = (tt, (tt, ((tt, assigned' refl), tt)))
 
-  good_assignment : (x : AssignmentTarget) (value : ExprId) (d : ℕ) (pos : Pos) → ((f : FieldId) (this : Bool) → IsOtherField p b f x → IsFieldAssigned p b f this) → AllGood p b (assignment_front p b x value d pos)
-  good_assignment (targets.Local x) value d pos assigned = (tt, ((tt, tt), tt))
-  good_assignment (targets.Field e f) value d pos assigned = good_field_store e f value d pos (λ other. assigned f (is_this b e) (refl, other))
-  good_assignment (targets.StaticField f) value d pos assigned = good_computes (operators.StoreStatic f) (value ∷ []) d pos
-  good_assignment (targets.Element a i) value d pos assigned = good_computes operators.StoreElement (a ∷ i ∷ value ∷ []) d pos
+  good_assignment : (x : AssignmentTarget) (value : ExprId) (d : ℕ) (pos : Pos) → ((e : ExprId) → is_this b e ≡ true → RunsOnThis p b) → ((f : FieldId) (this : Bool) → IsOtherField p b f x → IsFieldAssigned p b f this) → AllGood p b (assignment_front p b x value d pos)
+  good_assignment (targets.Local x) value d pos runs assigned = (tt, ((tt, tt), tt))
+  good_assignment (targets.Field e f) value d pos runs assigned = good_field_store e f value d pos (runs e) (λ other. assigned f (is_this b e) (refl, other))
+  good_assignment (targets.StaticField f) value d pos runs assigned = good_computes (operators.StoreStatic f) (value ∷ []) d pos
+  good_assignment (targets.Element a i) value d pos runs assigned = good_computes operators.StoreElement (a ∷ i ∷ value ∷ []) d pos
 
   good_stored_in : (k : ExpressionKind) (d : ℕ) (pos : Pos) → ((f : FieldId) → IsOfField f (Some k) → IsFieldAssigned p b f true) → AllGood p b (stored_in k d pos)
   good_stored_in (expressions.Literal l) d pos assigned = tt
@@ -167,30 +168,30 @@ module _ (p : Program) (b : Body) where
   good_binary o x e t d pos = good_computes (operators.Binary x.operator x.operands (type_or_null t)) (x.left ∷ x.right ∷ []) d pos
 
   -- an expression of a type, or a call of none
-  pub good_expression : (k : ExpressionKind) (e : ExprId) (t : Option VType) (d : ℕ) (pos : Pos) → IsOfOptionalType p b k t → ((f : FieldId) (this : Bool) → AssignsField p b f this k → IsFieldAssigned p b f this) → AllGood p b (expression_front k p b e t d pos)
-  good_expression (expressions.Call c) e None d pos is assigned = good_call_with c.method c.arguments.items c.target d pos (called c None is)
-  good_expression (expressions.Literal l) e None d pos is assigned = absurd is
-  good_expression k e None d pos is assigned = absurd is
-  good_expression (expressions.Literal l) e (Some t) d pos is assigned = ((tt, tt), tt)
-  good_expression (expressions.Local x) e (Some t) d pos is assigned = ((tt, tt), tt)
-  good_expression (expressions.This written) e (Some t) d pos is assigned = ((tt, tt), tt)
-  good_expression (expressions.Field x f) e (Some t) d pos is assigned = good_read x f d pos
-  good_expression (expressions.StaticField f) e (Some t) d pos is assigned = ((tt, tt), tt)
-  good_expression (expressions.LibraryConstant m) e (Some t) d pos is assigned = ((tt, tt), tt)
-  good_expression (expressions.Unary o x) e (Some t) d pos is assigned = good_unary o x e (Some t) d pos
-  good_expression (expressions.Binary x) e (Some t) d pos is assigned = good_binary x.operator x e (Some t) d pos
-  good_expression (expressions.Conditional c x y) e (Some t) d pos is assigned = (((tt, tt), (tt, tt)), tt)
-  good_expression (expressions.InstanceOf x tested) e (Some t) d pos is assigned = good_computes (operators.InstanceOf tested) (x ∷ []) d pos
-  good_expression (expressions.PrimitiveCast x) e (Some t) d pos is assigned = good_computes (operators.Convert t) (x ∷ []) d pos
-  good_expression (expressions.ReferenceCast x) e (Some t) d pos is assigned = (tt, ((tt, tt), tt))
-  good_expression (expressions.Assignment x value) e (Some t) d pos is assigned = good_assignment x value d pos assigned
-  good_expression (expressions.OperatorAssignment a) e (Some t) d pos is assigned = good_update a (Some t) d pos (λ f is'. assigned f true (is', refl))
-  good_expression (expressions.PostfixStep a) e (Some t) d pos is assigned = good_postfix a (Some t) d pos (λ f is'. assigned f true (is', refl))
-  good_expression (expressions.Call c) e (Some t) d pos is assigned = good_call_with c.method c.arguments.items c.target d pos (called c (Some t) is)
-  good_expression (expressions.NewObject n) e (Some t) d pos is assigned = good_new n t d pos is
-  good_expression (expressions.NewArray x) e (Some t) d pos is assigned = good_computes (operators.NewArray t) (x ∷ []) d pos
-  good_expression (expressions.Element a i) e (Some t) d pos is assigned = good_computes operators.Element (a ∷ i ∷ []) d pos
-  good_expression (expressions.Length a) e (Some t) d pos is assigned = good_computes operators.Length (a ∷ []) d pos
+  pub good_expression : (k : ExpressionKind) (e : ExprId) (t : Option VType) (d : ℕ) (pos : Pos) → IsOfOptionalType p b k t → ((e : ExprId) → is_this b e ≡ true → RunsOnThis p b) → ((f : FieldId) (this : Bool) → AssignsField p b f this k → IsFieldAssigned p b f this) → AllGood p b (expression_front k p b e t d pos)
+  good_expression (expressions.Call c) e None d pos is runs assigned = good_call_with c.method c.arguments.items c.target d pos (called c None is)
+  good_expression (expressions.Literal l) e None d pos is runs assigned = absurd is
+  good_expression k e None d pos is runs assigned = absurd is
+  good_expression (expressions.Literal l) e (Some t) d pos is runs assigned = ((tt, tt), tt)
+  good_expression (expressions.Local x) e (Some t) d pos is runs assigned = ((tt, tt), tt)
+  good_expression (expressions.This written) e (Some t) d pos is runs assigned = ((tt, tt), tt)
+  good_expression (expressions.Field x f) e (Some t) d pos is runs assigned = good_read x f d pos
+  good_expression (expressions.StaticField f) e (Some t) d pos is runs assigned = ((tt, tt), tt)
+  good_expression (expressions.LibraryConstant m) e (Some t) d pos is runs assigned = ((tt, tt), tt)
+  good_expression (expressions.Unary o x) e (Some t) d pos is runs assigned = good_unary o x e (Some t) d pos
+  good_expression (expressions.Binary x) e (Some t) d pos is runs assigned = good_binary x.operator x e (Some t) d pos
+  good_expression (expressions.Conditional c x y) e (Some t) d pos is runs assigned = (((tt, tt), (tt, tt)), tt)
+  good_expression (expressions.InstanceOf x tested) e (Some t) d pos is runs assigned = good_computes (operators.InstanceOf tested) (x ∷ []) d pos
+  good_expression (expressions.PrimitiveCast x) e (Some t) d pos is runs assigned = good_computes (operators.Convert t) (x ∷ []) d pos
+  good_expression (expressions.ReferenceCast x) e (Some t) d pos is runs assigned = (tt, ((tt, tt), tt))
+  good_expression (expressions.Assignment x value) e (Some t) d pos is runs assigned = good_assignment x value d pos runs assigned
+  good_expression (expressions.OperatorAssignment a) e (Some t) d pos is runs assigned = good_update a (Some t) d pos (λ f is'. assigned f true (is', refl))
+  good_expression (expressions.PostfixStep a) e (Some t) d pos is runs assigned = good_postfix a (Some t) d pos (λ f is'. assigned f true (is', refl))
+  good_expression (expressions.Call c) e (Some t) d pos is runs assigned = good_call_with c.method c.arguments.items c.target d pos (called c (Some t) is)
+  good_expression (expressions.NewObject n) e (Some t) d pos is runs assigned = good_new n t d pos is
+  good_expression (expressions.NewArray x) e (Some t) d pos is runs assigned = good_computes (operators.NewArray t) (x ∷ []) d pos
+  good_expression (expressions.Element a i) e (Some t) d pos is runs assigned = good_computes operators.Element (a ∷ i ∷ []) d pos
+  good_expression (expressions.Length a) e (Some t) d pos is runs assigned = good_computes operators.Length (a ∷ []) d pos
 
   -- ---- conditions
 

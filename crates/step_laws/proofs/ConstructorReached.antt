@@ -28,6 +28,7 @@ use Rattle.java_control.specs.declared.action.Completion.{Completion}
 use Rattle.java_control.specs.declared.action.Completion.TheVariants as completions
 use Rattle.accepted_programs.specs.Paths.{Comes, Move, move_of, on, relation_of, start}
 use Rattle.step_laws.specs.Constructors.{AssignsField, CallsSuperClass, MakesConcrete, NamesInstance, StandsInBody, StoresAssignedField, StoresOwnField}
+use Rattle.step_laws.proofs.TargetFronts.{runs_on_this}
 use Rattle.step_laws.proofs.ConstructorFronts.{good_condition, good_expression, good_for_turn, good_loop_turn, good_statement, good_super}
 use Rattle.step_laws.proofs.OwnStatements.{super_is_own}
 use Rattle.step_laws.proofs.ConstructorItems.{AllGood, HasPlace, IsInstanceMethod, IsOwn, allowed_call, allowed_field, allowed_making, allowed_store, allowed_super, good_both, good_todos}
@@ -77,7 +78,7 @@ module _ (p : Program) (b : Body) (n : BodyId) (valid : IsValidBody p n b) where
 
   in_expression : (e : ExprId) (d : ℕ) (x : Option TExpr) (k : List Todo) → expression_at b e ≡ x → AllGood p b k → AllLeaveGood p b (expression_ways p b e d x k)
   in_expression e d None k at good = tt
-  in_expression e d (Some x) k at good = (((tt, tt), good_both p b _ k (good_expression p b x.kind e x.vtype d x.pos (valid.expressions e x at).typed (λ f this assigns. (e, known b e x (λ y. AssignsField p b f this y.kind) at assigns))) good), tt)
+  in_expression e d (Some x) k at good = (((tt, tt), good_both p b _ k (good_expression p b x.kind e x.vtype d x.pos (valid.expressions e x at).typed (runs_on_this p b n valid) (λ f this assigns. (e, known b e x (λ y. AssignsField p b f this y.kind) at assigns))) good), tt)
 
   in_loop : (w : StmtId) (d : ℕ) (x : Option TStmt) (k : List Todo) → AllGood p b k → AllLeaveGood p b (loop_ways b w d x k)
   in_loop w d None k good = tt

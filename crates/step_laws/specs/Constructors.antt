@@ -20,6 +20,7 @@ use Rattle.java_control.specs.Owned.{declares_field, has_place, is_owning}
 use Rattle.java_control.specs.declared.action.Action.{Action}
 use Rattle.java_control.specs.declared.action.Action.TheVariants as actions
 use Rattle.java_control.specs.declared.action.TargetForm.TheVariants as forms
+use Rattle.step_laws.specs.Targets.{RunsOnThis}
 
 -- the body is that of a constructor, and the method is a constructor of the class that the body's class extends
 abbrev pub IsOfSuperClass : Program → Body → MethodId → Type 0
@@ -53,9 +54,9 @@ abbrev pub MakesConcrete : Program → Action → Type 0
 MakesConcrete p (actions.New m d n) = IsSomeAnd (method_at p m) (λ x. is_abstract p x.class ≡ false)
 MakesConcrete p a = Unit {0}
 
--- an owning field of `this` that is stored is one that the body's class declares
+-- an owning field of `this` that is stored is one that the body's class declares, in a body that has a `this`
 abbrev pub StoresOwnField : Program → Body → Action → Type 0
-StoresOwnField p b (actions.PutOwn f d) = (is_owning p f ≡ true) × (declares_field p b f ≡ true)
+StoresOwnField p b (actions.PutOwn f d) = (is_owning p f ≡ true) × (declares_field p b f ≡ true) × RunsOnThis p b
 StoresOwnField p b a = Unit {0}
 
 -- the expression reads the field of some object

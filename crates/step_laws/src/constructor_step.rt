@@ -11,7 +11,7 @@ ghost use Rattle.accepted_programs.specs.Paths.{Comes, Move, relation_of};
 ghost use Rattle.step_laws.specs.Constructors.{CallsSuperClass, MakesConcrete, NamesInstance, StandsInBody, StoresAssignedField, StoresOwnField};
 
 /// Each step of a reached control that calls a super constructor stands in a constructor, and calls one of the class that its own class
-/// extends (JLS 8.8.7.1); each that stores into an owning field of `this` stands in the class that declares the field.
+/// extends (JLS 8.8.7.1); each that stores into an owning field of `this` stands in the class that declares the field, in an instance method or a constructor.
 pub fn steps_have_their_place()
     ensures { (p : Program) → IsTypedProgram p → (b : BodyId) (x : Body) (k : List Todo) (i : ℕ) (t : Move (List Todo)) → body_at p b ≡ Some x → Comes (relation_of p b) k
         → slice_get ((relation_of p b).next k) i ≡ Some t → CallsSuperClass p x t.action × StoresOwnField p x t.action }

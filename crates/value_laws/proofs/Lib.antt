@@ -32,6 +32,8 @@ pub mod ThrownLaws
 pub use Rattle.frame_laws.proofs.AliasConducts
 pub use Rattle.frame_laws.proofs.AliasFacts
 pub use Rattle.frame_laws.proofs.AliasRoots
+pub use Rattle.frame_laws.proofs.LastingFacts
+pub use Rattle.frame_laws.proofs.StoresOutside
 pub use Rattle.frame_laws.proofs.ArgumentLaws
 pub use Rattle.dispatch_laws.proofs.Begun
 pub use Rattle.frame_laws.proofs.CallNames
@@ -65,6 +67,8 @@ pub use Rattle.dispatch_laws.proofs.Fields
 pub use Rattle.frame_laws.proofs.Flows
 pub use Rattle.frame_laws.proofs.Births as FrameBirths
 pub use Rattle.frame_laws.proofs.Following as FrameFollowing
+pub use Rattle.frame_laws.proofs.Kept as FrameKept
+pub use Rattle.frame_laws.proofs.ArgumentBegun
 pub use Rattle.frame_laws.proofs.Moved as FrameMoved
 pub use Rattle.frame_laws.proofs.Operations as FrameOperations
 pub use Rattle.frame_laws.proofs.Going

@@ -71,3 +71,4 @@ pub use Rattle.dispatch_laws.specs.Stores
 pub use Rattle.dispatch_laws.specs.Storing
 pub use Rattle.dispatch_laws.specs.SuperArguments
 pub use Rattle.dispatch_laws.specs.Typed
+pub use Rattle.frame_laws.specs.Positions

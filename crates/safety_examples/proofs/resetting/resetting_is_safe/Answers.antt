@@ -1,8 +1,7 @@
 use Rattle.soundness_laws.proofs.SoundnessRuns.{accepted_is_safe}
 use Rattle.safety_examples.specs.ResettingPrograms.{resetting}
-use Rattle.safety_examples.proofs.ResettingAccepted.{accepted}
-use Rattle.safety_examples.proofs.ResettingPlain.{resetting_files, resetting_plain}
+use Rattle.safety_examples.proofs.ResettingAccepted.{accepted, resetting_files}
 use Rattle.safety_examples.proofs.resetting.resetting_is_safe.Goals as goal
 
 pub returns : goal.returns
-returns c = accepted_is_safe resetting accepted resetting_files resetting_plain
+returns c = accepted_is_safe resetting accepted resetting_files

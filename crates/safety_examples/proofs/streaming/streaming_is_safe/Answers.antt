@@ -1,8 +1,7 @@
 use Rattle.soundness_laws.proofs.SoundnessRuns.{accepted_is_safe}
 use Rattle.safety_examples.specs.StreamingPrograms.{streaming}
-use Rattle.safety_examples.proofs.StreamingAccepted.{accepted}
-use Rattle.safety_examples.proofs.StreamingPlain.{streaming_files, streaming_plain}
+use Rattle.safety_examples.proofs.StreamingAccepted.{accepted, streaming_files}
 use Rattle.safety_examples.proofs.streaming.streaming_is_safe.Goals as goal
 
 pub returns : goal.returns
-returns c = accepted_is_safe streaming accepted streaming_files streaming_plain
+returns c = accepted_is_safe streaming accepted streaming_files

@@ -1,8 +1,7 @@
 use Rattle.soundness_laws.proofs.SoundnessRuns.{accepted_is_safe}
 use Rattle.safety_examples.specs.WrappingPrograms.{wrapping}
-use Rattle.safety_examples.proofs.WrappingAccepted.{accepted}
-use Rattle.safety_examples.proofs.WrappingPlain.{wrapping_files, wrapping_plain}
+use Rattle.safety_examples.proofs.WrappingAccepted.{accepted, wrapping_files}
 use Rattle.safety_examples.proofs.wrapping.wrapping_is_safe.Goals as goal
 
 pub returns : goal.returns
-returns c = accepted_is_safe wrapping accepted wrapping_files wrapping_plain
+returns c = accepted_is_safe wrapping accepted wrapping_files
